@@ -1,0 +1,4 @@
+pub mod Command
+pub mod Image
+pub mod Lengths
+pub mod LengthsOf

@@ -1,0 +1,45 @@
+//! What one step of an end did.
+
+use crate::command::{Code, Command};
+use crate::image::Image;
+
+/// A frame that an end took: its command and its safe data.
+#[derive(Drop)]
+pub struct Took {
+    pub command: Command,
+    pub load: Image,
+}
+
+/// Why an end went to state Reset.
+#[derive(Clone, Copy, Debug, PartialEq, Eq)]
+pub enum Cause {
+    /// It was told to.
+    Local,
+    /// Its peer sent a Reset frame with this code.
+    Peer(Code),
+    /// It found a fault and sent a Reset frame with this code, 5 for its watchdog.
+    Found(Code),
+}
+
+/// Why a delivered frame was dropped without an answer.
+#[derive(Clone, Copy, Debug, PartialEq, Eq)]
+pub enum Dropped {
+    /// It hasn't the number of bytes that the peer's frames have.
+    Length,
+    /// It equals the frame that is kept as the one taken last.
+    Repeat,
+    /// It fails a test in state Reset.
+    InReset,
+}
+
+/// What one step of an end did. At most one of `took`, `reset` and `dropped` is there.
+#[derive(Drop)]
+pub struct Did {
+    pub took: Option<Took>,
+    /// A frame that is no Reset frame came as far as the test of its CRCs and passed it.
+    pub passed: bool,
+    /// A frame was sent.
+    pub sent: bool,
+    pub reset: Option<Cause>,
+    pub dropped: Option<Dropped>,
+}

@@ -1,0 +1,94 @@
+//! The bytes of one frame.
+ghost use Rattle.std.specs.Prelude.{◌≡◌, ◌≤◌, ◌<◌, ◌==◌, [], ◌∷◌, ◌++◌, length};
+
+use arrayvec::ArrayVec;
+use std::marker::Model;
+
+/// The bytes of one frame, at most 255, or of none where it is empty. Contracts see it as a list.
+#[derive(Debug, Drop)]
+pub struct FrameBuf {
+    inner: ArrayVec<u8, 255>,
+}
+
+impl Model for FrameBuf {
+    ghost use Rattle.std.specs.Prelude.{ℕ, List};
+
+    ghost Value = { List ℕ };
+
+    ghost view = { λ f. f.inner.items };
+}
+
+impl FrameBuf {
+    /// No bytes.
+    pub fn new() -> FrameBuf
+        ensures { result ≡ [] }
+    {
+        FrameBuf {
+            inner: ArrayVec::new(),
+        }
+    }
+
+    /// The number of bytes.
+    pub fn len(&self) -> usize
+        ensures value { result ≡ length self.now }
+        ensures most { result ≤ 255 }
+    {
+        self.inner.len()
+    }
+
+    /// Whether there are no bytes.
+    pub fn is_empty(&self) -> bool
+        ensures { result ≡ (length self.now == 0) }
+    {
+        self.inner.is_empty()
+    }
+
+    /// The bytes.
+    pub fn bytes(&self) -> &[u8]
+        ensures value { result.now ≡ self.now }
+        ensures most { length result.now ≤ 255 }
+    {
+        self.inner.as_slice()
+    }
+
+    /// Forgets all bytes.
+    pub fn clear(&mut self)
+        ensures { self.new ≡ [] }
+    {
+        self.inner.clear();
+    }
+
+    /// Appends a byte where fewer than 255 stand.
+    pub fn push(&mut self, b: u8)
+        requires { length self.old < 255 }
+        ensures { self.new ≡ self.old ++ b ∷ [] }
+    {
+        self.inner.push(b);
+    }
+
+    /// Takes these bytes, at most 255, in place of its own.
+    pub fn set(&mut self, from: &[u8])
+        requires { length from.now ≤ 255 }
+        ensures { self.new ≡ from.now }
+    {
+        self.inner.clear();
+        let _fits = self.inner.try_extend_from_slice(from);
+    }
+
+    /// The same bytes again.
+    pub fn copy(&self) -> FrameBuf
+        ensures { result ≡ self.now }
+    {
+        let mut frame = FrameBuf::new();
+        frame.set(self.bytes());
+        frame
+    }
+}
+
+impl Default for FrameBuf {
+    ghost is_default = { λ f. f ≡ [] };
+
+    fn default() -> FrameBuf {
+        FrameBuf::new()
+    }
+}
