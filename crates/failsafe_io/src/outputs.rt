@@ -1,0 +1,71 @@
+//! What an end gives to its application.
+ghost use Rattle.std.specs.Prelude.{◌≡◌, ◌≤◌, ◌<◌, ◌*◌, length, replicate};
+ghost use Rattle.fsoe_base.specs.Image.{bit_of};
+ghost use Rattle.failsafe_io.specs.Outputs.{outputs_of};
+
+use fsoe_base::{Command, Image};
+use std::marker::Model;
+
+/// The outputs of an end: the load of the ProcessData frame taken last, or zeros. Contracts see them as a
+/// list of bytes.
+#[derive(Debug, Drop)]
+pub struct Outputs {
+    image: Image,
+}
+
+impl Model for Outputs {
+    ghost use Rattle.std.specs.Prelude.{ℕ, ◌≤◌, List, length};
+
+    ghost Value = { List ℕ };
+
+    ghost view = { λ o. o.image };
+
+    ghost invariant = { λ o. length o.image ≤ 126 };
+}
+
+impl Outputs {
+    /// `l` zeros, at most 126.
+    pub fn new(l: usize) -> Outputs
+        requires { l ≤ 126 }
+        ensures { result ≡ replicate l 0 }
+    {
+        Outputs {
+            image: Image::zeros(l),
+        }
+    }
+
+    /// Takes the load of a data frame, which has as many bytes as there are outputs: ProcessData gives its
+    /// bytes, FailSafeData gives zeros.
+    pub fn take(&mut self, command: Command, load: &[u8])
+        requires { length load.now ≡ length self.old }
+        ensures { self.new ≡ outputs_of command load.now }
+    {
+        match command {
+            Command::ProcessData => self.image.set(load),
+            _ => self.image = Image::zeros(load.len()),
+        }
+    }
+
+    /// Gives zeros.
+    pub fn fail(&mut self)
+        ensures { self.new ≡ replicate (length self.old) 0 }
+    {
+        self.image = Image::zeros(self.image.len());
+    }
+
+    /// The bytes.
+    pub fn bytes(&self) -> &[u8]
+        ensures value { result.now ≡ self.now }
+        ensures most { length result.now ≤ 126 }
+    {
+        self.image.bytes()
+    }
+
+    /// The value of an output bit that exists: bit `b % 8`, lowest first, of byte `b / 8`.
+    pub fn bit(&self, b: u16) -> bool
+        requires { b < 8 * length self.now }
+        ensures { result ≡ bit_of self.now b }
+    {
+        self.image.bit(b)
+    }
+}
