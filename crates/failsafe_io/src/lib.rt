@@ -7,3 +7,6 @@ pub mod watchdog;
 
 pub use outputs::Outputs;
 pub use watchdog::Watchdog;
+
+#[cfg(test)]
+mod tests;

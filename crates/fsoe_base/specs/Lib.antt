@@ -1,4 +1,5 @@
 pub mod Command
+pub mod Did
 pub mod Image
 pub mod Lengths
 pub mod LengthsOf

@@ -43,3 +43,31 @@ pub struct Did {
     pub reset: Option<Cause>,
     pub dropped: Option<Dropped>,
 }
+
+impl Did {
+    ghost use Rattle.std.specs.Prelude.{◌≡◌};
+    ghost use Rattle.fsoe_base.specs.Did.{nothing, dropped};
+
+    /// Nothing was taken, sent, reset or dropped.
+    pub fn nothing() -> Did
+        ensures { result ≡ nothing }
+    {
+        Did {
+            took: None,
+            passed: false,
+            sent: false,
+            reset: None,
+            dropped: None,
+        }
+    }
+
+    /// A frame was dropped before the test of its CRCs.
+    pub fn dropped(why: Dropped) -> Did
+        ensures { result ≡ dropped why }
+    {
+        Did {
+            dropped: Some(why),
+            ..Did::nothing()
+        }
+    }
+}

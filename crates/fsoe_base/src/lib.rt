@@ -15,3 +15,6 @@ pub use frame_buf::FrameBuf;
 pub use image::Image;
 pub use lengths::{BadLength, Lengths, frame_len};
 pub use memory::Memory;
+
+#[cfg(test)]
+mod tests;
