@@ -1,0 +1,38 @@
+-- Parts of a buffer after a read into its end, and after a line was taken from its front.
+use Rattle.std.proofs.Common.{◌≡◌, ℕ, ◌+◌, subst, slice_index, ◌-◌, ◌≤◌, ◌<◌, List, ◌++◌, length, take, drop, refl, arith, ap, ◌∙◌, sym}
+use Rattle.std.specs.List.{copy_within}
+use Rattle.std.proofs.lemmas.List.{take-append-le, drop_at, length-take-le, length-take, length-drop, take-take, get_or-take, drop-take, drop-drop, take_at}
+use Rattle.std.proofs.lemmas.Slice.{take-put_mid_below}
+use Rattle.std.proofs.Math.Seq.{take-add}
+use borrow.Rule.Slice.PartMut.{put_mid, post_of}
+use Rattle.fsoe_io.specs.Line.{HasNoNewline}
+
+pub filled : (n m k : ℕ) (xs ys : List ℕ) → n ≤ length xs → m ≤ length ys → take (n + m) (put_mid n k xs ys) ≡ take n xs ++ take m ys
+filled n m k xs ys h j =
+    let below : n ≤ n = omega arith in
+    let front : length (take n xs) ≡ n = length-take-le n xs h in
+    take-add n m (put_mid n k xs ys)
+    ∙ ap (λ (z : List ℕ). z ++ take m (drop n (put_mid n k xs ys))) (take-put_mid_below n k xs ys n below h)
+    ∙ ap (λ (z : List ℕ). take n xs ++ take m z) (drop_at (take n xs) (ys ++ post_of n k xs) n front)
+    ∙ ap (λ (z : List ℕ). take n xs ++ z) (take-append-le m ys (post_of n k xs) j)
+
+pub rest_after : (s e n : ℕ) (xs : List ℕ) → s + n ≤ e → take (e - (s + n)) (drop (s + n) xs) ≡ drop n (take (e - s) (drop s xs))
+rest_after s e n xs h =
+    let k : e - s ≡ n + (e - (s + n)) = omega arith in
+    ap (λ (z : List ℕ). take (e - (s + n)) z) (sym (drop-drop n s xs))
+    ∙ sym (drop-take n (e - (s + n)) (drop s xs))
+    ∙ ap (λ (z : ℕ). drop n (take z (drop s xs))) (sym k)
+
+pub shifted : (s e : ℕ) (xs : List ℕ) → s ≤ e → e ≤ length xs → take (e - s) (copy_within xs s e 0) ≡ take (e - s) (drop s xs)
+shifted s e xs h j =
+    let part : take (e - s) (drop s xs) ≡ take (e - s) (drop s xs) = refl in
+    let size : length (take (e - s) (drop s xs)) ≡ e - s = omega (arith, length-take (e - s) (drop s xs), length-drop s xs) in
+    take_at (take (e - s) (drop s xs)) (drop (0 + (e - s)) xs) (e - s) size
+
+pub front_line : (n at : ℕ) (bytes : List ℕ) → n ≤ 641 → at < length (take n bytes) → HasNoNewline (take at (take n bytes)) → slice_index (take n bytes) at ≡ 10
+    → (at ≤ 640) × (at < length bytes) × HasNoNewline (take at bytes) × (slice_index bytes at ≡ 10)
+front_line n at bytes small lt none is =
+    let below : at < n = omega (arith, length-take n bytes) in
+    let le : at ≤ n = omega arith in
+    let same : take at (take n bytes) ≡ take at bytes = take-take at n bytes le in
+    (omega arith, omega (arith, length-take n bytes), subst HasNoNewline same none, sym (get_or-take n bytes at 0 below) ∙ is)

@@ -1,0 +1,5 @@
+pub mod Grown
+pub mod Buffer
+pub mod Taken
+pub mod Passing
+pub mod Reading

@@ -1,0 +1,11 @@
+use Rattle.std.proofs.Common.{arith}
+use Rattle.std.proofs.Math.Seq.{take-add}
+use Rattle.std.proofs.lemmas.List.{take_rest, length-drop}
+use Rattle.fsoe_io.proofs.Grown.{grew_then}
+use Rattle.fsoe_io.proofs.put.put_all.Goals as goal
+
+pub loop-done-preserved : goal.loop-done-preserved
+loop-done-preserved g c =
+    let took = rw take_rest at c.in-Ok.ensures.bytes in
+    let bound = rw take_rest at c.in-Ok.ensures.bound.0 in
+    (omega (arith, length-drop c.loop-done.done c.args.bytes.now), omega (arith, c.in-Ok.ensures.cause.later), rw take-add (grew_then _ _ _ _ _ c.loop-done.invariant.2 took))

@@ -1,0 +1,27 @@
+//! The outside: sources and sinks of bytes, lines read from a source, and text written to a sink.
+#![tactic(auto)]
+
+mod line;
+mod line_reader;
+mod line_text;
+mod memory_sink;
+mod memory_source;
+mod output;
+mod planned;
+mod put;
+mod sink;
+mod source;
+mod status;
+mod streams;
+
+pub use line::{Line, LineFault};
+pub use line_reader::LineReader;
+pub use line_text::LineText;
+pub use memory_sink::{MemSink, SureSink};
+pub use memory_source::{MemSource, SureSource};
+pub use output::Output;
+pub use put::{Partial, put_all};
+pub use sink::Sink;
+pub use source::{Failed, Source};
+pub use status::{Ended, Status};
+pub use streams::{StdSink, StdSource};

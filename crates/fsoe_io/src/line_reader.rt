@@ -1,0 +1,161 @@
+//! Lines from a source.
+ghost use Rattle.std.specs.Prelude.{◌≡◌, ℕ, ◌+◌, ◌-◌, ◌^◌, ◌≤◌, ◌<◌, false, List, [], length, take, drop, IsTrue};
+ghost use Rattle.std.specs.Io.KnownBytes.{prepend_known};
+ghost use Rattle.fsoe_io.specs.Faults.{HasCause};
+ghost use Rattle.fsoe_io.specs.Line.{IsLine};
+ghost use Rattle.fsoe_io.specs.LineReader.{Reads, BeginsAs, Finds, Fills, Counts, Blames, Stalls};
+
+use crate::line::{Line, LineFault};
+use crate::source::{Failed, Source};
+use std::marker::Model;
+
+/// The most bytes of a line, without its newline.
+const MOST: usize = 640;
+
+/// How the bytes begin that are held.
+#[derive(Clone, Copy)]
+enum Front {
+    /// With a line of this many bytes, and its newline.
+    Line(usize),
+    /// With more bytes than a line may have.
+    Long,
+    /// With neither: more bytes have to come.
+    Open,
+}
+
+fn newline(bytes: &[u8]) -> Option<usize>
+    ensures { Finds result bytes.now }
+{
+    bytes.iter().position(|b| *b == b'\n')
+}
+
+fn begins(bytes: &[u8]) -> Front
+    ensures { BeginsAs result bytes.now }
+{
+    let seen = &bytes[..bytes.len().min(MOST + 1)];
+    match newline(seen) {
+        Some(at) => Front::Line(at),
+        None if seen.len() > MOST => Front::Long,
+        None => Front::Open,
+    }
+}
+
+/// Lines from a source, which is read in large pieces. It is seen as the bytes that it holds, which were read and
+/// stand in no line yet, and the number of lines that it gave.
+#[derive(Drop)]
+pub struct LineReader {
+    buffer: [u8; 4096],
+    start: usize,
+    end: usize,
+    lines: u64,
+}
+
+impl Model for LineReader {
+    ghost use Rattle.std.specs.Prelude.{◌-◌, ◌≤◌, take, drop};
+    ghost use Rattle.fsoe_io.specs.Line.{Held};
+
+    ghost Value = { Held };
+
+    ghost view = { λ r. record { bytes = take (r.end - r.start) (drop r.start r.buffer); lines = r.lines } };
+
+    ghost invariant = { λ r. (r.start ≤ r.end) × (r.end ≤ 4096) };
+}
+
+impl LineReader {
+    /// A reader that holds nothing and gave no line.
+    pub fn new() -> LineReader
+        ensures bytes { result.bytes ≡ [] }
+        ensures lines { result.lines ≡ 0 }
+    {
+        LineReader {
+            buffer: [0; 4096],
+            start: 0,
+            end: 0,
+            lines: 0,
+        }
+    }
+
+    fn held(&self) -> &[u8]
+        ensures { result.now ≡ self.now.bytes }
+    {
+        &self.buffer[self.start..self.end]
+    }
+
+    /// Whether the next line, or that it is too long, stands in the bytes that are held, so that `next` answers
+    /// without a read of the source.
+    pub fn holds_line(&self) -> bool
+        ensures whole { IsTrue result → ¬ IsLine self.now.bytes }
+        ensures open_line { result ≡ false → IsLine self.now.bytes }
+    {
+        match begins(self.held()) {
+            Front::Line(_) | Front::Long => true,
+            Front::Open => false,
+        }
+    }
+
+    /// Takes a line of this length, and its newline, from what is held.
+    fn take_line(&mut self, len: usize) -> Line
+        requires most { len ≤ 640 }
+        requires held { len < length self.old.bytes }
+        requires lines { self.old.lines < 2 ^ 64 - 1 }
+        ensures line { result.bytes ≡ take len self.old.bytes }
+        ensures number { result.number ≡ self.old.lines + 1 }
+        ensures held { self.new.bytes ≡ drop (len + 1) self.old.bytes }
+        ensures lines { self.new.lines ≡ self.old.lines + 1 }
+    {
+        let mut bytes = [0; 640];
+        bytes[..len].copy_from_slice(&self.buffer[self.start..self.start + len]);
+        self.start += len + 1;
+        self.lines += 1;
+        Line {
+            number: self.lines,
+            len,
+            bytes,
+        }
+    }
+
+    /// Takes more bytes from the source, none only at its end.
+    fn fill<S: Source>(&mut self, source: &mut S) -> Result<usize, Failed>
+        requires { length self.old.bytes ≤ 640 }
+        ensures lines { self.new.lines ≡ self.old.lines }
+        ensures bytes { Fills result self.old.bytes self.new.bytes (S.left source.old) (S.left source.new) }
+        ensures cause { HasCause (S.faults source.old) (S.faults source.new) result }
+    {
+        let held = self.end - self.start;
+        self.buffer.copy_within(self.start..self.end, 0);
+        self.start = 0;
+        self.end = held;
+        let count = source.read(&mut self.buffer[held..])?;
+        self.end += count;
+        Ok(count)
+    }
+
+    /// The next line of what is held and of the source. None exactly at the end of the input where a line would
+    /// begin. It may be called until it gives a fault, for at most 2^64 - 1 lines.
+    pub fn next<S: Source>(&mut self, source: &mut S) -> Result<Option<Line>, LineFault>
+        requires { self.old.lines < 2 ^ 64 - 1 }
+        ensures bytes { Reads result
+            (prepend_known self.old.bytes (S.left source.old))
+            (prepend_known self.new.bytes (S.left source.new)) }
+        ensures lines { Counts result self.old.lines self.new.lines }
+        ensures stalls { Stalls result self.new.bytes }
+        // The source is read only where more bytes have to come.
+        ensures unread { ¬ IsLine self.old.bytes → source.new ≡ source.old }
+        ensures later { S.faults source.old ≤ S.faults source.new }
+        ensures cause { Blames result (S.faults source.old) (S.faults source.new) }
+    {
+        loop {
+            match begins(self.held()) {
+                Front::Line(len) => return Ok(Some(self.take_line(len))),
+                Front::Long => return Err(LineFault::Long),
+                Front::Open => {}
+            }
+            match self.fill(source) {
+                Ok(0) if self.held().is_empty() => return Ok(None),
+                Ok(0) => return Err(LineFault::NoNewline),
+                Ok(_) => {}
+                Err(_) => return Err(LineFault::Read),
+            }
+        }
+    }
+}

@@ -1,0 +1,89 @@
+//! A line of text as it is made.
+ghost use Rattle.std.specs.Prelude.{◌≡◌, ◌+◌, ◌*◌, ◌≤◌, List, [], ◌++◌, ℕ, length, decimal};
+ghost use Rattle.hex.specs.Hex.{encode_lower};
+
+use itoa::Buffer;
+use std::marker::Model;
+
+/// A line of text as it is made, of at most 1,024 bytes. It is seen as its bytes.
+#[derive(Drop)]
+pub struct LineText {
+    bytes: [u8; 1024],
+    len: usize,
+}
+
+impl Model for LineText {
+    ghost use Rattle.std.specs.Prelude.{◌≤◌, List, ℕ, take};
+
+    ghost Value = { List ℕ };
+
+    ghost view = { λ t. take t.len t.bytes };
+
+    ghost invariant = { λ t. t.len ≤ 1024 };
+}
+
+impl LineText {
+    /// An empty text.
+    pub fn new() -> LineText
+        ensures { result ≡ [] }
+    {
+        LineText {
+            bytes: [0; 1024],
+            len: 0,
+        }
+    }
+
+    /// Its bytes.
+    pub fn bytes(&self) -> &[u8]
+        ensures value { result.now ≡ self.now }
+        ensures most { length result.now ≤ 1024 }
+    {
+        &self.bytes[..self.len]
+    }
+
+    /// Takes all bytes away.
+    pub fn clear(&mut self)
+        ensures { self.new ≡ [] }
+    {
+        self.len = 0;
+    }
+
+    /// Appends bytes.
+    pub fn push(&mut self, piece: &[u8])
+        requires { length self.old + length piece.now ≤ 1024 }
+        ensures { self.new ≡ self.old ++ piece.now }
+    {
+        self.bytes[self.len..self.len + piece.len()].copy_from_slice(piece);
+        self.len += piece.len();
+    }
+
+    /// Appends a text.
+    pub fn push_str(&mut self, piece: &str)
+        requires { length self.old + length piece.now ≤ 1024 }
+        ensures { self.new ≡ self.old ++ piece.now }
+    {
+        self.push(piece.as_bytes());
+    }
+
+    /// Appends a number in decimal digits.
+    pub fn push_decimal(&mut self, n: u64)
+        requires { length self.old + 20 ≤ 1024 }
+        ensures text { self.new ≡ self.old ++ decimal n }
+        ensures most { length self.new ≤ length self.old + 20 }
+    {
+        let mut buffer = Buffer::new();
+        self.push(buffer.format(n).as_bytes());
+    }
+
+    /// Appends bytes as lower-case hexadecimal digits, two a byte.
+    pub fn push_hex(&mut self, bytes: &[u8])
+        requires { length self.old + 2 * length bytes.now ≤ 1024 }
+        ensures text { self.new ≡ self.old ++ encode_lower bytes.now }
+        ensures most { length self.new ≡ length self.old + 2 * length bytes.now }
+    {
+        let end = self.len + 2 * bytes.len();
+        // The slice has two bytes for each byte, so that the digits fit.
+        let _fits = hex::encode_to_slice(bytes, &mut self.bytes[self.len..end]);
+        self.len = end;
+    }
+}

@@ -1,0 +1,141 @@
+//! Sinks in memory.
+ghost use Rattle.std.specs.Prelude.{◌≡◌, ◌+◌, ◌<◌, Some, None, [], IfOk};
+ghost use Rattle.fsoe_io.specs.Planned.{planned_faults};
+
+use crate::planned::PlannedCalls;
+use crate::sink::Sink;
+use crate::source::Failed;
+use fsoe_base::Memory;
+use std::alloc::Global;
+use std::marker::Model;
+
+/// A sink in memory whose listed calls fail, and those with a byte to take once its room is used up.
+#[derive(Drop)]
+pub struct MemSink {
+    room: Vec<u8>,
+    len: usize,
+    most: usize,
+    calls: PlannedCalls,
+    refusals: u64,
+}
+
+impl Model for MemSink {
+    ghost use Rattle.std.specs.Prelude.{◌≤◌, ◌<◌, take, vec_len};
+    ghost use Rattle.fsoe_io.specs.Ends.{Store};
+
+    ghost Value = { Store };
+
+    ghost view = { λ s. record {
+      written = take s.len s.room.items;
+      room = vec_len s.room;
+      most = s.most;
+      planned = s.calls;
+      refusals = s.refusals;
+    } };
+
+    ghost invariant = { λ s. (s.len ≤ vec_len s.room) × (0 < s.most) };
+}
+
+impl MemSink {
+    /// A sink with room for `room` bytes that takes at most `most` bytes in a call, and fails at the calls that
+    /// `fails` lists by their number from 1. `Memory` where there is none for the room.
+    pub fn new(alloc: Global, room: usize, most: usize, fails: Vec<u64>) -> Result<MemSink, Memory>
+        requires { 0 < most }
+        ensures written { IfOk result (λ s. s.written ≡ []) }
+        ensures room { IfOk result (λ s. s.room ≡ room) }
+        ensures most { IfOk result (λ s. s.most ≡ most) }
+        ensures fails { IfOk result (λ s. s.planned.fails ≡ fails.items) }
+        ensures calls { IfOk result (λ s. s.planned.calls ≡ 0) }
+        ensures refusals { IfOk result (λ s. s.refusals ≡ 0) }
+    {
+        match vec![in alloc; 0; room] {
+            Ok(room) => Ok(MemSink {
+                room,
+                len: 0,
+                most,
+                calls: PlannedCalls::new(fails),
+                refusals: 0,
+            }),
+            Err(_) => Err(Memory),
+        }
+    }
+
+    /// What was written.
+    pub fn bytes(&self) -> &[u8]
+        ensures { result.now ≡ self.now.written }
+    {
+        &self.room[..self.len]
+    }
+}
+
+impl Sink for MemSink {
+    ghost written = { λ s. Some s.written };
+
+    ghost faults = { λ s. planned_faults s.planned + s.refusals };
+
+    fn write(&mut self, piece: &[u8]) -> Result<usize, Failed> {
+        if self.calls.next_fails() {
+            return Err(Failed);
+        }
+        let count = piece.len().min(self.room.len() - self.len).min(self.most);
+        if count == 0 && !piece.is_empty() {
+            self.refusals = self.refusals.saturating_add(1);
+            return Err(Failed);
+        }
+        self.room[self.len..self.len + count].copy_from_slice(&piece[..count]);
+        self.len += count;
+        Ok(count)
+    }
+}
+
+/// A sink in memory that never fails. It is seen as what it tells: the bytes written, until its room is used up;
+/// from then on it takes bytes and tells nothing.
+#[derive(Drop)]
+pub struct SureSink {
+    room: Vec<u8>,
+    len: usize,
+    over: bool,
+}
+
+impl Model for SureSink {
+    ghost use Rattle.std.specs.Prelude.{◌≤◌, List, ℕ, Some, None, take, vec_len, if◌then◌else◌};
+    ghost use Rattle.std.specs.declared.option.Option.{Option};
+
+    ghost Value = { Option (List ℕ) };
+
+    ghost view = { λ s. (if s.over then None else Some (take s.len s.room.items)) };
+
+    ghost invariant = { λ s. s.len ≤ vec_len s.room };
+}
+
+impl SureSink {
+    /// A sink with room for `room` bytes. `Memory` where there is none for the room.
+    pub fn new(alloc: Global, room: usize) -> Result<SureSink, Memory>
+        ensures { IfOk result (λ s. s ≡ Some []) }
+    {
+        match vec![in alloc; 0; room] {
+            Ok(room) => Ok(SureSink {
+                room,
+                len: 0,
+                over: false,
+            }),
+            Err(_) => Err(Memory),
+        }
+    }
+}
+
+impl Sink for SureSink {
+    ghost written = { λ s. s };
+
+    ghost faults = { λ _. 0 };
+
+    fn write(&mut self, piece: &[u8]) -> Result<usize, Failed> {
+        if self.over || piece.len() > self.room.len() - self.len {
+            self.over = true;
+        } else {
+            self.room[self.len..self.len + piece.len()].copy_from_slice(piece);
+            self.len += piece.len();
+        }
+        Ok(piece.len())
+    }
+}

@@ -1,0 +1,97 @@
+//! Sources in memory.
+ghost use Rattle.std.specs.Prelude.{◌≡◌, ◌<◌, Some, List, ℕ};
+ghost use Rattle.fsoe_io.specs.Planned.{planned_faults};
+
+use crate::planned::PlannedCalls;
+use crate::source::{Failed, Source};
+use std::marker::Model;
+
+/// A source in memory that never fails. It is seen as the bytes that are left.
+#[derive(Drop)]
+pub struct SureSource {
+    bytes: Vec<u8>,
+    at: usize,
+}
+
+impl Model for SureSource {
+    ghost use Rattle.std.specs.Prelude.{◌≤◌, List, ℕ, drop, vec_len};
+
+    ghost Value = { List ℕ };
+
+    ghost view = { λ s. drop s.at s.bytes.items };
+
+    ghost invariant = { λ s. s.at ≤ vec_len s.bytes };
+}
+
+impl SureSource {
+    /// A source of these bytes.
+    pub fn new(bytes: Vec<u8>) -> SureSource
+        ensures { result ≡ bytes.items }
+    {
+        SureSource { bytes, at: 0 }
+    }
+}
+
+impl Source for SureSource {
+    ghost left = { λ s. Some s };
+
+    ghost faults = { λ _. 0 };
+
+    fn read(&mut self, buffer: &mut [u8]) -> Result<usize, Failed> {
+        let count = buffer.len().min(self.bytes.len() - self.at);
+        buffer[..count].copy_from_slice(&self.bytes[self.at..self.at + count]);
+        self.at += count;
+        Ok(count)
+    }
+}
+
+/// A source in memory whose listed calls fail. Its count of faults is the number of listed calls so far.
+#[derive(Drop)]
+pub struct MemSource {
+    whole: SureSource,
+    most: usize,
+    calls: PlannedCalls,
+}
+
+impl Model for MemSource {
+    ghost use Rattle.std.specs.Prelude.{◌<◌};
+    ghost use Rattle.fsoe_io.specs.Ends.{Feed};
+
+    ghost Value = { Feed };
+
+    ghost view = { λ s. record { left = s.whole; most = s.most; planned = s.calls } };
+
+    ghost invariant = { λ s. 0 < s.most };
+}
+
+impl MemSource {
+    /// A source of these bytes that gives at most `most` bytes in a call, and fails at the calls that `fails` lists
+    /// by their number from 1.
+    pub fn new(bytes: Vec<u8>, most: usize, fails: Vec<u64>) -> MemSource
+        requires { 0 < most }
+        ensures left { result.left ≡ bytes.items }
+        ensures most { result.most ≡ most }
+        ensures fails { result.planned.fails ≡ fails.items }
+        ensures calls { result.planned.calls ≡ 0 }
+    {
+        MemSource {
+            whole: SureSource::new(bytes),
+            most,
+            calls: PlannedCalls::new(fails),
+        }
+    }
+}
+
+impl Source for MemSource {
+    ghost left = { λ s. Some s.left };
+
+    ghost faults = { λ s. planned_faults s.planned };
+
+    fn read(&mut self, buffer: &mut [u8]) -> Result<usize, Failed> {
+        if self.calls.next_fails() {
+            return Err(Failed);
+        }
+        let most = buffer.len().min(self.most);
+        self.whole.read(&mut buffer[..most])
+    }
+}

@@ -1,0 +1,42 @@
+//! Calls that are planned to fail.
+ghost use Rattle.std.specs.Prelude.{◌≡◌, ℕ, ◌+◌, ◌-◌, ◌^◌, ◌<◌, if◌then◌else◌};
+ghost use Rattle.fsoe_io.specs.Planned.{is_listed, planned_faults};
+
+use std::marker::Model;
+
+/// The calls of an end in memory, of which those fail that are listed by their number from 1.
+#[derive(Drop)]
+pub struct PlannedCalls {
+    fails: Vec<u64>,
+    calls: u64,
+}
+
+impl Model for PlannedCalls {
+    ghost use Rattle.fsoe_io.specs.Planned.{Planned};
+
+    ghost Value = { Planned };
+
+    ghost view = { λ p. record { fails = p.fails.items; calls = p.calls } };
+}
+
+impl PlannedCalls {
+    pub fn new(fails: Vec<u64>) -> PlannedCalls
+        ensures fails { result.fails ≡ fails.items }
+        ensures calls { result.calls ≡ 0 }
+    {
+        PlannedCalls { fails, calls: 0 }
+    }
+
+    /// Counts a call, and says whether it fails. After 2^64 - 1 calls none fails, and the count stands.
+    pub fn next_fails(&mut self) -> bool
+        ensures listed { self.old.calls < 2 ^ 64 - 1 → result ≡ is_listed self.old.fails (self.old.calls + 1) }
+        ensures fails { self.new.fails ≡ self.old.fails }
+        ensures faults { planned_faults self.new ≡ planned_faults self.old + (if result then 1 else 0) }
+    {
+        if self.calls == u64::MAX {
+            return false;
+        }
+        self.calls += 1;
+        self.fails.contains(&self.calls)
+    }
+}

@@ -1,0 +1,26 @@
+//! Where bytes come from.
+ghost use Rattle.std.specs.Prelude.{List, ℕ};
+ghost use Rattle.std.specs.declared.option.Option.{Option};
+ghost use Rattle.std.specs.Io.{ReadsAtMost};
+ghost use Rattle.std.specs.Io.KnownBytes.{ReadConsumes};
+ghost use Rattle.fsoe_io.specs.Faults.{HasCause};
+
+/// A call of a source or a sink failed.
+#[derive(Clone, Copy, Debug, PartialEq, Eq)]
+pub struct Failed;
+
+/// Where bytes come from.
+pub trait Source {
+    /// The bytes that are still to come, where it tells them. Once told they stay told.
+    ghost left: { Self → Option (List ℕ) };
+
+    /// How often it failed. The count never falls.
+    ghost faults: { Self → ℕ };
+
+    /// Reads bytes into the front of the buffer and says how many. Where the buffer has room, 0 is the end of the
+    /// input. `Failed` comes only where the count of faults rose, or stands at 2^64 - 1; then no byte is consumed.
+    fn read(&mut self, buffer: &mut [u8]) -> Result<usize, Failed>
+        ensures bound { ReadsAtMost result buffer.new }
+        ensures bytes { ReadConsumes (left self.old) (left self.new) result buffer.new }
+        ensures cause { HasCause (faults self.old) (faults self.new) result };
+}

@@ -1,0 +1,53 @@
+//! How a command ended.
+ghost use Rattle.std.specs.Prelude.{◌≡◌};
+ghost use Rattle.fsoe_io.specs.Status.{status_number};
+
+/// How a command ended.
+#[derive(Clone, Copy, Debug, PartialEq, Eq)]
+pub enum Status {
+    /// The input was read up to its `end` line, or all events were run, and no entry was other.
+    Ok,
+    /// As `Ok`, but an entry was other.
+    Other,
+    /// The words name no command.
+    Usage,
+    /// The configuration was refused.
+    Config,
+    /// A line was refused.
+    Line,
+    /// The configuration could not be loaded.
+    Desk,
+    /// The source failed.
+    Read,
+    /// The sink failed.
+    Write,
+    /// Memory ran out.
+    Memory,
+}
+
+impl Status {
+    /// The number that a program ends with, from 0 for `Ok` to 8 for `Memory`, in the order of the variants.
+    pub fn number(self) -> u8
+        ensures { result ≡ status_number self }
+    {
+        match self {
+            Status::Ok => 0,
+            Status::Other => 1,
+            Status::Usage => 2,
+            Status::Config => 3,
+            Status::Line => 4,
+            Status::Desk => 5,
+            Status::Read => 6,
+            Status::Write => 7,
+            Status::Memory => 8,
+        }
+    }
+}
+
+/// How a command ended, and where: the number of the other entry or of the refused line, the whole lines read, or
+/// the bytes written, by the status; 0 where the status has no place.
+#[derive(Clone, Copy, Debug, PartialEq, Eq)]
+pub struct Ended {
+    pub status: Status,
+    pub place: u64,
+}
