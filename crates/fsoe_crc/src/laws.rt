@@ -1,0 +1,11 @@
+//! What the CRC is sure to tell apart.
+
+ghost use Rattle.std.specs.Prelude.{◌≡◌, ◌<◌, ℕ, List, ◌∷◌, ◌++◌};
+ghost use Rattle.fsoe_crc.specs.Remainder.{rem};
+
+/// Two lists of bytes of one length that differ only within two adjacent bytes, or within one
+/// byte, have the same CRC only where they are equal. The call does nothing: the law is its contract.
+pub fn adjacent_bytes()
+    ensures two { (before after : List ℕ) (a b c d : ℕ) → a < 256 → b < 256 → c < 256 → d < 256 → rem (before ++ a ∷ b ∷ after) ≡ rem (before ++ c ∷ d ∷ after) → (a ≡ c) × (b ≡ d) }
+    ensures one { (before after : List ℕ) (a c : ℕ) → a < 256 → c < 256 → rem (before ++ a ∷ after) ≡ rem (before ++ c ∷ after) → a ≡ c }
+{}

@@ -1,0 +1,13 @@
+//! The CRC of the frames: the remainder by the polynomial 139B7h of the bytes followed by
+//! sixteen zero bits, highest bit first, from the value 0.
+#![tactic(auto)]
+
+pub use bitwise::crc_bitwise;
+pub use register::{Register, crc};
+
+mod bitwise;
+pub mod laws;
+mod register;
+mod table;
+#[cfg(test)]
+mod tests;

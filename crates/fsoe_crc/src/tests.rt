@@ -1,0 +1,34 @@
+use super::*;
+
+/// The CRC of each byte that is one bit.
+const ONE_BIT: [(u8, u16); 8] = [
+    (0x01, 0x39B7),
+    (0x02, 0x736E),
+    (0x04, 0xE6DC),
+    (0x08, 0xF40F),
+    (0x10, 0xD1A9),
+    (0x20, 0x9AE5),
+    (0x40, 0x0C7D),
+    (0x80, 0x18FA),
+];
+
+#[test]
+fn single_bytes(rt: HostRuntime) {
+    for (byte, value) in ONE_BIT {
+        assert_eq!(rt; crc(&[byte]), value, "at {byte}");
+        assert_eq!(rt; crc_bitwise(&[byte]), value, "bit by bit at {byte}");
+    }
+    assert_eq!(rt; crc(&[0x03]), 0x4AD9);
+}
+
+#[test]
+fn a_copied_register_goes_on_alone(rt: HostRuntime) {
+    let mut register = Register::new();
+    register.feed(0x01);
+    let mut copied = register.copy();
+    copied.feed(0x02);
+    copied.feed(0x03);
+    assert_eq!(rt; register.value(), 0x39B7);
+    assert_eq!(rt; copied.value(), crc_bitwise(&[0x01, 0x02, 0x03]));
+    laws::adjacent_bytes();
+}
