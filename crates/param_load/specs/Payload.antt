@@ -1,0 +1,31 @@
+-- The payloads of a handshake, and how a piece of one fills the safe data of a frame.
+use Rattle.std.specs.Prelude.{ℕ, ◌+◌, ◌-◌, ◌*◌, List, ◌++◌, length, slice_index, replicate}
+use Rattle.std.specs.Int.{w16, w32, to_le_bytes}
+use Rattle.param_load.specs.declared.profile.Profile.{Profile}
+use Rattle.param_load.specs.declared.profile.Profile.TheVariants as profile
+
+-- a session id, low byte first
+abbrev pub session_payload : ℕ → Profile → List ℕ
+session_payload id profile.One = to_le_bytes w16 id
+session_payload id (profile.Two word) = to_le_bytes w32 id
+
+-- a connection id and a slave address
+abbrev pub connection_payload : ℕ → ℕ → List ℕ
+connection_payload conn address = to_le_bytes w16 conn ++ to_le_bytes w16 address
+
+-- the communication parameters with their length in front
+abbrev pub communication : ℕ → Profile → List ℕ
+communication watchdog profile.One = to_le_bytes w16 2 ++ to_le_bytes w16 watchdog
+communication watchdog (profile.Two word) = to_le_bytes w16 4 ++ to_le_bytes w16 watchdog ++ to_le_bytes w16 word
+
+-- the communication parameters, then the application parameters, with their number in front
+abbrev pub parameter_payload : ℕ → Profile → List ℕ → List ℕ
+parameter_payload watchdog profile app = communication watchdog profile ++ to_le_bytes w16 (length app) ++ app
+
+-- the number in the two bytes from a place on, low byte first
+abbrev pub number_at : ℕ → List ℕ → ℕ
+number_at place bytes = slice_index bytes place + 256 * slice_index bytes (place + 1)
+
+-- a piece, then zeros up to the length of a frame's safe data
+abbrev pub padded : List ℕ → ℕ → List ℕ
+padded piece len = piece ++ replicate (len - length piece) 0

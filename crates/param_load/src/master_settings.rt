@@ -1,0 +1,167 @@
+//! What a master is set to.
+ghost use Rattle.std.specs.Prelude.{◌≡◌, ◌<◌, ◌^◌, IsTrue, IsOk, IfOk};
+ghost use Rattle.param_load.specs.Profile.{allows_id};
+
+use crate::app_bytes::AppBytes;
+use crate::bad_setting::BadSetting;
+use crate::profile::Profile;
+use fsoe_base::Lengths;
+
+/// What a master is set to. The connection id and the watchdog aren't 0, and the nonce is one that the profile
+/// allows.
+#[derive(Debug, Drop)]
+pub struct MasterSettings {
+    lengths: Lengths,
+    conn: u16,
+    address: u16,
+    watchdog: u16,
+    app: AppBytes,
+    nonce: u32,
+    profile: Profile,
+    pub ghost some_conn: { 0 < conn },
+    pub ghost some_watchdog: { 0 < watchdog },
+    pub ghost allowed: { IsTrue (allows_id profile nonce) },
+}
+
+impl MasterSettings {
+    ghost use Rattle.param_load.specs.declared.profile.Profile.TheVariants as profile;
+    ghost use Rattle.param_load.specs.MasterSettings.{IsMasterSetTo};
+
+    /// Settings of profile One: the lengths, the connection id, the slave's address, the watchdog in ticks, the
+    /// application parameters, and the session id. `Conn` where the connection id is 0, else `Watchdog` where
+    /// the watchdog is 0.
+    pub fn new(
+        lengths: Lengths,
+        conn: u16,
+        address: u16,
+        watchdog: u16,
+        app: AppBytes,
+        nonce: u16,
+    ) -> Result<MasterSettings, BadSetting>
+        ensures bad_conn { conn ≡ 0 → result ≡ Err BadSetting.Conn }
+        ensures bad_watchdog { 0 < conn → watchdog ≡ 0 → result ≡ Err BadSetting.Watchdog }
+        ensures good { 0 < conn → 0 < watchdog → IsOk result }
+        ensures settings { IfOk result (λ s. IsMasterSetTo s lengths conn address watchdog app nonce profile.One) }
+    {
+        fault(conn, watchdog)?;
+        Ok(MasterSettings {
+            lengths,
+            conn,
+            address,
+            watchdog,
+            app,
+            nonce: u32::from(nonce),
+            profile: Profile::One,
+        })
+    }
+
+    /// Settings of profile Two with this profile word, with the refusals of `new`.
+    pub fn two(
+        lengths: Lengths,
+        conn: u16,
+        address: u16,
+        watchdog: u16,
+        app: AppBytes,
+        nonce: u32,
+        word: u16,
+    ) -> Result<MasterSettings, BadSetting>
+        ensures bad_conn { conn ≡ 0 → result ≡ Err BadSetting.Conn }
+        ensures bad_watchdog { 0 < conn → watchdog ≡ 0 → result ≡ Err BadSetting.Watchdog }
+        ensures good { 0 < conn → 0 < watchdog → IsOk result }
+        ensures settings { IfOk result (λ s. IsMasterSetTo s lengths conn address watchdog app nonce (profile.Two word)) }
+    {
+        fault(conn, watchdog)?;
+        Ok(MasterSettings {
+            lengths,
+            conn,
+            address,
+            watchdog,
+            app,
+            nonce,
+            profile: Profile::Two(word),
+        })
+    }
+
+    /// The numbers of safe data bytes of both ends.
+    pub fn lengths(&self) -> &Lengths
+        ensures { result.now ≡ self.now.lengths }
+    {
+        &self.lengths
+    }
+
+    /// The connection id.
+    pub fn conn(&self) -> u16
+        ensures value { result ≡ self.now.conn }
+        ensures some { 0 < result }
+    {
+        self.conn
+    }
+
+    /// The address of the slave.
+    pub fn address(&self) -> u16
+        ensures { result ≡ self.now.address }
+    {
+        self.address
+    }
+
+    /// The watchdog in ticks.
+    pub fn watchdog(&self) -> u16
+        ensures value { result ≡ self.now.watchdog }
+        ensures some { 0 < result }
+    {
+        self.watchdog
+    }
+
+    /// The application parameters.
+    pub fn app(&self) -> &AppBytes
+        ensures { result.now ≡ self.now.app }
+    {
+        &self.app
+    }
+
+    /// The session id of the sessions that begin before another one is set.
+    pub fn nonce(&self) -> u32
+        ensures value { result ≡ self.now.nonce }
+        ensures allowed { IsTrue (allows_id self.now.profile result) }
+    {
+        self.nonce
+    }
+
+    /// The profile of parameters.
+    pub fn profile(&self) -> Profile
+        ensures { result ≡ self.now.profile }
+    {
+        self.profile
+    }
+
+    /// The same settings again. It takes no memory.
+    pub fn copy(&self) -> MasterSettings
+        ensures { result ≡ self.now }
+    {
+        MasterSettings {
+            lengths: self.lengths,
+            conn: self.conn,
+            address: self.address,
+            watchdog: self.watchdog,
+            app: self.app.copy(),
+            nonce: self.nonce,
+            profile: self.profile,
+        }
+    }
+}
+
+/// The first of the numbers that may not be 0 and is.
+fn fault(conn: u16, watchdog: u16) -> Result<(), BadSetting>
+    ensures bad_conn { conn ≡ 0 → result ≡ Err BadSetting.Conn }
+    ensures bad_watchdog { 0 < conn → watchdog ≡ 0 → result ≡ Err BadSetting.Watchdog }
+    ensures good { IfOk result (λ _. (0 < conn) × (0 < watchdog)) }
+    ensures ok { 0 < conn → 0 < watchdog → IsOk result }
+{
+    if conn == 0 {
+        return Err(BadSetting::Conn);
+    }
+    if watchdog == 0 {
+        return Err(BadSetting::Watchdog);
+    }
+    Ok(())
+}

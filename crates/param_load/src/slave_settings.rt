@@ -1,0 +1,176 @@
+//! What a slave is set to.
+ghost use Rattle.std.specs.Prelude.{◌≡◌, ◌<◌, false, IsTrue, IsOk, IfOk};
+ghost use Rattle.param_load.specs.AppRule.{is_acceptable};
+ghost use Rattle.param_load.specs.Profile.{allows_id};
+
+use crate::app_rule::AppRule;
+use crate::bad_setting::BadSetting;
+use crate::profile::Profile;
+use fsoe_base::Lengths;
+
+/// What a slave is set to. The limits `hand` and `most` aren't 0, the rule is acceptable, and the nonce is one
+/// that the profile allows.
+#[derive(Debug, Drop)]
+pub struct SlaveSettings {
+    lengths: Lengths,
+    address: u16,
+    hand: u16,
+    most: u16,
+    rule: AppRule,
+    nonce: u32,
+    profile: Profile,
+    pub ghost some_hand: { 0 < hand },
+    pub ghost some_most: { 0 < most },
+    pub ghost acceptable: { IsTrue (is_acceptable rule) },
+    pub ghost allowed: { IsTrue (allows_id profile nonce) },
+}
+
+impl SlaveSettings {
+    ghost use Rattle.param_load.specs.declared.profile.Profile.TheVariants as profile;
+    ghost use Rattle.param_load.specs.SlaveSettings.{IsSlaveSetTo};
+
+    /// Settings of profile One: the lengths, the slave's address, the limit of a handshake in ticks, the longest
+    /// watchdog that it accepts, the rule for application parameters, and the session id. `Hand` where `hand` is
+    /// 0, else `Most` where `most` is 0, else `Rule` where the rule isn't acceptable.
+    pub fn new(
+        lengths: Lengths,
+        address: u16,
+        hand: u16,
+        most: u16,
+        rule: AppRule,
+        nonce: u16,
+    ) -> Result<SlaveSettings, BadSetting>
+        ensures bad_hand { hand ≡ 0 → result ≡ Err BadSetting.Hand }
+        ensures bad_most { 0 < hand → most ≡ 0 → result ≡ Err BadSetting.Most }
+        ensures bad_rule { 0 < hand → 0 < most → is_acceptable rule ≡ false → result ≡ Err BadSetting.Rule }
+        ensures good { 0 < hand → 0 < most → IsTrue (is_acceptable rule) → IsOk result }
+        ensures settings { IfOk result (λ s. IsSlaveSetTo s lengths address hand most rule nonce profile.One) }
+    {
+        fault(hand, most, &rule)?;
+        Ok(SlaveSettings {
+            lengths,
+            address,
+            hand,
+            most,
+            rule,
+            nonce: u32::from(nonce),
+            profile: Profile::One,
+        })
+    }
+
+    /// Settings of profile Two with this profile word, with the refusals of `new`.
+    pub fn two(
+        lengths: Lengths,
+        address: u16,
+        hand: u16,
+        most: u16,
+        rule: AppRule,
+        nonce: u32,
+        word: u16,
+    ) -> Result<SlaveSettings, BadSetting>
+        ensures bad_hand { hand ≡ 0 → result ≡ Err BadSetting.Hand }
+        ensures bad_most { 0 < hand → most ≡ 0 → result ≡ Err BadSetting.Most }
+        ensures bad_rule { 0 < hand → 0 < most → is_acceptable rule ≡ false → result ≡ Err BadSetting.Rule }
+        ensures good { 0 < hand → 0 < most → IsTrue (is_acceptable rule) → IsOk result }
+        ensures settings { IfOk result (λ s. IsSlaveSetTo s lengths address hand most rule nonce (profile.Two word)) }
+    {
+        fault(hand, most, &rule)?;
+        Ok(SlaveSettings {
+            lengths,
+            address,
+            hand,
+            most,
+            rule,
+            nonce,
+            profile: Profile::Two(word),
+        })
+    }
+
+    /// The numbers of safe data bytes of both ends.
+    pub fn lengths(&self) -> &Lengths
+        ensures { result.now ≡ self.now.lengths }
+    {
+        &self.lengths
+    }
+
+    /// The slave's address.
+    pub fn address(&self) -> u16
+        ensures { result ≡ self.now.address }
+    {
+        self.address
+    }
+
+    /// The ticks after which a session expires as long as its watchdog isn't known.
+    pub fn hand(&self) -> u16
+        ensures value { result ≡ self.now.hand }
+        ensures some { 0 < result }
+    {
+        self.hand
+    }
+
+    /// The longest watchdog that is accepted, in ticks.
+    pub fn most(&self) -> u16
+        ensures value { result ≡ self.now.most }
+        ensures some { 0 < result }
+    {
+        self.most
+    }
+
+    /// The rule for application parameters.
+    pub fn rule(&self) -> &AppRule
+        ensures value { result.now ≡ self.now.rule }
+        ensures acceptable { IsTrue (is_acceptable result.now) }
+    {
+        &self.rule
+    }
+
+    /// The session id of the sessions that begin before another one is set.
+    pub fn nonce(&self) -> u32
+        ensures value { result ≡ self.now.nonce }
+        ensures allowed { IsTrue (allows_id self.now.profile result) }
+    {
+        self.nonce
+    }
+
+    /// The profile of parameters.
+    pub fn profile(&self) -> Profile
+        ensures { result ≡ self.now.profile }
+    {
+        self.profile
+    }
+
+    /// The same settings again. It takes no memory.
+    pub fn copy(&self) -> SlaveSettings
+        ensures { result ≡ self.now }
+    {
+        SlaveSettings {
+            lengths: self.lengths,
+            address: self.address,
+            hand: self.hand,
+            most: self.most,
+            rule: self.rule.copy(),
+            nonce: self.nonce,
+            profile: self.profile,
+        }
+    }
+}
+
+/// The first of these settings that is bad.
+fn fault(hand: u16, most: u16, rule: &AppRule) -> Result<(), BadSetting>
+    ensures bad_hand { hand ≡ 0 → result ≡ Err BadSetting.Hand }
+    ensures bad_most { 0 < hand → most ≡ 0 → result ≡ Err BadSetting.Most }
+    ensures bad_rule { 0 < hand → 0 < most → is_acceptable rule.now ≡ false → result ≡ Err BadSetting.Rule }
+    ensures good { IfOk result (λ _. (0 < hand) × (0 < most) × IsTrue (is_acceptable rule.now)) }
+    ensures ok { 0 < hand → 0 < most → IsTrue (is_acceptable rule.now) → IsOk result }
+{
+    if hand == 0 {
+        return Err(BadSetting::Hand);
+    }
+    if most == 0 {
+        return Err(BadSetting::Most);
+    }
+    if !rule.is_acceptable() {
+        return Err(BadSetting::Rule);
+    }
+    Ok(())
+}

@@ -1,0 +1,34 @@
+//! What the ends of a connection agreed on.
+ghost use Rattle.std.specs.Prelude.{◌≡◌};
+
+use crate::app_bytes::AppBytes;
+use crate::profile::Profile;
+
+/// What the ends of a connection agreed on in a handshake, and exchange data under.
+#[derive(Debug, Drop)]
+pub struct Terms {
+    /// The connection id.
+    pub conn: u16,
+    /// The slave's address.
+    pub address: u16,
+    /// The watchdog in ticks.
+    pub watchdog: u16,
+    /// The application parameters.
+    pub app: AppBytes,
+    pub profile: Profile,
+}
+
+impl Terms {
+    /// The same terms again. It takes no memory.
+    pub fn copy(&self) -> Terms
+        ensures { result ≡ self.now }
+    {
+        Terms {
+            conn: self.conn,
+            address: self.address,
+            watchdog: self.watchdog,
+            app: self.app.copy(),
+            profile: self.profile,
+        }
+    }
+}
