@@ -1,0 +1,304 @@
+-- The parts of a frame by their places, and from its layout.
+use Rattle.std.proofs.Common.{◌≡◌, ◌≢◌, ℕ, zero, suc, ◌+◌, ◌-◌, ◌*◌, ◌/◌, ◌%◌, ◌<◌, ◌≤◌, List, [], ◌∷◌, ◌++◌, length, drop, get_or, slice_index, IsTrue, inl, inr, refl, sym, ap, ◌∙◌, arith, add-one, append_assoc}
+use Rattle.std.proofs.lemmas.Bool.{cases_eq}
+use Rattle.std.proofs.lemmas.Bool.Decides.{nat_tests}
+use Rattle.std.proofs.Math.Seq.{drop-cons}
+use Rattle.std.proofs.Common.{length-drop, append-nil}
+use Rattle.fsoe_frame.proofs.Written.{even_length}
+use Rattle.fsoe_base.specs.Lengths.{is_length, group_count, frame_len}
+use Rattle.fsoe_frame.specs.Layout.{low_high, groups, with_crcs, layout}
+use Rattle.fsoe_frame.specs.Parts.{Frame, AreBytes, bytes_of, pairs, one_byte, add_group, frame_of}
+
+-- what stands at the places of n pairs
+pub record AtPlaces (command n : ℕ) (bytes : List ℕ) (f : Frame) : Type 0 where
+  pub cmd_is : f.cmd ≡ command
+  pub conn_is : f.conn ≡ slice_index bytes (4 * n) + 256 * slice_index bytes (4 * n + 1)
+  pub crc_is : (k : ℕ) → k < n → slice_index f.crcs k ≡ slice_index bytes (4 * k + 2) + 256 * slice_index bytes (4 * k + 3)
+
+past_four : (a b c d : ℕ) (bytes : List ℕ) (i j : ℕ) → j ≡ suc (suc (suc (suc i))) → slice_index (a ∷ b ∷ c ∷ d ∷ bytes) j ≡ slice_index bytes i
+past_four a b c d bytes i j e = rw e refl
+
+-- the places after one more group
+more_places : (cmd n d d' c c' : ℕ) (bytes : List ℕ) (f : Frame) → AtPlaces cmd n bytes f → AtPlaces cmd (suc n) (d ∷ d' ∷ c ∷ c' ∷ bytes) (add_group d d' (c + 256 * c') f)
+more_places cmd n d d' c c' bytes f h = record {
+  cmd_is = h.cmd_is;
+  conn_is = rw (past_four d d' c c' bytes (4 * n) (4 * suc n) (omega arith), past_four d d' c c' bytes (4 * n + 1) (4 * suc n + 1) (omega arith)) h.conn_is;
+  crc_is = more_crcs n d d' c c' bytes f h.crc_is;
+}
+  where
+    more_crcs : (n d d' c c' : ℕ) (bytes : List ℕ) (f : Frame) → ((k : ℕ) → k < n → slice_index f.crcs k ≡ slice_index bytes (4 * k + 2) + 256 * slice_index bytes (4 * k + 3))
+        → (k : ℕ) → k < suc n → slice_index ((c + 256 * c') ∷ f.crcs) k ≡ slice_index (d ∷ d' ∷ c ∷ c' ∷ bytes) (4 * k + 2) + 256 * slice_index (d ∷ d' ∷ c ∷ c' ∷ bytes) (4 * k + 3)
+    more_crcs n d d' c c' bytes f h zero lt = refl
+    more_crcs n d d' c c' bytes f h (suc k) lt =
+        rw (past_four d d' c c' bytes (4 * k + 2) (4 * suc k + 2) (omega arith), past_four d d' c c' bytes (4 * k + 3) (4 * suc k + 3) (omega arith)) (h k (omega arith))
+
+pub pairs_places : (cmd n : ℕ) (bytes : List ℕ) → length bytes ≡ 4 * n + 2 → AtPlaces cmd n bytes (pairs cmd bytes)
+pairs_places cmd zero (k ∷ k' ∷ []) h = record { cmd_is = refl; conn_is = refl; crc_is = λ i lt. absurd (omega arith) }
+pairs_places cmd (suc n) (d ∷ d' ∷ c ∷ c' ∷ bytes) h = more_places cmd n d d' c c' bytes (pairs cmd bytes) (pairs_places cmd n bytes (omega arith))
+pairs_places cmd zero [] h = absurd (omega arith)
+pairs_places cmd zero (a ∷ []) h = absurd (omega arith)
+pairs_places cmd zero (a ∷ b ∷ c ∷ bytes) h = absurd (omega arith)
+pairs_places cmd (suc n) [] h = absurd (omega arith)
+pairs_places cmd (suc n) (a ∷ []) h = absurd (omega arith)
+pairs_places cmd (suc n) (a ∷ b ∷ []) h = absurd (omega arith)
+pairs_places cmd (suc n) (a ∷ b ∷ c ∷ []) h = absurd (omega arith)
+
+-- a number of 16 bits from its two bytes
+low_high_back : (n : ℕ) → n % 256 + 256 * (n / 256) ≡ n
+low_high_back n = omega arith
+
+pairs_layout : (cmd conn : ℕ) (n : ℕ) (load crcs : List ℕ) → length load ≡ 2 * n → length crcs ≡ n
+    → pairs cmd (with_crcs (groups load) crcs ++ low_high conn) ≡ record { cmd = cmd; load = load; crcs = crcs; conn = conn }
+pairs_layout cmd conn zero [] [] h k = rw (low_high_back conn) refl
+pairs_layout cmd conn (suc n) (d ∷ d' ∷ load) (c ∷ crcs) h k = rw (low_high_back c, pairs_layout cmd conn n load crcs (omega arith) (omega arith)) refl
+pairs_layout cmd conn zero (d ∷ load) crcs h k = absurd (omega arith)
+pairs_layout cmd conn zero [] (c ∷ crcs) h k = absurd (omega arith)
+pairs_layout cmd conn (suc n) [] crcs h k = absurd (omega arith)
+pairs_layout cmd conn (suc n) (d ∷ []) crcs h k = absurd (omega arith)
+pairs_layout cmd conn (suc n) (d ∷ d' ∷ load) [] h k = absurd (omega arith)
+
+-- the parts of a frame at its places
+pub record FrameAt (l : ℕ) (bytes : List ℕ) (f : Frame) : Type 0 where
+  pub cmd_is : f.cmd ≡ slice_index bytes 0
+  pub conn_is : f.conn ≡ slice_index bytes (length bytes - 2) + 256 * slice_index bytes (length bytes - 2 + 1)
+
+one_at : (b : ℕ) (bytes : List ℕ) → length bytes ≡ 5 → FrameAt 1 (b ∷ bytes) (one_byte b bytes)
+one_at b (d ∷ c ∷ c' ∷ k ∷ k' ∷ []) h = record { cmd_is = refl; conn_is = refl }
+one_at b [] h = absurd (omega arith)
+one_at b (x ∷ []) h = absurd (omega arith)
+one_at b (x ∷ y ∷ []) h = absurd (omega arith)
+one_at b (x ∷ y ∷ z ∷ []) h = absurd (omega arith)
+one_at b (x ∷ y ∷ z ∷ u ∷ []) h = absurd (omega arith)
+one_at b (x ∷ y ∷ z ∷ u ∷ v ∷ w ∷ more) h = absurd (omega arith)
+
+pairs_at : (l b : ℕ) (bytes : List ℕ) → l % 2 ≡ 0 → length bytes ≡ 2 + 2 * l → FrameAt l (b ∷ bytes) (pairs b bytes)
+pairs_at l b bytes even h =
+    let at : AtPlaces b (l / 2) bytes (pairs b bytes) = pairs_places b (l / 2) bytes (omega arith) in
+    let low : length (b ∷ bytes) - 2 ≡ suc (4 * (l / 2)) = omega arith in
+    let high : length (b ∷ bytes) - 2 + 1 ≡ suc (4 * (l / 2) + 1) = omega arith in
+    record { cmd_is = at.cmd_is; conn_is = rw (high, low) at.conn_is }
+
+len_other : (l : ℕ) → l ≢ 1 → frame_len l ≡ 3 + 2 * l
+len_other l h = grind (arith, nat_tests)
+
+frame_of_other : (l b : ℕ) (bytes : List ℕ) → l ≢ 1 → frame_of l (b ∷ bytes) ≡ pairs b bytes
+frame_of_other l b bytes h = grind (arith, nat_tests)
+
+pub frame_at : (l : ℕ) (bytes : List ℕ) → IsTrue (is_length l) → length bytes ≡ frame_len l → FrameAt l bytes (frame_of l bytes)
+frame_at l [] valid h = absurd (positive l (sym h))
+  where
+    positive : (l : ℕ) → frame_len l ≡ 0 → ⊥
+    positive l h = grind (arith, nat_tests)
+frame_at l (b ∷ bytes) valid h =
+    elim (cases_eq l 1) [
+      | inl one ↦ rw one (one_at b bytes (let e : frame_len l ≡ 6 = ap frame_len one in omega arith))
+      | inr other ↦ rw (frame_of_other l b bytes other) (pairs_at l b bytes (even_length l valid other).0 (let e = len_other l other in omega arith))
+    ]
+
+pub crc_other : (l : ℕ) (bytes : List ℕ) (k : ℕ) → IsTrue (is_length l) → l ≢ 1 → length bytes ≡ frame_len l → k < group_count l
+    → slice_index (frame_of l bytes).crcs k ≡ slice_index bytes (3 + 4 * k) + 256 * slice_index bytes (3 + 4 * k + 1)
+crc_other l [] k valid other h lt = absurd (let e = len_other l other in omega arith)
+crc_other l (b ∷ bytes) k valid other h lt =
+    let even : l % 2 ≡ 0 = (even_length l valid other).0 in
+    let e : frame_len l ≡ 3 + 2 * l = len_other l other in
+    let at : AtPlaces b (l / 2) bytes (pairs b bytes) = pairs_places b (l / 2) bytes (omega arith) in
+    let low : 3 + 4 * k ≡ suc (4 * k + 2) = omega arith in
+    let high : 3 + 4 * k + 1 ≡ suc (4 * k + 3) = omega arith in
+    rw (frame_of_other l b bytes other, high, low) (at.crc_is k (count_other l k other lt))
+  where
+    count_other : (l k : ℕ) → l ≢ 1 → k < group_count l → k < l / 2
+    count_other l k other lt = grind (arith, nat_tests)
+
+one_layout : (cmd conn : ℕ) (load crcs : List ℕ) → length load ≡ 1 → length crcs ≡ 1 → frame_of 1 (layout cmd load crcs conn) ≡ record { cmd = cmd; load = load; crcs = crcs; conn = conn }
+one_layout cmd conn (d ∷ []) (c ∷ []) h k = rw (low_high_back c, low_high_back conn) refl
+one_layout cmd conn [] crcs h k = absurd (omega arith)
+one_layout cmd conn (d ∷ d' ∷ load) crcs h k = absurd (omega arith)
+one_layout cmd conn (d ∷ []) [] h k = absurd (omega arith)
+one_layout cmd conn (d ∷ []) (c ∷ c' ∷ crcs) h k = absurd (omega arith)
+
+count_one : (l : ℕ) → l ≡ 1 → group_count l ≡ 1
+count_one l h = grind (arith, nat_tests)
+
+count_even : (l : ℕ) → l ≢ 1 → group_count l ≡ l / 2
+count_even l h = grind (arith, nat_tests)
+
+-- a layout has the parts that it was made of
+pub frame_layout : (cmd conn : ℕ) (load crcs : List ℕ) → IsTrue (is_length (length load)) → length crcs ≡ group_count (length load)
+    → frame_of (length load) (layout cmd load crcs conn) ≡ record { cmd = cmd; load = load; crcs = crcs; conn = conn }
+frame_layout cmd conn load crcs h k =
+    elim (cases_eq (length load) 1) [
+      | inl one ↦ ap (λ l. frame_of l (layout cmd load crcs conn)) one ∙ one_layout cmd conn load crcs one (k ∙ count_one (length load) one)
+      | inr other ↦
+          frame_of_other (length load) cmd (with_crcs (groups load) crcs ++ low_high conn) other
+          ∙ pairs_layout cmd conn (length load / 2) load crcs (let e = (even_length (length load) h other).0 in omega arith) (k ∙ count_even (length load) other)
+    ]
+
+drop_four : (bytes : List ℕ) (j : ℕ) → j + 3 < length bytes → drop j bytes ≡ get_or bytes j 0 ∷ get_or bytes (j + 1) 0 ∷ get_or bytes (j + 2) 0 ∷ get_or bytes (j + 3) 0 ∷ drop (j + 4) bytes
+drop_four bytes j h =
+    one j (omega arith)
+    ∙ ap (λ xs. get_or bytes j 0 ∷ xs) (one (j + 1) (omega arith)
+    ∙ (ap (λ n. get_or bytes (j + 1) 0 ∷ drop n bytes) two
+    ∙ ap (λ xs. get_or bytes (j + 1) 0 ∷ xs) (one (j + 2) (omega arith)
+    ∙ (ap (λ n. get_or bytes (j + 2) 0 ∷ drop n bytes) three
+    ∙ ap (λ xs. get_or bytes (j + 2) 0 ∷ xs) (one (j + 3) h ∙ ap (λ n. get_or bytes (j + 3) 0 ∷ drop n bytes) four)))))
+  where
+    one : (i : ℕ) → i < length bytes → drop i bytes ≡ get_or bytes i 0 ∷ drop (i + 1) bytes
+    one i lt = drop-cons bytes i 0 lt ∙ ap (λ n. get_or bytes i 0 ∷ drop n bytes) (sym (add-one i))
+
+    two : j + 1 + 1 ≡ j + 2
+    two = omega arith
+
+    three : j + 2 + 1 ≡ j + 3
+    three = omega arith
+
+    four : j + 3 + 1 ≡ j + 4
+    four = omega arith
+
+-- the next pair of the load
+pub next_pair : (cmd : ℕ) (bytes : List ℕ) (i : ℕ) → 1 + 4 * i + 3 < length bytes
+    → (pairs cmd (drop (1 + 4 * i) bytes)).load ≡ get_or bytes (1 + 4 * i) 0 ∷ get_or bytes (2 + 4 * i) 0 ∷ (pairs cmd (drop (1 + 4 * (i + 1)) bytes)).load
+next_pair cmd bytes i h =
+    let second : 1 + 4 * i + 1 ≡ 2 + 4 * i = omega arith in
+    let next : 1 + 4 * i + 4 ≡ 1 + 4 * (i + 1) = omega arith in
+    ap (λ xs. (pairs cmd xs).load) (drop_four bytes (1 + 4 * i) h)
+    ∙ ap (λ n. get_or bytes (1 + 4 * i) 0 ∷ get_or bytes n 0 ∷ (pairs cmd (drop (1 + 4 * i + 4) bytes)).load) second
+    ∙ ap (λ n. get_or bytes (1 + 4 * i) 0 ∷ get_or bytes (2 + 4 * i) 0 ∷ (pairs cmd (drop n bytes)).load) next
+
+short_load : (cmd : ℕ) (bytes : List ℕ) → length bytes ≤ 2 → (pairs cmd bytes).load ≡ []
+short_load cmd [] h = refl
+short_load cmd (a ∷ []) h = refl
+short_load cmd (a ∷ b ∷ []) h = refl
+short_load cmd (a ∷ b ∷ c ∷ bytes) h = absurd (omega arith)
+
+-- the load is read where two bytes are left
+pub end_load : (cmd : ℕ) (bytes : List ℕ) (i : ℕ) → length bytes ≤ 1 + 4 * i + 2 → (pairs cmd (drop (1 + 4 * i) bytes)).load ≡ []
+end_load cmd bytes i h = short_load cmd (drop (1 + 4 * i) bytes) (omega (arith, length-drop (1 + 4 * i) bytes))
+
+pub other_load : (l : ℕ) (bytes : List ℕ) → l ≢ 1 → (frame_of l bytes).load ≡ (pairs (slice_index bytes 0) (drop 1 bytes)).load
+other_load l [] other = refl
+other_load l (b ∷ bytes) other = ap (λ f. f.load) (frame_of_other l b bytes other)
+
+pub frame_len_other : (l : ℕ) → IsTrue (is_length l) → l ≢ 1 → (l % 2 ≡ 0) × (frame_len l ≡ 3 + 2 * l)
+frame_len_other l valid other = ((even_length l valid other).0, len_other l other)
+
+-- one more pair is read
+pub reads_pair : (l : ℕ) (bytes out one two whole : List ℕ) (i : ℕ) → IsTrue (is_length l) → l ≢ 1 → length bytes ≡ frame_len l → i < l / 2
+    → out ++ (pairs (slice_index bytes 0) (drop (1 + 4 * i) bytes)).load ≡ whole
+    → one ≡ out ++ get_or bytes (1 + 4 * i) 0 ∷ []
+    → two ≡ one ++ get_or bytes (2 + 4 * i) 0 ∷ []
+    → two ++ (pairs (slice_index bytes 0) (drop (1 + 4 * (i + 1)) bytes)).load ≡ whole
+reads_pair l bytes out one two whole i valid other right lt e f g =
+    let len = frame_len_other l valid other in
+    let room : 1 + 4 * i + 3 < length bytes = omega arith in
+    let rest : List ℕ = (pairs (slice_index bytes 0) (drop (1 + 4 * (i + 1)) bytes)).load in
+    ap (λ xs. xs ++ rest) (g ∙ ap (λ xs. xs ++ get_or bytes (2 + 4 * i) 0 ∷ []) f)
+    ∙ append_assoc (out ++ get_or bytes (1 + 4 * i) 0 ∷ []) (get_or bytes (2 + 4 * i) 0 ∷ []) rest
+    ∙ append_assoc out (get_or bytes (1 + 4 * i) 0 ∷ []) (get_or bytes (2 + 4 * i) 0 ∷ rest)
+    ∙ sym (ap (λ xs. out ++ xs) (next_pair (slice_index bytes 0) bytes i room))
+    ∙ e
+
+-- all is read
+pub reads_all : (l : ℕ) (bytes out : List ℕ) (i : ℕ) → IsTrue (is_length l) → l ≢ 1 → length bytes ≡ frame_len l → l / 2 ≤ i
+    → out ++ (pairs (slice_index bytes 0) (drop (1 + 4 * i) bytes)).load ≡ (pairs (slice_index bytes 0) (drop 1 bytes)).load
+    → out ≡ (frame_of l bytes).load
+reads_all l bytes out i valid other right le e =
+    let len = frame_len_other l valid other in
+    let short : length bytes ≤ 1 + 4 * i + 2 = omega arith in
+    sym (append-nil out) ∙ sym (ap (λ xs. out ++ xs) (end_load (slice_index bytes 0) bytes i short)) ∙ e ∙ sym (other_load l bytes other)
+
+-- how many bytes and CRCs n pairs give
+pairs_counts : (cmd n : ℕ) (bytes : List ℕ) → length bytes ≡ 4 * n + 2 → (length (pairs cmd bytes).load ≡ 2 * n) × (length (pairs cmd bytes).crcs ≡ n)
+pairs_counts cmd zero (k ∷ k' ∷ []) h = (refl, refl)
+pairs_counts cmd (suc n) (d ∷ d' ∷ c ∷ c' ∷ bytes) h = let more = pairs_counts cmd n bytes (omega arith) in (omega (arith, more.0), omega (arith, more.1))
+pairs_counts cmd zero [] h = absurd (omega arith)
+pairs_counts cmd zero (a ∷ []) h = absurd (omega arith)
+pairs_counts cmd zero (a ∷ b ∷ c ∷ bytes) h = absurd (omega arith)
+pairs_counts cmd (suc n) [] h = absurd (omega arith)
+pairs_counts cmd (suc n) (a ∷ []) h = absurd (omega arith)
+pairs_counts cmd (suc n) (a ∷ b ∷ []) h = absurd (omega arith)
+pairs_counts cmd (suc n) (a ∷ b ∷ c ∷ []) h = absurd (omega arith)
+
+-- two bytes from the number that they make
+low_high_of : (c c' : ℕ) → c < 256 → low_high (c + 256 * c') ≡ c ∷ c' ∷ []
+low_high_of c c' h =
+    let low : (c + 256 * c') % 256 ≡ c = omega arith in
+    let high : (c + 256 * c') / 256 ≡ c' = omega arith in
+    rw (low, high) refl
+
+-- n pairs are laid out as they were read
+pairs_bytes : (cmd n : ℕ) (bytes : List ℕ) → length bytes ≡ 4 * n + 2 → AreBytes bytes → bytes_of (pairs cmd bytes) ≡ cmd ∷ bytes
+pairs_bytes cmd zero (k ∷ k' ∷ []) h b = rw (low_high_of k k' (b zero)) refl
+pairs_bytes cmd (suc n) (d ∷ d' ∷ c ∷ c' ∷ bytes) h b = more_bytes cmd d d' c c' bytes (pairs cmd bytes) (b (suc (suc zero))) (pairs_places cmd n bytes (omega arith)).cmd_is (pairs_bytes cmd n bytes (omega arith) (λ i. b (suc (suc (suc (suc i))))))
+  where
+    more_bytes : (cmd d d' c c' : ℕ) (bytes : List ℕ) (f : Frame) → c < 256 → f.cmd ≡ cmd → bytes_of f ≡ cmd ∷ bytes → bytes_of (add_group d d' (c + 256 * c') f) ≡ cmd ∷ d ∷ d' ∷ c ∷ c' ∷ bytes
+    more_bytes cmd d d' c c' bytes f lt same e =
+        let rest : with_crcs (groups f.load) f.crcs ++ low_high f.conn ≡ bytes = ap (drop 1) e in
+        ap (λ xs. f.cmd ∷ d ∷ d' ∷ (xs ++ with_crcs (groups f.load) f.crcs) ++ low_high f.conn) (low_high_of c c' lt)
+        ∙ ap (λ xs. f.cmd ∷ d ∷ d' ∷ c ∷ c' ∷ xs) rest
+        ∙ ap (λ x. x ∷ d ∷ d' ∷ c ∷ c' ∷ bytes) same
+pairs_bytes cmd zero [] h b = absurd (omega arith)
+pairs_bytes cmd zero (x ∷ []) h b = absurd (omega arith)
+pairs_bytes cmd zero (x ∷ y ∷ z ∷ bytes) h b = absurd (omega arith)
+pairs_bytes cmd (suc n) [] h b = absurd (omega arith)
+pairs_bytes cmd (suc n) (x ∷ []) h b = absurd (omega arith)
+pairs_bytes cmd (suc n) (x ∷ y ∷ []) h b = absurd (omega arith)
+pairs_bytes cmd (suc n) (x ∷ y ∷ z ∷ []) h b = absurd (omega arith)
+
+-- what a frame with l bytes of safe data comes to
+pub record Whole (l : ℕ) (bytes : List ℕ) (f : Frame) : Type 0 where
+  pub load : length f.load ≡ l
+  pub crcs : length f.crcs ≡ group_count l
+  pub back : AreBytes bytes → bytes_of f ≡ bytes
+
+one_whole : (b : ℕ) (bytes : List ℕ) → length bytes ≡ 5 → Whole 1 (b ∷ bytes) (one_byte b bytes)
+one_whole b (d ∷ c ∷ c' ∷ k ∷ k' ∷ []) h = record {
+  load = refl;
+  crcs = refl;
+  back = λ are.
+      ap (λ xs. b ∷ d ∷ (xs ++ []) ++ low_high (k + 256 * k')) (low_high_of c c' (are (suc (suc zero))))
+      ∙ ap (λ xs. b ∷ d ∷ c ∷ c' ∷ xs) (low_high_of k k' (are (suc (suc (suc (suc zero))))));
+}
+one_whole b [] h = absurd (omega arith)
+one_whole b (x ∷ []) h = absurd (omega arith)
+one_whole b (x ∷ y ∷ []) h = absurd (omega arith)
+one_whole b (x ∷ y ∷ z ∷ []) h = absurd (omega arith)
+one_whole b (x ∷ y ∷ z ∷ u ∷ []) h = absurd (omega arith)
+one_whole b (x ∷ y ∷ z ∷ u ∷ v ∷ w ∷ more) h = absurd (omega arith)
+
+other_count : (l : ℕ) → l ≢ 1 → group_count l ≡ l / 2
+other_count l h = grind (arith, nat_tests)
+
+pairs_whole : (l b : ℕ) (bytes : List ℕ) → l ≢ 1 → l % 2 ≡ 0 → length bytes ≡ 2 + 2 * l → Whole l (b ∷ bytes) (pairs b bytes)
+pairs_whole l b bytes other even h =
+    let right : length bytes ≡ 4 * (l / 2) + 2 = omega arith in
+    let counts = pairs_counts b (l / 2) bytes right in
+    record {
+      load = omega (arith, counts.0);
+      crcs = counts.1 ∙ sym (other_count l other);
+      back = λ are. pairs_bytes b (l / 2) bytes right (λ i. are (suc i));
+    }
+
+pub whole : (l : ℕ) (bytes : List ℕ) → IsTrue (is_length l) → length bytes ≡ frame_len l → Whole l bytes (frame_of l bytes)
+whole l [] valid h = absurd (positive l (sym h))
+  where
+    positive : (l : ℕ) → frame_len l ≡ 0 → ⊥
+    positive l h = grind (arith, nat_tests)
+whole l (b ∷ bytes) valid h =
+    elim (cases_eq l 1) [
+      | inl one ↦ rw one (one_whole b bytes (let e : frame_len l ≡ 6 = ap frame_len one in omega arith))
+      | inr other ↦ rw (frame_of_other l b bytes other) (pairs_whole l b bytes other (even_length l valid other).0 (let e = len_other l other in omega arith))
+    ]
+
+-- the group of a CRC that a frame has, and its place among the bytes of pairs
+pub group_of : (l : ℕ) (bytes : List ℕ) (f : Frame) (k : ℕ) → IsTrue (is_length l) → length bytes ≡ frame_len l → frame_of l bytes ≡ f → k < length f.crcs → k < group_count l
+group_of l bytes f k valid right e lt =
+    let count : length f.crcs ≡ group_count l = sym (ap (λ g. length g.crcs) e) ∙ (whole l bytes valid right).crcs in
+    omega arith
+
+pub crc_within : (l : ℕ) (bytes : List ℕ) (f : Frame) (k : ℕ) → IsTrue (is_length l) → length bytes ≡ frame_len l → frame_of l bytes ≡ f → l ≢ 1 → k < length f.crcs → 3 + 4 * k + 1 < length bytes
+crc_within l bytes f k valid right e other lt =
+    omega (arith, group_of l bytes f k valid right e lt, frame_len_other l valid other, other_count l other)
+
+pub crc_at_pairs : (l : ℕ) (bytes : List ℕ) (f : Frame) (k : ℕ) → IsTrue (is_length l) → length bytes ≡ frame_len l → frame_of l bytes ≡ f → l ≢ 1 → k < length f.crcs
+    → slice_index bytes (3 + 4 * k) + 256 * slice_index bytes (3 + 4 * k + 1) ≡ slice_index f.crcs k
+crc_at_pairs l bytes f k valid right e other lt = sym (crc_other l bytes k valid other right (group_of l bytes f k valid right e lt)) ∙ ap (λ g. slice_index g.crcs k) e

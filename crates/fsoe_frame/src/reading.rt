@@ -1,0 +1,110 @@
+//! Reading a frame in place.
+
+ghost use Rattle.std.specs.Prelude.{◌≡◌, ◌↔◌, ◌≤◌, ◌<◌, ◌+◌, ◌*◌, length, IsTrue, IsSome, IfSome, slice_index};
+ghost use Rattle.fsoe_base.specs.Lengths.{is_length, group_count, frame_len};
+ghost use Rattle.fsoe_frame.specs.Parts.{frame_of, bytes_of};
+
+use fsoe_base::Image;
+use std::marker::Model;
+
+/// The bytes of a frame with a known number of safe data bytes, read in place. Contracts see it as the
+/// command byte, the load, the CRCs and the connection id that the bytes lay out.
+#[derive(Drop)]
+pub struct FrameView<'a> {
+    bytes: &'a [u8],
+    l: usize,
+}
+
+impl<'a> Model for FrameView<'a> {
+    ghost use Rattle.std.specs.Prelude.{◌≡◌, length, IsTrue};
+    ghost use Rattle.fsoe_base.specs.Lengths.{is_length, frame_len};
+    ghost use Rattle.fsoe_frame.specs.Parts.{Frame, frame_of, AreBytes};
+
+    ghost Value = { Frame };
+
+    ghost view = { λ v. frame_of v.l v.bytes.now };
+
+    ghost invariant = { λ v. IsTrue (is_length v.l) × (length v.bytes.now ≡ frame_len v.l) × AreBytes v.bytes.now };
+}
+
+/// The frame in these bytes with `l` safe data bytes, 1 or an even number from 2 to 126. None exactly
+/// where the number of bytes isn't that of such a frame.
+pub fn view<'a>(bytes: &'a [u8], l: usize) -> Option<FrameView<'a>>
+    requires { IsTrue (is_length l) }
+    ensures some { IsSome result ↔ (length bytes.now ≡ frame_len l) }
+    ensures frame { IfSome result (λ v. v ≡ frame_of l bytes.now) }
+{
+    if bytes.len() == fsoe_base::frame_len(l) {
+        Some(FrameView { bytes, l })
+    } else {
+        None
+    }
+}
+
+impl<'a> FrameView<'a> {
+    /// The number of safe data bytes.
+    pub fn len(&self) -> usize
+        ensures value { result ≡ length self.now.load }
+        ensures valid { IsTrue (is_length result) }
+        ensures groups { length self.now.crcs ≡ group_count result }
+    {
+        self.l
+    }
+
+    /// The byte that stands for the command, whether it stands for one or not.
+    pub fn command_byte(&self) -> u8
+        ensures { result ≡ self.now.cmd }
+    {
+        self.bytes[0]
+    }
+
+    /// Copies the safe data into `out`, in place of what it held.
+    pub fn load_into(&self, out: &mut Image)
+        ensures { out.new ≡ self.now.load }
+    {
+        out.clear();
+        if self.l == 1 {
+            out.push(self.bytes[1]);
+        } else {
+            for group in 0..self.l / 2 {
+                out.push(self.bytes[1 + 4 * group]);
+                out.push(self.bytes[2 + 4 * group]);
+            }
+        }
+    }
+
+    /// The CRC of a group that exists.
+    pub fn crc_at(&self, group: usize) -> u16
+        requires { group < length self.now.crcs }
+        ensures { result ≡ slice_index self.now.crcs group }
+    {
+        if self.l == 1 {
+            number(self.bytes, 2)
+        } else {
+            number(self.bytes, 3 + 4 * group)
+        }
+    }
+
+    /// The connection id.
+    pub fn conn(&self) -> u16
+        ensures { result ≡ self.now.conn }
+    {
+        number(self.bytes, self.bytes.len() - 2)
+    }
+
+    /// The bytes, at most 255.
+    pub fn bytes(&self) -> &'a [u8]
+        ensures value { result.now ≡ bytes_of self.now }
+        ensures most { length result.now ≤ 255 }
+    {
+        self.bytes
+    }
+}
+
+/// The number of 16 bits at a place, low byte first.
+fn number(bytes: &[u8], at: usize) -> u16
+    requires { at + 1 < length bytes.now }
+    ensures { result ≡ slice_index bytes.now at + 256 * slice_index bytes.now (at + 1) }
+{
+    u16::from_le_bytes([bytes[at], bytes[at + 1]])
+}
