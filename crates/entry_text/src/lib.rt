@@ -1,0 +1,104 @@
+//! The text of one entry, which every report has after the entry's number.
+#![tactic(auto)]
+
+ghost use Rattle.std.specs.Prelude.{◌≡◌, ◌+◌, ◌*◌, ◌≤◌, ◌++◌, length, codes};
+ghost use Rattle.fsoe_base.specs.Command.{state_name, command_name};
+ghost use Rattle.hex.specs.Hex.{encode_lower};
+ghost use Rattle.entry_text.specs.EntryText.{code_text, cause_text, dropped_text, did_text, sent_text, entry_text};
+
+use fsoe_base::{Cause, Code, Command, Did, Dropped, State};
+use fsoe_io::LineText;
+
+#[cfg(test)]
+mod tests;
+
+/// Appends a word of a reset and its code.
+fn push_coded(word: &[u8], code: Code, text: &mut LineText)
+    requires word { length word.now ≤ 20 }
+    requires room { length text.old ≤ 80 }
+    ensures text { text.new ≡ text.old ++ (word.now ++ code_text code) }
+    ensures size { length text.new ≡ length text.old + length word.now + 2 }
+{
+    text.push(word);
+    text.push_hex(&[code.0]);
+}
+
+fn push_cause(cause: Cause, text: &mut LineText)
+    requires { length text.old ≤ 80 }
+    ensures text { text.new ≡ text.old ++ cause_text cause }
+    ensures most { length text.new ≤ length text.old + 20 }
+{
+    match cause {
+        Cause::Local => text.push(b"reset own"),
+        Cause::Peer(code) => push_coded(b"reset peer ", code, text),
+        Cause::Found(code) => push_coded(b"reset found ", code, text),
+    }
+}
+
+fn dropped_name(dropped: Dropped) -> &'static [u8]
+    ensures text { result.now ≡ dropped_text dropped }
+    ensures most { length result.now ≤ 20 }
+{
+    match dropped {
+        Dropped::Length => b"drop Length",
+        Dropped::Repeat => b"drop Repeat",
+        Dropped::InReset => b"drop InReset",
+    }
+}
+
+fn push_took(command: Command, text: &mut LineText)
+    requires { length text.old ≤ 80 }
+    ensures text { text.new ≡ text.old ++ (codes "took " ++ command_name command) }
+    ensures most { length text.new ≤ length text.old + 20 }
+{
+    text.push(b"took ");
+    text.push_str(command.name());
+}
+
+fn push_did(did: &Did, text: &mut LineText)
+    requires { length text.old ≤ 80 }
+    ensures text { text.new ≡ text.old ++ did_text did.now }
+    ensures most { length text.new ≤ length text.old + 20 }
+{
+    if let Some(dropped) = did.dropped {
+        text.push(dropped_name(dropped));
+    } else if let Some(cause) = did.reset {
+        push_cause(cause, text);
+    } else if let Some(took) = &did.took {
+        push_took(took.command, text);
+    } else if did.sent {
+        text.push(b"again");
+    } else {
+        text.push(b"quiet");
+    }
+}
+
+fn push_sent(sent: &[u8], text: &mut LineText)
+    requires bytes { length sent.now ≤ 255 }
+    requires room { length text.old ≤ 500 }
+    ensures text { text.new ≡ text.old ++ sent_text sent.now }
+    ensures most { length text.new ≤ length text.old + 3 + 2 * length sent.now }
+{
+    if !sent.is_empty() {
+        text.push(b" > ");
+        text.push_hex(sent);
+    }
+}
+
+/// Appends what an entry did, the state and the outputs after it, and the frame that it sent, if any: `took Session
+/// Session 0000 > 4e020090470000`. Outputs and frames are lower-case hexadecimal, two digits a byte. There are at
+/// most 126 output bytes and 255 bytes sent, and the text holds at most 80 bytes before.
+pub fn push_entry(did: &Did, state: State, outputs: &[u8], sent: &[u8], text: &mut LineText)
+    requires outputs { length outputs.now ≤ 126 }
+    requires sent { length sent.now ≤ 255 }
+    requires room { length text.old ≤ 80 }
+    ensures text { text.new ≡ text.old ++ entry_text did.now state outputs.now sent.now }
+    ensures most { length text.new ≤ length text.old + 900 }
+{
+    push_did(did, text);
+    text.push(b" ");
+    text.push_str(state.name());
+    text.push(b" ");
+    text.push_hex(outputs);
+    push_sent(sent, text);
+}
