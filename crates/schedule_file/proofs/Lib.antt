@@ -1,3 +1,5 @@
 pub mod Digits
 pub mod Hexed
+pub mod OneField
+pub mod Ranges
 pub mod Split

@@ -1,6 +1,8 @@
-ghost use Rattle.std.specs.Prelude.{◌≡◌, ◌≤◌, ◌<◌, ◌∷◌, length};
+ghost use Rattle.std.specs.Prelude.{◌≡◌, ◌≤◌, ◌<◌, ◌∷◌, length, MatchResult, IfSome};
+ghost use Rattle.schedule_file.specs.Fields.{next_field, no_field, one_field};
 ghost use Rattle.schedule_file.specs.Field.{FindsSpace, fields_of, fields_after, number_of, bytes_of};
 
+use crate::line_cause::LineCause;
 use std::marker::Model;
 
 /// Where the first space stands.
@@ -61,7 +63,8 @@ impl HexBytes {
     /// The bytes that a field says in digits of either case, from one to `most`.
     pub fn read(text: &[u8], most: usize) -> Option<HexBytes>
         requires { most ≤ 256 }
-        ensures { result ≡ bytes_of most text.now }
+        ensures value { result ≡ bytes_of most text.now }
+        ensures count { IfSome result (λ bytes. (0 < length bytes) × (length bytes ≤ most)) }
     {
         let len = text.len() / 2;
         if len == 0 || len > most {
@@ -79,5 +82,38 @@ impl HexBytes {
         ensures most { length result.now ≤ 256 }
     {
         &self.bytes[..self.len]
+    }
+}
+
+/// The next field, and what follows the space after it. `Fields` where there is none.
+pub fn next_field(fields: Option<&[u8]>) -> Result<(&[u8], Option<&[u8]>), LineCause>
+    ensures { MatchResult result (λ it. next_field (fields_after fields.entry) ≡ Ok (it.0.now, fields_after it.1)) (λ cause. next_field (fields_after fields.entry) ≡ Err cause) }
+{
+    match fields {
+        None => Err(LineCause::Fields),
+        Some(fields) => Ok(cut(fields)),
+    }
+}
+
+/// The end of the fields. `Fields` where there is one more.
+pub fn no_field(fields: Option<&[u8]>) -> Result<(), LineCause>
+    ensures { result ≡ no_field (fields_after fields.entry) }
+{
+    match fields {
+        None => Ok(()),
+        Some(_) => Err(LineCause::Fields),
+    }
+}
+
+/// The only field. `Fields` where there is none, or more than one.
+pub fn one_field(fields: Option<&[u8]>) -> Result<&[u8], LineCause>
+    ensures { MatchResult result (λ field. one_field (fields_after fields.entry) ≡ Ok field.now) (λ cause. one_field (fields_after fields.entry) ≡ Err cause) }
+{
+    match fields {
+        None => Err(LineCause::Fields),
+        Some(fields) => match cut(fields) {
+            (field, None) => Ok(field),
+            (_, Some(_)) => Err(LineCause::Fields),
+        },
     }
 }

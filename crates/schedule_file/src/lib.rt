@@ -1,7 +1,16 @@
 //! Reads the lines of a schedule: its header, and then its events.
 #![tactic(auto)]
 
+pub mod event;
 mod field;
-mod line_cause;
+pub mod header;
+mod header_line;
+mod header_part;
+pub mod line_cause;
+pub mod node_event;
+mod place;
 
+pub use event::{Event, ScheduleLine};
+pub use header::{Header, HeaderKind};
 pub use line_cause::LineCause;
+pub use node_event::read_node_event;

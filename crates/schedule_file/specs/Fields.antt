@@ -1,0 +1,31 @@
+-- The steps by which a line is read: each gives a value, or the cause for which the line is refused.
+use Rattle.std.specs.Prelude.{List, [], ◌∷◌, ℕ, Option, Some, None, Result, Ok, Err}
+use Rattle.schedule_file.specs.declared.line_cause.LineCause.{LineCause}
+use Rattle.schedule_file.specs.declared.line_cause.LineCause.TheVariants as cause
+
+-- the next step, where this one gave a value
+infixl 10 ◌>>=◌
+abbrev pub ◌>>=◌ : {A B : Type 0} → Result A LineCause → (A → Result B LineCause) → Result B LineCause
+Ok x >>= f = f x
+Err e >>= f = Err e
+
+-- a value, or the cause for want of it
+abbrev pub value_or : {A : Type 0} → LineCause → Option A → Result A LineCause
+value_or cause (Some x) = Ok x
+value_or cause None = Err cause
+
+-- a field and those after it
+abbrev pub next_field : List (List ℕ) → Result (List ℕ × List (List ℕ)) LineCause
+next_field [] = Err cause.Fields
+next_field (field ∷ fields) = Ok (field, fields)
+
+-- no further field
+abbrev pub no_field : List (List ℕ) → Result (Unit {0}) LineCause
+no_field [] = Ok tt
+no_field (field ∷ fields) = Err cause.Fields
+
+-- the only field
+abbrev pub one_field : List (List ℕ) → Result (List ℕ) LineCause
+one_field (field ∷ []) = Ok field
+one_field [] = Err cause.Fields
+one_field (field ∷ next ∷ more) = Err cause.Fields

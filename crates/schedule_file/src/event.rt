@@ -1,0 +1,54 @@
+use fsoe_base::{End, FrameBuf, Image};
+
+/// What happens to one end of a pair.
+#[derive(Debug, Drop)]
+pub enum Event {
+    /// The end `to` is delivered the `back`-th frame back, from 1 to 64, of those that its peer sent.
+    Deliver {
+        to: End,
+        back: u8,
+    },
+    /// The same, with byte `pos` of the frame altered by the mask.
+    Altered {
+        to: End,
+        back: u8,
+        pos: u8,
+        mask: u8,
+    },
+    /// The end `to` is delivered these bytes, from 1 to 255.
+    Raw {
+        to: End,
+        frame: FrameBuf,
+    },
+    /// The time of the end goes on by one tick.
+    Tick {
+        at: End,
+    },
+    /// The end sends these safe data bytes from now on: exactly as many as it sends.
+    Put {
+        at: End,
+        load: Image,
+    },
+    /// The end sends fail-safe data from now on, or no longer.
+    Hold {
+        at: End,
+        failsafe: bool,
+    },
+    /// The end begins its next session with this id.
+    Nonce {
+        at: End,
+        id: u32,
+    },
+    /// The end is reset.
+    Local {
+        at: End,
+    },
+}
+
+/// What a line after the header says.
+#[derive(Debug, Drop)]
+pub enum ScheduleLine {
+    Step(Event),
+    /// The end of the schedule.
+    End,
+}
