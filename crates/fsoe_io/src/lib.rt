@@ -13,6 +13,8 @@ mod sink;
 mod source;
 mod status;
 mod streams;
+#[cfg(test)]
+mod tests;
 
 pub use line::{Line, LineFault};
 pub use line_reader::LineReader;

@@ -1,6 +1,8 @@
 //! Sinks in memory.
-ghost use Rattle.std.specs.Prelude.{◌≡◌, ◌+◌, ◌<◌, Some, None, [], IfOk};
-ghost use Rattle.fsoe_io.specs.Planned.{planned_faults};
+ghost use Rattle.std.specs.Prelude.{◌≡◌, ◌+◌, ◌-◌, ◌≤◌, ◌<◌, Some, None, [], length, min, IfOk, IfSome, IsSome, IsErr, is_err};
+ghost use Rattle.fsoe_io.specs.Faults.{HasCause};
+ghost use Rattle.fsoe_io.specs.Planned.{IsNextListed, planned_faults};
+ghost use Rattle.fsoe_io.specs.Sink.{TakesSome, WriteGrows};
 
 use crate::planned::PlannedCalls;
 use crate::sink::Sink;
@@ -73,7 +75,18 @@ impl Sink for MemSink {
 
     ghost faults = { λ s. planned_faults s.planned + s.refusals };
 
-    fn write(&mut self, piece: &[u8]) -> Result<usize, Failed> {
+    fn write(&mut self, piece: &[u8]) -> Result<usize, Failed>
+        ensures bound { TakesSome result piece.now }
+        ensures bytes { WriteGrows (Some self.old.written) (Some self.new.written) result piece.now }
+        ensures cause { HasCause
+            (planned_faults self.old.planned + self.old.refusals)
+            (planned_faults self.new.planned + self.new.refusals)
+            result }
+        // It fails at the listed calls and where its room is used up, and else takes as much as it may.
+        ensures fails { length self.old.written < self.old.room → IsNextListed self.old.planned (is_err result) }
+        ensures full { length self.old.written ≡ self.old.room → 0 < length piece.now → IsErr result }
+        ensures count { IfOk result (λ n. n ≡ min (min (length piece.now) (self.old.room - length self.old.written)) self.old.most) }
+    {
         if self.calls.next_fails() {
             return Err(Failed);
         }
@@ -88,8 +101,8 @@ impl Sink for MemSink {
     }
 }
 
-/// A sink in memory that never fails. It is seen as what it tells: the bytes written, until its room is used up;
-/// from then on it takes bytes and tells nothing.
+/// A sink in memory that never fails. It tells what was written until its room is used up; from then on it takes
+/// bytes and tells nothing.
 #[derive(Drop)]
 pub struct SureSink {
     room: Vec<u8>,
@@ -98,12 +111,15 @@ pub struct SureSink {
 }
 
 impl Model for SureSink {
-    ghost use Rattle.std.specs.Prelude.{◌≤◌, List, ℕ, Some, None, take, vec_len, if◌then◌else◌};
-    ghost use Rattle.std.specs.declared.option.Option.{Option};
+    ghost use Rattle.std.specs.Prelude.{◌≤◌, Some, None, take, vec_len, if◌then◌else◌};
+    ghost use Rattle.fsoe_io.specs.Ends.{Told};
 
-    ghost Value = { Option (List ℕ) };
+    ghost Value = { Told };
 
-    ghost view = { λ s. (if s.over then None else Some (take s.len s.room.items)) };
+    ghost view = { λ s. record {
+      written = (if s.over then None else Some (take s.len s.room.items));
+      room = vec_len s.room;
+    } };
 
     ghost invariant = { λ s. s.len ≤ vec_len s.room };
 }
@@ -111,7 +127,8 @@ impl Model for SureSink {
 impl SureSink {
     /// A sink with room for `room` bytes. `Memory` where there is none for the room.
     pub fn new(alloc: Global, room: usize) -> Result<SureSink, Memory>
-        ensures { IfOk result (λ s. s ≡ Some []) }
+        ensures written { IfOk result (λ s. s.written ≡ Some []) }
+        ensures room { IfOk result (λ s. s.room ≡ room) }
     {
         match vec![in alloc; 0; room] {
             Ok(room) => Ok(SureSink {
@@ -122,14 +139,30 @@ impl SureSink {
             Err(_) => Err(Memory),
         }
     }
+
+    /// What was written, until the room was used up.
+    pub fn bytes(&self) -> &[u8]
+        ensures { IfSome self.now.written (λ written. result.now ≡ written) }
+    {
+        &self.room[..self.len]
+    }
 }
 
 impl Sink for SureSink {
-    ghost written = { λ s. s };
+    ghost written = { λ s. s.written };
 
     ghost faults = { λ _. 0 };
 
-    fn write(&mut self, piece: &[u8]) -> Result<usize, Failed> {
+    fn write(&mut self, piece: &[u8]) -> Result<usize, Failed>
+        ensures bound { TakesSome result piece.now }
+        ensures bytes { WriteGrows self.old.written self.new.written result piece.now }
+        ensures cause { HasCause 0 0 result }
+        // It takes the whole piece, and goes on to tell what was written while there is room for it.
+        ensures count { result ≡ Ok (length piece.now) }
+        ensures tells { IfSome self.old.written (λ written.
+            length written + length piece.now ≤ self.old.room → IsSome self.new.written) }
+        ensures room { self.new.room ≡ self.old.room }
+    {
         if self.over || piece.len() > self.room.len() - self.len {
             self.over = true;
         } else {

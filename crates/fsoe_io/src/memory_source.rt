@@ -1,6 +1,9 @@
 //! Sources in memory.
-ghost use Rattle.std.specs.Prelude.{◌≡◌, ◌<◌, Some, List, ℕ};
-ghost use Rattle.fsoe_io.specs.Planned.{planned_faults};
+ghost use Rattle.std.specs.Io.KnownBytes.{ReadConsumes};
+ghost use Rattle.std.specs.Io.{ReadsAtMost};
+ghost use Rattle.std.specs.Prelude.{◌≡◌, ◌<◌, Some, List, ℕ, length, min, is_err, IfOk};
+ghost use Rattle.fsoe_io.specs.Faults.{HasCause};
+ghost use Rattle.fsoe_io.specs.Planned.{IsNextListed, planned_faults};
 
 use crate::planned::PlannedCalls;
 use crate::source::{Failed, Source};
@@ -37,7 +40,13 @@ impl Source for SureSource {
 
     ghost faults = { λ _. 0 };
 
-    fn read(&mut self, buffer: &mut [u8]) -> Result<usize, Failed> {
+    fn read(&mut self, buffer: &mut [u8]) -> Result<usize, Failed>
+        ensures bound { ReadsAtMost result buffer.new }
+        ensures bytes { ReadConsumes (Some self.old) (Some self.new) result buffer.new }
+        ensures cause { HasCause 0 0 result }
+        // It gives as much as there is room for.
+        ensures count { result ≡ Ok (min (length buffer.old) (length self.old)) }
+    {
         let count = buffer.len().min(self.bytes.len() - self.at);
         buffer[..count].copy_from_slice(&self.bytes[self.at..self.at + count]);
         self.at += count;
@@ -87,7 +96,14 @@ impl Source for MemSource {
 
     ghost faults = { λ s. planned_faults s.planned };
 
-    fn read(&mut self, buffer: &mut [u8]) -> Result<usize, Failed> {
+    fn read(&mut self, buffer: &mut [u8]) -> Result<usize, Failed>
+        ensures bound { ReadsAtMost result buffer.new }
+        ensures bytes { ReadConsumes (Some self.old.left) (Some self.new.left) result buffer.new }
+        ensures cause { HasCause (planned_faults self.old.planned) (planned_faults self.new.planned) result }
+        // It fails exactly at the listed calls, and else gives as much as it may.
+        ensures fails { IsNextListed self.old.planned (is_err result) }
+        ensures count { IfOk result (λ n. n ≡ min (min (length buffer.old) self.old.most) (length self.old.left)) }
+    {
         if self.calls.next_fails() {
             return Err(Failed);
         }
