@@ -5,19 +5,27 @@
 pub mod app_bytes;
 pub mod app_rule;
 pub mod bad_setting;
+mod contents;
 pub mod entry;
+mod joined;
 pub mod master_settings;
 pub mod payload;
 pub mod profile;
 pub mod slave_settings;
 pub mod terms;
+pub mod upload;
 
 pub use app_bytes::AppBytes;
 pub use app_rule::AppRule;
 pub use bad_setting::BadSetting;
+pub use contents::is_all_zero;
 pub use entry::{Entry, Move};
 pub use master_settings::MasterSettings;
 pub use payload::{Payload, padded};
 pub use profile::{Profile, Profiles};
 pub use slave_settings::SlaveSettings;
 pub use terms::Terms;
+pub use upload::{Progress, Upload};
+
+#[cfg(test)]
+mod tests;

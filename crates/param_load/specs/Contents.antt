@@ -1,0 +1,95 @@
+-- The tests of the contents of the frames that a slave takes in a handshake. `before` is the number of bytes
+-- that were joined before the frame, and `u` all joined bytes, the frame's among them.
+use Rattle.std.specs.Prelude.{ℕ, ◌+◌, ◌==◌, nat_le, nat_lt, Bool, true, false, ◌&&◌, not, List, [], length, take, drop, Option, Some, None, if◌then◌else◌}
+use Rattle.std.specs.List.{list_all}
+use Rattle.fsoe_base.specs.declared.command.Code.{Code}
+use Rattle.param_load.specs.declared.app_rule.AppRule.{AppRule}
+use Rattle.param_load.specs.declared.contents.Expected.{Expected}
+use Rattle.param_load.specs.declared.contents.Expected.TheVariants as expected
+use Rattle.param_load.specs.declared.profile.Profile.{Profile}
+use Rattle.param_load.specs.declared.profile.Profile.TheVariants as profile
+use Rattle.param_load.specs.AppRule.{rule_len, allows, is_acceptable}
+use Rattle.param_load.specs.Payload.{number_at}
+use Rattle.param_load.specs.Profile.{id_len}
+
+abbrev pub code : ℕ → Code
+code n = record { 0 = n }
+
+-- each byte is 0
+abbrev pub all_zero : List ℕ → Bool
+all_zero bytes = list_all (λ b. b == 0) bytes
+
+-- the rule of expected parameters is one that settings may have
+abbrev pub is_expectable : Expected → Bool
+is_expectable (expected.Session profile) = true
+is_expectable (expected.Connection conn address) = true
+is_expectable (expected.Parameter most rule profile) = is_acceptable rule
+
+-- what is expected
+abbrev pub is_session : Expected → Bool
+is_session (expected.Session profile) = true
+is_session _ = false
+
+abbrev pub is_parameter : Expected → Bool
+is_parameter (expected.Parameter most rule profile) = true
+is_parameter _ = false
+
+-- the number of bytes of an expected payload
+abbrev pub expected_len : Expected → ℕ
+expected_len (expected.Session profile) = id_len profile
+expected_len (expected.Connection conn address) = 4
+expected_len (expected.Parameter most rule profile) = id_len profile + 4 + rule_len rule
+
+-- the application parameters of a payload
+abbrev pub app_part : Expected → List ℕ → List ℕ
+app_part (expected.Session profile) u = []
+app_part (expected.Connection conn address) u = []
+app_part (expected.Parameter most rule profile) u = take (rule_len rule) (drop (id_len profile + 4) u)
+
+-- a field is tested with the frame that brings its last byte, which stands at this place
+abbrev pub fails : ℕ → List ℕ → ℕ → Bool → Bool
+fails before u last holds = nat_le before last && nat_lt last (length u) && not holds
+
+abbrev pub word_is : Profile → List ℕ → Bool
+word_is profile.One u = true
+word_is (profile.Two word) u = number_at 4 u == word
+
+-- the connection id and the slave address
+abbrev pub connection_fault : ℕ → ℕ → ℕ → List ℕ → Option Code
+connection_fault conn address before u =
+    if fails before u 1 (number_at 0 u == conn) then Some (code 0x03)
+    else if fails before u 3 (number_at 2 u == address) then Some (code 0x06)
+    else None
+
+-- the length of the communication parameters, the watchdog, the profile word, and the number of application parameters
+abbrev pub communication_fault : ℕ → AppRule → Profile → ℕ → List ℕ → Option Code
+communication_fault most rule profile before u =
+    if fails before u 1 (number_at 0 u == id_len profile) then Some (code 0x08)
+    else if fails before u 3 (nat_lt 0 (number_at 2 u) && nat_le (number_at 2 u) most) then Some (code 0x09)
+    else if fails before u (id_len profile + 1) (word_is profile u) then Some (code 0x09)
+    else if fails before u (id_len profile + 3) (number_at (id_len profile + 2) u == rule_len rule) then Some (code 0x0A)
+    else None
+
+-- the application parameters, when all have come
+abbrev pub app_fault : AppRule → ℕ → ℕ → List ℕ → List ℕ → Option Code
+app_fault rule last before u app = if fails before u last (allows rule app) then Some (code 0x0B) else None
+
+abbrev pub or_else : Option Code → Option Code → Option Code
+or_else None second = second
+or_else (Some first) second = Some first
+
+-- the first field that fails its test
+abbrev pub field_fault : Expected → ℕ → List ℕ → Option Code
+field_fault (expected.Session profile) before u = None
+field_fault (expected.Connection conn address) before u = connection_fault conn address before u
+field_fault (expected.Parameter most rule profile) before u =
+    or_else (communication_fault most rule profile before u)
+    (app_fault rule (id_len profile + 3 + rule_len rule) before u (app_part (expected.Parameter most rule profile) u))
+
+-- the padding: the joined bytes past the payload's end, and the data of the frame past its piece
+abbrev pub padding_fault : Expected → List ℕ → List ℕ → Option Code
+padding_fault e u rest = if all_zero (drop (expected_len e) u) && all_zero rest then None else Some (code 0x07)
+
+-- the first test of the contents that fails: of the fields, then of the padding
+abbrev pub contents_fault : Expected → ℕ → List ℕ → List ℕ → Option Code
+contents_fault e before u rest = or_else (field_fault e before u) (padding_fault e u rest)

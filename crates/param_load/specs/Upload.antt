@@ -1,0 +1,55 @@
+-- How an upload goes on by the data of a frame.
+use Rattle.std.specs.Prelude.{ℕ, ◌+◌, ◌-◌, ◌*◌, nat_le, Bool, List, [], ◌++◌, length, take, drop, Option, Some, None, Result, Ok, Err, if◌then◌else◌}
+use Rattle.fsoe_base.specs.declared.command.Code.{Code}
+use Rattle.param_load.specs.declared.app_rule.AppRule.{AppRule}
+use Rattle.param_load.specs.declared.contents.Expected.{Expected}
+use Rattle.param_load.specs.declared.contents.Expected.TheVariants as expected
+use Rattle.param_load.specs.declared.profile.Profile.{Profile}
+use Rattle.param_load.specs.declared.profile.Profile.TheVariants as profile
+use Rattle.param_load.specs.declared.upload.Progress.{Progress}
+use Rattle.param_load.specs.declared.upload.Progress.TheVariants as progress
+use Rattle.param_load.specs.Contents.{expected_len, contents_fault}
+use Rattle.param_load.specs.Payload.{number_at}
+use Rattle.param_load.specs.UploadView.{UploadView}
+
+-- uploads of which nothing has come
+abbrev pub session_upload : ℕ → Profile → UploadView
+session_upload piece profile = record { expected = expected.Session profile; piece = piece; joined = [] }
+
+abbrev pub connection_upload : ℕ → ℕ → ℕ → UploadView
+connection_upload piece conn address = record { expected = expected.Connection conn address; piece = piece; joined = [] }
+
+abbrev pub parameter_upload : ℕ → ℕ → AppRule → Profile → UploadView
+parameter_upload piece most rule profile = record { expected = expected.Parameter most rule profile; piece = piece; joined = [] }
+
+-- an upload is whole where all bytes of its payload have come
+abbrev pub is_whole : UploadView → Bool
+is_whole v = nat_le (expected_len v.expected) (length v.joined)
+
+-- the session id of joined bytes, low byte first
+abbrev pub id_in : Profile → List ℕ → ℕ
+id_in profile.One u = number_at 0 u
+id_in (profile.Two word) u = number_at 0 u + 65536 * number_at 2 u
+
+abbrev pub id_of : Expected → List ℕ → ℕ
+id_of (expected.Session profile) u = id_in profile u
+id_of _ u = 0
+
+-- an upload with the piece that a frame begins with
+abbrev pub advanced : UploadView → List ℕ → UploadView
+advanced v bytes = record v { joined = v.joined ++ take v.piece bytes }
+
+abbrev pub upload_fault : UploadView → List ℕ → Option Code
+upload_fault v bytes = contents_fault v.expected (length v.joined) (v.joined ++ take v.piece bytes) (drop v.piece bytes)
+
+-- the code of the first test that fails, else whether the upload is whole with the piece
+abbrev pub outcome_by : Option Code → UploadView → Result Progress Code
+outcome_by (Some code) v = Err code
+outcome_by None v = Ok (if is_whole v then progress.Whole else progress.More)
+
+abbrev pub outcome : UploadView → List ℕ → Result Progress Code
+outcome v bytes = outcome_by (upload_fault v bytes) (advanced v bytes)
+
+-- the piece that came last
+abbrev pub last_piece : UploadView → List ℕ
+last_piece v = drop (length v.joined - v.piece) v.joined

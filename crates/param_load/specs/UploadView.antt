@@ -1,0 +1,25 @@
+-- What contracts see of an upload.
+use Rattle.std.specs.Prelude.{◌≡◌, ℕ, ◌+◌, ◌<◌, ◌≤◌, IsTrue, List, length}
+use Rattle.param_load.specs.declared.contents.Expected.{Expected}
+use Rattle.param_load.specs.declared.contents.Expected.TheVariants as expected
+use Rattle.param_load.specs.Contents.{is_expectable, expected_len, app_part}
+use Rattle.param_load.specs.Payload.{number_at}
+
+-- what is expected, the bytes of a piece, and the pieces so far, joined
+pub record UploadView : Type 0 where
+  pub expected : Expected
+  pub piece : ℕ
+  pub joined : List ℕ
+
+-- the watchdog of expected parameters isn't 0
+abbrev pub HasWatchdog : Expected → List ℕ → Type 0
+HasWatchdog (expected.Session profile) u = Unit {0}
+HasWatchdog (expected.Connection conn address) u = Unit {0}
+HasWatchdog (expected.Parameter most rule profile) u = 4 ≤ length u → 0 < number_at 2 u
+
+-- what holds of every upload: the application parameters of a whole one are those that are joined
+pub record IsUpload (v : UploadView) (app : List ℕ) : Type 0 where
+  pub piece_most : v.piece ≤ 126
+  pub expectable : IsTrue (is_expectable v.expected)
+  pub has_watchdog : HasWatchdog v.expected v.joined
+  pub app_joined : expected_len v.expected ≤ length v.joined → app ≡ app_part v.expected v.joined

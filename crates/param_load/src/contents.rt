@@ -1,0 +1,163 @@
+//! What an upload is expected to bring, and the tests of the contents of its frames.
+ghost use Rattle.std.specs.Prelude.{◌≡◌, ◌≤◌, ◌<◌, ◌+◌, length, drop, nat_le, nat_lt, ◌&&◌, IsTrue};
+ghost use Rattle.param_load.specs.AppRule.{rule_len};
+ghost use Rattle.param_load.specs.Contents.{all_zero, is_expectable, expected_len, app_part, word_is, connection_fault, communication_fault, field_fault, contents_fault};
+ghost use Rattle.param_load.specs.Profile.{id_len};
+
+use crate::app_rule::AppRule;
+use crate::joined::Joined;
+use crate::profile::Profile;
+use fsoe_base::Code;
+
+/// What an upload is expected to bring, with what its fields are compared with.
+#[derive(Debug, Drop)]
+pub(crate) enum Expected {
+    /// A session id of this profile.
+    Session(Profile),
+    /// This connection id and this slave address.
+    Connection {
+        conn: u16,
+        address: u16,
+    },
+    /// A watchdog of 1 to `most` ticks, the word of the profile, and application parameters after the rule.
+    Parameter {
+        most: u16,
+        rule: AppRule,
+        profile: Profile,
+    },
+}
+
+/// Whether each byte is 0, as the padding of a frame is, and the data of a FailSafeData frame.
+pub fn is_all_zero(bytes: &[u8]) -> bool
+    ensures { result ≡ all_zero bytes.now }
+{
+    bytes.iter().all(|b| *b == 0)
+}
+
+/// Whether the byte at this place came with the frame before which `before` bytes were joined.
+fn comes(joined: &Joined, before: usize, last: usize) -> bool
+    ensures { result ≡ (nat_le before last && nat_lt last (length joined.now)) }
+{
+    before <= last && last < joined.len()
+}
+
+fn word_is(profile: Profile, joined: &Joined) -> bool
+    requires { id_len profile + 1 < length joined.now }
+    ensures { result ≡ word_is profile joined.now }
+{
+    match profile {
+        Profile::One => true,
+        Profile::Two(word) => joined.number_at(4) == word,
+    }
+}
+
+fn connection_fault(conn: u16, address: u16, joined: &Joined, before: usize) -> Option<Code>
+    ensures { result ≡ connection_fault conn address before joined.now }
+{
+    if comes(joined, before, 1) && joined.number_at(0) != conn {
+        return Some(Code(0x03));
+    }
+    if comes(joined, before, 3) && joined.number_at(2) != address {
+        return Some(Code(0x06));
+    }
+    None
+}
+
+fn communication_fault(
+    most: u16,
+    rule: &AppRule,
+    profile: Profile,
+    joined: &Joined,
+    before: usize,
+) -> Option<Code>
+    ensures { result ≡ communication_fault most rule.now profile before joined.now }
+{
+    let id_len = profile.id_len();
+    if comes(joined, before, 1) && usize::from(joined.number_at(0)) != id_len {
+        return Some(Code(0x08));
+    }
+    if comes(joined, before, 3) && !(1..=most).contains(&joined.number_at(2)) {
+        return Some(Code(0x09));
+    }
+    if comes(joined, before, id_len + 1) && !word_is(profile, joined) {
+        return Some(Code(0x09));
+    }
+    if comes(joined, before, id_len + 3)
+        && usize::from(joined.number_at(id_len + 2)) != rule.len()
+    {
+        return Some(Code(0x0A));
+    }
+    None
+}
+
+impl Expected {
+    /// The number of bytes of the whole payload.
+    pub(crate) fn len(&self) -> usize
+        requires { IsTrue (is_expectable self.now) }
+        ensures value { result ≡ expected_len self.now }
+        ensures most { result ≤ 520 }
+    {
+        match self {
+            Expected::Session(profile) => profile.id_len(),
+            Expected::Connection { .. } => 4,
+            Expected::Parameter { rule, profile, .. } => profile.id_len() + 4 + rule.len(),
+        }
+    }
+
+    /// The application parameters among the joined bytes of a whole payload.
+    pub(crate) fn app_part<'a>(&self, joined: &'a Joined) -> &'a [u8]
+        requires expectable { IsTrue (is_expectable self.now) }
+        requires whole { expected_len self.now ≤ length joined.now }
+        ensures value { result.now ≡ app_part self.now joined.now }
+        ensures most { length result.now ≤ 512 }
+    {
+        match self {
+            Expected::Session(_) => &[],
+            Expected::Connection { .. } => &[],
+            Expected::Parameter { rule, profile, .. } => {
+                let from = profile.id_len() + 4;
+                &joined.bytes()[from..from + rule.len()]
+            }
+        }
+    }
+
+    /// The code of the first field that comes with a frame and fails its test.
+    fn field_fault(&self, joined: &Joined, before: usize) -> Option<Code>
+        requires { IsTrue (is_expectable self.now) }
+        ensures { result ≡ field_fault self.now before joined.now }
+    {
+        match self {
+            Expected::Session(_) => None,
+            Expected::Connection { conn, address } => {
+                connection_fault(*conn, *address, joined, before)
+            }
+            Expected::Parameter {
+                most,
+                rule,
+                profile,
+            } => {
+                if let Some(code) = communication_fault(*most, rule, *profile, joined, before) {
+                    return Some(code);
+                }
+                let last = profile.id_len() + 3 + rule.len();
+                if comes(joined, before, last) && !rule.allows(self.app_part(joined)) {
+                    return Some(Code(0x0B));
+                }
+                None
+            }
+        }
+    }
+
+    /// The code of the first test of a frame's contents that fails: of the fields that come with it, then of the
+    /// padding, which is the joined bytes past the payload's end and the rest of the frame's data.
+    pub(crate) fn contents_fault(&self, joined: &Joined, before: usize, rest: &[u8]) -> Option<Code>
+        requires { IsTrue (is_expectable self.now) }
+        ensures { result ≡ contents_fault self.now before joined.now rest.now }
+    {
+        if let Some(code) = self.field_fault(joined, before) {
+            return Some(code);
+        }
+        let is_padded = is_all_zero(joined.past(self.len())) && is_all_zero(rest);
+        if is_padded { None } else { Some(Code(0x07)) }
+    }
+}

@@ -1,0 +1,172 @@
+//! What a slave takes piece by piece in a handshake.
+use crate::app_bytes::AppBytes;
+use crate::app_rule::AppRule;
+use crate::contents::Expected;
+use crate::joined::Joined;
+use crate::payload::padded;
+use crate::profile::Profile;
+use fsoe_base::{Code, Image};
+use std::marker::Model;
+
+/// How far a payload has come.
+#[derive(Clone, Copy, Debug, PartialEq, Eq)]
+pub enum Progress {
+    /// Pieces are still to come.
+    More,
+    /// All bytes have come.
+    Whole,
+}
+
+/// A payload that a slave takes piece by piece, one a frame, and tests against what it expects. Contracts see
+/// what is expected, the bytes of a piece, and the pieces so far, joined.
+#[derive(Debug, Drop)]
+pub struct Upload {
+    expected: Expected,
+    piece: usize,
+    joined: Joined,
+    app: AppBytes,
+}
+
+impl Model for Upload {
+    ghost use Rattle.param_load.specs.UploadView.{UploadView, IsUpload};
+
+    ghost Value = { UploadView };
+
+    ghost view = { λ u. record { expected = u.expected; piece = u.piece; joined = u.joined } };
+
+    ghost invariant = { λ u. IsUpload (record { expected = u.expected; piece = u.piece; joined = u.joined }) u.app };
+}
+
+impl Upload {
+    ghost use Rattle.std.specs.Prelude.{◌≡◌, ◌≤◌, ◌<◌, IsTrue, false, IfOk, OnOk, OnErr, length};
+    ghost use Rattle.param_load.specs.AppRule.{is_acceptable};
+    ghost use Rattle.param_load.specs.Contents.{app_part, is_session, is_parameter};
+    ghost use Rattle.param_load.specs.Payload.{number_at, padded};
+    ghost use Rattle.param_load.specs.Upload.{session_upload, connection_upload, parameter_upload, is_whole, id_of, advanced, outcome, last_piece};
+
+    /// The upload of a session id of this profile, in pieces of `piece` bytes, at most 126.
+    pub fn session(piece: usize, profile: Profile) -> Upload
+        requires { piece ≤ 126 }
+        ensures { result ≡ session_upload piece profile }
+    {
+        Upload {
+            expected: Expected::Session(profile),
+            piece,
+            joined: Joined::new(),
+            app: AppBytes::new(),
+        }
+    }
+
+    /// The upload of this connection id and this slave address, in pieces of `piece` bytes, at most 126.
+    pub fn connection(piece: usize, conn: u16, address: u16) -> Upload
+        requires { piece ≤ 126 }
+        ensures { result ≡ connection_upload piece conn address }
+    {
+        Upload {
+            expected: Expected::Connection { conn, address },
+            piece,
+            joined: Joined::new(),
+            app: AppBytes::new(),
+        }
+    }
+
+    /// The upload of parameters of this profile, with a watchdog of 1 to `most` ticks and application parameters
+    /// after a rule that settings may have, in pieces of `piece` bytes, at most 126.
+    pub fn parameter(piece: usize, most: u16, rule: &AppRule, profile: Profile) -> Upload
+        requires most { piece ≤ 126 }
+        requires acceptable { IsTrue (is_acceptable rule.now) }
+        ensures { result ≡ parameter_upload piece most rule.now profile }
+    {
+        Upload {
+            expected: Expected::Parameter {
+                most,
+                rule: rule.copy(),
+                profile,
+            },
+            piece,
+            joined: Joined::new(),
+            app: AppBytes::new(),
+        }
+    }
+
+    /// Whether all bytes of the payload have come.
+    pub fn is_whole(&self) -> bool
+        ensures { result ≡ is_whole self.now }
+    {
+        self.expected.len() <= self.joined.len()
+    }
+
+    /// Takes the data of a frame, at least a piece of them, as long as the upload isn't whole. The fields whose
+    /// last byte comes with the frame are tested in order, then the padding. The refusals: 03h for another
+    /// connection id, 06h for another slave address; 08h for another length of the communication parameters, 09h
+    /// for a watchdog of 0 or above `most` and for another profile word, 0Ah for another number of application
+    /// parameters, 0Bh for application parameters that break the rule; 07h for padding that isn't 0. After a
+    /// refusal the upload is as it was.
+    #[tactic(auto, using(crate::proofs::Watchdog::joined_watchdog))]
+    pub fn take(&mut self, bytes: &[u8]) -> Result<Progress, Code>
+        requires more { is_whole self.old ≡ false }
+        requires piece { self.old.piece ≤ length bytes.now }
+        ensures outcome { result ≡ outcome self.old bytes.now }
+        ensures joined { OnOk result (self.new ≡ advanced self.old bytes.now) }
+        ensures refused { OnErr result (self.new ≡ self.old) }
+    {
+        let whole = self.expected.len();
+        let before = self.joined.len();
+        self.joined.add(&bytes[..self.piece]);
+        if let Some(code) = self
+            .expected
+            .contents_fault(&self.joined, before, &bytes[self.piece..])
+        {
+            self.joined.truncate(before);
+            return Err(code);
+        }
+        if self.joined.len() < whole {
+            return Ok(Progress::More);
+        }
+        self.app.set(self.expected.app_part(&self.joined));
+        Ok(Progress::Whole)
+    }
+
+    /// The piece that came last, then zeros up to `len` bytes, from a piece to 126.
+    pub fn echo(&self, len: usize) -> Image
+        requires piece { self.now.piece ≤ len }
+        requires most { len ≤ 126 }
+        ensures { result ≡ padded (last_piece self.now) len }
+    {
+        let from = self.joined.len().saturating_sub(self.piece);
+        padded(self.joined.past(from), len)
+    }
+
+    /// The session id of a whole upload of one.
+    pub fn id(&self) -> u32
+        requires whole { IsTrue (is_whole self.now) }
+        requires session { IsTrue (is_session self.now.expected) }
+        ensures { result ≡ id_of self.now.expected self.now.joined }
+    {
+        let low = u32::from(self.joined.number_at(0));
+        match &self.expected {
+            Expected::Session(Profile::Two(_)) => low
+                + 65_536 * u32::from(self.joined.number_at(2)),
+            _ => low,
+        }
+    }
+
+    /// The watchdog of a whole upload of parameters, in ticks.
+    pub fn watchdog(&self) -> u16
+        requires whole { IsTrue (is_whole self.now) }
+        requires parameter { IsTrue (is_parameter self.now.expected) }
+        ensures value { result ≡ number_at 2 self.now.joined }
+        ensures some { 0 < result }
+    {
+        self.joined.number_at(2)
+    }
+
+    /// The application parameters of a whole upload of parameters.
+    pub fn app(&self) -> &AppBytes
+        requires whole { IsTrue (is_whole self.now) }
+        requires parameter { IsTrue (is_parameter self.now.expected) }
+        ensures { result.now ≡ app_part self.now.expected self.now.joined }
+    {
+        &self.app
+    }
+}
