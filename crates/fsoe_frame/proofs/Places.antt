@@ -1,5 +1,5 @@
 -- The parts of a frame by their places, and from its layout.
-use Rattle.std.proofs.Common.{◌≡◌, ◌≢◌, ℕ, zero, suc, ◌+◌, ◌-◌, ◌*◌, ◌/◌, ◌%◌, ◌<◌, ◌≤◌, List, [], ◌∷◌, ◌++◌, length, drop, get_or, slice_index, IsTrue, inl, inr, refl, sym, ap, ◌∙◌, arith, add-one, append_assoc}
+use Rattle.std.proofs.Common.{◌≡◌, subst, ◌≢◌, ℕ, zero, suc, ◌+◌, ◌-◌, ◌*◌, ◌/◌, ◌%◌, ◌<◌, ◌≤◌, List, [], ◌∷◌, ◌++◌, length, drop, get_or, slice_index, IsTrue, inl, inr, refl, sym, ap, ◌∙◌, arith, add-one, append_assoc}
 use Rattle.std.proofs.lemmas.Bool.{cases_eq}
 use Rattle.std.proofs.lemmas.Bool.Decides.{nat_tests}
 use Rattle.std.proofs.Math.Seq.{drop-cons}
@@ -302,3 +302,11 @@ crc_within l bytes f k valid right e other lt =
 pub crc_at_pairs : (l : ℕ) (bytes : List ℕ) (f : Frame) (k : ℕ) → IsTrue (is_length l) → length bytes ≡ frame_len l → frame_of l bytes ≡ f → l ≢ 1 → k < length f.crcs
     → slice_index bytes (3 + 4 * k) + 256 * slice_index bytes (3 + 4 * k + 1) ≡ slice_index f.crcs k
 crc_at_pairs l bytes f k valid right e other lt = sym (crc_other l bytes k valid other right (group_of l bytes f k valid right e lt)) ∙ ap (λ g. slice_index g.crcs k) e
+
+-- the load of a frame is as long as a load can be, with a CRC for each group
+pub loaded : (l : ℕ) (bytes out : List ℕ) (f : Frame) → IsTrue (is_length l) → length bytes ≡ frame_len l → frame_of l bytes ≡ f → out ≡ f.load
+    → IsTrue (is_length (length out)) × (length f.crcs ≡ group_count (length out))
+loaded l bytes out f valid right e o =
+    let w : Whole l bytes (frame_of l bytes) = whole l bytes valid right in
+    let len : l ≡ length out = sym w.load ∙ ap (λ g. length g.load) e ∙ sym (ap length o) in
+    (subst (λ n. IsTrue (is_length n)) len valid, sym (ap (λ g. length g.crcs) e) ∙ w.crcs ∙ ap group_count len)

@@ -58,9 +58,12 @@ impl<'a> FrameView<'a> {
         self.bytes[0]
     }
 
-    /// Copies the safe data into `out`, in place of what it held.
+    /// Copies the safe data into `out`, in place of what it held. They are as many as a frame can have,
+    /// and there is a CRC for each group of them.
     pub fn load_into(&self, out: &mut Image)
-        ensures { out.new ≡ self.now.load }
+        ensures value { out.new ≡ self.now.load }
+        ensures valid { IsTrue (is_length (length out.new)) }
+        ensures groups { length self.now.crcs ≡ group_count (length out.new) }
     {
         out.clear();
         if self.l == 1 {

@@ -1,0 +1,7 @@
+use Rattle.std.proofs.Common.{◌≡◌, nat_eq, drop}
+use Rattle.std.specs.Cmp.Lexicographic.{pointwise}
+use Rattle.seq_chain.proofs.compare.crcs_are.Given as goal
+
+-- what is left to compare decides
+abbrev pub invariant-loop-group : goal.invariant-loop-group
+invariant-loop-group l = pointwise nat_eq (drop l.group l.fn.view.crcs) (drop l.group l.fn.crcs) ≡ pointwise nat_eq l.fn.view.crcs l.fn.crcs

@@ -1,0 +1,22 @@
+-- How the chain of an end goes on, frame by frame.
+use Rattle.std.specs.Prelude.{ℕ, List, Bool, Some}
+use Rattle.seq_chain.specs.declared.chain.Chain.{Chain}
+use Rattle.fsoe_frame.specs.Parts.{Frame}
+use Rattle.seq_chain.specs.Numbers.{last_crc}
+use Rattle.seq_chain.specs.Sealing as sealing
+
+-- the next frame that this end sends
+abbrev pub sealed_by : Chain → ℕ → ℕ → List ℕ → Frame
+sealed_by chain conn cmd load = sealing.sealed (last_crc chain.taken) chain.own conn cmd load
+
+-- the chain after this end sent a frame
+abbrev pub after_sent : Chain → Frame → Chain
+after_sent chain frame = record chain { own = Some (sealing.noted (last_crc chain.taken) chain.own frame) }
+
+-- whether a frame that came is the next one of the peer
+abbrev pub fits_next : Chain → Frame → Bool
+fits_next chain frame = sealing.fits (last_crc chain.own) chain.taken frame
+
+-- the chain after this end took a frame
+abbrev pub after_taken : Chain → Frame → Chain
+after_taken chain frame = record chain { taken = Some (sealing.noted (last_crc chain.own) chain.taken frame) }

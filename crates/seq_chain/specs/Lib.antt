@@ -1,0 +1,5 @@
+pub mod Cover
+pub mod Numbers
+pub mod Sealing
+pub mod Chain
+pub mod Reset

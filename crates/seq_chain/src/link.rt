@@ -1,0 +1,78 @@
+//! What one direction of a session notes of its last frame, and the numbers of its frames.
+
+ghost use Rattle.std.specs.Prelude.{◌≡◌, length, IsTrue};
+ghost use Rattle.fsoe_base.specs.Lengths.{is_length};
+ghost use Rattle.seq_chain.specs.Numbers.{next, following, last_crc, crc_noted, number_of};
+
+use crate::cover::first_crc;
+
+/// What one direction of a session notes of its last frame.
+#[derive(Clone, Copy, Debug, PartialEq, Eq)]
+pub struct Link {
+    /// The sequence number, 1 to 65,535, which isn't on the wire.
+    pub number: u16,
+    /// The CRC of the first group.
+    pub crc: u16,
+}
+
+/// The number after this one: 1 after 65,535.
+fn next_number(number: u16) -> u16
+    ensures { result ≡ next number }
+{
+    if number == u16::MAX { 1 } else { number + 1 }
+}
+
+/// The number of the next frame where it isn't stepped once more: 1 where there was no frame.
+pub(crate) fn following_number(before: Option<Link>) -> u16
+    ensures { result ≡ following before }
+{
+    match before {
+        None => 1,
+        Some(link) => next_number(link.number),
+    }
+}
+
+/// The CRC of the last frame's first group, 0 where there was no frame.
+pub(crate) fn crc_or_zero(before: Option<Link>) -> u16
+    ensures { result ≡ last_crc before }
+{
+    match before {
+        None => 0,
+        Some(link) => link.crc,
+    }
+}
+
+/// The CRC of the last frame's first group, None where there was no frame.
+pub(crate) fn crc_of(before: Option<Link>) -> Option<u16>
+    ensures { result ≡ crc_noted before }
+{
+    match before {
+        None => None,
+        Some(link) => Some(link.crc),
+    }
+}
+
+/// The number of the frame after `before`. It is stepped once more where the frame would have the
+/// same first CRC as the one before it, so that these CRCs differ from frame to frame.
+pub(crate) fn frame_number(
+    before: Option<Link>,
+    last: u16,
+    conn: u16,
+    command: u8,
+    load: &[u8],
+) -> u16
+    requires { IsTrue (is_length (length load.now)) }
+    ensures { result ≡ number_of last before conn command load.now }
+{
+    match before {
+        None => 1,
+        Some(link) => {
+            let number = next_number(link.number);
+            if first_crc(last, conn, number, command, load) == link.crc {
+                next_number(number)
+            } else {
+                number
+            }
+        }
+    }
+}

@@ -1,0 +1,91 @@
+//! Reset frames, which stand outside of the chain: no frame was taken before, the connection id is 0
+//! and the number is 1.
+
+ghost use Rattle.std.specs.Prelude.{◌≡◌, ◌<◌, ◌≤◌, length, IsTrue};
+ghost use Rattle.fsoe_base.specs.Command.{command_byte};
+ghost use Rattle.fsoe_base.specs.Lengths.{is_length, group_count};
+ghost use Rattle.seq_chain.specs.Reset.{reset_load, reset_crcs, zeros_follow};
+ghost use Rattle.seq_chain.specs.Reset as reset;
+
+use crate::compare::crcs_are;
+use crate::cover::{Crcs, crcs_into};
+use arrayvec::ArrayVec;
+use fsoe_base::{Code, Command, FrameBuf, Image};
+use fsoe_frame::FrameView;
+
+/// The codes of what is wrong with a Reset frame.
+const WRONG_CONNECTION: Code = Code(3);
+
+const WRONG_CRC: Code = Code(4);
+
+const WRONG_DATA: Code = Code(7);
+
+/// Writes the Reset frame with this code and `l` safe data bytes, 1 or an even number from 2 to 126,
+/// into `out`, in place of what that held. The data are the code and zeros.
+pub fn reset_frame(code: Code, l: usize, out: &mut FrameBuf)
+    requires { IsTrue (is_length l) }
+    ensures { out.new ≡ reset.reset_frame code.0 l }
+{
+    let load = data_of(code, l);
+    let mut crcs = ArrayVec::new();
+    crcs_of_reset(load.bytes(), &mut crcs);
+    fsoe_frame::write(Command::Reset, load.bytes(), crcs.as_slice(), 0, out);
+}
+
+/// The code of a frame whose command is Reset. Refused, by the first of these that holds: code 3 where the
+/// connection id isn't 0, 4 where a CRC is wrong, 7 where a byte after the code isn't 0.
+pub fn reset_view(view: &FrameView<'_>) -> Result<Code, Code>
+    requires { view.now.cmd ≡ command_byte Command.Reset }
+    ensures { result ≡ reset.reset_view view.now }
+{
+    if view.conn() != 0 {
+        return Err(WRONG_CONNECTION);
+    }
+    let mut load = Image::zeros(0);
+    view.load_into(&mut load);
+    let mut crcs = ArrayVec::new();
+    crcs_of_reset(load.bytes(), &mut crcs);
+    if !crcs_are(view, crcs.as_slice()) {
+        return Err(WRONG_CRC);
+    }
+    if !is_code_and_zeros(load.bytes()) {
+        return Err(WRONG_DATA);
+    }
+    Ok(Code(load.bytes()[0]))
+}
+
+/// The CRCs of a Reset frame with this load.
+fn crcs_of_reset(load: &[u8], out: &mut Crcs)
+    requires { IsTrue (is_length (length load.now)) }
+    ensures items { out.new.items ≡ reset_crcs load.now }
+    ensures count { length out.new.items ≡ group_count (length load.now) }
+{
+    crcs_into(0, 0, 1, Command::Reset.byte(), load, out);
+}
+
+/// The data of a Reset frame.
+fn data_of(code: Code, l: usize) -> Image
+    requires least { 0 < l }
+    requires most { l ≤ 126 }
+    ensures { result ≡ reset_load code.0 l }
+{
+    let mut load = Image::zeros(0);
+    load.push(code.0);
+    for _ in 1..l {
+        load.push(0);
+    }
+    load
+}
+
+/// Whether all bytes after the first are 0.
+fn is_code_and_zeros(load: &[u8]) -> bool
+    requires { 0 < length load.now }
+    ensures { result ≡ zeros_follow load.now }
+{
+    for place in 1..load.len() {
+        if load[place] != 0 {
+            return false;
+        }
+    }
+    true
+}
