@@ -8,6 +8,7 @@ use std::test::Fail;
 /// What the last of these frames gives to an upload, or the first code; Whole also where frames are left.
 fn outcome(upload: &mut Upload, frames: &[[u8; 2]]) -> Result<Progress, Code>
     requires { upload.old.piece ≡ 2 }
+    ensures { upload.new.piece ≡ 2 }
 {
     let mut last = Progress::More;
     for frame in frames {
