@@ -75,6 +75,13 @@ impl LineReader {
         }
     }
 
+    /// How many lines it gave.
+    pub fn lines(&self) -> u64
+        ensures { result ≡ self.now.lines }
+    {
+        self.lines
+    }
+
     fn held(&self) -> &[u8]
         ensures { result.now ≡ self.now.bytes }
     {
