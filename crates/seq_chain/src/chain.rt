@@ -119,3 +119,24 @@ impl Chain {
         });
     }
 }
+
+#[cfg(test)]
+mod tests {
+    use super::*;
+
+    #[test]
+    fn one_follows_the_highest_number(rt: HostRuntime) {
+        let before = Some(Link {
+            number: 65_534,
+            crc: 0,
+        });
+        let mut chain = Chain {
+            own: before,
+            taken: None,
+        };
+        let mut out = FrameBuf::new();
+        assert_eq!(rt; chain.own_seq(), 65_535);
+        chain.seal(Command::ProcessData, 1, &[0], &mut out);
+        assert_eq!(rt; chain.own_seq(), 1);
+    }
+}

@@ -10,3 +10,5 @@ mod compare;
 mod cover;
 mod link;
 mod reset;
+#[cfg(test)]
+mod tests;

@@ -1,0 +1,151 @@
+ghost use Rattle.std.specs.Prelude.{◌<◌, length, IsTrue};
+ghost use Rattle.fsoe_base.specs.Lengths.{is_length};
+
+use super::*;
+use fsoe_base::{Code, Command, FrameBuf};
+use fsoe_frame::view;
+use std::process::Abort;
+
+/// A frame with two safe data bytes: command, data, number and CRC.
+type Row = (Command, [u8; 2], u16, u16);
+
+/// A session with connection id 1, from its first frame on: the master's frames and the slave's by turns.
+const HANDSHAKE: [Row; 15] = [
+    (Command::Session, [0x01, 0x00], 1, 0x3E12),
+    (Command::Session, [0x02, 0x00], 1, 0x4790),
+    (Command::Connection, [0x01, 0x00], 2, 0x2A64),
+    (Command::Connection, [0x01, 0x00], 2, 0xD693),
+    (Command::Connection, [0x02, 0x00], 3, 0x5F62),
+    (Command::Connection, [0x02, 0x00], 3, 0x0847),
+    (Command::Parameter, [0x02, 0x00], 4, 0x74EE),
+    (Command::Parameter, [0x02, 0x00], 4, 0x5830),
+    (Command::Parameter, [0x64, 0x00], 5, 0xDA58),
+    (Command::Parameter, [0x64, 0x00], 5, 0x68AE),
+    (Command::Parameter, [0x00, 0x00], 6, 0x9971),
+    (Command::Parameter, [0x00, 0x00], 6, 0x2D77),
+    (Command::ProcessData, [0x01, 0x00], 7, 0x43FC),
+    (Command::ProcessData, [0x80, 0x00], 7, 0xC978),
+    (Command::ProcessData, [0x01, 0x00], 8, 0xA9CF),
+];
+
+/// Process data both ways, after the handshake.
+const DATA: [Row; 2] = [
+    (Command::ProcessData, [0x80, 0x00], 8, 0x672D),
+    (Command::ProcessData, [0x01, 0x00], 9, 0x5DE9),
+];
+
+/// The slave is held, after the handshake.
+const HELD: [Row; 2] = [
+    (Command::FailSafeData, [0x00, 0x00], 8, 0x5BF6),
+    (Command::ProcessData, [0x01, 0x00], 9, 0xA4C0),
+];
+
+/// The master's second frame would have the CRC of the one before it under number 9.
+const STEPPED: [Row; 4] = [
+    (Command::ProcessData, [0x80, 0x00], 8, 0x672D),
+    (Command::ProcessData, [0x50, 0x26], 10, 0xC8D4),
+    (Command::ProcessData, [0x80, 0x00], 9, 0x77C9),
+    (Command::ProcessData, [0x50, 0x26], 11, 0x0303),
+];
+
+/// Reset frames with two safe data bytes, by their code.
+const RESETS: [[u8; 7]; 12] = [
+    [0x2A, 0x00, 0x00, 0xC4, 0x2D, 0x00, 0x00],
+    [0x2A, 0x01, 0x00, 0x47, 0xB7, 0x00, 0x00],
+    [0x2A, 0x02, 0x00, 0x75, 0x21, 0x00, 0x00],
+    [0x2A, 0x03, 0x00, 0xF6, 0xBB, 0x00, 0x00],
+    [0x2A, 0x04, 0x00, 0xA6, 0x34, 0x00, 0x00],
+    [0x2A, 0x05, 0x00, 0x25, 0xAE, 0x00, 0x00],
+    [0x2A, 0x06, 0x00, 0x17, 0x38, 0x00, 0x00],
+    [0x2A, 0x07, 0x00, 0x94, 0xA2, 0x00, 0x00],
+    [0x2A, 0x08, 0x00, 0x00, 0x1F, 0x00, 0x00],
+    [0x2A, 0x09, 0x00, 0x83, 0x85, 0x00, 0x00],
+    [0x2A, 0x0A, 0x00, 0xB1, 0x13, 0x00, 0x00],
+    [0x2A, 0x0B, 0x00, 0x32, 0x89, 0x00, 0x00],
+];
+
+/// Seals the row's frame at one end and takes it at the other.
+fn passes(rt: &impl Abort, (command, data, number, crc): Row, from: &mut Chain, to: &mut Chain) {
+    let conn = if command == Command::Session { 0 } else { 1 };
+    let mut out = FrameBuf::new();
+    from.seal(command, conn, &data, &mut out);
+    let [low, high] = crc.to_le_bytes();
+    let frame = [command.byte(), data[0], data[1], low, high, conn as u8, 0];
+    assert_eq!(rt; out.bytes(), frame.as_slice(), "number {number}");
+    assert_eq!(rt; from.own_prev(), Some(crc));
+    assert_eq!(rt; from.own_seq(), number.wrapping_add(1));
+    let received = view(&frame, 2).expect(rt, "two safe data bytes");
+    let conn = received.conn();
+    assert!(rt; to.test(&received, conn), "number {number}");
+    to.take(&received, conn);
+    assert_eq!(rt; to.taken_prev(), Some(crc));
+    assert_eq!(rt; to.peer_seq(), number.wrapping_add(1));
+    assert!(rt; !to.test(&received, conn), "the same frame again");
+}
+
+/// Passes these rows by turns, from the first of the two chains on.
+fn pass_by_turns(rt: &impl Abort, rows: &[Row], first: Chain, second: Chain) -> (Chain, Chain) {
+    let mut from = first;
+    let mut to = second;
+    for row in rows {
+        passes(rt, *row, &mut from, &mut to);
+        (from, to) = (to, from);
+    }
+    (from, to)
+}
+
+#[test]
+fn sessions(rt: HostRuntime) {
+    assert_eq!(rt; Chain::new().own_prev(), None);
+    assert_eq!(rt; (Chain::new().own_seq(), Chain::new().peer_seq()), (1, 1));
+    let (slave, master) = pass_by_turns(&rt, &HANDSHAKE, Chain::new(), Chain::new());
+    pass_by_turns(&rt, &DATA, slave, master);
+    pass_by_turns(&rt, &HELD, slave, master);
+    pass_by_turns(&rt, &STEPPED, slave, master);
+}
+
+#[test]
+fn reset_frames(rt: HostRuntime) {
+    is_reset_frame(&rt, &[0x2A, 0x00, 0x86, 0xF8, 0x00, 0x00], 1);
+    for frame in RESETS {
+        is_reset_frame(&rt, &frame, 2);
+    }
+    let four = [
+        0x2A, 0x00, 0x00, 0xC4, 0x2D, 0x00, 0x00, 0xB9, 0x14, 0x00, 0x00,
+    ];
+    is_reset_frame(&rt, &four, 4);
+}
+
+/// This is the Reset frame of its length with the code in it, and is read back.
+fn is_reset_frame(rt: &impl Abort, frame: &[u8], l: usize)
+    requires frame { 1 < length frame.now }
+    requires valid { IsTrue (is_length l) }
+{
+    let code = Code(frame[1]);
+    let mut out = FrameBuf::new();
+    reset_frame(code, l, &mut out);
+    assert_eq!(rt; out.bytes(), frame, "code {code:?}");
+    assert_eq!(rt; seen(rt, frame, l), Ok(code));
+}
+
+#[test]
+fn wrong_reset_frames(rt: HostRuntime) {
+    let data = [
+        0x2A, 0x00, 0x00, 0xC4, 0x2D, 0x00, 0x01, 0xB9, 0x14, 0x00, 0x00,
+    ];
+    assert_eq!(rt; seen(&rt, &data, 4), Err(Code(4)));
+    let connection = [0x2A, 0x00, 0x00, 0xC4, 0x2D, 0x01, 0x00];
+    assert_eq!(rt; seen(&rt, &connection, 2), Err(Code(3)));
+    let mut out = FrameBuf::new();
+    Chain::new().seal(Command::Reset, 0, &[0, 1], &mut out);
+    assert_eq!(rt; seen(&rt, out.bytes(), 2), Err(Code(7)));
+}
+
+/// What a Reset frame of this length says.
+fn seen(rt: &impl Abort, bytes: &[u8], l: usize) -> Result<Code, Code>
+    requires { IsTrue (is_length l) }
+{
+    let frame = view(bytes, l).expect(rt, "a frame of this length");
+    assert_eq!(rt; frame.command_byte(), Command::Reset.byte());
+    reset_view(&frame)
+}
