@@ -1,5 +1,5 @@
 -- The payloads of a handshake, and how a piece of one fills the safe data of a frame.
-use Rattle.std.specs.Prelude.{ℕ, ◌+◌, ◌-◌, ◌*◌, List, ◌++◌, length, slice_index, replicate}
+use Rattle.std.specs.Prelude.{ℕ, ◌+◌, ◌-◌, ◌*◌, List, ◌++◌, length, slice_index, replicate, take, drop}
 use Rattle.std.specs.Int.{w16, w32, to_le_bytes}
 use Rattle.param_load.specs.declared.profile.Profile.{Profile}
 use Rattle.param_load.specs.declared.profile.Profile.TheVariants as profile
@@ -21,6 +21,10 @@ communication watchdog (profile.Two word) = to_le_bytes w16 4 ++ to_le_bytes w16
 -- the communication parameters, then the application parameters, with their number in front
 abbrev pub parameter_payload : ℕ → Profile → List ℕ → List ℕ
 parameter_payload watchdog profile app = communication watchdog profile ++ to_le_bytes w16 (length app) ++ app
+
+-- the piece of a payload that begins at a place
+abbrev pub piece_from : List ℕ → ℕ → ℕ → List ℕ
+piece_from payload from piece = take piece (drop from payload)
 
 -- the number in the two bytes from a place on, low byte first
 abbrev pub number_at : ℕ → List ℕ → ℕ

@@ -1,7 +1,7 @@
 //! What an end sends piece by piece in a handshake.
 ghost use Rattle.std.specs.Prelude.{◌≡◌, ◌≤◌, ◌+◌, ◌++◌, [], length, IsTrue};
 ghost use Rattle.param_load.specs.Profile.{allows_id};
-ghost use Rattle.param_load.specs.Payload.{session_payload, connection_payload, parameter_payload, padded};
+ghost use Rattle.param_load.specs.Payload.{session_payload, connection_payload, parameter_payload, piece_from, padded};
 
 use crate::app_bytes::AppBytes;
 use crate::profile::Profile;
@@ -92,6 +92,23 @@ impl Payload {
         ensures most { length result.now ≤ 520 }
     {
         self.inner.as_slice()
+    }
+
+    /// The piece that begins at this place: `piece` bytes, or those up to the payload's end.
+    pub fn piece_from(&self, from: usize, piece: usize) -> &[u8]
+        ensures value { result.now ≡ piece_from self.now from piece }
+        ensures most { length result.now ≤ piece }
+    {
+        let rest = if from < self.inner.len() {
+            &self.inner.as_slice()[from..]
+        } else {
+            &[]
+        };
+        if piece < rest.len() {
+            &rest[..piece]
+        } else {
+            rest
+        }
     }
 }
 

@@ -89,6 +89,13 @@ impl Upload {
         }
     }
 
+    /// The number of bytes that have come, the padding of the last piece among them.
+    pub fn len(&self) -> usize
+        ensures { result ≡ length self.now.joined }
+    {
+        self.joined.len()
+    }
+
     /// Whether all bytes of the payload have come.
     pub fn is_whole(&self) -> bool
         ensures { result ≡ is_whole self.now }
