@@ -9,6 +9,8 @@ mod header_part;
 pub mod line_cause;
 pub mod node_event;
 mod place;
+#[cfg(test)]
+mod tests;
 
 pub use event::{Event, ScheduleLine};
 pub use header::{Header, HeaderKind};

@@ -1,0 +1,248 @@
+use crate::{Event, Header, HeaderKind, LineCause, ScheduleLine, read_node_event};
+use fsoe_base::{End, Lengths};
+use param_load::Profile;
+use std::test::Fail;
+
+/// Why a line is refused by a slave whose data has one byte, and its master's two.
+fn event_cause(line: &str, profile: Profile) -> Option<LineCause> {
+    let lengths = Lengths::new(2, 1).ok()?;
+    read_node_event(line.as_bytes(), End::Slave, &lengths, profile).err()
+}
+
+#[test]
+fn refuses_lines_of_events(rt: HostRuntime) -> Result<(), Fail> {
+    for (line, cause) in [
+        ("", LineCause::Word),
+        (" t", LineCause::Word),
+        ("q", LineCause::Word),
+        ("tm", LineCause::Word),
+        ("t ", LineCause::Fields),
+        ("t 1", LineCause::Fields),
+        ("d", LineCause::Fields),
+        ("end x", LineCause::Fields),
+        ("n ", LineCause::Number),
+        ("n 007", LineCause::Number),
+        ("n +7", LineCause::Number),
+        ("n 65536", LineCause::Number),
+        ("h 2", LineCause::Number),
+        ("d 0g", LineCause::Hex),
+        ("p ", LineCause::Hex),
+        ("p 0", LineCause::Hex),
+        ("p 0100", LineCause::Length),
+    ] {
+        assert_eq!(rt; event_cause(line, Profile::One), Some(cause), "{line}");
+    }
+    for line in ["t", "z", "end", "h 1", "n 0", "n 65535", "p fF", "d 00"] {
+        assert_eq!(rt; event_cause(line, Profile::One), None, "{line}");
+    }
+    assert_eq!(rt; event_cause("n 4294967295", Profile::Two(7)), None);
+    assert_eq!(rt;
+        event_cause("n 4294967296", Profile::Two(7)),
+        Some(LineCause::Number)
+    );
+    Ok(())
+}
+
+#[test]
+fn reads_bytes_of_events(rt: HostRuntime) -> Result<(), Fail> {
+    let mut line = [b'0'; 514];
+    line[0] = b'd';
+    line[1] = b' ';
+    line[511] = b'A';
+    let lengths = Lengths::new(2, 2)?;
+    for (end, len, cause) in [
+        (512, 255, None),
+        (513, 0, Some(LineCause::Hex)),
+        (514, 0, Some(LineCause::Hex)),
+    ] {
+        let (found, bytes, last) = match read_node_event(
+            &line[..end],
+            End::Master,
+            &lengths,
+            Profile::One,
+        ) {
+            Ok(ScheduleLine::Step(Event::Raw { frame, .. })) => (
+                None,
+                frame.len(),
+                frame.bytes().last().copied(),
+            ),
+            Ok(_) => (None, 0, None),
+            Err(cause) => (Some(cause), 0, None),
+        };
+        assert_eq!(rt; found, cause);
+        assert_eq!(rt; bytes, len);
+        assert_eq!(rt; last, if len > 0 { Some(10) } else { None });
+    }
+    Ok(())
+}
+
+/// Reads the lines of a header up to `go`, or to one that is refused: which, and why.
+fn refusal(kind: HeaderKind, text: &str) -> Option<(usize, LineCause)> {
+    let mut header = Header::new(kind);
+    let mut place = 0usize;
+    for line in text.as_bytes().split(|b| *b == b'/') {
+        place = place.saturating_add(1);
+        match header.line(line) {
+            Ok(true) => return None,
+            Ok(false) => {}
+            Err(cause) => return Some((place, cause)),
+        }
+    }
+    Some((place, LineCause::NoLink))
+}
+
+const SLAVE: HeaderKind = HeaderKind::Node(End::Slave);
+
+const MASTER: HeaderKind = HeaderKind::Node(End::Master);
+
+#[test]
+fn refuses_lines_of_headers(rt: HostRuntime) -> Result<(), Fail> {
+    for (text, place, cause) in [
+        ("", 1, LineCause::Header),
+        ("fsoe 1 node master", 1, LineCause::Header),
+        ("fsoe 1 node slave/go", 2, LineCause::Header),
+        ("fsoe 1 node slave/ lengths 2 2", 2, LineCause::Header),
+        ("fsoe 1 node slave/lengths 2", 2, LineCause::Fields),
+        ("fsoe 1 node slave/lengths 65536 2", 2, LineCause::Number),
+        ("fsoe 1 node slave/lengths 0 2", 2, LineCause::Length),
+        ("fsoe 1 node slave/lengths 3 2", 2, LineCause::Length),
+        (
+            "fsoe 1 node slave/lengths 2 2/master 1 2 100 1",
+            3,
+            LineCause::Header,
+        ),
+        (
+            "fsoe 1 node slave/lengths 2 2/slave 2 100 1000",
+            3,
+            LineCause::Fields,
+        ),
+        (
+            "fsoe 1 node slave/lengths 2 2/slave 2 0 1000 2",
+            3,
+            LineCause::Range,
+        ),
+        (
+            "fsoe 1 node slave/lengths 2 2/slave 2 100 0 2",
+            3,
+            LineCause::Range,
+        ),
+        (
+            "fsoe 1 node slave/lengths 2 2/slave 2 0 65536 2",
+            3,
+            LineCause::Number,
+        ),
+        (
+            "fsoe 1 node slave/lengths 2 2/slave 2 100 1000 4294967296",
+            3,
+            LineCause::Number,
+        ),
+        (
+            "fsoe 1 node slave/lengths 2 2/slave 2 100 1000 65536/go",
+            4,
+            LineCause::Header,
+        ),
+        (
+            "fsoe 1 node slave/lengths 2 2/slave 2 100 1000 65536/rule any",
+            4,
+            LineCause::Fields,
+        ),
+        (
+            "fsoe 1 node slave/lengths 2 2/slave 2 100 1000 65536/rule any 0",
+            4,
+            LineCause::Range,
+        ),
+        (
+            "fsoe 1 node slave/lengths 2 2/slave 2 100 1000 65536/profile 65536",
+            4,
+            LineCause::Number,
+        ),
+        (
+            "fsoe 1 node slave/lengths 2 2/slave 2 100 1000 2/profile 7/profile 7",
+            5,
+            LineCause::Header,
+        ),
+    ] {
+        assert_eq!(rt; refusal(SLAVE, text), Some((place, cause)), "{text}");
+    }
+    Ok(())
+}
+
+/// Why the first of these lines is refused that follow the `slave` line.
+fn rule_cause(rt: &HostRuntime, lines: &str) -> Result<Option<(usize, LineCause)>, Fail> {
+    let text = format!(in rt.alloc(); "fsoe 1 node slave/lengths 2 2/slave 2 100 1000 2/{lines}")?;
+    Ok(refusal(SLAVE, text.as_str()))
+}
+
+#[test]
+fn refuses_rules(rt: HostRuntime) -> Result<(), Fail> {
+    for (lines, place, cause) in [
+        ("rule", 4, LineCause::Fields),
+        ("rule any", 4, LineCause::Fields),
+        ("rule any 1 2", 4, LineCause::Fields),
+        ("rule x 1", 4, LineCause::Fields),
+        ("rule exact 1", 4, LineCause::Fields),
+        ("rule x", 4, LineCause::Range),
+        ("rule any 513", 4, LineCause::Range),
+        ("rule any 65536", 4, LineCause::Number),
+        ("rule any 2/bytes 00", 5, LineCause::Header),
+        ("rule exact/range 0001", 5, LineCause::Header),
+        ("rule exact/bytes 0", 5, LineCause::Hex),
+        ("rule ranges/bytes 00", 5, LineCause::Header),
+        ("rule ranges/range 00", 5, LineCause::Hex),
+        ("rule ranges/range 000100", 5, LineCause::Range),
+        ("rule ranges/range 0001/range 0100", 6, LineCause::Range),
+        ("rule ranges/range 0001/go 1", 6, LineCause::Fields),
+    ] {
+        assert_eq!(rt; rule_cause(&rt, lines)?, Some((place, cause)), "{lines}");
+    }
+    for lines in [
+        "rule any 512/go",
+        "rule exact/go",
+        "rule exact/bytes 00/bytes fF/go",
+        "rule ranges/range 1020/go",
+    ] {
+        assert_eq!(rt; rule_cause(&rt, lines)?, None, "{lines}");
+    }
+    Ok(())
+}
+
+#[test]
+fn counts_bytes_of_headers(rt: HostRuntime) -> Result<(), Fail> {
+    let mut header = Header::new(HeaderKind::Pair);
+    for line in ["fsoe 1 pair", "lengths 2 2", "master 1 2 100 1"] {
+        assert_eq!(rt; header.line(line.as_bytes())?, false);
+    }
+    let mut line = [b'0'; 518];
+    line[..4].copy_from_slice(b"app ");
+    assert_eq!(rt; header.line(&line[..516])?, false);
+    assert_eq!(rt; header.line(&line[..516])?, false);
+    assert_eq!(rt; header.line(b"app 00"), Err(LineCause::Range));
+    let mut header = Header::new(MASTER);
+    for line in ["fsoe 1 node master", "lengths 2 2", "master 1 2 100 1"] {
+        assert_eq!(rt; header.line(line.as_bytes())?, false);
+    }
+    assert_eq!(rt; header.line(&line), Err(LineCause::Hex));
+    Ok(())
+}
+
+#[test]
+fn reads_settings(rt: HostRuntime) -> Result<(), Fail> {
+    let mut header = Header::new(HeaderKind::Pair);
+    for line in [
+        "fsoe 1 pair",
+        "lengths 2 4",
+        "master 1 2 100 4294967295",
+        "profile 7",
+        "app 20",
+        "app 30fF",
+        "slave 3 200 1000 5",
+        "rule ranges",
+        "range 1020",
+        "range 00ff1111",
+    ] {
+        assert_eq!(rt; header.line(line.as_bytes())?, false, "{line}");
+    }
+    assert_eq!(rt; header.line(b"go")?, true);
+    assert!(rt; header.is_done());
+    Ok(())
+}
