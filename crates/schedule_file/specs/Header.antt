@@ -1,18 +1,117 @@
 -- A header as far as it is read.
-use Rattle.std.specs.Prelude.{Bool, true, false}
-use Rattle.schedule_file.specs.declared.header.Header.{Header}
-use Rattle.schedule_file.specs.declared.header.HeaderKind.{HeaderKind}
+use Rattle.std.specs.Prelude.{◌≡◌, ℕ, Bool, List, [], ◌∷◌, Result, Ok, Err, if◌then◌else◌}
+use Rattle.std.specs.Str.{bytes_eq}
+use Rattle.param_load.specs.Profile.{allows_id}
+use Rattle.param_load.specs.declared.profile.Profile.TheVariants as profile
+use Rattle.param_load.specs.MasterSettings.{IsMasterSetTo}
+use Rattle.param_load.specs.SlaveSettings.{IsSlaveSetTo}
+use Rattle.param_load.specs.declared.master_settings.MasterSettings.{MasterSettings}
+use Rattle.param_load.specs.declared.slave_settings.SlaveSettings.{SlaveSettings}
+use Rattle.schedule_file.specs.Field.{fields_of}
+use Rattle.schedule_file.specs.Fields.{◌>>=◌}
+use Rattle.schedule_file.specs.HeaderKind.{title_of}
+use Rattle.schedule_file.specs.HeaderLine.{header_line}
+use Rattle.schedule_file.specs.HeaderPart.{MasterValues, SlaveValues, master_begun, slave_begun, list_with, rule_begun, rule_with_bytes, rule_with_pairs}
+use Rattle.schedule_file.specs.Place.{header_word_of, is_start, is_at_slave, is_last, admitted, profile_given}
+use Rattle.schedule_file.specs.declared.header_kind.HeaderKind.{HeaderKind}
+use Rattle.schedule_file.specs.declared.header_line.HeaderLine.{HeaderLine}
+use Rattle.schedule_file.specs.declared.header_line.HeaderLine.TheVariants as says
+use Rattle.schedule_file.specs.declared.header_line.LengthsLine.{LengthsLine}
+use Rattle.schedule_file.specs.declared.header_line.RuleLine.{RuleLine}
+use Rattle.schedule_file.specs.declared.header_line.RuleLine.TheVariants as rule
+use Rattle.schedule_file.specs.declared.line_cause.LineCause.{LineCause}
+use Rattle.schedule_file.specs.declared.line_cause.LineCause.TheVariants as cause
 use Rattle.schedule_file.specs.declared.place.Place.{Place}
 use Rattle.schedule_file.specs.declared.place.Place.TheVariants as place
 
-abbrev pub is_last : Place → Bool
-is_last place.Done = true
-is_last other = false
+-- what it describes, the line that was read last, and what the lines say
+pub record Heading : Type 0 where
+  pub kind : HeaderKind
+  pub place : Place
+  pub lengths : LengthsLine
+  pub master : MasterValues
+  pub slave : SlaveValues
+
+-- a header of which no line is read; its values are such as settings may have
+abbrev pub heading_new : HeaderKind → Heading
+heading_new kind = record {
+  kind = kind;
+  place = place.Start;
+  lengths = record { master = 1; slave = 1 };
+  master = master_begun (record { conn = 1; address = 0; watchdog = 1; nonce = 0 });
+  slave = slave_begun (record { address = 0; hand = 1; most = 1; nonce = 0 });
+}
+
+-- what a header describes
+abbrev pub kind_of : Heading → HeaderKind
+kind_of h = h.kind
 
 -- a header is done once its line `go` is read
-abbrev pub is_done : Header → Bool
-is_done header = is_last header.place
+abbrev pub is_done : Heading → Bool
+is_done h = is_last h.place
 
--- what a header describes stays the same
-abbrev pub kind_of : Header → HeaderKind
-kind_of header = header.kind
+abbrev pub master_place : ℕ → Place
+master_place nonce = if allows_id profile.One nonce then place.Master else place.MasterOfTwo
+
+abbrev pub slave_place : ℕ → Place
+slave_place nonce = if allows_id profile.One nonce then place.Slave else place.SlaveOfTwo
+
+abbrev pub rule_place : RuleLine → Place
+rule_place (rule.Any n) = place.RuleAny
+rule_place rule.Exact = place.RuleExact
+rule_place rule.Ranges = place.RuleRanges
+
+-- a `profile` line is that of the end whose line stands before it
+abbrev pub profile_taken : Heading → ℕ → Heading
+profile_taken h word =
+    if is_at_slave h.place then record h { place = place.SlaveProfile; slave = record h.slave { profile = profile.Two word } }
+    else record h { place = place.App; master = record h.master { profile = profile.Two word } }
+
+-- a header after a line that says this
+abbrev pub taken : Heading → HeaderLine → Result Heading LineCause
+taken h (says.Lengths line) = Ok (record h { place = place.Lengths; lengths = line })
+taken h (says.Master line) = Ok (record h { place = master_place line.nonce; master = master_begun line })
+taken h (says.Profile word) = Ok (profile_taken h word)
+taken h (says.App bytes) = do
+  app ← list_with h.master.app bytes
+  Ok (record h { place = place.App; master = record h.master { app = app } })
+taken h (says.Slave line) = Ok (record h { place = slave_place line.nonce; slave = slave_begun line })
+taken h (says.Rule line) = Ok (record h { place = rule_place line; slave = record h.slave { rule = rule_begun line } })
+taken h (says.Bytes bytes) = do
+  want ← rule_with_bytes h.slave.rule bytes
+  Ok (record h { place = place.RuleExact; slave = record h.slave { rule = want } })
+taken h (says.Range pairs) = do
+  ranges ← rule_with_pairs h.slave.rule pairs
+  Ok (record h { place = place.RuleRanges; slave = record h.slave { rule = ranges } })
+taken h says.Go = Ok (record h { place = place.Done })
+
+-- a header after its first line
+abbrev pub title_taken : Heading → List ℕ → Result Heading LineCause
+title_taken h text = if bytes_eq text (title_of h.kind) then Ok (record h { place = place.Title }) else Err cause.Header
+
+-- a header after a later line, by its fields
+abbrev pub fields_taken : Heading → List (List ℕ) → Result Heading LineCause
+fields_taken h [] = Err cause.Header
+fields_taken h (first ∷ fields) = do
+  word ← admitted h.kind h.place (header_word_of first)
+  line ← header_line word fields
+  given ← profile_given h.place word
+  taken h line
+
+-- a header after its next line, or why that line is refused
+abbrev pub heading_after : Heading → List ℕ → Result Heading LineCause
+heading_after h text = if is_start h.place then title_taken h text else fields_taken h (fields_of text)
+
+-- settings of a master with the lengths and the values that a header says
+abbrev pub IsMasterOf : Heading → MasterSettings → Type 0
+IsMasterOf h s =
+    (s.lengths.master ≡ h.lengths.master)
+    × (s.lengths.slave ≡ h.lengths.slave)
+    × IsMasterSetTo s s.lengths h.master.line.conn h.master.line.address h.master.line.watchdog h.master.app h.master.line.nonce h.master.profile
+
+-- settings of a slave with the lengths and the values that a header says
+abbrev pub IsSlaveOf : Heading → SlaveSettings → Type 0
+IsSlaveOf h s =
+    (s.lengths.master ≡ h.lengths.master)
+    × (s.lengths.slave ≡ h.lengths.slave)
+    × IsSlaveSetTo s s.lengths h.slave.line.address h.slave.line.hand h.slave.line.most h.slave.rule h.slave.line.nonce h.slave.profile

@@ -2,8 +2,8 @@
 use Rattle.std.specs.Prelude.{ℕ, List, codes, Bool, true, false}
 use Rattle.fsoe_base.specs.declared.command.End.{End}
 use Rattle.fsoe_base.specs.declared.command.End.TheVariants as side
-use Rattle.schedule_file.specs.declared.header.HeaderKind.{HeaderKind}
-use Rattle.schedule_file.specs.declared.header.HeaderKind.TheVariants as kind
+use Rattle.schedule_file.specs.declared.header_kind.HeaderKind.{HeaderKind}
+use Rattle.schedule_file.specs.declared.header_kind.HeaderKind.TheVariants as kind
 
 -- a pair has both ends, and a node its own
 abbrev pub has_end : HeaderKind → End → Bool

@@ -3,5 +3,8 @@ pub mod Field
 pub mod Fields
 pub mod Header
 pub mod HeaderKind
+pub mod HeaderLine
+pub mod HeaderPart
 pub mod LineCause
 pub mod NodeEvent
+pub mod Place

@@ -1,69 +1,66 @@
-ghost use Rattle.std.specs.Prelude.{◌≡◌, ◌↔◌, IsTrue, IfOk};
+ghost use Rattle.std.specs.Prelude.{◌≡◌, IsTrue, MatchResult, OnErr};
+ghost use Rattle.schedule_file.specs.Header.{heading_new, heading_after, taken, profile_taken, title_taken, is_done, kind_of, master_place, slave_place, rule_place, IsMasterOf, IsSlaveOf};
+ghost use Rattle.schedule_file.specs.HeaderKind.{has_end};
+ghost use Rattle.schedule_file.specs.HeaderLine.{InRange};
 
 use crate::field::cut;
-use crate::header_line::{HeaderLine, RuleLine, read_header_line};
+use crate::header_kind::HeaderKind;
+use crate::header_line::{
+    HeaderLine, LengthsLine, MasterLine, RuleLine, SlaveLine, read_header_line,
+};
 use crate::header_part::{MasterPart, SlavePart};
 use crate::line_cause::LineCause;
-use crate::place::{Place, Word};
+use crate::place::Place;
 use fsoe_base::{End, Lengths};
-use param_load::{MasterSettings, SlaveSettings};
-
-/// What a header describes: both ends of a pair, or the node at one end.
-#[derive(Clone, Copy, Debug, PartialEq, Eq)]
-pub enum HeaderKind {
-    Pair,
-    Node(End),
-}
-
-impl HeaderKind {
-    ghost use Rattle.schedule_file.specs.HeaderKind.{has_end, title_of};
-
-    /// Whether the header describes this end.
-    pub fn has(self, end: End) -> bool
-        ensures { result ≡ has_end self end }
-    {
-        match self {
-            HeaderKind::Pair => true,
-            HeaderKind::Node(own) => own == end,
-        }
-    }
-
-    /// The first line of the header.
-    fn title(self) -> &'static [u8]
-        ensures { result.now ≡ title_of self }
-    {
-        match self {
-            HeaderKind::Pair => b"fsoe 1 pair",
-            HeaderKind::Node(End::Master) => b"fsoe 1 node master",
-            HeaderKind::Node(End::Slave) => b"fsoe 1 node slave",
-        }
-    }
-}
+use param_load::{MasterSettings, Profile, SlaveSettings};
+use std::marker::Model;
 
 /// A header that is read line by line, from its first line to `go`.
 #[derive(Debug, Drop)]
 pub struct Header {
     kind: HeaderKind,
     place: Place,
-    lengths: Lengths,
+    lengths: LengthsLine,
     master: MasterPart,
     slave: SlavePart,
 }
 
-impl Header {
-    ghost use Rattle.schedule_file.specs.Header.{is_done, kind_of};
-    ghost use Rattle.schedule_file.specs.HeaderKind.{has_end};
+impl Model for Header {
+    ghost use Rattle.std.specs.Prelude.{IsTrue};
+    ghost use Rattle.fsoe_base.specs.Lengths.{is_length};
+    ghost use Rattle.schedule_file.specs.Header.{Heading};
 
+    ghost Value = { Heading };
+
+    ghost view = { λ h. record { kind = h.kind; place = h.place; lengths = h.lengths; master = h.master; slave = h.slave } };
+
+    ghost invariant = { λ h. IsTrue (is_length h.lengths.master) × IsTrue (is_length h.lengths.slave) };
+}
+
+impl Header {
     /// A header of this kind of which no line is read.
     pub fn new(kind: HeaderKind) -> Header
-        ensures { kind_of result ≡ kind }
+        ensures { result ≡ heading_new kind }
     {
         Header {
             kind,
             place: Place::Start,
-            lengths: Lengths::new(1, 1).unwrap(),
-            master: MasterPart::new(),
-            slave: SlavePart::new(),
+            lengths: LengthsLine {
+                master: 1,
+                slave: 1,
+            },
+            master: MasterPart::of(MasterLine {
+                conn: 1,
+                address: 0,
+                watchdog: 1,
+                nonce: 0,
+            }),
+            slave: SlavePart::of(SlaveLine {
+                address: 0,
+                hand: 1,
+                most: 1,
+                nonce: 0,
+            }),
         }
     }
 
@@ -71,20 +68,18 @@ impl Header {
     pub fn is_done(&self) -> bool
         ensures { result ≡ is_done self.now }
     {
-        self.place == Place::Done
+        self.place.is_last()
     }
 
-    /// Reads the next line: whether it is `go`, which ends the header. An error says why the line is refused, and
-    /// every line after that is refused as `Header`, as it is after `go`.
+    /// Reads the next line: true exactly at `go`, which ends the header. An error says why the line is refused.
+    /// Every line after that one is refused as `Header`, and so is one after `go`.
     pub fn line(&mut self, line: &[u8]) -> Result<bool, LineCause>
+        ensures next { MatchResult result (λ done. (heading_after self.old line.now ≡ Ok self.new) × (done ≡ is_done self.new)) (λ cause. heading_after self.old line.now ≡ Err cause) }
+        ensures refused { OnErr result (self.new.place ≡ Place.Refused) }
         ensures kind { kind_of self.new ≡ kind_of self.old }
-        ensures done { IfOk result (λ done. done ≡ is_done self.new) }
     {
         match self.read(line) {
-            Ok(place) => {
-                self.place = place;
-                Ok(place == Place::Done)
-            }
+            Ok(()) => Ok(self.is_done()),
             Err(cause) => {
                 self.place = Place::Refused;
                 Err(cause)
@@ -92,116 +87,143 @@ impl Header {
         }
     }
 
-    /// Reads a line, and says where the header then is.
-    fn read(&mut self, line: &[u8]) -> Result<Place, LineCause>
-        ensures { kind_of self.new ≡ kind_of self.old }
+    fn read(&mut self, line: &[u8]) -> Result<(), LineCause>
+        ensures next { MatchResult result (λ _. heading_after self.old line.now ≡ Ok self.new) (λ cause. heading_after self.old line.now ≡ Err cause) }
+        ensures kind { kind_of self.new ≡ kind_of self.old }
     {
-        if self.place == Place::Start {
+        if self.place.is_start() {
             return self.read_title(line);
         }
         let (first, fields) = cut(line);
-        let word = self.admit(first).ok_or(LineCause::Header)?;
+        let word = self.place.admit(self.kind, first)?;
         let says = read_header_line(word, fields)?;
-        if self.place.wants_profile() && word != Word::Profile {
-            return Err(LineCause::Range);
-        }
+        self.place.accept_after_nonce(word)?;
         self.take(says)
     }
 
-    fn read_title(&self, line: &[u8]) -> Result<Place, LineCause> {
+    fn read_title(&mut self, line: &[u8]) -> Result<(), LineCause>
+        ensures next { MatchResult result (λ _. title_taken self.old line.now ≡ Ok self.new) (λ cause. title_taken self.old line.now ≡ Err cause) }
+        ensures kind { kind_of self.new ≡ kind_of self.old }
+    {
         if line == self.kind.title() {
-            Ok(Place::Title)
+            self.place = Place::Title;
+            Ok(())
         } else {
             Err(LineCause::Header)
         }
     }
 
-    /// The first word of a line, where the line may stand here.
-    fn admit(&self, first: &[u8]) -> Option<Word> {
-        let word = Word::read(first)?;
-        if self.place.admits(self.kind, word) {
-            Some(word)
-        } else {
-            None
-        }
-    }
-
-    /// Takes what a line says, and says where the header then is.
-    fn take(&mut self, says: HeaderLine) -> Result<Place, LineCause>
-        ensures { kind_of self.new ≡ kind_of self.old }
+    /// Takes what a line says.
+    fn take(&mut self, says: HeaderLine) -> Result<(), LineCause>
+        requires { InRange says }
+        ensures next { MatchResult result (λ _. taken self.old says ≡ Ok self.new) (λ cause. taken self.old says ≡ Err cause) }
+        ensures kind { kind_of self.new ≡ kind_of self.old }
     {
         match says {
-            HeaderLine::Lengths(lengths) => {
-                self.lengths = lengths;
-                Ok(Place::Lengths)
+            HeaderLine::Lengths(line) => {
+                self.lengths = line;
+                self.place = Place::Lengths;
             }
             HeaderLine::Master(line) => {
-                self.master.begin(line);
-                Ok(if self.master.is_of_two() {
-                    Place::MasterOfTwo
-                } else {
-                    Place::Master
-                })
+                self.place = master_place(line.nonce);
+                self.master = MasterPart::of(line);
             }
-            HeaderLine::Profile(word) => Ok(self.take_profile(word)),
+            HeaderLine::Profile(word) => self.take_profile(word),
             HeaderLine::App(bytes) => {
                 self.master.append(bytes.bytes())?;
-                Ok(Place::App)
+                self.place = Place::App;
             }
             HeaderLine::Slave(line) => {
-                self.slave.begin(line);
-                Ok(if self.slave.is_of_two() {
-                    Place::SlaveOfTwo
-                } else {
-                    Place::Slave
-                })
+                self.place = slave_place(line.nonce);
+                self.slave = SlavePart::of(line);
             }
-            HeaderLine::Rule(rule) => {
-                self.slave.set_rule(rule);
-                Ok(match rule {
-                    RuleLine::Any(_) => Place::RuleAny,
-                    RuleLine::Exact => Place::RuleExact,
-                    RuleLine::Ranges => Place::RuleRanges,
-                })
+            HeaderLine::Rule(line) => {
+                self.slave.set_rule(line);
+                self.place = rule_place(line);
             }
             HeaderLine::Bytes(bytes) => {
                 self.slave.append(bytes.bytes())?;
-                Ok(Place::RuleExact)
+                self.place = Place::RuleExact;
             }
             HeaderLine::Range(pairs) => {
                 self.slave.append_pairs(pairs.bytes())?;
-                Ok(Place::RuleRanges)
+                self.place = Place::RuleRanges;
             }
-            HeaderLine::Go => Ok(Place::Done),
+            HeaderLine::Go => self.place = Place::Done,
         }
+        Ok(())
     }
 
-    /// Takes the word of a `profile` line for the end whose line came last.
-    fn take_profile(&mut self, word: u16) -> Place
-        ensures { kind_of self.new ≡ kind_of self.old }
+    /// Takes the word of a `profile` line for the end whose line stands before it.
+    fn take_profile(&mut self, word: u16)
+        ensures { self.new ≡ profile_taken self.old word }
     {
-        if matches!(self.place, Place::Slave | Place::SlaveOfTwo) {
+        if self.place.is_at_slave() {
             self.slave.set_profile(word);
-            Place::SlaveProfile
+            self.place = Place::SlaveProfile;
         } else {
             self.master.set_profile(word);
-            Place::App
+            self.place = Place::App;
         }
     }
 
-    /// What the master is set to, once the header is done and describes the master.
+    /// The lengths of the `lengths` line.
+    fn lengths(&self) -> Lengths
+        ensures master { result.master ≡ self.now.lengths.master }
+        ensures slave { result.slave ≡ self.now.lengths.slave }
+    {
+        let LengthsLine { master, slave } = self.lengths;
+        Lengths::new(usize::from(master), usize::from(slave)).unwrap()
+    }
+
+    /// What the master is set to, once the header is done, where it describes a master.
     pub fn master(&self) -> MasterSettings
         requires done { IsTrue (is_done self.now) }
         requires master { IsTrue (has_end (kind_of self.now) End.Master) }
+        ensures { IsMasterOf self.now result }
     {
-        self.master.settings(self.lengths)
+        self.master.settings(self.lengths())
     }
 
-    /// What the slave is set to, once the header is done and describes the slave.
+    /// What the slave is set to, once the header is done, where it describes a slave.
     pub fn slave(&self) -> SlaveSettings
         requires done { IsTrue (is_done self.now) }
         requires slave { IsTrue (has_end (kind_of self.now) End.Slave) }
+        ensures { IsSlaveOf self.now result }
     {
-        self.slave.settings(self.lengths)
+        self.slave.settings(self.lengths())
+    }
+}
+
+/// Where a header is after a `master` line with this nonce.
+fn master_place(nonce: u32) -> Place
+    ensures { result ≡ master_place nonce }
+{
+    if Profile::One.allows_id(nonce) {
+        Place::Master
+    } else {
+        Place::MasterOfTwo
+    }
+}
+
+/// Where a header is after a `slave` line with this nonce.
+fn slave_place(nonce: u32) -> Place
+    ensures { result ≡ slave_place nonce }
+{
+    if Profile::One.allows_id(nonce) {
+        Place::Slave
+    } else {
+        Place::SlaveOfTwo
+    }
+}
+
+/// Where a header is after a `rule` line.
+fn rule_place(line: RuleLine) -> Place
+    ensures { result ≡ rule_place line }
+{
+    match line {
+        RuleLine::Any(_) => Place::RuleAny,
+        RuleLine::Exact => Place::RuleExact,
+        RuleLine::Ranges => Place::RuleRanges,
     }
 }

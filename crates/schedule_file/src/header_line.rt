@@ -1,52 +1,50 @@
-ghost use Rattle.std.specs.Prelude.{◌≡◌, ◌≤◌, ◌<◌, IfOk, IfSome, length};
+ghost use Rattle.std.specs.Prelude.{◌≡◌, ◌≤◌, ◌<◌, IsTrue, IfOk};
+ghost use Rattle.fsoe_base.specs.Lengths.{is_length};
 ghost use Rattle.schedule_file.specs.Field.{fields_after};
+ghost use Rattle.schedule_file.specs.HeaderLine.{InRange, RuleInRange, word_field, double_word_field, hex_field, lengths_line, master_line, slave_line, profile_line, any_line, listed_line, rule_line, range_line, header_line};
 
 use crate::field::{HexBytes, next_field, no_field, number, one_field};
 use crate::line_cause::LineCause;
 use crate::place::Word;
 use fsoe_base::Lengths;
 
+/// The numbers of a `lengths` line: how many safe data bytes each end sends.
+#[derive(Clone, Copy, Debug)]
+pub struct LengthsLine {
+    pub master: u16,
+    pub slave: u16,
+}
+
 /// The numbers of a `master` line.
-#[derive(Clone, Copy)]
+#[derive(Clone, Copy, Debug)]
 pub struct MasterLine {
     pub conn: u16,
     pub address: u16,
     pub watchdog: u16,
     pub nonce: u32,
-    ghost some_conn: { 0 < conn },
-    ghost some_watchdog: { 0 < watchdog },
 }
 
 /// The numbers of a `slave` line.
-#[derive(Clone, Copy)]
+#[derive(Clone, Copy, Debug)]
 pub struct SlaveLine {
     pub address: u16,
     pub hand: u16,
     pub most: u16,
     pub nonce: u32,
-    ghost some_hand: { 0 < hand },
-    ghost some_most: { 0 < most },
 }
 
-/// The rule of a `rule` line, which lists no bytes yet.
-#[derive(Clone, Copy)]
+/// The rule of a `rule` line, whose bytes come in lines of their own.
+#[derive(Clone, Copy, Debug)]
 pub enum RuleLine {
-    Any(RuleLength),
+    Any(u16),
     Exact,
     Ranges,
-}
-
-/// The number of bytes of a rule.
-#[derive(Clone, Copy)]
-pub struct RuleLength {
-    pub bytes: u16,
-    ghost most: { bytes ≤ 512 },
 }
 
 /// What a line of a header says, from its second line on.
 #[derive(Drop)]
 pub enum HeaderLine {
-    Lengths(Lengths),
+    Lengths(LengthsLine),
     Master(MasterLine),
     Profile(u16),
     App(HexBytes),
@@ -58,39 +56,54 @@ pub enum HeaderLine {
 }
 
 /// A number field of 16 bits.
-fn word(text: &[u8]) -> Result<u16, LineCause> {
+fn word_field(text: &[u8]) -> Result<u16, LineCause>
+    ensures { result ≡ word_field text.now }
+{
     let n = number(text, 65_535).ok_or(LineCause::Number)?;
     Ok(n as u16)
 }
 
 /// A number field of 32 bits.
-fn double_word(text: &[u8]) -> Result<u32, LineCause> {
+fn double_word_field(text: &[u8]) -> Result<u32, LineCause>
+    ensures { result ≡ double_word_field text.now }
+{
     number(text, u32::MAX).ok_or(LineCause::Number)
 }
 
 /// The only field, which is hexadecimal with from 1 to 256 bytes.
-fn hex_field(fields: Option<&[u8]>) -> Result<HexBytes, LineCause> {
+fn hex_field(fields: Option<&[u8]>) -> Result<HexBytes, LineCause>
+    ensures { result ≡ hex_field (fields_after fields.entry) }
+{
     let field = one_field(fields)?;
     HexBytes::read(field, 256).ok_or(LineCause::Hex)
 }
 
-fn read_lengths(fields: Option<&[u8]>) -> Result<Lengths, LineCause> {
+fn read_lengths(fields: Option<&[u8]>) -> Result<LengthsLine, LineCause>
+    ensures value { result ≡ lengths_line (fields_after fields.entry) }
+    ensures range { IfOk result (λ line. IsTrue (is_length line.master) × IsTrue (is_length line.slave)) }
+{
     let (master, rest) = next_field(fields)?;
     let slave = one_field(rest)?;
-    let master = word(master)?;
-    let slave = word(slave)?;
-    Lengths::new(usize::from(master), usize::from(slave)).map_err(|_| LineCause::Length)
+    let master = word_field(master)?;
+    let slave = word_field(slave)?;
+    match Lengths::new(usize::from(master), usize::from(slave)) {
+        Ok(_) => Ok(LengthsLine { master, slave }),
+        Err(_) => Err(LineCause::Length),
+    }
 }
 
-fn read_master(fields: Option<&[u8]>) -> Result<MasterLine, LineCause> {
+fn read_master(fields: Option<&[u8]>) -> Result<MasterLine, LineCause>
+    ensures value { result ≡ master_line (fields_after fields.entry) }
+    ensures range { IfOk result (λ line. (0 < line.conn) × (0 < line.watchdog)) }
+{
     let (conn, rest) = next_field(fields)?;
     let (address, rest) = next_field(rest)?;
     let (watchdog, rest) = next_field(rest)?;
     let nonce = one_field(rest)?;
-    let conn = word(conn)?;
-    let address = word(address)?;
-    let watchdog = word(watchdog)?;
-    let nonce = double_word(nonce)?;
+    let conn = word_field(conn)?;
+    let address = word_field(address)?;
+    let watchdog = word_field(watchdog)?;
+    let nonce = double_word_field(nonce)?;
     if conn == 0 || watchdog == 0 {
         return Err(LineCause::Range);
     }
@@ -102,15 +115,18 @@ fn read_master(fields: Option<&[u8]>) -> Result<MasterLine, LineCause> {
     })
 }
 
-fn read_slave(fields: Option<&[u8]>) -> Result<SlaveLine, LineCause> {
+fn read_slave(fields: Option<&[u8]>) -> Result<SlaveLine, LineCause>
+    ensures value { result ≡ slave_line (fields_after fields.entry) }
+    ensures range { IfOk result (λ line. (0 < line.hand) × (0 < line.most)) }
+{
     let (address, rest) = next_field(fields)?;
     let (hand, rest) = next_field(rest)?;
     let (most, rest) = next_field(rest)?;
     let nonce = one_field(rest)?;
-    let address = word(address)?;
-    let hand = word(hand)?;
-    let most = word(most)?;
-    let nonce = double_word(nonce)?;
+    let address = word_field(address)?;
+    let hand = word_field(hand)?;
+    let most = word_field(most)?;
+    let nonce = double_word_field(nonce)?;
     if hand == 0 || most == 0 {
         return Err(LineCause::Range);
     }
@@ -122,20 +138,33 @@ fn read_slave(fields: Option<&[u8]>) -> Result<SlaveLine, LineCause> {
     })
 }
 
-fn read_profile(fields: Option<&[u8]>) -> Result<u16, LineCause> {
-    word(one_field(fields)?)
+fn read_profile(fields: Option<&[u8]>) -> Result<u16, LineCause>
+    ensures { result ≡ profile_line (fields_after fields.entry) }
+{
+    let field = one_field(fields)?;
+    word_field(field)
 }
 
-fn read_rule(fields: Option<&[u8]>) -> Result<RuleLine, LineCause> {
-    let (form, rest) = next_field(fields)?;
-    if form == b"any".as_slice() {
-        let bytes = word(one_field(rest)?)?;
-        if bytes > 512 {
-            return Err(LineCause::Range);
-        }
-        return Ok(RuleLine::Any(RuleLength { bytes }));
+/// What stands after `rule any`.
+fn read_any(fields: Option<&[u8]>) -> Result<RuleLine, LineCause>
+    ensures value { result ≡ any_line (fields_after fields.entry) }
+    ensures range { IfOk result RuleInRange }
+{
+    let field = one_field(fields)?;
+    let n = word_field(field)?;
+    if n <= 512 {
+        Ok(RuleLine::Any(n))
+    } else {
+        Err(LineCause::Range)
     }
-    no_field(rest)?;
+}
+
+/// What stands after `rule` and another form than `any`.
+fn read_listed(form: &[u8], fields: Option<&[u8]>) -> Result<RuleLine, LineCause>
+    ensures value { result ≡ listed_line form.now (fields_after fields.entry) }
+    ensures range { IfOk result RuleInRange }
+{
+    no_field(fields)?;
     if form == b"exact".as_slice() {
         Ok(RuleLine::Exact)
     } else if form == b"ranges".as_slice() {
@@ -145,8 +174,22 @@ fn read_rule(fields: Option<&[u8]>) -> Result<RuleLine, LineCause> {
     }
 }
 
-/// A list of low and high bytes, from 1 to 128 pairs.
-fn read_range(fields: Option<&[u8]>) -> Result<HexBytes, LineCause> {
+fn read_rule(fields: Option<&[u8]>) -> Result<RuleLine, LineCause>
+    ensures value { result ≡ rule_line (fields_after fields.entry) }
+    ensures range { IfOk result RuleInRange }
+{
+    let (form, rest) = next_field(fields)?;
+    if form == b"any".as_slice() {
+        read_any(rest)
+    } else {
+        read_listed(form, rest)
+    }
+}
+
+/// Pairs of a lowest and a highest value, at least one.
+fn read_range(fields: Option<&[u8]>) -> Result<HexBytes, LineCause>
+    ensures { result ≡ range_line (fields_after fields.entry) }
+{
     let pairs = hex_field(fields)?;
     if pairs.bytes().len() == 1 {
         return Err(LineCause::Hex);
@@ -155,7 +198,10 @@ fn read_range(fields: Option<&[u8]>) -> Result<HexBytes, LineCause> {
 }
 
 /// What the fields of a line say that begins with this word.
-pub fn read_header_line(word: Word, fields: Option<&[u8]>) -> Result<HeaderLine, LineCause> {
+pub fn read_header_line(word: Word, fields: Option<&[u8]>) -> Result<HeaderLine, LineCause>
+    ensures value { result ≡ header_line word (fields_after fields.entry) }
+    ensures range { IfOk result InRange }
+{
     match word {
         Word::Lengths => Ok(HeaderLine::Lengths(read_lengths(fields)?)),
         Word::Master => Ok(HeaderLine::Master(read_master(fields)?)),

@@ -1,44 +1,61 @@
-ghost use Rattle.std.specs.Prelude.{◌≡◌, ◌≤◌, ◌<◌, ◌+◌, ◌++◌, ◌↔◌, length, IsTrue, OnOk, OnErr, IsErrOf};
+ghost use Rattle.std.specs.Prelude.{◌≡◌, ◌<◌, [], IsTrue, MatchResult};
 ghost use Rattle.param_load.specs.AppRule.{is_acceptable};
 ghost use Rattle.param_load.specs.Profile.{allows_id};
+ghost use Rattle.schedule_file.specs.HeaderLine.{RuleInRange};
+ghost use Rattle.schedule_file.specs.HeaderPart.{profile_for, master_begun, slave_begun, list_with, ranges_with, rule_begun, rule_with_bytes, rule_with_pairs};
 
 use crate::header_line::{MasterLine, RuleLine, SlaveLine};
 use crate::line_cause::LineCause;
 use fsoe_base::Lengths;
 use param_load::{AppBytes, AppRule, MasterSettings, Profile, SlaveSettings};
+use std::marker::Model;
 
-/// What the lines of the master say.
+/// What the lines of the master say together.
 #[derive(Debug, Drop)]
 pub struct MasterPart {
-    conn: u16,
-    address: u16,
-    watchdog: u16,
-    nonce: u32,
+    line: MasterLine,
     profile: Profile,
     app: AppBytes,
-    ghost some_conn: { 0 < conn },
-    ghost some_watchdog: { 0 < watchdog },
-    ghost allowed: { IsTrue (allows_id profile nonce) },
 }
 
-/// What the lines of the slave say.
+impl Model for MasterPart {
+    ghost use Rattle.std.specs.Prelude.{◌<◌, IsTrue};
+    ghost use Rattle.param_load.specs.Profile.{allows_id};
+    ghost use Rattle.schedule_file.specs.HeaderPart.{MasterValues};
+
+    ghost Value = { MasterValues };
+
+    ghost view = { λ m. record { line = m.line; profile = m.profile; app = m.app } };
+
+    ghost invariant = { λ m. (0 < m.line.conn) × (0 < m.line.watchdog) × IsTrue (allows_id m.profile m.line.nonce) };
+}
+
+/// What the lines of the slave say together.
 #[derive(Debug, Drop)]
 pub struct SlavePart {
-    address: u16,
-    hand: u16,
-    most: u16,
-    nonce: u32,
+    line: SlaveLine,
     profile: Profile,
     rule: AppRule,
-    ghost some_hand: { 0 < hand },
-    ghost some_most: { 0 < most },
-    ghost acceptable: { IsTrue (is_acceptable rule) },
-    ghost allowed: { IsTrue (allows_id profile nonce) },
 }
 
-/// The profile of an end whose `profile` line hasn't come: Two, with a word to come, where One does not allow the nonce.
+impl Model for SlavePart {
+    ghost use Rattle.std.specs.Prelude.{◌<◌, IsTrue};
+    ghost use Rattle.param_load.specs.AppRule.{is_acceptable};
+    ghost use Rattle.param_load.specs.Profile.{allows_id};
+    ghost use Rattle.schedule_file.specs.HeaderPart.{SlaveValues};
+
+    ghost Value = { SlaveValues };
+
+    ghost view = { λ s. record { line = s.line; profile = s.profile; rule = s.rule } };
+
+    ghost invariant = { λ s. (0 < s.line.hand) × (0 < s.line.most) × IsTrue (allows_id s.profile s.line.nonce) × IsTrue (is_acceptable s.rule) };
+}
+
+/// The profile of an end before its `profile` line: One, or Two, with a word to come, where One does not
+/// allow the nonce.
 fn profile_for(nonce: u32) -> Profile
-    ensures { IsTrue (allows_id result nonce) }
+    ensures value { result ≡ profile_for nonce }
+    ensures allowed { IsTrue (allows_id result nonce) }
 {
     if Profile::One.allows_id(nonce) {
         Profile::One
@@ -47,12 +64,9 @@ fn profile_for(nonce: u32) -> Profile
     }
 }
 
-/// Appends bytes to a list of at most 512. `Range` where there are more in all.
-pub fn append(list: &mut AppBytes, bytes: &[u8]) -> Result<(), LineCause>
-    ensures ok { OnOk result (list.new ≡ list.old ++ bytes.now) }
-    ensures full { IsErrOf result LineCause.Range ↔ (512 < length list.old + length bytes.now) }
-    ensures room { OnOk result (length list.old + length bytes.now ≤ 512) }
-    ensures err { OnErr result (list.new ≡ list.old) }
+/// Appends the bytes of a line to a list of at most 512. `Range` where there are more in all.
+fn append(list: &mut AppBytes, bytes: &[u8]) -> Result<(), LineCause>
+    ensures { MatchResult result (λ _. list_with list.old bytes.now ≡ Ok list.new) (λ cause. list_with list.old bytes.now ≡ Err cause) }
 {
     if bytes.len() > 512 - list.len() {
         return Err(LineCause::Range);
@@ -64,110 +78,125 @@ pub fn append(list: &mut AppBytes, bytes: &[u8]) -> Result<(), LineCause>
 }
 
 impl MasterPart {
-    /// Before the `master` line.
-    pub fn new() -> MasterPart {
+    ghost use Rattle.param_load.specs.MasterSettings.{IsMasterSetTo};
+
+    /// The values of a `master` line.
+    pub fn of(line: MasterLine) -> MasterPart
+        requires conn { 0 < line.conn }
+        requires watchdog { 0 < line.watchdog }
+        ensures { result ≡ master_begun line }
+    {
         MasterPart {
-            conn: 1,
-            address: 0,
-            watchdog: 1,
-            nonce: 0,
-            profile: Profile::One,
+            profile: profile_for(line.nonce),
+            line,
             app: AppBytes::new(),
         }
     }
 
-    /// The values of a `master` line.
-    pub fn begin(&mut self, line: MasterLine) {
-        self.conn = line.conn;
-        self.address = line.address;
-        self.watchdog = line.watchdog;
-        self.profile = profile_for(line.nonce);
-        self.nonce = line.nonce;
-    }
-
-    /// Whether the nonce is one of profile Two alone.
-    pub fn is_of_two(&self) -> bool {
-        !Profile::One.allows_id(self.nonce)
-    }
-
     /// The word of a `profile` line.
-    pub fn set_profile(&mut self, word: u16) {
+    pub fn set_profile(&mut self, word: u16)
+        ensures { self.new ≡ record self.old { profile = Profile.Two word } }
+    {
         self.profile = Profile::Two(word);
     }
 
     /// The bytes of an `app` line.
-    pub fn append(&mut self, bytes: &[u8]) -> Result<(), LineCause> {
+    pub fn append(&mut self, bytes: &[u8]) -> Result<(), LineCause>
+        ensures { MatchResult result (λ _. (list_with self.old.app bytes.now ≡ Ok self.new.app) × (self.new ≡ record self.old { app = self.new.app })) (λ cause. list_with self.old.app bytes.now ≡ Err cause) }
+    {
         append(&mut self.app, bytes)
     }
 
     /// The settings of a master with these values.
-    pub fn settings(&self, lengths: Lengths) -> MasterSettings {
+    pub fn settings(&self, lengths: Lengths) -> MasterSettings
+        ensures { IsMasterSetTo result lengths self.now.line.conn self.now.line.address self.now.line.watchdog self.now.app self.now.line.nonce self.now.profile }
+    {
+        let MasterLine {
+            conn,
+            address,
+            watchdog,
+            nonce,
+        } = self.line;
+        let app = self.app.copy();
         let made = match self.profile {
             Profile::One => MasterSettings::new(
                 lengths,
-                self.conn,
-                self.address,
-                self.watchdog,
-                self.app.copy(),
-                self.nonce as u16,
+                conn,
+                address,
+                watchdog,
+                app,
+                nonce as u16,
             ),
-            Profile::Two(word) => MasterSettings::two(
-                lengths,
-                self.conn,
-                self.address,
-                self.watchdog,
-                self.app.copy(),
-                self.nonce,
-                word,
-            ),
+            Profile::Two(word) => {
+                MasterSettings::two(lengths, conn, address, watchdog, app, nonce, word)
+            }
         };
         made.unwrap()
     }
 }
 
+/// Appends the pairs of a line, each a lowest and a highest value, to their lists. `Range` where the number
+/// of bytes is odd, a low is above its high, or there are more than 512 pairs in all.
+fn append_pairs(low: &mut AppBytes, high: &mut AppBytes, pairs: &[u8]) -> Result<(), LineCause>
+    requires { IsTrue (is_acceptable (AppRule.Ranges low.old high.old)) }
+    ensures value { MatchResult result (λ _. ranges_with low.old high.old pairs.now ≡ Ok (AppRule.Ranges low.new high.new)) (λ cause. ranges_with low.old high.old pairs.now ≡ Err cause) }
+    ensures acceptable { IsTrue (is_acceptable (AppRule.Ranges low.new high.new)) }
+{
+    let count = pairs.len() / 2;
+    if !pairs.len().is_multiple_of(2) || count > 512 - low.len() {
+        return Err(LineCause::Range);
+    }
+    for k in 0..count {
+        let lowest = pairs[2 * k];
+        let highest = pairs[2 * k + 1];
+        if lowest > highest {
+            return Err(LineCause::Range);
+        }
+        low.push(lowest);
+        high.push(highest);
+    }
+    Ok(())
+}
+
 impl SlavePart {
-    /// Before the `slave` line.
-    pub fn new() -> SlavePart {
+    ghost use Rattle.param_load.specs.SlaveSettings.{IsSlaveSetTo};
+
+    /// The values of a `slave` line.
+    pub fn of(line: SlaveLine) -> SlavePart
+        requires hand { 0 < line.hand }
+        requires most { 0 < line.most }
+        ensures { result ≡ slave_begun line }
+    {
         SlavePart {
-            address: 0,
-            hand: 1,
-            most: 1,
-            nonce: 0,
-            profile: Profile::One,
+            profile: profile_for(line.nonce),
+            line,
             rule: AppRule::Any(0),
         }
     }
 
-    /// The values of a `slave` line.
-    pub fn begin(&mut self, line: SlaveLine) {
-        self.address = line.address;
-        self.hand = line.hand;
-        self.most = line.most;
-        self.profile = profile_for(line.nonce);
-        self.nonce = line.nonce;
-    }
-
-    /// Whether the nonce is one of profile Two alone.
-    pub fn is_of_two(&self) -> bool {
-        !Profile::One.allows_id(self.nonce)
-    }
-
     /// The word of a `profile` line.
-    pub fn set_profile(&mut self, word: u16) {
+    pub fn set_profile(&mut self, word: u16)
+        ensures { self.new ≡ record self.old { profile = Profile.Two word } }
+    {
         self.profile = Profile::Two(word);
     }
 
     /// The rule of a `rule` line.
-    pub fn set_rule(&mut self, line: RuleLine) {
+    pub fn set_rule(&mut self, line: RuleLine)
+        requires { RuleInRange line }
+        ensures { self.new ≡ record self.old { rule = rule_begun line } }
+    {
         self.rule = match line {
-            RuleLine::Any(length) => AppRule::Any(length.bytes),
+            RuleLine::Any(n) => AppRule::Any(n),
             RuleLine::Exact => AppRule::Exact(AppBytes::new()),
             RuleLine::Ranges => AppRule::Ranges(AppBytes::new(), AppBytes::new()),
         };
     }
 
     /// The bytes of a `bytes` line.
-    pub fn append(&mut self, bytes: &[u8]) -> Result<(), LineCause> {
+    pub fn append(&mut self, bytes: &[u8]) -> Result<(), LineCause>
+        ensures { MatchResult result (λ _. (rule_with_bytes self.old.rule bytes.now ≡ Ok self.new.rule) × (self.new ≡ record self.old { rule = self.new.rule })) (λ cause. rule_with_bytes self.old.rule bytes.now ≡ Err cause) }
+    {
         match &mut self.rule {
             AppRule::Exact(want) => append(want, bytes),
             _ => Err(LineCause::Header),
@@ -175,7 +204,9 @@ impl SlavePart {
     }
 
     /// The pairs of a `range` line.
-    pub fn append_pairs(&mut self, pairs: &[u8]) -> Result<(), LineCause> {
+    pub fn append_pairs(&mut self, pairs: &[u8]) -> Result<(), LineCause>
+        ensures { MatchResult result (λ _. (rule_with_pairs self.old.rule pairs.now ≡ Ok self.new.rule) × (self.new ≡ record self.old { rule = self.new.rule })) (λ cause. rule_with_pairs self.old.rule pairs.now ≡ Err cause) }
+    {
         match &mut self.rule {
             AppRule::Ranges(low, high) => append_pairs(low, high, pairs),
             _ => Err(LineCause::Header),
@@ -183,47 +214,22 @@ impl SlavePart {
     }
 
     /// The settings of a slave with these values.
-    pub fn settings(&self, lengths: Lengths) -> SlaveSettings {
+    pub fn settings(&self, lengths: Lengths) -> SlaveSettings
+        ensures { IsSlaveSetTo result lengths self.now.line.address self.now.line.hand self.now.line.most self.now.rule self.now.line.nonce self.now.profile }
+    {
+        let SlaveLine {
+            address,
+            hand,
+            most,
+            nonce,
+        } = self.line;
+        let rule = self.rule.copy();
         let made = match self.profile {
-            Profile::One => SlaveSettings::new(
-                lengths,
-                self.address,
-                self.hand,
-                self.most,
-                self.rule.copy(),
-                self.nonce as u16,
-            ),
+            Profile::One => SlaveSettings::new(lengths, address, hand, most, rule, nonce as u16),
             Profile::Two(word) => SlaveSettings::two(
-                lengths,
-                self.address,
-                self.hand,
-                self.most,
-                self.rule.copy(),
-                self.nonce,
-                word,
+                lengths, address, hand, most, rule, nonce, word,
             ),
         };
         made.unwrap()
     }
-}
-
-/// Appends pairs of a lowest and a highest value to their lists. `Range` where the number of bytes is odd, a
-/// low is above its high, or there are more than 512 pairs in all.
-pub fn append_pairs(low: &mut AppBytes, high: &mut AppBytes, pairs: &[u8]) -> Result<(), LineCause>
-    requires { IsTrue (is_acceptable (AppRule.Ranges low.old high.old)) }
-    ensures { IsTrue (is_acceptable (AppRule.Ranges low.new high.new)) }
-{
-    if !pairs.len().is_multiple_of(2) {
-        return Err(LineCause::Range);
-    }
-    for k in 0..pairs.len() / 2 {
-        let lowest = pairs[2 * k];
-        let highest = pairs[2 * k + 1];
-        if lowest > highest || low.len() >= 512 || high.len() >= 512 {
-            return Err(LineCause::Range);
-        }
-        low.push(lowest);
-        high.push(highest);
-    }
-    Ok(())
 }

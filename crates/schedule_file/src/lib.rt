@@ -4,6 +4,7 @@
 pub mod event;
 mod field;
 pub mod header;
+pub mod header_kind;
 mod header_line;
 mod header_part;
 pub mod line_cause;
@@ -13,6 +14,7 @@ mod place;
 mod tests;
 
 pub use event::{Event, ScheduleLine};
-pub use header::{Header, HeaderKind};
+pub use header::Header;
+pub use header_kind::HeaderKind;
 pub use line_cause::LineCause;
 pub use node_event::read_node_event;

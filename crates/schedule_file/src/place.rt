@@ -1,4 +1,7 @@
-use crate::header::HeaderKind;
+ghost use Rattle.std.specs.Prelude.{◌≡◌};
+
+use crate::header_kind::HeaderKind;
+use crate::line_cause::LineCause;
 use fsoe_base::End;
 
 /// The first field of a line of a header, from its second line on.
@@ -16,7 +19,12 @@ pub enum Word {
 }
 
 impl Word {
-    pub fn read(text: &[u8]) -> Option<Word> {
+    ghost use Rattle.schedule_file.specs.Place.{header_word_of};
+
+    /// The word that begins a line of a header.
+    pub fn read(text: &[u8]) -> Option<Word>
+        ensures { result ≡ header_word_of text.now }
+    {
         if text == b"lengths".as_slice() {
             Some(Word::Lengths)
         } else if text == b"master".as_slice() {
@@ -74,59 +82,154 @@ pub enum Place {
 }
 
 impl Place {
-    /// Whether the `profile` of the end that was read last has to come next.
-    pub fn wants_profile(self) -> bool {
-        matches!(self, Place::MasterOfTwo | Place::SlaveOfTwo)
+    ghost use Rattle.schedule_file.specs.Place.{header_word_of, is_start, is_title, is_lengths, is_at_master, is_after_master, is_at_slave, is_after_slave, is_exact, is_ranges, is_after_rule, is_last, may_begin_slave, may_end, may_stand, admitted, wants_profile, profile_given};
+
+    pub fn is_start(self) -> bool
+        ensures { result ≡ is_start self }
+    {
+        matches!(self, Place::Start)
     }
 
-    /// Whether a line with this first word may come next in a header of this kind.
-    pub fn admits(self, kind: HeaderKind, word: Word) -> bool {
-        match word {
-            Word::Lengths => self == Place::Title,
-            Word::Master => self == Place::Lengths && kind.has(End::Master),
-            Word::Profile => self.is_after_end_line(),
-            Word::App => self.is_after_master(),
-            Word::Slave => kind.has(End::Slave) && self.is_before_slave(kind),
-            Word::Rule => self.is_after_slave(),
-            Word::Bytes => self == Place::RuleExact,
-            Word::Range => self == Place::RuleRanges,
-            Word::Go => self.is_whole(kind),
-        }
+    fn is_title(self) -> bool
+        ensures { result ≡ is_title self }
+    {
+        matches!(self, Place::Title)
     }
 
-    /// Directly after `master` or `slave`.
-    fn is_after_end_line(self) -> bool {
-        matches!(
-            self,
-            Place::Master | Place::MasterOfTwo | Place::Slave | Place::SlaveOfTwo
-        )
+    fn is_lengths(self) -> bool
+        ensures { result ≡ is_lengths self }
+    {
+        matches!(self, Place::Lengths)
     }
 
-    /// After `master`, and its `profile` and `app` lines.
-    fn is_after_master(self) -> bool {
+    /// Directly after `master`.
+    fn is_at_master(self) -> bool
+        ensures { result ≡ is_at_master self }
+    {
+        matches!(self, Place::Master | Place::MasterOfTwo)
+    }
+
+    /// After `master`, its `profile` or an `app`.
+    fn is_after_master(self) -> bool
+        ensures { result ≡ is_after_master self }
+    {
         matches!(self, Place::Master | Place::MasterOfTwo | Place::App)
     }
 
-    /// After all lines that stand before `slave`.
-    fn is_before_slave(self, kind: HeaderKind) -> bool {
-        if kind.has(End::Master) {
-            self.is_after_master()
-        } else {
-            self == Place::Lengths
-        }
+    /// Directly after `slave`.
+    pub fn is_at_slave(self) -> bool
+        ensures { result ≡ is_at_slave self }
+    {
+        matches!(self, Place::Slave | Place::SlaveOfTwo)
     }
 
-    /// After `slave`, and its `profile`.
-    fn is_after_slave(self) -> bool {
+    /// After `slave` or its `profile`.
+    fn is_after_slave(self) -> bool
+        ensures { result ≡ is_after_slave self }
+    {
         matches!(self, Place::Slave | Place::SlaveOfTwo | Place::SlaveProfile)
     }
 
-    /// After all lines that stand before `go`.
-    fn is_whole(self, kind: HeaderKind) -> bool {
+    fn is_exact(self) -> bool
+        ensures { result ≡ is_exact self }
+    {
+        matches!(self, Place::RuleExact)
+    }
+
+    fn is_ranges(self) -> bool
+        ensures { result ≡ is_ranges self }
+    {
+        matches!(self, Place::RuleRanges)
+    }
+
+    /// After the rule and what it lists.
+    fn is_after_rule(self) -> bool
+        ensures { result ≡ is_after_rule self }
+    {
+        matches!(self, Place::RuleAny | Place::RuleExact | Place::RuleRanges)
+    }
+
+    pub fn is_last(self) -> bool
+        ensures { result ≡ is_last self }
+    {
+        matches!(self, Place::Done)
+    }
+
+    /// Whether all lines are read that stand before `slave`.
+    fn may_begin_slave(self, kind: HeaderKind) -> bool
+        ensures { result ≡ may_begin_slave kind self }
+    {
+        if kind.has(End::Master) {
+            self.is_after_master()
+        } else {
+            self.is_lengths()
+        }
+    }
+
+    /// Whether all lines are read that stand before `go`.
+    fn may_end(self, kind: HeaderKind) -> bool
+        ensures { result ≡ may_end kind self }
+    {
         if kind.has(End::Slave) {
-            matches!(self, Place::RuleAny | Place::RuleExact | Place::RuleRanges)
+            self.is_after_rule()
         } else {
             self.is_after_master()
+        }
+    }
+
+    /// Whether a line with this first word may come next in a header of this kind.
+    fn admits(self, kind: HeaderKind, word: Word) -> bool
+        ensures { result ≡ may_stand kind self word }
+    {
+        match word {
+            Word::Lengths => self.is_title(),
+            Word::Master => kind.has(End::Master) && self.is_lengths(),
+            Word::Profile => self.is_at_master() || self.is_at_slave(),
+            Word::App => self.is_after_master(),
+            Word::Slave => kind.has(End::Slave) && self.may_begin_slave(kind),
+            Word::Rule => self.is_after_slave(),
+            Word::Bytes => self.is_exact(),
+            Word::Range => self.is_ranges(),
+            Word::Go => self.may_end(kind),
+        }
+    }
+
+    /// The first word of a line, where a line with it may come next. Else the line is refused as `Header`.
+    pub fn admit(self, kind: HeaderKind, first: &[u8]) -> Result<Word, LineCause>
+        ensures { result ≡ admitted kind self (header_word_of first.now) }
+    {
+        match Word::read(first) {
+            Some(word) => {
+                if self.admits(kind, word) {
+                    Ok(word)
+                } else {
+                    Err(LineCause::Header)
+                }
+            }
+            None => Err(LineCause::Header),
+        }
+    }
+
+    /// Whether the end that was read last has a nonce of profile Two alone.
+    fn wants_profile(self) -> bool
+        ensures { result ≡ wants_profile self }
+    {
+        matches!(self, Place::MasterOfTwo | Place::SlaveOfTwo)
+    }
+
+    /// Whether a line with this word may stand after the nonce that was read last. Else it is refused as `Range`.
+    pub fn accept_after_nonce(self, word: Word) -> Result<(), LineCause>
+        ensures { result ≡ profile_given self word }
+    {
+        match word {
+            Word::Profile => Ok(()),
+            _ => {
+                if self.wants_profile() {
+                    Err(LineCause::Range)
+                } else {
+                    Ok(())
+                }
+            }
         }
     }
 }

@@ -244,5 +244,24 @@ fn reads_settings(rt: HostRuntime) -> Result<(), Fail> {
     }
     assert_eq!(rt; header.line(b"go")?, true);
     assert!(rt; header.is_done());
+    let master = header.master();
+    assert_eq!(rt;
+        (master.conn(), master.address(), master.watchdog()),
+        (1, 2, 100)
+    );
+    assert_eq!(rt;
+        (master.nonce(), master.profile()),
+        (u32::MAX, Profile::Two(7))
+    );
+    assert_eq!(rt; master.app().bytes(), [0x20, 0x30, 0xff].as_slice());
+    let slave = header.slave();
+    assert_eq!(rt;
+        (slave.address(), slave.hand(), slave.most()),
+        (3, 200, 1000)
+    );
+    assert_eq!(rt; (slave.nonce(), slave.profile()), (5, Profile::One));
+    assert_eq!(rt; slave.lengths().of(End::Slave), 4);
+    assert!(rt; slave.rule().allows(&[0x20, 0xff, 0x11]));
+    assert!(rt; !slave.rule().allows(&[0x21, 0xff, 0x11]));
     Ok(())
 }

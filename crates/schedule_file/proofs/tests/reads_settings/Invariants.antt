@@ -1,0 +1,7 @@
+use Rattle.std.proofs.Common.{◌≡◌}
+use Rattle.schedule_file.specs.Header.{kind_of}
+use Rattle.schedule_file.specs.declared.header_kind.HeaderKind.TheVariants.{Pair}
+use Rattle.schedule_file.proofs.tests.reads_settings.Given as goal
+
+abbrev pub invariant-loop-line : goal.invariant-loop-line
+invariant-loop-line l = kind_of l.header ≡ Pair

@@ -1,0 +1,142 @@
+-- What a line of a header says, from its second line on. The causes come in their order: the number of
+-- fields, a number, the hexadecimal bytes, a length, a range.
+use Rattle.std.specs.Prelude.{◌<◌, ◌≤◌, ℕ, ◌==◌, ◌&&◌, ◌||◌, nat_le, length, IsTrue, List, codes, Result, Ok, Err, if◌then◌else◌}
+use Rattle.std.specs.Str.{bytes_eq}
+use Rattle.fsoe_base.specs.Lengths.{is_length}
+use Rattle.schedule_file.specs.Field.{number_of, bytes_of}
+use Rattle.schedule_file.specs.Fields.{◌>>=◌, value_or, next_field, no_field, one_field}
+use Rattle.schedule_file.specs.declared.header_line.HeaderLine.{HeaderLine}
+use Rattle.schedule_file.specs.declared.header_line.HeaderLine.TheVariants as says
+use Rattle.schedule_file.specs.declared.header_line.LengthsLine.{LengthsLine}
+use Rattle.schedule_file.specs.declared.header_line.MasterLine.{MasterLine}
+use Rattle.schedule_file.specs.declared.header_line.RuleLine.{RuleLine}
+use Rattle.schedule_file.specs.declared.header_line.RuleLine.TheVariants as rule
+use Rattle.schedule_file.specs.declared.header_line.SlaveLine.{SlaveLine}
+use Rattle.schedule_file.specs.declared.line_cause.LineCause.{LineCause}
+use Rattle.schedule_file.specs.declared.line_cause.LineCause.TheVariants as cause
+use Rattle.schedule_file.specs.declared.place.Word.{Word}
+use Rattle.schedule_file.specs.declared.place.Word.TheVariants as word
+
+-- a number field of 16 bits
+abbrev pub word_field : List ℕ → Result ℕ LineCause
+word_field text = value_or cause.Number (number_of 65535 text)
+
+-- a number field of 32 bits
+abbrev pub double_word_field : List ℕ → Result ℕ LineCause
+double_word_field text = value_or cause.Number (number_of 4294967295 text)
+
+-- an only field of hexadecimal digits, for 1 to 256 bytes
+abbrev pub hex_field : List (List ℕ) → Result (List ℕ) LineCause
+hex_field fields = do
+  field ← one_field fields
+  value_or cause.Hex (bytes_of 256 field)
+
+abbrev pub lengths_line : List (List ℕ) → Result LengthsLine LineCause
+lengths_line fields = do
+  first ← next_field fields
+  second ← one_field first.1
+  master ← word_field first.0
+  slave ← word_field second
+  if is_length master && is_length slave then Ok (record { master = master; slave = slave }) else Err cause.Length
+
+abbrev pub master_line : List (List ℕ) → Result MasterLine LineCause
+master_line fields = do
+  first ← next_field fields
+  second ← next_field first.1
+  third ← next_field second.1
+  fourth ← one_field third.1
+  conn ← word_field first.0
+  address ← word_field second.0
+  watchdog ← word_field third.0
+  nonce ← double_word_field fourth
+  if conn == 0 || watchdog == 0 then Err cause.Range
+      else Ok (record { conn = conn; address = address; watchdog = watchdog; nonce = nonce })
+
+abbrev pub slave_line : List (List ℕ) → Result SlaveLine LineCause
+slave_line fields = do
+  first ← next_field fields
+  second ← next_field first.1
+  third ← next_field second.1
+  fourth ← one_field third.1
+  address ← word_field first.0
+  hand ← word_field second.0
+  most ← word_field third.0
+  nonce ← double_word_field fourth
+  if hand == 0 || most == 0 then Err cause.Range
+      else Ok (record { address = address; hand = hand; most = most; nonce = nonce })
+
+abbrev pub profile_line : List (List ℕ) → Result ℕ LineCause
+profile_line fields = do
+  field ← one_field fields
+  word_field field
+
+abbrev pub any_line : List (List ℕ) → Result RuleLine LineCause
+any_line fields = do
+  field ← one_field fields
+  n ← word_field field
+  if nat_le n 512 then Ok (rule.Any n) else Err cause.Range
+
+abbrev pub listed_line : List ℕ → List (List ℕ) → Result RuleLine LineCause
+listed_line form fields = do
+  none ← no_field fields
+  if bytes_eq form (codes "exact") then Ok rule.Exact
+      else if bytes_eq form (codes "ranges") then Ok rule.Ranges
+      else Err cause.Range
+
+abbrev pub rule_line : List (List ℕ) → Result RuleLine LineCause
+rule_line fields = do
+  form ← next_field fields
+  if bytes_eq form.0 (codes "any") then any_line form.1 else listed_line form.0 form.1
+
+-- a line of ranges has at least one low and its high
+abbrev pub range_line : List (List ℕ) → Result (List ℕ) LineCause
+range_line fields = do
+  pairs ← hex_field fields
+  if length pairs == 1 then Err cause.Hex else Ok pairs
+
+-- what the fields of a line say that begins with a word
+abbrev pub header_line : Word → List (List ℕ) → Result HeaderLine LineCause
+header_line word.Lengths fields = do
+  line ← lengths_line fields
+  Ok (says.Lengths line)
+header_line word.Master fields = do
+  line ← master_line fields
+  Ok (says.Master line)
+header_line word.Profile fields = do
+  line ← profile_line fields
+  Ok (says.Profile line)
+header_line word.App fields = do
+  bytes ← hex_field fields
+  Ok (says.App bytes)
+header_line word.Slave fields = do
+  line ← slave_line fields
+  Ok (says.Slave line)
+header_line word.Rule fields = do
+  line ← rule_line fields
+  Ok (says.Rule line)
+header_line word.Bytes fields = do
+  bytes ← hex_field fields
+  Ok (says.Bytes bytes)
+header_line word.Range fields = do
+  pairs ← range_line fields
+  Ok (says.Range pairs)
+header_line word.Go fields = do
+  none ← no_field fields
+  Ok says.Go
+
+abbrev pub RuleInRange : RuleLine → Type 0
+RuleInRange (rule.Any n) = n ≤ 512
+RuleInRange rule.Exact = Unit {0}
+RuleInRange rule.Ranges = Unit {0}
+
+-- the numbers of a line are in their ranges
+abbrev pub InRange : HeaderLine → Type 0
+InRange (says.Lengths line) = IsTrue (is_length line.master) × IsTrue (is_length line.slave)
+InRange (says.Master line) = (0 < line.conn) × (0 < line.watchdog)
+InRange (says.Profile line) = Unit {0}
+InRange (says.App bytes) = Unit {0}
+InRange (says.Slave line) = (0 < line.hand) × (0 < line.most)
+InRange (says.Rule line) = RuleInRange line
+InRange (says.Bytes bytes) = Unit {0}
+InRange (says.Range pairs) = Unit {0}
+InRange says.Go = Unit {0}
