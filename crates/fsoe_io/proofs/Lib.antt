@@ -3,3 +3,4 @@ pub mod Buffer
 pub mod Taken
 pub mod Passing
 pub mod Reading
+pub mod Newline

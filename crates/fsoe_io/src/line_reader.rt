@@ -7,6 +7,7 @@ ghost use Rattle.fsoe_io.specs.LineReader.{Reads, BeginsAs, Finds, Fills, Counts
 
 use crate::line::{Line, LineFault};
 use crate::source::{Failed, Source};
+use memchr::memchr;
 use std::marker::Model;
 
 /// The most bytes of a line, without its newline.
@@ -26,7 +27,7 @@ enum Front {
 fn newline(bytes: &[u8]) -> Option<usize>
     ensures { Finds result bytes.now }
 {
-    bytes.iter().position(|b| *b == b'\n')
+    memchr(b'\n', bytes)
 }
 
 fn begins(bytes: &[u8]) -> Front
