@@ -1,0 +1,15 @@
+-- The commands of state Data.
+use Rattle.std.specs.Prelude.{ℕ, Bool, true, false, List}
+use Rattle.fsoe_base.specs.declared.command.Command.{Command}
+use Rattle.fsoe_base.specs.declared.command.Command.TheVariants as command
+use Rattle.param_load.specs.Contents.{all_zero}
+
+abbrev pub is_data : Command → Bool
+is_data command.ProcessData = true
+is_data command.FailSafeData = true
+is_data _ = false
+
+-- a FailSafeData frame carries zeros alone
+abbrev pub data_holds : Command → List ℕ → Bool
+data_holds command.FailSafeData load = all_zero load
+data_holds _ load = true

@@ -1,0 +1,92 @@
+-- What the tests of a frame, the watchdog and the readers ask of the state of a slave.
+use Rattle.std.specs.Prelude.{ℕ, ◌==◌, Bool, true, false, not, List, replicate, Option, Some, None, if◌then◌else◌}
+use Rattle.fsoe_base.specs.declared.command.Command.{Command}
+use Rattle.fsoe_base.specs.declared.command.Command.TheVariants as command
+use Rattle.fsoe_base.specs.declared.command.State.{State}
+use Rattle.fsoe_base.specs.declared.command.State.TheVariants as state
+use Rattle.seq_chain.specs.declared.chain.Chain.{Chain}
+use Rattle.param_load.specs.declared.slave_settings.SlaveSettings.{SlaveSettings}
+use Rattle.param_load.specs.declared.terms.Terms.{Terms}
+use Rattle.param_load.specs.Payload.{number_at}
+use Rattle.param_load.specs.Upload.{is_whole}
+use Rattle.slave_core.specs.declared.now.Now.{Now}
+use Rattle.slave_core.specs.declared.now.Now.TheVariants as now
+use Rattle.slave_core.specs.Kit.{peer_len}
+use Rattle.slave_core.specs.States.{fresh}
+use Rattle.slave_core.specs.Views.{SessionUnder, ConnectionUnder, ParameterUnder, DataUnder}
+
+-- a state was made under these settings
+abbrev pub IsUnder : SlaveSettings → Now → Type 0
+IsUnder settings (now.Reset s) = Unit {0}
+IsUnder settings (now.Session s) = SessionUnder settings s
+IsUnder settings (now.Connection s) = ConnectionUnder settings s
+IsUnder settings (now.Parameter s) = ParameterUnder settings s
+IsUnder settings (now.Data s) = DataUnder settings s
+
+abbrev pub state_of : Now → State
+state_of (now.Reset s) = state.Reset
+state_of (now.Session s) = state.Session
+state_of (now.Connection s) = state.Connection
+state_of (now.Parameter s) = state.Parameter
+state_of (now.Data s) = state.Data
+
+abbrev pub is_reset : Now → Bool
+is_reset (now.Reset s) = true
+is_reset _ = false
+
+-- the frame that is kept as the one taken last: none in state Reset
+abbrev pub kept : Now → Option (List ℕ)
+kept (now.Reset s) = None
+kept (now.Session s) = Some s.last
+kept (now.Connection s) = Some s.last
+kept (now.Parameter s) = Some s.last
+kept (now.Data s) = Some s.last
+
+-- the chain of the session, a new one in state Reset
+abbrev pub chain_of : Now → Chain
+chain_of (now.Reset s) = fresh
+chain_of (now.Session s) = s.chain
+chain_of (now.Connection s) = s.chain
+chain_of (now.Parameter s) = s.chain
+chain_of (now.Data s) = s.chain
+
+-- the commands of a session that are allowed: that of the phase until its payload is whole, then that of the next phase
+abbrev pub allows : Now → Command → Bool
+allows (now.Reset s) command.Session = true
+allows (now.Session s) command.Session = not (is_whole s.upload)
+allows (now.Session s) command.Connection = is_whole s.upload
+allows (now.Connection s) command.Connection = not (is_whole s.upload)
+allows (now.Connection s) command.Parameter = is_whole s.upload
+allows (now.Parameter s) command.Parameter = not (is_whole s.upload)
+allows (now.Parameter s) command.ProcessData = is_whole s.upload
+allows (now.Parameter s) command.FailSafeData = is_whole s.upload
+allows (now.Data s) command.ProcessData = true
+allows (now.Data s) command.FailSafeData = true
+allows _ _ = false
+
+-- the connection id of a frame is 0 for Session, not 0 for the first Connection frame, and else the session's
+abbrev pub has_conn : Now → Command → ℕ → Bool
+has_conn (now.Reset s) cmd field = field == 0
+has_conn (now.Session s) command.Session field = field == 0
+has_conn (now.Session s) _ field = not (field == 0)
+has_conn (now.Connection s) cmd field = field == s.conn
+has_conn (now.Parameter s) cmd field = field == s.conn
+has_conn (now.Data s) cmd field = field == s.terms.conn
+
+-- the ticks after which a session expires: the watchdog once it is whole
+abbrev pub limit_of : SlaveSettings → Now → ℕ
+limit_of settings (now.Reset s) = settings.hand
+limit_of settings (now.Session s) = settings.hand
+limit_of settings (now.Connection s) = settings.hand
+limit_of settings (now.Parameter s) = if is_whole s.upload then number_at 2 s.upload.joined else settings.hand
+limit_of settings (now.Data s) = s.terms.watchdog
+
+-- the outputs: zeros in every state but Data
+abbrev pub outputs_in : SlaveSettings → Now → List ℕ
+outputs_in settings (now.Data s) = s.outputs
+outputs_in settings _ = replicate (peer_len settings) 0
+
+-- the terms, which are there in state Data
+abbrev pub terms_in : Now → Option Terms
+terms_in (now.Data s) = Some s.terms
+terms_in _ = None

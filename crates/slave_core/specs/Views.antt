@@ -1,0 +1,60 @@
+-- What contracts see of the states of a slave, and how they hang together with its settings.
+use Rattle.std.specs.Prelude.{◌≡◌, ℕ, ◌<◌, IsTrue, List, length}
+use Rattle.seq_chain.specs.declared.chain.Chain.{Chain}
+use Rattle.seq_chain.specs.Chain.{fits_next}
+use Rattle.param_load.specs.declared.contents.Expected.TheVariants as expected
+use Rattle.param_load.specs.declared.slave_settings.SlaveSettings.{SlaveSettings}
+use Rattle.param_load.specs.declared.terms.Terms.{Terms}
+use Rattle.param_load.specs.Profile.{allows_id}
+use Rattle.param_load.specs.UploadView.{UploadView}
+use Rattle.slave_core.specs.Kit.{peer_len, piece_of}
+use Rattle.slave_core.specs.Seen.{SeenView}
+
+-- the chain, the slave's session id, the upload of the master's, and the frame taken last
+pub record SessionView : Type 0 where
+  pub chain : Chain
+  pub id : ℕ
+  pub upload : UploadView
+  pub last : List ℕ
+
+pub record ConnectionView : Type 0 where
+  pub chain : Chain
+  pub conn : ℕ
+  pub upload : UploadView
+  pub last : List ℕ
+
+pub record ParameterView : Type 0 where
+  pub chain : Chain
+  pub conn : ℕ
+  pub address : ℕ
+  pub upload : UploadView
+  pub last : List ℕ
+
+pub record DataView : Type 0 where
+  pub chain : Chain
+  pub terms : Terms
+  pub outputs : List ℕ
+  pub last : List ℕ
+
+-- a state was made under these settings
+pub record SessionUnder (settings : SlaveSettings) (s : SessionView) : Type 0 where
+  pub piece_is : s.upload.piece ≡ piece_of settings
+  pub expected_is : s.upload.expected ≡ expected.Session settings.profile
+  pub id_allowed : IsTrue (allows_id settings.profile s.id)
+
+pub record ConnectionUnder (settings : SlaveSettings) (s : ConnectionView) : Type 0 where
+  pub piece_is : s.upload.piece ≡ piece_of settings
+  pub expected_is : s.upload.expected ≡ expected.Connection s.conn settings.address
+
+pub record ParameterUnder (settings : SlaveSettings) (s : ParameterView) : Type 0 where
+  pub piece_is : s.upload.piece ≡ piece_of settings
+  pub expected_is : s.upload.expected ≡ expected.Parameter settings.most settings.rule settings.profile
+
+pub record DataUnder (settings : SlaveSettings) (s : DataView) : Type 0 where
+  pub outputs_len : length s.outputs ≡ peer_len settings
+  pub some_watchdog : 0 < s.terms.watchdog
+
+-- a frame that came past the tests in a state with this chain: it has the master's length, and its CRCs fit
+pub record HasPassed (settings : SlaveSettings) (chain : Chain) (f : SeenView) : Type 0 where
+  pub len_is : length f.frame.load ≡ peer_len settings
+  pub fits : IsTrue (fits_next chain f.frame)

@@ -1,0 +1,11 @@
+//! A slave: its five states, the tests of the frames that are delivered to it, its watchdog and its outputs.
+#![tactic(auto)]
+
+mod kit;
+mod now;
+mod seen;
+pub mod states;
+mod verdict;
+
+pub use kit::Kit;
+pub use seen::Seen;

@@ -1,0 +1,175 @@
+//! The state that a slave is in.
+ghost use Rattle.std.specs.Prelude.{◌≡◌};
+
+use crate::kit::Kit;
+use crate::seen::Seen;
+use crate::states::{InConnection, InData, InParameter, InReset, InSession};
+use fsoe_base::{Code, Command, FrameBuf, State};
+use param_load::Terms;
+use seq_chain::Chain;
+
+/// The state that a slave is in.
+#[derive(Debug, Drop)]
+pub(crate) enum Now {
+    Reset(InReset),
+    Session(InSession),
+    Connection(InConnection),
+    Parameter(InParameter),
+    Data(InData),
+}
+
+impl Now {
+    ghost use Rattle.std.specs.Prelude.{◌≡◌, ◌<◌, [], IsTrue, IfOk, option_copied};
+    ghost use Rattle.slave_core.specs.Now.{IsUnder, state_of, is_reset, chain_of, kept, allows, has_conn, limit_of, terms_in};
+    ghost use Rattle.slave_core.specs.Taken.{taken, reply};
+    ghost use Rattle.slave_core.specs.Verdict.{is_repeat};
+    ghost use Rattle.slave_core.specs.Views.{HasPassed};
+
+    pub(crate) fn state(&self) -> State
+        ensures { result ≡ state_of self.now }
+    {
+        match self {
+            Now::Reset(_) => State::Reset,
+            Now::Session(_) => State::Session,
+            Now::Connection(_) => State::Connection,
+            Now::Parameter(_) => State::Parameter,
+            Now::Data(_) => State::Data,
+        }
+    }
+
+    pub(crate) fn is_reset(&self) -> bool
+        ensures { result ≡ is_reset self.now }
+    {
+        matches!(self, Now::Reset(_))
+    }
+
+    /// Whether these bytes are those of the frame that was taken last. In state Reset none is kept.
+    pub(crate) fn is_repeat(&self, frame: &[u8]) -> bool
+        ensures { result ≡ is_repeat (kept self.now) frame.now }
+    {
+        match self {
+            Now::Reset(_) => false,
+            Now::Session(state) => state.last() == frame,
+            Now::Connection(state) => state.last() == frame,
+            Now::Parameter(state) => state.last() == frame,
+            Now::Data(state) => state.last() == frame,
+        }
+    }
+
+    /// Whether a command of a session is allowed.
+    pub(crate) fn allows(&self, command: Command) -> bool
+        ensures { result ≡ allows self.now command }
+    {
+        match (self, command) {
+            (Now::Reset(_), Command::Session) => true,
+            (Now::Session(state), Command::Session) => !state.is_whole(),
+            (Now::Session(state), Command::Connection) => state.is_whole(),
+            (Now::Connection(state), Command::Connection) => !state.is_whole(),
+            (Now::Connection(state), Command::Parameter) => state.is_whole(),
+            (Now::Parameter(state), Command::Parameter) => !state.is_whole(),
+            (Now::Parameter(state), Command::ProcessData) => state.is_whole(),
+            (Now::Parameter(state), Command::FailSafeData) => state.is_whole(),
+            (Now::Data(_), Command::ProcessData) => true,
+            (Now::Data(_), Command::FailSafeData) => true,
+            _ => false,
+        }
+    }
+
+    /// Whether the connection id of a frame is right.
+    pub(crate) fn has_conn(&self, command: Command, field: u16) -> bool
+        ensures { result ≡ has_conn self.now command field }
+    {
+        match (self, command) {
+            (Now::Reset(_), _) => field == 0,
+            (Now::Session(_), Command::Session) => field == 0,
+            (Now::Session(_), _) => field != 0,
+            (Now::Connection(state), _) => field == state.conn(),
+            (Now::Parameter(state), _) => field == state.conn(),
+            (Now::Data(state), _) => field == state.terms().conn,
+        }
+    }
+
+    /// The chain of the session, a new one in state Reset.
+    pub(crate) fn chain(&self) -> Chain
+        ensures { result ≡ chain_of self.now }
+    {
+        match self {
+            Now::Reset(_) => Chain::new(),
+            Now::Session(state) => state.chain(),
+            Now::Connection(state) => state.chain(),
+            Now::Parameter(state) => state.chain(),
+            Now::Data(state) => state.chain(),
+        }
+    }
+
+    /// The ticks after which the session expires.
+    pub(crate) fn limit(&self, kit: &Kit) -> u16
+        requires { IsUnder kit.now.settings self.now }
+        ensures value { result ≡ limit_of kit.now.settings self.now }
+        ensures some { 0 < result }
+    {
+        match self {
+            Now::Reset(_) | Now::Session(_) | Now::Connection(_) => kit.settings().hand(),
+            Now::Parameter(state) => {
+                if state.is_whole() {
+                    state.watchdog(kit)
+                } else {
+                    kit.settings().hand()
+                }
+            }
+            Now::Data(state) => state.terms().watchdog,
+        }
+    }
+
+    /// The terms in state Data.
+    pub(crate) fn terms(&self) -> Option<&Terms>
+        ensures { option_copied result ≡ terms_in self.now }
+    {
+        match self {
+            Now::Data(state) => Some(state.terms()),
+            _ => None,
+        }
+    }
+
+    /// Takes a frame that passed the tests in this state.
+    pub(crate) fn take(
+        self,
+        seen: &Seen<'_>,
+        kit: &Kit,
+        out: &mut FrameBuf,
+    ) -> Result<Now, (InReset, Code)>
+        requires allowed { IsTrue (allows self seen.now.command) }
+        requires under { IsUnder kit.now.settings self }
+        requires passed { HasPassed kit.now.settings (chain_of self) seen.now }
+        requires empty { out.old ≡ [] }
+        ensures next { result ≡ taken kit.now self seen.now }
+        ensures sent { out.new ≡ reply kit.now self seen.now }
+        ensures under { IfOk result (λ now. IsUnder kit.now.settings now) }
+    {
+        match self {
+            Now::Reset(state) => state.start(seen, kit, out).map(Now::Session),
+            Now::Session(state) => {
+                if state.is_whole() {
+                    state.connect(seen, kit, out).map(Now::Connection)
+                } else {
+                    state.more(seen, kit, out).map(Now::Session)
+                }
+            }
+            Now::Connection(state) => {
+                if state.is_whole() {
+                    state.load(seen, kit, out).map(Now::Parameter)
+                } else {
+                    state.more(seen, kit, out).map(Now::Connection)
+                }
+            }
+            Now::Parameter(state) => {
+                if state.is_whole() {
+                    state.run(seen, kit, out).map(Now::Data)
+                } else {
+                    state.more(seen, kit, out).map(Now::Parameter)
+                }
+            }
+            Now::Data(state) => state.more(seen, kit, out).map(Now::Data),
+        }
+    }
+}

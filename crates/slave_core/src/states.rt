@@ -1,0 +1,692 @@
+//! The five states of a slave. A state is made by the transitions of this module alone, and owns what it needs.
+//! A transition takes a frame that passed the tests in this state, and gives the next state with the answer, or
+//! state Reset with the code of the first test of the frame's contents that fails; then nothing is written.
+ghost use Rattle.std.specs.Prelude.{◌≡◌, ◌≤◌, ◌<◌, IsTrue, IfOk, false, length, []};
+ghost use Rattle.fsoe_base.specs.Lengths.{is_length};
+ghost use Rattle.fsoe_frame.specs.Parts.{bytes_of};
+ghost use Rattle.seq_chain.specs.Chain.{fits_next};
+ghost use Rattle.param_load.specs.Profile.{allows_id};
+ghost use Rattle.param_load.specs.Upload.{is_whole};
+ghost use Rattle.param_load.specs.declared.contents.Expected.TheVariants as expected;
+ghost use Rattle.slave_core.specs.Data.{data_holds};
+ghost use Rattle.slave_core.specs.Kit.{piece_of, peer_len};
+ghost use Rattle.slave_core.specs.States.{answered, answer, session_next, session_reply, connection_next, parameter_next, echo_reply, data_next, data_reply};
+ghost use Rattle.slave_core.specs.Views.{SessionUnder, ConnectionUnder, ParameterUnder, DataUnder, HasPassed};
+
+use crate::kit::Kit;
+use crate::seen::Seen;
+use failsafe_io::Outputs;
+use fsoe_base::{Code, Command, FrameBuf};
+use param_load::{Payload, Terms, Upload, is_all_zero, padded};
+use seq_chain::Chain;
+use std::marker::Model;
+
+/// No session.
+#[derive(Debug, Drop)]
+pub struct InReset {
+    private: (),
+}
+
+/// A session in which session ids are exchanged, or are whole and the connection id is to come.
+#[derive(Debug, Drop)]
+pub struct InSession {
+    chain: Chain,
+    id: u32,
+    upload: Upload,
+    last: FrameBuf,
+}
+
+/// A session in which the connection id and the slave's address are exchanged, or are whole and the parameters
+/// are to come.
+#[derive(Debug, Drop)]
+pub struct InConnection {
+    chain: Chain,
+    conn: u16,
+    upload: Upload,
+    last: FrameBuf,
+}
+
+/// A session in which the parameters are exchanged, or are whole and data are to come.
+#[derive(Debug, Drop)]
+pub struct InParameter {
+    chain: Chain,
+    conn: u16,
+    address: u16,
+    upload: Upload,
+    last: FrameBuf,
+}
+
+/// A session in which data are exchanged under whole terms.
+#[derive(Debug, Drop)]
+pub struct InData {
+    chain: Chain,
+    terms: Terms,
+    outputs: Outputs,
+    last: FrameBuf,
+}
+
+impl Model for InSession {
+    ghost use Rattle.slave_core.specs.Views.{SessionView};
+
+    ghost Value = { SessionView };
+
+    ghost view = { λ s. record { chain = s.chain; id = s.id; upload = s.upload; last = s.last } };
+}
+
+impl Model for InConnection {
+    ghost use Rattle.slave_core.specs.Views.{ConnectionView};
+
+    ghost Value = { ConnectionView };
+
+    ghost view = { λ s. record { chain = s.chain; conn = s.conn; upload = s.upload; last = s.last } };
+}
+
+impl Model for InParameter {
+    ghost use Rattle.slave_core.specs.Views.{ParameterView};
+
+    ghost Value = { ParameterView };
+
+    ghost view = { λ s. record { chain = s.chain; conn = s.conn; address = s.address; upload = s.upload; last = s.last } };
+}
+
+impl Model for InData {
+    ghost use Rattle.slave_core.specs.Views.{DataView};
+
+    ghost Value = { DataView };
+
+    ghost view = { λ s. record { chain = s.chain; terms = s.terms; outputs = s.outputs; last = s.last } };
+}
+
+impl InReset {
+    ghost use Rattle.std.specs.Prelude.{◌≡◌, IfOk, []};
+    ghost use Rattle.slave_core.specs.States.{no_session, fresh, first_session, session_next, session_reply};
+    ghost use Rattle.slave_core.specs.Views.{SessionUnder, HasPassed};
+
+    pub(crate) fn new() -> InReset
+        ensures { result ≡ no_session }
+    {
+        InReset { private: () }
+    }
+
+    /// Begins a session by a Session frame. The slave's session id is its nonce at this moment.
+    pub fn start(
+        self,
+        seen: &Seen<'_>,
+        kit: &Kit,
+        out: &mut FrameBuf,
+    ) -> Result<InSession, (InReset, Code)>
+        requires command { seen.now.command ≡ Command.Session }
+        requires passed { HasPassed kit.now.settings fresh seen.now }
+        requires empty { out.old ≡ [] }
+        ensures next { result ≡ session_next kit.now fresh kit.now.nonce (first_session kit.now) seen.now }
+        ensures sent { out.new ≡ session_reply kit.now fresh kit.now.nonce (first_session kit.now) seen.now }
+        ensures under { IfOk result (λ s. SessionUnder kit.now.settings s) }
+    {
+        let InReset { private: _ } = self;
+        let upload = Upload::session(kit.piece(), kit.profile());
+        in_session(Chain::new(), kit.nonce(), upload, seen, kit, out)
+    }
+
+    /// State Reset.
+    pub fn into_reset(self) -> InReset
+        ensures { result ≡ no_session }
+    {
+        let InReset { private: _ } = self;
+        InReset::new()
+    }
+}
+
+impl InSession {
+    ghost use Rattle.std.specs.Prelude.{◌≡◌, IfOk, IsTrue, false, []};
+    ghost use Rattle.fsoe_base.specs.declared.command.Command.TheVariants as command;
+    ghost use Rattle.param_load.specs.Upload.{is_whole};
+    ghost use Rattle.slave_core.specs.States.{no_session, first_connection, session_next, session_reply, connection_next, echo_reply};
+    ghost use Rattle.slave_core.specs.Views.{SessionUnder, ConnectionUnder, HasPassed};
+
+    /// Goes on by a Session frame, as long as the master's session id isn't whole.
+    pub fn more(
+        self,
+        seen: &Seen<'_>,
+        kit: &Kit,
+        out: &mut FrameBuf,
+    ) -> Result<InSession, (InReset, Code)>
+        requires command { seen.now.command ≡ Command.Session }
+        requires more { is_whole self.upload ≡ false }
+        requires under { SessionUnder kit.now.settings self }
+        requires passed { HasPassed kit.now.settings self.chain seen.now }
+        requires empty { out.old ≡ [] }
+        ensures next { result ≡ session_next kit.now self.chain self.id self.upload seen.now }
+        ensures sent { out.new ≡ session_reply kit.now self.chain self.id self.upload seen.now }
+        ensures under { IfOk result (λ s. SessionUnder kit.now.settings s) }
+    {
+        let InSession {
+            chain,
+            id,
+            upload,
+            last: _,
+        } = self;
+        in_session(chain, id, upload, seen, kit, out)
+    }
+
+    /// Goes on by the first Connection frame, once the master's session id is whole. The connection id of the
+    /// session is that of the frame.
+    pub fn connect(
+        self,
+        seen: &Seen<'_>,
+        kit: &Kit,
+        out: &mut FrameBuf,
+    ) -> Result<InConnection, (InReset, Code)>
+        requires command { seen.now.command ≡ Command.Connection }
+        requires whole { IsTrue (is_whole self.upload) }
+        requires under { SessionUnder kit.now.settings self }
+        requires passed { HasPassed kit.now.settings self.chain seen.now }
+        requires empty { out.old ≡ [] }
+        ensures next { result ≡ connection_next kit.now self.chain seen.now.frame.conn (first_connection kit.now seen.now.frame.conn) seen.now }
+        ensures sent { out.new ≡ echo_reply command.Connection kit.now self.chain seen.now.frame.conn (first_connection kit.now seen.now.frame.conn) seen.now }
+        ensures under { IfOk result (λ s. ConnectionUnder kit.now.settings s) }
+    {
+        let InSession {
+            chain,
+            id: _,
+            upload: _,
+            last: _,
+        } = self;
+        let conn = seen.conn();
+        let upload = Upload::connection(kit.piece(), conn, kit.settings().address());
+        in_connection(chain, conn, upload, seen, kit, out)
+    }
+
+    /// State Reset; the session is forgotten.
+    pub fn into_reset(self) -> InReset
+        ensures { result ≡ no_session }
+    {
+        InReset::new()
+    }
+
+    pub(crate) fn is_whole(&self) -> bool
+        ensures { result ≡ is_whole self.now.upload }
+    {
+        self.upload.is_whole()
+    }
+
+    pub(crate) fn chain(&self) -> Chain
+        ensures { result ≡ self.now.chain }
+    {
+        self.chain
+    }
+
+    /// The frame that was taken last.
+    pub(crate) fn last(&self) -> &[u8]
+        ensures { result.now ≡ self.now.last }
+    {
+        self.last.bytes()
+    }
+}
+
+impl InConnection {
+    ghost use Rattle.std.specs.Prelude.{◌≡◌, IfOk, IsTrue, false, []};
+    ghost use Rattle.fsoe_base.specs.declared.command.Command.TheVariants as command;
+    ghost use Rattle.param_load.specs.Upload.{is_whole};
+    ghost use Rattle.slave_core.specs.States.{no_session, first_parameter, connection_next, parameter_next, echo_reply};
+    ghost use Rattle.slave_core.specs.Views.{ConnectionUnder, ParameterUnder, HasPassed};
+
+    /// Goes on by a Connection frame, as long as the connection id and the address aren't whole.
+    pub fn more(
+        self,
+        seen: &Seen<'_>,
+        kit: &Kit,
+        out: &mut FrameBuf,
+    ) -> Result<InConnection, (InReset, Code)>
+        requires command { seen.now.command ≡ Command.Connection }
+        requires more { is_whole self.upload ≡ false }
+        requires under { ConnectionUnder kit.now.settings self }
+        requires passed { HasPassed kit.now.settings self.chain seen.now }
+        requires empty { out.old ≡ [] }
+        ensures next { result ≡ connection_next kit.now self.chain self.conn self.upload seen.now }
+        ensures sent { out.new ≡ echo_reply command.Connection kit.now self.chain self.conn self.upload seen.now }
+        ensures under { IfOk result (λ s. ConnectionUnder kit.now.settings s) }
+    {
+        let InConnection {
+            chain,
+            conn,
+            upload,
+            last: _,
+        } = self;
+        in_connection(chain, conn, upload, seen, kit, out)
+    }
+
+    /// Goes on by the first Parameter frame, once the connection id and the address are whole.
+    pub fn load(
+        self,
+        seen: &Seen<'_>,
+        kit: &Kit,
+        out: &mut FrameBuf,
+    ) -> Result<InParameter, (InReset, Code)>
+        requires command { seen.now.command ≡ Command.Parameter }
+        requires whole { IsTrue (is_whole self.upload) }
+        requires under { ConnectionUnder kit.now.settings self }
+        requires passed { HasPassed kit.now.settings self.chain seen.now }
+        requires empty { out.old ≡ [] }
+        ensures next { result ≡ parameter_next kit.now self.chain self.conn kit.now.settings.address (first_parameter kit.now) seen.now }
+        ensures sent { out.new ≡ echo_reply command.Parameter kit.now self.chain self.conn (first_parameter kit.now) seen.now }
+        ensures under { IfOk result (λ s. ParameterUnder kit.now.settings s) }
+    {
+        let InConnection {
+            chain,
+            conn,
+            upload: _,
+            last: _,
+        } = self;
+        let settings = kit.settings();
+        let upload = Upload::parameter(
+            kit.piece(),
+            settings.most(),
+            settings.rule(),
+            settings.profile(),
+        );
+        in_parameter(chain, conn, settings.address(), upload, seen, kit, out)
+    }
+
+    /// State Reset; the session is forgotten.
+    pub fn into_reset(self) -> InReset
+        ensures { result ≡ no_session }
+    {
+        InReset::new()
+    }
+
+    pub(crate) fn is_whole(&self) -> bool
+        ensures { result ≡ is_whole self.now.upload }
+    {
+        self.upload.is_whole()
+    }
+
+    pub(crate) fn chain(&self) -> Chain
+        ensures { result ≡ self.now.chain }
+    {
+        self.chain
+    }
+
+    /// The connection id of the session.
+    pub(crate) fn conn(&self) -> u16
+        ensures { result ≡ self.now.conn }
+    {
+        self.conn
+    }
+
+    /// The frame that was taken last.
+    pub(crate) fn last(&self) -> &[u8]
+        ensures { result.now ≡ self.now.last }
+    {
+        self.last.bytes()
+    }
+}
+
+impl InParameter {
+    ghost use Rattle.std.specs.Prelude.{◌≡◌, ◌<◌, IfOk, IsTrue, false, []};
+    ghost use Rattle.param_load.specs.Payload.{number_at};
+    ghost use Rattle.param_load.specs.Upload.{is_whole};
+    ghost use Rattle.slave_core.specs.Data.{is_data};
+    ghost use Rattle.slave_core.specs.States.{no_session, terms_of, parameter_next, echo_reply, data_next, data_reply};
+    ghost use Rattle.slave_core.specs.Views.{ParameterUnder, DataUnder, HasPassed};
+    ghost use Rattle.fsoe_base.specs.declared.command.Command.TheVariants as command;
+
+    /// Goes on by a Parameter frame, as long as the parameters aren't whole.
+    pub fn more(
+        self,
+        seen: &Seen<'_>,
+        kit: &Kit,
+        out: &mut FrameBuf,
+    ) -> Result<InParameter, (InReset, Code)>
+        requires command { seen.now.command ≡ Command.Parameter }
+        requires more { is_whole self.upload ≡ false }
+        requires under { ParameterUnder kit.now.settings self }
+        requires passed { HasPassed kit.now.settings self.chain seen.now }
+        requires empty { out.old ≡ [] }
+        ensures next { result ≡ parameter_next kit.now self.chain self.conn self.address self.upload seen.now }
+        ensures sent { out.new ≡ echo_reply command.Parameter kit.now self.chain self.conn self.upload seen.now }
+        ensures under { IfOk result (λ s. ParameterUnder kit.now.settings s) }
+    {
+        let InParameter {
+            chain,
+            conn,
+            address,
+            upload,
+            last: _,
+        } = self;
+        in_parameter(chain, conn, address, upload, seen, kit, out)
+    }
+
+    /// Goes on by the first data frame, once the parameters are whole: from now on the outputs may be other than
+    /// zeros.
+    pub fn run(
+        self,
+        seen: &Seen<'_>,
+        kit: &Kit,
+        out: &mut FrameBuf,
+    ) -> Result<InData, (InReset, Code)>
+        requires command { IsTrue (is_data seen.now.command) }
+        requires whole { IsTrue (is_whole self.upload) }
+        requires under { ParameterUnder kit.now.settings self }
+        requires passed { HasPassed kit.now.settings self.chain seen.now }
+        requires empty { out.old ≡ [] }
+        ensures next { result ≡ data_next kit.now self.chain (terms_of kit.now self.conn self.address self.upload) seen.now }
+        ensures sent { out.new ≡ data_reply kit.now self.chain (terms_of kit.now self.conn self.address self.upload) seen.now }
+        ensures under { IfOk result (λ s. DataUnder kit.now.settings s) }
+    {
+        let InParameter {
+            chain,
+            conn,
+            address,
+            upload,
+            last: _,
+        } = self;
+        let terms = Terms {
+            conn,
+            address,
+            watchdog: upload.watchdog(),
+            app: upload.app().copy(),
+            profile: kit.profile(),
+        };
+        in_data(chain, terms, Outputs::new(kit.peer_len()), seen, kit, out)
+    }
+
+    /// State Reset; the session is forgotten.
+    pub fn into_reset(self) -> InReset
+        ensures { result ≡ no_session }
+    {
+        InReset::new()
+    }
+
+    pub(crate) fn is_whole(&self) -> bool
+        ensures { result ≡ is_whole self.now.upload }
+    {
+        self.upload.is_whole()
+    }
+
+    /// The watchdog of whole parameters, in ticks.
+    pub(crate) fn watchdog(&self, kit: &Kit) -> u16
+        requires whole { IsTrue (is_whole self.now.upload) }
+        requires under { ParameterUnder kit.now.settings self.now }
+        ensures value { result ≡ number_at 2 self.now.upload.joined }
+        ensures some { 0 < result }
+    {
+        let _kit = kit;
+        self.upload.watchdog()
+    }
+
+    pub(crate) fn chain(&self) -> Chain
+        ensures { result ≡ self.now.chain }
+    {
+        self.chain
+    }
+
+    /// The connection id of the session.
+    pub(crate) fn conn(&self) -> u16
+        ensures { result ≡ self.now.conn }
+    {
+        self.conn
+    }
+
+    /// The frame that was taken last.
+    pub(crate) fn last(&self) -> &[u8]
+        ensures { result.now ≡ self.now.last }
+    {
+        self.last.bytes()
+    }
+}
+
+impl InData {
+    ghost use Rattle.std.specs.Prelude.{◌≡◌, IfOk, IsTrue, []};
+    ghost use Rattle.slave_core.specs.Data.{is_data};
+    ghost use Rattle.slave_core.specs.States.{no_session, data_next, data_reply};
+    ghost use Rattle.slave_core.specs.Views.{DataUnder, HasPassed};
+
+    /// Goes on by a data frame.
+    pub fn more(
+        self,
+        seen: &Seen<'_>,
+        kit: &Kit,
+        out: &mut FrameBuf,
+    ) -> Result<InData, (InReset, Code)>
+        requires command { IsTrue (is_data seen.now.command) }
+        requires under { DataUnder kit.now.settings self }
+        requires passed { HasPassed kit.now.settings self.chain seen.now }
+        requires empty { out.old ≡ [] }
+        ensures next { result ≡ data_next kit.now self.chain self.terms seen.now }
+        ensures sent { out.new ≡ data_reply kit.now self.chain self.terms seen.now }
+        ensures under { IfOk result (λ s. DataUnder kit.now.settings s) }
+    {
+        let InData {
+            chain,
+            terms,
+            outputs,
+            last: _,
+        } = self;
+        in_data(chain, terms, outputs, seen, kit, out)
+    }
+
+    /// State Reset; the session is forgotten.
+    pub fn into_reset(self) -> InReset
+        ensures { result ≡ no_session }
+    {
+        InReset::new()
+    }
+
+    pub(crate) fn chain(&self) -> Chain
+        ensures { result ≡ self.now.chain }
+    {
+        self.chain
+    }
+
+    /// The terms of the session.
+    pub(crate) fn terms(&self) -> &Terms
+        ensures { result.now ≡ self.now.terms }
+    {
+        &self.terms
+    }
+
+    /// The outputs: the data of the frame that was taken last.
+    pub(crate) fn outputs(&self) -> &[u8]
+        ensures { result.now ≡ self.now.outputs }
+    {
+        self.outputs.bytes()
+    }
+
+    /// The frame that was taken last.
+    pub(crate) fn last(&self) -> &[u8]
+        ensures { result.now ≡ self.now.last }
+    {
+        self.last.bytes()
+    }
+}
+
+/// Notes a frame that is taken, and seals its answer.
+fn answer(
+    chain: &mut Chain,
+    seen: &Seen<'_>,
+    command: Command,
+    conn: u16,
+    load: &[u8],
+    out: &mut FrameBuf,
+)
+    requires fits { IsTrue (fits_next chain.old seen.now.frame) }
+    requires valid { IsTrue (is_length (length load.now)) }
+    ensures chain { chain.new ≡ answered chain.old seen.now conn command load.now }
+    ensures sent { out.new ≡ answer chain.old seen.now conn command load.now }
+{
+    chain.take(seen.view(), seen.conn());
+    chain.seal(command, conn, load, out);
+}
+
+/// Takes a Session frame, and answers it with the piece of the slave's own session id that has the same number.
+fn in_session(
+    mut chain: Chain,
+    id: u32,
+    mut upload: Upload,
+    seen: &Seen<'_>,
+    kit: &Kit,
+    out: &mut FrameBuf,
+) -> Result<InSession, (InReset, Code)>
+    requires passed { HasPassed kit.now.settings chain seen.now }
+    requires piece { upload.piece ≡ piece_of kit.now.settings }
+    requires expected { upload.expected ≡ expected.Session kit.now.settings.profile }
+    requires allowed { IsTrue (allows_id kit.now.settings.profile id) }
+    requires more { is_whole upload ≡ false }
+    requires empty { out.old ≡ [] }
+    ensures next { result ≡ session_next kit.now chain id upload seen.now }
+    ensures sent { out.new ≡ session_reply kit.now chain id upload seen.now }
+    ensures under { IfOk result (λ s. SessionUnder kit.now.settings s) }
+{
+    let from = upload.len();
+    let piece = kit.piece();
+    if let Err(code) = upload.take(seen.load()) {
+        return Err((InReset::new(), code));
+    }
+    let own_id = Payload::session(id, kit.profile());
+    let load = padded(own_id.piece_from(from, piece), kit.own_len());
+    answer(&mut chain, seen, Command::Session, 0, load.bytes(), out);
+    Ok(InSession {
+        chain,
+        id,
+        upload,
+        last: kept(seen),
+    })
+}
+
+/// Takes a Connection frame, and answers it with its own piece.
+fn in_connection(
+    mut chain: Chain,
+    conn: u16,
+    mut upload: Upload,
+    seen: &Seen<'_>,
+    kit: &Kit,
+    out: &mut FrameBuf,
+) -> Result<InConnection, (InReset, Code)>
+    requires passed { HasPassed kit.now.settings chain seen.now }
+    requires piece { upload.piece ≡ piece_of kit.now.settings }
+    requires expected { upload.expected ≡ expected.Connection conn kit.now.settings.address }
+    requires more { is_whole upload ≡ false }
+    requires empty { out.old ≡ [] }
+    ensures next { result ≡ connection_next kit.now chain conn upload seen.now }
+    ensures sent { out.new ≡ echo_reply Command.Connection kit.now chain conn upload seen.now }
+    ensures under { IfOk result (λ s. ConnectionUnder kit.now.settings s) }
+{
+    let _piece = kit.piece();
+    if let Err(code) = upload.take(seen.load()) {
+        return Err((InReset::new(), code));
+    }
+    let load = upload.echo(kit.own_len());
+    answer(
+        &mut chain,
+        seen,
+        Command::Connection,
+        conn,
+        load.bytes(),
+        out,
+    );
+    Ok(InConnection {
+        chain,
+        conn,
+        upload,
+        last: kept(seen),
+    })
+}
+
+/// Takes a Parameter frame, and answers it with its own piece.
+fn in_parameter(
+    mut chain: Chain,
+    conn: u16,
+    address: u16,
+    mut upload: Upload,
+    seen: &Seen<'_>,
+    kit: &Kit,
+    out: &mut FrameBuf,
+) -> Result<InParameter, (InReset, Code)>
+    requires passed { HasPassed kit.now.settings chain seen.now }
+    requires piece { upload.piece ≡ piece_of kit.now.settings }
+    requires expected { upload.expected ≡ expected.Parameter kit.now.settings.most kit.now.settings.rule kit.now.settings.profile }
+    requires more { is_whole upload ≡ false }
+    requires empty { out.old ≡ [] }
+    ensures next { result ≡ parameter_next kit.now chain conn address upload seen.now }
+    ensures sent { out.new ≡ echo_reply Command.Parameter kit.now chain conn upload seen.now }
+    ensures under { IfOk result (λ s. ParameterUnder kit.now.settings s) }
+{
+    let _piece = kit.piece();
+    if let Err(code) = upload.take(seen.load()) {
+        return Err((InReset::new(), code));
+    }
+    let load = upload.echo(kit.own_len());
+    answer(
+        &mut chain,
+        seen,
+        Command::Parameter,
+        conn,
+        load.bytes(),
+        out,
+    );
+    Ok(InParameter {
+        chain,
+        conn,
+        address,
+        upload,
+        last: kept(seen),
+    })
+}
+
+/// Whether the safe data of a data frame are right: those of a FailSafeData frame are zeros.
+fn data_holds(seen: &Seen<'_>) -> bool
+    ensures { result ≡ data_holds seen.now.command seen.now.frame.load }
+{
+    match seen.command() {
+        Command::FailSafeData => is_all_zero(seen.load()),
+        _ => true,
+    }
+}
+
+/// Takes a data frame, and answers it with a data frame.
+fn in_data(
+    mut chain: Chain,
+    terms: Terms,
+    mut outputs: Outputs,
+    seen: &Seen<'_>,
+    kit: &Kit,
+    out: &mut FrameBuf,
+) -> Result<InData, (InReset, Code)>
+    requires passed { HasPassed kit.now.settings chain seen.now }
+    requires watchdog { 0 < terms.watchdog }
+    requires outputs { length outputs ≡ peer_len kit.now.settings }
+    requires empty { out.old ≡ [] }
+    ensures next { result ≡ data_next kit.now chain terms seen.now }
+    ensures sent { out.new ≡ data_reply kit.now chain terms seen.now }
+    ensures under { IfOk result (λ s. DataUnder kit.now.settings s) }
+{
+    if !data_holds(seen) {
+        return Err((InReset::new(), Code(0x07)));
+    }
+    let _len = kit.own_len();
+    let load = kit.data_load();
+    answer(
+        &mut chain,
+        seen,
+        kit.data_command(),
+        terms.conn,
+        load.bytes(),
+        out,
+    );
+    outputs.take(seen.command(), seen.load());
+    Ok(InData {
+        chain,
+        terms,
+        outputs,
+        last: kept(seen),
+    })
+}
+
+/// A copy of the bytes of a frame, to know a repeat by.
+fn kept(seen: &Seen<'_>) -> FrameBuf
+    ensures { result ≡ bytes_of seen.now.frame }
+{
+    let mut last = FrameBuf::new();
+    last.set(seen.bytes());
+    last
+}
