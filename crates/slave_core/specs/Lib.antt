@@ -2,6 +2,8 @@ pub mod Data
 pub mod Kit
 pub mod Now
 pub mod Seen
+pub mod Slave
+pub mod SlaveView
 pub mod States
 pub mod Taken
 pub mod Verdict

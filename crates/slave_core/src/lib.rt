@@ -4,8 +4,10 @@
 mod kit;
 mod now;
 mod seen;
+pub mod slave;
 pub mod states;
 mod verdict;
 
 pub use kit::Kit;
 pub use seen::Seen;
+pub use slave::Slave;

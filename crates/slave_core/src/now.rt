@@ -112,7 +112,7 @@ impl Now {
             Now::Reset(_) | Now::Session(_) | Now::Connection(_) => kit.settings().hand(),
             Now::Parameter(state) => {
                 if state.is_whole() {
-                    state.watchdog(kit)
+                    state.watchdog()
                 } else {
                     kit.settings().hand()
                 }

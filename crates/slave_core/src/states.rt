@@ -82,11 +82,15 @@ impl Model for InConnection {
 }
 
 impl Model for InParameter {
+    ghost use Rattle.std.specs.Prelude.{IsTrue};
+    ghost use Rattle.param_load.specs.Contents.{is_parameter};
     ghost use Rattle.slave_core.specs.Views.{ParameterView};
 
     ghost Value = { ParameterView };
 
     ghost view = { λ s. record { chain = s.chain; conn = s.conn; address = s.address; upload = s.upload; last = s.last } };
+
+    ghost invariant = { λ s. IsTrue (is_parameter s.upload.expected) };
 }
 
 impl Model for InData {
@@ -404,13 +408,11 @@ impl InParameter {
     }
 
     /// The watchdog of whole parameters, in ticks.
-    pub(crate) fn watchdog(&self, kit: &Kit) -> u16
-        requires whole { IsTrue (is_whole self.now.upload) }
-        requires under { ParameterUnder kit.now.settings self.now }
+    pub(crate) fn watchdog(&self) -> u16
+        requires { IsTrue (is_whole self.now.upload) }
         ensures value { result ≡ number_at 2 self.now.upload.joined }
         ensures some { 0 < result }
     {
-        let _kit = kit;
         self.upload.watchdog()
     }
 

@@ -1,0 +1,122 @@
+-- What each event at a slave leaves, does and sends.
+use Rattle.std.specs.Prelude.{ℕ, ◌+◌, ◌==◌, Bool, true, false, not, ◌&&◌, ◌≡◌, List, [], ◌∷◌, Some, None, is_some, Result, Ok, Err, if◌then◌else◌}
+use Rattle.fsoe_base.specs.declared.command.Code.{Code}
+use Rattle.fsoe_base.specs.declared.command.Command.{Command}
+use Rattle.fsoe_base.specs.declared.command.Command.TheVariants as command
+use Rattle.fsoe_base.specs.declared.did.Cause.{Cause}
+use Rattle.fsoe_base.specs.declared.did.Cause.TheVariants as cause
+use Rattle.fsoe_base.specs.declared.did.Did.{Did}
+use Rattle.fsoe_base.specs.declared.did.Dropped.{Dropped}
+use Rattle.fsoe_base.specs.declared.did.Dropped.TheVariants as dropped
+use Rattle.fsoe_base.specs.Did as did
+use Rattle.failsafe_io.specs.Timer.{Timer, ticked}
+use Rattle.param_load.specs.Contents.{code}
+use Rattle.param_load.specs.declared.slave_settings.SlaveSettings.{SlaveSettings}
+use Rattle.seq_chain.specs.Reset.{reset_frame}
+use Rattle.slave_core.specs.declared.now.Now.{Now}
+use Rattle.slave_core.specs.declared.now.Now.TheVariants as now
+use Rattle.slave_core.specs.declared.states.InReset.{InReset}
+use Rattle.slave_core.specs.declared.verdict.Verdict.{Verdict}
+use Rattle.slave_core.specs.declared.verdict.Verdict.TheVariants as verdict
+use Rattle.slave_core.specs.Kit.{own_len, peer_len, first_kit}
+use Rattle.slave_core.specs.Now.{is_reset, limit_of}
+use Rattle.slave_core.specs.Seen.{SeenView}
+use Rattle.slave_core.specs.SlaveView.{SlaveView}
+use Rattle.slave_core.specs.States.{no_session}
+use Rattle.slave_core.specs.Taken.{taken, reply}
+use Rattle.slave_core.specs.Verdict.{verdict_of}
+
+-- what an event leaves, does and sends
+pub record Outcome : Type 0 where
+  pub slave : SlaveView
+  pub did : Did
+  pub sent : List ℕ
+
+abbrev pub started : ℕ → Timer
+started limit = record { limit = limit; age = 0 }
+
+-- a new slave
+abbrev pub first_slave : SlaveSettings → SlaveView
+first_slave settings = record { kit = first_kit settings; state = now.Reset no_session; timer = started settings.hand }
+
+-- nothing happens
+abbrev pub quiet : SlaveView → Outcome
+quiet v = record { slave = v; did = did.nothing; sent = [] }
+
+-- a frame is dropped
+abbrev pub drops : SlaveView → Bool → Dropped → Outcome
+drops v passed why = record { slave = v; did = record { took = None; passed = passed; sent = false; reset = None; dropped = Some why }; sent = [] }
+
+-- a frame is taken
+abbrev pub takes : Command → List ℕ → Bool → Did
+takes cmd load passed = record { took = Some (record { command = cmd; load = load }); passed = passed; sent = true; reset = None; dropped = None }
+
+-- a slave without its session
+abbrev pub fallen : SlaveView → SlaveView
+fallen v = record v { state = now.Reset no_session; timer = started v.kit.settings.hand }
+
+-- a session ends, and a Reset frame with the code is sent
+abbrev pub falls : SlaveView → Bool → Cause → Code → Outcome
+falls v passed why x = record {
+  slave = fallen v;
+  did = record { took = None; passed = passed; sent = true; reset = Some why; dropped = None };
+  sent = reset_frame x.0 (own_len v.kit.settings);
+}
+
+-- a test fails: in state Reset the frame is dropped, and else the session ends
+abbrev pub refuses : SlaveView → Bool → Code → Outcome
+refuses v passed x = if is_reset v.state then drops v passed dropped.InReset else falls v passed (cause.Found x) x
+
+-- a valid Reset frame: in state Reset it is taken and acknowledged, and else the session ends
+abbrev pub acknowledges : SlaveView → List ℕ → Outcome
+acknowledges v load = record { slave = fallen v; did = takes command.Reset load false; sent = reset_frame 0 (own_len v.kit.settings) }
+
+abbrev pub reset_by_peer : SlaveView → Code → List ℕ → Outcome
+reset_by_peer v x load = if is_reset v.state then acknowledges v load else falls v false (cause.Peer x) (code 0)
+
+-- a frame whose contents were tested
+abbrev pub settles : SlaveView → SeenView → List ℕ → Result Now (InReset × Code) → Outcome
+settles v f answer (Ok next) = record {
+  slave = record v { state = next; timer = started (limit_of v.kit.settings next) };
+  did = takes f.command f.frame.load true;
+  sent = answer;
+}
+settles v f answer (Err e) = refuses v true e.1
+
+-- a frame is delivered
+abbrev pub delivered_by : SlaveView → Verdict → Outcome
+delivered_by v (verdict.Drop why) = drops v false why
+delivered_by v (verdict.Refuse x) = refuses v false x
+delivered_by v (verdict.ResetFrame x load) = reset_by_peer v x load
+delivered_by v (verdict.Pass f) = settles v f (reply v.kit v.state f) (taken v.kit v.state f)
+
+abbrev pub delivered : SlaveView → List ℕ → Outcome
+delivered v bytes = delivered_by v (verdict_of (peer_len v.kit.settings) v.state bytes)
+
+-- a tick: in state Reset none is counted
+abbrev pub tick_in_session : SlaveView → Outcome
+tick_in_session v =
+    if v.timer.age + 1 == v.timer.limit
+    then falls v false (cause.Found (code 0x05)) (code 0x05)
+    else quiet (record v { timer = ticked v.timer })
+
+abbrev pub tick_of : SlaveView → Outcome
+tick_of v = if is_reset v.state then quiet v else tick_in_session v
+
+-- a reset of the slave's own
+abbrev pub reset_of : SlaveView → Outcome
+reset_of v = falls v false cause.Local (code 0)
+
+-- a frame was sent where it has bytes
+abbrev pub is_sent : List ℕ → Bool
+is_sent [] = false
+is_sent (byte ∷ bytes) = true
+
+-- at most one of what was taken, a reset and a drop is there
+abbrev pub at_most_one : Did → Bool
+at_most_one d = not (is_some d.took && is_some d.reset) && not (is_some d.took && is_some d.dropped) && not (is_some d.reset && is_some d.dropped)
+
+-- a step tells what it did: whether it sent a frame, and at most one of three things
+pub record Tells (d : Did) (frame : List ℕ) : Type 0 where
+  pub sent : d.sent ≡ is_sent frame
+  pub one : at_most_one d ≡ true

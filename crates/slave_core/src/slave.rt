@@ -1,0 +1,310 @@
+//! The slave of a connection.
+ghost use Rattle.std.specs.Prelude.{◌≡◌, ◌≤◌, replicate};
+ghost use Rattle.slave_core.specs.Slave.{takes};
+
+use crate::kit::Kit;
+use crate::now::Now;
+use crate::seen::Seen;
+use crate::states::InReset;
+use crate::verdict::{Verdict, judge};
+use failsafe_io::Watchdog;
+use fsoe_base::{Cause, Code, Command, Did, Dropped, FrameBuf, Image, State, Took};
+use param_load::{SlaveSettings, Terms};
+use seq_chain::reset_frame;
+use std::marker::Model;
+use std::mem;
+
+/// The fail-safe value of the longest outputs.
+const ZEROS: [u8; 126] = [0; 126];
+
+/// The slave of a connection. It has no clock and no line of its own: frames and ticks are handed in, and the
+/// frames that it sends are handed out.
+#[derive(Debug, Drop)]
+pub struct Slave {
+    kit: Kit,
+    state: Now,
+    watchdog: Watchdog,
+}
+
+impl Model for Slave {
+    ghost use Rattle.slave_core.specs.SlaveView.{SlaveView};
+
+    ghost Value = { SlaveView };
+
+    ghost use Rattle.slave_core.specs.Now.{IsUnder};
+
+    ghost view = { λ s. record { kit = s.kit; state = s.state; timer = s.watchdog } };
+
+    ghost invariant = { λ s. IsUnder s.kit.settings s.state };
+}
+
+/// This many zeros, at most 126.
+fn zeros(len: usize) -> &'static [u8]
+    requires { len ≤ 126 }
+    ensures { result.now ≡ replicate len 0 }
+{
+    &ZEROS[..len]
+}
+
+/// A frame was taken, and its answer sent.
+fn took(command: Command, load: Image, passed: bool) -> Did
+    ensures { result ≡ takes command load passed }
+{
+    Did {
+        took: Some(Took { command, load }),
+        passed,
+        sent: true,
+        reset: None,
+        dropped: None,
+    }
+}
+
+impl Slave {
+    ghost use Rattle.std.specs.Prelude.{◌≡◌, ◌≢◌, ◌≤◌, ◌<◌, ◌↔◌, IsTrue, IsSome, [], length, replicate, option_copied};
+    ghost use Rattle.fsoe_base.specs.declared.command.State.TheVariants as state;
+    ghost use Rattle.param_load.specs.Profile.{allows_id};
+    ghost use Rattle.slave_core.specs.Kit.{own_len, peer_len};
+    ghost use Rattle.slave_core.specs.Now.{allows, chain_of, state_of, is_reset, outputs_in, terms_in};
+    ghost use Rattle.slave_core.specs.Slave.{first_slave, fallen, falls, refuses, reset_by_peer, settles, delivered, tick_of, reset_of, Tells};
+    ghost use Rattle.slave_core.specs.Taken.{taken, reply};
+    ghost use Rattle.slave_core.specs.Views.{HasPassed};
+
+    /// A slave with these settings: in state Reset, with zeros to offer and to give, and not held.
+    pub fn new(settings: SlaveSettings) -> Slave
+        ensures { result ≡ first_slave settings }
+    {
+        let hand = settings.hand();
+        Slave {
+            kit: Kit::new(settings),
+            state: Now::Reset(InReset::new()),
+            watchdog: Watchdog::new(hand, 0),
+        }
+    }
+
+    /// Forgets the session, and sends the Reset frame with this code.
+    fn fall(&mut self, passed: bool, why: Cause, code: Code, out: &mut FrameBuf) -> Did
+        ensures slave { self.new ≡ (falls self.old passed why code).slave }
+        ensures did { result ≡ (falls self.old passed why code).did }
+        ensures sent { out.new ≡ (falls self.old passed why code).sent }
+        ensures tells { Tells result out.new }
+    {
+        self.forget();
+        reset_frame(code, self.kit.own_len(), out);
+        Did {
+            took: None,
+            passed,
+            sent: true,
+            reset: Some(why),
+            dropped: None,
+        }
+    }
+
+    fn forget(&mut self)
+        ensures { self.new ≡ fallen self.old }
+    {
+        self.state = Now::Reset(InReset::new());
+        let hand = self.kit.settings().hand();
+        self.watchdog.restart(hand);
+    }
+
+    /// A test of a frame failed with this code: in state Reset the frame is dropped.
+    fn refuse(&mut self, passed: bool, code: Code, out: &mut FrameBuf) -> Did
+        requires { out.old ≡ [] }
+        ensures slave { self.new ≡ (refuses self.old passed code).slave }
+        ensures did { result ≡ (refuses self.old passed code).did }
+        ensures sent { out.new ≡ (refuses self.old passed code).sent }
+        ensures tells { Tells result out.new }
+    {
+        if self.state.is_reset() {
+            return Did {
+                took: None,
+                passed,
+                sent: false,
+                reset: None,
+                dropped: Some(Dropped::InReset),
+            };
+        }
+        self.fall(passed, Cause::Found(code), code, out)
+    }
+
+    /// A valid Reset frame came: in state Reset it is taken.
+    fn acknowledge(&mut self, code: Code, load: Image, out: &mut FrameBuf) -> Did
+        ensures slave { self.new ≡ (reset_by_peer self.old code load).slave }
+        ensures did { result ≡ (reset_by_peer self.old code load).did }
+        ensures sent { out.new ≡ (reset_by_peer self.old code load).sent }
+        ensures tells { Tells result out.new }
+    {
+        if self.state.is_reset() {
+            self.forget();
+            reset_frame(Code(0x00), self.kit.own_len(), out);
+            return took(Command::Reset, load, false);
+        }
+        self.fall(false, Cause::Peer(code), Code(0x00), out)
+    }
+
+    /// Takes a frame that passed the tests, unless its contents are wrong.
+    fn take(&mut self, seen: Seen<'_>, out: &mut FrameBuf) -> Did
+        requires allowed { IsTrue (allows self.old.state seen.command) }
+        requires passed { HasPassed self.old.kit.settings (chain_of self.old.state) seen }
+        requires empty { out.old ≡ [] }
+        ensures slave { self.new ≡ (settles self.old seen.entry (reply self.old.kit self.old.state seen.entry) (taken self.old.kit self.old.state seen.entry)).slave }
+        ensures did { result ≡ (settles self.old seen.entry (reply self.old.kit self.old.state seen.entry) (taken self.old.kit self.old.state seen.entry)).did }
+        ensures sent { out.new ≡ (settles self.old seen.entry (reply self.old.kit self.old.state seen.entry) (taken self.old.kit self.old.state seen.entry)).sent }
+        ensures kit { self.new.kit ≡ self.old.kit }
+        ensures tells { Tells result out.new }
+    {
+        let was_reset = self.state.is_reset();
+        let old = mem::replace(&mut self.state, Now::Reset(InReset::new()));
+        match old.take(&seen, &self.kit, out) {
+            Ok(next) => {
+                let limit = next.limit(&self.kit);
+                self.state = next;
+                self.watchdog.restart(limit);
+                took(seen.command(), seen.into_load(), true)
+            }
+            Err((reset, code)) => {
+                self.state = Now::Reset(reset);
+                if was_reset {
+                    return Did {
+                        took: None,
+                        passed: true,
+                        sent: false,
+                        reset: None,
+                        dropped: Some(Dropped::InReset),
+                    };
+                }
+                self.fall(true, Cause::Found(code), code, out)
+            }
+        }
+    }
+
+    /// Takes a frame of the master, of any number of bytes, and writes the answer to `out`, in place of what it
+    /// held; `out` is empty where nothing is sent. A frame of another length, or that repeats the frame taken
+    /// last, is dropped. A valid Reset frame ends the session. A frame that fails a test ends it with the test's
+    /// code, and is dropped in state Reset. Every other frame is taken and answered.
+    #[tactic(auto, using(crate::proofs::Passed::is_allowed))]
+    pub fn deliver(&mut self, frame: &[u8], out: &mut FrameBuf) -> Did
+        ensures slave { self.new ≡ (delivered self.old frame.now).slave }
+        ensures did { result ≡ (delivered self.old frame.now).did }
+        ensures sent { out.new ≡ (delivered self.old frame.now).sent }
+        ensures kit { self.new.kit ≡ self.old.kit }
+        ensures tells { Tells result out.new }
+    {
+        out.clear();
+        match judge(&self.state, &self.kit, frame) {
+            Verdict::Drop(why) => Did::dropped(why),
+            Verdict::Refuse(code) => self.refuse(false, code, out),
+            Verdict::ResetFrame(code, load) => self.acknowledge(code, load, out),
+            Verdict::Pass(seen) => self.take(seen, out),
+        }
+    }
+
+    /// Counts a tick outside state Reset. Where the age reaches the limit the session ends with code 5: the
+    /// outputs are zeros from this tick on, and the Reset frame is written to `out`.
+    pub fn tick(&mut self, out: &mut FrameBuf) -> Did
+        ensures slave { self.new ≡ (tick_of self.old).slave }
+        ensures did { result ≡ (tick_of self.old).did }
+        ensures sent { out.new ≡ (tick_of self.old).sent }
+        ensures kit { self.new.kit ≡ self.old.kit }
+        ensures tells { Tells result out.new }
+    {
+        out.clear();
+        if self.state.is_reset() || !self.watchdog.tick() {
+            return Did::nothing();
+        }
+        self.fall(false, Cause::Found(Code(0x05)), Code(0x05), out)
+    }
+
+    /// Ends the session, if there is one, and writes Reset(0) to `out`.
+    pub fn reset(&mut self, out: &mut FrameBuf) -> Did
+        ensures slave { self.new ≡ (reset_of self.old).slave }
+        ensures did { result ≡ (reset_of self.old).did }
+        ensures sent { out.new ≡ (reset_of self.old).sent }
+        ensures kit { self.new.kit ≡ self.old.kit }
+        ensures tells { Tells result out.new }
+    {
+        self.fall(false, Cause::Local, Code(0x00), out)
+    }
+
+    /// Offers these safe data from now on, as many as the slave's frames have. The offer outlasts resets.
+    pub fn put(&mut self, load: &[u8])
+        requires { length load.now ≡ own_len self.old.kit.settings }
+        ensures { self.new ≡ record self.old { kit = record self.old.kit { offer = load.now } } }
+    {
+        self.kit.put(load);
+    }
+
+    /// Whether zeros are sent in place of the offer from now on. It outlasts resets.
+    pub fn hold(&mut self, failsafe: bool)
+        ensures { self.new ≡ record self.old { kit = record self.old.kit { held = failsafe } } }
+    {
+        self.kit.hold(failsafe);
+    }
+
+    /// The session id of the sessions that begin from now on, at most 65,535 in profile One. It outlasts resets.
+    pub fn nonce(&mut self, id: u32)
+        requires { IsTrue (allows_id self.old.kit.settings.profile id) }
+        ensures { self.new ≡ record self.old { kit = record self.old.kit { nonce = id } } }
+    {
+        self.kit.set_nonce(id);
+    }
+
+    /// The settings that the slave was made with.
+    pub fn settings(&self) -> &SlaveSettings
+        ensures { result.now ≡ self.now.kit.settings }
+    {
+        self.kit.settings()
+    }
+
+    /// The state: the phase of the frame that was taken last in this session, Reset without a session.
+    pub fn state(&self) -> State
+        ensures { result ≡ state_of self.now.state }
+    {
+        self.state.state()
+    }
+
+    /// The outputs, as many bytes as the master's frames have: those of the ProcessData frame that was taken last,
+    /// zeros after a FailSafeData frame, and zeros in every state but Data.
+    pub fn outputs(&self) -> &[u8]
+        ensures value { result.now ≡ outputs_in self.now.kit.settings self.now.state }
+        ensures len { length result.now ≡ peer_len self.now.kit.settings }
+        ensures most { length result.now ≤ 126 }
+        ensures failsafe { state_of self.now.state ≢ state.Data → result.now ≡ replicate (peer_len self.now.kit.settings) 0 }
+    {
+        let len = self.kit.peer_len();
+        match &self.state {
+            Now::Data(state) => state.outputs(),
+            Now::Reset(_) | Now::Session(_) | Now::Connection(_) | Now::Parameter(_) => zeros(len),
+        }
+    }
+
+    /// The terms of the session, exactly in state Data.
+    pub fn terms(&self) -> Option<&Terms>
+        ensures value { option_copied result ≡ terms_in self.now.state }
+        ensures data { IsSome result ↔ (state_of self.now.state ≡ state.Data) }
+    {
+        self.state.terms()
+    }
+
+    /// The ticks since a frame was taken or sent last, 0 in state Reset.
+    pub fn age(&self) -> u16
+        ensures { result ≡ self.now.timer.age }
+    {
+        self.watchdog.age()
+    }
+
+    /// The safe data that were put last, zeros at first.
+    pub fn offer(&self) -> &[u8]
+        ensures value { result.now ≡ self.now.kit.offer }
+        ensures len { length result.now ≡ own_len self.now.kit.settings }
+    {
+        self.kit.offer()
+    }
+
+    /// Whether zeros are sent in place of the offer.
+    pub fn held(&self) -> bool
+        ensures { result ≡ self.now.kit.held }
+    {
+        self.kit.held()
+    }
+}
