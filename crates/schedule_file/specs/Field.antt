@@ -33,6 +33,7 @@ is_number text = nat_lt 0 (length text) && all_ascii_digits text && (length text
 abbrev pub number_of : ℕ → List ℕ → Option ℕ
 number_of most text = if is_number text && nat_le (digits_value 10 text) most then Some (digits_value 10 text) else None
 
+-- bytes that are from one to `most`
 abbrev pub some_bytes : ℕ → Result (List ℕ) FromHexError → Option (List ℕ)
 some_bytes most (Ok bytes) = if nat_lt 0 (length bytes) && nat_le (length bytes) most then Some bytes else None
 some_bytes most (Err e) = None

@@ -11,7 +11,7 @@ use Rattle.schedule_file.specs.Field.{fields_of}
 use Rattle.schedule_file.specs.Fields.{◌>>=◌}
 use Rattle.schedule_file.specs.HeaderKind.{title_of}
 use Rattle.schedule_file.specs.HeaderLine.{header_line}
-use Rattle.schedule_file.specs.HeaderPart.{MasterValues, SlaveValues, master_begun, slave_begun, list_with, rule_begun, rule_with_bytes, rule_with_pairs}
+use Rattle.schedule_file.specs.HeaderPart.{MasterValues, SlaveValues, master_begun, slave_begun, master_with_app, rule_begun, slave_with_bytes, slave_with_pairs}
 use Rattle.schedule_file.specs.Place.{header_word_of, is_start, is_at_slave, is_last, admitted, profile_given}
 use Rattle.schedule_file.specs.declared.header_kind.HeaderKind.{HeaderKind}
 use Rattle.schedule_file.specs.declared.header_line.HeaderLine.{HeaderLine}
@@ -50,12 +50,15 @@ kind_of h = h.kind
 abbrev pub is_done : Heading → Bool
 is_done h = is_last h.place
 
+-- where a header is after a `master` line with this nonce
 abbrev pub master_place : ℕ → Place
 master_place nonce = if allows_id profile.One nonce then place.Master else place.MasterOfTwo
 
+-- where a header is after a `slave` line with this nonce
 abbrev pub slave_place : ℕ → Place
 slave_place nonce = if allows_id profile.One nonce then place.Slave else place.SlaveOfTwo
 
+-- where a header is after a `rule` line
 abbrev pub rule_place : RuleLine → Place
 rule_place (rule.Any n) = place.RuleAny
 rule_place rule.Exact = place.RuleExact
@@ -73,16 +76,16 @@ taken h (says.Lengths line) = Ok (record h { place = place.Lengths; lengths = li
 taken h (says.Master line) = Ok (record h { place = master_place line.nonce; master = master_begun line })
 taken h (says.Profile word) = Ok (profile_taken h word)
 taken h (says.App bytes) = do
-  app ← list_with h.master.app bytes
-  Ok (record h { place = place.App; master = record h.master { app = app } })
+  master ← master_with_app h.master bytes
+  Ok (record h { place = place.App; master = master })
 taken h (says.Slave line) = Ok (record h { place = slave_place line.nonce; slave = slave_begun line })
 taken h (says.Rule line) = Ok (record h { place = rule_place line; slave = record h.slave { rule = rule_begun line } })
 taken h (says.Bytes bytes) = do
-  want ← rule_with_bytes h.slave.rule bytes
-  Ok (record h { place = place.RuleExact; slave = record h.slave { rule = want } })
+  slave ← slave_with_bytes h.slave bytes
+  Ok (record h { place = place.RuleExact; slave = slave })
 taken h (says.Range pairs) = do
-  ranges ← rule_with_pairs h.slave.rule pairs
-  Ok (record h { place = place.RuleRanges; slave = record h.slave { rule = ranges } })
+  slave ← slave_with_pairs h.slave pairs
+  Ok (record h { place = place.RuleRanges; slave = slave })
 taken h says.Go = Ok (record h { place = place.Done })
 
 -- a header after its first line

@@ -31,6 +31,7 @@ hex_field fields = do
   field ← one_field fields
   value_or cause.Hex (bytes_of 256 field)
 
+-- the number of safe data bytes that each end sends
 abbrev pub lengths_line : List (List ℕ) → Result LengthsLine LineCause
 lengths_line fields = do
   first ← next_field fields
@@ -39,6 +40,7 @@ lengths_line fields = do
   slave ← word_field second
   if is_length master && is_length slave then Ok (record { master = master; slave = slave }) else Err cause.Length
 
+-- the connection id and the watchdog of a master aren't 0
 abbrev pub master_line : List (List ℕ) → Result MasterLine LineCause
 master_line fields = do
   first ← next_field fields
@@ -52,6 +54,7 @@ master_line fields = do
   if conn == 0 || watchdog == 0 then Err cause.Range
       else Ok (record { conn = conn; address = address; watchdog = watchdog; nonce = nonce })
 
+-- the limit of a handshake and the longest watchdog of a slave aren't 0
 abbrev pub slave_line : List (List ℕ) → Result SlaveLine LineCause
 slave_line fields = do
   first ← next_field fields
@@ -65,17 +68,20 @@ slave_line fields = do
   if hand == 0 || most == 0 then Err cause.Range
       else Ok (record { address = address; hand = hand; most = most; nonce = nonce })
 
+-- the word of profile Two
 abbrev pub profile_line : List (List ℕ) → Result ℕ LineCause
 profile_line fields = do
   field ← one_field fields
   word_field field
 
+-- a rule for any bytes says how many, at most 512
 abbrev pub any_line : List (List ℕ) → Result RuleLine LineCause
 any_line fields = do
   field ← one_field fields
   n ← word_field field
   if nat_le n 512 then Ok (rule.Any n) else Err cause.Range
 
+-- any other rule is `exact` or `ranges`, and its bytes come in lines of their own
 abbrev pub listed_line : List ℕ → List (List ℕ) → Result RuleLine LineCause
 listed_line form fields = do
   none ← no_field fields
@@ -83,6 +89,7 @@ listed_line form fields = do
       else if bytes_eq form (codes "ranges") then Ok rule.Ranges
       else Err cause.Range
 
+-- the first field of a rule says its form, and so how many fields there are
 abbrev pub rule_line : List (List ℕ) → Result RuleLine LineCause
 rule_line fields = do
   form ← next_field fields
@@ -124,6 +131,7 @@ header_line word.Go fields = do
   none ← no_field fields
   Ok says.Go
 
+-- a rule for any bytes is for at most 512
 abbrev pub RuleInRange : RuleLine → Type 0
 RuleInRange (rule.Any n) = n ≤ 512
 RuleInRange rule.Exact = Unit {0}

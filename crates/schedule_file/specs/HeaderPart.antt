@@ -14,11 +14,13 @@ use Rattle.schedule_file.specs.declared.header_line.SlaveLine.{SlaveLine}
 use Rattle.schedule_file.specs.declared.line_cause.LineCause.{LineCause}
 use Rattle.schedule_file.specs.declared.line_cause.LineCause.TheVariants as cause
 
+-- the `master` line, the profile, and the bytes of the `app` lines
 pub record MasterValues : Type 0 where
   pub line : MasterLine
   pub profile : Profile
   pub app : List ℕ
 
+-- the `slave` line, the profile, and the rule with what its lines list
 pub record SlaveValues : Type 0 where
   pub line : SlaveLine
   pub profile : Profile
@@ -28,9 +30,11 @@ pub record SlaveValues : Type 0 where
 abbrev pub profile_for : ℕ → Profile
 profile_for nonce = if allows_id profile.One nonce then profile.One else profile.Two 0
 
+-- the values of a master after its `master` line
 abbrev pub master_begun : MasterLine → MasterValues
 master_begun line = record { line = line; profile = profile_for line.nonce; app = [] }
 
+-- the values of a slave after its `slave` line
 abbrev pub slave_begun : SlaveLine → SlaveValues
 slave_begun line = record { line = line; profile = profile_for line.nonce; rule = app_rule.Any 0 }
 
@@ -63,7 +67,7 @@ rule_begun (rule.Any n) = app_rule.Any n
 rule_begun rule.Exact = app_rule.Exact []
 rule_begun rule.Ranges = app_rule.Ranges [] []
 
--- a rule with the bytes of a `bytes` line
+-- a rule with the bytes of a `bytes` line, which follows `rule exact` alone
 abbrev pub rule_with_bytes : AppRule → List ℕ → Result AppRule LineCause
 rule_with_bytes (app_rule.Any n) bytes = Err cause.Header
 rule_with_bytes (app_rule.Exact want) bytes = do
@@ -71,8 +75,26 @@ rule_with_bytes (app_rule.Exact want) bytes = do
   Ok (app_rule.Exact all)
 rule_with_bytes (app_rule.Ranges low high) bytes = Err cause.Header
 
--- a rule with the pairs of a `range` line
+-- a rule with the pairs of a `range` line, which follows `rule ranges` alone
 abbrev pub rule_with_pairs : AppRule → List ℕ → Result AppRule LineCause
 rule_with_pairs (app_rule.Any n) pairs = Err cause.Header
 rule_with_pairs (app_rule.Exact want) pairs = Err cause.Header
 rule_with_pairs (app_rule.Ranges low high) pairs = ranges_with low high pairs
+
+-- the values of a master with the bytes of an `app` line
+abbrev pub master_with_app : MasterValues → List ℕ → Result MasterValues LineCause
+master_with_app m bytes = do
+  app ← list_with m.app bytes
+  Ok (record m { app = app })
+
+-- the values of a slave with the bytes of a `bytes` line
+abbrev pub slave_with_bytes : SlaveValues → List ℕ → Result SlaveValues LineCause
+slave_with_bytes s bytes = do
+  rule ← rule_with_bytes s.rule bytes
+  Ok (record s { rule = rule })
+
+-- the values of a slave with the pairs of a `range` line
+abbrev pub slave_with_pairs : SlaveValues → List ℕ → Result SlaveValues LineCause
+slave_with_pairs s pairs = do
+  rule ← rule_with_pairs s.rule pairs
+  Ok (record s { rule = rule })

@@ -36,40 +36,47 @@ switch_of text =
     else if bytes_eq text (codes "1") then Some true
     else None
 
+-- a tick
 abbrev pub tick_line : End → List (List ℕ) → Result ScheduleLine LineCause
 tick_line at fields = do
   none ← no_field fields
   Ok (line.Step (event.Tick at))
 
+-- a frame of 1 to 255 bytes
 abbrev pub raw_line : End → List (List ℕ) → Result ScheduleLine LineCause
 raw_line to fields = do
   field ← one_field fields
   bytes ← value_or cause.Hex (bytes_of 255 field)
   Ok (line.Step (event.Raw to bytes))
 
+-- safe data bytes, exactly as many as the end sends
 abbrev pub put_line : End → ℕ → List (List ℕ) → Result ScheduleLine LineCause
 put_line at count fields = do
   field ← one_field fields
   bytes ← value_or cause.Hex (bytes_of 126 field)
   if length bytes == count then Ok (line.Step (event.Put at bytes)) else Err cause.Length
 
+-- fail-safe data on or off
 abbrev pub hold_line : End → List (List ℕ) → Result ScheduleLine LineCause
 hold_line at fields = do
   field ← one_field fields
   failsafe ← value_or cause.Number (switch_of field)
   Ok (line.Step (event.Hold at failsafe))
 
+-- a session id that the profile allows
 abbrev pub nonce_line : End → Profile → List (List ℕ) → Result ScheduleLine LineCause
 nonce_line at profile fields = do
   field ← one_field fields
   id ← value_or cause.Number (number_of 4294967295 field)
   if allows_id profile id then Ok (line.Step (event.Nonce at id)) else Err cause.Number
 
+-- a local reset
 abbrev pub local_line : End → List (List ℕ) → Result ScheduleLine LineCause
 local_line at fields = do
   none ← no_field fields
   Ok (line.Step (event.Local at))
 
+-- the end of the schedule
 abbrev pub end_line : List (List ℕ) → Result ScheduleLine LineCause
 end_line fields = do
   none ← no_field fields
@@ -86,6 +93,7 @@ said end lengths profile (Some word.Nonce) fields = nonce_line end profile field
 said end lengths profile (Some word.Local) fields = local_line end fields
 said end lengths profile (Some word.End) fields = end_line fields
 
+-- what the fields of a line say, of which the first is its word
 abbrev pub said_by : End → Lengths → Profile → List (List ℕ) → Result ScheduleLine LineCause
 said_by end lengths profile [] = Err cause.Word
 said_by end lengths profile (first ∷ fields) = said end lengths profile (word_of first) fields

@@ -25,14 +25,17 @@ header_word_of text =
     else if bytes_eq text (codes "go") then Some word.Go
     else None
 
+-- no line is read
 abbrev pub is_start : Place → Bool
 is_start place.Start = true
 is_start other = false
 
+-- the first line is read
 abbrev pub is_title : Place → Bool
 is_title place.Title = true
 is_title other = false
 
+-- `lengths` is read
 abbrev pub is_lengths : Place → Bool
 is_lengths place.Lengths = true
 is_lengths other = false
@@ -63,10 +66,12 @@ is_after_slave place.SlaveOfTwo = true
 is_after_slave place.SlaveProfile = true
 is_after_slave other = false
 
+-- after `rule exact` or a `bytes`
 abbrev pub is_exact : Place → Bool
 is_exact place.RuleExact = true
 is_exact other = false
 
+-- after `rule ranges` or a `range`
 abbrev pub is_ranges : Place → Bool
 is_ranges place.RuleRanges = true
 is_ranges other = false
@@ -78,6 +83,7 @@ is_after_rule place.RuleExact = true
 is_after_rule place.RuleRanges = true
 is_after_rule other = false
 
+-- after `go`
 abbrev pub is_last : Place → Bool
 is_last place.Done = true
 is_last other = false
@@ -102,6 +108,7 @@ may_stand kind place word.Bytes = is_exact place
 may_stand kind place word.Range = is_ranges place
 may_stand kind place word.Go = may_end kind place
 
+-- the word of a line that may stand here
 abbrev pub admitted : HeaderKind → Place → Option Word → Result Word LineCause
 admitted kind place None = Err cause.Header
 admitted kind place (Some word) = if may_stand kind place word then Ok word else Err cause.Header
@@ -112,6 +119,7 @@ wants_profile place.MasterOfTwo = true
 wants_profile place.SlaveOfTwo = true
 wants_profile other = false
 
+-- where the nonce wants a `profile` line, any other line is out of range
 abbrev pub profile_given : Place → Word → Result (Unit {0}) LineCause
 profile_given place word.Profile = Ok tt
 profile_given place other = if wants_profile place then Err cause.Range else Ok tt

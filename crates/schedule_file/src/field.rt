@@ -1,5 +1,5 @@
-ghost use Rattle.std.specs.Prelude.{◌≡◌, ◌≤◌, ◌<◌, ◌∷◌, length, MatchResult, IfSome};
-ghost use Rattle.schedule_file.specs.Fields.{next_field, no_field, one_field};
+ghost use Rattle.std.specs.Prelude.{◌≡◌, ◌≤◌, ◌<◌, ◌∷◌, length, IfSome};
+ghost use Rattle.schedule_file.specs.Fields.{next_field, no_field, one_field, IsField, AreFields};
 ghost use Rattle.schedule_file.specs.Field.{FindsSpace, fields_of, fields_after, number_of, bytes_of};
 
 use crate::line_cause::LineCause;
@@ -87,7 +87,7 @@ impl HexBytes {
 
 /// The next field, and what follows the space after it. `Fields` where there is none.
 pub fn next_field(fields: Option<&[u8]>) -> Result<(&[u8], Option<&[u8]>), LineCause>
-    ensures { MatchResult result (λ it. next_field (fields_after fields.entry) ≡ Ok (it.0.now, fields_after it.1)) (λ cause. next_field (fields_after fields.entry) ≡ Err cause) }
+    ensures { AreFields result (next_field (fields_after fields.entry)) }
 {
     match fields {
         None => Err(LineCause::Fields),
@@ -107,7 +107,7 @@ pub fn no_field(fields: Option<&[u8]>) -> Result<(), LineCause>
 
 /// The only field. `Fields` where there is none, or more than one.
 pub fn one_field(fields: Option<&[u8]>) -> Result<&[u8], LineCause>
-    ensures { MatchResult result (λ field. one_field (fields_after fields.entry) ≡ Ok field.now) (λ cause. one_field (fields_after fields.entry) ≡ Err cause) }
+    ensures { IsField result (one_field (fields_after fields.entry)) }
 {
     match fields {
         None => Err(LineCause::Fields),

@@ -1,4 +1,5 @@
-ghost use Rattle.std.specs.Prelude.{◌≡◌, IsTrue, MatchResult, OnErr};
+ghost use Rattle.std.specs.Prelude.{◌≡◌, IsTrue, IfOk, OnErr};
+ghost use Rattle.schedule_file.specs.Fields.{Becomes};
 ghost use Rattle.schedule_file.specs.Header.{heading_new, heading_after, taken, profile_taken, title_taken, is_done, kind_of, master_place, slave_place, rule_place, IsMasterOf, IsSlaveOf};
 ghost use Rattle.schedule_file.specs.HeaderKind.{has_end};
 ghost use Rattle.schedule_file.specs.HeaderLine.{InRange};
@@ -32,9 +33,17 @@ impl Model for Header {
 
     ghost Value = { Heading };
 
-    ghost view = { λ h. record { kind = h.kind; place = h.place; lengths = h.lengths; master = h.master; slave = h.slave } };
+    ghost view = { λ h.
+        record {
+          kind = h.kind;
+          place = h.place;
+          lengths = h.lengths;
+          master = h.master;
+          slave = h.slave;
+        } };
 
-    ghost invariant = { λ h. IsTrue (is_length h.lengths.master) × IsTrue (is_length h.lengths.slave) };
+    ghost invariant = { λ h.
+        IsTrue (is_length h.lengths.master) × IsTrue (is_length h.lengths.slave) };
 }
 
 impl Header {
@@ -74,7 +83,8 @@ impl Header {
     /// Reads the next line: true exactly at `go`, which ends the header. An error says why the line is refused.
     /// Every line after that one is refused as `Header`, and so is one after `go`.
     pub fn line(&mut self, line: &[u8]) -> Result<bool, LineCause>
-        ensures next { MatchResult result (λ done. (heading_after self.old line.now ≡ Ok self.new) × (done ≡ is_done self.new)) (λ cause. heading_after self.old line.now ≡ Err cause) }
+        ensures next { Becomes result self.new (heading_after self.old line.now) }
+        ensures done { IfOk result (λ done. done ≡ is_done self.new) }
         ensures refused { OnErr result (self.new.place ≡ Place.Refused) }
         ensures kind { kind_of self.new ≡ kind_of self.old }
     {
@@ -88,7 +98,7 @@ impl Header {
     }
 
     fn read(&mut self, line: &[u8]) -> Result<(), LineCause>
-        ensures next { MatchResult result (λ _. heading_after self.old line.now ≡ Ok self.new) (λ cause. heading_after self.old line.now ≡ Err cause) }
+        ensures next { Becomes result self.new (heading_after self.old line.now) }
         ensures kind { kind_of self.new ≡ kind_of self.old }
     {
         if self.place.is_start() {
@@ -102,7 +112,7 @@ impl Header {
     }
 
     fn read_title(&mut self, line: &[u8]) -> Result<(), LineCause>
-        ensures next { MatchResult result (λ _. title_taken self.old line.now ≡ Ok self.new) (λ cause. title_taken self.old line.now ≡ Err cause) }
+        ensures next { Becomes result self.new (title_taken self.old line.now) }
         ensures kind { kind_of self.new ≡ kind_of self.old }
     {
         if line == self.kind.title() {
@@ -116,7 +126,7 @@ impl Header {
     /// Takes what a line says.
     fn take(&mut self, says: HeaderLine) -> Result<(), LineCause>
         requires { InRange says }
-        ensures next { MatchResult result (λ _. taken self.old says ≡ Ok self.new) (λ cause. taken self.old says ≡ Err cause) }
+        ensures next { Becomes result self.new (taken self.old says) }
         ensures kind { kind_of self.new ≡ kind_of self.old }
     {
         match says {

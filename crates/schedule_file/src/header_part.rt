@@ -1,8 +1,9 @@
-ghost use Rattle.std.specs.Prelude.{◌≡◌, ◌<◌, [], IsTrue, MatchResult};
+ghost use Rattle.std.specs.Prelude.{◌≡◌, ◌<◌, [], IsTrue};
 ghost use Rattle.param_load.specs.AppRule.{is_acceptable};
 ghost use Rattle.param_load.specs.Profile.{allows_id};
+ghost use Rattle.schedule_file.specs.Fields.{Becomes};
 ghost use Rattle.schedule_file.specs.HeaderLine.{RuleInRange};
-ghost use Rattle.schedule_file.specs.HeaderPart.{profile_for, master_begun, slave_begun, list_with, ranges_with, rule_begun, rule_with_bytes, rule_with_pairs};
+ghost use Rattle.schedule_file.specs.HeaderPart.{profile_for, master_begun, slave_begun, list_with, ranges_with, rule_begun, master_with_app, slave_with_bytes, slave_with_pairs};
 
 use crate::header_line::{MasterLine, RuleLine, SlaveLine};
 use crate::line_cause::LineCause;
@@ -27,7 +28,8 @@ impl Model for MasterPart {
 
     ghost view = { λ m. record { line = m.line; profile = m.profile; app = m.app } };
 
-    ghost invariant = { λ m. (0 < m.line.conn) × (0 < m.line.watchdog) × IsTrue (allows_id m.profile m.line.nonce) };
+    ghost invariant = { λ m.
+        (0 < m.line.conn) × (0 < m.line.watchdog) × IsTrue (allows_id m.profile m.line.nonce) };
 }
 
 /// What the lines of the slave say together.
@@ -48,7 +50,9 @@ impl Model for SlavePart {
 
     ghost view = { λ s. record { line = s.line; profile = s.profile; rule = s.rule } };
 
-    ghost invariant = { λ s. (0 < s.line.hand) × (0 < s.line.most) × IsTrue (allows_id s.profile s.line.nonce) × IsTrue (is_acceptable s.rule) };
+    ghost invariant = { λ s.
+        (0 < s.line.hand) × (0 < s.line.most) × IsTrue (allows_id s.profile s.line.nonce)
+        × IsTrue (is_acceptable s.rule) };
 }
 
 /// The profile of an end before its `profile` line: One, or Two, with a word to come, where One does not
@@ -66,7 +70,7 @@ fn profile_for(nonce: u32) -> Profile
 
 /// Appends the bytes of a line to a list of at most 512. `Range` where there are more in all.
 fn append(list: &mut AppBytes, bytes: &[u8]) -> Result<(), LineCause>
-    ensures { MatchResult result (λ _. list_with list.old bytes.now ≡ Ok list.new) (λ cause. list_with list.old bytes.now ≡ Err cause) }
+    ensures { Becomes result list.new (list_with list.old bytes.now) }
 {
     if bytes.len() > 512 - list.len() {
         return Err(LineCause::Range);
@@ -102,14 +106,16 @@ impl MasterPart {
 
     /// The bytes of an `app` line.
     pub fn append(&mut self, bytes: &[u8]) -> Result<(), LineCause>
-        ensures { MatchResult result (λ _. (list_with self.old.app bytes.now ≡ Ok self.new.app) × (self.new ≡ record self.old { app = self.new.app })) (λ cause. list_with self.old.app bytes.now ≡ Err cause) }
+        ensures { Becomes result self.new (master_with_app self.old bytes.now) }
     {
         append(&mut self.app, bytes)
     }
 
     /// The settings of a master with these values.
     pub fn settings(&self, lengths: Lengths) -> MasterSettings
-        ensures { IsMasterSetTo result lengths self.now.line.conn self.now.line.address self.now.line.watchdog self.now.app self.now.line.nonce self.now.profile }
+        ensures { let line = self.now.line in
+            IsMasterSetTo result lengths line.conn line.address line.watchdog
+            self.now.app line.nonce self.now.profile }
     {
         let MasterLine {
             conn,
@@ -139,7 +145,7 @@ impl MasterPart {
 /// of bytes is odd, a low is above its high, or there are more than 512 pairs in all.
 fn append_pairs(low: &mut AppBytes, high: &mut AppBytes, pairs: &[u8]) -> Result<(), LineCause>
     requires { IsTrue (is_acceptable (AppRule.Ranges low.old high.old)) }
-    ensures value { MatchResult result (λ _. ranges_with low.old high.old pairs.now ≡ Ok (AppRule.Ranges low.new high.new)) (λ cause. ranges_with low.old high.old pairs.now ≡ Err cause) }
+    ensures value { Becomes result (AppRule.Ranges low.new high.new) (ranges_with low.old high.old pairs.now) }
     ensures acceptable { IsTrue (is_acceptable (AppRule.Ranges low.new high.new)) }
 {
     let count = pairs.len() / 2;
@@ -195,7 +201,7 @@ impl SlavePart {
 
     /// The bytes of a `bytes` line.
     pub fn append(&mut self, bytes: &[u8]) -> Result<(), LineCause>
-        ensures { MatchResult result (λ _. (rule_with_bytes self.old.rule bytes.now ≡ Ok self.new.rule) × (self.new ≡ record self.old { rule = self.new.rule })) (λ cause. rule_with_bytes self.old.rule bytes.now ≡ Err cause) }
+        ensures { Becomes result self.new (slave_with_bytes self.old bytes.now) }
     {
         match &mut self.rule {
             AppRule::Exact(want) => append(want, bytes),
@@ -205,7 +211,7 @@ impl SlavePart {
 
     /// The pairs of a `range` line.
     pub fn append_pairs(&mut self, pairs: &[u8]) -> Result<(), LineCause>
-        ensures { MatchResult result (λ _. (rule_with_pairs self.old.rule pairs.now ≡ Ok self.new.rule) × (self.new ≡ record self.old { rule = self.new.rule })) (λ cause. rule_with_pairs self.old.rule pairs.now ≡ Err cause) }
+        ensures { Becomes result self.new (slave_with_pairs self.old pairs.now) }
     {
         match &mut self.rule {
             AppRule::Ranges(low, high) => append_pairs(low, high, pairs),
@@ -215,7 +221,9 @@ impl SlavePart {
 
     /// The settings of a slave with these values.
     pub fn settings(&self, lengths: Lengths) -> SlaveSettings
-        ensures { IsSlaveSetTo result lengths self.now.line.address self.now.line.hand self.now.line.most self.now.rule self.now.line.nonce self.now.profile }
+        ensures { let line = self.now.line in
+            IsSlaveSetTo result lengths line.address line.hand line.most
+            self.now.rule line.nonce self.now.profile }
     {
         let SlaveLine {
             address,
