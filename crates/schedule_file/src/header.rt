@@ -16,7 +16,19 @@ use fsoe_base::{End, Lengths};
 use param_load::{MasterSettings, Profile, SlaveSettings};
 use std::marker::Model;
 
-/// A header that is read line by line, from its first line to `go`.
+/// A header that is read line by line, without newlines, from its first line to `go`. The fields of a line are
+/// separated by exactly one space. The lines stand in this order:
+///
+/// - `fsoe 1 pair`, `fsoe 1 node master` or `fsoe 1 node slave`, as the kind is;
+/// - `lengths <master> <slave>`, the numbers of safe data bytes that the ends send;
+/// - of a pair or a master, `master <conn> <address> <watchdog> <nonce>`, at most one `profile <word>`, and any
+///   number of `app <hex>`, which have 512 bytes in all at most;
+/// - of a pair or a slave, `slave <address> <hand> <most> <nonce>`, at most one `profile <word>`, and
+///   `rule any <n>`, or `rule exact` and any number of `bytes <hex>`, or `rule ranges` and any number of
+///   `range <hex>`, pairs of a lowest and a highest value;
+/// - `go`.
+///
+/// A nonce above 65,535 is one of profile Two, so the `profile` of its end has to come next.
 #[derive(Debug, Drop)]
 pub struct Header {
     kind: HeaderKind,
@@ -80,8 +92,10 @@ impl Header {
         self.place.is_last()
     }
 
-    /// Reads the next line: true exactly at `go`, which ends the header. An error says why the line is refused.
-    /// Every line after that one is refused as `Header`, and so is one after `go`.
+    /// Reads the next line: true exactly at `go`, which ends the header. An error is the first of these causes
+    /// that applies to the line: `Header` where its first word may not stand here, `Fields`, `Number`, `Hex`,
+    /// `Length`, and `Range`, also where a `profile` line had to come. Every line after a refused one, and after
+    /// `go`, is refused as `Header`.
     pub fn line(&mut self, line: &[u8]) -> Result<bool, LineCause>
         ensures next { Becomes result self.new (heading_after self.old line.now) }
         ensures done { IfOk result (λ done. done ≡ is_done self.new) }

@@ -1,4 +1,5 @@
-//! Reads the lines of a schedule: its header, and then its events.
+//! Reads the lines of a schedule: its header, which says what the ends are set to, and then its events.
+//! A line is read without its newline. It takes no memory, and a line that is refused has one cause.
 #![tactic(auto)]
 
 pub mod event;

@@ -1,6 +1,6 @@
-ghost use Rattle.std.specs.Prelude.{◌≡◌, ◌≤◌, IfOk};
+ghost use Rattle.std.specs.Prelude.{◌≡◌, IfOk};
 ghost use Rattle.schedule_file.specs.Event.{LineFits};
-ghost use Rattle.schedule_file.specs.Field.{fields_of, fields_after};
+ghost use Rattle.schedule_file.specs.Field.{fields_after};
 ghost use Rattle.schedule_file.specs.NodeEvent.{word_of, switch_of, tick_line, raw_line, put_line, hold_line, nonce_line, local_line, end_line, node_line};
 
 use crate::event::{Event, ScheduleLine};
@@ -21,6 +21,7 @@ enum Word {
     End,
 }
 
+/// The word that begins a line.
 fn read_word(text: &[u8]) -> Option<Word>
     ensures { result ≡ word_of text.now }
 {
@@ -43,6 +44,7 @@ fn read_word(text: &[u8]) -> Option<Word>
     }
 }
 
+/// Off or on.
 fn read_switch(text: &[u8]) -> Option<bool>
     ensures { result ≡ switch_of text.now }
 {
@@ -118,7 +120,11 @@ fn read_end(fields: Option<&[u8]>) -> Result<ScheduleLine, LineCause>
     Ok(ScheduleLine::End)
 }
 
-/// What a line after the header says to the node at `end`: an event there, or the end of the schedule.
+/// What a line after the header says to the node at `end`, without its newline: an event there, or the end of
+/// the schedule. The lines are `d <hex>` (a frame of 1 to 255 bytes), `t` (a tick), `p <hex>` (exactly the
+/// end's own number of safe data bytes), `h 0` and `h 1` (fail-safe data off and on), `n <id>` (a session id that
+/// the profile allows), `z` (a local reset), and `end`. An error is the first of these causes that applies:
+/// `Word`, `Fields`, `Number`, `Hex`, `Length`.
 pub fn read_node_event(
     line: &[u8],
     end: End,
