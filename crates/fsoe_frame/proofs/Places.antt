@@ -4,10 +4,13 @@ use Rattle.std.proofs.lemmas.Bool.{cases_eq}
 use Rattle.std.proofs.lemmas.Bool.Decides.{nat_tests}
 use Rattle.std.proofs.Math.Seq.{drop-cons}
 use Rattle.std.proofs.Common.{length-drop, append-nil}
-use Rattle.fsoe_frame.proofs.Written.{even_length}
 use Rattle.fsoe_base.specs.Lengths.{is_length, group_count, frame_len}
 use Rattle.fsoe_frame.specs.Layout.{low_high, groups, with_crcs, layout}
 use Rattle.fsoe_frame.specs.Parts.{Frame, AreBytes, bytes_of, pairs, one_byte, add_group, frame_of}
+
+-- what a valid length other than 1 is
+even_length : (l : ℕ) → IsTrue (is_length l) → l ≢ 1 → (l % 2 ≡ 0) × (2 ≤ l) × (l ≤ 126)
+even_length l h other = grind (arith, nat_tests)
 
 -- what stands at the places of n pairs
 pub record AtPlaces (command n : ℕ) (bytes : List ℕ) (f : Frame) : Type 0 where

@@ -33,6 +33,7 @@ pub fn view<'a>(bytes: &'a [u8], l: usize) -> Option<FrameView<'a>>
     requires { IsTrue (is_length l) }
     ensures some { IsSome result ↔ (length bytes.now ≡ frame_len l) }
     ensures frame { IfSome result (λ v. v ≡ frame_of l bytes.now) }
+    ensures same_bytes { IfSome result (λ v. bytes_of v ≡ bytes.now) }
 {
     if bytes.len() == fsoe_base::frame_len(l) {
         Some(FrameView { bytes, l })
@@ -42,15 +43,6 @@ pub fn view<'a>(bytes: &'a [u8], l: usize) -> Option<FrameView<'a>>
 }
 
 impl<'a> FrameView<'a> {
-    /// The number of safe data bytes.
-    pub fn len(&self) -> usize
-        ensures value { result ≡ length self.now.load }
-        ensures valid { IsTrue (is_length result) }
-        ensures groups { length self.now.crcs ≡ group_count result }
-    {
-        self.l
-    }
-
     /// The byte that stands for the command, whether it stands for one or not.
     pub fn command_byte(&self) -> u8
         ensures { result ≡ self.now.cmd }

@@ -48,6 +48,5 @@ fn reads_frames(rt: HostRuntime) {
     assert_eq!(rt; pairs.crc_at(1), 0x14B9);
     assert_eq!(rt; pairs.conn(), 0x0605);
     assert_eq!(rt; pairs.bytes().len(), 11);
-    assert_eq!(rt; pairs.len(), 4);
     assert!(rt; view(&FOUR, 2).is_none());
 }
