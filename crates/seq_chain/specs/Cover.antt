@@ -5,7 +5,7 @@ use Rattle.fsoe_frame.specs.Layout.{low_high, groups}
 
 -- what all groups of a frame cover first: the CRC_0 that the sender took last, the connection id, the number and the command byte
 abbrev pub common : ℕ → ℕ → ℕ → ℕ → List ℕ
-common last conn seq cmd = low_high last ++ low_high conn ++ low_high seq ++ cmd ∷ []
+common last conn number cmd = low_high last ++ low_high conn ++ low_high number ++ cmd ∷ []
 
 -- the place of a group among the groups: nothing for the first
 abbrev pub place : ℕ → List ℕ
@@ -18,16 +18,16 @@ covered first i group = first ++ place i ++ group ++ 0 ∷ 0 ∷ 0 ∷ []
 
 -- what the CRC of group i covers
 abbrev pub cover : ℕ → ℕ → ℕ → ℕ → ℕ → List ℕ → List ℕ
-cover last conn seq cmd i group = covered (common last conn seq cmd) i group
+cover last conn number cmd i group = covered (common last conn number cmd) i group
 
 -- the CRCs of these groups, of which the first has place i
 abbrev pub crcs_from : ℕ → ℕ → ℕ → ℕ → ℕ → List (List ℕ) → List ℕ
-crcs_from last conn seq cmd i [] = []
-crcs_from last conn seq cmd i (group ∷ more) = rem (cover last conn seq cmd i group) ∷ crcs_from last conn seq cmd (suc i) more
+crcs_from last conn number cmd i [] = []
+crcs_from last conn number cmd i (group ∷ more) = rem (cover last conn number cmd i group) ∷ crcs_from last conn number cmd (suc i) more
 
 -- the CRCs of the groups of a load
 abbrev pub crcs : ℕ → ℕ → ℕ → ℕ → List ℕ → List ℕ
-crcs last conn seq cmd load = crcs_from last conn seq cmd 0 (groups load)
+crcs last conn number cmd load = crcs_from last conn number cmd 0 (groups load)
 
 -- the first of these CRCs
 abbrev pub first_of : List ℕ → ℕ
@@ -36,4 +36,4 @@ first_of (crc ∷ more) = crc
 
 -- the CRC of the first group of a load
 abbrev pub crc_0 : ℕ → ℕ → ℕ → ℕ → List ℕ → ℕ
-crc_0 last conn seq cmd load = first_of (crcs last conn seq cmd load)
+crc_0 last conn number cmd load = first_of (crcs last conn number cmd load)

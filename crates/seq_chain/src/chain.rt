@@ -1,6 +1,6 @@
 //! The chain of a session at one end.
 
-ghost use Rattle.std.specs.Prelude.{◌≡◌, length, IsTrue, None};
+ghost use Rattle.std.specs.Prelude.{◌≡◌, length, IsTrue};
 ghost use Rattle.fsoe_base.specs.Command.{command_byte};
 ghost use Rattle.fsoe_base.specs.Lengths.{is_length};
 ghost use Rattle.fsoe_frame.specs.Parts.{bytes_of};

@@ -1,6 +1,6 @@
 //! The CRCs of a frame, over what they cover.
 
-ghost use Rattle.std.specs.Prelude.{◌≡◌, ◌<◌, ◌≤◌, ◌++◌, ◌∷◌, [], ℕ, List, length, IsTrue};
+ghost use Rattle.std.specs.Prelude.{◌≡◌, ◌<◌, ◌++◌, ℕ, List, length, IsTrue};
 ghost use Rattle.fsoe_base.specs.Lengths.{is_length, group_count};
 ghost use Rattle.fsoe_crc.specs.Remainder.{rem};
 ghost use Rattle.fsoe_frame.specs.Layout.{low_high};
@@ -14,13 +14,13 @@ pub(crate) type Crcs = ArrayVec<u16, 63>;
 
 /// The CRCs of the groups of a load, in place of what `out` held. The part that they cover in common
 /// is fed once and copied for each of them.
-pub(crate) fn crcs_into(last: u16, conn: u16, seq: u16, command: u8, load: &[u8], out: &mut Crcs)
+pub(crate) fn crcs_into(last: u16, conn: u16, number: u16, command: u8, load: &[u8], out: &mut Crcs)
     requires { IsTrue (is_length (length load.now)) }
-    ensures items { out.new.items ≡ crcs last conn seq command load.now }
+    ensures items { out.new.items ≡ crcs last conn number command load.now }
     ensures count { length out.new.items ≡ group_count (length load.now) }
 {
     out.clear();
-    let common = common_part(last, conn, seq, command);
+    let common = common_part(last, conn, number, command);
     if load.len() == 1 {
         out.push(group_crc(&common, 0, load));
     } else {
@@ -31,11 +31,11 @@ pub(crate) fn crcs_into(last: u16, conn: u16, seq: u16, command: u8, load: &[u8]
 }
 
 /// The CRC of the first group of a load.
-pub(crate) fn first_crc(last: u16, conn: u16, seq: u16, command: u8, load: &[u8]) -> u16
+pub(crate) fn first_crc(last: u16, conn: u16, number: u16, command: u8, load: &[u8]) -> u16
     requires { IsTrue (is_length (length load.now)) }
-    ensures { result ≡ crc_0 last conn seq command load.now }
+    ensures { result ≡ crc_0 last conn number command load.now }
 {
-    let common = common_part(last, conn, seq, command);
+    let common = common_part(last, conn, number, command);
     if load.len() == 1 {
         group_crc(&common, 0, load)
     } else {
@@ -44,13 +44,13 @@ pub(crate) fn first_crc(last: u16, conn: u16, seq: u16, command: u8, load: &[u8]
 }
 
 /// The register of the part that all groups of a frame cover first.
-fn common_part(last: u16, conn: u16, seq: u16, command: u8) -> Register
-    ensures { result ≡ rem (common last conn seq command) }
+fn common_part(last: u16, conn: u16, number: u16, command: u8) -> Register
+    ensures { result ≡ rem (common last conn number command) }
 {
     let mut register = Register::new();
     feed_number(&mut register, last);
     feed_number(&mut register, conn);
-    feed_number(&mut register, seq);
+    feed_number(&mut register, number);
     register.feed(command);
     register
 }

@@ -13,11 +13,13 @@ use arrayvec::ArrayVec;
 use fsoe_base::{Code, Command, FrameBuf, Image};
 use fsoe_frame::FrameView;
 
-/// The codes of what is wrong with a Reset frame.
+/// The connection id isn't 0.
 const WRONG_CONNECTION: Code = Code(3);
 
+/// A CRC isn't that of a Reset frame.
 const WRONG_CRC: Code = Code(4);
 
+/// A byte after the code isn't 0.
 const WRONG_DATA: Code = Code(7);
 
 /// Writes the Reset frame with this code and `l` safe data bytes, 1 or an even number from 2 to 126,

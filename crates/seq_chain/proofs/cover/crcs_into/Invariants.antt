@@ -7,6 +7,6 @@ use Rattle.seq_chain.proofs.cover.crcs_into.Given as goal
 -- the CRCs so far and those to come are all
 abbrev pub invariant-loop-group : goal.invariant-loop-group
 invariant-loop-group l = record {
-  whole : l.out.items ++ crcs_from l.last l.conn l.seq l.command l.group (groups (drop (2 * l.group) l.load)) ≡ crcs_from l.last l.conn l.seq l.command 0 (groups l.load);
+  whole : l.out.items ++ crcs_from l.last l.conn l.number l.command l.group (groups (drop (2 * l.group) l.load)) ≡ crcs_from l.last l.conn l.number l.command 0 (groups l.load);
   len : array_vec_len l.out ≡ l.group;
 }
