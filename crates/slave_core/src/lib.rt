@@ -11,3 +11,6 @@ mod verdict;
 pub use kit::Kit;
 pub use seen::Seen;
 pub use slave::Slave;
+
+#[cfg(test)]
+mod tests;
