@@ -1,5 +1,6 @@
 pub mod Digits
 pub mod Hexed
+pub mod LinesLeft
 pub mod OneField
 pub mod Ranges
 pub mod Split

@@ -137,14 +137,26 @@ RuleInRange (rule.Any n) = n ≤ 512
 RuleInRange rule.Exact = Unit {0}
 RuleInRange rule.Ranges = Unit {0}
 
--- the numbers of a line are in their ranges
+-- the numbers of a line are in their ranges, and a list has at least one byte or pair
 abbrev pub InRange : HeaderLine → Type 0
 InRange (says.Lengths line) = IsTrue (is_length line.master) × IsTrue (is_length line.slave)
 InRange (says.Master line) = (0 < line.conn) × (0 < line.watchdog)
 InRange (says.Profile line) = Unit {0}
-InRange (says.App bytes) = Unit {0}
+InRange (says.App bytes) = 0 < length bytes
 InRange (says.Slave line) = (0 < line.hand) × (0 < line.most)
 InRange (says.Rule line) = RuleInRange line
-InRange (says.Bytes bytes) = Unit {0}
-InRange (says.Range pairs) = Unit {0}
+InRange (says.Bytes bytes) = 0 < length bytes
+InRange (says.Range pairs) = 2 ≤ length pairs
 InRange says.Go = Unit {0}
+
+-- the word that begins a line
+abbrev pub word_of_line : HeaderLine → Word
+word_of_line (says.Lengths line) = word.Lengths
+word_of_line (says.Master line) = word.Master
+word_of_line (says.Profile line) = word.Profile
+word_of_line (says.App bytes) = word.App
+word_of_line (says.Slave line) = word.Slave
+word_of_line (says.Rule line) = word.Rule
+word_of_line (says.Bytes bytes) = word.Bytes
+word_of_line (says.Range pairs) = word.Range
+word_of_line says.Go = word.Go

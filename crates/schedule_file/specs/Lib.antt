@@ -6,5 +6,6 @@ pub mod HeaderKind
 pub mod HeaderLine
 pub mod HeaderPart
 pub mod LineCause
+pub mod LinesLeft
 pub mod NodeEvent
 pub mod Place

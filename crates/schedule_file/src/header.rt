@@ -1,8 +1,10 @@
-ghost use Rattle.std.specs.Prelude.{◌≡◌, IsTrue, IfOk, OnErr};
+ghost use Rattle.std.specs.Prelude.{◌≡◌, ◌<◌, IsTrue, IfOk, OnOk, OnErr};
 ghost use Rattle.schedule_file.specs.Fields.{Becomes};
 ghost use Rattle.schedule_file.specs.Header.{heading_new, heading_after, taken, profile_taken, title_taken, is_done, kind_of, master_place, slave_place, rule_place, IsMasterOf, IsSlaveOf};
 ghost use Rattle.schedule_file.specs.HeaderKind.{has_end};
 ghost use Rattle.schedule_file.specs.HeaderLine.{InRange};
+ghost use Rattle.schedule_file.specs.LinesLeft.{lines_left};
+ghost use Rattle.schedule_file.specs.Place.{is_start};
 
 use crate::field::cut;
 use crate::header_kind::HeaderKind;
@@ -95,12 +97,13 @@ impl Header {
     /// Reads the next line: true exactly at `go`, which ends the header. An error is the first of these causes
     /// that applies to the line: `Header` where its first word may not stand here, `Fields`, `Number`, `Hex`,
     /// `Length`, and `Range`, also where a `profile` line had to come. Every line after a refused one, and after
-    /// `go`, is refused as `Header`.
+    /// `go`, is refused as `Header`. Each line leaves fewer to come: a header has at most 1,032.
     pub fn line(&mut self, line: &[u8]) -> Result<bool, LineCause>
         ensures next { Becomes result self.new (heading_after self.old line.now) }
         ensures done { IfOk result (λ done. done ≡ is_done self.new) }
         ensures refused { OnErr result (self.new.place ≡ Place.Refused) }
         ensures kind { kind_of self.new ≡ kind_of self.old }
+        ensures fewer { OnOk result (lines_left self.new < lines_left self.old) }
     {
         match self.read(line) {
             Ok(()) => Ok(self.is_done()),
@@ -114,6 +117,7 @@ impl Header {
     fn read(&mut self, line: &[u8]) -> Result<(), LineCause>
         ensures next { Becomes result self.new (heading_after self.old line.now) }
         ensures kind { kind_of self.new ≡ kind_of self.old }
+        ensures fewer { OnOk result (lines_left self.new < lines_left self.old) }
     {
         if self.place.is_start() {
             return self.read_title(line);
@@ -126,8 +130,10 @@ impl Header {
     }
 
     fn read_title(&mut self, line: &[u8]) -> Result<(), LineCause>
+        requires { IsTrue (is_start self.old.place) }
         ensures next { Becomes result self.new (title_taken self.old line.now) }
         ensures kind { kind_of self.new ≡ kind_of self.old }
+        ensures fewer { OnOk result (lines_left self.new < lines_left self.old) }
     {
         if line == self.kind.title() {
             self.place = Place::Title;

@@ -1,7 +1,7 @@
-ghost use Rattle.std.specs.Prelude.{◌≡◌, ◌≤◌, ◌<◌, IsTrue, IfOk};
+ghost use Rattle.std.specs.Prelude.{◌≡◌, ◌≤◌, ◌<◌, IsTrue, IfOk, length};
 ghost use Rattle.fsoe_base.specs.Lengths.{is_length};
 ghost use Rattle.schedule_file.specs.Field.{fields_after};
-ghost use Rattle.schedule_file.specs.HeaderLine.{InRange, RuleInRange, word_field, double_word_field, hex_field, lengths_line, master_line, slave_line, profile_line, any_line, listed_line, rule_line, range_line, header_line};
+ghost use Rattle.schedule_file.specs.HeaderLine.{InRange, RuleInRange, word_field, double_word_field, hex_field, lengths_line, master_line, slave_line, profile_line, any_line, listed_line, rule_line, range_line, header_line, word_of_line};
 
 use crate::field::{HexBytes, next_field, no_field, number, one_field};
 use crate::line_cause::LineCause;
@@ -72,7 +72,8 @@ fn double_word_field(text: &[u8]) -> Result<u32, LineCause>
 
 /// The only field, which is hexadecimal with from 1 to 256 bytes.
 fn hex_field(fields: Option<&[u8]>) -> Result<HexBytes, LineCause>
-    ensures { result ≡ hex_field (fields_after fields.entry) }
+    ensures value { result ≡ hex_field (fields_after fields.entry) }
+    ensures some { IfOk result (λ bytes. 0 < length bytes) }
 {
     let field = one_field(fields)?;
     HexBytes::read(field, 256).ok_or(LineCause::Hex)
@@ -188,7 +189,8 @@ fn read_rule(fields: Option<&[u8]>) -> Result<RuleLine, LineCause>
 
 /// Pairs of a lowest and a highest value, at least one.
 fn read_range(fields: Option<&[u8]>) -> Result<HexBytes, LineCause>
-    ensures { result ≡ range_line (fields_after fields.entry) }
+    ensures value { result ≡ range_line (fields_after fields.entry) }
+    ensures some { IfOk result (λ pairs. 2 ≤ length pairs) }
 {
     let pairs = hex_field(fields)?;
     if pairs.bytes().len() == 1 {
@@ -201,6 +203,7 @@ fn read_range(fields: Option<&[u8]>) -> Result<HexBytes, LineCause>
 pub fn read_header_line(word: Word, fields: Option<&[u8]>) -> Result<HeaderLine, LineCause>
     ensures value { result ≡ header_line word (fields_after fields.entry) }
     ensures range { IfOk result InRange }
+    ensures begins { IfOk result (λ line. word_of_line line ≡ word) }
 {
     match word {
         Word::Lengths => Ok(HeaderLine::Lengths(read_lengths(fields)?)),

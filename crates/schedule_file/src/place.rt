@@ -1,4 +1,4 @@
-ghost use Rattle.std.specs.Prelude.{◌≡◌};
+ghost use Rattle.std.specs.Prelude.{◌≡◌, IsTrue, IfOk};
 
 use crate::header_kind::HeaderKind;
 use crate::line_cause::LineCause;
@@ -196,7 +196,8 @@ impl Place {
 
     /// The first word of a line, where a line with it may come next. Else the line is refused as `Header`.
     pub fn admit(self, kind: HeaderKind, first: &[u8]) -> Result<Word, LineCause>
-        ensures { result ≡ admitted kind self (header_word_of first.now) }
+        ensures value { result ≡ admitted kind self (header_word_of first.now) }
+        ensures stands { IfOk result (λ word. IsTrue (may_stand kind self word)) }
     {
         match Word::read(first) {
             Some(word) => {
