@@ -1,4 +1,4 @@
-use Rattle.std.proofs.Common.{◌≡◌, ◌≤◌, ◌-◌}
+use Rattle.std.proofs.Common.{◌≤◌, ◌-◌}
 use Rattle.std.specs.Io.KnownBytes.{prepend_known}
 use Rattle.node_runner.proofs.Going.{Going}
 use Rattle.node_runner.proofs.run.run_node.Given as goal
