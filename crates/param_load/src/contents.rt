@@ -1,6 +1,5 @@
 //! What an upload is expected to bring, and the tests of the contents of its frames.
-ghost use Rattle.std.specs.Prelude.{◌≡◌, ◌≤◌, ◌<◌, ◌+◌, length, drop, nat_le, nat_lt, ◌&&◌, IsTrue};
-ghost use Rattle.param_load.specs.AppRule.{rule_len};
+ghost use Rattle.std.specs.Prelude.{◌≡◌, ◌≤◌, ◌<◌, ◌+◌, length, nat_le, nat_lt, ◌&&◌, IsTrue};
 ghost use Rattle.param_load.specs.Contents.{all_zero, is_expectable, expected_len, app_part, word_is, connection_fault, communication_fault, field_fault, contents_fault};
 ghost use Rattle.param_load.specs.Profile.{id_len};
 

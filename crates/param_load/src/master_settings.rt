@@ -1,5 +1,5 @@
 //! What a master is set to.
-ghost use Rattle.std.specs.Prelude.{◌≡◌, ◌<◌, ◌^◌, IsTrue, IsOk, IfOk};
+ghost use Rattle.std.specs.Prelude.{◌≡◌, ◌<◌, IsTrue, IsOk, IfOk};
 ghost use Rattle.param_load.specs.Profile.{allows_id};
 
 use crate::app_bytes::AppBytes;

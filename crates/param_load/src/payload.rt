@@ -116,7 +116,8 @@ impl Payload {
 pub fn padded(piece: &[u8], len: usize) -> Image
     requires fits { length piece.now ≤ len }
     requires most { len ≤ 126 }
-    ensures { result ≡ padded piece.now len }
+    ensures value { result ≡ padded piece.now len }
+    ensures len { length result ≡ len }
 {
     let mut bytes = [0; 126];
     bytes[..piece.len()].copy_from_slice(piece);

@@ -38,7 +38,7 @@ impl Model for Upload {
 }
 
 impl Upload {
-    ghost use Rattle.std.specs.Prelude.{◌≡◌, ◌≤◌, ◌<◌, IsTrue, false, IfOk, OnOk, OnErr, length};
+    ghost use Rattle.std.specs.Prelude.{◌≡◌, ◌≤◌, ◌<◌, IsTrue, false, OnOk, OnErr, length};
     ghost use Rattle.param_load.specs.AppRule.{is_acceptable};
     ghost use Rattle.param_load.specs.Contents.{app_part, is_session, is_parameter};
     ghost use Rattle.param_load.specs.Payload.{number_at, padded};
@@ -138,7 +138,8 @@ impl Upload {
     pub fn echo(&self, len: usize) -> Image
         requires piece { self.now.piece ≤ len }
         requires most { len ≤ 126 }
-        ensures { result ≡ padded (last_piece self.now) len }
+        ensures value { result ≡ padded (last_piece self.now) len }
+        ensures len { length result ≡ len }
     {
         let from = self.joined.len().saturating_sub(self.piece);
         padded(self.joined.past(from), len)
