@@ -9,7 +9,7 @@ use Rattle.fsoe_base.specs.declared.did.Did.{Did}
 use Rattle.fsoe_base.specs.declared.did.Dropped.{Dropped}
 use Rattle.fsoe_base.specs.declared.did.Dropped.TheVariants as dropped
 use Rattle.fsoe_base.specs.Did as did
-use Rattle.failsafe_io.specs.Timer.{Timer, ticked}
+use Rattle.failsafe_io.specs.Timer.{ticked}
 use Rattle.param_load.specs.Contents.{code}
 use Rattle.param_load.specs.declared.slave_settings.SlaveSettings.{SlaveSettings}
 use Rattle.seq_chain.specs.Reset.{reset_frame}
@@ -21,7 +21,7 @@ use Rattle.slave_core.specs.declared.verdict.Verdict.TheVariants as verdict
 use Rattle.slave_core.specs.Kit.{own_len, peer_len, first_kit}
 use Rattle.slave_core.specs.Now.{is_reset, limit_of}
 use Rattle.slave_core.specs.Seen.{SeenView}
-use Rattle.slave_core.specs.SlaveView.{SlaveView}
+use Rattle.slave_core.specs.SlaveView.{SlaveView, started}
 use Rattle.slave_core.specs.States.{no_session}
 use Rattle.slave_core.specs.Taken.{taken, reply}
 use Rattle.slave_core.specs.Verdict.{verdict_of}
@@ -31,9 +31,6 @@ pub record Outcome : Type 0 where
   pub slave : SlaveView
   pub did : Did
   pub sent : List ℕ
-
-abbrev pub started : ℕ → Timer
-started limit = record { limit = limit; age = 0 }
 
 -- a new slave
 abbrev pub first_slave : SlaveSettings → SlaveView

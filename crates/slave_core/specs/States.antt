@@ -1,5 +1,5 @@
 -- How the states of a slave go on by a frame that passed the tests.
-use Rattle.std.specs.Prelude.{ℕ, Bool, true, false, List, [], length, Result, Ok, Err, Option, None, if◌then◌else◌}
+use Rattle.std.specs.Prelude.{ℕ, List, [], length, Result, Ok, Err, None, if◌then◌else◌}
 use Rattle.fsoe_base.specs.declared.command.Code.{Code}
 use Rattle.fsoe_base.specs.declared.command.Command.{Command}
 use Rattle.fsoe_base.specs.declared.command.Command.TheVariants as command
@@ -16,7 +16,7 @@ use Rattle.param_load.specs.UploadView.{UploadView}
 use Rattle.failsafe_io.specs.Outputs.{outputs_of}
 use Rattle.slave_core.specs.declared.states.InReset.{InReset}
 use Rattle.slave_core.specs.Data.{data_holds}
-use Rattle.slave_core.specs.Kit.{KitView, own_len, peer_len, piece_of, data_command, data_load}
+use Rattle.slave_core.specs.Kit.{KitView, own_len, piece_of, data_command, data_load}
 use Rattle.slave_core.specs.Seen.{SeenView}
 use Rattle.slave_core.specs.Views.{SessionView, ConnectionView, ParameterView, DataView}
 

@@ -24,7 +24,7 @@ impl Model for Kit {
 }
 
 impl Kit {
-    ghost use Rattle.std.specs.Prelude.{◌≡◌, ◌≤◌, IsTrue, length, replicate};
+    ghost use Rattle.std.specs.Prelude.{◌≡◌, ◌≤◌, IsTrue, length};
     ghost use Rattle.fsoe_base.specs.Lengths.{is_length};
     ghost use Rattle.param_load.specs.Profile.{allows_id};
     ghost use Rattle.slave_core.specs.Kit.{own_len, peer_len, piece_of, first_kit, data_command, data_load};
@@ -79,8 +79,7 @@ impl Kit {
         ensures peer { result ≤ peer_len self.now.settings }
         ensures most { result ≤ 126 }
     {
-        let _own = self.own_len();
-        self.settings.lengths().piece()
+        self.peer_len().min(self.own_len())
     }
 
     pub(crate) fn nonce(&self) -> u32
@@ -138,10 +137,11 @@ impl Kit {
     /// The safe data of the frames that the slave sends in state Data.
     pub(crate) fn data_load(&self) -> Image
         ensures value { result ≡ data_load self.now }
-        ensures len { length result ≡ own_len self.now.settings }
+        ensures valid { IsTrue (is_length (length result)) }
     {
+        let len = self.own_len();
         if self.held {
-            Image::zeros(self.own_len())
+            Image::zeros(len)
         } else {
             self.offer.copy()
         }

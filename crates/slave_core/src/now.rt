@@ -1,6 +1,4 @@
 //! The state that a slave is in.
-ghost use Rattle.std.specs.Prelude.{◌≡◌};
-
 use crate::kit::Kit;
 use crate::seen::Seen;
 use crate::states::{InConnection, InData, InParameter, InReset, InSession};

@@ -28,7 +28,6 @@ impl<'a> Seen<'a> {
     ghost use Rattle.std.specs.Prelude.{◌≡◌, ◌≤◌, length};
     ghost use Rattle.fsoe_base.specs.Command.{command_byte};
     ghost use Rattle.fsoe_frame.specs.Parts.{bytes_of};
-    ghost use Rattle.slave_core.specs.Seen.{SeenView};
 
     pub(crate) fn new(command: Command, view: FrameView<'a>) -> Seen<'a>
         requires { view.cmd ≡ command_byte command }

@@ -27,15 +27,13 @@ pub struct Slave {
 }
 
 impl Model for Slave {
-    ghost use Rattle.slave_core.specs.SlaveView.{SlaveView};
+    ghost use Rattle.slave_core.specs.SlaveView.{SlaveView, IsSlave};
 
     ghost Value = { SlaveView };
 
-    ghost use Rattle.slave_core.specs.Now.{IsUnder};
-
     ghost view = { λ s. record { kit = s.kit; state = s.state; timer = s.watchdog } };
 
-    ghost invariant = { λ s. IsUnder s.kit.settings s.state };
+    ghost invariant = { λ s. IsSlave (record { kit = s.kit; state = s.state; timer = s.watchdog }) };
 }
 
 /// This many zeros, at most 126.
@@ -60,7 +58,7 @@ fn took(command: Command, load: Image, passed: bool) -> Did
 }
 
 impl Slave {
-    ghost use Rattle.std.specs.Prelude.{◌≡◌, ◌≢◌, ◌≤◌, ◌<◌, ◌↔◌, IsTrue, IsSome, [], length, replicate, option_copied};
+    ghost use Rattle.std.specs.Prelude.{◌≢◌, ◌↔◌, IsTrue, IsSome, [], length, option_copied};
     ghost use Rattle.fsoe_base.specs.declared.command.State.TheVariants as state;
     ghost use Rattle.param_load.specs.Profile.{allows_id};
     ghost use Rattle.slave_core.specs.Kit.{own_len, peer_len};
@@ -164,6 +162,8 @@ impl Slave {
             }
             Err((reset, code)) => {
                 self.state = Now::Reset(reset);
+                let hand = self.kit.settings().hand();
+                self.watchdog.restart(hand);
                 if was_reset {
                     return Did {
                         took: None,
@@ -288,7 +288,8 @@ impl Slave {
 
     /// The ticks since a frame was taken or sent last, 0 in state Reset.
     pub fn age(&self) -> u16
-        ensures { result ≡ self.now.timer.age }
+        ensures value { result ≡ self.now.timer.age }
+        ensures at_rest { IsTrue (is_reset self.now.state) → result ≡ 0 }
     {
         self.watchdog.age()
     }

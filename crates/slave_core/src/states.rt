@@ -1,16 +1,18 @@
 //! The five states of a slave. A state is made by the transitions of this module alone, and owns what it needs.
 //! A transition takes a frame that passed the tests in this state, and gives the next state with the answer, or
 //! state Reset with the code of the first test of the frame's contents that fails; then nothing is written.
-ghost use Rattle.std.specs.Prelude.{◌≡◌, ◌≤◌, ◌<◌, IsTrue, IfOk, false, length, []};
+ghost use Rattle.std.specs.Prelude.{◌≡◌, ◌<◌, IsTrue, IfOk, false, length, []};
+ghost use Rattle.fsoe_base.specs.declared.command.Command.TheVariants as command;
 ghost use Rattle.fsoe_base.specs.Lengths.{is_length};
 ghost use Rattle.fsoe_frame.specs.Parts.{bytes_of};
-ghost use Rattle.seq_chain.specs.Chain.{fits_next};
+ghost use Rattle.param_load.specs.declared.contents.Expected.TheVariants as expected;
+ghost use Rattle.param_load.specs.Payload.{number_at};
 ghost use Rattle.param_load.specs.Profile.{allows_id};
 ghost use Rattle.param_load.specs.Upload.{is_whole};
-ghost use Rattle.param_load.specs.declared.contents.Expected.TheVariants as expected;
-ghost use Rattle.slave_core.specs.Data.{data_holds};
+ghost use Rattle.seq_chain.specs.Chain.{fits_next};
+ghost use Rattle.slave_core.specs.Data.{is_data, data_holds};
 ghost use Rattle.slave_core.specs.Kit.{piece_of, peer_len};
-ghost use Rattle.slave_core.specs.States.{answered, answer, session_next, session_reply, connection_next, parameter_next, echo_reply, data_next, data_reply};
+ghost use Rattle.slave_core.specs.States.{no_session, fresh, answered, answer, first_session, first_connection, first_parameter, terms_of, session_next, session_reply, connection_next, parameter_next, echo_reply, data_next, data_reply};
 ghost use Rattle.slave_core.specs.Views.{SessionUnder, ConnectionUnder, ParameterUnder, DataUnder, HasPassed};
 
 use crate::kit::Kit;
@@ -102,10 +104,6 @@ impl Model for InData {
 }
 
 impl InReset {
-    ghost use Rattle.std.specs.Prelude.{◌≡◌, IfOk, []};
-    ghost use Rattle.slave_core.specs.States.{no_session, fresh, first_session, session_next, session_reply};
-    ghost use Rattle.slave_core.specs.Views.{SessionUnder, HasPassed};
-
     pub(crate) fn new() -> InReset
         ensures { result ≡ no_session }
     {
@@ -141,12 +139,6 @@ impl InReset {
 }
 
 impl InSession {
-    ghost use Rattle.std.specs.Prelude.{◌≡◌, IfOk, IsTrue, false, []};
-    ghost use Rattle.fsoe_base.specs.declared.command.Command.TheVariants as command;
-    ghost use Rattle.param_load.specs.Upload.{is_whole};
-    ghost use Rattle.slave_core.specs.States.{no_session, first_connection, session_next, session_reply, connection_next, echo_reply};
-    ghost use Rattle.slave_core.specs.Views.{SessionUnder, ConnectionUnder, HasPassed};
-
     /// Goes on by a Session frame, as long as the master's session id isn't whole.
     pub fn more(
         self,
@@ -228,12 +220,6 @@ impl InSession {
 }
 
 impl InConnection {
-    ghost use Rattle.std.specs.Prelude.{◌≡◌, IfOk, IsTrue, false, []};
-    ghost use Rattle.fsoe_base.specs.declared.command.Command.TheVariants as command;
-    ghost use Rattle.param_load.specs.Upload.{is_whole};
-    ghost use Rattle.slave_core.specs.States.{no_session, first_parameter, connection_next, parameter_next, echo_reply};
-    ghost use Rattle.slave_core.specs.Views.{ConnectionUnder, ParameterUnder, HasPassed};
-
     /// Goes on by a Connection frame, as long as the connection id and the address aren't whole.
     pub fn more(
         self,
@@ -326,14 +312,6 @@ impl InConnection {
 }
 
 impl InParameter {
-    ghost use Rattle.std.specs.Prelude.{◌≡◌, ◌<◌, IfOk, IsTrue, false, []};
-    ghost use Rattle.param_load.specs.Payload.{number_at};
-    ghost use Rattle.param_load.specs.Upload.{is_whole};
-    ghost use Rattle.slave_core.specs.Data.{is_data};
-    ghost use Rattle.slave_core.specs.States.{no_session, terms_of, parameter_next, echo_reply, data_next, data_reply};
-    ghost use Rattle.slave_core.specs.Views.{ParameterUnder, DataUnder, HasPassed};
-    ghost use Rattle.fsoe_base.specs.declared.command.Command.TheVariants as command;
-
     /// Goes on by a Parameter frame, as long as the parameters aren't whole.
     pub fn more(
         self,
@@ -438,11 +416,6 @@ impl InParameter {
 }
 
 impl InData {
-    ghost use Rattle.std.specs.Prelude.{◌≡◌, IfOk, IsTrue, []};
-    ghost use Rattle.slave_core.specs.Data.{is_data};
-    ghost use Rattle.slave_core.specs.States.{no_session, data_next, data_reply};
-    ghost use Rattle.slave_core.specs.Views.{DataUnder, HasPassed};
-
     /// Goes on by a data frame.
     pub fn more(
         self,
@@ -570,10 +543,9 @@ fn in_connection(
     requires more { is_whole upload ≡ false }
     requires empty { out.old ≡ [] }
     ensures next { result ≡ connection_next kit.now chain conn upload seen.now }
-    ensures sent { out.new ≡ echo_reply Command.Connection kit.now chain conn upload seen.now }
+    ensures sent { out.new ≡ echo_reply command.Connection kit.now chain conn upload seen.now }
     ensures under { IfOk result (λ s. ConnectionUnder kit.now.settings s) }
 {
-    let _piece = kit.piece();
     if let Err(code) = upload.take(seen.load()) {
         return Err((InReset::new(), code));
     }
@@ -610,10 +582,9 @@ fn in_parameter(
     requires more { is_whole upload ≡ false }
     requires empty { out.old ≡ [] }
     ensures next { result ≡ parameter_next kit.now chain conn address upload seen.now }
-    ensures sent { out.new ≡ echo_reply Command.Parameter kit.now chain conn upload seen.now }
+    ensures sent { out.new ≡ echo_reply command.Parameter kit.now chain conn upload seen.now }
     ensures under { IfOk result (λ s. ParameterUnder kit.now.settings s) }
 {
-    let _piece = kit.piece();
     if let Err(code) = upload.take(seen.load()) {
         return Err((InReset::new(), code));
     }
@@ -665,7 +636,6 @@ fn in_data(
     if !data_holds(seen) {
         return Err((InReset::new(), Code(0x07)));
     }
-    let _len = kit.own_len();
     let load = kit.data_load();
     answer(
         &mut chain,
