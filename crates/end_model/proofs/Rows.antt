@@ -1,0 +1,65 @@
+-- The worked runs, by computing.
+use Rattle.std.proofs.Common.{refl}
+use Rattle.hex.proofs.OnLiterals.{hex_on_literals}
+use Rattle.fsoe_crc.specs.Remainder.{computing}
+use Rattle.end_model.specs.Rows.{FirstTick, SlaveHandshake, SlaveExpires, SlaveGoesOn, SlaveRefusesOldFrame, SlaveResetItself, WrongAddress, WrongWatchdog, WrongParameters, LongSessionIds, OtherProfile, QuietInReset, MasterHandshake, MasterStepsNumber, MasterIsReset}
+
+pub first_tick : FirstTick
+unfolding FirstTick computing hex_on_literals
+first_tick = refl
+
+pub slave_handshake : SlaveHandshake
+unfolding SlaveHandshake computing hex_on_literals
+slave_handshake = refl
+
+pub slave_expires : SlaveExpires
+unfolding SlaveExpires computing hex_on_literals
+slave_expires = refl
+
+pub slave_goes_on : SlaveGoesOn
+unfolding SlaveGoesOn computing hex_on_literals
+slave_goes_on = refl
+
+pub slave_refuses_old_frame : SlaveRefusesOldFrame
+unfolding SlaveRefusesOldFrame computing hex_on_literals
+slave_refuses_old_frame = refl
+
+pub slave_reset_itself : SlaveResetItself
+unfolding SlaveResetItself computing hex_on_literals
+slave_reset_itself = refl
+
+pub wrong_address : WrongAddress
+unfolding WrongAddress computing hex_on_literals
+wrong_address = refl
+
+pub wrong_watchdog : WrongWatchdog
+unfolding WrongWatchdog computing hex_on_literals
+wrong_watchdog = refl
+
+pub wrong_parameters : WrongParameters
+unfolding WrongParameters computing hex_on_literals
+wrong_parameters = refl
+
+pub long_session_ids : LongSessionIds
+unfolding LongSessionIds computing hex_on_literals
+long_session_ids = refl
+
+pub other_profile : OtherProfile
+unfolding OtherProfile computing hex_on_literals
+other_profile = refl
+
+pub quiet_in_reset : QuietInReset
+unfolding QuietInReset computing hex_on_literals
+quiet_in_reset = refl
+
+pub master_handshake : MasterHandshake
+unfolding MasterHandshake computing hex_on_literals
+master_handshake = refl
+
+pub master_steps_number : MasterStepsNumber
+unfolding MasterStepsNumber computing hex_on_literals
+master_steps_number = refl
+
+pub master_is_reset : MasterIsReset
+unfolding MasterIsReset computing hex_on_literals
+master_is_reset = refl

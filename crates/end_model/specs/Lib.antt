@@ -1,0 +1,10 @@
+pub mod Setup
+pub mod Phases
+pub mod Deed
+pub mod Chain
+pub mod Payloads
+pub mod Readiness
+pub mod Verdict
+pub mod Step
+pub mod Outputs
+pub mod Rows

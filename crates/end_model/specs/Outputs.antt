@@ -1,0 +1,66 @@
+-- The outputs of an end, as it shows them and by looking back, and the entry that tells a deed to the outside.
+use Rattle.std.specs.Prelude.{ℕ, nat_lt, List, [], ◌∷◌, Bool, true, false, ◌&&◌, Option, Some, None, is_some, if◌then◌else◌, replicate}
+use Rattle.fsoe_base.specs.declared.command.Command.{Command}
+use Rattle.fsoe_base.specs.declared.command.Command.TheVariants as command
+use Rattle.fsoe_base.specs.declared.did.Took.{Took}
+use Rattle.param_load.specs.declared.entry.Entry.{Entry}
+use Rattle.end_model.specs.Setup.{Setup, end_of, receives}
+use Rattle.end_model.specs.Deed.{Deed, ticked}
+use Rattle.end_model.specs.Chain.{since}
+use Rattle.end_model.specs.Payloads.{terms}
+use Rattle.end_model.specs.Readiness.{state_of, told_terms}
+
+-- whether a command carries process data
+abbrev pub is_process : Command → Bool
+is_process command.ProcessData = true
+is_process _ = false
+
+-- the fail-safe value of an end's outputs
+abbrev pub zeros : Setup → List ℕ
+zeros s = replicate (receives s) 0
+
+-- what a frame that was taken brings
+abbrev pub shown : Setup → Option Took → List ℕ → List ℕ
+shown s None before = before
+shown s (Some t) before = if is_process t.command then t.load else zeros s
+
+-- what the frames of a session brought last
+abbrev pub brought : Setup → List Deed → List ℕ
+brought s [] = zeros s
+brought s (x ∷ e) = shown s x.did.took (brought s e)
+
+-- the outputs: the load of the frame that was taken last in this session where it was ProcessData, else zeros
+abbrev pub outputs : Setup → List Deed → List ℕ
+outputs s e = brought s (since e)
+
+-- what a frame that was taken brings, n ticks later, where e are the deeds up to it
+abbrev pub held_up : Setup → List Deed → ℕ → Option Took → List ℕ → List ℕ
+held_up s e n None before = before
+held_up s e n (Some t) before = if is_process t.command && nat_lt n (terms s e).watchdog then t.load else zeros s
+
+-- the outputs by looking back, n ticks later
+abbrev pub out_after : Setup → ℕ → List Deed → List ℕ
+out_after s n [] = zeros s
+out_after s n (x ∷ e) = if is_some x.did.reset then zeros s else held_up s (x ∷ e) n x.did.took (out_after s (ticked x.what n) e)
+
+-- the outputs by looking back: the load of the frame that was taken last where it was ProcessData, no reset came after it,
+-- and fewer ticks than the watchdog; else zeros. It knows of no age, state or limit
+abbrev pub out : Setup → List Deed → List ℕ
+out s e = out_after s 0 e
+
+-- what is told of a deed: the state, the outputs and the terms are those after it
+abbrev pub entry_of : Setup → List Deed → Deed → Entry
+entry_of s e x = record {
+  end = end_of s;
+  what = x.what;
+  did = x.did;
+  sent = x.sent;
+  state = state_of s (x ∷ e);
+  outputs = outputs s (x ∷ e);
+  terms = told_terms s (x ∷ e);
+}
+
+-- what is told of each deed
+abbrev pub entries : Setup → List Deed → List Entry
+entries s [] = []
+entries s (x ∷ e) = entry_of s e x ∷ entries s e

@@ -1,0 +1,51 @@
+-- Commands and the phases of a connection. The states and the commands of each are those of the public standard.
+use Rattle.std.specs.Prelude.{ℕ, ◌==◌, List, [], ◌∷◌, Bool, true, false, Option, Some, None}
+use Rattle.fsoe_base.specs.declared.command.State.{State}
+use Rattle.fsoe_base.specs.declared.command.State.TheVariants as state
+use Rattle.fsoe_base.specs.declared.command.Command.{Command}
+use Rattle.fsoe_base.specs.declared.command.Command.TheVariants as command
+use Rattle.fsoe_base.specs.Command.{command_byte, command_of}
+
+-- the phase of a frame with this command
+abbrev pub phase_of : Command → State
+phase_of command.Reset = state.Reset
+phase_of command.Session = state.Session
+phase_of command.Connection = state.Connection
+phase_of command.Parameter = state.Parameter
+phase_of command.FailSafeData = state.Data
+phase_of command.ProcessData = state.Data
+
+-- whether two phases are the same
+abbrev pub same_phase : State → State → Bool
+same_phase state.Reset state.Reset = true
+same_phase state.Session state.Session = true
+same_phase state.Connection state.Connection = true
+same_phase state.Parameter state.Parameter = true
+same_phase state.Data state.Data = true
+same_phase _ _ = false
+
+-- whether a command is that of Reset frames, which stand outside of each session
+abbrev pub is_reset : Command → Bool
+is_reset command.Reset = true
+is_reset _ = false
+
+-- whether frames of this command are guarded: they carry the connection id of their session
+abbrev pub is_guarded : Command → Bool
+is_guarded command.Reset = false
+is_guarded command.Session = false
+is_guarded _ = true
+
+-- whether these bytes are a frame with this command; no bytes are none
+abbrev pub has_command : Command → List ℕ → Bool
+has_command c [] = false
+has_command c (b ∷ bytes) = b == command_byte c
+
+-- the phase of a frame with this command, if it has one
+abbrev pub phase_of_known : Option Command → State
+phase_of_known None = state.Reset
+phase_of_known (Some c) = phase_of c
+
+-- the phase of a frame by its first byte
+abbrev pub phase_of_frame : List ℕ → State
+phase_of_frame [] = state.Reset
+phase_of_frame (b ∷ bytes) = phase_of_known (command_of b)

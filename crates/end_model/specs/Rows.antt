@@ -1,0 +1,250 @@
+-- Worked runs of one end: the events of a run, and each line that a report writes of them.
+use Rattle.std.specs.Prelude.{◌≡◌, ℕ, refl, List, [], ◌∷◌, ◌++◌, codes, take, drop, map, replicate, reverse, Bool, true, Result, Ok, Err}
+use Rattle.std.proofs.lemmas.Bool.{ltb-true}
+use Rattle.hex.specs.Hex.{decode_of}
+use Rattle.hex.specs.declared.error.FromHexError.{FromHexError}
+use Rattle.fsoe_base.specs.declared.lengths.Lengths.{Lengths}
+use Rattle.param_load.specs.declared.app_rule.AppRule.TheVariants as rule
+use Rattle.param_load.specs.declared.entry.Entry.{Entry}
+use Rattle.param_load.specs.declared.entry.Move.{Move}
+use Rattle.param_load.specs.declared.entry.Move.TheVariants as move
+use Rattle.param_load.specs.declared.profile.Profile.TheVariants as profile
+use Rattle.param_load.specs.declared.slave_settings.SlaveSettings.{SlaveSettings}
+use Rattle.entry_text.specs.EntryText.{entry_text}
+use Rattle.end_model.specs.Setup.{Setup, OfMaster, OfSlave}
+use Rattle.end_model.specs.Step.{run}
+use Rattle.end_model.specs.Outputs.{entries}
+
+-- two bytes of safe data in each direction
+abbrev pub two_and_two : Lengths
+two_and_two = record { master = 2; slave = 2; valid_master = refl; valid_slave = refl }
+
+-- connection 1, slave address 2, watchdog 100, session id 1
+abbrev pub a_master : Setup
+a_master = OfMaster (record {
+  lengths = two_and_two;
+  conn = 1;
+  address = 2;
+  watchdog = 100;
+  app = [];
+  nonce = 1;
+  profile = profile.One;
+  some_conn = ltb-true 0 1 refl;
+  some_watchdog = ltb-true 0 100 refl;
+  allowed = refl;
+})
+
+-- slave address 2, at most 200 ticks in a handshake, watchdogs up to 1000, no application parameters, session id 2
+abbrev pub slave_values : SlaveSettings
+slave_values = record {
+  lengths = two_and_two;
+  address = 2;
+  hand = 200;
+  most = 1000;
+  rule = rule.Any 0;
+  nonce = 2;
+  profile = profile.One;
+  some_hand = ltb-true 0 200 refl;
+  some_most = ltb-true 0 1000 refl;
+  acceptable = refl;
+  allowed = refl;
+}
+
+abbrev pub a_slave : Setup
+a_slave = OfSlave slave_values
+
+abbrev pub if_bytes : Result (List ℕ) FromHexError → List ℕ
+if_bytes (Ok bytes) = bytes
+if_bytes (Err fault) = []
+
+-- a frame comes, a load is put: bytes in hexadecimal
+abbrev pub d : List ℕ → Move
+d text = move.Deliver (if_bytes (decode_of text))
+
+abbrev pub p : List ℕ → Move
+p text = move.Put (if_bytes (decode_of text))
+
+abbrev pub t : Move
+t = move.Tick
+
+abbrev pub h : Bool → Move
+h failsafe = move.Hold failsafe
+
+abbrev pub z : Move
+z = move.Local
+
+-- the line of an entry
+abbrev pub line : Entry → List ℕ
+line x = entry_text x.did x.state x.outputs x.sent
+
+-- the lines of a run
+abbrev pub lines : Setup → List Move → List (List ℕ)
+lines s moves = reverse (map line (entries s (run s moves)))
+
+-- a new master sends Reset at its first tick
+unfoldable pub FirstTick : Type 0
+FirstTick =
+    lines a_master (t ∷ [])
+    ≡ codes "again Reset 0000 > 2a0000c42d0000"
+    ∷ []
+
+-- a put at a slave, and the frames of a master up to its first data
+abbrev pub to_slave : List Move
+to_slave =
+    p (codes "8000")
+    ∷ d (codes "2a0000c42d0000")
+    ∷ d (codes "4e0100123e0000")
+    ∷ d (codes "640100642a0100")
+    ∷ d (codes "640200625f0100")
+    ∷ d (codes "520200ee740100")
+    ∷ d (codes "52640058da0100")
+    ∷ d (codes "52000071990100")
+    ∷ d (codes "360100fc430100")
+    ∷ []
+
+-- a slave takes a whole handshake and the first data
+unfoldable pub SlaveHandshake : Type 0
+SlaveHandshake =
+    lines a_slave to_slave
+    ≡ codes "quiet Reset 0000"
+    ∷ codes "took Reset Reset 0000 > 2a0000c42d0000"
+    ∷ codes "took Session Session 0000 > 4e020090470000"
+    ∷ codes "took Connection Connection 0000 > 64010093d60100"
+    ∷ codes "took Connection Connection 0000 > 64020047080100"
+    ∷ codes "took Parameter Parameter 0000 > 52020030580100"
+    ∷ codes "took Parameter Parameter 0000 > 526400ae680100"
+    ∷ codes "took Parameter Parameter 0000 > 520000772d0100"
+    ∷ codes "took ProcessData Data 0100 > 36800078c90100"
+    ∷ []
+
+-- after 99 ticks a slave shows the data still, and in the hundredth it expires
+unfoldable pub SlaveExpires : Type 0
+SlaveExpires =
+    drop 107 (lines a_slave (to_slave ++ replicate 100 t))
+    ≡ codes "quiet Data 0100"
+    ∷ codes "reset found 05 Reset 0000 > 2a050025ae0000"
+    ∷ []
+
+-- a repeat is dropped, then a held slave answers with fail-safe data
+unfoldable pub SlaveGoesOn : Type 0
+SlaveGoesOn =
+    drop 9 (lines a_slave (to_slave ++ d (codes "360100fc430100") ∷ h true ∷ d (codes "360100cfa90100") ∷ []))
+    ≡ codes "drop Repeat Data 0100"
+    ∷ codes "quiet Data 0100"
+    ∷ codes "took ProcessData Data 0100 > 080000f65b0100"
+    ∷ []
+
+-- an older frame is no repeat: its CRCs are wrong
+unfoldable pub SlaveRefusesOldFrame : Type 0
+SlaveRefusesOldFrame =
+    drop 9 (lines a_slave (to_slave ++ d (codes "360100cfa90100") ∷ d (codes "360100fc430100") ∷ []))
+    ≡ codes "took ProcessData Data 0100 > 3680002d670100"
+    ∷ codes "reset found 04 Reset 0000 > 2a0400a6340000"
+    ∷ []
+
+-- after a reset of its own a slave takes an old Session frame, and no data
+unfoldable pub SlaveResetItself : Type 0
+SlaveResetItself =
+    drop 9 (lines a_slave (to_slave ++ z ∷ d (codes "4e0100123e0000") ∷ d (codes "360100cfa90100") ∷ []))
+    ≡ codes "reset own Reset 0000 > 2a0000c42d0000"
+    ∷ codes "took Session Session 0000 > 4e020090470000"
+    ∷ codes "reset found 01 Reset 0000 > 2a010047b70000"
+    ∷ []
+
+-- a slave with another address ends the session when the address has come
+unfoldable pub WrongAddress : Type 0
+WrongAddress =
+    drop 4 (lines (OfSlave (record slave_values { address = 3 })) (take 5 to_slave))
+    ≡ codes "reset found 06 Reset 0000 > 2a060017380000"
+    ∷ []
+
+-- a slave that accepts only shorter watchdogs
+unfoldable pub WrongWatchdog : Type 0
+WrongWatchdog =
+    drop 6 (lines (OfSlave (record slave_values { most = 50; some_most = ltb-true 0 50 refl })) (take 7 to_slave))
+    ≡ codes "reset found 09 Reset 0000 > 2a090083850000"
+    ∷ []
+
+-- a slave that wants one application parameter
+unfoldable pub WrongParameters : Type 0
+WrongParameters =
+    drop 7 (lines (OfSlave (record slave_values { rule = rule.Any 1; acceptable = refl })) (take 8 to_slave))
+    ≡ codes "reset found 0a Reset 0000 > 2a0a00b1130000"
+    ∷ []
+
+-- a slave of profile Two with the word 7
+abbrev pub slave_of_two : Setup
+slave_of_two = OfSlave (record slave_values { profile = profile.Two 7; allowed = refl })
+
+-- session ids of profile Two need two frames of two bytes
+unfoldable pub LongSessionIds : Type 0
+LongSessionIds =
+    lines slave_of_two (d (codes "2a0000c42d0000") ∷ d (codes "4e0100123e0000") ∷ d (codes "4e000061230000") ∷ [])
+    ≡ codes "took Reset Reset 0000 > 2a0000c42d0000"
+    ∷ codes "took Session Session 0000 > 4e020090470000"
+    ∷ codes "took Session Session 0000 > 4e000043f10000"
+    ∷ []
+
+-- a master of profile One begins to send parameters too early for a slave of profile Two
+unfoldable pub OtherProfile : Type 0
+OtherProfile =
+    drop 2 (lines slave_of_two (d (codes "2a0000c42d0000") ∷ d (codes "4e0100123e0000") ∷ d (codes "640100642a0100") ∷ []))
+    ≡ codes "reset found 01 Reset 0000 > 2a010047b70000"
+    ∷ []
+
+-- a slave in state Reset counts no ticks, however short its handshake may be
+unfoldable pub QuietInReset : Type 0
+QuietInReset =
+    lines (OfSlave (record slave_values { hand = 2; some_hand = ltb-true 0 2 refl })) (t ∷ t ∷ t ∷ [])
+    ≡ codes "quiet Reset 0000"
+    ∷ codes "quiet Reset 0000"
+    ∷ codes "quiet Reset 0000"
+    ∷ []
+
+-- a put at a master, its first tick, and the answers of a slave up to its first data
+abbrev pub to_master : List Move
+to_master =
+    p (codes "0100")
+    ∷ t
+    ∷ d (codes "2a0000c42d0000")
+    ∷ d (codes "4e020090470000")
+    ∷ d (codes "64010093d60100")
+    ∷ d (codes "64020047080100")
+    ∷ d (codes "52020030580100")
+    ∷ d (codes "526400ae680100")
+    ∷ d (codes "520000772d0100")
+    ∷ d (codes "36800078c90100")
+    ∷ []
+
+-- a master downloads its parameters and takes the first data
+unfoldable pub MasterHandshake : Type 0
+MasterHandshake =
+    lines a_master to_master
+    ≡ codes "quiet Reset 0000"
+    ∷ codes "again Reset 0000 > 2a0000c42d0000"
+    ∷ codes "took Reset Session 0000 > 4e0100123e0000"
+    ∷ codes "took Session Connection 0000 > 640100642a0100"
+    ∷ codes "took Connection Connection 0000 > 640200625f0100"
+    ∷ codes "took Connection Parameter 0000 > 520200ee740100"
+    ∷ codes "took Parameter Parameter 0000 > 52640058da0100"
+    ∷ codes "took Parameter Parameter 0000 > 52000071990100"
+    ∷ codes "took Parameter Data 0000 > 360100fc430100"
+    ∷ codes "took ProcessData Data 8000 > 360100cfa90100"
+    ∷ []
+
+-- the second of these frames would have the CRC_0 of the first under the next number, so that its number is stepped once more
+unfoldable pub MasterStepsNumber : Type 0
+MasterStepsNumber =
+    drop 10 (lines a_master (to_master ++ p (codes "5026") ∷ d (codes "3680002d670100") ∷ d (codes "368000c9770100") ∷ []))
+    ≡ codes "quiet Data 8000"
+    ∷ codes "took ProcessData Data 8000 > 365026d4c80100"
+    ∷ codes "took ProcessData Data 8000 > 36502603030100"
+    ∷ []
+
+-- a Reset frame of the slave ends the session
+unfoldable pub MasterIsReset : Type 0
+MasterIsReset =
+    drop 10 (lines a_master (to_master ++ d (codes "3680002d670100") ∷ d (codes "2a0000c42d0000") ∷ []))
+    ≡ codes "took ProcessData Data 8000 > 360100e95d0100"
+    ∷ codes "reset peer 00 Reset 0000 > 2a0000c42d0000"
+    ∷ []

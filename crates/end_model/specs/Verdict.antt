@@ -1,0 +1,131 @@
+-- How the tests of a frame that came end. The order of the tests is this profile's own, the codes are those of the public standard.
+use Rattle.std.specs.Prelude.{ℕ, ◌==◌, nat_eq, List, ◌++◌, length, take, drop, Bool, false, not, Option, Some, None, Result, Ok, Err, if◌then◌else◌}
+use Rattle.std.specs.Cmp.Lexicographic.{pointwise}
+use Rattle.fsoe_base.specs.declared.command.State.{State}
+use Rattle.fsoe_base.specs.declared.command.State.TheVariants as state
+use Rattle.fsoe_base.specs.declared.command.Command.{Command}
+use Rattle.fsoe_base.specs.declared.command.Command.TheVariants as command
+use Rattle.fsoe_base.specs.declared.command.Code.{Code}
+use Rattle.fsoe_base.specs.Command.{command_of}
+use Rattle.fsoe_base.specs.Lengths.{frame_len}
+use Rattle.fsoe_frame.specs.Parts.{Frame, frame_of}
+use Rattle.seq_chain.specs.Reset.{reset_view}
+use Rattle.param_load.specs.declared.contents.Expected.{Expected}
+use Rattle.param_load.specs.declared.contents.Expected.TheVariants as expected
+use Rattle.param_load.specs.declared.master_settings.MasterSettings.{MasterSettings}
+use Rattle.param_load.specs.declared.slave_settings.SlaveSettings.{SlaveSettings}
+use Rattle.param_load.specs.Contents.{code, all_zero, contents_fault}
+use Rattle.param_load.specs.Payload.{padded}
+use Rattle.end_model.specs.Setup.{Setup, OfMaster, OfSlave, receives, piece_len}
+use Rattle.end_model.specs.Phases.{is_guarded}
+use Rattle.end_model.specs.Deed.{Deed}
+use Rattle.end_model.specs.Chain.{since, own, kept, fits}
+use Rattle.end_model.specs.Payloads.{pay, piece, count_in, session_id, slave_conn, uploaded}
+use Rattle.end_model.specs.Readiness.{allowed}
+
+pub data Verdict : Type 0 where
+  -- all tests are passed by a frame with this command and load
+  Valid : Command → List ℕ → Verdict
+  -- the frame hasn't the length of the peer's frames
+  WrongLength : Verdict
+  -- the frame is the one that was taken last
+  Repeated : Verdict
+  -- a test up to that of the CRCs fails with this code
+  Refused : Code → Verdict
+  -- the test of the contents fails with this code
+  Wrong : Code → Verdict
+
+-- this code where a test fails
+abbrev pub unless : Bool → ℕ → Option Code
+unless holds n = if holds then None else Some (code n)
+
+-- a connection id is the session's; the one of a slave's first Connection frame isn't 0
+abbrev pub is_slave_conn : Option ℕ → ℕ → Bool
+is_slave_conn None field = not (field == 0)
+is_slave_conn (Some conn) field = field == conn
+
+-- whether a guarded frame has the right connection id
+abbrev pub is_conn : Setup → List Deed → ℕ → Bool
+is_conn (OfMaster ms) e field = field == ms.conn
+is_conn (OfSlave ss) e field = is_slave_conn (slave_conn ss e) field
+
+-- whether a frame has the right connection id: a guarded one the session's, another one 0
+abbrev pub has_conn : Setup → List Deed → Command → ℕ → Bool
+has_conn s e c field = if is_guarded c then is_conn s e field else field == 0
+
+-- the contents of a frame of an upload: the fields that it ends, in order, then the padding
+abbrev pub upload_fault : SlaveSettings → List Deed → State → Expected → List ℕ → Option Code
+upload_fault ss e phase expects load =
+    let c : ℕ = piece_len (OfSlave ss) in
+    let before : List ℕ = uploaded ss phase e in
+    contents_fault expects (length before) (before ++ take c load) (drop c load)
+
+-- a FailSafeData frame carries zeros
+abbrev pub failsafe_fault : List ℕ → Option Code
+failsafe_fault load = unless (all_zero load) 0x07
+
+-- the contents of a frame at a slave
+abbrev pub slave_fault : SlaveSettings → List Deed → Command → Frame → Option Code
+slave_fault ss e command.Session f = upload_fault ss e state.Session (expected.Session ss.profile) f.load
+slave_fault ss e command.Connection f = upload_fault ss e state.Connection (expected.Connection f.conn ss.address) f.load
+slave_fault ss e command.Parameter f = upload_fault ss e state.Parameter (expected.Parameter ss.most ss.rule ss.profile) f.load
+slave_fault ss e command.FailSafeData f = failsafe_fault f.load
+slave_fault ss e _ f = None
+
+-- the piece that a master sent last, in the phase that it is in
+abbrev pub last_piece : MasterSettings → List Deed → State → List ℕ
+last_piece ms e phase = piece (pay ms (session_id (OfMaster ms) e) phase) (piece_len (OfMaster ms)) (count_in phase (own (since e)))
+
+-- an answer of the slave in a handshake repeats the master's last piece, with zeros after it
+abbrev pub echo_fault : MasterSettings → List ℕ → List ℕ → Option Code
+echo_fault ms sent load = unless (pointwise nat_eq load (padded sent (receives (OfMaster ms)))) 0x07
+
+-- the contents of a frame at a master; a slave's session id is its own, so that the padding alone is tested
+abbrev pub master_fault : MasterSettings → List Deed → Command → Frame → Option Code
+master_fault ms e command.Session f = unless (all_zero (drop (length (last_piece ms e state.Session)) f.load)) 0x07
+master_fault ms e command.Connection f = echo_fault ms (last_piece ms e state.Connection) f.load
+master_fault ms e command.Parameter f = echo_fault ms (last_piece ms e state.Parameter) f.load
+master_fault ms e command.FailSafeData f = failsafe_fault f.load
+master_fault ms e _ f = None
+
+-- the code of the first test of a frame's contents that fails
+abbrev pub contents : Setup → List Deed → Command → Frame → Option Code
+contents (OfMaster ms) e c f = master_fault ms e c f
+contents (OfSlave ss) e c f = slave_fault ss e c f
+
+-- the verdict on a frame whose CRCs are right
+abbrev pub judged_contents : Command → List ℕ → Option Code → Verdict
+judged_contents c load None = Valid c load
+judged_contents c load (Some found) = Wrong found
+
+-- the verdict on a Reset frame, by what it says
+abbrev pub judged_reset : List ℕ → Result Code Code → Verdict
+judged_reset load (Ok said) = Valid command.Reset load
+judged_reset load (Err found) = Refused found
+
+-- a frame of a session: the command in this state, the connection id, the CRCs, the contents
+abbrev pub judged_session : Setup → List Deed → Command → Frame → Verdict
+judged_session s e c f =
+    if not (allowed s e c) then Refused (code 0x01)
+    else if not (has_conn s e c f.conn) then Refused (code 0x03)
+    else if not (fits s (since e) f) then Refused (code 0x04)
+    else judged_contents c f.load (contents s e c f)
+
+-- the verdict on a frame with this command, if its first byte is one
+abbrev pub judged : Setup → List Deed → Frame → Option Command → Verdict
+judged s e f None = Refused (code 0x02)
+judged s e f (Some command.Reset) = judged_reset f.load (reset_view f)
+judged s e f (Some c) = judged_session s e c f
+
+-- whether these are the bytes of the frame that was taken last
+abbrev pub is_repeat : Option (List ℕ) → List ℕ → Bool
+is_repeat None bytes = false
+is_repeat (Some last) bytes = pointwise nat_eq last bytes
+
+-- the first of the tests that these bytes fail: the length, the repeat, the command, then those of the command
+abbrev pub verdict : Setup → List Deed → List ℕ → Verdict
+verdict s e bytes =
+    let f : Frame = frame_of (receives s) bytes in
+    if not (length bytes == frame_len (receives s)) then WrongLength
+    else if is_repeat (kept (since e)) bytes then Repeated
+    else judged s e f (command_of f.cmd)

@@ -1,0 +1,51 @@
+//! What holds of the definitions. The calls do nothing: each law is a contract.
+
+ghost use Rattle.std.specs.Prelude.{◌≡◌, List, ◌++◌, All};
+ghost use Rattle.param_load.specs.declared.entry.Move.{Move};
+ghost use Rattle.seq_chain.specs.Numbers.{next};
+ghost use Rattle.end_model.specs.Setup.{Setup};
+ghost use Rattle.end_model.specs.Step.{run, continued, IsProper, IsRun};
+ghost use Rattle.end_model.specs.Rows.{FirstTick, MasterHandshake, MasterStepsNumber, MasterIsReset, SlaveHandshake, SlaveExpires, SlaveGoesOn, SlaveRefusesOldFrame, SlaveResetItself, WrongAddress, WrongWatchdog, WrongParameters, LongSessionIds, OtherProfile, QuietInReset};
+
+/// Worked runs of a master: each line of its report, with its state, its outputs and the frame that it sent.
+#[tactic(auto, using(crate::proofs::Rows::first_tick, crate::proofs::Rows::master_handshake, crate::proofs::Rows::master_steps_number, crate::proofs::Rows::master_is_reset))]
+pub fn master_rows()
+    ensures first_tick { FirstTick }
+    ensures handshake { MasterHandshake }
+    ensures steps_number { MasterStepsNumber }
+    ensures is_reset { MasterIsReset }
+{}
+
+/// Worked runs of a slave, in the same way.
+#[tactic(auto, using(crate::proofs::Rows::slave_handshake, crate::proofs::Rows::slave_expires, crate::proofs::Rows::slave_goes_on, crate::proofs::Rows::slave_refuses_old_frame, crate::proofs::Rows::slave_reset_itself, crate::proofs::Rows::quiet_in_reset, crate::proofs::Rows::long_session_ids))]
+pub fn slave_rows()
+    ensures handshake { SlaveHandshake }
+    ensures expires { SlaveExpires }
+    ensures goes_on { SlaveGoesOn }
+    ensures refuses_old_frame { SlaveRefusesOldFrame }
+    ensures reset_itself { SlaveResetItself }
+    ensures quiet_in_reset { QuietInReset }
+    ensures long_session_ids { LongSessionIds }
+{}
+
+/// Worked runs of a slave that ends a handshake, in the same way.
+#[tactic(auto, using(crate::proofs::Rows::wrong_address, crate::proofs::Rows::wrong_watchdog, crate::proofs::Rows::wrong_parameters, crate::proofs::Rows::other_profile))]
+pub fn refused_handshakes()
+    ensures wrong_address { WrongAddress }
+    ensures wrong_watchdog { WrongWatchdog }
+    ensures wrong_parameters { WrongParameters }
+    ensures other_profile { OtherProfile }
+{}
+
+/// A run of moves is the run of its front, continued, and a run of proper moves is a run: each deed is the step of
+/// those before it.
+#[tactic(auto, using(crate::proofs::Runs::run_append, crate::proofs::Runs::run_is_run))]
+pub fn runs()
+    ensures continued { (s : Setup) (front rest : List Move) → run s (front ++ rest) ≡ continued s (run s front) rest }
+    ensures proper { (s : Setup) (moves : List Move) → All (IsProper s) moves → IsRun s (run s moves) }
+{}
+
+/// Sequence numbers go around: after 65,535 comes 1.
+pub fn numbers()
+    ensures { next 65535 ≡ 1 }
+{}
