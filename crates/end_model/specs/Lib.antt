@@ -7,4 +7,5 @@ pub mod Readiness
 pub mod Verdict
 pub mod Step
 pub mod Outputs
+pub mod Entries
 pub mod Rows

@@ -1,14 +1,12 @@
--- The outputs of an end, as it shows them and by looking back, and the entry that tells a deed to the outside.
+-- The outputs of an end: as it shows them in its session, and by looking back over all of its deeds.
 use Rattle.std.specs.Prelude.{ℕ, nat_lt, List, [], ◌∷◌, Bool, true, false, ◌&&◌, Option, Some, None, is_some, if◌then◌else◌, replicate}
 use Rattle.fsoe_base.specs.declared.command.Command.{Command}
 use Rattle.fsoe_base.specs.declared.command.Command.TheVariants as command
 use Rattle.fsoe_base.specs.declared.did.Took.{Took}
-use Rattle.param_load.specs.declared.entry.Entry.{Entry}
-use Rattle.end_model.specs.Setup.{Setup, end_of, receives}
+use Rattle.end_model.specs.Setup.{Setup, receives}
 use Rattle.end_model.specs.Deed.{Deed, ticked}
 use Rattle.end_model.specs.Chain.{since}
 use Rattle.end_model.specs.Payloads.{terms}
-use Rattle.end_model.specs.Readiness.{state_of, told_terms}
 
 -- whether a command carries process data
 abbrev pub is_process : Command → Bool
@@ -47,20 +45,3 @@ out_after s n (x ∷ e) = if is_some x.did.reset then zeros s else held_up s (x 
 -- and fewer ticks than the watchdog; else zeros. It knows of no age, state or limit
 abbrev pub out : Setup → List Deed → List ℕ
 out s e = out_after s 0 e
-
--- what is told of a deed: the state, the outputs and the terms are those after it
-abbrev pub entry_of : Setup → List Deed → Deed → Entry
-entry_of s e x = record {
-  end = end_of s;
-  what = x.what;
-  did = x.did;
-  sent = x.sent;
-  state = state_of s (x ∷ e);
-  outputs = outputs s (x ∷ e);
-  terms = told_terms s (x ∷ e);
-}
-
--- what is told of each deed
-abbrev pub entries : Setup → List Deed → List Entry
-entries s [] = []
-entries s (x ∷ e) = entry_of s e x ∷ entries s e

@@ -13,7 +13,7 @@ use Rattle.param_load.specs.declared.slave_settings.SlaveSettings.{SlaveSettings
 use Rattle.entry_text.specs.EntryText.{entry_text}
 use Rattle.end_model.specs.Setup.{Setup, OfMaster, OfSlave}
 use Rattle.end_model.specs.Step.{run}
-use Rattle.end_model.specs.Outputs.{entries}
+use Rattle.end_model.specs.Entries.{entries}
 
 -- two bytes of safe data in each direction
 abbrev pub two_and_two : Lengths
@@ -50,26 +50,32 @@ slave_values = record {
   allowed = refl;
 }
 
+-- a slave with these values
 abbrev pub a_slave : Setup
 a_slave = OfSlave slave_values
 
+-- the bytes of a hexadecimal text, none where it has a fault
 abbrev pub if_bytes : Result (List ℕ) FromHexError → List ℕ
 if_bytes (Ok bytes) = bytes
 if_bytes (Err fault) = []
 
--- a frame comes, a load is put: bytes in hexadecimal
+-- a frame comes, in hexadecimal
 abbrev pub d : List ℕ → Move
 d text = move.Deliver (if_bytes (decode_of text))
 
+-- a load is put, in hexadecimal
 abbrev pub p : List ℕ → Move
 p text = move.Put (if_bytes (decode_of text))
 
+-- one tick
 abbrev pub t : Move
 t = move.Tick
 
+-- the end is held, or held no more
 abbrev pub h : Bool → Move
 h failsafe = move.Hold failsafe
 
+-- a reset of the end's own
 abbrev pub z : Move
 z = move.Local
 

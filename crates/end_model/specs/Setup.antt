@@ -7,6 +7,7 @@ use Rattle.param_load.specs.declared.master_settings.MasterSettings.{MasterSetti
 use Rattle.param_load.specs.declared.slave_settings.SlaveSettings.{SlaveSettings}
 use Rattle.param_load.specs.declared.profile.Profile.{Profile}
 
+-- the settings of either end
 pub data Setup : Type 0 where
   OfMaster : MasterSettings → Setup
   OfSlave : SlaveSettings → Setup
@@ -40,6 +41,7 @@ abbrev pub first_nonce : Setup → ℕ
 first_nonce (OfMaster ms) = ms.nonce
 first_nonce (OfSlave ss) = ss.nonce
 
+-- the profile of parameters
 abbrev pub profile_of : Setup → Profile
 profile_of (OfMaster ms) = ms.profile
 profile_of (OfSlave ss) = ss.profile

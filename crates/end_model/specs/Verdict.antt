@@ -23,6 +23,7 @@ use Rattle.end_model.specs.Chain.{since, own, kept, fits}
 use Rattle.end_model.specs.Payloads.{pay, piece, count_in, session_id, slave_conn, uploaded}
 use Rattle.end_model.specs.Readiness.{allowed}
 
+-- how the tests of a frame end
 pub data Verdict : Type 0 where
   -- all tests are passed by a frame with this command and load
   Valid : Command → List ℕ → Verdict
