@@ -120,9 +120,17 @@ after_pieces ms e c k =
     if nat_lt k (pieces (pay ms (session_id (OfMaster ms) e) (phase_of c)) (piece_len (OfMaster ms)))
     then download ms e c (suc k) else after_phase ms e c
 
+-- a master's next frame in a handshake, by the pieces that it sent
+abbrev pub goes_on : MasterSettings → List Deed → Command → List ℕ
+goes_on ms e c = after_pieces ms e c (count_in (phase_of c) (own (since e)))
+
 -- a master's next frame after an answer with this command
 abbrev pub master_answer : MasterSettings → List Deed → Command → List ℕ
-master_answer ms e c = after_pieces ms e c (count_in (phase_of c) (own (since e)))
+master_answer ms e command.Reset = after_phase ms e command.Reset
+master_answer ms e command.Session = goes_on ms e command.Session
+master_answer ms e command.Connection = goes_on ms e command.Connection
+master_answer ms e command.Parameter = goes_on ms e command.Parameter
+master_answer ms e _ = with_data (OfMaster ms) e
 
 -- the frame that follows a frame that was taken
 abbrev pub answer : Setup → List Deed → Took → List ℕ

@@ -1,9 +1,13 @@
 //! What holds of the definitions. The calls do nothing: each law is a contract.
 
-ghost use Rattle.std.specs.Prelude.{◌≡◌, List, ◌++◌, All};
+ghost use Rattle.std.specs.Prelude.{◌≡◌, ◌≢◌, List, ◌++◌, All};
+ghost use Rattle.fsoe_base.specs.declared.command.State.TheVariants as state;
 ghost use Rattle.param_load.specs.declared.entry.Move.{Move};
 ghost use Rattle.seq_chain.specs.Numbers.{next};
 ghost use Rattle.end_model.specs.Setup.{Setup};
+ghost use Rattle.end_model.specs.Deed.{Deed};
+ghost use Rattle.end_model.specs.Readiness.{state_of};
+ghost use Rattle.end_model.specs.Outputs.{zeros, outputs, out};
 ghost use Rattle.end_model.specs.Step.{run, continued, IsProper, IsRun};
 ghost use Rattle.end_model.specs.Rows.{FirstTick, MasterHandshake, MasterStepsNumber, MasterIsReset, SlaveHandshake, SlaveExpires, SlaveGoesOn, SlaveRefusesOldFrame, SlaveResetItself, WrongAddress, WrongWatchdog, WrongParameters, LongSessionIds, OtherProfile, QuietInReset};
 
@@ -43,6 +47,15 @@ pub fn refused_handshakes()
 pub fn runs()
     ensures continued { (s : Setup) (front rest : List Move) → run s (front ++ rest) ≡ continued s (run s front) rest }
     ensures proper { (s : Setup) (moves : List Move) → All (IsProper s) moves → IsRun s (run s moves) }
+{}
+
+/// In every run of an end its outputs are those that looking back gives: the load of the last frame taken, where that
+/// was ProcessData, no reset came after it and fewer ticks than the watchdog, and zeros in every other case. Outside
+/// Data they are zeros.
+#[tactic(auto, using(crate::proofs::Shown::looking_back, crate::proofs::Shown::fail_safe))]
+pub fn outputs()
+    ensures looking_back { (s : Setup) (e : List Deed) → IsRun s e → outputs s e ≡ out s e }
+    ensures fail_safe { (s : Setup) (e : List Deed) → IsRun s e → state_of s e ≢ state.Data → outputs s e ≡ zeros s }
 {}
 
 /// Sequence numbers go around: after 65,535 comes 1.

@@ -1,0 +1,62 @@
+-- How the frames of a session begin.
+use Rattle.std.proofs.Common.{◌≡◌, ℕ, suc, List, Bool, true, false, nat_lt, replicate, if◌then◌else◌, refl}
+use Rattle.fsoe_base.specs.declared.command.State.TheVariants as state
+use Rattle.fsoe_base.specs.declared.command.Command.{Command}
+use Rattle.fsoe_base.specs.declared.command.Command.TheVariants as command
+use Rattle.param_load.specs.declared.master_settings.MasterSettings.{MasterSettings}
+use Rattle.param_load.specs.declared.slave_settings.SlaveSettings.{SlaveSettings}
+use Rattle.end_model.specs.Setup.{Setup, OfMaster, OfSlave, sends, piece_len}
+use Rattle.end_model.specs.Phases.{has_command, is_reset, phase_of, phase_of_frame}
+use Rattle.end_model.specs.Deed.{Deed, is_empty}
+use Rattle.end_model.specs.Chain.{since, own}
+use Rattle.end_model.specs.Payloads.{pay, pieces, count_in, session_id}
+use Rattle.end_model.specs.Readiness.{offer, held}
+use Rattle.end_model.specs.Step.{sealed, with_data, after_phase, after_pieces, download, master_answer, slave_answer}
+
+-- a frame that is there, and no Reset frame
+pub record IsInSession (f : List ℕ) : Type 0 where
+  pub in_session : has_command command.Reset f ≡ false
+  pub sent : is_empty f ≡ false
+
+in_session-if : (b : Bool) (f g : List ℕ) → IsInSession f → IsInSession g → IsInSession (if b then f else g)
+in_session-if true f g h k = h
+in_session-if false f g h k = k
+
+data_frame : (s : Setup) (e : List Deed) → IsInSession (with_data s e)
+data_frame s e = in_session-if (held e) (sealed s e command.FailSafeData (replicate (sends s) 0)) (sealed s e command.ProcessData (offer s e)) (record { in_session = refl; sent = refl }) (record { in_session = refl; sent = refl })
+
+first_frame : (ms : MasterSettings) (e : List Deed) (c : Command) → IsInSession (after_phase ms e c)
+first_frame ms e command.Reset = record { in_session = refl; sent = refl }
+first_frame ms e command.Session = record { in_session = refl; sent = refl }
+first_frame ms e command.Connection = record { in_session = refl; sent = refl }
+first_frame ms e command.Parameter = data_frame (OfMaster ms) e
+first_frame ms e command.FailSafeData = data_frame (OfMaster ms) e
+first_frame ms e command.ProcessData = data_frame (OfMaster ms) e
+
+next_frame : (ms : MasterSettings) (e : List Deed) (c : Command) (k : ℕ) → IsInSession (download ms e c (suc k)) → IsInSession (after_pieces ms e c k)
+next_frame ms e c k h =
+    in_session-if (nat_lt k (pieces (pay ms (session_id (OfMaster ms) e) (phase_of c)) (piece_len (OfMaster ms)))) (download ms e c (suc k)) (after_phase ms e c) h (first_frame ms e c)
+
+pub master_frame : (ms : MasterSettings) (e : List Deed) (c : Command) → IsInSession (master_answer ms e c)
+master_frame ms e command.Reset = first_frame ms e command.Reset
+master_frame ms e command.Session = next_frame ms e command.Session (count_in (phase_of command.Session) (own (since e))) (record { in_session = refl; sent = refl })
+master_frame ms e command.Connection = next_frame ms e command.Connection (count_in (phase_of command.Connection) (own (since e))) (record { in_session = refl; sent = refl })
+master_frame ms e command.Parameter = next_frame ms e command.Parameter (count_in (phase_of command.Parameter) (own (since e))) (record { in_session = refl; sent = refl })
+master_frame ms e command.FailSafeData = data_frame (OfMaster ms) e
+master_frame ms e command.ProcessData = data_frame (OfMaster ms) e
+
+pub slave_frame : (ss : SlaveSettings) (e : List Deed) (c : Command) (load : List ℕ) → is_reset c ≡ false → IsInSession (slave_answer ss e c load)
+slave_frame ss e command.Reset load h = cc
+slave_frame ss e command.Session load h = record { in_session = refl; sent = refl }
+slave_frame ss e command.Connection load h = record { in_session = refl; sent = refl }
+slave_frame ss e command.Parameter load h = record { in_session = refl; sent = refl }
+slave_frame ss e command.FailSafeData load h = data_frame (OfSlave ss) e
+slave_frame ss e command.ProcessData load h = data_frame (OfSlave ss) e
+
+phase-if : (b : Bool) (f g : List ℕ) → phase_of_frame f ≡ state.Data → phase_of_frame g ≡ state.Data → phase_of_frame (if b then f else g) ≡ state.Data
+phase-if true f g h k = h
+phase-if false f g h k = k
+
+-- a data frame has the phase Data
+pub data_phase : (s : Setup) (e : List Deed) → phase_of_frame (with_data s e) ≡ state.Data
+data_phase s e = phase-if (held e) (sealed s e command.FailSafeData (replicate (sends s) 0)) (sealed s e command.ProcessData (offer s e)) refl refl

@@ -1,0 +1,48 @@
+-- The outputs of an end are those that looking back gives, and zeros outside Data.
+use Rattle.std.proofs.Common.{◌≡◌, ◌≢◌, ℕ, ◌+◌, ◌<◌, List, [], ◌∷◌, Bool, true, false, nat_lt, refl, sym, subst, ◌∙◌, arith}
+use Rattle.std.proofs.lemmas.Bool.{lt-ltb}
+use Rattle.fsoe_base.specs.declared.command.State.{State}
+use Rattle.fsoe_base.specs.declared.command.State.TheVariants as state
+use Rattle.param_load.specs.declared.master_settings.MasterSettings.{MasterSettings}
+use Rattle.param_load.specs.declared.slave_settings.SlaveSettings.{SlaveSettings}
+use Rattle.end_model.specs.Setup.{Setup, OfMaster, OfSlave}
+use Rattle.end_model.specs.Deed.{Deed}
+use Rattle.end_model.specs.Readiness.{state_of, ticks, slave_limit}
+use Rattle.end_model.specs.Step.{step, IsRun}
+use Rattle.end_model.specs.Outputs.{zeros, outputs, out}
+use Rattle.end_model.proofs.DeedKinds.{kind}
+use Rattle.end_model.proofs.MasterShown.{MasterShows, shown_in, master-shows}
+use Rattle.end_model.proofs.SlaveShown.{SlaveShows, parameters, slave-shows}
+
+master-run : (ms : MasterSettings) (e : List Deed) → IsRun (OfMaster ms) e → MasterShows ms e
+master-run ms [] r = record { outs = λ n. refl; young = λ k. cc; none = λ k. refl }
+master-run ms (x ∷ e) r =
+    let d : Deed = step (OfMaster ms) e x.what in
+    subst (λ (x : Deed). MasterShows ms (x ∷ e)) (sym r.0.stepped) (master-shows ms e d.what d.did d.sent (master-run ms e r.1) (kind (OfMaster ms) e x.what))
+
+slave-run : (ss : SlaveSettings) (e : List Deed) → IsRun (OfSlave ss) e → SlaveShows ss e
+slave-run ss [] r = record { outs = λ n. refl; young = λ k. cc; none = λ k. refl; tested = λ k. absurd (omega (arith, k)); is_whole = λ k. cc }
+slave-run ss (x ∷ e) r =
+    let d : Deed = step (OfSlave ss) e x.what in
+    subst (λ (x : Deed). SlaveShows ss (x ∷ e)) (sym r.0.stepped) (slave-shows ss e d.what d.did d.sent (slave-run ss e r.1) (kind (OfSlave ss) e x.what))
+
+-- what is shown while the watchdog hasn't expired
+shown : (s : Setup) (now : State) (b : Bool) (load : List ℕ) → (now ≡ state.Data → b ≡ true) → (now ≢ state.Data → load ≡ zeros s) → load ≡ shown_in s now b load
+shown s state.Data true load y z = refl
+shown s state.Data false load y z = let k : false ≡ true = y refl in cc
+shown s state.Reset b load y z = z (λ k. cc)
+shown s state.Session b load y z = z (λ k. cc)
+shown s state.Connection b load y z = z (λ k. cc)
+shown s state.Parameter b load y z = z (λ k. cc)
+
+pub looking_back : (s : Setup) (e : List Deed) → IsRun s e → outputs s e ≡ out s e
+looking_back (OfMaster ms) e r =
+    let h : MasterShows ms e = master-run ms e r in
+    shown (OfMaster ms) (state_of (OfMaster ms) e) (nat_lt (0 + ticks (OfMaster ms) e) ms.watchdog) (outputs (OfMaster ms) e) (λ k. let t : ticks (OfMaster ms) e < ms.watchdog = h.young k in lt-ltb (0 + ticks (OfMaster ms) e) ms.watchdog (omega arith)) h.none ∙ sym (h.outs 0)
+looking_back (OfSlave ss) e r =
+    let h : SlaveShows ss e = slave-run ss e r in
+    shown (OfSlave ss) (state_of (OfSlave ss) e) (nat_lt (0 + ticks (OfSlave ss) e) (slave_limit ss (parameters ss e))) (outputs (OfSlave ss) e) (λ k. let t : ticks (OfSlave ss) e < slave_limit ss (parameters ss e) = h.young k in lt-ltb (0 + ticks (OfSlave ss) e) (slave_limit ss (parameters ss e)) (omega arith)) h.none ∙ sym (h.outs 0)
+
+pub fail_safe : (s : Setup) (e : List Deed) → IsRun s e → state_of s e ≢ state.Data → outputs s e ≡ zeros s
+fail_safe (OfMaster ms) e r k = let h : MasterShows ms e = master-run ms e r in h.none k
+fail_safe (OfSlave ss) e r k = let h : SlaveShows ss e = slave-run ss e r in h.none k
