@@ -17,7 +17,7 @@ use Rattle.param_load.specs.declared.entry.Move.{Move}
 use Rattle.param_load.specs.declared.entry.Move.TheVariants as move
 use Rattle.param_load.specs.declared.master_settings.MasterSettings.{MasterSettings}
 use Rattle.param_load.specs.declared.slave_settings.SlaveSettings.{SlaveSettings}
-use Rattle.param_load.specs.Contents.{code}
+use Rattle.fsoe_base.specs.Command.{code}
 use Rattle.param_load.specs.Payload.{session_payload, padded}
 use Rattle.param_load.specs.Profile.{allows_id}
 use Rattle.end_model.specs.Setup.{Setup, OfMaster, OfSlave, sends, piece_len, profile_of}

@@ -6,7 +6,7 @@ use Rattle.fsoe_base.specs.declared.command.State.TheVariants as state
 use Rattle.fsoe_base.specs.declared.command.Command.{Command}
 use Rattle.fsoe_base.specs.declared.command.Command.TheVariants as command
 use Rattle.fsoe_base.specs.declared.command.Code.{Code}
-use Rattle.fsoe_base.specs.Command.{command_of}
+use Rattle.fsoe_base.specs.Command.{command_of, code}
 use Rattle.fsoe_base.specs.Lengths.{frame_len}
 use Rattle.fsoe_frame.specs.Parts.{Frame, frame_of}
 use Rattle.seq_chain.specs.Reset.{reset_view}
@@ -14,7 +14,8 @@ use Rattle.param_load.specs.declared.contents.Expected.{Expected}
 use Rattle.param_load.specs.declared.contents.Expected.TheVariants as expected
 use Rattle.param_load.specs.declared.master_settings.MasterSettings.{MasterSettings}
 use Rattle.param_load.specs.declared.slave_settings.SlaveSettings.{SlaveSettings}
-use Rattle.param_load.specs.Contents.{code, all_zero, contents_fault}
+use Rattle.fsoe_base.specs.Bytes.{all_zero}
+use Rattle.param_load.specs.Contents.{contents_fault}
 use Rattle.param_load.specs.Payload.{padded}
 use Rattle.end_model.specs.Setup.{Setup, OfMaster, OfSlave, receives, piece_len}
 use Rattle.end_model.specs.Phases.{is_guarded}

@@ -1,5 +1,6 @@
--- The bytes and names of commands, and the names of states. The bytes are those of the public standard.
+-- The bytes and names of commands, the names of states, and codes. The bytes are those of the public standard.
 use Rattle.std.specs.Prelude.{ℕ, ◌==◌, List, Option, Some, None, codes, if◌then◌else◌}
+use Rattle.fsoe_base.specs.declared.command.Code.{Code}
 use Rattle.fsoe_base.specs.declared.command.Command.{Command}
 use Rattle.fsoe_base.specs.declared.command.Command.TheVariants as command
 use Rattle.fsoe_base.specs.declared.command.State.{State}
@@ -41,3 +42,7 @@ state_name state.Session = codes "Session"
 state_name state.Connection = codes "Connection"
 state_name state.Parameter = codes "Parameter"
 state_name state.Data = codes "Data"
+
+-- the code with this number
+abbrev pub code : ℕ → Code
+code n = record { 0 = n }

@@ -2,6 +2,7 @@
 //! the bytes of a frame and of an image, and what one step of an end did.
 #![tactic(auto)]
 
+pub mod bytes;
 pub mod command;
 pub mod did;
 pub mod frame_buf;
@@ -9,6 +10,7 @@ pub mod image;
 pub mod lengths;
 pub mod memory;
 
+pub use bytes::is_all_zero;
 pub use command::{Code, Command, End, State};
 pub use did::{Cause, Did, Dropped, Took};
 pub use frame_buf::FrameBuf;

@@ -8,7 +8,8 @@ use Rattle.param_load.specs.declared.contents.Expected.TheVariants as expected
 use Rattle.param_load.specs.declared.app_rule.AppRule.{AppRule}
 use Rattle.param_load.specs.declared.profile.Profile.{Profile}
 use Rattle.param_load.specs.AppRule.{rule_len}
-use Rattle.param_load.specs.Contents.{code, or_else, fails, word_is, communication_fault, app_fault, app_part, field_fault, padding_fault, contents_fault}
+use Rattle.fsoe_base.specs.Command.{code}
+use Rattle.param_load.specs.Contents.{or_else, fails, word_is, communication_fault, app_fault, app_part, field_fault, padding_fault, contents_fault}
 use Rattle.param_load.specs.Profile.{id_len}
 use Rattle.param_load.specs.Payload.{number_at}
 use Rattle.param_load.specs.UploadView.{HasWatchdog}

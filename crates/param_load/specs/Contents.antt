@@ -1,8 +1,9 @@
 -- The tests of the contents of the frames that a slave takes in a handshake. `before` is the number of bytes
 -- that were joined before the frame, and `u` all joined bytes, the frame's among them.
 use Rattle.std.specs.Prelude.{ℕ, ◌+◌, ◌==◌, nat_le, nat_lt, Bool, true, false, ◌&&◌, not, List, [], length, take, drop, Option, Some, None, if◌then◌else◌}
-use Rattle.std.specs.List.{list_all}
 use Rattle.fsoe_base.specs.declared.command.Code.{Code}
+use Rattle.fsoe_base.specs.Bytes.{all_zero}
+use Rattle.fsoe_base.specs.Command.{code}
 use Rattle.param_load.specs.declared.app_rule.AppRule.{AppRule}
 use Rattle.param_load.specs.declared.contents.Expected.{Expected}
 use Rattle.param_load.specs.declared.contents.Expected.TheVariants as expected
@@ -11,13 +12,6 @@ use Rattle.param_load.specs.declared.profile.Profile.TheVariants as profile
 use Rattle.param_load.specs.AppRule.{rule_len, allows, is_acceptable}
 use Rattle.param_load.specs.Payload.{number_at}
 use Rattle.param_load.specs.Profile.{id_len}
-
-abbrev pub code : ℕ → Code
-code n = record { 0 = n }
-
--- each byte is 0
-abbrev pub all_zero : List ℕ → Bool
-all_zero bytes = list_all (λ b. b == 0) bytes
 
 -- the rule of expected parameters is one that settings may have
 abbrev pub is_expectable : Expected → Bool

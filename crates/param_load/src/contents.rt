@@ -1,12 +1,12 @@
 //! What an upload is expected to bring, and the tests of the contents of its frames.
 ghost use Rattle.std.specs.Prelude.{◌≡◌, ◌≤◌, ◌<◌, ◌+◌, length, nat_le, nat_lt, ◌&&◌, IsTrue};
-ghost use Rattle.param_load.specs.Contents.{all_zero, is_expectable, expected_len, app_part, word_is, connection_fault, communication_fault, field_fault, contents_fault};
+ghost use Rattle.param_load.specs.Contents.{is_expectable, expected_len, app_part, word_is, connection_fault, communication_fault, field_fault, contents_fault};
 ghost use Rattle.param_load.specs.Profile.{id_len};
 
 use crate::app_rule::AppRule;
 use crate::joined::Joined;
 use crate::profile::Profile;
-use fsoe_base::Code;
+use fsoe_base::{Code, is_all_zero};
 
 /// What an upload is expected to bring, with what its fields are compared with.
 #[derive(Debug, Drop)]
@@ -24,13 +24,6 @@ pub(crate) enum Expected {
         rule: AppRule,
         profile: Profile,
     },
-}
-
-/// Whether each byte is 0, as the padding of a frame is, and the data of a FailSafeData frame.
-pub fn is_all_zero(bytes: &[u8]) -> bool
-    ensures { result ≡ all_zero bytes.now }
-{
-    bytes.iter().all(|b| *b == 0)
 }
 
 /// Whether the byte at this place came with the frame before which `before` bytes were joined.

@@ -18,7 +18,6 @@ pub mod upload;
 pub use app_bytes::AppBytes;
 pub use app_rule::AppRule;
 pub use bad_setting::BadSetting;
-pub use contents::is_all_zero;
 pub use entry::{Entry, Move};
 pub use master_settings::MasterSettings;
 pub use payload::{Payload, padded};

@@ -1,8 +1,9 @@
 -- Reset frames, which stand outside of the chain.
 use Rattle.std.specs.Prelude.{ℕ, zero, suc, List, [], ◌∷◌, ◌==◌, Bool, not, drop, Result, Ok, Err, nat_eq, replicate, if◌then◌else◌}
-use Rattle.std.specs.List.{list_all}
 use Rattle.std.specs.Cmp.Lexicographic.{pointwise}
 use Rattle.fsoe_base.specs.declared.command.Code.{Code}
+use Rattle.fsoe_base.specs.Bytes.{all_zero}
+use Rattle.fsoe_base.specs.Command.{code}
 use Rattle.fsoe_frame.specs.Layout.{layout}
 use Rattle.fsoe_frame.specs.Parts.{Frame}
 use Rattle.seq_chain.specs.Cover.{crcs, first_of}
@@ -22,12 +23,12 @@ reset_frame code l = layout 0x2A (reset_load code l) (reset_crcs (reset_load cod
 
 -- whether all bytes after the first are 0
 abbrev pub zeros_follow : List ℕ → Bool
-zeros_follow load = list_all (λ b. b == 0) (drop 1 load)
+zeros_follow load = all_zero (drop 1 load)
 
 -- what a frame with the command Reset says: its code, or the code of the first fault
 abbrev pub reset_view : Frame → Result Code Code
 reset_view frame =
-    if not (frame.conn == 0) then Err (record { 0 = 3 })
-    else if not (pointwise nat_eq frame.crcs (reset_crcs frame.load)) then Err (record { 0 = 4 })
-    else if not (zeros_follow frame.load) then Err (record { 0 = 7 })
-    else Ok (record { 0 = first_of frame.load })
+    if not (frame.conn == 0) then Err (code 0x03)
+    else if not (pointwise nat_eq frame.crcs (reset_crcs frame.load)) then Err (code 0x04)
+    else if not (zeros_follow frame.load) then Err (code 0x07)
+    else Ok (code (first_of frame.load))

@@ -4,13 +4,13 @@
 ghost use Rattle.std.specs.Prelude.{◌≡◌, ◌<◌, ◌≤◌, length, IsTrue};
 ghost use Rattle.fsoe_base.specs.Command.{command_byte};
 ghost use Rattle.fsoe_base.specs.Lengths.{is_length, group_count};
-ghost use Rattle.seq_chain.specs.Reset.{reset_load, reset_crcs, zeros_follow};
+ghost use Rattle.seq_chain.specs.Reset.{reset_load, reset_crcs};
 ghost use Rattle.seq_chain.specs.Reset as reset;
 
 use crate::compare::crcs_are;
 use crate::cover::{Crcs, crcs_into};
 use arrayvec::ArrayVec;
-use fsoe_base::{Code, Command, FrameBuf, Image};
+use fsoe_base::{Code, Command, FrameBuf, Image, is_all_zero};
 use fsoe_frame::FrameView;
 
 /// The connection id isn't 0.
@@ -50,7 +50,7 @@ pub fn reset_view(view: &FrameView<'_>) -> Result<Code, Code>
     if !crcs_are(view, crcs.as_slice()) {
         return Err(WRONG_CRC);
     }
-    if !is_code_and_zeros(load.bytes()) {
+    if !is_all_zero(&load.bytes()[1..]) {
         return Err(WRONG_DATA);
     }
     Ok(Code(load.bytes()[0]))
@@ -77,17 +77,4 @@ fn data_of(code: Code, l: usize) -> Image
         load.push(0);
     }
     load
-}
-
-/// Whether all bytes after the first are 0.
-fn is_code_and_zeros(load: &[u8]) -> bool
-    requires { 0 < length load.now }
-    ensures { result ≡ zeros_follow load.now }
-{
-    for place in 1..load.len() {
-        if load[place] != 0 {
-            return false;
-        }
-    }
-    true
 }

@@ -2,7 +2,7 @@
 use Rattle.std.specs.Prelude.{ℕ, Bool, true, false, List}
 use Rattle.fsoe_base.specs.declared.command.Command.{Command}
 use Rattle.fsoe_base.specs.declared.command.Command.TheVariants as command
-use Rattle.param_load.specs.Contents.{all_zero}
+use Rattle.fsoe_base.specs.Bytes.{all_zero}
 
 abbrev pub is_data : Command → Bool
 is_data command.ProcessData = true

@@ -10,7 +10,7 @@ use Rattle.fsoe_base.specs.declared.did.Dropped.{Dropped}
 use Rattle.fsoe_base.specs.declared.did.Dropped.TheVariants as dropped
 use Rattle.fsoe_base.specs.Did as did
 use Rattle.failsafe_io.specs.Timer.{ticked}
-use Rattle.param_load.specs.Contents.{code}
+use Rattle.fsoe_base.specs.Command.{code}
 use Rattle.param_load.specs.declared.slave_settings.SlaveSettings.{SlaveSettings}
 use Rattle.seq_chain.specs.Reset.{reset_frame}
 use Rattle.slave_core.specs.declared.now.Now.{Now}

@@ -3,13 +3,13 @@ use Rattle.std.specs.Prelude.{â„•, List, [], length, Result, Ok, Err, None, ifâ—
 use Rattle.fsoe_base.specs.declared.command.Code.{Code}
 use Rattle.fsoe_base.specs.declared.command.Command.{Command}
 use Rattle.fsoe_base.specs.declared.command.Command.TheVariants as command
-use Rattle.fsoe_base.specs.Command.{command_byte}
+use Rattle.fsoe_base.specs.Command.{command_byte, code}
 use Rattle.fsoe_frame.specs.Parts.{bytes_of}
 use Rattle.seq_chain.specs.declared.chain.Chain.{Chain}
 use Rattle.seq_chain.specs.Chain.{sealed_by, after_sent, after_taken}
 use Rattle.param_load.specs.declared.terms.Terms.{Terms}
 use Rattle.param_load.specs.declared.upload.Progress.{Progress}
-use Rattle.param_load.specs.Contents.{code, app_part}
+use Rattle.param_load.specs.Contents.{app_part}
 use Rattle.param_load.specs.Payload.{session_payload, number_at, piece_from, padded}
 use Rattle.param_load.specs.Upload.{session_upload, connection_upload, parameter_upload, advanced, outcome, last_piece}
 use Rattle.param_load.specs.UploadView.{UploadView}

@@ -5,10 +5,9 @@ use Rattle.fsoe_base.specs.declared.command.Code.{Code}
 use Rattle.fsoe_base.specs.declared.command.Command.{Command}
 use Rattle.fsoe_base.specs.declared.command.Command.TheVariants as command
 use Rattle.fsoe_base.specs.declared.did.Dropped.TheVariants as dropped
-use Rattle.fsoe_base.specs.Command.{command_of}
+use Rattle.fsoe_base.specs.Command.{command_of, code}
 use Rattle.fsoe_base.specs.Lengths.{frame_len}
 use Rattle.fsoe_frame.specs.Parts.{Frame, frame_of}
-use Rattle.param_load.specs.Contents.{code}
 use Rattle.seq_chain.specs.Chain.{fits_next}
 use Rattle.seq_chain.specs.Reset.{reset_view}
 use Rattle.slave_core.specs.declared.now.Now.{Now}

@@ -18,8 +18,8 @@ ghost use Rattle.slave_core.specs.Views.{SessionUnder, ConnectionUnder, Paramete
 use crate::kit::Kit;
 use crate::seen::Seen;
 use failsafe_io::Outputs;
-use fsoe_base::{Code, Command, FrameBuf};
-use param_load::{Payload, Terms, Upload, is_all_zero, padded};
+use fsoe_base::{Code, Command, FrameBuf, is_all_zero};
+use param_load::{Payload, Terms, Upload, padded};
 use seq_chain::Chain;
 use std::marker::Model;
 
