@@ -2,6 +2,7 @@
 ghost use Rattle.std.specs.Prelude.{◌≡◌, ◌-◌, ◌^◌, ◌≤◌, ◌<◌, [], IfOk, OnOk};
 ghost use Rattle.std.specs.Io.KnownBytes.{prepend_known};
 ghost use Rattle.schedule_file.specs.Header.{is_done, kind_of};
+ghost use Rattle.schedule_file.specs.LinesLeft.{lines_left};
 ghost use Rattle.node_runner.specs.Ending.{Halts};
 ghost use Rattle.node_runner.specs.Halt.{Blames, Goes, Stalls};
 ghost use Rattle.node_runner.specs.Input.{TookLines};
@@ -11,10 +12,7 @@ use crate::halt::{Halt, halt_of};
 use fsoe_base::End;
 use fsoe_io::{LineReader, Source};
 use param_load::SlaveSettings;
-use schedule_file::{Header, HeaderKind, LineCause};
-
-/// The most lines of a header.
-const MOST: u64 = 1032;
+use schedule_file::{Header, HeaderKind};
 
 /// Reads the next line of the header: whether it is the last.
 fn next_header_line<S: Source>(
@@ -25,6 +23,7 @@ fn next_header_line<S: Source>(
     requires { reader.old.lines < 2 ^ 64 - 1 }
     ensures kind { kind_of header.new ≡ kind_of header.old }
     ensures done { IfOk result (λ done. done ≡ is_done header.new) }
+    ensures fewer { OnOk result (lines_left header.new < lines_left header.old) }
     ensures goes { Goes result reader.old.lines reader.new.lines
         (prepend_known reader.old.bytes (S.left source.old))
         (prepend_known reader.new.bytes (S.left source.new)) }
@@ -59,12 +58,11 @@ pub fn read_header<S: Source>(
     ensures cause { Blames result (S.faults source.old) (S.faults source.new) }
 {
     let mut header = Header::new(HeaderKind::Node(End::Slave));
-    for _ in 0..MOST {
+    loop {
         match next_header_line(reader, source, &mut header) {
             Ok(true) => return Ok(header.slave()),
             Ok(false) => {}
             Err(why) => return Err(why),
         }
     }
-    Err(Halt::Refused(reader.lines() + 1, Cause::Line(LineCause::Header)))
 }
