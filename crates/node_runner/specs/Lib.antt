@@ -5,4 +5,5 @@ pub mod Halt
 pub mod HaltOf
 pub mod Input
 pub mod Report
+pub mod Step
 pub mod Stop

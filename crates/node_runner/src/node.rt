@@ -2,6 +2,8 @@
 ghost use Rattle.std.specs.Prelude.{◌≡◌, ◌≤◌, length};
 ghost use Rattle.fsoe_base.specs.declared.command.End.TheVariants as side;
 ghost use Rattle.schedule_file.specs.Event.{FitsNode};
+ghost use Rattle.node_runner.specs.Report.{entry_line};
+ghost use Rattle.node_runner.specs.Step.{stepped};
 
 use entry_text::push_entry;
 use fsoe_base::{Did, FrameBuf};
@@ -12,6 +14,9 @@ use slave_core::Slave;
 /// One event at the slave. The frame that it sends is written to `sent`, which is empty where it sends none.
 pub fn step(slave: &mut Slave, event: &Event, sent: &mut FrameBuf) -> Did
     requires { FitsNode side.Slave slave.old.kit.settings.lengths slave.old.kit.settings.profile event.now }
+    ensures slave { slave.new ≡ (stepped slave.old event.now).slave }
+    ensures did { result ≡ (stepped slave.old event.now).did }
+    ensures sent { sent.new ≡ (stepped slave.old event.now).sent }
 {
     match event {
         Event::Raw { frame, .. } => slave.deliver(frame.bytes(), sent),
@@ -38,7 +43,8 @@ pub fn step(slave: &mut Slave, event: &Event, sent: &mut FrameBuf) -> Did
 
 /// Writes the line of the event of this number, from 1.
 pub fn write_entry(events: u64, did: &Did, slave: &Slave, sent: &FrameBuf, text: &mut LineText)
-    ensures { length text.new ≤ 1000 }
+    ensures text { text.new ≡ entry_line events (record { slave = slave.now; did = did.now; sent = sent.now }) }
+    ensures most { length text.new ≤ 1000 }
 {
     text.clear();
     text.push_decimal(events);
