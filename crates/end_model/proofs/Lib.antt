@@ -6,3 +6,5 @@ pub mod Heads
 pub mod MasterShown
 pub mod SlaveShown
 pub mod Shown
+pub mod Links
+pub mod ReadBack

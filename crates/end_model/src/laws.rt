@@ -1,10 +1,15 @@
 //! What holds of the definitions. The calls do nothing: each law is a contract.
 
-ghost use Rattle.std.specs.Prelude.{◌≡◌, ◌≢◌, List, ◌++◌, All};
+ghost use Rattle.std.specs.Prelude.{◌≡◌, ◌≢◌, ℕ, List, ◌++◌, length, All};
 ghost use Rattle.fsoe_base.specs.declared.command.State.TheVariants as state;
 ghost use Rattle.param_load.specs.declared.entry.Move.{Move};
-ghost use Rattle.seq_chain.specs.Numbers.{next};
-ghost use Rattle.end_model.specs.Setup.{Setup};
+ghost use Rattle.fsoe_base.specs.declared.command.Command.{Command};
+ghost use Rattle.fsoe_base.specs.Command.{command_byte};
+ghost use Rattle.fsoe_frame.specs.Parts.{frame_of};
+ghost use Rattle.seq_chain.specs.Numbers.{next, last_crc};
+ghost use Rattle.seq_chain.specs.Sealing.{sealed};
+ghost use Rattle.end_model.specs.Chain.{own, taken, newest_crc, own_link, taken_link, seal};
+ghost use Rattle.end_model.specs.Setup.{Setup, sends, receives};
 ghost use Rattle.end_model.specs.Deed.{Deed};
 ghost use Rattle.end_model.specs.Readiness.{state_of};
 ghost use Rattle.end_model.specs.Outputs.{zeros, outputs, out};
@@ -47,6 +52,15 @@ pub fn refused_handshakes()
 pub fn runs()
     ensures continued { (s : Setup) (front rest : List Move) → run s (front ++ rest) ≡ continued s (run s front) rest }
     ensures proper { (s : Setup) (moves : List Move) → All (IsProper s) moves → IsRun s (run s moves) }
+{}
+
+/// What is noted of the last frame that an end sent, and of the last that it took, has that frame's CRC_0; and the
+/// frame that an end seals is read back as it was made.
+#[tactic(auto, using(crate::proofs::Links::own_crc, crate::proofs::Links::taken_crc, crate::proofs::ReadBack::read_back))]
+pub fn links()
+    ensures own_crc { (s : Setup) (e : List Deed) → last_crc (own_link s e) ≡ newest_crc (sends s) (own e) }
+    ensures taken_crc { (s : Setup) (e : List Deed) → last_crc (taken_link s e) ≡ newest_crc (receives s) (taken e) }
+    ensures read_back { (s : Setup) (e : List Deed) (conn : ℕ) (c : Command) (load : List ℕ) → length load ≡ sends s → frame_of (sends s) (seal s e conn c load) ≡ sealed (newest_crc (receives s) (taken e)) (own_link s e) conn (command_byte c) load }
 {}
 
 /// In every run of an end its outputs are those that looking back gives: the load of the last frame taken, where that

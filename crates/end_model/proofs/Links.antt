@@ -1,0 +1,27 @@
+-- What is noted of the last frames of a session.
+use Rattle.std.proofs.Common.{◌≡◌, ℕ, List, [], ◌∷◌, Bool, true, false, Option, Some, is_some, if◌then◌else◌, refl}
+use Rattle.fsoe_frame.specs.Parts.{frame_of}
+use Rattle.seq_chain.specs.declared.link.Link.{Link}
+use Rattle.seq_chain.specs.Cover.{first_of}
+use Rattle.seq_chain.specs.Numbers.{last_crc}
+use Rattle.end_model.specs.Setup.{Setup, sends, receives}
+use Rattle.end_model.specs.Deed.{Deed, delivered, is_empty, of_session}
+use Rattle.end_model.specs.Chain.{own, taken, newest_crc, own_link, taken_link}
+
+skips : (l : ℕ) (b : Bool) (before : Option Link) (noted : Link) (frames : List (List ℕ)) (f : List ℕ) → last_crc before ≡ newest_crc l frames → noted.crc ≡ first_of (frame_of l f).crcs
+    → last_crc (if b then before else Some noted) ≡ newest_crc l (if b then frames else f ∷ frames)
+skips l true before noted frames f h k = h
+skips l false before noted frames f h k = k
+
+adds : (l : ℕ) (b : Bool) (before : Option Link) (noted : Link) (frames : List (List ℕ)) (f : List ℕ) → last_crc before ≡ newest_crc l frames → noted.crc ≡ first_of (frame_of l f).crcs
+    → last_crc (if b then Some noted else before) ≡ newest_crc l (if b then f ∷ frames else frames)
+adds l true before noted frames f h k = k
+adds l false before noted frames f h k = h
+
+pub own_crc : (s : Setup) (e : List Deed) → last_crc (own_link s e) ≡ newest_crc (sends s) (own e)
+own_crc s [] = refl
+own_crc s (x ∷ e) = skips (sends s) (is_empty x.sent) (own_link s e) _ (own e) x.sent (own_crc s e) refl
+
+pub taken_crc : (s : Setup) (e : List Deed) → last_crc (taken_link s e) ≡ newest_crc (receives s) (taken e)
+taken_crc s [] = refl
+taken_crc s (x ∷ e) = adds (receives s) (is_some (of_session x.did.took)) (taken_link s e) _ (taken e) (delivered x.what) (taken_crc s e) refl
