@@ -7,6 +7,6 @@ use Rattle.fsoe_base.specs.declared.did.Dropped.{Dropped}
 abbrev pub nothing : Did
 nothing = record { took = None; passed = false; sent = false; reset = None; dropped = None }
 
--- a frame was dropped before the test of its CRCs
+-- a frame was dropped that didn't pass the CRC test of a session
 abbrev pub dropped : Dropped → Did
 dropped why = record { took = None; passed = false; sent = false; reset = None; dropped = Some why }

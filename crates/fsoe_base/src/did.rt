@@ -61,7 +61,7 @@ impl Did {
         }
     }
 
-    /// A frame was dropped before the test of its CRCs.
+    /// A frame was dropped that didn't pass the CRC test of a session.
     pub fn dropped(why: Dropped) -> Did
         ensures { result ≡ dropped why }
     {
