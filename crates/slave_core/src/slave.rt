@@ -220,6 +220,8 @@ impl Slave {
         ensures slave { self.new ≡ (reset_of self.old).slave }
         ensures did { result ≡ (reset_of self.old).did }
         ensures sent { out.new ≡ (reset_of self.old).sent }
+        ensures reset { state_of self.new.state ≡ state.Reset }
+        ensures cause { result.reset ≡ Some Cause.Local }
         ensures kit { self.new.kit ≡ self.old.kit }
         ensures tells { Tells result out.new }
     {

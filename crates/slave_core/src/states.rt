@@ -110,7 +110,8 @@ impl InReset {
         InReset { private: () }
     }
 
-    /// Begins a session by a Session frame. The slave's session id is its nonce at this moment.
+    /// Begins a session by a Session frame. The slave's session id is its nonce at this moment. Refused with 07h
+    /// where the padding isn't zeros.
     pub fn start(
         self,
         seen: &Seen<'_>,
@@ -139,7 +140,8 @@ impl InReset {
 }
 
 impl InSession {
-    /// Goes on by a Session frame, as long as the master's session id isn't whole.
+    /// Goes on by a Session frame, as long as the master's session id isn't whole. Refused with 07h where the
+    /// padding isn't zeros.
     pub fn more(
         self,
         seen: &Seen<'_>,
@@ -165,7 +167,8 @@ impl InSession {
     }
 
     /// Goes on by the first Connection frame, once the master's session id is whole. The connection id of the
-    /// session is that of the frame.
+    /// session is that of the frame. Refused, field by field as it comes, with 03h for another connection id and
+    /// 06h for another slave address, then with 07h where the padding isn't zeros.
     pub fn connect(
         self,
         seen: &Seen<'_>,
@@ -220,7 +223,8 @@ impl InSession {
 }
 
 impl InConnection {
-    /// Goes on by a Connection frame, as long as the connection id and the address aren't whole.
+    /// Goes on by a Connection frame, as long as the connection id and the address aren't whole, with the refusals
+    /// of the first one.
     pub fn more(
         self,
         seen: &Seen<'_>,
@@ -245,7 +249,10 @@ impl InConnection {
         in_connection(chain, conn, upload, seen, kit, out)
     }
 
-    /// Goes on by the first Parameter frame, once the connection id and the address are whole.
+    /// Goes on by the first Parameter frame, once the connection id and the address are whole. Refused, field by
+    /// field as it comes, with 08h for another length of the communication parameters, 09h for a watchdog of 0 or
+    /// above the longest that is accepted and for another profile word, 0Ah for another number of application
+    /// parameters, and 0Bh where these break the rule, then with 07h where the padding isn't zeros.
     pub fn load(
         self,
         seen: &Seen<'_>,
@@ -312,7 +319,7 @@ impl InConnection {
 }
 
 impl InParameter {
-    /// Goes on by a Parameter frame, as long as the parameters aren't whole.
+    /// Goes on by a Parameter frame, as long as the parameters aren't whole, with the refusals of the first one.
     pub fn more(
         self,
         seen: &Seen<'_>,
@@ -339,7 +346,7 @@ impl InParameter {
     }
 
     /// Goes on by the first data frame, once the parameters are whole: from now on the outputs may be other than
-    /// zeros.
+    /// zeros. Refused with 07h where a FailSafeData frame has a byte that isn't 0.
     pub fn run(
         self,
         seen: &Seen<'_>,
@@ -416,7 +423,7 @@ impl InParameter {
 }
 
 impl InData {
-    /// Goes on by a data frame.
+    /// Goes on by a data frame. Refused with 07h where a FailSafeData frame has a byte that isn't 0.
     pub fn more(
         self,
         seen: &Seen<'_>,
