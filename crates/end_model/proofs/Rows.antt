@@ -2,7 +2,7 @@
 use Rattle.std.proofs.Common.{refl}
 use Rattle.hex.proofs.OnLiterals.{hex_on_literals}
 use Rattle.fsoe_crc.specs.Remainder.{computing}
-use Rattle.end_model.specs.Rows.{FirstTick, SlaveHandshake, SlaveExpires, SlaveGoesOn, SlaveRefusesOldFrame, SlaveResetItself, WrongAddress, WrongWatchdog, WrongParameters, LongSessionIds, OtherProfile, QuietInReset, MasterHandshake, MasterStepsNumber, MasterIsReset}
+use Rattle.end_model.specs.Rows.{FirstTick, SlaveHandshake, SlaveExpires, SlaveGoesOn, SlaveRefusesOldFrame, SlaveResetItself, WrongAddress, WrongWatchdog, WrongParameters, LongSessionIds, OtherProfile, QuietInReset, QuietAtItsLimit, MasterHandshake, MasterStepsNumber, MasterIsReset}
 
 pub first_tick : FirstTick
 unfolding FirstTick computing hex_on_literals
@@ -51,6 +51,10 @@ other_profile = refl
 pub quiet_in_reset : QuietInReset
 unfolding QuietInReset computing hex_on_literals
 quiet_in_reset = refl
+
+pub quiet_at_its_limit : QuietAtItsLimit
+unfolding QuietAtItsLimit computing hex_on_literals
+quiet_at_its_limit = refl
 
 pub master_handshake : MasterHandshake
 unfolding MasterHandshake computing hex_on_literals

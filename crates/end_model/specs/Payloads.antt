@@ -18,7 +18,7 @@ use Rattle.end_model.specs.Phases.{phase_of, phase_of_frame, same_phase, has_com
 use Rattle.end_model.specs.Deed.{Deed, of_session}
 use Rattle.end_model.specs.Chain.{since, taken}
 
--- the first of these that is there, else the second
+-- the first where it is there, else the second
 abbrev pub or_else : Option ℕ → ℕ → ℕ
 or_else None n = n
 or_else (Some first) n = first
@@ -84,11 +84,12 @@ joined phase c (x ∷ e) = joined_with phase c (of_session x.did.took) (joined p
 abbrev pub uploaded : SlaveSettings → State → List Deed → List ℕ
 uploaded ss phase e = joined phase (piece_len (OfSlave ss)) (since e)
 
--- the bytes of the parameters: the number of application parameters stands after the communication parameters
+-- the number of bytes of the parameters, of which v are communication parameters: the number of application parameters stands
+-- after these
 abbrev pub parameter_len : ℕ → List ℕ → Option ℕ
 parameter_len v u = if nat_le (v + 4) (length u) then Some (v + 4 + number_at (v + 2) u) else None
 
--- the bytes of a phase's payload, where its first bytes tell it
+-- the number of bytes of a phase's payload, where its first bytes tell it
 abbrev pub payload_len : Profile → State → List ℕ → Option ℕ
 payload_len profile state.Session u = Some (id_len profile)
 payload_len profile state.Connection u = Some 4

@@ -27,7 +27,7 @@ abbrev pub phase_after : Option Took → State → State
 phase_after None before = before
 phase_after (Some t) before = phase_of t.command
 
--- the phase of the frame that was taken last, Reset where there is none
+-- the phase of the frame that was taken last, Reset frames left out, and Reset where there is none
 abbrev pub phase_taken : List Deed → State
 phase_taken [] = state.Reset
 phase_taken (x ∷ e) = phase_after (of_session x.did.took) (phase_taken e)
@@ -72,7 +72,7 @@ abbrev pub slave_age : State → ℕ → ℕ
 slave_age state.Reset n = 0
 slave_age _ n = n
 
--- the age of the session, in ticks
+-- the age, in ticks since the last frame was sent
 abbrev pub age : Setup → List Deed → ℕ
 age (OfMaster ms) e = ticks (OfMaster ms) e
 age (OfSlave ss) e = slave_age (state_of (OfSlave ss) e) (ticks (OfSlave ss) e)
@@ -81,7 +81,7 @@ age (OfSlave ss) e = slave_age (state_of (OfSlave ss) e) (ticks (OfSlave ss) e)
 abbrev pub slave_limit : SlaveSettings → List ℕ → ℕ
 slave_limit ss u = if whole ss.profile state.Parameter u then number_at 2 u else ss.hand
 
--- the age at which the session expires, in ticks
+-- the age at which the watchdog expires, in ticks
 abbrev pub limit : Setup → List Deed → ℕ
 limit (OfMaster ms) e = ms.watchdog
 limit (OfSlave ss) e = slave_limit ss (uploaded ss state.Parameter e)

@@ -34,7 +34,7 @@ a_master = OfMaster (record {
   allowed = refl;
 })
 
--- slave address 2, at most 200 ticks in a handshake, watchdogs up to 1000, no application parameters, session id 2
+-- slave address 2, at most 200 ticks without a frame in a handshake, watchdogs up to 1000, no application parameters, session id 2
 abbrev pub slave_values : SlaveSettings
 slave_values = record {
   lengths = two_and_two;
@@ -191,20 +191,27 @@ LongSessionIds =
     ∷ codes "took Session Session 0000 > 4e000043f10000"
     ∷ []
 
--- a master of profile One begins to send parameters too early for a slave of profile Two
+-- a master of profile One goes on to Connection too early: a slave of profile Two waits for a second piece of the session id
 unfoldable pub OtherProfile : Type 0
 OtherProfile =
     drop 2 (lines slave_of_two (d (codes "2a0000c42d0000") ∷ d (codes "4e0100123e0000") ∷ d (codes "640100642a0100") ∷ []))
     ≡ codes "reset found 01 Reset 0000 > 2a010047b70000"
     ∷ []
 
--- a slave in state Reset counts no ticks, however short its handshake may be
+-- a slave in state Reset counts no ticks
 unfoldable pub QuietInReset : Type 0
 QuietInReset =
     lines (OfSlave (record slave_values { hand = 2; some_hand = ltb-true 0 2 refl })) (t ∷ t ∷ t ∷ [])
     ≡ codes "quiet Reset 0000"
     ∷ codes "quiet Reset 0000"
     ∷ codes "quiet Reset 0000"
+    ∷ []
+
+-- not even one that reaches its limit
+unfoldable pub QuietAtItsLimit : Type 0
+QuietAtItsLimit =
+    lines (OfSlave (record slave_values { hand = 1; some_hand = ltb-true 0 1 refl })) (t ∷ [])
+    ≡ codes "quiet Reset 0000"
     ∷ []
 
 -- a put at a master, its first tick, and the answers of a slave up to its first data
@@ -238,7 +245,8 @@ MasterHandshake =
     ∷ codes "took ProcessData Data 8000 > 360100cfa90100"
     ∷ []
 
--- the second of these frames would have the CRC_0 of the first under the next number, so that its number is stepped once more
+-- the first of these data frames would have the CRC_0 of the frame before it under the next number, so that its number is stepped
+-- once more; the second goes on from there
 unfoldable pub MasterStepsNumber : Type 0
 MasterStepsNumber =
     drop 10 (lines a_master (to_master ++ p (codes "5026") ∷ d (codes "3680002d670100") ∷ d (codes "368000c9770100") ∷ []))

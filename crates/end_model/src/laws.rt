@@ -14,7 +14,7 @@ ghost use Rattle.end_model.specs.Deed.{Deed};
 ghost use Rattle.end_model.specs.Readiness.{state_of};
 ghost use Rattle.end_model.specs.Outputs.{zeros, outputs, out};
 ghost use Rattle.end_model.specs.Step.{run, continued, IsProper, IsRun};
-ghost use Rattle.end_model.specs.Rows.{FirstTick, MasterHandshake, MasterStepsNumber, MasterIsReset, SlaveHandshake, SlaveExpires, SlaveGoesOn, SlaveRefusesOldFrame, SlaveResetItself, WrongAddress, WrongWatchdog, WrongParameters, LongSessionIds, OtherProfile, QuietInReset};
+ghost use Rattle.end_model.specs.Rows.{FirstTick, MasterHandshake, MasterStepsNumber, MasterIsReset, SlaveHandshake, SlaveExpires, SlaveGoesOn, SlaveRefusesOldFrame, SlaveResetItself, WrongAddress, WrongWatchdog, WrongParameters, LongSessionIds, OtherProfile, QuietInReset, QuietAtItsLimit};
 
 /// Worked runs of a master: each line of its report, with its state, its outputs and the frame that it sent.
 #[tactic(auto, using(crate::proofs::Rows::first_tick, crate::proofs::Rows::master_handshake, crate::proofs::Rows::master_steps_number, crate::proofs::Rows::master_is_reset))]
@@ -26,7 +26,7 @@ pub fn master_rows()
 {}
 
 /// Worked runs of a slave, in the same way.
-#[tactic(auto, using(crate::proofs::Rows::slave_handshake, crate::proofs::Rows::slave_expires, crate::proofs::Rows::slave_goes_on, crate::proofs::Rows::slave_refuses_old_frame, crate::proofs::Rows::slave_reset_itself, crate::proofs::Rows::quiet_in_reset, crate::proofs::Rows::long_session_ids))]
+#[tactic(auto, using(crate::proofs::Rows::slave_handshake, crate::proofs::Rows::slave_expires, crate::proofs::Rows::slave_goes_on, crate::proofs::Rows::slave_refuses_old_frame, crate::proofs::Rows::slave_reset_itself, crate::proofs::Rows::quiet_in_reset, crate::proofs::Rows::quiet_at_its_limit, crate::proofs::Rows::long_session_ids))]
 pub fn slave_rows()
     ensures handshake { SlaveHandshake }
     ensures expires { SlaveExpires }
@@ -34,6 +34,7 @@ pub fn slave_rows()
     ensures refuses_old_frame { SlaveRefusesOldFrame }
     ensures reset_itself { SlaveResetItself }
     ensures quiet_in_reset { QuietInReset }
+    ensures quiet_at_its_limit { QuietAtItsLimit }
     ensures long_session_ids { LongSessionIds }
 {}
 
