@@ -4,7 +4,9 @@ pub mod Accepted
 pub mod DeedKinds
 pub mod Heads
 pub mod MasterShown
+pub mod Counted
 pub mod SlaveShown
 pub mod Shown
 pub mod Links
 pub mod ReadBack
+pub mod WholeUploads

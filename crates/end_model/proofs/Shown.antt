@@ -12,7 +12,7 @@ use Rattle.end_model.specs.Step.{step, IsRun}
 use Rattle.end_model.specs.Outputs.{zeros, outputs, out}
 use Rattle.end_model.proofs.DeedKinds.{kind}
 use Rattle.end_model.proofs.MasterShown.{MasterShows, shown_in, master-shows}
-use Rattle.end_model.proofs.SlaveShown.{SlaveShows, parameters, slave-shows}
+use Rattle.end_model.proofs.SlaveShown.{SlaveShows, none_tested, parameters, slave-shows}
 
 master-run : (ms : MasterSettings) (e : List Deed) → IsRun (OfMaster ms) e → MasterShows ms e
 master-run ms [] r = record { outs = λ n. refl; young = λ k. cc; none = λ k. refl }
@@ -20,8 +20,8 @@ master-run ms (x ∷ e) r =
     let d : Deed = step (OfMaster ms) e x.what in
     subst (λ (x : Deed). MasterShows ms (x ∷ e)) (sym r.0.stepped) (master-shows ms e d.what d.did d.sent (master-run ms e r.1) (kind (OfMaster ms) e x.what))
 
-slave-run : (ss : SlaveSettings) (e : List Deed) → IsRun (OfSlave ss) e → SlaveShows ss e
-slave-run ss [] r = record { outs = λ n. refl; young = λ k. cc; none = λ k. refl; tested = λ k. absurd (omega (arith, k)); is_whole = λ k. cc }
+pub slave-run : (ss : SlaveSettings) (e : List Deed) → IsRun (OfSlave ss) e → SlaveShows ss e
+slave-run ss [] r = record { outs = λ n. refl; young = λ k. cc; none = λ k. refl; tested = none_tested ss; is_whole = λ k. cc }
 slave-run ss (x ∷ e) r =
     let d : Deed = step (OfSlave ss) e x.what in
     subst (λ (x : Deed). SlaveShows ss (x ∷ e)) (sym r.0.stepped) (slave-shows ss e d.what d.did d.sent (slave-run ss e r.1) (kind (OfSlave ss) e x.what))

@@ -1,5 +1,5 @@
 -- The outputs of a slave are those that looking back gives.
-use Rattle.std.proofs.Common.{◌≡◌, ◌≢◌, ℕ, suc, ◌+◌, ◌<◌, ◌≤◌, List, ◌∷◌, ◌++◌, length, take, drop, Bool, true, false, Some, None, nat_lt, nat_le, if◌then◌else◌, refl, sym, subst, ◌∙◌, arith}
+use Rattle.std.proofs.Common.{◌≡◌, ◌≢◌, ℕ, suc, ◌+◌, ◌<◌, ◌≤◌, List, [], ◌∷◌, ◌++◌, length, take, drop, Bool, true, false, Some, None, nat_lt, nat_le, if◌then◌else◌, refl, sym, subst, ◌∙◌, arith}
 use Rattle.std.proofs.lemmas.Bool.{leb-true}
 use Rattle.std.proofs.lemmas.Bool.Decides.{nat_tests}
 use Rattle.fsoe_base.specs.declared.command.State.{State}
@@ -14,6 +14,7 @@ use Rattle.param_load.specs.declared.entry.Move.TheVariants as move
 use Rattle.param_load.specs.declared.profile.Profile.{Profile}
 use Rattle.param_load.specs.declared.slave_settings.SlaveSettings.{SlaveSettings}
 use Rattle.param_load.specs.Payload.{number_at}
+use Rattle.param_load.specs.AppRule.{rule_len}
 use Rattle.param_load.specs.Profile.{id_len}
 use Rattle.param_load.proofs.Watchdog.{joined_watchdog}
 use Rattle.end_model.specs.Setup.{OfSlave, piece_len, receives}
@@ -24,6 +25,7 @@ use Rattle.end_model.specs.Readiness.{state_of, ticks, slave_limit, slave_allows
 use Rattle.end_model.specs.Step.{takes, begun}
 use Rattle.end_model.specs.Outputs.{zeros, outputs, out_after}
 use Rattle.end_model.proofs.Accepted.{Accepted}
+use Rattle.end_model.proofs.Counted.{joined_count}
 use Rattle.end_model.proofs.DeedKinds.{Kind, Drops, Turns, Rests, Ages, Resets, Again, Rejoins, Starts, Takes, answer_to}
 use Rattle.end_model.proofs.Heads.{IsInSession, slave_frame}
 use Rattle.end_model.proofs.MasterShown.{shown_in, shown-zeros, shown-data}
@@ -32,16 +34,20 @@ use Rattle.end_model.proofs.MasterShown.{shown_in, shown-zeros, shown-data}
 abbrev pub parameters : SlaveSettings → List Deed → List ℕ
 parameters ss e = uploaded ss state.Parameter e
 
--- a watchdog that has come isn't 0
-abbrev pub IsTested : List ℕ → Type 0
-IsTested u = 4 ≤ length u → 0 < number_at 2 u
+-- what is known of uploaded parameters by their tests: the watchdog isn't 0, and the number of application parameters is the rule's
+pub record IsTested (ss : SlaveSettings) (u : List ℕ) : Type 0 where
+  pub watchdog : 4 ≤ length u → 0 < number_at 2 u
+  pub counted : id_len ss.profile + 4 ≤ length u → number_at (id_len ss.profile + 2) u ≡ rule_len ss.rule
+
+pub none_tested : (ss : SlaveSettings) → IsTested ss []
+none_tested ss = record { watchdog = λ k. absurd (omega (arith, k)); counted = λ k. absurd (omega (arith, k)) }
 
 -- what looking back past n ticks gives
 pub record SlaveShows (ss : SlaveSettings) (e : List Deed) : Type 0 where
   pub outs : (n : ℕ) → out_after (OfSlave ss) n e ≡ shown_in (OfSlave ss) (state_of (OfSlave ss) e) (nat_lt (n + ticks (OfSlave ss) e) (slave_limit ss (parameters ss e))) (outputs (OfSlave ss) e)
   pub young : state_of (OfSlave ss) e ≡ state.Data → ticks (OfSlave ss) e < slave_limit ss (parameters ss e)
   pub none : state_of (OfSlave ss) e ≢ state.Data → outputs (OfSlave ss) e ≡ zeros (OfSlave ss)
-  pub tested : IsTested (parameters ss e)
+  pub tested : IsTested ss (parameters ss e)
   pub is_whole : state_of (OfSlave ss) e ≡ state.Data → whole ss.profile state.Parameter (parameters ss e) ≡ true
 
 abbrev deed : Move → Did → List ℕ → Deed
@@ -55,10 +61,10 @@ pub record Limits (ss : SlaveSettings) (u : List ℕ) : Type 0 where
   pub limit_is : slave_limit ss u ≡ number_at 2 u
   pub some : 0 < slave_limit ss u
 
-limits : (ss : SlaveSettings) (u : List ℕ) → IsTested u → whole ss.profile state.Parameter u ≡ true → Limits ss u
+limits : (ss : SlaveSettings) (u : List ℕ) → IsTested ss u → whole ss.profile state.Parameter u ≡ true → Limits ss u
 limits ss u t w =
     let e : slave_limit ss u ≡ number_at 2 u = simp w in
-    let p : 0 < number_at 2 u = t (whole-long ss.profile u _ refl w) in
+    let p : 0 < number_at 2 u = t.watchdog (whole-long ss.profile u _ refl w) in
     record { limit_is = e; some = omega arith }
 
 -- commands of data frames
@@ -89,10 +95,15 @@ whole-taken : (ss : SlaveSettings) (e : List Deed) (f : Frame) (load : List ℕ)
 whole-taken ss e f load c h d a = whole-before ss (state_of (OfSlave ss) e) (λ phase. uploaded ss phase e) c d a.is_allowed h.is_whole
 
 -- a watchdog that comes with a frame was tested
-tested-more : (ss : SlaveSettings) (e : List Deed) (f : Frame) (load : List ℕ) → IsTested (parameters ss e) → Accepted (OfSlave ss) e f command.Parameter load → IsTested (parameters ss e ++ take (piece_len (OfSlave ss)) load)
+tested-more : (ss : SlaveSettings) (e : List Deed) (f : Frame) (load : List ℕ) → IsTested ss (parameters ss e) → Accepted (OfSlave ss) e f command.Parameter load → IsTested ss (parameters ss e ++ take (piece_len (OfSlave ss)) load)
 tested-more ss e f load t a =
-    subst (λ (load : List ℕ). IsTested (parameters ss e ++ take (piece_len (OfSlave ss)) load)) a.load_is
-    (joined_watchdog (expected.Parameter ss.most ss.rule ss.profile) (parameters ss e) (take (piece_len (OfSlave ss)) f.load) (drop (piece_len (OfSlave ss)) f.load) t a.sound)
+    let u : List ℕ = parameters ss e in
+    let more : List ℕ = take (piece_len (OfSlave ss)) f.load in
+    let rest : List ℕ = drop (piece_len (OfSlave ss)) f.load in
+    subst (λ (load : List ℕ). IsTested ss (parameters ss e ++ take (piece_len (OfSlave ss)) load)) a.load_is (record {
+      watchdog = joined_watchdog (expected.Parameter ss.most ss.rule ss.profile) u more rest t.watchdog a.sound;
+      counted = joined_count ss.most ss.rule ss.profile u more rest t.counted a.sound;
+    })
 
 slave-taken : (ss : SlaveSettings) (e : List Deed) (bytes load : List ℕ) (c : Command) (f : List ℕ) → SlaveShows ss e → c ≢ command.Reset → Accepted (OfSlave ss) e (frame_of (receives (OfSlave ss)) bytes) c load → IsInSession f
     → SlaveShows ss (deed (move.Deliver bytes) (takes c load) f ∷ e)
@@ -152,8 +163,8 @@ slave-shows ss e m d f h (Ages r) =
       tested = h.tested;
       is_whole = h.is_whole;
     }
-slave-shows ss e m d f h (Resets _ passed because) = record { outs = λ n. refl; young = λ k. cc; none = λ k. refl; tested = λ k. absurd (omega (arith, k)); is_whole = λ k. cc }
+slave-shows ss e m d f h (Resets _ passed because) = record { outs = λ n. refl; young = λ k. cc; none = λ k. refl; tested = none_tested ss; is_whole = λ k. cc }
 slave-shows ss e m d f h (Again s now) = absurd s
-slave-shows ss e m d f h (Rejoins bytes load s now) = record { outs = λ n. refl; young = λ k. cc; none = λ k. refl; tested = λ k. absurd (omega (arith, k)); is_whole = λ k. cc }
+slave-shows ss e m d f h (Rejoins bytes load s now) = record { outs = λ n. refl; young = λ k. cc; none = λ k. refl; tested = none_tested ss; is_whole = λ k. cc }
 slave-shows ss e m d f h (Starts bytes load s now) = absurd s
 slave-shows ss e m d f h (Takes bytes load c n a) = slave-taken ss e bytes load c (answer_to (OfSlave ss) e bytes c load) h n a (slave_frame ss (begun (move.Deliver bytes) (takes c load) ∷ e) c load (not-reset c n))

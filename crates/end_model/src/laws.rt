@@ -1,6 +1,6 @@
 //! What holds of the definitions. The calls do nothing: each law is a contract.
 
-ghost use Rattle.std.specs.Prelude.{◌≡◌, ◌≢◌, ℕ, List, ◌++◌, length, All};
+ghost use Rattle.std.specs.Prelude.{◌≡◌, ◌≢◌, ℕ, nat_le, List, ◌++◌, length, All};
 ghost use Rattle.fsoe_base.specs.declared.command.State.TheVariants as state;
 ghost use Rattle.param_load.specs.declared.entry.Move.{Move};
 ghost use Rattle.fsoe_base.specs.declared.command.Command.{Command};
@@ -9,8 +9,12 @@ ghost use Rattle.fsoe_frame.specs.Parts.{frame_of};
 ghost use Rattle.seq_chain.specs.Numbers.{next, last_crc};
 ghost use Rattle.seq_chain.specs.Sealing.{sealed};
 ghost use Rattle.end_model.specs.Chain.{own, taken, newest_crc, own_link, taken_link, seal};
-ghost use Rattle.end_model.specs.Setup.{Setup, sends, receives};
+ghost use Rattle.end_model.specs.Setup.{Setup, OfSlave, sends, receives};
 ghost use Rattle.end_model.specs.Deed.{Deed};
+ghost use Rattle.param_load.specs.declared.contents.Expected.TheVariants as expected;
+ghost use Rattle.param_load.specs.declared.slave_settings.SlaveSettings.{SlaveSettings};
+ghost use Rattle.param_load.specs.Contents.{expected_len};
+ghost use Rattle.end_model.specs.Payloads.{uploaded, whole};
 ghost use Rattle.end_model.specs.Readiness.{state_of};
 ghost use Rattle.end_model.specs.Outputs.{zeros, outputs, out};
 ghost use Rattle.end_model.specs.Step.{run, continued, IsProper, IsRun};
@@ -71,6 +75,13 @@ pub fn links()
 pub fn outputs()
     ensures looking_back { (s : Setup) (e : List Deed) → IsRun s e → outputs s e ≡ out s e }
     ensures fail_safe { (s : Setup) (e : List Deed) → IsRun s e → state_of s e ≢ state.Data → outputs s e ≡ zeros s }
+{}
+
+/// In every run of a slave the parameters that it uploaded are whole where so many bytes came as its settings ask for:
+/// the number of application parameters that the master said is that of the rule.
+#[tactic(auto, using(crate::proofs::WholeUploads::whole_parameters))]
+pub fn uploads()
+    ensures whole { (ss : SlaveSettings) (e : List Deed) → IsRun (OfSlave ss) e → whole ss.profile state.Parameter (uploaded ss state.Parameter e) ≡ nat_le (expected_len (expected.Parameter ss.most ss.rule ss.profile)) (length (uploaded ss state.Parameter e)) }
 {}
 
 /// Sequence numbers go around: after 65,535 comes 1.

@@ -1,0 +1,58 @@
+-- The number of application parameters in an upload is that of the slave's rule.
+use Rattle.std.proofs.Common.{◌≡◌, ◌==◌, ℕ, ◌+◌, ◌≤◌, ◌<◌, nat_le, nat_lt, Bool, true, false, ◌&&◌, not, List, ◌++◌, length, Option, Some, None, if◌then◌else◌, refl, ◌∙◌, inl, inr, arith}
+use Rattle.std.proofs.lemmas.List.{get_or_append_left}
+use Rattle.std.proofs.lemmas.Bool.{eqb-true}
+use Rattle.std.proofs.lemmas.Bool.Decides.{leb_tells}
+use Rattle.fsoe_base.specs.declared.command.Code.{Code}
+use Rattle.fsoe_base.specs.Command.{code}
+use Rattle.param_load.specs.declared.app_rule.AppRule.{AppRule}
+use Rattle.param_load.specs.declared.contents.Expected.TheVariants as expected
+use Rattle.param_load.specs.declared.profile.Profile.{Profile}
+use Rattle.param_load.specs.AppRule.{rule_len}
+use Rattle.param_load.specs.Contents.{or_else, fails, word_is, communication_fault, app_fault, app_part, field_fault, padding_fault, contents_fault}
+use Rattle.param_load.specs.Payload.{number_at}
+use Rattle.param_load.specs.Profile.{id_len}
+
+first : (a b : Option Code) → or_else a b ≡ None → a ≡ None
+first None b e = refl
+first (Some x) b e = absurd (cc e)
+
+fourth : (t t' t'' t''' : Bool) (x y z w : Code) → (if t then Some x else if t' then Some y else if t'' then Some z else if t''' then Some w else None) ≡ None → t''' ≡ false
+fourth true t' t'' t''' x y z w e = absurd (cc e)
+fourth false true t'' t''' x y z w e = absurd (cc e)
+fourth false false true t''' x y z w e = absurd (cc e)
+fourth false false false true x y z w e = absurd (cc e)
+fourth false false false false x y z w e = refl
+
+-- the test of the number is passed where no test fails
+number-tested : (most : ℕ) (rule : AppRule) (profile : Profile) (before : ℕ) (u rest : List ℕ) → contents_fault (expected.Parameter most rule profile) before u rest ≡ None
+    → fails before u (id_len profile + 3) (number_at (id_len profile + 2) u == rule_len rule) ≡ false
+number-tested most rule profile before u rest f =
+    let fields = first (field_fault (expected.Parameter most rule profile) before u) (padding_fault (expected.Parameter most rule profile) u rest) f in
+    let communication = first (communication_fault most rule profile before u)
+    (app_fault rule (id_len profile + 3 + rule_len rule) before u (app_part (expected.Parameter most rule profile) u)) fields in
+    fourth (fails before u 1 (number_at 0 u == id_len profile)) (fails before u 3 (nat_lt 0 (number_at 2 u) && nat_le (number_at 2 u) most))
+    (fails before u (id_len profile + 1) (word_is profile u)) (fails before u (id_len profile + 3) (number_at (id_len profile + 2) u == rule_len rule))
+    (code 0x08) (code 0x09) (code 0x09) (code 0x0A) communication
+
+stays : (u p : List ℕ) (k : ℕ) → k + 1 < length u → number_at k (u ++ p) ≡ number_at k u
+stays u p k h = grind (arith, get_or_append_left u p 0 k (omega arith), get_or_append_left u p 0 (k + 1) h)
+
+passes : (t b : Bool) → t ≡ true → (t && not b) ≡ false → b ≡ true
+passes true true h e = refl
+passes true false h e = cc
+passes false b h e = cc
+
+counted : (u p : List ℕ) (v n : ℕ) → (v + 4 ≤ length u → number_at (v + 2) u ≡ n) → fails (length u) (u ++ p) (v + 3) (number_at (v + 2) (u ++ p) == n) ≡ false
+    → v + 4 ≤ length (u ++ p) → number_at (v + 2) (u ++ p) ≡ n
+counted u p v n before tested long =
+    elim (leb_tells (length u) (v + 3)) [
+      | inl t ↦ eqb-true (number_at (v + 2) (u ++ p)) n (passes (nat_le (length u) (v + 3) && nat_lt (v + 3) (length (u ++ p))) (number_at (v + 2) (u ++ p) == n) (grind arith) tested)
+      | inr t ↦ stays u p (v + 2) (let l : v + 3 < length u = t.1 in omega arith) ∙ before (let l : v + 3 < length u = t.1 in omega arith)
+    ]
+
+-- the number stays that of the rule where no test fails
+pub joined_count : (most : ℕ) (rule : AppRule) (profile : Profile) (u p rest : List ℕ) → (id_len profile + 4 ≤ length u → number_at (id_len profile + 2) u ≡ rule_len rule)
+    → contents_fault (expected.Parameter most rule profile) (length u) (u ++ p) rest ≡ None
+    → id_len profile + 4 ≤ length (u ++ p) → number_at (id_len profile + 2) (u ++ p) ≡ rule_len rule
+joined_count most rule profile u p rest h f = counted u p (id_len profile) (rule_len rule) h (number-tested most rule profile (length u) (u ++ p) rest f)

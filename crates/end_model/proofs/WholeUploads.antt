@@ -1,0 +1,24 @@
+-- When the parameters that a slave uploaded are whole.
+use Rattle.std.proofs.Common.{◌≡◌, ℕ, ◌+◌, ◌≤◌, nat_le, Bool, true, false, List, length, Some, None, if◌then◌else◌, refl, ap, arith}
+use Rattle.std.proofs.lemmas.Bool.{leb-true}
+use Rattle.std.proofs.lemmas.Bool.Decides.{nat_tests}
+use Rattle.fsoe_base.specs.declared.command.State.TheVariants as state
+use Rattle.param_load.specs.declared.slave_settings.SlaveSettings.{SlaveSettings}
+use Rattle.param_load.specs.AppRule.{rule_len}
+use Rattle.param_load.specs.Payload.{number_at}
+use Rattle.param_load.specs.Profile.{id_len}
+use Rattle.end_model.specs.Setup.{OfSlave}
+use Rattle.end_model.specs.Deed.{Deed}
+use Rattle.end_model.specs.Payloads.{has_all, whole}
+use Rattle.end_model.specs.Step.{IsRun}
+use Rattle.end_model.proofs.SlaveShown.{SlaveShows, parameters}
+use Rattle.end_model.proofs.Shown.{slave-run}
+
+by_count : (v n said len : ℕ) (b : Bool) → nat_le (v + 4) len ≡ b → (v + 4 ≤ len → said ≡ n) → has_all (if b then Some (v + 4 + said) else None) len ≡ nat_le (v + 4 + n) len
+by_count v n said len true h k = ap (λ (m : ℕ). nat_le (v + 4 + m) len) (k (leb-true (v + 4) len h))
+by_count v n said len false h k = grind (arith, nat_tests)
+
+pub whole_parameters : (ss : SlaveSettings) (e : List Deed) → IsRun (OfSlave ss) e → whole ss.profile state.Parameter (parameters ss e) ≡ nat_le (id_len ss.profile + 4 + rule_len ss.rule) (length (parameters ss e))
+whole_parameters ss e r =
+    let h : SlaveShows ss e = slave-run ss e r in
+    by_count (id_len ss.profile) (rule_len ss.rule) (number_at (id_len ss.profile + 2) (parameters ss e)) (length (parameters ss e)) _ refl h.tested.counted
