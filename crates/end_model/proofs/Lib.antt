@@ -1,4 +1,4 @@
-pub mod Rows
+pub mod WorkedRuns
 pub mod Runs
 pub mod Accepted
 pub mod DeedKinds

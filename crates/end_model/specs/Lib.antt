@@ -8,4 +8,4 @@ pub mod Verdict
 pub mod Step
 pub mod Outputs
 pub mod Entries
-pub mod Rows
+pub mod WorkedRuns

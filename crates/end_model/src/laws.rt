@@ -18,11 +18,11 @@ ghost use Rattle.end_model.specs.Payloads.{uploaded, whole};
 ghost use Rattle.end_model.specs.Readiness.{state_of};
 ghost use Rattle.end_model.specs.Outputs.{zeros, outputs, out};
 ghost use Rattle.end_model.specs.Step.{run, continued, IsProper, IsRun};
-ghost use Rattle.end_model.specs.Rows.{FirstTick, MasterHandshake, MasterStepsNumber, MasterIsReset, SlaveHandshake, SlaveExpires, SlaveGoesOn, SlaveRefusesOldFrame, SlaveResetItself, WrongAddress, WrongWatchdog, WrongParameters, LongSessionIds, OtherProfile, QuietInReset, QuietAtItsLimit};
+ghost use Rattle.end_model.specs.WorkedRuns.{FirstTick, MasterHandshake, MasterStepsNumber, MasterIsReset, SlaveHandshake, SlaveExpires, SlaveGoesOn, SlaveRefusesOldFrame, SlaveResetItself, WrongAddress, WrongWatchdog, WrongParameters, LongSessionIds, OtherProfile, QuietInReset, QuietAtItsLimit};
 
 /// Worked runs of a master: each line of its report, with its state, its outputs and the frame that it sent.
-#[tactic(auto, using(crate::proofs::Rows::first_tick, crate::proofs::Rows::master_handshake, crate::proofs::Rows::master_steps_number, crate::proofs::Rows::master_is_reset))]
-pub fn master_rows()
+#[tactic(auto, using(crate::proofs::WorkedRuns::first_tick, crate::proofs::WorkedRuns::master_handshake, crate::proofs::WorkedRuns::master_steps_number, crate::proofs::WorkedRuns::master_is_reset))]
+pub fn worked_master_runs()
     ensures first_tick { FirstTick }
     ensures handshake { MasterHandshake }
     ensures steps_number { MasterStepsNumber }
@@ -30,8 +30,8 @@ pub fn master_rows()
 {}
 
 /// Worked runs of a slave, in the same way.
-#[tactic(auto, using(crate::proofs::Rows::slave_handshake, crate::proofs::Rows::slave_expires, crate::proofs::Rows::slave_goes_on, crate::proofs::Rows::slave_refuses_old_frame, crate::proofs::Rows::slave_reset_itself, crate::proofs::Rows::quiet_in_reset, crate::proofs::Rows::quiet_at_its_limit, crate::proofs::Rows::long_session_ids))]
-pub fn slave_rows()
+#[tactic(auto, using(crate::proofs::WorkedRuns::slave_handshake, crate::proofs::WorkedRuns::slave_expires, crate::proofs::WorkedRuns::slave_goes_on, crate::proofs::WorkedRuns::slave_refuses_old_frame, crate::proofs::WorkedRuns::slave_reset_itself, crate::proofs::WorkedRuns::quiet_in_reset, crate::proofs::WorkedRuns::quiet_at_its_limit, crate::proofs::WorkedRuns::long_session_ids))]
+pub fn worked_slave_runs()
     ensures handshake { SlaveHandshake }
     ensures expires { SlaveExpires }
     ensures goes_on { SlaveGoesOn }
@@ -43,8 +43,8 @@ pub fn slave_rows()
 {}
 
 /// Worked runs of a slave that ends a handshake, in the same way.
-#[tactic(auto, using(crate::proofs::Rows::wrong_address, crate::proofs::Rows::wrong_watchdog, crate::proofs::Rows::wrong_parameters, crate::proofs::Rows::other_profile))]
-pub fn refused_handshakes()
+#[tactic(auto, using(crate::proofs::WorkedRuns::wrong_address, crate::proofs::WorkedRuns::wrong_watchdog, crate::proofs::WorkedRuns::wrong_parameters, crate::proofs::WorkedRuns::other_profile))]
+pub fn worked_refusals()
     ensures wrong_address { WrongAddress }
     ensures wrong_watchdog { WrongWatchdog }
     ensures wrong_parameters { WrongParameters }

@@ -2,7 +2,7 @@
 use Rattle.std.proofs.Common.{refl}
 use Rattle.hex.proofs.OnLiterals.{hex_on_literals}
 use Rattle.fsoe_crc.specs.Remainder.{computing}
-use Rattle.end_model.specs.Rows.{FirstTick, SlaveHandshake, SlaveExpires, SlaveGoesOn, SlaveRefusesOldFrame, SlaveResetItself, WrongAddress, WrongWatchdog, WrongParameters, LongSessionIds, OtherProfile, QuietInReset, QuietAtItsLimit, MasterHandshake, MasterStepsNumber, MasterIsReset}
+use Rattle.end_model.specs.WorkedRuns.{FirstTick, SlaveHandshake, SlaveExpires, SlaveGoesOn, SlaveRefusesOldFrame, SlaveResetItself, WrongAddress, WrongWatchdog, WrongParameters, LongSessionIds, OtherProfile, QuietInReset, QuietAtItsLimit, MasterHandshake, MasterStepsNumber, MasterIsReset}
 
 pub first_tick : FirstTick
 unfolding FirstTick computing hex_on_literals
