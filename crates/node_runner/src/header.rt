@@ -44,9 +44,11 @@ fn next_header_line<S: Source>(
 
 /// Reads the header of a slave's node up to its `go`.
 pub fn read_header<S: Source>(
+    end: End,
     reader: &mut LineReader,
     source: &mut S,
 ) -> Result<SlaveSettings, Halt>
+    requires slave { end ≡ End.Slave }
     requires bytes { reader.old.bytes ≡ [] }
     requires lines { reader.old.lines ≡ 0 }
     ensures took { OnOk result (TookLines reader.new.lines
@@ -57,7 +59,7 @@ pub fn read_header<S: Source>(
     ensures later { S.faults source.old ≤ S.faults source.new }
     ensures cause { Blames result (S.faults source.old) (S.faults source.new) }
 {
-    let mut header = Header::new(HeaderKind::Node(End::Slave));
+    let mut header = Header::new(HeaderKind::Node(end));
     loop {
         match next_header_line(reader, source, &mut header) {
             Ok(true) => return Ok(header.slave()),

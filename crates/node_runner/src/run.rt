@@ -35,7 +35,7 @@ fn send_before_read<K: Sink>(
 /// Runs the slave over a node file: reads its header, then an event a line up to `end`, and writes a line for each
 /// event, `<n> <did> <state> <outputs>` and ` > <frame>` where a frame was sent, and at the end `events <n>`. Where a
 /// line is refused, it writes `refused <line> <cause>`. What waits for output is sent before a read that may block,
-/// and when the run ends. Only the slave's end runs.
+/// and when the run ends. `end` is the slave.
 ///
 /// The status is `Ok` with place 0; `Line` with the number of the refused line; `Read` with the whole lines read,
 /// only where the source failed; or `Write` with the bytes written, only where the sink failed.
@@ -47,10 +47,9 @@ pub fn run_node<S: Source, K: Sink>(end: End, source: &mut S, sink: &mut K) -> E
     ensures later_source { S.faults source.old ≤ S.faults source.new }
     ensures later_sink { K.faults sink.old ≤ K.faults sink.new }
 {
-    let _only_the_slave = end;
     let mut reader = LineReader::new();
     let mut output = Output::new();
-    let settings = match read_header(&mut reader, source) {
+    let settings = match read_header(end, &mut reader, source) {
         Ok(settings) => settings,
         Err(why) => return halt(&mut output, sink, why),
     };
