@@ -162,7 +162,7 @@ const ROWS: [Row; 14] = [
 ];
 
 #[test]
-fn worked_rows(rt: HostRuntime) -> Result<(), Fail> {
+fn worked_runs(rt: HostRuntime) -> Result<(), Fail> {
     for (header, events, number, line) in ROWS {
         let input = [
             "fsoe 1 node slave\n",
