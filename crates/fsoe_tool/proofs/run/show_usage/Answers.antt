@@ -1,4 +1,4 @@
-use Rattle.std.proofs.Common.{◌≤◌, ◌<◌, length, take, drop, refl, sym, inr, arith}
+use Rattle.std.proofs.Common.{◌≤◌, length, take, drop, refl, sym, inr, arith}
 use Rattle.std.proofs.lemmas.List.{length-take-le, take-append-drop}
 use Rattle.fsoe_tool.specs.Command.{usage_line}
 use Rattle.fsoe_tool.proofs.run.show_usage.Goals as goal
