@@ -1,5 +1,5 @@
 -- What a reader of lines answers.
-use Rattle.std.specs.Prelude.{◌≡◌, ℕ, ◌+◌, ◌≤◌, ◌<◌, List, [], ◌∷◌, ◌++◌, length, take, slice_index, IfSome, Some, None, Ok, Err}
+use Rattle.std.specs.Prelude.{◌≡◌, ℕ, ◌+◌, ◌≤◌, ◌<◌, Bool, true, false, List, [], ◌∷◌, ◌++◌, length, take, slice_index, IfSome, Some, None, Ok, Err}
 use Rattle.std.specs.Io.KnownBytes.{Consumes, IsAtEnd, Keeps}
 use Rattle.std.specs.declared.result.Result.{Result}
 use Rattle.std.specs.declared.option.Option.{Option}
@@ -25,6 +25,12 @@ Reads (Ok None) old new = IsAtEnd old
 Reads (Err Long) old new = IfSome old IsTooLong
 Reads (Err NoNewline) old new = IfSome old IsUnended
 Reads (Err Read) old new = Consumes old new []
+
+-- the answer of a reader that writes the next line over one that it is handed
+abbrev pub given : Result Bool LineFault → Numbered → Result (Option Numbered) LineFault
+given (Ok true) line = Ok (Some line)
+given (Ok false) line = Ok None
+given (Err fault) line = Err fault
 
 -- where a read failed, what is held is no whole line
 abbrev pub Stalls : Result (Option Numbered) LineFault → List ℕ → Type 0

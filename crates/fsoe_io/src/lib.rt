@@ -1,6 +1,7 @@
 //! The outside: sources and sinks of bytes, lines read from a source, and text written to a sink.
 #![tactic(auto)]
 
+mod hex_text;
 mod line;
 mod line_reader;
 mod line_text;

@@ -1,14 +1,14 @@
 //! A line of the input, and why there is none.
-ghost use Rattle.std.specs.Prelude.{◌≡◌, ◌≤◌, length};
+ghost use Rattle.std.specs.Prelude.{◌≡◌, ◌≤◌, [], length};
 
 use std::marker::Model;
 
 /// A line without its newline: at most 640 bytes, none of them a newline.
 #[derive(Drop)]
 pub struct Line {
-    pub(crate) number: u64,
-    pub(crate) len: usize,
-    pub(crate) bytes: [u8; 640],
+    number: u64,
+    len: usize,
+    bytes: [u8; 640],
 }
 
 impl Model for Line {
@@ -23,6 +23,29 @@ impl Model for Line {
 }
 
 impl Line {
+    /// A line that nothing was read into yet: it has number 0 and no bytes.
+    pub fn new() -> Line
+        ensures number { result.number ≡ 0 }
+        ensures bytes { result.bytes ≡ [] }
+    {
+        Line {
+            number: 0,
+            len: 0,
+            bytes: [0; 640],
+        }
+    }
+
+    /// Takes this number and these bytes in place of its own.
+    pub(crate) fn set(&mut self, number: u64, from: &[u8])
+        requires { length from.now ≤ 640 }
+        ensures number { self.new.number ≡ number }
+        ensures bytes { self.new.bytes ≡ from.now }
+    {
+        self.bytes[..from.len()].copy_from_slice(from);
+        self.len = from.len();
+        self.number = number;
+    }
+
     /// Its number in the input, from 1.
     pub fn number(&self) -> u64
         ensures { result ≡ self.now.number }

@@ -3,7 +3,7 @@ ghost use Rattle.std.specs.Prelude.{◌≡◌, ℕ, ◌+◌, ◌-◌, ◌^◌, �
 ghost use Rattle.std.specs.Io.KnownBytes.{prepend_known};
 ghost use Rattle.fsoe_io.specs.Faults.{HasCause};
 ghost use Rattle.fsoe_io.specs.Line.{IsLine};
-ghost use Rattle.fsoe_io.specs.LineReader.{Reads, BeginsAs, Finds, Fills, Counts, Blames, Stalls};
+ghost use Rattle.fsoe_io.specs.LineReader.{Reads, given, BeginsAs, Finds, Fills, Counts, Blames, Stalls};
 
 use crate::line::{Line, LineFault};
 use crate::source::{Failed, Source};
@@ -101,25 +101,19 @@ impl LineReader {
         }
     }
 
-    /// Takes a line of this length, and its newline, from what is held.
-    fn take_line(&mut self, len: usize) -> Line
+    /// Takes a line of this length, and its newline, from what is held, and writes it to `line`.
+    fn take_line(&mut self, len: usize, line: &mut Line)
         requires most { len ≤ 640 }
         requires held { len < length self.old.bytes }
         requires lines { self.old.lines < 2 ^ 64 - 1 }
-        ensures line { result.bytes ≡ take len self.old.bytes }
-        ensures number { result.number ≡ self.old.lines + 1 }
+        ensures line { line.new.bytes ≡ take len self.old.bytes }
+        ensures number { line.new.number ≡ self.old.lines + 1 }
         ensures held { self.new.bytes ≡ drop (len + 1) self.old.bytes }
         ensures lines { self.new.lines ≡ self.old.lines + 1 }
     {
-        let mut bytes = [0; 640];
-        bytes[..len].copy_from_slice(&self.buffer[self.start..self.start + len]);
+        line.set(self.lines + 1, &self.buffer[self.start..self.start + len]);
         self.start += len + 1;
         self.lines += 1;
-        Line {
-            number: self.lines,
-            len,
-            bytes,
-        }
     }
 
     /// Takes more bytes from the source, none only at its end.
@@ -138,6 +132,42 @@ impl LineReader {
         Ok(count)
     }
 
+    /// The next line of what is held and of the source, written over `line`. False exactly at the end of the input
+    /// where a line would begin. It may be called until it gives a fault, for at most 2^64 - 1 lines.
+    pub fn next_into<S: Source>(
+        &mut self,
+        source: &mut S,
+        line: &mut Line,
+    ) -> Result<bool, LineFault>
+        requires { self.old.lines < 2 ^ 64 - 1 }
+        ensures bytes { Reads (given result line.new)
+            (prepend_known self.old.bytes (S.left source.old))
+            (prepend_known self.new.bytes (S.left source.new)) }
+        ensures lines { Counts (given result line.new) self.old.lines self.new.lines }
+        ensures stalls { Stalls (given result line.new) self.new.bytes }
+        // The source is read only where more bytes have to come.
+        ensures unread { ¬ IsLine self.old.bytes → source.new ≡ source.old }
+        ensures later { S.faults source.old ≤ S.faults source.new }
+        ensures cause { Blames (given result line.new) (S.faults source.old) (S.faults source.new) }
+    {
+        loop {
+            match begins(self.held()) {
+                Front::Line(len) => {
+                    self.take_line(len, line);
+                    return Ok(true);
+                }
+                Front::Long => return Err(LineFault::Long),
+                Front::Open => {}
+            }
+            match self.fill(source) {
+                Ok(0) if self.held().is_empty() => return Ok(false),
+                Ok(0) => return Err(LineFault::NoNewline),
+                Ok(_) => {}
+                Err(_) => return Err(LineFault::Read),
+            }
+        }
+    }
+
     /// The next line of what is held and of the source. None exactly at the end of the input where a line would
     /// begin. It may be called until it gives a fault, for at most 2^64 - 1 lines.
     pub fn next<S: Source>(&mut self, source: &mut S) -> Result<Option<Line>, LineFault>
@@ -152,18 +182,11 @@ impl LineReader {
         ensures later { S.faults source.old ≤ S.faults source.new }
         ensures cause { Blames result (S.faults source.old) (S.faults source.new) }
     {
-        loop {
-            match begins(self.held()) {
-                Front::Line(len) => return Ok(Some(self.take_line(len))),
-                Front::Long => return Err(LineFault::Long),
-                Front::Open => {}
-            }
-            match self.fill(source) {
-                Ok(0) if self.held().is_empty() => return Ok(None),
-                Ok(0) => return Err(LineFault::NoNewline),
-                Ok(_) => {}
-                Err(_) => return Err(LineFault::Read),
-            }
+        let mut line = Line::new();
+        match self.next_into(source, &mut line) {
+            Ok(true) => Ok(Some(line)),
+            Ok(false) => Ok(None),
+            Err(fault) => Err(fault),
         }
     }
 }

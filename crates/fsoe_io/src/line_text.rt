@@ -2,6 +2,7 @@
 ghost use Rattle.std.specs.Prelude.{◌≡◌, ◌+◌, ◌*◌, ◌≤◌, List, [], ◌++◌, ℕ, length, decimal};
 ghost use Rattle.hex.specs.Hex.{encode_lower};
 
+use crate::hex_text::write_hex;
 use itoa::Buffer;
 use std::marker::Model;
 
@@ -82,8 +83,7 @@ impl LineText {
         ensures most { length self.new ≡ length self.old + 2 * length bytes.now }
     {
         let end = self.len + 2 * bytes.len();
-        // The slice has two bytes for each byte, so that the digits fit.
-        let _fits = hex::encode_to_slice(bytes, &mut self.bytes[self.len..end]);
+        write_hex(bytes, &mut self.bytes[self.len..end]);
         self.len = end;
     }
 }

@@ -9,6 +9,11 @@ use Rattle.fsoe_io.specs.Line.{IsLine, HasNoNewline}
 use Rattle.node_runner.specs.declared.halt.Halt.{Halt}
 use Rattle.node_runner.specs.declared.halt.Halt.TheVariants as halt
 
+-- the line of this number is refused
+abbrev pub Refuses : ℕ → Halt → Type 0
+Refuses number (halt.Refused line cause) = line ≡ number
+Refuses number (halt.Read lines) = ⊥
+
 -- a line was taken with its newline
 abbrev pub TookLine : Option (List ℕ) → Option (List ℕ) → Type 0
 TookLine old new = (line : List ℕ) × IsLine line × Consumes old new (line ++ 10 ∷ [])

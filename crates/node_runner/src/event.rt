@@ -1,42 +1,49 @@
 //! The events of a slave's node.
 ghost use Rattle.std.specs.Io.KnownBytes.{prepend_known};
-ghost use Rattle.std.specs.Prelude.{◌-◌, ◌^◌, ◌≤◌, ◌<◌, IfOk};
+ghost use Rattle.std.specs.Prelude.{◌-◌, ◌^◌, ◌≤◌, ◌<◌, IfOk, IfErr};
 ghost use Rattle.fsoe_base.specs.declared.command.End.TheVariants as side;
 ghost use Rattle.schedule_file.specs.Event.{LineFits};
 ghost use Rattle.node_runner.specs.Event.{IsWithin};
-ghost use Rattle.node_runner.specs.Halt.{Blames, Goes, Stalls};
+ghost use Rattle.node_runner.specs.Halt.{Blames, Goes, Refuses, Stalls};
 
 use crate::cause::Cause;
 use crate::halt::{Halt, halt_of};
 use fsoe_base::End;
-use fsoe_io::{LineReader, Source};
+use fsoe_io::{Line, LineReader, Source};
 use param_load::SlaveSettings;
 use schedule_file::{ScheduleLine, read_node_event};
 
 /// The most events of a node.
 const MOST: u64 = 200_000;
 
-/// What a line says that stands after so many events of a slave with these settings.
-fn read_event(line: &[u8], events: u64, settings: &SlaveSettings) -> Result<ScheduleLine, Cause>
+/// What a line says that stands after so many events of a slave with these settings, or that it is refused.
+fn read_event(line: &Line, events: u64, settings: &SlaveSettings) -> Result<ScheduleLine, Halt>
     ensures fits { IfOk result (LineFits side.Slave settings.now.lengths settings.now.profile) }
     ensures few { IfOk result (IsWithin events) }
+    ensures refused { IfErr result (Refuses line.now.number) }
 {
     if events < MOST {
-        match read_node_event(line, End::Slave, settings.lengths(), settings.profile()) {
+        match read_node_event(
+            line.bytes(),
+            End::Slave,
+            settings.lengths(),
+            settings.profile(),
+        ) {
             Ok(says) => Ok(says),
-            Err(cause) => Err(Cause::Line(cause)),
+            Err(cause) => Err(Halt::Refused(line.number(), Cause::Line(cause))),
         }
-    } else if line == b"end".as_slice() {
+    } else if line.bytes() == b"end".as_slice() {
         Ok(ScheduleLine::End)
     } else {
-        Err(Cause::TooMany)
+        Err(Halt::Refused(line.number(), Cause::TooMany))
     }
 }
 
-/// What the next line says, after so many events of a slave with these settings.
+/// What the next line says, after so many events of a slave with these settings. The line is written to `line`.
 pub fn next_event<S: Source>(
     reader: &mut LineReader,
     source: &mut S,
+    line: &mut Line,
     events: u64,
     settings: &SlaveSettings,
 ) -> Result<ScheduleLine, Halt>
@@ -51,12 +58,9 @@ pub fn next_event<S: Source>(
     ensures cause { Blames result (S.faults source.old) (S.faults source.new) }
 {
     let before = reader.lines();
-    match reader.next(source) {
-        Ok(Some(line)) => match read_event(line.bytes(), events, settings) {
-            Ok(says) => Ok(says),
-            Err(cause) => Err(Halt::Refused(line.number(), cause)),
-        },
-        Ok(None) => Err(Halt::Refused(before + 1, Cause::End)),
+    match reader.next_into(source, line) {
+        Ok(true) => read_event(line, events, settings),
+        Ok(false) => Err(Halt::Refused(before + 1, Cause::End)),
         Err(fault) => Err(halt_of(fault, before)),
     }
 }

@@ -10,7 +10,7 @@ use crate::node::{step, write_entry};
 use crate::report::write_events;
 use crate::stop::{close, halt, write_failed};
 use fsoe_base::{End, FrameBuf};
-use fsoe_io::{Ended, Failed, LineReader, LineText, Output, Sink, Source, Status};
+use fsoe_io::{Ended, Failed, Line, LineReader, LineText, Output, Sink, Source, Status};
 use schedule_file::ScheduleLine;
 use slave_core::Slave;
 
@@ -54,6 +54,7 @@ pub fn run_node<S: Source, K: Sink>(end: End, source: &mut S, sink: &mut K) -> E
         Err(why) => return halt(&mut output, sink, why),
     };
     let mut slave = Slave::new(settings);
+    let mut line = Line::new();
     let mut sent = FrameBuf::new();
     let mut text = LineText::new();
     let mut events = 0;
@@ -62,7 +63,7 @@ pub fn run_node<S: Source, K: Sink>(end: End, source: &mut S, sink: &mut K) -> E
             Ok(()) => {}
             Err(_) => return write_failed(&output),
         }
-        match next_event(&mut reader, source, events, slave.settings()) {
+        match next_event(&mut reader, source, &mut line, events, slave.settings()) {
             Ok(ScheduleLine::Step(event)) => {
                 events += 1;
                 let did = step(&mut slave, &event, &mut sent);

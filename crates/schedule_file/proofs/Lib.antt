@@ -4,3 +4,5 @@ pub mod LinesLeft
 pub mod OneField
 pub mod Ranges
 pub mod Split
+pub mod Space
+pub mod HexDigits

@@ -2,14 +2,16 @@ ghost use Rattle.std.specs.Prelude.{◌≡◌, ◌≤◌, ◌<◌, ◌∷◌, le
 ghost use Rattle.schedule_file.specs.Fields.{next_field, no_field, one_field, IsField, AreFields};
 ghost use Rattle.schedule_file.specs.Field.{FindsSpace, fields_of, fields_after, number_of, bytes_of};
 
+use crate::hex_digits::{are_digits, decode};
 use crate::line_cause::LineCause;
+use memchr::memchr;
 use std::marker::Model;
 
 /// Where the first space stands.
 fn find_space(text: &[u8]) -> Option<usize>
     ensures { FindsSpace result text.now }
 {
-    text.iter().position(|b| *b == b' ')
+    memchr(b' ', text)
 }
 
 /// The first field, and what follows the space after it.
@@ -70,11 +72,12 @@ impl HexBytes {
         if len == 0 || len > most {
             return None;
         }
-        let mut bytes = [0; 256];
-        match hex::decode_to_slice(text, &mut bytes[..len]) {
-            Ok(()) => Some(HexBytes { bytes, len }),
-            Err(_) => None,
+        if text.len() % 2 != 0 || !are_digits(text) {
+            return None;
         }
+        let mut bytes = [0; 256];
+        decode(text, &mut bytes[..len]);
+        Some(HexBytes { bytes, len })
     }
 
     pub fn bytes(&self) -> &[u8]

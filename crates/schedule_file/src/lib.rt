@@ -8,6 +8,7 @@ pub mod header;
 pub mod header_kind;
 mod header_line;
 mod header_part;
+mod hex_digits;
 pub mod line_cause;
 pub mod node_event;
 mod place;

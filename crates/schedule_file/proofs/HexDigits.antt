@@ -1,0 +1,26 @@
+-- Digits that are read.
+use Rattle.std.proofs.Common.{◌≡◌, ℕ, ◌+◌, ◌*◌, ◌%◌, List, length, refl, sym, ◌∙◌, arith}
+use Rattle.std.specs.Prelude.{Result, Ok, Err, Some, None, false}
+use Rattle.std.specs.List.{list_all}
+use Rattle.std.proofs.lemmas.List.Sums.{list_all-from_AllPass}
+use Rattle.hex.specs.Hex.{decode_of, hex_digit_value, is_hex_digit, pair_value}
+use Rattle.hex.specs.declared.error.FromHexError.{FromHexError}
+use Rattle.hex.proofs.HexLemmas.{decode_of-ok}
+use Rattle.schedule_file.specs.Field.{some_bytes, bytes_of}
+
+-- the byte of two digits
+pub pair_read : (high low i h l : ℕ) → hex_digit_value high ≡ Some h → hex_digit_value low ≡ Some l → pair_value high low i ≡ Ok (h * 16 + l)
+pair_read high low i h l e f = rw (e, f) refl
+
+no_bytes : (most : ℕ) (r : Result (List ℕ) FromHexError) → ((bytes : List ℕ) → r ≡ Ok bytes → ⊥) → some_bytes most r ≡ None
+no_bytes most (Err e) h = refl
+no_bytes most (Ok bytes) h = absurd (h bytes refl)
+
+-- an odd number of characters says no bytes
+pub odd_count : (most : ℕ) (text : List ℕ) → length text % 2 ≡ 1 → bytes_of most text ≡ None
+odd_count most text odd = no_bytes most (decode_of text) (λ bytes e. let ok = decode_of-ok text bytes e in omega (arith, odd, ok.0))
+
+-- other characters than digits say no bytes
+pub other_digits : (most : ℕ) (text : List ℕ) → list_all is_hex_digit text ≡ false → bytes_of most text ≡ None
+other_digits most text other =
+    no_bytes most (decode_of text) (λ bytes e. let ok = decode_of-ok text bytes e in cc (sym other ∙ list_all-from_AllPass is_hex_digit text ok.1))
