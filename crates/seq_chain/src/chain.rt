@@ -2,14 +2,13 @@
 
 ghost use Rattle.std.specs.Prelude.{◌≡◌, length, IsTrue};
 ghost use Rattle.fsoe_base.specs.Command.{command_byte};
-ghost use Rattle.fsoe_base.specs.Lengths.{is_length};
+ghost use Rattle.fsoe_base.specs.Lengths.{is_length, group_count};
 ghost use Rattle.fsoe_frame.specs.Parts.{bytes_of};
 ghost use Rattle.seq_chain.specs.Numbers.{following, crc_noted};
 ghost use Rattle.seq_chain.specs.Chain.{sealed_by, after_sent, fits_next, after_taken};
 
 use crate::compare::crcs_are;
-use crate::cover::crcs_into;
-use crate::link::{Link, crc_of, crc_or_zero, following_number, frame_number};
+use crate::link::{Link, crc_of, crc_or_zero, following_number, frame_number, number_with_crcs};
 use arrayvec::ArrayVec;
 use fsoe_base::{Command, FrameBuf, Image};
 use fsoe_frame::FrameView;
@@ -72,9 +71,8 @@ impl Chain {
     {
         let last = crc_or_zero(self.taken);
         let byte = command.byte();
-        let number = frame_number(self.own, last, conn, byte, load);
         let mut crcs = ArrayVec::new();
-        crcs_into(last, conn, number, byte, load, &mut crcs);
+        let number = number_with_crcs(self.own, last, conn, byte, load, &mut crcs);
         fsoe_frame::write(command, load, crcs.as_slice(), conn, out);
         self.own = Some(Link {
             number,
@@ -88,13 +86,23 @@ impl Chain {
         requires { conn ≡ view.now.conn }
         ensures { result ≡ fits_next self.now view.now }
     {
-        let last = crc_or_zero(self.own);
-        let byte = view.command_byte();
         let mut load = Image::zeros(0);
         view.load_into(&mut load);
-        let number = frame_number(self.taken, last, conn, byte, load.bytes());
+        self.test_load(view, conn, load.bytes())
+    }
+
+    /// The same where the safe data of the frame are at hand.
+    pub fn test_load(&self, view: &FrameView<'_>, conn: u16, load: &[u8]) -> bool
+        requires connection { conn ≡ view.now.conn }
+        requires load { load.now ≡ view.now.load }
+        requires valid { IsTrue (is_length (length load.now)) }
+        requires groups { length view.now.crcs ≡ group_count (length load.now) }
+        ensures { result ≡ fits_next self.now view.now }
+    {
+        let last = crc_or_zero(self.own);
+        let byte = view.command_byte();
         let mut crcs = ArrayVec::new();
-        crcs_into(last, conn, number, byte, load.bytes(), &mut crcs);
+        let _number = number_with_crcs(self.taken, last, conn, byte, load, &mut crcs);
         crcs_are(view, crcs.as_slice())
     }
 
@@ -106,13 +114,20 @@ impl Chain {
     {
         let mut load = Image::zeros(0);
         view.load_into(&mut load);
-        let number = frame_number(
-            self.taken,
-            crc_or_zero(self.own),
-            conn,
-            view.command_byte(),
-            load.bytes(),
-        );
+        self.take_load(view, conn, load.bytes());
+    }
+
+    /// The same where the safe data of the frame are at hand.
+    pub fn take_load(&mut self, view: &FrameView<'_>, conn: u16, load: &[u8])
+        requires connection { conn ≡ view.now.conn }
+        requires load { load.now ≡ view.now.load }
+        requires valid { IsTrue (is_length (length load.now)) }
+        requires groups { length view.now.crcs ≡ group_count (length load.now) }
+        requires tested { IsTrue (fits_next self.old view.now) }
+        ensures { self.new ≡ after_taken self.old view.now }
+    {
+        let last = crc_or_zero(self.own);
+        let number = frame_number(self.taken, last, conn, view.command_byte(), load);
         self.taken = Some(Link {
             number,
             crc: view.crc_at(0),

@@ -1,10 +1,11 @@
 //! What one direction of a session notes of its last frame, and the numbers of its frames.
 
 ghost use Rattle.std.specs.Prelude.{◌≡◌, length, IsTrue};
-ghost use Rattle.fsoe_base.specs.Lengths.{is_length};
+ghost use Rattle.fsoe_base.specs.Lengths.{is_length, group_count};
+ghost use Rattle.seq_chain.specs.Cover.{crcs};
 ghost use Rattle.seq_chain.specs.Numbers.{next, following, last_crc, crc_noted, number_of};
 
-use crate::cover::first_crc;
+use crate::cover::{Crcs, crcs_into, first_crc};
 
 /// What one direction of a session notes of its last frame.
 #[derive(Clone, Copy, Debug, PartialEq, Eq)]
@@ -73,6 +74,36 @@ pub(crate) fn frame_number(
             } else {
                 number
             }
+        }
+    }
+}
+
+/// The number of the frame after `before`, as `frame_number` has it, with the CRCs of the frame in place of what `out`
+/// held. The CRCs are made once, unless the number is stepped once more.
+pub(crate) fn number_with_crcs(
+    before: Option<Link>,
+    last: u16,
+    conn: u16,
+    command: u8,
+    load: &[u8],
+    out: &mut Crcs,
+) -> u16
+    requires { IsTrue (is_length (length load.now)) }
+    ensures number { result ≡ number_of last before conn command load.now }
+    ensures items { out.new.items ≡ crcs last conn result command load.now }
+    ensures count { length out.new.items ≡ group_count (length load.now) }
+{
+    let number = following_number(before);
+    crcs_into(last, conn, number, command, load, out);
+    match before {
+        None => number,
+        Some(link) => {
+            if out[0] != link.crc {
+                return number;
+            }
+            let stepped = next_number(number);
+            crcs_into(last, conn, stepped, command, load, out);
+            stepped
         }
     }
 }

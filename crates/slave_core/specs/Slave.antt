@@ -84,7 +84,7 @@ settles v f answer (Err e) = refuses v true e.1
 abbrev pub delivered_by : SlaveView → Verdict → Outcome
 delivered_by v (verdict.Drop why) = drops v false why
 delivered_by v (verdict.Refuse x) = refuses v false x
-delivered_by v (verdict.ResetFrame x load) = reset_by_peer v x load
+delivered_by v (verdict.ResetFrame x f) = reset_by_peer v x f.load
 delivered_by v (verdict.Pass f) = settles v f (reply v.kit v.state f) (taken v.kit v.state f)
 
 abbrev pub delivered : SlaveView → List ℕ → Outcome

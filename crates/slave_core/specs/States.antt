@@ -114,3 +114,8 @@ data_next kit chain terms f =
 
 abbrev pub data_reply : KitView → Chain → Terms → SeenView → List ℕ
 data_reply kit chain terms f = if data_holds f.command f.frame.load then answer chain f terms.conn (data_command kit) (data_load kit) else []
+
+-- a state that went on in place, as a transition gives it
+abbrev pub in_place : Result (Unit {0}) Code → DataView → Result DataView (InReset × Code)
+in_place (Ok done) s = Ok s
+in_place (Err fault) s = Err (no_session, fault)

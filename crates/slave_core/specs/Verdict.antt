@@ -23,7 +23,7 @@ is_repeat (Some last) bytes = bytes_eq last bytes
 -- a Reset frame: its connection id, its CRCs, and the bytes after its code
 abbrev pub reset_verdict : Frame → Result Code Code → Verdict
 reset_verdict f (Err fault) = verdict.Refuse fault
-reset_verdict f (Ok x) = verdict.ResetFrame x f.load
+reset_verdict f (Ok x) = verdict.ResetFrame x f
 
 -- a frame of a session: its command, its connection id, and its CRCs
 abbrev pub session_verdict : Now → Frame → Command → Verdict

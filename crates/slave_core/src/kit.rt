@@ -1,7 +1,20 @@
 //! What a slave has in every state.
+ghost use Rattle.std.specs.Prelude.{◌≡◌, ◌≤◌, replicate};
+
 use fsoe_base::{Command, End, Image};
 use param_load::{Profile, SlaveSettings};
 use std::marker::Model;
+
+/// The fail-safe value of the longest safe data.
+const ZEROS: [u8; 126] = [0; 126];
+
+/// This many zeros, at most 126.
+pub(crate) fn zeros(len: usize) -> &'static [u8]
+    requires { len ≤ 126 }
+    ensures { result.now ≡ replicate len 0 }
+{
+    &ZEROS[..len]
+}
 
 /// What a slave has in every state: its settings, its offer, whether it is held, and its nonce. It is made and
 /// changed by the slave alone.
@@ -135,15 +148,15 @@ impl Kit {
     }
 
     /// The safe data of the frames that the slave sends in state Data.
-    pub(crate) fn data_load(&self) -> Image
-        ensures value { result ≡ data_load self.now }
-        ensures valid { IsTrue (is_length (length result)) }
+    pub(crate) fn data_load(&self) -> &[u8]
+        ensures value { result.now ≡ data_load self.now }
+        ensures valid { IsTrue (is_length (length result.now)) }
     {
         let len = self.own_len();
         if self.held {
-            Image::zeros(len)
+            zeros(len)
         } else {
-            self.offer.copy()
+            self.offer.bytes()
         }
     }
 }

@@ -1,5 +1,5 @@
 //! A frame that passed the tests as far as the one of its CRCs.
-use fsoe_base::{Command, Image};
+use fsoe_base::Command;
 use fsoe_frame::FrameView;
 use std::marker::Model;
 
@@ -9,32 +9,33 @@ use std::marker::Model;
 pub struct Seen<'a> {
     command: Command,
     view: FrameView<'a>,
-    load: Image,
+    load: &'a [u8],
 }
 
 impl<'a> Model for Seen<'a> {
-    ghost use Rattle.std.specs.Prelude.{◌≡◌};
-    ghost use Rattle.fsoe_base.specs.Command.{command_byte};
-    ghost use Rattle.slave_core.specs.Seen.{SeenView};
+    ghost use Rattle.slave_core.specs.Seen.{SeenView, IsSeen};
 
     ghost Value = { SeenView };
 
     ghost view = { λ s. record { command = s.command; frame = s.view } };
 
-    ghost invariant = { λ s. (s.load ≡ s.view.load) × (s.view.cmd ≡ command_byte s.command) };
+    ghost invariant = { λ s. IsSeen (record { command = s.command; frame = s.view }) s.load.now };
 }
 
 impl<'a> Seen<'a> {
-    ghost use Rattle.std.specs.Prelude.{◌≡◌, ◌≤◌, length};
+    ghost use Rattle.std.specs.Prelude.{◌≡◌, ◌≤◌, IsTrue, length};
     ghost use Rattle.fsoe_base.specs.Command.{command_byte};
+    ghost use Rattle.fsoe_base.specs.Lengths.{is_length, group_count};
     ghost use Rattle.fsoe_frame.specs.Parts.{bytes_of};
 
-    pub(crate) fn new(command: Command, view: FrameView<'a>) -> Seen<'a>
-        requires { view.cmd ≡ command_byte command }
+    /// A frame with this command and these safe data.
+    pub(crate) fn new(command: Command, view: FrameView<'a>, load: &'a [u8]) -> Seen<'a>
+        requires command { view.cmd ≡ command_byte command }
+        requires load { load.now ≡ view.load }
+        requires valid { IsTrue (is_length (length load.now)) }
+        requires groups { length view.crcs ≡ group_count (length load.now) }
         ensures { result ≡ record { command = command; frame = view.entry } }
     {
-        let mut load = Image::zeros(0);
-        view.load_into(&mut load);
         Seen {
             command,
             view,
@@ -64,8 +65,10 @@ impl<'a> Seen<'a> {
     pub(crate) fn load(&self) -> &[u8]
         ensures value { result.now ≡ self.now.frame.load }
         ensures most { length result.now ≤ 126 }
+        ensures valid { IsTrue (is_length (length result.now)) }
+        ensures groups { length self.now.frame.crcs ≡ group_count (length result.now) }
     {
-        self.load.bytes()
+        self.load
     }
 
     /// The bytes of the frame.
@@ -74,17 +77,5 @@ impl<'a> Seen<'a> {
         ensures most { length result.now ≤ 255 }
     {
         self.view.bytes()
-    }
-
-    /// The safe data of the frame, when nothing else of it is needed.
-    pub(crate) fn into_load(self) -> Image
-        ensures { result ≡ self.entry.frame.load }
-    {
-        let Seen {
-            command: _,
-            view: _,
-            load,
-        } = self;
-        load
     }
 }

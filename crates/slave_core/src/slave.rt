@@ -1,21 +1,19 @@
 //! The slave of a connection.
-ghost use Rattle.std.specs.Prelude.{◌≡◌, ◌≤◌, replicate};
+ghost use Rattle.std.specs.Prelude.{◌≡◌, ◌≤◌, length, replicate};
 ghost use Rattle.slave_core.specs.Slave.{takes};
 
-use crate::kit::Kit;
+use crate::kit::{Kit, zeros};
 use crate::now::Now;
 use crate::seen::Seen;
 use crate::states::InReset;
 use crate::verdict::{Verdict, judge};
 use failsafe_io::Watchdog;
 use fsoe_base::{Cause, Code, Command, Did, Dropped, FrameBuf, Image, State, Took};
+use fsoe_frame::FrameView;
 use param_load::{SlaveSettings, Terms};
 use seq_chain::reset_frame;
 use std::marker::Model;
 use std::mem;
-
-/// The fail-safe value of the longest outputs.
-const ZEROS: [u8; 126] = [0; 126];
 
 /// The slave of a connection. It has no clock and no line of its own: frames and ticks are handed in, and the
 /// frames that it sends are handed out.
@@ -36,18 +34,13 @@ impl Model for Slave {
     ghost invariant = { λ s. IsSlave (record { kit = s.kit; state = s.state; timer = s.watchdog }) };
 }
 
-/// This many zeros, at most 126.
-fn zeros(len: usize) -> &'static [u8]
-    requires { len ≤ 126 }
-    ensures { result.now ≡ replicate len 0 }
+/// A frame with these safe data was taken, and its answer sent.
+fn took(command: Command, bytes: &[u8], passed: bool) -> Did
+    requires { length bytes.now ≤ 126 }
+    ensures { result ≡ takes command bytes.now passed }
 {
-    &ZEROS[..len]
-}
-
-/// A frame was taken, and its answer sent.
-fn took(command: Command, load: Image, passed: bool) -> Did
-    ensures { result ≡ takes command load passed }
-{
+    let mut load = Image::zeros(0);
+    load.set(bytes);
     Did {
         took: Some(Took { command, load }),
         passed,
@@ -80,6 +73,8 @@ impl Slave {
     }
 
     /// Forgets the session, and sends the Reset frame with this code.
+    #[cold]
+    #[inline(never)]
     fn fall(&mut self, passed: bool, why: Cause, code: Code, out: &mut FrameBuf) -> Did
         ensures slave { self.new ≡ (falls self.old passed why code).slave }
         ensures did { result ≡ (falls self.old passed why code).did }
@@ -106,6 +101,8 @@ impl Slave {
     }
 
     /// A test of a frame failed with this code: in state Reset the frame is dropped.
+    #[cold]
+    #[inline(never)]
     fn refuse(&mut self, passed: bool, code: Code, out: &mut FrameBuf) -> Did
         requires { out.old ≡ [] }
         ensures slave { self.new ≡ (refuses self.old passed code).slave }
@@ -126,22 +123,53 @@ impl Slave {
     }
 
     /// A valid Reset frame came: in state Reset it is taken.
-    fn acknowledge(&mut self, code: Code, load: Image, out: &mut FrameBuf) -> Did
-        ensures slave { self.new ≡ (reset_by_peer self.old code load).slave }
-        ensures did { result ≡ (reset_by_peer self.old code load).did }
-        ensures sent { out.new ≡ (reset_by_peer self.old code load).sent }
+    #[cold]
+    #[inline(never)]
+    fn acknowledge(&mut self, code: Code, view: &FrameView<'_>, out: &mut FrameBuf) -> Did
+        ensures slave { self.new ≡ (reset_by_peer self.old code view.now.load).slave }
+        ensures did { result ≡ (reset_by_peer self.old code view.now.load).did }
+        ensures sent { out.new ≡ (reset_by_peer self.old code view.now.load).sent }
         ensures tells { Tells result out.new }
     {
         if self.state.is_reset() {
+            let mut load = Image::zeros(0);
+            view.load_into(&mut load);
             self.forget();
             reset_frame(Code(0x00), self.kit.own_len(), out);
-            return took(Command::Reset, load, false);
+            return took(Command::Reset, load.bytes(), false);
         }
         self.fall(false, Cause::Peer(code), Code(0x00), out)
     }
 
-    /// Takes a frame that passed the tests, unless its contents are wrong.
+    /// Takes a frame that passed the tests, unless its contents are wrong. A data frame goes on in place.
     fn take(&mut self, seen: Seen<'_>, out: &mut FrameBuf) -> Did
+        requires allowed { IsTrue (allows self.old.state seen.command) }
+        requires passed { HasPassed self.old.kit.settings (chain_of self.old.state) seen }
+        requires empty { out.old ≡ [] }
+        ensures slave { self.new ≡ (settles self.old seen.entry (reply self.old.kit self.old.state seen.entry) (taken self.old.kit self.old.state seen.entry)).slave }
+        ensures did { result ≡ (settles self.old seen.entry (reply self.old.kit self.old.state seen.entry) (taken self.old.kit self.old.state seen.entry)).did }
+        ensures sent { out.new ≡ (settles self.old seen.entry (reply self.old.kit self.old.state seen.entry) (taken self.old.kit self.old.state seen.entry)).sent }
+        ensures kit { self.new.kit ≡ self.old.kit }
+        ensures tells { Tells result out.new }
+    {
+        match &mut self.state {
+            Now::Data(state) => match state.go_on(&seen, &self.kit, out) {
+                Ok(()) => {
+                    let limit = state.terms().watchdog;
+                    self.watchdog.restart(limit);
+                    took(seen.command(), seen.load(), true)
+                }
+                Err(code) => self.fall(true, Cause::Found(code), code, out),
+            },
+            Now::Reset(_) | Now::Session(_) | Now::Connection(_) | Now::Parameter(_) => {
+                self.take_by_move(seen, out)
+            }
+        }
+    }
+
+    /// The same by a move of the state, whose cost no data frame is to bear.
+    #[inline(never)]
+    fn take_by_move(&mut self, seen: Seen<'_>, out: &mut FrameBuf) -> Did
         requires allowed { IsTrue (allows self.old.state seen.command) }
         requires passed { HasPassed self.old.kit.settings (chain_of self.old.state) seen }
         requires empty { out.old ≡ [] }
@@ -158,7 +186,7 @@ impl Slave {
                 let limit = next.limit(&self.kit);
                 self.state = next;
                 self.watchdog.restart(limit);
-                took(seen.command(), seen.into_load(), true)
+                took(seen.command(), seen.load(), true)
             }
             Err((reset, code)) => {
                 self.state = Now::Reset(reset);
@@ -182,6 +210,7 @@ impl Slave {
     /// held; `out` is empty where nothing is sent. A frame of another length, or that repeats the frame taken
     /// last, is dropped. A valid Reset frame ends the session. A frame that fails a test ends it with the test's
     /// code, and is dropped in state Reset. Every other frame is taken and answered.
+    #[inline(never)]
     #[tactic(auto, using(crate::proofs::Passed::is_allowed))]
     pub fn deliver(&mut self, frame: &[u8], out: &mut FrameBuf) -> Did
         ensures slave { self.new ≡ (delivered self.old frame.now).slave }
@@ -191,10 +220,11 @@ impl Slave {
         ensures tells { Tells result out.new }
     {
         out.clear();
-        match judge(&self.state, &self.kit, frame) {
+        let mut load = Image::zeros(0);
+        match judge(&self.state, &self.kit, frame, &mut load) {
             Verdict::Drop(why) => Did::dropped(why),
             Verdict::Refuse(code) => self.refuse(false, code, out),
-            Verdict::ResetFrame(code, load) => self.acknowledge(code, load, out),
+            Verdict::ResetFrame(code, view) => self.acknowledge(code, &view, out),
             Verdict::Pass(seen) => self.take(seen, out),
         }
     }

@@ -12,7 +12,7 @@ ghost use Rattle.param_load.specs.Upload.{is_whole};
 ghost use Rattle.seq_chain.specs.Chain.{fits_next};
 ghost use Rattle.slave_core.specs.Data.{is_data, data_holds};
 ghost use Rattle.slave_core.specs.Kit.{piece_of, peer_len};
-ghost use Rattle.slave_core.specs.States.{no_session, fresh, answered, answer, first_session, first_connection, first_parameter, terms_of, session_next, session_reply, connection_next, parameter_next, echo_reply, data_next, data_reply};
+ghost use Rattle.slave_core.specs.States.{no_session, fresh, answered, answer, first_session, first_connection, first_parameter, terms_of, session_next, session_reply, connection_next, parameter_next, echo_reply, data_next, data_reply, in_place};
 ghost use Rattle.slave_core.specs.Views.{SessionUnder, ConnectionUnder, ParameterUnder, DataUnder, HasPassed};
 
 use crate::kit::Kit;
@@ -376,7 +376,16 @@ impl InParameter {
             app: upload.app().copy(),
             profile: kit.profile(),
         };
-        in_data(chain, terms, Outputs::new(kit.peer_len()), seen, kit, out)
+        let mut next = InData {
+            chain,
+            terms,
+            outputs: Outputs::new(kit.peer_len()),
+            last: FrameBuf::new(),
+        };
+        match next.go_on(seen, kit, out) {
+            Ok(()) => Ok(next),
+            Err(code) => Err((InReset::new(), code)),
+        }
     }
 
     /// State Reset; the session is forgotten.
@@ -425,7 +434,7 @@ impl InParameter {
 impl InData {
     /// Goes on by a data frame. Refused with 07h where a FailSafeData frame has a byte that isn't 0.
     pub fn more(
-        self,
+        mut self,
         seen: &Seen<'_>,
         kit: &Kit,
         out: &mut FrameBuf,
@@ -438,13 +447,42 @@ impl InData {
         ensures sent { out.new ≡ data_reply kit.now self.chain self.terms seen.now }
         ensures under { IfOk result (λ s. DataUnder kit.now.settings s) }
     {
-        let InData {
-            chain,
-            terms,
-            outputs,
-            last: _,
-        } = self;
-        in_data(chain, terms, outputs, seen, kit, out)
+        match self.go_on(seen, kit, out) {
+            Ok(()) => Ok(self),
+            Err(code) => Err((InReset::new(), code)),
+        }
+    }
+
+    /// The same in place. After a refusal the state is as it was, and only left.
+    pub(crate) fn go_on(
+        &mut self,
+        seen: &Seen<'_>,
+        kit: &Kit,
+        out: &mut FrameBuf,
+    ) -> Result<(), Code>
+        requires command { IsTrue (is_data seen.now.command) }
+        requires under { DataUnder kit.now.settings self.old }
+        requires passed { HasPassed kit.now.settings self.old.chain seen.now }
+        requires empty { out.old ≡ [] }
+        ensures next { in_place result self.new ≡ data_next kit.now self.old.chain self.old.terms seen.now }
+        ensures sent { out.new ≡ data_reply kit.now self.old.chain self.old.terms seen.now }
+        ensures under { DataUnder kit.now.settings self.new }
+    {
+        if !data_holds(seen) {
+            return Err(Code(0x07));
+        }
+        let command = kit.data_command();
+        answer(
+            &mut self.chain,
+            seen,
+            command,
+            self.terms.conn,
+            kit.data_load(),
+            out,
+        );
+        self.outputs.take(seen.command(), seen.load());
+        self.last.set(seen.bytes());
+        Ok(())
     }
 
     /// State Reset; the session is forgotten.
@@ -496,7 +534,7 @@ fn answer(
     ensures chain { chain.new ≡ answered chain.old seen.now conn command load.now }
     ensures sent { out.new ≡ answer chain.old seen.now conn command load.now }
 {
-    chain.take(seen.view(), seen.conn());
+    chain.take_load(seen.view(), seen.conn(), seen.load());
     chain.seal(command, conn, load, out);
 }
 
@@ -621,44 +659,6 @@ fn data_holds(seen: &Seen<'_>) -> bool
         Command::FailSafeData => is_all_zero(seen.load()),
         _ => true,
     }
-}
-
-/// Takes a data frame, and answers it with a data frame.
-fn in_data(
-    mut chain: Chain,
-    terms: Terms,
-    mut outputs: Outputs,
-    seen: &Seen<'_>,
-    kit: &Kit,
-    out: &mut FrameBuf,
-) -> Result<InData, (InReset, Code)>
-    requires passed { HasPassed kit.now.settings chain seen.now }
-    requires watchdog { 0 < terms.watchdog }
-    requires outputs { length outputs ≡ peer_len kit.now.settings }
-    requires empty { out.old ≡ [] }
-    ensures next { result ≡ data_next kit.now chain terms seen.now }
-    ensures sent { out.new ≡ data_reply kit.now chain terms seen.now }
-    ensures under { IfOk result (λ s. DataUnder kit.now.settings s) }
-{
-    if !data_holds(seen) {
-        return Err((InReset::new(), Code(0x07)));
-    }
-    let load = kit.data_load();
-    answer(
-        &mut chain,
-        seen,
-        kit.data_command(),
-        terms.conn,
-        load.bytes(),
-        out,
-    );
-    outputs.take(seen.command(), seen.load());
-    Ok(InData {
-        chain,
-        terms,
-        outputs,
-        last: kept(seen),
-    })
 }
 
 /// A copy of the bytes of a frame, to know a repeat by.

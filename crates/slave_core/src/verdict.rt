@@ -19,29 +19,31 @@ pub(crate) enum Verdict<'a> {
     Drop(Dropped),
     /// A test fails with this code.
     Refuse(Code),
-    /// It is a valid Reset frame with this code and these safe data.
-    ResetFrame(Code, Image),
+    /// It is a valid Reset frame with this code.
+    ResetFrame(Code, FrameView<'a>),
     /// Only its contents are still to be tested.
     Pass(Seen<'a>),
 }
 
 /// The first test that a Reset frame fails: of its connection id, its CRCs, and the bytes after its code.
-fn reset_verdict<'a>(view: &FrameView<'a>) -> Verdict<'a>
-    requires { view.now.cmd ≡ command_byte Command.Reset }
-    ensures { result ≡ reset_verdict view.now (reset_view view.now) }
+fn reset_verdict<'a>(view: FrameView<'a>) -> Verdict<'a>
+    requires { view.cmd ≡ command_byte Command.Reset }
+    ensures { result ≡ reset_verdict view.entry (reset_view view.entry) }
 {
-    match reset_view(view) {
+    match reset_view(&view) {
         Err(fault) => Verdict::Refuse(fault),
-        Ok(code) => {
-            let mut load = Image::zeros(0);
-            view.load_into(&mut load);
-            Verdict::ResetFrame(code, load)
-        }
+        Ok(code) => Verdict::ResetFrame(code, view),
     }
 }
 
-/// The first test that a frame of a session fails: of its command, its connection id, and its CRCs.
-fn session_verdict<'a>(now: &Now, view: FrameView<'a>, command: Command) -> Verdict<'a>
+/// The first test that a frame of a session fails: of its command, its connection id, and its CRCs. Its safe data
+/// are written to `load`.
+fn session_verdict<'a>(
+    now: &Now,
+    view: FrameView<'a>,
+    command: Command,
+    load: &'a mut Image,
+) -> Verdict<'a>
     requires { view.cmd ≡ command_byte command }
     ensures { result ≡ session_verdict now.now view.entry command }
 {
@@ -52,15 +54,17 @@ fn session_verdict<'a>(now: &Now, view: FrameView<'a>, command: Command) -> Verd
     if !now.has_conn(command, conn) {
         return Verdict::Refuse(Code(0x03));
     }
-    if !now.chain().test(&view, conn) {
+    view.load_into(load);
+    let load = load.bytes();
+    if !now.chain().test_load(&view, conn, load) {
         return Verdict::Refuse(Code(0x04));
     }
-    Verdict::Pass(Seen::new(command, view))
+    Verdict::Pass(Seen::new(command, view, load))
 }
 
 /// The first test that a delivered frame fails, its contents left out: its length, a repeat of the frame taken
-/// last, its command byte, then those of its command.
-pub(crate) fn judge<'a>(now: &Now, kit: &Kit, frame: &'a [u8]) -> Verdict<'a>
+/// last, its command byte, then those of its command. Its safe data are written to `load`.
+pub(crate) fn judge<'a>(now: &Now, kit: &Kit, frame: &'a [u8], load: &'a mut Image) -> Verdict<'a>
     ensures { result ≡ verdict_of (peer_len kit.now.settings) now.now frame.now }
 {
     let Some(view) = fsoe_frame::view(frame, kit.peer_len()) else {
@@ -71,7 +75,7 @@ pub(crate) fn judge<'a>(now: &Now, kit: &Kit, frame: &'a [u8]) -> Verdict<'a>
     }
     match Command::of(view.command_byte()) {
         None => Verdict::Refuse(Code(0x02)),
-        Some(Command::Reset) => reset_verdict(&view),
-        Some(command) => session_verdict(now, view, command),
+        Some(Command::Reset) => reset_verdict(view),
+        Some(command) => session_verdict(now, view, command, load),
     }
 }
