@@ -1,0 +1,188 @@
+-- A test of fairness that computes: where it says yes, a run is fair.
+use Rattle.std.proofs.Common.{◌≡◌, ℕ, ◌==◌, nat_eq, List, [], ◌∷◌, Bool, true, false, ◌&&◌, not, Option, Some, None, refl, ap, sym, IsSome, eqb-true}
+use Rattle.std.specs.Cmp.Lexicographic.{pointwise, same_text, other_text}
+use Rattle.std.specs.List.{IsDistinct, AllByRecursion}
+use Rattle.fsoe_base.specs.declared.command.End.TheVariants as end_name
+use Rattle.fsoe_base.specs.declared.command.Command.{Command}
+use Rattle.fsoe_base.specs.declared.command.Command.TheVariants as command
+use Rattle.fsoe_base.specs.declared.did.Took.{Took}
+use Rattle.fsoe_base.specs.declared.lengths.Lengths.{Lengths}
+use Rattle.param_load.specs.declared.profile.Profile.{Profile}
+use Rattle.param_load.specs.declared.profile.Profile.TheVariants as profile
+use Rattle.param_load.specs.declared.terms.Terms.{Terms}
+use Rattle.param_load.specs.declared.entry.Entry.{Entry}
+use Rattle.exchange_model.specs.Ends.{of_end}
+use Rattle.exchange_model.specs.Items.{Item, items, awaited}
+use Rattle.exchange_model.specs.Fair.{received, data_taken, frame_if, IsTakenFrom, TakesAwaited, numbers_taken, outputs_due, ShowsDue, Fair}
+
+left : (a b : Bool) → (a && b) ≡ true → a ≡ true
+left true b h = refl
+left false b h = cc
+
+right : (a b : Bool) → (a && b) ≡ true → b ≡ true
+right true b h = h
+right false b h = cc
+
+abbrev same_profile : Profile → Profile → Bool
+same_profile profile.One profile.One = true
+same_profile (profile.Two a) (profile.Two b) = a == b
+same_profile _ _ = false
+
+profiles : (a b : Profile) → same_profile a b ≡ true → a ≡ b
+profiles profile.One profile.One h = refl
+profiles (profile.Two a) (profile.Two b) h = ap profile.Two (eqb-true a b h)
+profiles profile.One (profile.Two b) h = cc
+profiles (profile.Two a) profile.One h = cc
+
+abbrev terms_of : ℕ → ℕ → ℕ → List ℕ → Profile → Terms
+terms_of conn address watchdog app profile = record { conn = conn; address = address; watchdog = watchdog; app = app; profile = profile }
+
+made : (c c' a a' w w' : ℕ) (app app' : List ℕ) (p p' : Profile) → c ≡ c' → a ≡ a' → w ≡ w' → app ≡ app' → p ≡ p'
+    → terms_of c a w app p ≡ terms_of c' a' w' app' p'
+made c c' a a' w w' app app' p p' h i j k l = cc
+
+abbrev same_terms : Terms → Terms → Bool
+same_terms a b = (a.conn == b.conn) && ((a.address == b.address) && ((a.watchdog == b.watchdog) && (pointwise nat_eq a.app b.app && same_profile a.profile b.profile)))
+
+equal_terms : (a b : Terms) → same_terms a b ≡ true → a ≡ b
+equal_terms a b h =
+    let from_address = right (a.conn == b.conn) _ h in
+    let from_watchdog = right (a.address == b.address) _ from_address in
+    let from_app = right (a.watchdog == b.watchdog) _ from_watchdog in
+    made a.conn b.conn a.address b.address a.watchdog b.watchdog a.app b.app a.profile b.profile
+    (eqb-true a.conn b.conn (left _ _ h))
+    (eqb-true a.address b.address (left _ _ from_address))
+    (eqb-true a.watchdog b.watchdog (left _ _ from_watchdog))
+    (same_text a.app b.app (sym (left _ _ from_app)))
+    (profiles a.profile b.profile (right (pointwise nat_eq a.app b.app) _ from_app))
+
+-- whether both ends told terms, and equal ones
+abbrev told_equal : Option Terms → Option Terms → Bool
+told_equal (Some a) (Some b) = same_terms a b
+told_equal _ _ = false
+
+told : (a b : Option Terms) → told_equal a b ≡ true → IsSome a × (a ≡ b)
+told (Some a) (Some b) h = (refl, ap Some (equal_terms a b h))
+told None b h = cc
+told (Some a) None h = cc
+
+-- whether two data commands are the same
+abbrev same_data : Command → Command → Bool
+same_data command.ProcessData command.ProcessData = true
+same_data command.FailSafeData command.FailSafeData = true
+same_data _ _ = false
+
+data_commands : (a b : Command) → same_data a b ≡ true → a ≡ b
+data_commands command.ProcessData command.ProcessData h = refl
+data_commands command.FailSafeData command.FailSafeData h = refl
+data_commands _ _ h = cc
+
+abbrev took_of : Command → List ℕ → Took
+took_of c load = record { command = c; load = load }
+
+same_took : (a b : Command) (load load' : List ℕ) → a ≡ b → load ≡ load' → Some (took_of a load) ≡ Some (took_of b load')
+same_took a b load load' h i = cc
+
+abbrev is_frame : Option Took → Took → Bool
+is_frame None t = false
+is_frame (Some made) t = same_data made.command t.command && pointwise nat_eq made.load t.load
+
+framed : (made : Option Took) (t : Took) → is_frame made t ≡ true → made ≡ Some t
+framed None t h = cc
+framed (Some f) t h =
+    same_took f.command t.command f.load t.load (data_commands f.command t.command (left _ _ h)) (same_text f.load t.load (sym (right (same_data f.command t.command) _ h)))
+
+abbrev is_taken_from : ℕ → Option Took → Option Terms → Option Item → Bool
+is_taken_from l None told i = true
+is_taken_from l (Some t) told None = false
+is_taken_from l (Some t) told (Some i) = is_frame (frame_if l i.load) t && told_equal i.terms told
+
+taken_from : (l : ℕ) (t : Option Took) (told_after : Option Terms) (i : Option Item) → is_taken_from l t told_after i ≡ true → IsTakenFrom l t told_after i
+taken_from l None told_after i h = tt
+taken_from l (Some t) told_after None h = cc
+taken_from l (Some t) told_after (Some i) h =
+    let both = told i.terms told_after (right (is_frame (frame_if l i.load) t) _ h) in
+    record { same_load = framed (frame_if l i.load) t (left _ _ h); some_terms = both.0; equal_terms = both.1 }
+
+abbrev takes_awaited : Lengths → List Entry → Bool
+takes_awaited lengths [] = true
+takes_awaited lengths (x ∷ w) = is_taken_from (received lengths x.end) (data_taken x.did.took) x.terms (awaited (items w) x.end) && takes_awaited lengths w
+
+takes : (lengths : Lengths) (w : List Entry) → takes_awaited lengths w ≡ true → TakesAwaited lengths w
+takes lengths [] h = tt
+takes lengths (x ∷ w) h =
+    let here = is_taken_from (received lengths x.end) (data_taken x.did.took) x.terms (awaited (items w) x.end) in
+    (taken_from (received lengths x.end) (data_taken x.did.took) x.terms (awaited (items w) x.end) (left _ _ h), takes lengths w (right here _ h))
+
+abbrev shows_due : Lengths → List Entry → Bool
+shows_due lengths [] = true
+shows_due lengths (x ∷ w) = pointwise nat_eq x.outputs (outputs_due (received lengths x.end) (x ∷ of_end x.end w)) && shows_due lengths w
+
+shows : (lengths : Lengths) (w : List Entry) → shows_due lengths w ≡ true → ShowsDue lengths w
+shows lengths [] h = tt
+shows lengths (x ∷ w) h =
+    let due : List ℕ = outputs_due (received lengths x.end) (x ∷ of_end x.end w) in
+    (same_text x.outputs due (sym (left _ _ h)), shows lengths w (right (pointwise nat_eq x.outputs due) _ h))
+
+abbrev no_number : ℕ → List ℕ → Bool
+no_number n [] = true
+no_number n (m ∷ numbers) = not (nat_eq n m) && no_number n numbers
+
+abbrev are_distinct : List ℕ → Bool
+are_distinct [] = true
+are_distinct (n ∷ numbers) = no_number n numbers && are_distinct numbers
+
+is_not : (b : Bool) → not b ≡ true → b ≡ false
+is_not false h = refl
+is_not true h = cc
+
+apart : (n : ℕ) (numbers : List ℕ) → no_number n numbers ≡ true → AllByRecursion (λ m. nat_eq n m ≡ false) numbers
+apart n [] h = tt
+apart n (m ∷ numbers) h = (is_not (nat_eq n m) (left _ _ h), apart n numbers (right (not (nat_eq n m)) _ h))
+
+distinct : (numbers : List ℕ) → are_distinct numbers ≡ true → IsDistinct nat_eq numbers
+unfolding IsDistinct
+distinct [] h = tt
+distinct (n ∷ numbers) h = (apart n numbers (left _ _ h), distinct numbers (right (no_number n numbers) _ h))
+
+-- the tests of a fair run together
+abbrev pub is_fair : Lengths → List Entry → Bool
+is_fair lengths w =
+    takes_awaited lengths w
+    && (are_distinct (numbers_taken end_name.Master w) && (are_distinct (numbers_taken end_name.Slave w) && shows_due lengths w))
+
+pub fair : (lengths : Lengths) (w : List Entry) → is_fair lengths w ≡ true → Fair lengths w
+fair lengths w h =
+    let more = right (takes_awaited lengths w) _ h in
+    let most = right (are_distinct (numbers_taken end_name.Master w)) _ more in
+    record {
+      from_awaited = takes lengths w (left _ _ h);
+      master_once = distinct (numbers_taken end_name.Master w) (left _ _ more);
+      slave_once = distinct (numbers_taken end_name.Slave w) (left _ _ most);
+      outputs = shows lengths w (right (are_distinct (numbers_taken end_name.Slave w)) _ most);
+    }
+
+-- the load of a frame, if there is one
+abbrev load_in : Option Took → List ℕ
+load_in None = []
+load_in (Some t) = t.load
+
+-- whether a data frame that was taken has another load than the item that was awaited
+abbrev has_other_load : ℕ → Option Took → Option Item → Bool
+has_other_load l (Some t) (Some i) = not (pointwise nat_eq (load_in (frame_if l i.load)) t.load)
+has_other_load l _ _ = false
+
+not_from : (l : ℕ) (t : Option Took) (told_after : Option Terms) (i : Option Item) → has_other_load l t i ≡ true → IsTakenFrom l t told_after i → ⊥
+not_from l (Some t) told_after (Some i) h from =
+    other_text (load_in (frame_if l i.load)) t.load (sym (is_not (pointwise nat_eq (load_in (frame_if l i.load)) t.load) h)) (ap load_in from.same_load)
+not_from l (Some t) told_after None h from = cc
+not_from l None told_after i h from = cc
+
+-- whether the newest entry takes a data frame with another load
+abbrev pub takes_other_load : Lengths → List Entry → Bool
+takes_other_load lengths [] = false
+takes_other_load lengths (x ∷ w) = has_other_load (received lengths x.end) (data_taken x.did.took) (awaited (items w) x.end)
+
+pub unfair : (lengths : Lengths) (w : List Entry) → takes_other_load lengths w ≡ true → Fair lengths w → ⊥
+unfair lengths [] h is_fair = cc
+unfair lengths (x ∷ w) h is_fair = not_from (received lengths x.end) (data_taken x.did.took) x.terms (awaited (items w) x.end) h is_fair.from_awaited.0

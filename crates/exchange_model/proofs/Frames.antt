@@ -1,0 +1,24 @@
+-- The items of an end are the frames that it sent.
+use Rattle.std.proofs.Common.{◌≡◌, ℕ, List, [], ◌∷◌, map, Bool, true, false, refl, if◌then◌else◌}
+use Rattle.fsoe_base.specs.declared.command.End.{End}
+use Rattle.param_load.specs.declared.entry.Entry.{Entry}
+use Rattle.end_model.specs.Deed.{is_empty}
+use Rattle.end_model.specs.Chain.{own}
+use Rattle.exchange_model.specs.Ends.{same_end}
+use Rattle.exchange_model.specs.World.{deed_in, deeds, frames_of}
+use Rattle.exchange_model.specs.Items.{Item, item_of, items_of, items}
+
+abbrev bytes_in : List Item → List (List ℕ)
+bytes_in found = map (λ i. i.bytes) found
+
+frame_head : (which : End) (x : Entry) (w : List Entry) (mine none : Bool) → same_end which x.end ≡ mine → is_empty x.sent ≡ none
+    → bytes_in (items_of which (items w)) ≡ frames_of which w
+    → bytes_in (items_of which (if none then items w else item_of x w (items w) ∷ items w)) ≡ own (if mine then deed_in x ∷ deeds which w else deeds which w)
+frame_head which x w true true h i before = simp (i, before) refl
+frame_head which x w true false h i before = simp (h, i, before) refl
+frame_head which x w false true h i before = before
+frame_head which x w false false h i before = simp (h, before) refl
+
+pub frames : (which : End) (w : List Entry) → map (λ i. i.bytes) (items_of which (items w)) ≡ frames_of which w
+frames which [] = refl
+frames which (x ∷ w) = frame_head which x w (same_end which x.end) (is_empty x.sent) refl refl (frames which w)

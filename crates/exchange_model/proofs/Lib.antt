@@ -1,0 +1,11 @@
+pub mod Projection
+pub mod Deciding
+pub mod WorkedRuns
+pub mod FairRuns
+pub mod HonestRuns
+pub mod Others
+pub mod Frames
+pub mod Shown
+pub mod Exchanges
+pub mod WorkedItems
+pub mod Once

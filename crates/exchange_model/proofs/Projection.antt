@@ -1,0 +1,123 @@
+-- Each end of a world runs as it runs alone.
+use Rattle.std.proofs.Common.{◌≡◌, ℕ, List, [], ◌∷◌, ◌++◌, Bool, true, false, if◌then◌else◌, refl, ap, subst, sym, ◌∙◌, All, Option, Some, None}
+use Rattle.std.proofs.lemmas.List.Elements.{All-head, All-tail}
+use Rattle.fsoe_base.specs.declared.command.End.{End}
+use Rattle.fsoe_base.specs.declared.command.End.TheVariants as end_name
+use Rattle.param_load.specs.declared.entry.Move.{Move}
+use Rattle.param_load.specs.declared.entry.Entry.{Entry}
+use Rattle.param_load.specs.declared.master_settings.MasterSettings.{MasterSettings}
+use Rattle.param_load.specs.declared.slave_settings.SlaveSettings.{SlaveSettings}
+use Rattle.schedule_file.specs.declared.event.Event.{Event}
+use Rattle.schedule_file.specs.declared.event.Event.TheVariants as event
+use Rattle.end_model.specs.Setup.{Setup}
+use Rattle.end_model.specs.Deed.{Deed}
+use Rattle.end_model.specs.Step.{step, run, IsProper}
+use Rattle.end_model.specs.Entries.{entry_of, entries}
+use Rattle.end_model.proofs.Runs.{run_append}
+use Rattle.exchange_model.specs.Ends.{same_end, peer, of_end}
+use Rattle.exchange_model.specs.World.{setup_of, deed_in, deeds, frames_of, moves, end_of_event, back_th, delivery, altered_delivery, move_of, entry_on, entry_at, going_on, world_after, world, IsProperEvent, IsNextEntry, IsWorld}
+
+pub same : (a b : End) → same_end a b ≡ true → b ≡ a
+same end_name.Master end_name.Master h = refl
+same end_name.Slave end_name.Slave h = refl
+same end_name.Master end_name.Slave h = cc
+same end_name.Slave end_name.Master h = cc
+
+-- the deed of the next entry is the next step
+pub next_deed : (s : Setup) (x : Entry) (e : List Deed) → IsNextEntry s x e → deed_in x ≡ step s e x.what
+next_deed s x e next = ap deed_in next.stepped
+
+-- the next entry tells the next step
+pub next_told : (s : Setup) (x : Entry) (e : List Deed) → IsNextEntry s x e → x ≡ entry_of s e (deed_in x)
+next_told s x e next = next.stepped ∙ sym (ap (entry_of s e) (next_deed s x e next))
+
+own_head : (ms : MasterSettings) (ss : SlaveSettings) (which : End) (x : Entry) (w : List Entry) (mine : Bool)
+    → IsNextEntry (setup_of ms ss x.end) x (deeds x.end w) → deeds which w ≡ run (setup_of ms ss which) (moves which w) → same_end which x.end ≡ mine
+    → (if mine then deed_in x ∷ deeds which w else deeds which w) ≡ run (setup_of ms ss which) (if mine then moves which w ++ (x.what ∷ []) else moves which w)
+own_head ms ss which x w false next before other = before
+own_head ms ss which x w true next before mine =
+    let s : Setup = setup_of ms ss which in
+    let mine_too : deed_in x ≡ step s (deeds which w) x.what =
+    subst (λ (it : End). deed_in x ≡ step (setup_of ms ss it) (deeds it w) x.what) (same which x.end mine) (next_deed (setup_of ms ss x.end) x (deeds x.end w) next) in
+    ap (λ (d : Deed). d ∷ deeds which w) mine_too
+    ∙ (ap (λ (e : List Deed). step s e x.what ∷ e) before ∙ sym (run_append s (moves which w) (x.what ∷ [])))
+
+-- the deeds of an end are the run of its own events
+pub own_run : (ms : MasterSettings) (ss : SlaveSettings) (which : End) (w : List Entry) → IsWorld ms ss w
+    → deeds which w ≡ run (setup_of ms ss which) (moves which w)
+own_run ms ss which [] so_far = refl
+own_run ms ss which (x ∷ w) so_far = own_head ms ss which x w (same_end which x.end) so_far.0 (own_run ms ss which w so_far.1) refl
+
+told_head : (ms : MasterSettings) (ss : SlaveSettings) (which : End) (x : Entry) (w : List Entry) (mine : Bool)
+    → IsNextEntry (setup_of ms ss x.end) x (deeds x.end w) → of_end which w ≡ entries (setup_of ms ss which) (deeds which w) → same_end which x.end ≡ mine
+    → (if mine then x ∷ of_end which w else of_end which w) ≡ entries (setup_of ms ss which) (if mine then deed_in x ∷ deeds which w else deeds which w)
+told_head ms ss which x w false next before other = before
+told_head ms ss which x w true next before mine =
+    let s : Setup = setup_of ms ss which in
+    let head : x ≡ entry_of s (deeds which w) (deed_in x) =
+    subst (λ (it : End). x ≡ entry_of (setup_of ms ss it) (deeds it w) (deed_in x)) (same which x.end mine) (next_told (setup_of ms ss x.end) x (deeds x.end w) next) in
+    ap (λ (first : Entry). first ∷ of_end which w) head ∙ ap (λ (rest : List Entry). entry_of s (deeds which w) (deed_in x) ∷ rest) before
+
+-- the entries of an end tell its deeds
+pub told : (ms : MasterSettings) (ss : SlaveSettings) (which : End) (w : List Entry) → IsWorld ms ss w
+    → of_end which w ≡ entries (setup_of ms ss which) (deeds which w)
+told ms ss which [] so_far = refl
+told ms ss which (x ∷ w) so_far = told_head ms ss which x w (same_end which x.end) so_far.0 (told ms ss which w so_far.1) refl
+
+-- the entries of an end are those of the run of its own events
+pub projection : (ms : MasterSettings) (ss : SlaveSettings) (which : End) (w : List Entry) → IsWorld ms ss w
+    → of_end which w ≡ entries (setup_of ms ss which) (run (setup_of ms ss which) (moves which w))
+projection ms ss which w so_far = told ms ss which w so_far ∙ ap (entries (setup_of ms ss which)) (own_run ms ss which w so_far)
+
+-- an entry that follows, if there is one
+abbrev IsNextIfAny : MasterSettings → SlaveSettings → List Entry → Option Entry → Type 0
+IsNextIfAny ms ss w None = Unit {0}
+IsNextIfAny ms ss w (Some x) = IsNextEntry (setup_of ms ss x.end) x (deeds x.end w)
+
+abbrev IsProperIfAny : Setup → Option Move → Type 0
+IsProperIfAny s None = Unit {0}
+IsProperIfAny s (Some what) = IsProper s what
+
+delivery_proper : (s : Setup) (frame : Option (List ℕ)) → IsProperIfAny s (delivery frame)
+delivery_proper s None = tt
+delivery_proper s (Some frame) = tt
+
+altered_proper : (s : Setup) (pos mask : ℕ) (frame : Option (List ℕ)) → IsProperIfAny s (altered_delivery pos mask frame)
+altered_proper s pos mask None = tt
+altered_proper s pos mask (Some frame) = tt
+
+move_proper : (ms : MasterSettings) (ss : SlaveSettings) (frames : List (List ℕ)) (event : Event) → IsProperEvent ms ss event
+    → IsProperIfAny (setup_of ms ss (end_of_event event)) (move_of frames event)
+move_proper ms ss frames (event.Deliver to back) proper = delivery_proper (setup_of ms ss to) (back_th back frames)
+move_proper ms ss frames (event.Altered to back pos mask) proper = altered_proper (setup_of ms ss to) pos mask (back_th back frames)
+move_proper ms ss frames (event.Raw to frame) proper = tt
+move_proper ms ss frames (event.Tick at) proper = tt
+move_proper ms ss frames (event.Put at load) proper = proper
+move_proper ms ss frames (event.Hold at failsafe) proper = tt
+move_proper ms ss frames (event.Nonce at id) proper = proper
+move_proper ms ss frames (event.Local at) proper = tt
+
+entry_is_next : (ms : MasterSettings) (ss : SlaveSettings) (at : End) (w : List Entry) (what : Option Move) → IsProperIfAny (setup_of ms ss at) what
+    → IsNextIfAny ms ss w (entry_on (setup_of ms ss at) (deeds at w) what)
+entry_is_next ms ss at w None proper = tt
+entry_is_next ms ss end_name.Master w (Some what) proper = record { proper = proper; stepped = refl }
+entry_is_next ms ss end_name.Slave w (Some what) proper = record { proper = proper; stepped = refl }
+
+after_entry : (ms : MasterSettings) (ss : SlaveSettings) (events : List Event) (w : List Entry) (next : Option Entry) → IsNextIfAny ms ss w next → IsWorld ms ss w
+    → ((x : Entry) → IsWorld ms ss (x ∷ w) → IsWorld ms ss (world_after ms ss events (x ∷ w))) → IsWorld ms ss (going_on w next (world_after ms ss events))
+after_entry ms ss events w None is_next so_far rest = so_far
+after_entry ms ss events w (Some x) is_next so_far rest = rest x (is_next, so_far)
+
+after_is_world : (ms : MasterSettings) (ss : SlaveSettings) (events : List Event) (w : List Entry) → All (IsProperEvent ms ss) events → IsWorld ms ss w
+    → IsWorld ms ss (world_after ms ss events w)
+after_is_world ms ss [] w proper so_far = so_far
+after_is_world ms ss (event ∷ events) w proper so_far =
+    let at : End = end_of_event event in
+    let frames : List (List ℕ) = frames_of (peer at) w in
+    let next = entry_is_next ms ss at w (move_of frames event) (move_proper ms ss frames event (All-head (IsProperEvent ms ss) event events proper)) in
+    after_entry ms ss events w (entry_at ms ss w event) next so_far
+    (λ (x : Entry) (here : IsWorld ms ss (x ∷ w)). after_is_world ms ss events (x ∷ w) (All-tail (IsProperEvent ms ss) event events proper) here)
+
+-- a schedule of proper events makes a world
+pub world_is_world : (ms : MasterSettings) (ss : SlaveSettings) (events : List Event) → All (IsProperEvent ms ss) events → IsWorld ms ss (world ms ss events)
+world_is_world ms ss events proper = after_is_world ms ss events [] proper tt

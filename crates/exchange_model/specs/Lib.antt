@@ -1,0 +1,9 @@
+pub mod Ends
+pub mod World
+pub mod Items
+pub mod Other
+pub mod Fair
+pub mod Honest
+pub mod Schedules
+pub mod WorkedRuns
+pub mod WorkedItems

@@ -1,0 +1,111 @@
+-- The words of schedules and of reports, for worked runs of both ends.
+use Rattle.std.specs.Prelude.{ℕ, refl, nat_eq, List, [], ◌∷◌, ◌++◌, codes, take, map, length, replicate, reverse, Bool}
+use Rattle.std.specs.Cmp.Lexicographic.{pointwise}
+use Rattle.std.specs.List.{flat_map}
+use Rattle.std.proofs.lemmas.Bool.{ltb-true}
+use Rattle.hex.specs.Hex.{decode_of}
+use Rattle.fsoe_base.specs.declared.command.End.{End}
+use Rattle.fsoe_base.specs.declared.command.End.TheVariants as end_name
+use Rattle.param_load.specs.declared.entry.Entry.{Entry}
+use Rattle.param_load.specs.declared.profile.Profile.TheVariants as profile
+use Rattle.param_load.specs.declared.master_settings.MasterSettings.{MasterSettings}
+use Rattle.schedule_file.specs.declared.event.Event.{Event}
+use Rattle.schedule_file.specs.declared.event.Event.TheVariants as event
+use Rattle.entry_text.specs.EntryText.{entry_text}
+use Rattle.end_model.specs.WorkedRuns.{two_and_two, if_bytes, line}
+
+-- connection 1, slave address 2, watchdog 100, session id 1, no application parameters
+abbrev pub master_values : MasterSettings
+master_values = record {
+  lengths = two_and_two;
+  conn = 1;
+  address = 2;
+  watchdog = 100;
+  app = [];
+  nonce = 1;
+  profile = profile.One;
+  some_conn = ltb-true 0 1 refl;
+  some_watchdog = ltb-true 0 100 refl;
+  allowed = refl;
+}
+
+-- the frame so many back of those of the slave comes to the master
+abbrev pub dm : ℕ → Event
+dm back = event.Deliver end_name.Master back
+
+-- the frame so many back of those of the master comes to the slave
+abbrev pub ds : ℕ → Event
+ds back = event.Deliver end_name.Slave back
+
+-- the same with one byte altered by a mask
+abbrev pub altered_ds : ℕ → ℕ → ℕ → Event
+altered_ds back pos mask = event.Altered end_name.Slave back pos mask
+
+-- these bytes come to the slave, in hexadecimal
+abbrev pub rs : List ℕ → Event
+rs text = event.Raw end_name.Slave (if_bytes (decode_of text))
+
+-- a tick of the master
+abbrev pub tm : Event
+tm = event.Tick end_name.Master
+
+-- a tick of the slave
+abbrev pub ts : Event
+ts = event.Tick end_name.Slave
+
+-- a load is put at the master, in hexadecimal
+abbrev pub pm : List ℕ → Event
+pm text = event.Put end_name.Master (if_bytes (decode_of text))
+
+-- a load is put at the slave, in hexadecimal
+abbrev pub ps : List ℕ → Event
+ps text = event.Put end_name.Slave (if_bytes (decode_of text))
+
+-- the slave is held, or held no more
+abbrev pub hs : Bool → Event
+hs failsafe = event.Hold end_name.Slave failsafe
+
+-- a reset of the slave's own
+abbrev pub zs : Event
+zs = event.Local end_name.Slave
+
+-- so many times the master's last frame comes to the slave, and then the slave's last to the master
+abbrev pub rounds : ℕ → List Event
+rounds n = flat_map (λ round. round) (replicate n (ds 1 ∷ dm 1 ∷ []))
+
+-- a put at each end, the master's first tick, and a whole handshake with the first data of both ends
+abbrev pub until_data : List Event
+until_data = pm (codes "0100") ∷ ps (codes "8000") ∷ tm ∷ rounds 8
+
+-- the letter of the end that acts
+abbrev pub letter : End → List ℕ
+letter end_name.Master = codes "m "
+letter end_name.Slave = codes "s "
+
+-- the line of an entry, after its number
+abbrev pub pair_line : Entry → List ℕ
+pair_line x = letter x.end ++ line x
+
+-- the same without the frame that was sent
+abbrev pub short_line : Entry → List ℕ
+short_line x = letter x.end ++ entry_text x.did x.state x.outputs []
+
+-- the lines of a run
+abbrev pub lines : List Entry → List (List ℕ)
+lines w = reverse (map pair_line w)
+
+-- the lines of a run without frames
+abbrev pub short_lines : List Entry → List (List ℕ)
+short_lines w = reverse (map short_line w)
+
+-- the numbers of bytes of the frames that were sent
+abbrev pub sizes : List Entry → List ℕ
+sizes w = reverse (map (λ x. length x.sent) w)
+
+-- whether a line begins with a text
+abbrev pub begins : List ℕ → List ℕ → Bool
+begins text whole = pointwise nat_eq text (take (length text) whole)
+
+-- whether lines begin with these texts, as many lines as texts
+abbrev pub begin_with : List (List ℕ) → List (List ℕ) → Bool
+begin_with texts wholes = pointwise begins texts wholes

@@ -1,0 +1,66 @@
+-- The items of worked runs: what they answer, what they carry, and which is awaited. Lists are newest first.
+use Rattle.std.specs.Prelude.{◌≡◌, ℕ, List, [], ◌∷◌, take, map, replicate, true, false, Option, Some, None, is_some, option_map}
+use Rattle.fsoe_base.specs.declared.command.End.{End}
+use Rattle.fsoe_base.specs.declared.command.End.TheVariants as end_name
+use Rattle.param_load.specs.declared.entry.Entry.{Entry}
+use Rattle.end_model.specs.WorkedRuns.{slave_values}
+use Rattle.exchange_model.specs.World.{world}
+use Rattle.exchange_model.specs.Schedules.{master_values, ds, tm}
+use Rattle.exchange_model.specs.Items.{Load, FailSafe, Values, Unset, Item, items_of, newest, awaited, items}
+use Rattle.exchange_model.specs.Fair.{numbers_taken}
+use Rattle.exchange_model.specs.WorkedRuns.{first_data_run, answer_under_way_run, old_session_run, held_slave_run, profile_two_run}
+
+-- the items of one end in a run
+abbrev pub items_in : End → List Entry → List Item
+items_in which w = items_of which (items w)
+
+-- the load of an end's newest item
+abbrev pub newest_load : End → List Entry → Option (Option Load)
+newest_load which w = option_map (λ i. i.load) (newest (items_in which w))
+
+-- the number of the item that an end awaits after a run
+abbrev pub awaited_in : End → List Entry → Option ℕ
+awaited_in which w = option_map (λ i. i.number) (awaited (items w) which)
+
+-- each frame of a handshake answers the one before it: the slave's n-th the master's n-th, and that the slave's one before
+unfoldable pub Answering : Type 0
+Answering =
+    (map (λ i. i.number) (items_in end_name.Master first_data_run) ≡ 9 ∷ 8 ∷ 7 ∷ 6 ∷ 5 ∷ 4 ∷ 3 ∷ 2 ∷ 1 ∷ [])
+    × (map (λ i. i.answers) (items_in end_name.Master first_data_run)
+    ≡ Some 8 ∷ Some 7 ∷ Some 6 ∷ Some 5 ∷ Some 4 ∷ Some 3 ∷ Some 2 ∷ Some 1 ∷ None ∷ [])
+    × (map (λ i. i.answers) (items_in end_name.Slave first_data_run)
+    ≡ Some 8 ∷ Some 7 ∷ Some 6 ∷ Some 5 ∷ Some 4 ∷ Some 3 ∷ Some 2 ∷ Some 1 ∷ [])
+
+-- a frame that was under way is answered as the awaited item, also where its sender sent a Reset frame since
+unfoldable pub AnsweringLate : Type 0
+AnsweringLate = take 2 (map (λ i. i.answers) (items_in end_name.Master answer_under_way_run)) ≡ None ∷ Some 9 ∷ []
+
+-- a load and terms are those of data frames alone; a load is what was put, fail-safe data at a held end, zeros where nothing was put
+unfoldable pub Carrying : Type 0
+Carrying =
+    (map (λ i. i.load) (items_in end_name.Master first_data_run)
+    ≡ Some (Values (1 ∷ 0 ∷ [])) ∷ Some (Values (1 ∷ 0 ∷ [])) ∷ replicate 7 None)
+    × (map (λ i. is_some i.terms) (items_in end_name.Master first_data_run) ≡ true ∷ true ∷ replicate 7 false)
+    × (map (λ i. i.load) (items_in end_name.Slave first_data_run) ≡ Some (Values (128 ∷ 0 ∷ [])) ∷ replicate 7 None)
+    × (newest_load end_name.Slave held_slave_run ≡ Some (Some FailSafe))
+    × (newest_load end_name.Slave profile_two_run ≡ Some (Some Unset))
+
+-- the slave answered the master's first Reset frame
+abbrev pub reset_answered_run : List Entry
+reset_answered_run = world master_values slave_values (tm ∷ ds 1 ∷ [])
+
+-- an end awaits the answer to its newest item, if it was sent already; after a reset of its own it awaits none, and a Reset frame never
+unfoldable pub Awaiting : Type 0
+Awaiting =
+    (awaited_in end_name.Slave first_data_run ≡ Some 9)
+    × (awaited_in end_name.Master first_data_run ≡ None)
+    × (awaited_in end_name.Slave answer_under_way_run ≡ None)
+    × (awaited_in end_name.Slave old_session_run ≡ None)
+    × (map (λ i. i.answers) (items_in end_name.Slave reset_answered_run) ≡ Some 1 ∷ [])
+    × (awaited_in end_name.Master reset_answered_run ≡ None)
+
+-- the items that gave data to each end, fail-safe data too
+unfoldable pub Taking : Type 0
+Taking =
+    (numbers_taken end_name.Master held_slave_run ≡ 9 ∷ 8 ∷ [])
+    × (numbers_taken end_name.Slave held_slave_run ≡ 9 ∷ 8 ∷ [])

@@ -1,0 +1,132 @@
+-- What both ends do over a schedule: the list of their entries, newest first. What an end does looks back over its own deeds,
+-- and a frame that comes from its peer is found among those that the peer sent.
+use Rattle.std.specs.Prelude.{ℕ, zero, suc, ◌≡◌, List, [], ◌∷◌, ◌++◌, slice_get, slice_set, slice_index, bit_xor, Option, Some, None, if◌then◌else◌}
+use Rattle.fsoe_base.specs.declared.command.End.{End}
+use Rattle.fsoe_base.specs.declared.command.End.TheVariants as end_name
+use Rattle.param_load.specs.declared.entry.Move.{Move}
+use Rattle.param_load.specs.declared.entry.Move.TheVariants as move
+use Rattle.param_load.specs.declared.entry.Entry.{Entry}
+use Rattle.param_load.specs.declared.master_settings.MasterSettings.{MasterSettings}
+use Rattle.param_load.specs.declared.slave_settings.SlaveSettings.{SlaveSettings}
+use Rattle.schedule_file.specs.declared.event.Event.{Event}
+use Rattle.schedule_file.specs.declared.event.Event.TheVariants as event
+use Rattle.end_model.specs.Setup.{Setup, OfMaster, OfSlave}
+use Rattle.end_model.specs.Deed.{Deed}
+use Rattle.end_model.specs.Chain.{own}
+use Rattle.end_model.specs.Step.{step, IsProper}
+use Rattle.end_model.specs.Entries.{entry_of}
+use Rattle.exchange_model.specs.Ends.{same_end, peer}
+
+-- what an end is set to
+abbrev pub setup_of : MasterSettings → SlaveSettings → End → Setup
+setup_of ms ss end_name.Master = OfMaster ms
+setup_of ms ss end_name.Slave = OfSlave ss
+
+-- the deed that an entry tells
+abbrev pub deed_in : Entry → Deed
+deed_in x = record { what = x.what; did = x.did; sent = x.sent }
+
+-- the deeds of one end
+abbrev pub deeds : End → List Entry → List Deed
+deeds which [] = []
+deeds which (x ∷ w) = if same_end which x.end then deed_in x ∷ deeds which w else deeds which w
+
+-- the frames that an end sent, Reset frames too
+abbrev pub frames_of : End → List Entry → List (List ℕ)
+frames_of which w = own (deeds which w)
+
+-- the events of one end, oldest first
+abbrev pub moves : End → List Entry → List Move
+moves which [] = []
+moves which (x ∷ w) = if same_end which x.end then moves which w ++ (x.what ∷ []) else moves which w
+
+-- the end at which an event happens
+abbrev pub end_of_event : Event → End
+end_of_event (event.Deliver to back) = to
+end_of_event (event.Altered to back pos mask) = to
+end_of_event (event.Raw to frame) = to
+end_of_event (event.Tick at) = at
+end_of_event (event.Put at load) = at
+end_of_event (event.Hold at failsafe) = at
+end_of_event (event.Nonce at id) = at
+end_of_event (event.Local at) = at
+
+-- the frame so many back, 1 for the newest; 0 names none
+abbrev pub back_th : ℕ → List (List ℕ) → Option (List ℕ)
+back_th zero frames = None
+back_th (suc k) frames = slice_get frames k
+
+-- a frame with one byte altered by a mask
+abbrev pub altered : ℕ → ℕ → List ℕ → List ℕ
+altered pos mask frame = slice_set frame pos (bit_xor (slice_index frame pos) mask)
+
+-- a frame comes as it was sent, if it was
+abbrev pub delivery : Option (List ℕ) → Option Move
+delivery None = None
+delivery (Some frame) = Some (move.Deliver frame)
+
+-- a frame comes with one byte altered, if it was sent
+abbrev pub altered_delivery : ℕ → ℕ → Option (List ℕ) → Option Move
+altered_delivery pos mask None = None
+altered_delivery pos mask (Some frame) = Some (move.Deliver (altered pos mask frame))
+
+-- what an event means for its end, by the frames that the peer sent; None where it names one that the peer didn't send
+abbrev pub move_of : List (List ℕ) → Event → Option Move
+move_of frames (event.Deliver to back) = delivery (back_th back frames)
+move_of frames (event.Altered to back pos mask) = altered_delivery pos mask (back_th back frames)
+move_of frames (event.Raw to frame) = Some (move.Deliver frame)
+move_of frames (event.Tick at) = Some move.Tick
+move_of frames (event.Put at load) = Some (move.Put load)
+move_of frames (event.Hold at failsafe) = Some (move.Hold failsafe)
+move_of frames (event.Nonce at id) = Some (move.Nonce id)
+move_of frames (event.Local at) = Some move.Local
+
+-- the next entry of an end, where e are its deeds
+abbrev pub next_entry : Setup → List Deed → Move → Entry
+next_entry s e what = entry_of s e (step s e what)
+
+-- the next entry of an end, if something happens to it
+abbrev pub entry_on : Setup → List Deed → Option Move → Option Entry
+entry_on s e None = None
+entry_on s e (Some what) = Some (next_entry s e what)
+
+-- the entry of an event after these entries; None where it names a frame that wasn't sent
+abbrev pub entry_at : MasterSettings → SlaveSettings → List Entry → Event → Option Entry
+entry_at ms ss w event =
+    let at : End = end_of_event event in
+    entry_on (setup_of ms ss at) (deeds at w) (move_of (frames_of (peer at) w) event)
+
+-- the entries that follow an entry, if there is one; else the run stops
+abbrev pub going_on : List Entry → Option Entry → (List Entry → List Entry) → List Entry
+going_on w None rest = w
+going_on w (Some x) rest = rest (x ∷ w)
+
+-- the entries after these events, where w are those before; an event that names a frame that wasn't sent stops the run
+abbrev pub world_after : MasterSettings → SlaveSettings → List Event → List Entry → List Entry
+world_after ms ss [] w = w
+world_after ms ss (event ∷ events) w = going_on w (entry_at ms ss w event) (world_after ms ss events)
+
+-- the entries of two new ends over a schedule
+abbrev pub world : MasterSettings → SlaveSettings → List Event → List Entry
+world ms ss events = world_after ms ss events []
+
+-- both ends are set to the same lengths
+pub record SameLengths (ms : MasterSettings) (ss : SlaveSettings) : Type 0 where
+  pub master : ms.lengths.master ≡ ss.lengths.master
+  pub slave : ms.lengths.slave ≡ ss.lengths.slave
+
+-- a put has its end's length, and a nonce is one that its end's profile allows
+abbrev pub IsProperEvent : MasterSettings → SlaveSettings → Event → Type 0
+IsProperEvent ms ss (event.Put at load) = IsProper (setup_of ms ss at) (move.Put load)
+IsProperEvent ms ss (event.Nonce at id) = IsProper (setup_of ms ss at) (move.Nonce id)
+IsProperEvent ms ss _ = Unit {0}
+
+-- an entry is the next one of its end after these
+pub record IsNextEntry (s : Setup) (x : Entry) (e : List Deed) : Type 0 where
+  pub proper : IsProper s x.what
+  pub stepped : x ≡ next_entry s e x.what
+
+-- each entry is the next one of its end after those before it
+abbrev pub IsWorld : MasterSettings → SlaveSettings → List Entry → Type 0
+IsWorld ms ss [] = Unit {0}
+IsWorld ms ss (x ∷ w) = IsNextEntry (setup_of ms ss x.end) x (deeds x.end w) × IsWorld ms ss w

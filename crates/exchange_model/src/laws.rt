@@ -1,0 +1,140 @@
+//! What holds of the definitions. The calls do nothing: each law is a contract.
+
+ghost use Rattle.std.specs.Prelude.{◌≡◌, ◌+◌, ℕ, suc, nat_eq, List, All, Some, length, map};
+ghost use Rattle.std.specs.List.{IsDistinct};
+ghost use Rattle.fsoe_base.specs.declared.command.End.{End};
+ghost use Rattle.fsoe_base.specs.declared.command.State.TheVariants as state;
+ghost use Rattle.param_load.specs.declared.entry.Entry.{Entry};
+ghost use Rattle.param_load.specs.declared.master_settings.MasterSettings.{MasterSettings};
+ghost use Rattle.param_load.specs.declared.slave_settings.SlaveSettings.{SlaveSettings};
+ghost use Rattle.schedule_file.specs.declared.event.Event.{Event};
+ghost use Rattle.end_model.specs.Setup.{Setup, OfMaster, receives, piece_len};
+ghost use Rattle.end_model.specs.Deed.{Deed};
+ghost use Rattle.end_model.specs.Payloads.{pay, pieces};
+ghost use Rattle.end_model.specs.Outputs.{out};
+ghost use Rattle.end_model.specs.Step.{run, IsRun};
+ghost use Rattle.end_model.specs.Entries.{entries};
+ghost use Rattle.exchange_model.specs.Ends.{of_end};
+ghost use Rattle.exchange_model.specs.World.{setup_of, frames_of, moves, world, SameLengths, IsProperEvent, IsWorld};
+ghost use Rattle.exchange_model.specs.Items.{items_of, items};
+ghost use Rattle.exchange_model.specs.Other.{first_other, NoOther, before_other};
+ghost use Rattle.exchange_model.specs.Fair.{numbers_taken, outputs_due, ShowsDue};
+ghost use Rattle.exchange_model.specs.Honest.{exchanges};
+ghost use Rattle.exchange_model.specs.WorkedItems.{Answering, AnsweringLate, Carrying, Awaiting, Taking};
+ghost use Rattle.exchange_model.specs.WorkedRuns.{FirstData, ByteByByte, LongestFrames, ProfileTwo, NumberStepped, NoFrame, OtherAddress, LongWatchdog, NoParameters, HighParameter, ForgedWatchdog, OtherWord, OtherProfile, OtherProfileLater, Repeated, AlteredGroup, OldData, FiveTicks, AnswerUnderWay, OldSession, ForgedData, HeldSlave, OldConnection, FirstDataFair, AnswerUnderWayFair, OldSessionFair, HeldSlaveFair, ProfileTwoFair, ForgedDataFair, OldConnectionFair, Honest, HonestTicks, Exchanges};
+
+/// A schedule of proper events makes a world, each of whose entries is the next one of its end; and in each world the
+/// entries of an end are those of the run of that end's own events alone.
+#[tactic(auto, using(crate::proofs::Projection::world_is_world, crate::proofs::Projection::projection))]
+pub fn worlds()
+    ensures schedule { (ms : MasterSettings) (ss : SlaveSettings) (events : List Event) → All (IsProperEvent ms ss) events → IsWorld ms ss (world ms ss events) }
+    ensures projection { (ms : MasterSettings) (ss : SlaveSettings) (which : End) (w : List Entry) → IsWorld ms ss w → of_end which w ≡ entries (setup_of ms ss which) (run (setup_of ms ss which) (moves which w)) }
+{}
+
+/// The items of an end are the frames that it sent.
+#[tactic(auto, using(crate::proofs::Frames::frames))]
+pub fn frames()
+    ensures { (which : End) (w : List Entry) → map (λ i. i.bytes) (items_of which (items w)) ≡ frames_of which w }
+{}
+
+/// In each world of ends with equal lengths the outputs after each entry are those that looking back gives, whatever
+/// comes: this part of a fair run rests on no premise. Looking back over the entries that a run of an end tells is looking
+/// back over its deeds.
+#[tactic(auto, using(crate::proofs::Shown::shows_due, crate::proofs::Shown::due_is_out))]
+pub fn outputs()
+    ensures shown { (ms : MasterSettings) (ss : SlaveSettings) (w : List Entry) → SameLengths ms ss → IsWorld ms ss w → ShowsDue ms.lengths w }
+    ensures of_deeds { (s : Setup) (e : List Deed) → IsRun s e → outputs_due (receives s) (entries s e) ≡ out s e }
+{}
+
+/// In each world no item that an end awaits gives it data twice, whatever comes: this part of a fair run rests on no
+/// premise either.
+#[tactic(auto, using(crate::proofs::Once::at_most_once))]
+pub fn data_once()
+    ensures { (ms : MasterSettings) (ss : SlaveSettings) (which : End) (w : List Entry) → IsWorld ms ss w → IsDistinct nat_eq (numbers_taken which w) }
+{}
+
+/// No entry before the first other one is other, which is the whole run where there is none; they are a world where the
+/// run is one; and the first other entry has the next number.
+#[tactic(auto, using(crate::proofs::Others::before_is_clean, crate::proofs::Others::clean_is_before, crate::proofs::Others::before_is_world, crate::proofs::Others::number_of_first))]
+pub fn others()
+    ensures none_before { (w : List Entry) → NoOther (before_other w) }
+    ensures whole { (w : List Entry) → NoOther w → before_other w ≡ w }
+    ensures is_world { (ms : MasterSettings) (ss : SlaveSettings) (w : List Entry) → IsWorld ms ss w → IsWorld ms ss (before_other w) }
+    ensures number { (w : List Entry) (n : ℕ) → first_other w ≡ Some n → n ≡ suc (length (before_other w)) }
+{}
+
+/// The exchanges before the first data are one of Reset frames and one for each piece of a payload that the master
+/// downloads.
+#[tactic(auto, using(crate::proofs::Exchanges::are_pieces))]
+pub fn exchanges_before_data()
+    ensures { (ms : MasterSettings) (id : ℕ) → exchanges ms ≡ 1 + pieces (pay ms id state.Session) (piece_len (OfMaster ms)) + pieces (pay ms id state.Connection) (piece_len (OfMaster ms)) + pieces (pay ms id state.Parameter) (piece_len (OfMaster ms)) }
+{}
+
+/// Worked handshakes of both ends, over frames of several lengths and in both profiles: the lines of the report, and the number
+/// of the first other entry.
+#[tactic(auto, using(crate::proofs::WorkedRuns::first_data, crate::proofs::WorkedRuns::byte_by_byte, crate::proofs::WorkedRuns::longest_frames, crate::proofs::WorkedRuns::profile_two, crate::proofs::WorkedRuns::number_stepped, crate::proofs::WorkedRuns::no_frame))]
+pub fn worked_handshakes()
+    ensures first_data { FirstData }
+    ensures byte_by_byte { ByteByByte }
+    ensures longest_frames { LongestFrames }
+    ensures profile_two { ProfileTwo }
+    ensures number_stepped { NumberStepped }
+    ensures no_frame { NoFrame }
+{}
+
+/// Worked handshakes that a slave ends, in the same way.
+#[tactic(auto, using(crate::proofs::WorkedRuns::other_address, crate::proofs::WorkedRuns::long_watchdog, crate::proofs::WorkedRuns::no_parameters, crate::proofs::WorkedRuns::high_parameter, crate::proofs::WorkedRuns::forged_watchdog, crate::proofs::WorkedRuns::other_word, crate::proofs::WorkedRuns::other_profile, crate::proofs::WorkedRuns::other_profile_later))]
+pub fn worked_refusals()
+    ensures other_address { OtherAddress }
+    ensures long_watchdog { LongWatchdog }
+    ensures no_parameters { NoParameters }
+    ensures high_parameter { HighParameter }
+    ensures forged_watchdog { ForgedWatchdog }
+    ensures other_word { OtherWord }
+    ensures other_profile { OtherProfile }
+    ensures other_profile_later { OtherProfileLater }
+{}
+
+/// Worked exchanges of data, with frames that come again, late, altered or forged, and with resets and ticks.
+#[tactic(auto, using(crate::proofs::WorkedRuns::repeated, crate::proofs::WorkedRuns::altered_group, crate::proofs::WorkedRuns::old_data, crate::proofs::WorkedRuns::five_ticks, crate::proofs::WorkedRuns::answer_under_way, crate::proofs::WorkedRuns::old_session, crate::proofs::WorkedRuns::forged_data, crate::proofs::WorkedRuns::held_slave, crate::proofs::WorkedRuns::old_connection))]
+pub fn worked_data()
+    ensures repeated { Repeated }
+    ensures altered_group { AlteredGroup }
+    ensures old_data { OldData }
+    ensures five_ticks { FiveTicks }
+    ensures answer_under_way { AnswerUnderWay }
+    ensures old_session { OldSession }
+    ensures forged_data { ForgedData }
+    ensures held_slave { HeldSlave }
+    ensures old_connection { OldConnection }
+{}
+
+/// The items of worked runs: what they answer and carry, which is awaited, and which gave data.
+#[tactic(auto, using(crate::proofs::WorkedItems::answering, crate::proofs::WorkedItems::answering_late, crate::proofs::WorkedItems::carrying, crate::proofs::WorkedItems::awaiting, crate::proofs::WorkedItems::taking))]
+pub fn worked_items()
+    ensures answering { Answering }
+    ensures answering_late { AnsweringLate }
+    ensures carrying { Carrying }
+    ensures awaiting { Awaiting }
+    ensures taking { Taking }
+{}
+
+/// Worked runs that are fair, those with an other entry before it.
+#[tactic(auto, using(crate::proofs::FairRuns::first_data_fair, crate::proofs::FairRuns::answer_under_way_fair, crate::proofs::FairRuns::old_session_fair, crate::proofs::FairRuns::held_slave_fair, crate::proofs::FairRuns::profile_two_fair, crate::proofs::FairRuns::forged_data_fair, crate::proofs::FairRuns::old_connection_fair))]
+pub fn fair_runs()
+    ensures first_data { FirstDataFair }
+    ensures answer_under_way { AnswerUnderWayFair }
+    ensures old_session { OldSessionFair }
+    ensures held_slave { HeldSlaveFair }
+    ensures profile_two { ProfileTwoFair }
+    ensures forged_data { ForgedDataFair }
+    ensures old_connection { OldConnectionFair }
+{}
+
+/// Worked schedules that are honest, and the exchanges before the first data.
+#[tactic(auto, using(crate::proofs::HonestRuns::honest, crate::proofs::HonestRuns::honest_ticks, crate::proofs::HonestRuns::exchanges))]
+pub fn honest_runs()
+    ensures honest { Honest }
+    ensures ticks { HonestTicks }
+    ensures exchanges { Exchanges }
+{}
