@@ -6,17 +6,13 @@ use Rattle.fsoe_base.specs.declared.command.Command.TheVariants as command
 use Rattle.param_load.specs.declared.master_settings.MasterSettings.{MasterSettings}
 use Rattle.param_load.specs.declared.slave_settings.SlaveSettings.{SlaveSettings}
 use Rattle.end_model.specs.Setup.{Setup, OfMaster, OfSlave, sends, piece_len}
-use Rattle.end_model.specs.Phases.{has_command, is_reset, phase_of, phase_of_frame}
-use Rattle.end_model.specs.Deed.{Deed, is_empty}
+use Rattle.end_model.specs.Phases.{is_reset, phase_of, phase_of_frame}
+use Rattle.end_model.specs.Deed.{Deed}
 use Rattle.end_model.specs.Chain.{since, own}
 use Rattle.end_model.specs.Payloads.{pay, pieces, count_in, session_id}
 use Rattle.end_model.specs.Readiness.{offer, held}
+pub use Rattle.end_model.specs.Reactions.{IsInSession}
 use Rattle.end_model.specs.Step.{sealed, with_data, after_phase, after_pieces, download, master_answer, slave_answer}
-
--- a frame that is there, and no Reset frame
-pub record IsInSession (f : List ℕ) : Type 0 where
-  pub in_session : has_command command.Reset f ≡ false
-  pub sent : is_empty f ≡ false
 
 in_session-if : (b : Bool) (f g : List ℕ) → IsInSession f → IsInSession g → IsInSession (if b then f else g)
 in_session-if true f g h k = h

@@ -2,11 +2,15 @@ pub mod WorkedRuns
 pub mod Runs
 pub mod Accepted
 pub mod DeedKinds
+pub mod Judged
 pub mod Heads
 pub mod MasterShown
 pub mod Counted
 pub mod SlaveShown
 pub mod Shown
+pub mod Ways
+pub mod Reactions
+pub mod SoundRuns
 pub mod Links
 pub mod ReadBack
 pub mod WholeUploads

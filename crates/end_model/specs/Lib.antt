@@ -6,6 +6,7 @@ pub mod Payloads
 pub mod Readiness
 pub mod Verdict
 pub mod Step
+pub mod Reactions
 pub mod Outputs
 pub mod Entries
 pub mod WorkedRuns

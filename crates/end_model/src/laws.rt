@@ -1,6 +1,6 @@
 //! What holds of the definitions. The calls do nothing: each law is a contract.
 
-ghost use Rattle.std.specs.Prelude.{◌≡◌, ◌≢◌, ℕ, nat_le, List, ◌++◌, length, All};
+ghost use Rattle.std.specs.Prelude.{◌≡◌, ◌≢◌, ℕ, nat_le, Bool, true, List, ◌++◌, length, All};
 ghost use Rattle.fsoe_base.specs.declared.command.State.TheVariants as state;
 ghost use Rattle.param_load.specs.declared.entry.Move.{Move};
 ghost use Rattle.fsoe_base.specs.declared.command.Command.{Command};
@@ -15,9 +15,10 @@ ghost use Rattle.param_load.specs.declared.contents.Expected.TheVariants as expe
 ghost use Rattle.param_load.specs.declared.slave_settings.SlaveSettings.{SlaveSettings};
 ghost use Rattle.param_load.specs.Contents.{expected_len};
 ghost use Rattle.end_model.specs.Payloads.{uploaded, whole};
-ghost use Rattle.end_model.specs.Readiness.{state_of};
+ghost use Rattle.end_model.specs.Readiness.{state_of, is_done};
 ghost use Rattle.end_model.specs.Outputs.{zeros, outputs, out};
-ghost use Rattle.end_model.specs.Step.{run, continued, IsProper, IsRun};
+ghost use Rattle.end_model.specs.Step.{step, run, continued, IsProper, IsRun};
+ghost use Rattle.end_model.specs.Reactions.{HasNoSession, IsReaction};
 ghost use Rattle.end_model.specs.WorkedRuns.{FirstTick, MasterHandshake, MasterStepsNumber, MasterIsReset, SlaveHandshake, SlaveExpires, SlaveGoesOn, SlaveRefusesOldFrame, SlaveResetItself, WrongAddress, WrongWatchdog, WrongParameters, LongSessionIds, OtherProfile, QuietInReset, QuietAtItsLimit};
 
 /// Worked runs of a master: each line of its report, with its state, its outputs and the frame that it sent.
@@ -57,6 +58,16 @@ pub fn worked_refusals()
 pub fn runs()
     ensures continued { (s : Setup) (front rest : List Move) → run s (front ++ rest) ≡ continued s (run s front) rest }
     ensures proper { (s : Setup) (moves : List Move) → All (IsProper s) moves → IsRun s (run s moves) }
+{}
+
+/// In every run of an end, what it does at its next event is one of the reactions: each says in which state, at which
+/// age and after which tests of a frame it comes, and what the end does and sends then. In state Reset nothing is of a
+/// session, and in state Data a slave has the whole parameters.
+#[tactic(auto, using(crate::proofs::SoundRuns::reacts, crate::proofs::SoundRuns::outside_session, crate::proofs::SoundRuns::loaded))]
+pub fn reactions()
+    ensures complete { (s : Setup) (e : List Deed) (what : Move) → IsRun s e → IsProper s what → IsReaction s e (step s e what) }
+    ensures outside_session { (s : Setup) (e : List Deed) → IsRun s e → state_of s e ≡ state.Reset → HasNoSession e }
+    ensures loaded { (ss : SlaveSettings) (e : List Deed) → IsRun (OfSlave ss) e → state_of (OfSlave ss) e ≡ state.Data → is_done ss state.Parameter e ≡ true }
 {}
 
 /// What is noted of the last frame that an end sent, and of the last that it took, has that frame's CRC_0; and the
