@@ -11,6 +11,7 @@ pub mod Shown
 pub mod Ways
 pub mod Reactions
 pub mod SoundRuns
+pub mod AgeBelow
 pub mod Links
 pub mod ReadBack
 pub mod WholeUploads

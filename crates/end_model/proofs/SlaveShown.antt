@@ -61,7 +61,7 @@ pub record Limits (ss : SlaveSettings) (u : List ℕ) : Type 0 where
   pub limit_is : slave_limit ss u ≡ number_at 2 u
   pub some : 0 < slave_limit ss u
 
-limits : (ss : SlaveSettings) (u : List ℕ) → IsTested ss u → whole ss.profile state.Parameter u ≡ true → Limits ss u
+pub limits : (ss : SlaveSettings) (u : List ℕ) → IsTested ss u → whole ss.profile state.Parameter u ≡ true → Limits ss u
 limits ss u t w =
     let e : slave_limit ss u ≡ number_at 2 u = simp w in
     let p : 0 < number_at 2 u = t.watchdog (whole-long ss.profile u _ refl w) in

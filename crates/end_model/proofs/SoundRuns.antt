@@ -14,7 +14,7 @@ use Rattle.param_load.specs.declared.master_settings.MasterSettings.{MasterSetti
 use Rattle.param_load.specs.declared.slave_settings.SlaveSettings.{SlaveSettings}
 use Rattle.end_model.specs.Setup.{Setup, OfMaster, OfSlave}
 use Rattle.end_model.specs.Phases.{phase_of}
-use Rattle.end_model.specs.Deed.{Deed}
+use Rattle.end_model.specs.Deed.{Deed, is_empty}
 use Rattle.end_model.specs.Readiness.{state_of, is_done}
 use Rattle.end_model.specs.Step.{takes, step, IsProper, IsRun}
 use Rattle.end_model.specs.Reactions.{HasNoSession, IsHandshake, OfSession, OfConnection, OfParameter, IsNextPhase, AfterSession, AfterConnection, IsData, OfProcessData, OfFailSafeData, answered, IsExchange, Taking, SlaveRejoins, SlaveStarts, SlaveGoesOn, SlaveNextPhase, SlaveFirstData, SlaveMoreData, MasterStarts, MasterGoesOn, MasterNextPhase, MasterFirstData, MasterMoreData, Reaction, Puts, Holds, SetsNonce, Rests, Ages, Expires, SendsAgain, ResetsItself, DropsLength, DropsRepeat, DropsInReset, DropsReset, Refuses, PeerResets, Answers, IsReaction}
@@ -147,3 +147,17 @@ loaded ss e r now = let h : Sound (OfSlave ss) e = sound_run (OfSlave ss) e r in
 -- each deed of a run is one of the reactions
 pub reacted : (s : Setup) (x : Deed) (e : List Deed) → IsRun s (x ∷ e) → IsReaction s e x
 reacted s x e r = subst (λ (x : Deed). IsReaction s e x) (sym r.0.stepped) (reacts s e x.what r.1 r.0.proper)
+
+-- a frame that was taken is answered
+pub answer_sent : (e : List Deed) (bytes load : List ℕ) (s : Setup) (c : Command) (answer : List ℕ) → Taking e bytes load s c answer → is_empty answer ≡ false
+answer_sent e bytes load s c answer (SlaveRejoins _ now none frame) = refl
+answer_sent e bytes load s c answer (SlaveStarts _ _ now none x) = x.in_session.sent
+answer_sent e bytes load s c answer (SlaveGoesOn _ _ _ is now part x) = x.in_session.sent
+answer_sent e bytes load s c answer (SlaveNextPhase _ before _ _ is now whole x) = x.in_session.sent
+answer_sent e bytes load s c answer (SlaveFirstData _ _ _ is now whole x) = x.in_session.sent
+answer_sent e bytes load s c answer (SlaveMoreData _ _ _ is now whole x) = x.in_session.sent
+answer_sent e bytes load s c answer (MasterStarts _ _ now none frame zero made sent after) = sent.sent
+answer_sent e bytes load s c answer (MasterGoesOn _ _ _ is now part x) = x.in_session.sent
+answer_sent e bytes load s c answer (MasterNextPhase _ _ next _ is now whole x) = x.in_session.sent
+answer_sent e bytes load s c answer (MasterFirstData _ _ now whole x) = x.in_session.sent
+answer_sent e bytes load s c answer (MasterMoreData _ _ _ is now x) = x.in_session.sent

@@ -2,7 +2,7 @@
 use Rattle.std.proofs.Common.{refl}
 use Rattle.hex.proofs.OnLiterals.{hex_on_literals}
 use Rattle.fsoe_crc.specs.Remainder.{computing}
-use Rattle.end_model.specs.WorkedRuns.{FirstTick, SlaveHandshake, SlaveExpires, SlaveGoesOn, SlaveRefusesOldFrame, SlaveResetItself, WrongAddress, WrongWatchdog, WrongParameters, LongSessionIds, OtherProfile, QuietInReset, QuietAtItsLimit, MasterHandshake, MasterStepsNumber, MasterIsReset}
+use Rattle.end_model.specs.WorkedRuns.{FirstTick, SlaveHandshake, SlaveExpires, SlaveGoesOn, SlaveRefusesOldFrame, SlaveResetItself, WrongAddress, WrongWatchdog, WrongParameters, LongSessionIds, OtherProfile, QuietInReset, QuietAtItsLimit, MasterHandshake, MasterStepsNumber, MasterIsReset, SlaveTestsInOrder, MasterTestsInOrder}
 
 pub first_tick : FirstTick
 unfolding FirstTick computing hex_on_literals
@@ -67,3 +67,11 @@ master_steps_number = refl
 pub master_is_reset : MasterIsReset
 unfolding MasterIsReset computing hex_on_literals
 master_is_reset = refl
+
+pub slave_tests_in_order : SlaveTestsInOrder
+unfolding SlaveTestsInOrder computing hex_on_literals
+slave_tests_in_order = refl
+
+pub master_tests_in_order : MasterTestsInOrder
+unfolding MasterTestsInOrder computing hex_on_literals
+master_tests_in_order = refl

@@ -4,6 +4,7 @@ use Rattle.std.proofs.lemmas.Bool.{ltb-true}
 use Rattle.hex.specs.Hex.{decode_of}
 use Rattle.hex.specs.declared.error.FromHexError.{FromHexError}
 use Rattle.fsoe_base.specs.declared.lengths.Lengths.{Lengths}
+use Rattle.fsoe_base.specs.Command.{code}
 use Rattle.param_load.specs.declared.app_rule.AppRule.TheVariants as rule
 use Rattle.param_load.specs.declared.entry.Entry.{Entry}
 use Rattle.param_load.specs.declared.entry.Move.{Move}
@@ -12,6 +13,7 @@ use Rattle.param_load.specs.declared.profile.Profile.TheVariants as profile
 use Rattle.param_load.specs.declared.slave_settings.SlaveSettings.{SlaveSettings}
 use Rattle.entry_text.specs.EntryText.{entry_text}
 use Rattle.end_model.specs.Setup.{Setup, OfMaster, OfSlave}
+use Rattle.end_model.specs.Verdict.{Verdict, WrongLength, Refused, verdict}
 use Rattle.end_model.specs.Step.{run}
 use Rattle.end_model.specs.Entries.{entries}
 
@@ -87,6 +89,10 @@ line x = entry_text x.did x.state x.outputs x.sent
 abbrev pub lines : Setup → List Move → List (List ℕ)
 lines s moves = reverse (map line (entries s (run s moves)))
 
+-- the verdicts on frames that come after these moves, in hexadecimal
+abbrev pub verdicts : Setup → List Move → List (List ℕ) → List Verdict
+verdicts s moves texts = map (λ text. verdict s (run s moves) (if_bytes (decode_of text))) texts
+
 -- a new master sends Reset at its first tick
 unfoldable pub FirstTick : Type 0
 FirstTick =
@@ -139,6 +145,29 @@ SlaveGoesOn =
     ∷ codes "quiet Data 0100"
     ∷ codes "took ProcessData Data 0100 > 080000f65b0100"
     ∷ []
+
+-- frames of which each fails several tests: a frame too short with an unknown command; an unknown command with a wrong connection
+-- id; a Reset frame with a connection id, and one with a byte after its code; a command that isn't allowed in Data with a wrong
+-- connection id; data with a wrong connection id, and fail-safe data that aren't zeros. All of their CRCs are wrong
+abbrev pub faulty : List (List ℕ)
+faulty =
+    codes "ff0000000000"
+    ∷ codes "ff000000000200"
+    ∷ codes "2a000100000200"
+    ∷ codes "2a000100000000"
+    ∷ codes "64000000000200"
+    ∷ codes "36000000000200"
+    ∷ codes "08010000000100"
+    ∷ []
+
+-- the first test that each of them fails: the length, the command, the parts of a Reset frame, whether it is allowed, the
+-- connection id, the CRCs
+abbrev pub first_faults : List Verdict
+first_faults = WrongLength ∷ Refused (code 0x02) ∷ Refused (code 0x03) ∷ Refused (code 0x04) ∷ Refused (code 0x01) ∷ Refused (code 0x03) ∷ Refused (code 0x04) ∷ []
+
+-- at a slave in Data the first test that a frame fails decides
+unfoldable pub SlaveTestsInOrder : Type 0
+SlaveTestsInOrder = verdicts a_slave to_slave faulty ≡ first_faults
 
 -- an older frame is no repeat: its CRCs are wrong
 unfoldable pub SlaveRefusesOldFrame : Type 0
@@ -254,6 +283,10 @@ MasterStepsNumber =
     ∷ codes "took ProcessData Data 8000 > 365026d4c80100"
     ∷ codes "took ProcessData Data 8000 > 36502603030100"
     ∷ []
+
+-- at a master in Data the first test that a frame fails decides
+unfoldable pub MasterTestsInOrder : Type 0
+MasterTestsInOrder = verdicts a_master to_master faulty ≡ first_faults
 
 -- a Reset frame of the slave ends the session
 unfoldable pub MasterIsReset : Type 0

@@ -1,6 +1,6 @@
 //! What holds of the definitions. The calls do nothing: each law is a contract.
 
-ghost use Rattle.std.specs.Prelude.{◌≡◌, ◌≢◌, ℕ, nat_le, Bool, true, List, ◌++◌, length, All};
+ghost use Rattle.std.specs.Prelude.{◌≡◌, ◌≢◌, ◌<◌, ℕ, nat_le, Bool, true, List, ◌++◌, length, All};
 ghost use Rattle.fsoe_base.specs.declared.command.State.TheVariants as state;
 ghost use Rattle.param_load.specs.declared.entry.Move.{Move};
 ghost use Rattle.fsoe_base.specs.declared.command.Command.{Command};
@@ -15,11 +15,11 @@ ghost use Rattle.param_load.specs.declared.contents.Expected.TheVariants as expe
 ghost use Rattle.param_load.specs.declared.slave_settings.SlaveSettings.{SlaveSettings};
 ghost use Rattle.param_load.specs.Contents.{expected_len};
 ghost use Rattle.end_model.specs.Payloads.{uploaded, whole};
-ghost use Rattle.end_model.specs.Readiness.{state_of, is_done};
+ghost use Rattle.end_model.specs.Readiness.{state_of, age, limit, is_done};
 ghost use Rattle.end_model.specs.Outputs.{zeros, outputs, out};
 ghost use Rattle.end_model.specs.Step.{step, run, continued, IsProper, IsRun};
 ghost use Rattle.end_model.specs.Reactions.{HasNoSession, IsReaction};
-ghost use Rattle.end_model.specs.WorkedRuns.{FirstTick, MasterHandshake, MasterStepsNumber, MasterIsReset, SlaveHandshake, SlaveExpires, SlaveGoesOn, SlaveRefusesOldFrame, SlaveResetItself, WrongAddress, WrongWatchdog, WrongParameters, LongSessionIds, OtherProfile, QuietInReset, QuietAtItsLimit};
+ghost use Rattle.end_model.specs.WorkedRuns.{FirstTick, MasterHandshake, MasterStepsNumber, MasterIsReset, SlaveHandshake, SlaveExpires, SlaveGoesOn, SlaveRefusesOldFrame, SlaveResetItself, WrongAddress, WrongWatchdog, WrongParameters, LongSessionIds, OtherProfile, QuietInReset, QuietAtItsLimit, SlaveTestsInOrder, MasterTestsInOrder};
 
 /// Worked runs of a master: each line of its report, with its state, its outputs and the frame that it sent.
 #[tactic(auto, using(crate::proofs::WorkedRuns::first_tick, crate::proofs::WorkedRuns::master_handshake, crate::proofs::WorkedRuns::master_steps_number, crate::proofs::WorkedRuns::master_is_reset))]
@@ -52,6 +52,13 @@ pub fn worked_refusals()
     ensures other_profile { OtherProfile }
 {}
 
+/// Frames that fail several tests, at a slave and at a master in Data: the first of the tests decides.
+#[tactic(auto, using(crate::proofs::WorkedRuns::slave_tests_in_order, crate::proofs::WorkedRuns::master_tests_in_order))]
+pub fn worked_verdicts()
+    ensures slave { SlaveTestsInOrder }
+    ensures master { MasterTestsInOrder }
+{}
+
 /// A run of moves is the run of its front, continued, and a run of proper moves is a run: each deed is the step of
 /// those before it.
 #[tactic(auto, using(crate::proofs::Runs::run_append, crate::proofs::Runs::run_is_run))]
@@ -68,6 +75,14 @@ pub fn reactions()
     ensures complete { (s : Setup) (e : List Deed) (what : Move) → IsRun s e → IsProper s what → IsReaction s e (step s e what) }
     ensures outside_session { (s : Setup) (e : List Deed) → IsRun s e → state_of s e ≡ state.Reset → HasNoSession e }
     ensures loaded { (ss : SlaveSettings) (e : List Deed) → IsRun (OfSlave ss) e → state_of (OfSlave ss) e ≡ state.Data → is_done ss state.Parameter e ≡ true }
+{}
+
+/// In every run the age of an end is below its limit, so that a watchdog expires exactly in the tick that reaches the
+/// limit. A slave in state Reset has age 0.
+#[tactic(auto, using(crate::proofs::AgeBelow::age_below, crate::proofs::AgeBelow::no_age_in_reset))]
+pub fn ages()
+    ensures below_limit { (s : Setup) (e : List Deed) → IsRun s e → age s e < limit s e }
+    ensures in_reset { (ss : SlaveSettings) (e : List Deed) → state_of (OfSlave ss) e ≡ state.Reset → age (OfSlave ss) e ≡ 0 }
 {}
 
 /// What is noted of the last frame that an end sent, and of the last that it took, has that frame's CRC_0; and the
