@@ -20,7 +20,7 @@ use Rattle.end_model.specs.Chain.{since, kept}
 use Rattle.end_model.specs.Readiness.{state_of, age, limit, is_done}
 use Rattle.end_model.specs.Verdict.{Verdict, verdict}
 use Rattle.end_model.specs.Step.{takes, on_fault, on_reset_frame, on_verdict, on_expiry, with_data, slave_answer, download, after_phase, deed_of, step, IsProper}
-use Rattle.end_model.specs.Reactions.{HasNoSession, IsHandshake, OfSession, OfConnection, OfParameter, AfterSession, AfterConnection, IsData, OfProcessData, OfFailSafeData, IsResetFrame, IsValid, fault, received, answered, pieces_sent, all_pieces, IsExchange, Taking, SlaveRejoins, SlaveStarts, SlaveGoesOn, SlaveNextPhase, SlaveFirstData, SlaveMoreData, MasterStarts, MasterGoesOn, MasterNextPhase, MasterFirstData, MasterMoreData, Puts, Holds, SetsNonce, Rests, Ages, Expires, SendsAgain, ResetsItself, DropsLength, DropsRepeat, DropsInReset, DropsReset, Refuses, PeerResets, Answers, IsReaction}
+use Rattle.end_model.specs.Reactions.{HasNoSession, IsHandshake, OfSession, OfConnection, OfParameter, AfterSession, AfterConnection, IsData, OfProcessData, OfFailSafeData, IsResetFrame, IsValid, Fails, fault, received, answered, pieces_sent, all_pieces, IsExchange, Taking, SlaveRejoins, SlaveStarts, SlaveGoesOn, SlaveNextPhase, SlaveFirstData, SlaveMoreData, MasterStarts, MasterGoesOn, MasterNextPhase, MasterFirstData, MasterMoreData, Puts, Holds, SetsNonce, Rests, Ages, Expires, SendsAgain, ResetsItself, DropsLength, DropsRepeat, DropsInReset, DropsReset, Refuses, PeerResets, Answers, IsReaction}
 use Rattle.end_model.proofs.Heads.{IsInSession, master_frame, slave_frame, data_phase}
 use Rattle.end_model.proofs.Judged.{Judged, HasOtherLength, IsKept, FailsTest, FailsContents, ResetsFrame, IsNext, is_judged}
 use Rattle.end_model.proofs.Ways.{SlaveWay, Start, More, Next, First, Data, slave_way, MasterWay, Echo, Reply, master_way}
@@ -164,12 +164,12 @@ by-valid (OfMaster ms) e bytes load c sound n valid = master-takes ms e bytes lo
 by-valid (OfSlave ss) e bytes load c sound n valid =
     Answers bytes load c _ (slave-takes ss e bytes load c n sound valid (slave_way (λ phase. is_done ss phase e) (state_of (OfSlave ss) e) c n valid.is_allowed))
 
-by-fault : (s : Setup) (e : List Deed) (bytes : List ℕ) (now : State) (passed : Bool) (found : Code) → state_of s e ≡ now → verdict s e bytes ≡ fault passed found → IsReaction s e (deed_of s e (move.Deliver bytes) (on_fault now passed found))
-by-fault s e bytes state.Reset passed found h v = DropsInReset bytes passed found h v
-by-fault s e bytes state.Session passed found h v = Refuses bytes passed found (elsewhere _ _ h (λ k. cc)) v
-by-fault s e bytes state.Connection passed found h v = Refuses bytes passed found (elsewhere _ _ h (λ k. cc)) v
-by-fault s e bytes state.Parameter passed found h v = Refuses bytes passed found (elsewhere _ _ h (λ k. cc)) v
-by-fault s e bytes state.Data passed found h v = Refuses bytes passed found (elsewhere _ _ h (λ k. cc)) v
+by-fault : (s : Setup) (e : List Deed) (bytes : List ℕ) (now : State) (passed : Bool) (found : Code) → state_of s e ≡ now → verdict s e bytes ≡ fault passed found → Fails s e bytes passed found → IsReaction s e (deed_of s e (move.Deliver bytes) (on_fault now passed found))
+by-fault s e bytes state.Reset passed found h v t = DropsInReset bytes passed found h v t
+by-fault s e bytes state.Session passed found h v t = Refuses bytes passed found (elsewhere _ _ h (λ k. cc)) v t
+by-fault s e bytes state.Connection passed found h v t = Refuses bytes passed found (elsewhere _ _ h (λ k. cc)) v t
+by-fault s e bytes state.Parameter passed found h v t = Refuses bytes passed found (elsewhere _ _ h (λ k. cc)) v t
+by-fault s e bytes state.Data passed found h v t = Refuses bytes passed found (elsewhere _ _ h (λ k. cc)) v t
 
 master-starts : (ms : MasterSettings) (e : List Deed) (bytes load : List ℕ) (b : Bool) → Sound (OfMaster ms) e → IsResetFrame (OfMaster ms) e bytes load → state_of (OfMaster ms) e ≡ state.Reset → (first_of load == 0) ≡ b
     → IsReaction (OfMaster ms) e (deed_of (OfMaster ms) e (move.Deliver bytes) (if b then takes command.Reset load else dropped why.InReset))
@@ -192,8 +192,8 @@ repeats-outside s e bytes sound h = λ k. let none : kept (since e) ≡ None = (
 by-verdict : (s : Setup) (e : List Deed) (bytes : List ℕ) (v : Verdict) → Sound s e → verdict s e bytes ≡ v → Judged s e bytes v → IsReaction s e (deed_of s e (move.Deliver bytes) (on_verdict (state_of s e) s v))
 by-verdict s e bytes v sound h (HasOtherLength other) = DropsLength bytes other
 by-verdict s e bytes v sound h (IsKept long kept_is) = DropsRepeat bytes long kept_is (repeats-outside s e bytes sound kept_is)
-by-verdict s e bytes v sound h (FailsTest found) = by-fault s e bytes (state_of s e) false found refl h
-by-verdict s e bytes v sound h (FailsContents found) = by-fault s e bytes (state_of s e) true found refl h
+by-verdict s e bytes v sound h (FailsTest found test) = by-fault s e bytes (state_of s e) false found refl h test
+by-verdict s e bytes v sound h (FailsContents found test) = by-fault s e bytes (state_of s e) true found refl h test
 by-verdict s e bytes v sound h (ResetsFrame load frame) = by-reset s e bytes load (state_of s e) sound frame refl
 by-verdict s e bytes v sound h (IsNext command.Reset load n valid) = absurd (n refl)
 by-verdict s e bytes v sound h (IsNext command.Session load n valid) = by-valid s e bytes load command.Session sound n valid

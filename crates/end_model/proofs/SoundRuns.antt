@@ -73,9 +73,9 @@ master_sound ms e m d f h (SendsAgain master now old) = record { no_session = λ
 master_sound ms e m d f h ResetsItself = record { no_session = λ k. record { none_sent = refl; none_taken = refl; none_kept = refl }; is_loaded = tt }
 master_sound ms e m d f h (DropsLength bytes long) = record { no_session = λ k. quiet m false false None (Some why.Length) e (h.no_session k); is_loaded = tt }
 master_sound ms e m d f h (DropsRepeat bytes long again now) = record { no_session = λ k. quiet m false false None (Some why.Repeat) e (h.no_session k); is_loaded = tt }
-master_sound ms e m d f h (DropsInReset bytes passed found now fails) = record { no_session = λ k. quiet m passed false None (Some why.InReset) e (h.no_session k); is_loaded = tt }
+master_sound ms e m d f h (DropsInReset bytes passed found now fails test) = record { no_session = λ k. quiet m passed false None (Some why.InReset) e (h.no_session k); is_loaded = tt }
 master_sound ms e m d f h (DropsReset bytes load master now frame other) = record { no_session = λ k. quiet m false false None (Some why.InReset) e (h.no_session k); is_loaded = tt }
-master_sound ms e m d f h (Refuses bytes passed found now fails) = record { no_session = λ k. record { none_sent = refl; none_taken = refl; none_kept = refl }; is_loaded = tt }
+master_sound ms e m d f h (Refuses bytes passed found now fails test) = record { no_session = λ k. record { none_sent = refl; none_taken = refl; none_kept = refl }; is_loaded = tt }
 master_sound ms e m d f h (PeerResets bytes load now frame) = record { no_session = λ k. record { none_sent = refl; none_taken = refl; none_kept = refl }; is_loaded = tt }
 master_sound ms e m d f h (Answers bytes load c answer taken) = master-took ms e bytes load answer c taken
 
@@ -115,9 +115,9 @@ slave_sound ss e m d f h (SendsAgain master now old) = absurd master
 slave_sound ss e m d f h ResetsItself = record { no_session = λ k. record { none_sent = refl; none_taken = refl; none_kept = refl }; is_loaded = λ k. cc }
 slave_sound ss e m d f h (DropsLength bytes long) = record { no_session = λ k. quiet m false false None (Some why.Length) e (h.no_session k); is_loaded = h.is_loaded }
 slave_sound ss e m d f h (DropsRepeat bytes long again now) = record { no_session = λ k. quiet m false false None (Some why.Repeat) e (h.no_session k); is_loaded = h.is_loaded }
-slave_sound ss e m d f h (DropsInReset bytes passed found now fails) = record { no_session = λ k. quiet m passed false None (Some why.InReset) e (h.no_session k); is_loaded = h.is_loaded }
+slave_sound ss e m d f h (DropsInReset bytes passed found now fails test) = record { no_session = λ k. quiet m passed false None (Some why.InReset) e (h.no_session k); is_loaded = h.is_loaded }
 slave_sound ss e m d f h (DropsReset bytes load master now frame other) = absurd master
-slave_sound ss e m d f h (Refuses bytes passed found now fails) = record { no_session = λ k. record { none_sent = refl; none_taken = refl; none_kept = refl }; is_loaded = λ k. cc }
+slave_sound ss e m d f h (Refuses bytes passed found now fails test) = record { no_session = λ k. record { none_sent = refl; none_taken = refl; none_kept = refl }; is_loaded = λ k. cc }
 slave_sound ss e m d f h (PeerResets bytes load now frame) = record { no_session = λ k. record { none_sent = refl; none_taken = refl; none_kept = refl }; is_loaded = λ k. cc }
 slave_sound ss e m d f h (Answers bytes load c answer taken) = slave-took ss e bytes load answer c taken
 

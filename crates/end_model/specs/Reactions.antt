@@ -1,6 +1,6 @@
 -- All that an end can do at its next event, in a run. Each kind of reaction says when it comes, by the state, the age and the tests
 -- of a frame, and what follows. The reactions are this profile's own.
-use Rattle.std.specs.Prelude.{ℕ, suc, ◌≡◌, ◌≢◌, ◌<◌, ◌≤◌, IsTrue, List, [], ◌∷◌, length, Bool, true, false, Some, None, Ok}
+use Rattle.std.specs.Prelude.{ℕ, suc, ◌≡◌, ◌≢◌, ◌<◌, ◌≤◌, IsTrue, List, [], ◌∷◌, length, Bool, true, false, Option, Some, None, Ok, Err}
 use Rattle.fsoe_base.specs.declared.command.State.{State}
 use Rattle.fsoe_base.specs.declared.command.State.TheVariants as state
 use Rattle.fsoe_base.specs.declared.command.Command.{Command}
@@ -70,26 +70,43 @@ pub data IsData : Command → Type 0 where
 abbrev pub parts : Setup → List ℕ → Frame
 parts s bytes = frame_of (receives s) bytes
 
--- a Reset frame that passed all of its tests
-pub record IsResetFrame (s : Setup) (e : List Deed) (bytes load : List ℕ) : Type 0 where
+-- a frame that comes as far as the tests of its command: it has the length of the peer's frames, isn't the one that was taken
+-- last, and its first byte stands for this command, or for none
+pub record IsRead (s : Setup) (e : List Deed) (bytes : List ℕ) (c : Option Command) : Type 0 where
   pub has_length : length bytes ≡ frame_len (receives s)
   pub is_new : kept (since e) ≢ Some bytes
-  pub is_reset : command_of (parts s bytes).cmd ≡ Some command.Reset
+  pub command_is : command_of (parts s bytes).cmd ≡ c
+
+-- a Reset frame that passed all of its tests
+pub record IsResetFrame (s : Setup) (e : List Deed) (bytes load : List ℕ) : Type 0 where
+  pub is_read : IsRead s e bytes (Some command.Reset)
   pub load_is : (parts s bytes).load ≡ load
   pub is_sound : reset_view (parts s bytes) ≡ Ok (code (first_of load))
 
 -- a frame of a session that passed all of its tests
 pub record IsValid (s : Setup) (e : List Deed) (bytes : List ℕ) (c : Command) (load : List ℕ) : Type 0 where
-  pub has_length : length bytes ≡ frame_len (receives s)
-  pub is_new : kept (since e) ≢ Some bytes
-  pub command_is : command_of (parts s bytes).cmd ≡ Some c
+  pub is_read : IsRead s e bytes (Some c)
   pub load_is : (parts s bytes).load ≡ load
   pub is_allowed : allowed s e c ≡ true
   pub has_conn_id : has_conn s e c (parts s bytes).conn ≡ true
   pub does_fit : fits s (since e) (parts s bytes) ≡ true
   pub is_sound : contents s e c (parts s bytes) ≡ None
 
--- the verdict on a frame that fails a test with this code: the test of the contents where those up to the CRCs are passed
+-- a frame fails a test with this code, the first test that it fails; and whether it passed that of its CRCs
+pub data Fails (s : Setup) (e : List Deed) (bytes : List ℕ) : Bool → Code → Type 0 where
+  UnknownCommand : IsRead s e bytes None → Fails s e bytes false (code 0x02)
+  WrongReset : (found : Code) → IsRead s e bytes (Some command.Reset) → reset_view (parts s bytes) ≡ Err found → Fails s e bytes false found
+  NotAllowed : (c : Command) → c ≢ command.Reset → IsRead s e bytes (Some c) → allowed s e c ≡ false → Fails s e bytes false (code 0x01)
+  WrongConnection : (c : Command) → c ≢ command.Reset → IsRead s e bytes (Some c) → allowed s e c ≡ true → has_conn s e c (parts s bytes).conn ≡ false
+      → Fails s e bytes false (code 0x03)
+  WrongCrc : (c : Command) → c ≢ command.Reset → IsRead s e bytes (Some c) → allowed s e c ≡ true → has_conn s e c (parts s bytes).conn ≡ true
+      → fits s (since e) (parts s bytes) ≡ false
+      → Fails s e bytes false (code 0x04)
+  WrongContents : (c : Command) (found : Code) → c ≢ command.Reset → IsRead s e bytes (Some c) → allowed s e c ≡ true → has_conn s e c (parts s bytes).conn ≡ true
+      → fits s (since e) (parts s bytes) ≡ true → contents s e c (parts s bytes) ≡ Some found
+      → Fails s e bytes true found
+
+-- the verdict on a frame that fails a test: on its contents where it passed that of its CRCs
 abbrev pub fault : Bool → Code → Verdict
 fault false found = Refused found
 fault true found = Wrong found
@@ -194,11 +211,11 @@ pub data Reaction (s : Setup) (e : List Deed) : Move → Did → List ℕ → Ty
   -- a frame is the one that was taken last: outside state Reset alone, as nothing is kept there
   DropsRepeat : (bytes : List ℕ) → length bytes ≡ frame_len (receives s) → kept (since e) ≡ Some bytes → state_of s e ≢ state.Reset → Reaction s e (move.Deliver bytes) (dropped why.Repeat) []
   -- a frame fails a test in state Reset
-  DropsInReset : (bytes : List ℕ) (passed : Bool) (found : Code) → state_of s e ≡ state.Reset → verdict s e bytes ≡ fault passed found → Reaction s e (move.Deliver bytes) (record (dropped why.InReset) { passed = passed }) []
+  DropsInReset : (bytes : List ℕ) (passed : Bool) (found : Code) → state_of s e ≡ state.Reset → verdict s e bytes ≡ fault passed found → Fails s e bytes passed found → Reaction s e (move.Deliver bytes) (record (dropped why.InReset) { passed = passed }) []
   -- a Reset frame with another code than 0 comes to a master in state Reset
   DropsReset : (bytes load : List ℕ) → IsMaster s → state_of s e ≡ state.Reset → IsResetFrame s e bytes load → first_of load ≢ 0 → Reaction s e (move.Deliver bytes) (dropped why.InReset) []
   -- a frame fails a test outside state Reset: the session ends
-  Refuses : (bytes : List ℕ) (passed : Bool) (found : Code) → state_of s e ≢ state.Reset → verdict s e bytes ≡ fault passed found → Reaction s e (move.Deliver bytes) (resets passed (cause.Found found)) (reset_frame found.0 (sends s))
+  Refuses : (bytes : List ℕ) (passed : Bool) (found : Code) → state_of s e ≢ state.Reset → verdict s e bytes ≡ fault passed found → Fails s e bytes passed found → Reaction s e (move.Deliver bytes) (resets passed (cause.Found found)) (reset_frame found.0 (sends s))
   -- the peer ends the session
   PeerResets : (bytes load : List ℕ) → state_of s e ≢ state.Reset → IsResetFrame s e bytes load → Reaction s e (move.Deliver bytes) (resets false (cause.Peer (code (first_of load)))) (reset_frame 0 (sends s))
   -- a frame is taken and answered
