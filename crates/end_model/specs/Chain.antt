@@ -1,6 +1,6 @@
 -- The chain of an end's CRCs by looking back: which frames belong to the session, their numbers, and the frames that follow.
--- The parts that a CRC covers, the numbers and their start values are this profile's own. All words here but `since` speak of the
--- deeds of one session, which `since` gives.
+-- The parts that a CRC covers, the numbers and their start values are this profile's own. The words after `since` are asked of
+-- the deeds of one session, which `since` gives; `own` serves whole runs too.
 use Rattle.std.specs.Prelude.{ℕ, List, [], ◌∷◌, Bool, Option, Some, None, is_some, if◌then◌else◌}
 use Rattle.fsoe_base.specs.declared.command.Command.{Command}
 use Rattle.fsoe_base.specs.declared.command.Command.TheVariants as command

@@ -61,9 +61,13 @@ pay ms id _ = []
 abbrev pub piece : List ℕ → ℕ → ℕ → List ℕ
 piece payload c k = piece_from payload ((k - 1) * c) c
 
+-- the number of pieces of c bytes that n bytes make
+abbrev pub pieces_for : ℕ → ℕ → ℕ
+pieces_for n c = (n + c - 1) / c
+
 -- the number of pieces of c bytes of a payload
 abbrev pub pieces : List ℕ → ℕ → ℕ
-pieces payload c = (length payload + c - 1) / c
+pieces payload c = pieces_for (length payload) c
 
 -- the number of frames of a phase
 abbrev pub count_in : State → List (List ℕ) → ℕ

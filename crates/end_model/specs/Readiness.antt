@@ -1,6 +1,6 @@
 -- What an end is ready for, by looking back: its state, what it offers, its age and the commands that it allows.
 -- The states are those of the public standard; what is allowed in each, and the counting of ticks, is this profile's own.
-use Rattle.std.specs.Prelude.{ℕ, ◌-◌, List, [], ◌∷◌, Bool, true, false, not, Option, Some, None, if◌then◌else◌, replicate}
+use Rattle.std.specs.Prelude.{ℕ, suc, ◌-◌, nat_le, List, [], ◌∷◌, Bool, true, false, not, Option, Some, None, if◌then◌else◌, replicate}
 use Rattle.fsoe_base.specs.declared.command.State.{State}
 use Rattle.fsoe_base.specs.declared.command.State.TheVariants as state
 use Rattle.fsoe_base.specs.declared.command.Command.{Command}
@@ -85,6 +85,10 @@ slave_limit ss u = if whole ss.profile state.Parameter u then number_at 2 u else
 abbrev pub limit : Setup → List Deed → ℕ
 limit (OfMaster ms) e = ms.watchdog
 limit (OfSlave ss) e = slave_limit ss (uploaded ss state.Parameter e)
+
+-- whether the next tick of an end that counts it reaches the limit
+abbrev pub reaches_limit : Setup → List Deed → Bool
+reaches_limit s e = nat_le (limit s e) (suc (age s e))
 
 -- whether a slave allows a command in a state, where `done` says that the payload of its phase is whole
 abbrev pub slave_allows : State → Bool → Command → Bool

@@ -1,5 +1,5 @@
 -- What an end does at each event, and the list of its deeds. The reactions are this profile's own.
-use Rattle.std.specs.Prelude.{ℕ, suc, ◌≡◌, ◌==◌, nat_le, nat_lt, IsTrue, List, [], ◌∷◌, length, take, replicate, Bool, true, false, not, Option, Some, None, if◌then◌else◌}
+use Rattle.std.specs.Prelude.{ℕ, suc, ◌≡◌, ◌==◌, nat_lt, IsTrue, List, [], ◌∷◌, length, take, replicate, Bool, true, false, not, Option, Some, None, if◌then◌else◌}
 use Rattle.fsoe_base.specs.declared.command.State.{State}
 use Rattle.fsoe_base.specs.declared.command.State.TheVariants as state
 use Rattle.fsoe_base.specs.declared.command.Command.{Command}
@@ -25,7 +25,7 @@ use Rattle.end_model.specs.Phases.{phase_of, is_reset, is_guarded}
 use Rattle.end_model.specs.Deed.{Deed}
 use Rattle.end_model.specs.Chain.{since, own, taken, seal}
 use Rattle.end_model.specs.Payloads.{pay, piece, pieces, count_in, session_id, conn_id}
-use Rattle.end_model.specs.Readiness.{state_of, offer, held, age, limit}
+use Rattle.end_model.specs.Readiness.{state_of, offer, held, reaches_limit}
 use Rattle.end_model.specs.Verdict.{Verdict, Valid, WrongLength, Repeated, Refused, Wrong, verdict}
 
 -- a frame was taken, and one is sent
@@ -68,7 +68,7 @@ on_expiry _ s = resets false (cause.Found (code 0x05))
 
 -- a tick
 abbrev pub on_tick : Setup → List Deed → Did
-on_tick s e = if nat_le (limit s e) (suc (age s e)) then on_expiry (state_of s e) s else nothing
+on_tick s e = if reaches_limit s e then on_expiry (state_of s e) s else nothing
 
 -- what an end does at an event
 abbrev pub did_on : Setup → List Deed → Move → Did

@@ -8,4 +8,5 @@ pub mod Frames
 pub mod Shown
 pub mod Exchanges
 pub mod WorkedItems
+pub mod WorkedSchedules
 pub mod Once

@@ -10,15 +10,15 @@ answering = (refl, refl, refl)
 
 pub answering_late : AnsweringLate
 unfolding AnsweringLate computing hex_on_literals
-answering_late = refl
+answering_late = (refl, refl)
 
 pub carrying : Carrying
 unfolding Carrying computing hex_on_literals
-carrying = (refl, refl, refl, refl, refl)
+carrying = (refl, refl, refl, refl, refl, refl)
 
 pub awaiting : Awaiting
 unfolding Awaiting computing hex_on_literals
-awaiting = (refl, refl, refl, refl, refl, refl)
+awaiting = (refl, refl, refl, refl, refl, refl, refl)
 
 pub taking : Taking
 unfolding Taking computing hex_on_literals

@@ -30,7 +30,7 @@ abbrev pub data_taken : Option Took → Option Took
 data_taken None = None
 data_taken (Some t) = if is_data t.command then Some t else None
 
--- the frame of l bytes that a load makes: FailSafeData with zeros, or ProcessData with the bytes that were put
+-- the frame of l bytes that a load makes: FailSafeData with zeros, or ProcessData with the bytes that were put, zeros where none were
 abbrev pub frame_with : ℕ → Load → Took
 frame_with l FailSafe = record { command = command.FailSafeData; load = replicate l 0 }
 frame_with l (Values bytes) = record { command = command.ProcessData; load = bytes }
@@ -41,7 +41,8 @@ abbrev pub frame_if : ℕ → Option Load → Option Took
 frame_if l None = None
 frame_if l (Some load) = Some (frame_with l load)
 
--- a data frame that was taken is what an item was to carry, and both ends told equal terms
+-- a data frame that was taken is what an item was to carry, and the terms told when the item was sent are those told after it was
+-- taken
 pub record IsFromItem (l : ℕ) (t : Took) (told : Option Terms) (i : Item) : Type 0 where
   pub same_load : frame_if l i.load ≡ Some t
   pub some_terms : IsSome i.terms
@@ -105,7 +106,7 @@ abbrev pub ShowsDue : Lengths → List Entry → Type 0
 ShowsDue lengths [] = Unit {0}
 ShowsDue lengths (x ∷ w) = (x.outputs ≡ outputs_due (received lengths x.end) (x ∷ of_end x.end w)) × ShowsDue lengths w
 
--- a run is fair, where the ends send so many bytes of safe data
+-- a run is fair, where both ends have these lengths
 pub record Fair (lengths : Lengths) (w : List Entry) : Type 0 where
   pub from_awaited : TakesAwaited lengths w
   pub master_once : IsDistinct nat_eq (numbers_taken end_name.Master w)

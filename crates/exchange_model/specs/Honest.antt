@@ -1,5 +1,5 @@
--- Honest schedules: what a connection needs to come to state Data and stay there, and after how many exchanges it does.
-use Rattle.std.specs.Prelude.{ℕ, suc, ◌+◌, ◌-◌, ◌/◌, ◌≡◌, ◌≤◌, ◌==◌, nat_le, IsTrue, List, [], ◌∷◌, length, Bool, true, false, ◌&&◌, ◌||◌, not, Option, Some, None, if◌then◌else◌}
+-- Honest schedules, under which a connection of matching ends comes to state Data and stays there, and after how many exchanges.
+use Rattle.std.specs.Prelude.{ℕ, ◌+◌, ◌≡◌, ◌≤◌, ◌==◌, IsTrue, List, [], ◌∷◌, length, Bool, true, false, ◌&&◌, ◌||◌, not, Option, Some, None, if◌then◌else◌}
 use Rattle.std.specs.List.{list_all}
 use Rattle.fsoe_base.specs.declared.command.End.{End}
 use Rattle.fsoe_base.specs.declared.command.End.TheVariants as end_name
@@ -16,7 +16,8 @@ use Rattle.schedule_file.specs.declared.event.Event.{Event}
 use Rattle.schedule_file.specs.declared.event.Event.TheVariants as event
 use Rattle.end_model.specs.Setup.{Setup, OfMaster, OfSlave, piece_len}
 use Rattle.end_model.specs.Deed.{Deed}
-use Rattle.end_model.specs.Readiness.{state_of, age, limit}
+use Rattle.end_model.specs.Payloads.{pieces_for}
+use Rattle.end_model.specs.Readiness.{state_of, reaches_limit}
 use Rattle.exchange_model.specs.Ends.{same_end, peer}
 use Rattle.exchange_model.specs.World.{deeds, entry_at, SameLengths}
 
@@ -29,17 +30,13 @@ pub record Match (ms : MasterSettings) (ss : SlaveSettings) : Type 0 where
   pub as_many_parameters : length ms.app ≡ rule_len ss.rule
   pub parameters_allowed : IsTrue (allows ss.rule ms.app)
 
--- the frames that carry n bytes, c in each
-abbrev pub frames_for : ℕ → ℕ → ℕ
-frames_for n c = (n + c - 1) / c
-
 -- the exchanges before the first data frame: one of Reset frames, then those of the session id, of the connection id with the
 -- address, and of the parameters
 abbrev pub exchanges : MasterSettings → ℕ
 exchanges ms =
     let c : ℕ = piece_len (OfMaster ms) in
     let v : ℕ = id_len ms.profile in
-    1 + frames_for v c + frames_for 4 c + frames_for (v + 4 + length ms.app) c
+    1 + pieces_for v c + pieces_for 4 c + pieces_for (v + 4 + length ms.app) c
 
 -- whether an event may stand in an honest schedule: a delivery of the peer's last frame, a tick, a put, a hold or a nonce
 abbrev pub is_plain : Event → Bool
@@ -72,17 +69,13 @@ abbrev pub had_tick : List Deed → Bool
 had_tick [] = false
 had_tick (x ∷ e) = is_tick x.what || had_tick e
 
--- whether the next tick of an end reaches its limit
-abbrev pub reaches_limit : Setup → List Deed → Bool
-reaches_limit s e = nat_le (limit s e) (suc (age s e))
-
 -- a slave in state Reset counts no tick
 abbrev pub is_counted : State → Bool
 is_counted state.Reset = false
 is_counted _ = true
 
--- whether an end may have a tick now: the master's first tick reaches its limit, and no other tick does, unless the slave is in
--- state Reset
+-- whether an end may have a tick now: the master's first tick reaches its limit, and no other tick of the master does, and none
+-- of a slave outside state Reset
 abbrev pub may_tick : MasterSettings → SlaveSettings → List Entry → End → Bool
 may_tick ms ss w end_name.Master =
     let e : List Deed = deeds end_name.Master w in
@@ -92,9 +85,9 @@ may_tick ms ss w end_name.Slave =
     not (is_counted (state_of (OfSlave ss) e) && reaches_limit (OfSlave ss) e)
 
 -- whether an event may happen now, as far as ticks go
-abbrev pub in_time : MasterSettings → SlaveSettings → List Entry → Event → Bool
-in_time ms ss w (event.Tick at) = may_tick ms ss w at
-in_time ms ss w _ = true
+abbrev pub may_happen : MasterSettings → SlaveSettings → List Entry → Event → Bool
+may_happen ms ss w (event.Tick at) = may_tick ms ss w at
+may_happen ms ss w _ = true
 
 -- what holds of the entries after an event, if the run goes on
 abbrev pub if_on : List Entry → Option Entry → (List Entry → Bool) → Bool
@@ -104,10 +97,10 @@ if_on w (Some x) rest = rest (x ∷ w)
 -- whether the ticks of a schedule are honest, where w are the entries before
 abbrev pub keeps_time : MasterSettings → SlaveSettings → List Event → List Entry → Bool
 keeps_time ms ss [] w = true
-keeps_time ms ss (event ∷ events) w = in_time ms ss w event && if_on w (entry_at ms ss w event) (keeps_time ms ss events)
+keeps_time ms ss (event ∷ events) w = may_happen ms ss w event && if_on w (entry_at ms ss w event) (keeps_time ms ss events)
 
--- an honest schedule delivers each last frame, to the slave and to the master in turn; the master's first tick comes before, and
--- is the only tick that reaches a limit; nothing else happens but puts, holds and nonces
+-- an honest schedule delivers the peer's last frames unaltered, to the slave and to the master in turn, the slave first; the
+-- master's first tick comes before and is the only tick that reaches a limit; nothing else happens but puts, holds and nonces
 pub record IsHonest (ms : MasterSettings) (ss : SlaveSettings) (events : List Event) : Type 0 where
   pub plain : IsTrue (list_all is_plain events)
   pub turns : IsTrue (in_turn end_name.Slave events)

@@ -1,5 +1,6 @@
 -- The items of a run and which item answers which. What judges a run sees numbered frames, the events of both ends, and what
--- was told after each: it knows no CRC, no sequence number and no phase of a handshake. Lists are newest first.
+-- was told after each: of a frame's CRCs it knows whether they passed the receiver's test, and it knows nothing of sequence
+-- numbers and of the phases of a handshake. Lists are newest first.
 use Rattle.std.specs.Prelude.{ℕ, suc, ◌==◌, nat_eq, List, [], ◌∷◌, length, Bool, false, ◌&&◌, ◌||◌, not, Option, Some, None, if◌then◌else◌}
 use Rattle.std.specs.Cmp.Lexicographic.{pointwise}
 use Rattle.fsoe_base.specs.declared.command.End.{End}
@@ -11,6 +12,7 @@ use Rattle.param_load.specs.declared.entry.Move.TheVariants as move
 use Rattle.param_load.specs.declared.entry.Entry.{Entry}
 use Rattle.end_model.specs.Phases.{is_guarded, has_command}
 use Rattle.end_model.specs.Deed.{delivered, is_empty}
+use Rattle.end_model.specs.Readiness.{held_after}
 use Rattle.exchange_model.specs.Ends.{same_end, peer, of_end}
 
 -- what a data frame is to carry, by the events of its end
@@ -42,15 +44,10 @@ abbrev pub last_put : List Entry → Option (List ℕ)
 last_put [] = None
 last_put (x ∷ e) = put_after x.what (last_put e)
 
--- whether an end is held after an event
-abbrev pub hold_after : Move → Bool → Bool
-hold_after (move.Hold failsafe) before = failsafe
-hold_after _ before = before
-
 -- whether an end is held, by its own entries
 abbrev pub is_held : List Entry → Bool
 is_held [] = false
-is_held (x ∷ e) = hold_after x.what (is_held e)
+is_held (x ∷ e) = held_after x.what (is_held e)
 
 -- the load of what was put last, if something was
 abbrev pub load_put : Option (List ℕ) → Load
@@ -90,7 +87,7 @@ newest_answer number [] = None
 newest_answer number (i ∷ items) =
     if not (has_command command.Reset i.bytes) && answers_to number i.answers then Some i else newest_answer number items
 
--- the newest of these items that answers an item, if there is such an item
+-- the newest of these items that isn't a Reset frame and answers an item, if there is such an item
 abbrev pub answer_among : List Item → Option Item → Option Item
 answer_among items None = None
 answer_among items (Some mine) = newest_answer mine.number items
@@ -109,7 +106,8 @@ abbrev pub number_if : List ℕ → Option Item → Option ℕ
 number_if bytes None = None
 number_if bytes (Some i) = if pointwise nat_eq i.bytes bytes then Some i.number else None
 
--- the number of the item whose bytes an end took: a guarded frame is the awaited item, a Reset or Session frame the peer's newest
+-- the number of the item whose bytes an end took: for a guarded frame the awaited item, for a Reset or Session frame the peer's
+-- newest, where its bytes are those that came; else none
 abbrev pub item_taken : List Item → End → List ℕ → Option Took → Option ℕ
 item_taken before which bytes None = None
 item_taken before which bytes (Some t) =

@@ -7,3 +7,4 @@ pub mod Honest
 pub mod Schedules
 pub mod WorkedRuns
 pub mod WorkedItems
+pub mod WorkedSchedules

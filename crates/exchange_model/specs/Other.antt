@@ -1,5 +1,5 @@
--- Other entries: a guarded frame passed the CRC test of its receiver, and it wasn't the item that the receiver awaited. A run
--- without one is what the promises of a pair rest on.
+-- Other entries: a guarded frame passed the CRC test of its receiver, and its bytes weren't those of the item that the receiver
+-- awaited, or it awaited none. That taken data are the peer's rests on there being no such entry.
 use Rattle.std.specs.Prelude.{ℕ, suc, ◌≡◌, List, [], ◌∷◌, length, Bool, true, false, ◌&&◌, not, Option, Some, None, is_some, if◌then◌else◌}
 use Rattle.fsoe_base.specs.declared.command.Command.{Command}
 use Rattle.fsoe_base.specs.Command.{command_of}

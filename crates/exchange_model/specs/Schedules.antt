@@ -65,6 +65,10 @@ ps text = event.Put end_name.Slave (if_bytes (decode_of text))
 abbrev pub hs : Bool → Event
 hs failsafe = event.Hold end_name.Slave failsafe
 
+-- the slave's nonce is set
+abbrev pub ns : ℕ → Event
+ns id = event.Nonce end_name.Slave id
+
 -- a reset of the slave's own
 abbrev pub zs : Event
 zs = event.Local end_name.Slave

@@ -1,11 +1,12 @@
 -- The items of worked runs: what they answer, what they carry, and which is awaited. Lists are newest first.
-use Rattle.std.specs.Prelude.{◌≡◌, ℕ, List, [], ◌∷◌, take, map, replicate, true, false, Option, Some, None, is_some, option_map}
+use Rattle.std.specs.Prelude.{◌≡◌, ℕ, List, [], ◌∷◌, ◌++◌, take, map, replicate, true, false, Option, Some, None, is_some, option_map}
 use Rattle.fsoe_base.specs.declared.command.End.{End}
 use Rattle.fsoe_base.specs.declared.command.End.TheVariants as end_name
 use Rattle.param_load.specs.declared.entry.Entry.{Entry}
+use Rattle.schedule_file.specs.declared.event.Event.{Event}
 use Rattle.end_model.specs.WorkedRuns.{slave_values}
 use Rattle.exchange_model.specs.World.{world}
-use Rattle.exchange_model.specs.Schedules.{master_values, ds, tm}
+use Rattle.exchange_model.specs.Schedules.{master_values, dm, ds, tm, zs, ns, hs, rounds}
 use Rattle.exchange_model.specs.Items.{Load, FailSafe, Values, Unset, Item, items_of, newest, awaited, items}
 use Rattle.exchange_model.specs.Fair.{numbers_taken}
 use Rattle.exchange_model.specs.WorkedRuns.{first_data_run, answer_under_way_run, old_session_run, held_slave_run, profile_two_run}
@@ -31,11 +32,20 @@ Answering =
     × (map (λ i. i.answers) (items_in end_name.Slave first_data_run)
     ≡ Some 8 ∷ Some 7 ∷ Some 6 ∷ Some 5 ∷ Some 4 ∷ Some 3 ∷ Some 2 ∷ Some 1 ∷ [])
 
--- a frame that was under way is answered as the awaited item, also where its sender sent a Reset frame since
-unfoldable pub AnsweringLate : Type 0
-AnsweringLate = take 2 (map (λ i. i.answers) (items_in end_name.Master answer_under_way_run)) ≡ None ∷ Some 9 ∷ []
+-- a reset of the slave's own and another session id made it answer the master's Session frame a second time
+abbrev pub answered_twice : List Event
+answered_twice = tm ∷ rounds 1 ++ ds 1 ∷ zs ∷ ns 7 ∷ ds 1 ∷ []
 
--- a load and terms are those of data frames alone; a load is what was put, fail-safe data at a held end, zeros where nothing was put
+-- a frame that was under way is answered as the awaited item, also where its sender sent a Reset frame since; a Session frame is
+-- answered where it is the peer's newest alone
+unfoldable pub AnsweringLate : Type 0
+AnsweringLate =
+    (take 2 (map (λ i. i.answers) (items_in end_name.Master answer_under_way_run)) ≡ None ∷ Some 9 ∷ [])
+    × (map (λ i. i.answers) (items_in end_name.Master (world master_values slave_values (answered_twice ++ dm 3 ∷ [])))
+    ≡ None ∷ Some 1 ∷ None ∷ [])
+
+-- a load and terms are those of data frames alone; a load is what was put, fail-safe data at a held end, which may be held before
+-- its first put, and zeros where nothing was put
 unfoldable pub Carrying : Type 0
 Carrying =
     (map (λ i. i.load) (items_in end_name.Master first_data_run)
@@ -43,13 +53,15 @@ Carrying =
     × (map (λ i. is_some i.terms) (items_in end_name.Master first_data_run) ≡ true ∷ true ∷ replicate 7 false)
     × (map (λ i. i.load) (items_in end_name.Slave first_data_run) ≡ Some (Values (128 ∷ 0 ∷ [])) ∷ replicate 7 None)
     × (newest_load end_name.Slave held_slave_run ≡ Some (Some FailSafe))
+    × (newest_load end_name.Slave (world master_values slave_values (hs true ∷ tm ∷ rounds 8)) ≡ Some (Some FailSafe))
     × (newest_load end_name.Slave profile_two_run ≡ Some (Some Unset))
 
 -- the slave answered the master's first Reset frame
 abbrev pub reset_answered_run : List Entry
 reset_answered_run = world master_values slave_values (tm ∷ ds 1 ∷ [])
 
--- an end awaits the answer to its newest item, if it was sent already; after a reset of its own it awaits none, and a Reset frame never
+-- an end awaits the newest answer to its newest item, if one was sent already; after a reset of its own it awaits none until
+-- the peer answers that Reset frame, and never a Reset frame
 unfoldable pub Awaiting : Type 0
 Awaiting =
     (awaited_in end_name.Slave first_data_run ≡ Some 9)
@@ -58,8 +70,9 @@ Awaiting =
     × (awaited_in end_name.Slave old_session_run ≡ None)
     × (map (λ i. i.answers) (items_in end_name.Slave reset_answered_run) ≡ Some 1 ∷ [])
     × (awaited_in end_name.Master reset_answered_run ≡ None)
+    × (awaited_in end_name.Master (world master_values slave_values answered_twice) ≡ Some 4)
 
--- the items that gave data to each end, fail-safe data too
+-- the items that each end awaited where it took data, fail-safe data too
 unfoldable pub Taking : Type 0
 Taking =
     (numbers_taken end_name.Master held_slave_run ≡ 9 ∷ 8 ∷ [])

@@ -35,7 +35,7 @@ deeds which (x ∷ w) = if same_end which x.end then deed_in x ∷ deeds which w
 abbrev pub frames_of : End → List Entry → List (List ℕ)
 frames_of which w = own (deeds which w)
 
--- the events of one end, oldest first
+-- what happened to one end, oldest first
 abbrev pub moves : End → List Entry → List Move
 moves which [] = []
 moves which (x ∷ w) = if same_end which x.end then moves which w ++ (x.what ∷ []) else moves which w
@@ -121,12 +121,12 @@ IsProperEvent ms ss (event.Put at load) = IsProper (setup_of ms ss at) (move.Put
 IsProperEvent ms ss (event.Nonce at id) = IsProper (setup_of ms ss at) (move.Nonce id)
 IsProperEvent ms ss _ = Unit {0}
 
--- an entry is the next one of its end after these
+-- an entry is the next one of its end after these, at a proper event
 pub record IsNextEntry (s : Setup) (x : Entry) (e : List Deed) : Type 0 where
   pub proper : IsProper s x.what
   pub stepped : x ≡ next_entry s e x.what
 
--- each entry is the next one of its end after those before it
+-- each entry is the next one of its end after those before it, at a proper event
 abbrev pub IsWorld : MasterSettings → SlaveSettings → List Entry → Type 0
 IsWorld ms ss [] = Unit {0}
 IsWorld ms ss (x ∷ w) = IsNextEntry (setup_of ms ss x.end) x (deeds x.end w) × IsWorld ms ss w

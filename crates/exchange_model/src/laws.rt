@@ -21,6 +21,7 @@ ghost use Rattle.exchange_model.specs.Other.{first_other, NoOther, before_other}
 ghost use Rattle.exchange_model.specs.Fair.{numbers_taken, outputs_due, ShowsDue};
 ghost use Rattle.exchange_model.specs.Honest.{exchanges};
 ghost use Rattle.exchange_model.specs.WorkedItems.{Answering, AnsweringLate, Carrying, Awaiting, Taking};
+ghost use Rattle.exchange_model.specs.WorkedSchedules.{Mismatches, NotPlain, OutOfTurn, TickedLate};
 ghost use Rattle.exchange_model.specs.WorkedRuns.{FirstData, ByteByByte, LongestFrames, ProfileTwo, NumberStepped, NoFrame, OtherAddress, LongWatchdog, NoParameters, HighParameter, ForgedWatchdog, OtherWord, OtherProfile, OtherProfileLater, Repeated, AlteredGroup, OldData, FiveTicks, AnswerUnderWay, OldSession, ForgedData, HeldSlave, OldConnection, FirstDataFair, AnswerUnderWayFair, OldSessionFair, HeldSlaveFair, ProfileTwoFair, ForgedDataFair, OldConnectionFair, Honest, HonestTicks, Exchanges};
 
 /// A schedule of proper events makes a world, each of whose entries is the next one of its end; and in each world the
@@ -46,8 +47,8 @@ pub fn outputs()
     ensures of_deeds { (s : Setup) (e : List Deed) → IsRun s e → outputs_due (receives s) (entries s e) ≡ out s e }
 {}
 
-/// In each world no item that an end awaits gives it data twice, whatever comes: this part of a fair run rests on no
-/// premise either.
+/// In each world no item is awaited at two entries in which its awaiter takes data, whatever comes: this part of a fair run
+/// rests on no premise either.
 #[tactic(auto, using(crate::proofs::Once::at_most_once))]
 pub fn data_once()
     ensures { (ms : MasterSettings) (ss : SlaveSettings) (which : End) (w : List Entry) → IsWorld ms ss w → IsDistinct nat_eq (numbers_taken which w) }
@@ -137,4 +138,13 @@ pub fn honest_runs()
     ensures honest { Honest }
     ensures ticks { HonestTicks }
     ensures exchanges { Exchanges }
+{}
+
+/// Settings that don't match and schedules that aren't honest, each by one thing alone.
+#[tactic(auto, using(crate::proofs::WorkedSchedules::mismatches, crate::proofs::WorkedSchedules::not_plain, crate::proofs::WorkedSchedules::out_of_turn, crate::proofs::WorkedSchedules::ticked_late))]
+pub fn dishonest_runs()
+    ensures mismatches { Mismatches }
+    ensures not_plain { NotPlain }
+    ensures out_of_turn { OutOfTurn }
+    ensures ticked_late { TickedLate }
 {}
