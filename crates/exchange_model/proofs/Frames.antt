@@ -8,7 +8,8 @@ use Rattle.exchange_model.specs.Ends.{same_end}
 use Rattle.exchange_model.specs.World.{deed_in, deeds, frames_of}
 use Rattle.exchange_model.specs.Items.{Item, item_of, items_of, items}
 
-abbrev bytes_in : List Item → List (List ℕ)
+-- the frames that items are
+abbrev pub bytes_in : List Item → List (List ℕ)
 bytes_in found = map (λ i. i.bytes) found
 
 frame_head : (which : End) (x : Entry) (w : List Entry) (mine none : Bool) → same_end which x.end ≡ mine → is_empty x.sent ≡ none

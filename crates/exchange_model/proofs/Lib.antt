@@ -10,3 +10,9 @@ pub mod Exchanges
 pub mod WorkedItems
 pub mod WorkedSchedules
 pub mod Once
+pub mod Numbered
+pub mod Awaited
+pub mod Joint
+pub mod JointSteps
+pub mod Framed
+pub mod Pieces

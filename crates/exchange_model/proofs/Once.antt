@@ -22,12 +22,8 @@ use Rattle.exchange_model.specs.Ends.{same_end, peer}
 use Rattle.exchange_model.specs.World.{setup_of, deeds, IsNextEntry, IsWorld}
 use Rattle.exchange_model.specs.Items.{Item, item_of, items_of, newest, answers_to, newest_answer, answer_among, awaited, items}
 use Rattle.exchange_model.specs.Fair.{data_taken, with_number, numbers_taken}
-use Rattle.exchange_model.proofs.Projection.{same, next_deed}
-
--- the number of an item is one more than the older ones of its end
-abbrev Numbered : List Item → Type 0
-Numbered [] = Unit {0}
-Numbered (i ∷ found) = (i.number ≡ suc (length found)) × Numbered found
+use Rattle.exchange_model.proofs.Projection.{next_deed}
+use Rattle.exchange_model.proofs.Numbered.{Numbered, Grown, Same, More, next_number, grown}
 
 -- what the item with this number answers
 abbrev answer_of : ℕ → List Item → Option ℕ
@@ -121,23 +117,6 @@ record Once (mine theirs : List Item) (ns : List ℕ) : Type 0 where
   pub used : AllByRecursion (Used (length mine) theirs) ns
   pub differ : IsDistinct nat_eq ns
 
--- the items of an end grow by at most one, which has the next number
-data Grown (old new : List Item) : Type 0 where
-  Same : new ≡ old → Grown old new
-  More : (i : Item) → new ≡ i ∷ old → i.number ≡ suc (length old) → Grown old new
-
-grown-by : (which : End) (i : Item) (found : List Item) (mine none : Bool) → same_end which i.end ≡ mine → (mine ≡ true → i.number ≡ suc (length (items_of which found)))
-    → Grown (items_of which found) (items_of which (if none then found else i ∷ found))
-grown-by which i found mine true h k = Same refl
-grown-by which i found true false h k = More i (simp h) (k refl)
-grown-by which i found false false h k = Same (simp h)
-
-next-number : (which : End) (x : Entry) (w : List Entry) → same_end which x.end ≡ true → suc (length (items_of x.end (items w))) ≡ suc (length (items_of which (items w)))
-next-number which x w h = ap (λ (it : End). suc (length (items_of it (items w)))) (same which x.end h)
-
-grown : (which : End) (x : Entry) (w : List Entry) → Grown (items_of which (items w)) (items_of which (items (x ∷ w)))
-grown which x w = grown-by which (item_of x w (items w)) (items w) (same_end which x.end) (is_empty x.sent) refl (next-number which x w)
-
 once-mine : (mine more theirs : List Item) (ns : List ℕ) → Grown mine more → Once mine theirs ns → Once more theirs ns
 once-mine mine more theirs ns (Same e) o = subst (λ (m : List Item). Once m theirs ns) (sym e) o
 once-mine mine more theirs ns (More i e h) o =
@@ -229,7 +208,7 @@ once-awaited which x w ns (Some j) h k l so_far =
     let mine : List Item = items_of which (items w) in
     let theirs : List Item = items_of (peer which) (items w) in
     once-theirs _ theirs _ (j.number ∷ ns) (grown (peer which) x w)
-    (subst (λ (m : List Item). Once m theirs (j.number ∷ ns)) (sym (mine-grows which x w k l)) (once-taken mine theirs ns j i h (next-number which x w k) so_far))
+    (subst (λ (m : List Item). Once m theirs (j.number ∷ ns)) (sym (mine-grows which x w k l)) (once-taken mine theirs ns j i h (next_number which x w k) so_far))
 
 once-next : (which : End) (x : Entry) (w : List Entry) (ns : List ℕ) (mine takes_some : Bool) → same_end which x.end ≡ mine → is_some (data_taken x.did.took) ≡ takes_some → IsSending x
     → Once (items_of which (items w)) (items_of (peer which) (items w)) ns

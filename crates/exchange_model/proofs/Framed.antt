@@ -1,0 +1,204 @@
+-- The frames that an end sends: how they begin, and what they carry.
+use Rattle.std.proofs.Common.{◌≡◌, ◌≢◌, ℕ, suc, ◌+◌, ◌-◌, ◌*◌, ◌≤◌, List, [], ◌∷◌, ◌++◌, length, take, drop, min, replicate, Bool, true, false, Option, Some, None, nat_lt, ◌==◌, if◌then◌else◌, refl, sym, ap, subst, ◌∙◌, arith}
+use Rattle.std.proofs.lemmas.List.{length-append, length-replicate, length-take}
+use Rattle.std.proofs.lemmas.Bool.Decides.{nat_tests}
+use Rattle.fsoe_base.specs.declared.command.State.{State}
+use Rattle.fsoe_base.specs.declared.command.State.TheVariants as state
+use Rattle.fsoe_base.specs.declared.command.Command.{Command}
+use Rattle.fsoe_base.specs.declared.command.Command.TheVariants as command
+use Rattle.fsoe_base.specs.Command.{command_byte, command_of}
+use Rattle.fsoe_frame.specs.Parts.{Frame, frame_of, pairs, one_byte}
+use Rattle.param_load.specs.declared.entry.Move.{Move}
+use Rattle.param_load.specs.declared.entry.Move.TheVariants as move
+use Rattle.param_load.specs.declared.master_settings.MasterSettings.{MasterSettings}
+use Rattle.param_load.specs.declared.slave_settings.SlaveSettings.{SlaveSettings}
+use Rattle.param_load.specs.Payload.{connection_payload, parameter_payload, padded}
+use Rattle.end_model.specs.Setup.{Setup, OfMaster, OfSlave, sends, piece_len}
+use Rattle.end_model.specs.Phases.{is_guarded, phase_of, phase_of_known, phase_of_frame}
+use Rattle.end_model.specs.Deed.{Deed}
+use Rattle.end_model.specs.Chain.{since, own}
+use Rattle.end_model.specs.Payloads.{piece, pieces, count_in, conn_id, session_id, pay}
+use Rattle.end_model.specs.Readiness.{offer, offer_after, held}
+use Rattle.end_model.specs.Step.{sealed, with_piece, with_data, download, after_phase, after_pieces, master_answer, slave_answer, IsProper, IsRun}
+use Rattle.end_model.proofs.ReadBack.{read_back}
+use Rattle.exchange_model.specs.Fair.{is_data}
+use Rattle.exchange_model.specs.Other.{is_guarded_if, is_guarded_frame}
+use Rattle.exchange_model.proofs.Joint.{is_guarded_in}
+
+-- the command of a frame by its first byte, if it has one
+abbrev pub command_in : List ℕ → Option Command
+command_in [] = None
+command_in (b ∷ bytes) = command_of b
+
+one-head : (b : ℕ) (bytes : List ℕ) (c : Command) → command_of (one_byte b bytes).cmd ≡ Some c → command_of b ≡ Some c
+one-head b [] c h = cc
+one-head b (d ∷ []) c h = cc
+one-head b (d ∷ x ∷ []) c h = cc
+one-head b (d ∷ x ∷ y ∷ []) c h = cc
+one-head b (d ∷ x ∷ y ∷ k ∷ []) c h = cc
+one-head b (d ∷ x ∷ y ∷ k ∷ k' ∷ []) c h = h
+one-head b (d ∷ x ∷ y ∷ k ∷ k' ∷ z ∷ bytes) c h = cc
+
+pairs-head : (b : ℕ) (bytes : List ℕ) (c : Command) → command_of (pairs b bytes).cmd ≡ Some c → command_of b ≡ Some c
+pairs-head b [] c h = cc
+pairs-head b (d ∷ []) c h = cc
+pairs-head b (d ∷ d' ∷ []) c h = h
+pairs-head b (d ∷ d' ∷ x ∷ []) c h = cc
+pairs-head b (d ∷ d' ∷ x ∷ x' ∷ bytes) c h = pairs-head b bytes c h
+
+frame-head : (one : Bool) (b : ℕ) (bytes : List ℕ) (c : Command) → command_of (if one then one_byte b bytes else pairs b bytes).cmd ≡ Some c → command_of b ≡ Some c
+frame-head true b bytes c h = one-head b bytes c h
+frame-head false b bytes c h = pairs-head b bytes c h
+
+-- the command that a frame is read with is that of its first byte
+pub head_is : (l : ℕ) (bytes : List ℕ) (c : Command) → command_of (frame_of l bytes).cmd ≡ Some c → command_in bytes ≡ Some c
+head_is l [] c h = cc
+head_is l (b ∷ bytes) c h = frame-head (l == 1) b bytes c h
+
+-- what the command of a frame says
+pub phase_by : (bytes : List ℕ) (c : Command) → command_in bytes ≡ Some c → phase_of_frame bytes ≡ phase_of c
+phase_by [] c h = cc
+phase_by (b ∷ bytes) c h = ap phase_of_known h
+
+pub guarded_by : (bytes : List ℕ) (c : Command) → command_in bytes ≡ Some c → is_guarded_frame bytes ≡ is_guarded c
+guarded_by [] c h = cc
+guarded_by (b ∷ bytes) c h = ap is_guarded_if h
+
+pub guarded_in : (c : Command) → is_guarded_in (phase_of c) ≡ is_guarded c
+guarded_in command.Reset = refl
+guarded_in command.Session = refl
+guarded_in command.Connection = refl
+guarded_in command.Parameter = refl
+guarded_in command.FailSafeData = refl
+guarded_in command.ProcessData = refl
+
+-- a frame with this command and load
+pub record IsFrame (l : ℕ) (c : Command) (load f : List ℕ) : Type 0 where
+  pub rest : List ℕ
+  pub is : f ≡ command_byte c ∷ rest
+  pub carries : (frame_of l f).load ≡ load
+
+command-back : (c : Command) → command_of (command_byte c) ≡ Some c
+command-back command.Reset = refl
+command-back command.Session = refl
+command-back command.Connection = refl
+command-back command.Parameter = refl
+command-back command.FailSafeData = refl
+command-back command.ProcessData = refl
+
+pub command_framed : (l : ℕ) (c : Command) (load f : List ℕ) → IsFrame l c load f → command_in f ≡ Some c
+command_framed l c load f h = ap command_in h.is ∙ command-back c
+
+pub phase_framed : (l : ℕ) (c : Command) (load f : List ℕ) → IsFrame l c load f → phase_of_frame f ≡ phase_of c
+phase_framed l c load f h = phase_by f c (command_framed l c load f h)
+
+-- the next frame of a session
+pub sealed_frame : (s : Setup) (e : List Deed) (c : Command) (load : List ℕ) → length load ≡ sends s → IsFrame (sends s) c load (sealed s e c load)
+sealed_frame s e c load h = record { rest = _; is = refl; carries = ap (λ f. f.load) (read_back s (since e) (if is_guarded c then conn_id s e else 0) c load h) }
+
+length-padded : (p : List ℕ) (l : ℕ) → length p ≤ l → length (padded p l) ≡ l
+length-padded p l h = length-append p (replicate (l - length p) 0) ∙ (ap (λ n. length p + n) (length-replicate (l - length p) 0) ∙ omega arith)
+
+pub piece_frame : (s : Setup) (e : List Deed) (c : Command) (p : List ℕ) → length p ≤ sends s → IsFrame (sends s) c (padded p (sends s)) (with_piece s e c p)
+piece_frame s e c p h = sealed_frame s e c (padded p (sends s)) (length-padded p (sends s) h)
+
+-- a piece is no longer than a frame's safe data
+pub piece_fits : (s : Setup) → piece_len s ≤ sends s
+piece_fits (OfMaster ms) = omega arith
+piece_fits (OfSlave ss) = omega arith
+
+pub front_fits : (s : Setup) (p : List ℕ) → length (take (piece_len s) p) ≤ sends s
+front_fits s p = let a : piece_len s ≤ sends s = piece_fits s in omega (arith, length-take (piece_len s) p)
+
+-- the data frame of an end
+pub data IsData (s : Setup) (e : List Deed) (f : List ℕ) : Type 0 where
+  Zeros : held e ≡ true → IsFrame (sends s) command.FailSafeData (replicate (sends s) 0) f → IsData s e f
+  Offers : held e ≡ false → IsFrame (sends s) command.ProcessData (offer s e) f → IsData s e f
+
+data-head : (s : Setup) (e : List Deed) (h : Bool) → length (offer s e) ≡ sends s → held e ≡ h
+    → IsData s e (if h then sealed s e command.FailSafeData (replicate (sends s) 0) else sealed s e command.ProcessData (offer s e))
+data-head s e true k h = Zeros h (sealed_frame s e command.FailSafeData (replicate (sends s) 0) (length-replicate (sends s) 0))
+data-head s e false k h = Offers h (sealed_frame s e command.ProcessData (offer s e) k)
+
+data_framed : (s : Setup) (e : List Deed) → length (offer s e) ≡ sends s → IsData s e (with_data s e)
+data_framed s e k = data-head s e (held e) k refl
+
+-- each put has its end's length
+offer-next : (s : Setup) (m : Move) (before : List ℕ) → IsProper s m → length before ≡ sends s → length (offer_after m before) ≡ sends s
+offer-next s (move.Put load) before h k = h
+offer-next s (move.Deliver bytes) before h k = k
+offer-next s move.Tick before h k = k
+offer-next s (move.Hold failsafe) before h k = k
+offer-next s (move.Nonce id) before h k = k
+offer-next s move.Local before h k = k
+
+pub offer_long : (s : Setup) (e : List Deed) → IsRun s e → length (offer s e) ≡ sends s
+offer_long s [] r = length-replicate (sends s) 0
+offer_long s (x ∷ e) r = offer-next s x.what (offer s e) r.0.proper (offer_long s e r.1)
+
+-- what a slave sends on a frame of a session
+pub data SlaveSends (ss : SlaveSettings) (e : List Deed) (c : Command) (f : List ℕ) : Type 0 where
+  Echoes : (load : List ℕ) → is_data c ≡ false → IsFrame (sends (OfSlave ss)) c load f → SlaveSends ss e c f
+  Gives : is_data c ≡ true → IsData (OfSlave ss) e f → SlaveSends ss e c f
+
+pub slave_sends : (ss : SlaveSettings) (e : List Deed) (c : Command) (load : List ℕ) → length (offer (OfSlave ss) e) ≡ sends (OfSlave ss) → c ≢ command.Reset → SlaveSends ss e c (slave_answer ss e c load)
+slave_sends ss e command.Reset load k n = absurd (n refl)
+slave_sends ss e command.Session load k n = Echoes _ refl (piece_frame (OfSlave ss) e command.Session _ (front_fits (OfSlave ss) _))
+slave_sends ss e command.Connection load k n = Echoes _ refl (piece_frame (OfSlave ss) e command.Connection _ (front_fits (OfSlave ss) load))
+slave_sends ss e command.Parameter load k n = Echoes _ refl (piece_frame (OfSlave ss) e command.Parameter _ (front_fits (OfSlave ss) load))
+slave_sends ss e command.FailSafeData load k n = Gives refl (data_framed (OfSlave ss) e k)
+slave_sends ss e command.ProcessData load k n = Gives refl (data_framed (OfSlave ss) e k)
+
+-- what a master downloads
+abbrev pub connection_of : MasterSettings → List ℕ
+connection_of ms = connection_payload ms.conn ms.address
+
+abbrev pub parameters_of : MasterSettings → List ℕ
+parameters_of ms = parameter_payload ms.watchdog ms.profile ms.app
+
+-- the frames of a phase that a master sent in its session
+abbrev pub sent_in : State → List Deed → ℕ
+sent_in phase e = count_in phase (own (since e))
+
+-- a master's frame with the k-th piece of a payload
+abbrev pub IsPiece : MasterSettings → Command → List ℕ → ℕ → List ℕ → Type 0
+IsPiece ms c payload k f = IsFrame (sends (OfMaster ms)) c (padded (piece payload (piece_len (OfMaster ms)) k) (sends (OfMaster ms))) f
+
+abbrev pub pieces_of : MasterSettings → List ℕ → ℕ
+pieces_of ms payload = pieces payload (piece_len (OfMaster ms))
+
+-- what a master sends on a frame with this command
+pub data MasterSends (ms : MasterSettings) (e : List Deed) : Command → List ℕ → Type 0 where
+  Begins : (load f : List ℕ) → IsFrame (sends (OfMaster ms)) command.Session load f → MasterSends ms e command.Reset f
+  GoesOn : (load f : List ℕ) → IsFrame (sends (OfMaster ms)) command.Session load f → MasterSends ms e command.Session f
+  Connects : (f : List ℕ) → IsPiece ms command.Connection (connection_of ms) 1 f → MasterSends ms e command.Session f
+  MoreConnection : (f : List ℕ) → IsPiece ms command.Connection (connection_of ms) (suc (sent_in state.Connection e)) f → MasterSends ms e command.Connection f
+  Sets : (f : List ℕ) → pieces_of ms (connection_of ms) ≤ sent_in state.Connection e → IsPiece ms command.Parameter (parameters_of ms) 1 f → MasterSends ms e command.Connection f
+  MoreParameter : (f : List ℕ) → IsPiece ms command.Parameter (parameters_of ms) (suc (sent_in state.Parameter e)) f → MasterSends ms e command.Parameter f
+  Opens : (f : List ℕ) → pieces_of ms (parameters_of ms) ≤ sent_in state.Parameter e → IsData (OfMaster ms) e f → MasterSends ms e command.Parameter f
+  Exchanges : (c : Command) (f : List ℕ) → is_data c ≡ true → IsData (OfMaster ms) e f → MasterSends ms e c f
+
+download-frame : (ms : MasterSettings) (e : List Deed) (c : Command) (k : ℕ) → IsPiece ms c (pay ms (session_id (OfMaster ms) e) (phase_of c)) k (download ms e c k)
+download-frame ms e c k = piece_frame (OfMaster ms) e c _ (front_fits (OfMaster ms) _)
+
+after-session : (ms : MasterSettings) (e : List Deed) (k : ℕ) (b : Bool) → MasterSends ms e command.Session (if b then download ms e command.Session (suc k) else after_phase ms e command.Session)
+after-session ms e k true = GoesOn _ _ (download-frame ms e command.Session (suc k))
+after-session ms e k false = Connects _ (download-frame ms e command.Connection 1)
+
+after-connection : (ms : MasterSettings) (e : List Deed) (b : Bool) → nat_lt (sent_in state.Connection e) (pieces_of ms (connection_of ms)) ≡ b
+    → MasterSends ms e command.Connection (if b then download ms e command.Connection (suc (sent_in state.Connection e)) else after_phase ms e command.Connection)
+after-connection ms e true h = MoreConnection _ (download-frame ms e command.Connection (suc (sent_in state.Connection e)))
+after-connection ms e false h = Sets _ (grind (arith, nat_tests)) (download-frame ms e command.Parameter 1)
+
+after-parameter : (ms : MasterSettings) (e : List Deed) (b : Bool) → length (offer (OfMaster ms) e) ≡ sends (OfMaster ms) → nat_lt (sent_in state.Parameter e) (pieces_of ms (parameters_of ms)) ≡ b
+    → MasterSends ms e command.Parameter (if b then download ms e command.Parameter (suc (sent_in state.Parameter e)) else after_phase ms e command.Parameter)
+after-parameter ms e true k h = MoreParameter _ (download-frame ms e command.Parameter (suc (sent_in state.Parameter e)))
+after-parameter ms e false k h = Opens _ (grind (arith, nat_tests)) (data_framed (OfMaster ms) e k)
+
+pub master_sends : (ms : MasterSettings) (e : List Deed) (c : Command) → length (offer (OfMaster ms) e) ≡ sends (OfMaster ms) → MasterSends ms e c (master_answer ms e c)
+master_sends ms e command.Reset k = Begins _ _ (download-frame ms e command.Session 1)
+master_sends ms e command.Session k = after-session ms e (sent_in state.Session e) _
+master_sends ms e command.Connection k = after-connection ms e _ refl
+master_sends ms e command.Parameter k = after-parameter ms e _ k refl
+master_sends ms e command.FailSafeData k = Exchanges command.FailSafeData _ refl (data_framed (OfMaster ms) e k)
+master_sends ms e command.ProcessData k = Exchanges command.ProcessData _ refl (data_framed (OfMaster ms) e k)
