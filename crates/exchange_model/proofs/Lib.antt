@@ -16,3 +16,7 @@ pub mod Joint
 pub mod JointSteps
 pub mod Framed
 pub mod Pieces
+pub mod Uploads
+pub mod Agree
+pub mod Loads
+pub mod Taking

@@ -167,7 +167,7 @@ sent-next ms e c f (Exchanges _ _ d g) now h =
     let z = order-at _ state.Data _ _ _ _ (now ∙ data_state c d) h.order in
     sent-data ms f (own (since e)) (data_phase (OfMaster ms) e f g) z.0 z.1 h
 
-abbrev deed : Move → Did → List ℕ → Deed
+abbrev pub deed : Move → Did → List ℕ → Deed
 deed m d f = record { what = m; did = d; sent = f }
 
 -- a frame of a session is added to the session's

@@ -1,7 +1,7 @@
 //! What an end sends piece by piece in a handshake.
 ghost use Rattle.std.specs.Prelude.{◌≡◌, ◌≤◌, ◌+◌, ◌++◌, [], length, IsTrue};
 ghost use Rattle.param_load.specs.Profile.{allows_id};
-ghost use Rattle.param_load.specs.Payload.{session_payload, connection_payload, parameter_payload, piece_from, padded};
+ghost use Rattle.param_load.specs.Payload.{session_payload, two_bytes, connection_payload, parameter_payload, piece_from, padded};
 
 use crate::app_bytes::AppBytes;
 use crate::profile::Profile;
@@ -40,6 +40,15 @@ impl Payload {
         let _fits = self.inner.try_extend_from_slice(bytes);
     }
 
+    /// Appends a number in 2 bytes, low byte first, for which there is room.
+    fn add_number(&mut self, n: u16)
+        requires { length self.old + 2 ≤ 520 }
+        ensures { self.new ≡ self.old ++ two_bytes n }
+    {
+        let [low, high] = n.to_le_bytes();
+        self.add(&[low, high]);
+    }
+
     /// A session id, in 2 bytes in profile One and in 4 in profile Two, low byte first. In profile One it is at
     /// most 65,535.
     pub fn session(id: u32, profile: Profile) -> Payload
@@ -59,8 +68,8 @@ impl Payload {
         ensures { result ≡ connection_payload conn address }
     {
         let mut payload = Payload::new();
-        payload.add(&conn.to_le_bytes());
-        payload.add(&address.to_le_bytes());
+        payload.add_number(conn);
+        payload.add_number(address);
         payload
     }
 
@@ -72,16 +81,16 @@ impl Payload {
         let mut payload = Payload::new();
         match profile {
             Profile::One => {
-                payload.add(&2u16.to_le_bytes());
-                payload.add(&watchdog.to_le_bytes());
+                payload.add_number(2);
+                payload.add_number(watchdog);
             }
             Profile::Two(word) => {
-                payload.add(&4u16.to_le_bytes());
-                payload.add(&watchdog.to_le_bytes());
-                payload.add(&word.to_le_bytes());
+                payload.add_number(4);
+                payload.add_number(watchdog);
+                payload.add_number(word);
             }
         }
-        payload.add(&(app.len() as u16).to_le_bytes());
+        payload.add_number(app.len() as u16);
         payload.add(app.bytes());
         payload
     }
