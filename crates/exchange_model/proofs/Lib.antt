@@ -20,3 +20,6 @@ pub mod Uploads
 pub mod Agree
 pub mod Loads
 pub mod Taking
+pub mod Related
+pub mod Told
+pub mod Headline

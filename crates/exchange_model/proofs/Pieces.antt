@@ -147,24 +147,24 @@ data_state command.Parameter h = cc
 data_state command.ProcessData h = refl
 data_state command.FailSafeData h = refl
 
-order-at : (now now' : State) (k n k' n' : ℕ) → now ≡ now' → InOrder now k n k' n' → InOrder now' k n k' n'
-order-at now now' k n k' n' h o = subst (λ (x : State). InOrder x k n k' n') h o
+pub order_at : (now now' : State) (k n k' n' : ℕ) → now ≡ now' → InOrder now k n k' n' → InOrder now' k n k' n'
+order_at now now' k n k' n' h o = subst (λ (x : State). InOrder x k n k' n') h o
 
 -- one more frame of a master in the state of the command that it took
 sent-next : (ms : MasterSettings) (e : List Deed) (c : Command) (f : List ℕ) → MasterSends ms e c f → phase_sent (own (since e)) ≡ phase_of c → Sent ms (own (since e)) → Sent ms (f ∷ own (since e))
 sent-next ms e command.Reset f (Begins load _ g) now h = sent-session ms load f (own (since e)) g (ap is_guarded_in now) h
 sent-next ms e command.Session f (GoesOn load _ g) now h = sent-session ms load f (own (since e)) g (ap is_guarded_in now) h
 sent-next ms e command.Session f (Connects _ g) now h =
-    let z = order-at _ state.Session _ _ _ _ now h.order in
+    let z = order_at _ state.Session _ _ _ _ now h.order in
     sent-connection ms f (own (since e)) (subst (λ (k : ℕ). IsPiece ms command.Connection (connection_of ms) (suc k) f) (sym z.0) g) z.1 h
-sent-next ms e command.Connection f (MoreConnection _ g) now h = sent-connection ms f (own (since e)) g (order-at _ state.Connection _ _ _ _ now h.order) h
+sent-next ms e command.Connection f (MoreConnection _ g) now h = sent-connection ms f (own (since e)) g (order_at _ state.Connection _ _ _ _ now h.order) h
 sent-next ms e command.Connection f (Sets _ d g) now h =
-    let z = order-at _ state.Connection _ _ _ _ now h.order in
+    let z = order_at _ state.Connection _ _ _ _ now h.order in
     sent-parameter ms f (own (since e)) (subst (λ (k : ℕ). IsPiece ms command.Parameter (parameters_of ms) (suc k) f) (sym z) g) d h
-sent-next ms e command.Parameter f (MoreParameter _ g) now h = sent-parameter ms f (own (since e)) g (order-at _ state.Parameter _ _ _ _ now h.order) h
-sent-next ms e command.Parameter f (Opens _ d g) now h = sent-data ms f (own (since e)) (data_phase (OfMaster ms) e f g) (order-at _ state.Parameter _ _ _ _ now h.order) d h
+sent-next ms e command.Parameter f (MoreParameter _ g) now h = sent-parameter ms f (own (since e)) g (order_at _ state.Parameter _ _ _ _ now h.order) h
+sent-next ms e command.Parameter f (Opens _ d g) now h = sent-data ms f (own (since e)) (data_phase (OfMaster ms) e f g) (order_at _ state.Parameter _ _ _ _ now h.order) d h
 sent-next ms e c f (Exchanges _ _ d g) now h =
-    let z = order-at _ state.Data _ _ _ _ (now ∙ data_state c d) h.order in
+    let z = order_at _ state.Data _ _ _ _ (now ∙ data_state c d) h.order in
     sent-data ms f (own (since e)) (data_phase (OfMaster ms) e f g) z.0 z.1 h
 
 abbrev pub deed : Move → Did → List ℕ → Deed
@@ -212,6 +212,16 @@ session-own-by x e (b ∷ f) k h =
 pub session_own : (e : List Deed) → own (since e) ≡ session (own e)
 session_own [] = refl
 session_own (x ∷ e) = session-own-by x e x.sent refl (session_own e)
+
+-- the newest frame is of the session, or a Reset frame
+pub session_phase : (frames : List (List ℕ)) → phase_sent (session frames) ≡ phase_sent frames
+session_phase [] = refl
+session_phase ([] ∷ frames) = refl
+session_phase ((b ∷ f) ∷ frames) =
+    elim (eqb_tells b 0x2A) [
+      | inl p ↦ simp p.0
+      | inr p ↦ simp p.0
+    ]
 
 -- the same of what it had sent up to each of its frames
 abbrev pub AllSent : MasterSettings → List (List ℕ) → Type 0

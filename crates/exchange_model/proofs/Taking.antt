@@ -22,7 +22,6 @@ use Rattle.exchange_model.proofs.Framed.{command_in, phase_by, guarded_by, guard
 pub record Taken (x : Entry) (bytes : List ℕ) (c : Command) (load : List ℕ) : Type 0 where
   pub what_is : x.what ≡ move.Deliver bytes
   pub did_is : x.did ≡ takes c load
-  pub command_is : command_in bytes ≡ Some c
 
 not-other : (p a b : Bool) → (p && a && not b) ≡ false → p ≡ true → a ≡ true → b ≡ true
 not-other true true true h x y = refl
@@ -47,11 +46,11 @@ data_guarded command.FailSafeData h = refl
 data_guarded command.ProcessData h = refl
 
 -- a guarded frame that was taken is the awaited item
-pub is_awaited : (w : List Entry) (x : Entry) (bytes : List ℕ) (c : Command) (load : List ℕ) → Taken x bytes c load → is_guarded c ≡ true → is_other (items w) x ≡ false → Is bytes (awaited (items w) x.end)
-is_awaited w x bytes c load t g o =
+pub is_awaited : (w : List Entry) (x : Entry) (bytes : List ℕ) (c : Command) (load : List ℕ) → Taken x bytes c load → command_in bytes ≡ Some c → is_guarded c ≡ true → is_other (items w) x ≡ false → Is bytes (awaited (items w) x.end)
+is_awaited w x bytes c load t head g o =
     let passed : x.did.passed ≡ true = ap (λ d. d.passed) t.did_is ∙ guarded-passed c g in
     let came : delivered x.what ≡ bytes = ap delivered t.what_is in
-    let guarded : is_guarded_frame (delivered x.what) ≡ true = ap is_guarded_frame came ∙ (guarded_by bytes c t.command_is ∙ g) in
+    let guarded : is_guarded_frame (delivered x.what) ≡ true = ap is_guarded_frame came ∙ (guarded_by bytes c head ∙ g) in
     let it : has_bytes (delivered x.what) (awaited (items w) x.end) ≡ true = not-other x.did.passed (is_guarded_frame (delivered x.what)) (has_bytes (delivered x.what) (awaited (items w) x.end)) o passed guarded in
     with_bytes bytes (awaited (items w) x.end) (ap (λ b. has_bytes b (awaited (items w) x.end)) (sym came) ∙ it)
 
@@ -67,14 +66,14 @@ pub record TakesItem (w : List Entry) (x : Entry) (bytes : List ℕ) : Type 0 wh
 answers-guarded : (w : List Entry) (x : Entry) (bytes : List ℕ) (c : Command) (load : List ℕ) → Taken x bytes c load → is_guarded c ≡ true → (item_of x w (items w)).answers ≡ number_if bytes (awaited (items w) x.end)
 answers-guarded w x bytes c load t g = let a = t.what_is in let b = t.did_is in simp (a, b, g)
 
-pub takes_item : (w : List Entry) (x : Entry) (bytes : List ℕ) (c : Command) (load : List ℕ) → Taken x bytes c load → is_guarded c ≡ true → is_other (items w) x ≡ false → TakesItem w x bytes
-takes_item w x bytes c load t g o =
-    let it : Is bytes (awaited (items w) x.end) = is_awaited w x bytes c load t g o in
+pub takes_item : (w : List Entry) (x : Entry) (bytes : List ℕ) (c : Command) (load : List ℕ) → Taken x bytes c load → command_in bytes ≡ Some c → is_guarded c ≡ true → is_other (items w) x ≡ false → TakesItem w x bytes
+takes_item w x bytes c load t head g o =
+    let it : Is bytes (awaited (items w) x.end) = is_awaited w x bytes c load t head g o in
     record {
       item = it.item;
       is = it.is;
       bytes_are = it.bytes_are;
-      guarded = ap (λ b. is_guarded_in (phase_of_frame b)) it.bytes_are ∙ (ap is_guarded_in (phase_by bytes c t.command_is) ∙ (guarded_in c ∙ g));
+      guarded = ap (λ b. is_guarded_in (phase_of_frame b)) it.bytes_are ∙ (ap is_guarded_in (phase_by bytes c head) ∙ (guarded_in c ∙ g));
       found = awaited_found (items_of x.end (items w)) (items_of (peer x.end) (items w)) it.item (numbered x.end w) (numbered (peer x.end) w) it.is;
       answers = answers-guarded w x bytes c load t g ∙ it.number_is;
     }

@@ -18,7 +18,7 @@ ghost use Rattle.exchange_model.specs.Ends.{of_end};
 ghost use Rattle.exchange_model.specs.World.{setup_of, frames_of, moves, world, SameLengths, IsProperEvent, IsWorld};
 ghost use Rattle.exchange_model.specs.Items.{items_of, items};
 ghost use Rattle.exchange_model.specs.Other.{first_other, NoOther, before_other};
-ghost use Rattle.exchange_model.specs.Fair.{numbers_taken, outputs_due, ShowsDue};
+ghost use Rattle.exchange_model.specs.Fair.{TakesAwaited, numbers_taken, outputs_due, ShowsDue, Fair};
 ghost use Rattle.exchange_model.specs.Honest.{exchanges};
 ghost use Rattle.exchange_model.specs.WorkedItems.{Answering, AnsweringLate, Carrying, Awaiting, Taking};
 ghost use Rattle.exchange_model.specs.WorkedSchedules.{Mismatches, NotPlain, OutOfTurn, TickedLate};
@@ -52,6 +52,18 @@ pub fn outputs()
 #[tactic(auto, using(crate::proofs::Once::at_most_once))]
 pub fn data_once()
     ensures { (ms : MasterSettings) (ss : SlaveSettings) (which : End) (w : List Entry) → IsWorld ms ss w → IsDistinct nat_eq (numbers_taken which w) }
+{}
+
+/// The law of the pair, for both ends' settings with equal lengths and every schedule of proper events. Where no guarded
+/// frame but the awaited one passes a receiver's test of the CRCs, the run is fair: the data that an end takes are those that
+/// its peer put into its answer to that end's last frame, under equal terms and once, and all other outputs are fail-safe.
+/// Without that premise the entries before the first other one are fair. In each world without another entry data are taken
+/// from the awaited item alone.
+#[tactic(auto, using(crate::proofs::Headline::fair_run, crate::proofs::Headline::fair_before, crate::proofs::Headline::takes_awaited))]
+pub fn headline()
+    ensures fair { (ms : MasterSettings) (ss : SlaveSettings) (events : List Event) → SameLengths ms ss → All (IsProperEvent ms ss) events → NoOther (world ms ss events) → Fair ms.lengths (world ms ss events) }
+    ensures fair_before { (ms : MasterSettings) (ss : SlaveSettings) (events : List Event) → SameLengths ms ss → All (IsProperEvent ms ss) events → Fair ms.lengths (before_other (world ms ss events)) }
+    ensures from_awaited { (ms : MasterSettings) (ss : SlaveSettings) (w : List Entry) → SameLengths ms ss → IsWorld ms ss w → NoOther w → TakesAwaited ms.lengths w }
 {}
 
 /// No entry before the first other one is other, which is the whole run where there is none; they are a world where the
