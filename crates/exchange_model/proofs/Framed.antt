@@ -1,5 +1,5 @@
 -- The frames that an end sends: how they begin, and what they carry.
-use Rattle.std.proofs.Common.{◌≡◌, ◌≢◌, ℕ, suc, ◌+◌, ◌-◌, ◌*◌, ◌≤◌, List, [], ◌∷◌, ◌++◌, length, take, drop, min, replicate, Bool, true, false, Option, Some, None, nat_lt, ◌==◌, if◌then◌else◌, refl, sym, ap, subst, ◌∙◌, arith}
+use Rattle.std.proofs.Common.{◌≡◌, ◌≢◌, ℕ, suc, ◌+◌, ◌-◌, ◌≤◌, List, [], ◌∷◌, length, take, replicate, Bool, true, false, Option, Some, None, nat_lt, ◌==◌, if◌then◌else◌, refl, ap, ◌∙◌, arith}
 use Rattle.std.proofs.lemmas.List.{length-append, length-replicate, length-take}
 use Rattle.std.proofs.lemmas.Bool.Decides.{nat_tests}
 use Rattle.fsoe_base.specs.declared.command.State.{State}
@@ -7,7 +7,7 @@ use Rattle.fsoe_base.specs.declared.command.State.TheVariants as state
 use Rattle.fsoe_base.specs.declared.command.Command.{Command}
 use Rattle.fsoe_base.specs.declared.command.Command.TheVariants as command
 use Rattle.fsoe_base.specs.Command.{command_byte, command_of}
-use Rattle.fsoe_frame.specs.Parts.{Frame, frame_of, pairs, one_byte}
+use Rattle.fsoe_frame.specs.Parts.{frame_of, pairs, one_byte}
 use Rattle.param_load.specs.declared.entry.Move.{Move}
 use Rattle.param_load.specs.declared.entry.Move.TheVariants as move
 use Rattle.param_load.specs.declared.master_settings.MasterSettings.{MasterSettings}
@@ -19,7 +19,7 @@ use Rattle.end_model.specs.Deed.{Deed}
 use Rattle.end_model.specs.Chain.{since, own}
 use Rattle.end_model.specs.Payloads.{piece, pieces, count_in, conn_id, session_id, pay}
 use Rattle.end_model.specs.Readiness.{offer, offer_after, held}
-use Rattle.end_model.specs.Step.{sealed, with_piece, with_data, download, after_phase, after_pieces, master_answer, slave_answer, IsProper, IsRun}
+use Rattle.end_model.specs.Step.{sealed, with_piece, with_data, download, after_phase, master_answer, slave_answer, IsProper, IsRun}
 use Rattle.end_model.proofs.ReadBack.{read_back}
 use Rattle.exchange_model.specs.Fair.{is_data}
 use Rattle.exchange_model.specs.Other.{is_guarded_if, is_guarded_frame}

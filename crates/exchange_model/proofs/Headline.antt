@@ -5,7 +5,6 @@ use Rattle.std.proofs.Common.{◌≡◌, ◌≢◌, ℕ, List, [], ◌∷◌, le
 use Rattle.std.specs.List.{AllByRecursion}
 use Rattle.fsoe_base.specs.declared.command.End.{End}
 use Rattle.fsoe_base.specs.declared.command.End.TheVariants as end_name
-use Rattle.fsoe_base.specs.declared.command.State.{State}
 use Rattle.fsoe_base.specs.declared.command.State.TheVariants as state
 use Rattle.fsoe_base.specs.declared.command.Command.{Command}
 use Rattle.fsoe_base.specs.declared.command.Command.TheVariants as command
@@ -20,30 +19,29 @@ use Rattle.param_load.specs.declared.master_settings.MasterSettings.{MasterSetti
 use Rattle.param_load.specs.declared.slave_settings.SlaveSettings.{SlaveSettings}
 use Rattle.schedule_file.specs.declared.event.Event.{Event}
 use Rattle.end_model.specs.Setup.{Setup, OfMaster, OfSlave, sends, receives}
-use Rattle.end_model.specs.Phases.{phase_of, phase_of_frame}
+use Rattle.end_model.specs.Phases.{phase_of_frame}
 use Rattle.end_model.specs.Deed.{Deed, is_empty}
 use Rattle.end_model.specs.Readiness.{state_of, phase_sent}
 use Rattle.end_model.specs.Step.{takes, begun, step, master_answer}
-use Rattle.end_model.specs.Entries.{entry_of}
 use Rattle.end_model.proofs.Accepted.{Accepted}
 use Rattle.end_model.proofs.DeedKinds.{Kind, Drops, Turns, Rests, Ages, Resets, Again, Rejoins, Starts, Takes, answer_to, kind}
 use Rattle.end_model.proofs.Heads.{IsInSession, master_frame, slave_frame, data_phase}
 use Rattle.exchange_model.specs.Ends.{same_end, peer}
 use Rattle.exchange_model.specs.World.{setup_of, deed_in, deeds, world, SameLengths, IsProperEvent, IsNextEntry, IsWorld}
 use Rattle.exchange_model.specs.Items.{Item, items_of, items, item_of, awaited}
-use Rattle.exchange_model.specs.Other.{is_other, NoOther, before_other}
-use Rattle.exchange_model.specs.Fair.{received, is_data, data_taken, frame_if, IsFromItem, IsTakenFrom, TakesAwaited, Fair}
+use Rattle.exchange_model.specs.Other.{NoOther, before_other}
+use Rattle.exchange_model.specs.Fair.{received, is_data, data_taken, frame_if, IsTakenFrom, TakesAwaited, Fair}
 use Rattle.exchange_model.proofs.Projection.{same, next_deed, world_is_world}
 use Rattle.exchange_model.proofs.Shown.{shows_due}
 use Rattle.exchange_model.proofs.Once.{at_most_once}
 use Rattle.exchange_model.proofs.Others.{before_is_clean, before_is_world}
-use Rattle.exchange_model.proofs.Awaited.{up_to, Found, newest_phase}
+use Rattle.exchange_model.proofs.Awaited.{up_to, newest_phase}
 use Rattle.exchange_model.proofs.Framed.{command_in, head_is, phase_by}
 use Rattle.exchange_model.proofs.Pieces.{deed, sent_more, data_state}
 use Rattle.exchange_model.proofs.Uploads.{state_next, not_reset}
 use Rattle.exchange_model.proofs.Loads.{Carries, all_carry, all_items}
 use Rattle.exchange_model.proofs.Taking.{TakesItem, takes_item, data_guarded, NoneOther, none_other}
-use Rattle.exchange_model.proofs.Related.{Related, Lengths, lengths, of_master, of_slave, related}
+use Rattle.exchange_model.proofs.Related.{Related, related}
 use Rattle.exchange_model.proofs.Told.{terms_of, Tells, master_state, master_told, slave_told}
 
 -- each item of a master that is of data was sent under its terms
@@ -51,7 +49,7 @@ tells-master : (ms : MasterSettings) (ss : SlaveSettings) (x : Entry) (w : List 
 tells-master ms ss x w is next =
     record {
       tells = λ c h d.
-        master_told ms x (deeds end_name.Master w) (subst (λ (it : End). IsNextEntry (setup_of ms ss it) x (deeds it w)) (sym is) next) (master_state ms (deed_in x) (deeds end_name.Master w) c h d);
+          master_told ms x (deeds end_name.Master w) (subst (λ (it : End). IsNextEntry (setup_of ms ss it) x (deeds it w)) (sym is) next) (master_state ms (deed_in x) (deeds end_name.Master w) c h d);
     }
 
 all-tell-master : (ms : MasterSettings) (ss : SlaveSettings) (w : List Entry) → IsWorld ms ss w → AllByRecursion (Tells (terms_of ms)) (items_of end_name.Master (items w))
@@ -70,8 +68,8 @@ tells-slave : (ms : MasterSettings) (ss : SlaveSettings) (x : Entry) (w : List E
 tells-slave ms ss x w lens h k is sent =
     record {
       tells = λ c head d.
-        slave_told ms ss x w lens h k is (subst (λ (it : End). IsNextEntry (setup_of ms ss it) x (deeds it w)) is h.0)
-        (sym (newest-state ms ss x w is sent k) ∙ (phase_by x.sent c head ∙ data_state c d));
+          slave_told ms ss x w lens h k is (subst (λ (it : End). IsNextEntry (setup_of ms ss it) x (deeds it w)) is h.0)
+          (sym (newest-state ms ss x w is sent k) ∙ (phase_by x.sent c head ∙ data_state c d));
     }
 
 -- each item of a slave that is of data was sent under the master's terms

@@ -1,7 +1,6 @@
 -- Each change of the items of both ends keeps what they say of one another.
-use Rattle.std.proofs.Common.{◌≡◌, ℕ, suc, ◌≤◌, List, [], ◌∷◌, length, true, false, Some, None, refl, sym, ap, subst, ◌∙◌, arith}
+use Rattle.std.proofs.Common.{◌≡◌, ℕ, ◌≤◌, List, [], ◌∷◌, length, true, false, Some, sym, ap, subst, ◌∙◌, arith}
 use Rattle.fsoe_base.specs.declared.command.State.{State}
-use Rattle.fsoe_base.specs.declared.command.State.TheVariants as state
 use Rattle.end_model.specs.Phases.{phase_of_frame}
 use Rattle.exchange_model.specs.Items.{Item}
 use Rattle.exchange_model.proofs.Awaited.{up_to, up_to_more, up_to_all, newest_phase, Found}

@@ -1,11 +1,10 @@
 -- A data frame that an end sends carries what its end put, or zeros where the end was held.
-use Rattle.std.proofs.Common.{◌≡◌, ◌≢◌, ℕ, List, [], ◌∷◌, length, replicate, Bool, true, false, ◌||◌, Option, Some, None, if◌then◌else◌, refl, sym, ap, subst, ◌∙◌}
+use Rattle.std.proofs.Common.{◌≡◌, ℕ, List, [], ◌∷◌, replicate, Bool, true, false, Option, Some, None, if◌then◌else◌, refl, sym, ap, subst, ◌∙◌}
 use Rattle.std.specs.List.{AllByRecursion}
 use Rattle.fsoe_base.specs.declared.command.End.{End}
 use Rattle.fsoe_base.specs.declared.command.Command.{Command}
 use Rattle.fsoe_base.specs.declared.command.Command.TheVariants as command
 use Rattle.fsoe_base.specs.declared.did.Did.{Did}
-use Rattle.fsoe_base.specs.declared.did.Took.{Took}
 use Rattle.fsoe_frame.specs.Parts.{frame_of}
 use Rattle.param_load.specs.declared.entry.Move.{Move}
 use Rattle.param_load.specs.declared.entry.Move.TheVariants as move
@@ -16,7 +15,7 @@ use Rattle.end_model.specs.Setup.{Setup, OfMaster, OfSlave, sends}
 use Rattle.end_model.specs.Deed.{Deed, is_empty}
 use Rattle.end_model.specs.Readiness.{offer, offer_after, held, held_after}
 use Rattle.end_model.specs.Step.{takes, begun, step, IsRun}
-use Rattle.end_model.proofs.DeedKinds.{Kind, Drops, Turns, Rests, Ages, Resets, Again, Rejoins, Starts, Takes, answer_to, kind}
+use Rattle.end_model.proofs.DeedKinds.{Kind, Drops, Turns, Rests, Ages, Resets, Again, Rejoins, Starts, Takes, kind}
 use Rattle.exchange_model.specs.Ends.{same_end, of_end}
 use Rattle.exchange_model.specs.World.{setup_of, deed_in, deeds, IsNextEntry, IsWorld}
 use Rattle.exchange_model.specs.Items.{put_after, last_put, hold_after, is_held, load_put, is_data_frame, load_of, Item, item_of, items_of, items}
@@ -24,7 +23,6 @@ use Rattle.exchange_model.specs.Fair.{is_data, frame_with, frame_if}
 use Rattle.exchange_model.proofs.Projection.{same, next_deed}
 use Rattle.exchange_model.proofs.Shown.{deeds_are_run}
 use Rattle.exchange_model.proofs.Framed.{command_in, IsFrame, command_framed, IsData, Zeros, Offers, offer_long, SlaveSends, Echoes, Gives, slave_sends, MasterSends, Begins, GoesOn, Connects, MoreConnection, Sets, MoreParameter, Opens, Exchanges, master_sends}
-use Rattle.exchange_model.proofs.Pieces.{deed}
 
 -- an item of data is of the frame that its load makes
 pub record Carries (l : ℕ) (i : Item) : Type 0 where

@@ -1,5 +1,5 @@
 -- The items of an end are numbered from 1, in the order in which they were sent.
-use Rattle.std.proofs.Common.{◌≡◌, ℕ, suc, List, [], ◌∷◌, length, Bool, true, false, if◌then◌else◌, refl, ap, subst, sym}
+use Rattle.std.proofs.Common.{◌≡◌, suc, List, [], ◌∷◌, length, Bool, true, false, if◌then◌else◌, refl, ap, subst, sym}
 use Rattle.fsoe_base.specs.declared.command.End.{End}
 use Rattle.param_load.specs.declared.entry.Entry.{Entry}
 use Rattle.end_model.specs.Deed.{is_empty}

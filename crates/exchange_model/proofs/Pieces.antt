@@ -1,6 +1,6 @@
 -- What a master has sent in its session, by its own frames alone: the pieces of its payloads, in order. Lists of frames are newest
 -- first.
-use Rattle.std.proofs.Common.{◌≡◌, ◌≢◌, ℕ, suc, zero, ◌+◌, ◌-◌, ◌*◌, ◌≤◌, List, [], ◌∷◌, ◌++◌, length, take, drop, replicate, Bool, true, false, Some, if◌then◌else◌, refl, sym, ap, subst, ◌∙◌, arith, inl, inr}
+use Rattle.std.proofs.Common.{◌≡◌, ◌≢◌, ℕ, suc, zero, ◌+◌, ◌-◌, ◌*◌, ◌≤◌, List, [], ◌∷◌, ◌++◌, length, take, drop, replicate, Bool, true, false, if◌then◌else◌, refl, sym, ap, subst, ◌∙◌, arith, inl, inr}
 use Rattle.std.proofs.lemmas.List.{length-take, take-replicate}
 use Rattle.std.proofs.lemmas.Bool.Decides.{eqb_tells}
 use Rattle.std.proofs.Math.Seq.{take-append-add}
@@ -14,19 +14,18 @@ use Rattle.param_load.specs.declared.entry.Move.{Move}
 use Rattle.param_load.specs.declared.entry.Move.TheVariants as move
 use Rattle.param_load.specs.declared.master_settings.MasterSettings.{MasterSettings}
 use Rattle.param_load.specs.Payload.{padded}
-use Rattle.end_model.specs.Setup.{Setup, OfMaster, sends, receives, piece_len}
-use Rattle.end_model.specs.Phases.{has_command, phase_of, phase_of_frame}
+use Rattle.end_model.specs.Setup.{Setup, OfMaster, sends, piece_len}
+use Rattle.end_model.specs.Phases.{phase_of, phase_of_frame}
 use Rattle.end_model.specs.Deed.{Deed, is_empty}
 use Rattle.end_model.specs.Chain.{since, own}
-use Rattle.end_model.specs.Payloads.{piece, pieces, count_in}
-use Rattle.end_model.specs.Readiness.{state_of, phase_sent, master_allows}
-use Rattle.end_model.specs.Step.{takes, begun, step, IsNext, IsRun}
-use Rattle.end_model.proofs.Accepted.{Accepted}
+use Rattle.end_model.specs.Payloads.{piece, count_in}
+use Rattle.end_model.specs.Readiness.{phase_sent, master_allows}
+use Rattle.end_model.specs.Step.{takes, begun, step, IsRun}
 use Rattle.end_model.proofs.DeedKinds.{Kind, Drops, Turns, Rests, Ages, Resets, Again, Rejoins, Starts, Takes, answer_to, kind}
 use Rattle.end_model.proofs.Heads.{IsInSession, master_frame}
 use Rattle.exchange_model.specs.Fair.{is_data}
-use Rattle.exchange_model.proofs.Joint.{is_guarded_in, is_loading, session, with_part, carried_by}
-use Rattle.exchange_model.proofs.Framed.{IsFrame, IsData, Zeros, Offers, phase_framed, piece_fits, offer_long, connection_of, parameters_of, sent_in, IsPiece, pieces_of, MasterSends, Begins, GoesOn, Connects, MoreConnection, Sets, MoreParameter, Opens, Exchanges, master_sends}
+use Rattle.exchange_model.proofs.Joint.{is_guarded_in, session, carried_by}
+use Rattle.exchange_model.proofs.Framed.{IsFrame, IsData, Zeros, Offers, phase_framed, piece_fits, offer_long, connection_of, parameters_of, IsPiece, pieces_of, MasterSends, Begins, GoesOn, Connects, MoreConnection, Sets, MoreParameter, Opens, Exchanges, master_sends}
 
 -- the first k pieces of a payload, each filled up with zeros
 abbrev pub front : List ℕ → ℕ → ℕ → List ℕ

@@ -1,5 +1,5 @@
 -- Each entry of a world that isn't other keeps what both ends' items say of one another.
-use Rattle.std.proofs.Common.{◌≡◌, ◌≢◌, ℕ, suc, ◌≤◌, List, [], ◌∷◌, length, Bool, true, false, Option, Some, None, if◌then◌else◌, refl, sym, ap, subst, ◌∙◌, arith}
+use Rattle.std.proofs.Common.{◌≡◌, ◌≢◌, ℕ, List, [], ◌∷◌, length, Bool, true, false, Option, Some, None, refl, sym, ap, subst, ◌∙◌, arith}
 use Rattle.fsoe_base.specs.declared.command.End.{End}
 use Rattle.fsoe_base.specs.declared.command.End.TheVariants as end_name
 use Rattle.fsoe_base.specs.declared.command.State.{State}
@@ -15,8 +15,8 @@ use Rattle.param_load.specs.declared.entry.Entry.{Entry}
 use Rattle.param_load.specs.declared.master_settings.MasterSettings.{MasterSettings}
 use Rattle.param_load.specs.declared.slave_settings.SlaveSettings.{SlaveSettings}
 use Rattle.end_model.specs.Setup.{Setup, OfMaster, OfSlave, sends, receives, piece_len}
-use Rattle.end_model.specs.Phases.{has_command, is_guarded, phase_of, phase_of_frame}
-use Rattle.end_model.specs.Deed.{Deed, is_empty, delivered}
+use Rattle.end_model.specs.Phases.{is_guarded, phase_of, phase_of_frame}
+use Rattle.end_model.specs.Deed.{Deed, is_empty}
 use Rattle.end_model.specs.Chain.{since, own}
 use Rattle.end_model.specs.Payloads.{uploaded}
 use Rattle.end_model.specs.Readiness.{state_of, phase_sent, slave_allows}
@@ -25,20 +25,20 @@ use Rattle.end_model.specs.Entries.{entry_of}
 use Rattle.end_model.proofs.Accepted.{Accepted}
 use Rattle.end_model.proofs.DeedKinds.{Kind, Drops, Turns, Rests, Ages, Resets, Again, Rejoins, Starts, Takes, answer_to, kind}
 use Rattle.end_model.proofs.Heads.{IsInSession, master_frame, slave_frame}
-use Rattle.exchange_model.specs.World.{setup_of, deeds, frames_of, SameLengths, IsNextEntry, IsWorld}
-use Rattle.exchange_model.specs.Items.{Item, item_taken, newest, items_of, items, item_of, number_if}
+use Rattle.exchange_model.specs.World.{setup_of, deeds, SameLengths, IsNextEntry, IsWorld}
+use Rattle.exchange_model.specs.Items.{Item, newest, items_of, items, item_of, number_if}
 use Rattle.exchange_model.specs.Other.{is_other, NoOther}
 use Rattle.exchange_model.specs.Fair.{is_data}
 use Rattle.exchange_model.proofs.Frames.{bytes_in, frames}
 use Rattle.exchange_model.proofs.Shown.{deeds_are_run}
 use Rattle.exchange_model.proofs.Numbered.{numbered}
-use Rattle.exchange_model.proofs.Awaited.{IsNewest, newest_is, newest_phase}
-use Rattle.exchange_model.proofs.Joint.{is_guarded_in, is_loading, session, carried, with_part, NoneCarried, Placed, Standing, Joint, Before, Uploads}
+use Rattle.exchange_model.proofs.Awaited.{IsNewest, newest_is}
+use Rattle.exchange_model.proofs.Joint.{is_guarded_in, is_loading, session, carried, with_part, Placed, Joint, Before, Uploads}
 use Rattle.exchange_model.proofs.JointSteps.{master_adds, unguarded_placed, next_placed, first_placed, slave_before, slave_past, none_uploaded}
-use Rattle.exchange_model.proofs.Framed.{command_in, head_is, phase_by, guarded_in, phase_framed, IsFrame, IsData, Zeros, Offers, offer_long, connection_of, parameters_of, SlaveSends, Echoes, Gives, slave_sends, MasterSends, Begins, GoesOn, Connects, MoreConnection, Sets, MoreParameter, Opens, Exchanges, master_sends}
+use Rattle.exchange_model.proofs.Framed.{command_in, head_is, phase_by, phase_framed, IsFrame, offer_long, connection_of, parameters_of, SlaveSends, Echoes, Gives, slave_sends, MasterSends, Begins, GoesOn, Connects, MoreConnection, Sets, MoreParameter, Opens, Exchanges, master_sends}
 use Rattle.exchange_model.proofs.Pieces.{front, order_at, Sent, pieces_sent, session_own, deed, allowed_in, data_state, data_phase}
 use Rattle.exchange_model.proofs.Uploads.{uploads_next, state_next, not_reset}
-use Rattle.exchange_model.proofs.Taking.{Taken, TakesItem, takes_item, answers_newest, data_guarded, NoneOther, none_other}
+use Rattle.exchange_model.proofs.Taking.{TakesItem, takes_item, answers_newest, data_guarded, NoneOther, none_other}
 
 -- what both ends' items say of one another in a world
 abbrev pub Related : MasterSettings → SlaveSettings → List Entry → Type 0
@@ -275,14 +275,14 @@ slave-takes ms ss w bytes load c r h n a o =
     let head : command_in bytes ≡ Some c = head-in (OfSlave ss) e bytes load c a in
     slave-grows ms ss w (move.Deliver bytes) (takes c load) f sent.sent
     (slave-joint ms ss w bytes load c f (is_guarded c) (record {
-        related = h;
-        in_session = n;
-        accepted = a;
-        answer_is = phase;
-        state_is = state_next ss e bytes load f c n sent.in_session;
-        uploads = uploads_next ss e bytes load f c n sent.in_session head a.load_is;
-        no_other = o;
-      }) refl)
+      related = h;
+      in_session = n;
+      accepted = a;
+      answer_is = phase;
+      state_is = state_next ss e bytes load f c n sent.in_session;
+      uploads = uploads_next ss e bytes load f c n sent.in_session head a.load_is;
+      no_other = o;
+    }) refl)
 
 -- each entry of a slave keeps it
 slave-keeps : (ms : MasterSettings) (ss : SlaveSettings) (w : List Entry) (m : Move) (d : Did) (f : List ℕ) → IsRun (OfSlave ss) (deeds end_name.Slave w) → Related ms ss w

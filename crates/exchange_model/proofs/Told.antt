@@ -1,7 +1,6 @@
 -- Both ends tell equal terms in state Data: those of the master's settings.
-use Rattle.std.proofs.Common.{◌≡◌, ◌≢◌, ℕ, suc, ◌<◌, ◌≤◌, List, [], ◌∷◌, ◌++◌, length, min, Bool, true, false, Option, Some, None, IsTrue, ◌==◌, if◌then◌else◌, refl, sym, ap, subst, ◌∙◌, arith}
+use Rattle.std.proofs.Common.{◌≡◌, ℕ, suc, ◌<◌, List, [], ◌∷◌, length, Bool, true, false, Some, IsTrue, ◌==◌, if◌then◌else◌, refl, sym, ap, subst, ◌∙◌, arith}
 use Rattle.std.proofs.lemmas.Bool.Decides.{nat_tests}
-use Rattle.std.specs.List.{AllByRecursion}
 use Rattle.fsoe_base.specs.declared.command.End.{End}
 use Rattle.fsoe_base.specs.declared.command.End.TheVariants as end_name
 use Rattle.fsoe_base.specs.declared.command.State.{State}
@@ -12,31 +11,25 @@ use Rattle.param_load.specs.declared.entry.Entry.{Entry}
 use Rattle.param_load.specs.declared.terms.Terms.{Terms}
 use Rattle.param_load.specs.declared.master_settings.MasterSettings.{MasterSettings}
 use Rattle.param_load.specs.declared.slave_settings.SlaveSettings.{SlaveSettings}
-use Rattle.end_model.specs.Setup.{Setup, OfMaster, OfSlave, sends, receives, piece_len}
-use Rattle.end_model.specs.Phases.{phase_of_frame}
-use Rattle.end_model.specs.Deed.{Deed, is_empty}
-use Rattle.end_model.specs.Chain.{since, own}
-use Rattle.end_model.specs.Payloads.{uploaded, terms, terms_in, count_in}
-use Rattle.end_model.specs.Readiness.{state_of, phase_sent, told_in, told_terms}
-use Rattle.end_model.specs.Entries.{entry_of}
+use Rattle.end_model.specs.Setup.{OfMaster, OfSlave, receives, piece_len}
+use Rattle.end_model.specs.Deed.{Deed}
+use Rattle.end_model.specs.Payloads.{uploaded, terms, terms_in}
+use Rattle.end_model.specs.Readiness.{state_of, phase_sent, told_in}
 use Rattle.end_model.proofs.Heads.{IsInSession}
 use Rattle.exchange_model.specs.Ends.{same_end}
-use Rattle.exchange_model.specs.World.{setup_of, deed_in, deeds, frames_of, SameLengths, IsNextEntry, IsWorld}
-use Rattle.exchange_model.specs.Items.{Item, items_of, items, item_of}
-use Rattle.exchange_model.specs.Other.{NoOther}
+use Rattle.exchange_model.specs.World.{deed_in, deeds, SameLengths, IsNextEntry, IsWorld}
+use Rattle.exchange_model.specs.Items.{Item, items_of, items}
 use Rattle.exchange_model.specs.Fair.{is_data}
 use Rattle.exchange_model.proofs.Projection.{next_told}
 use Rattle.exchange_model.proofs.Frames.{bytes_in, frames}
 use Rattle.exchange_model.proofs.Shown.{deeds_are_run}
 use Rattle.exchange_model.proofs.Awaited.{up_to}
-use Rattle.exchange_model.proofs.Joint.{is_guarded_in, is_loading, session, carried, Mirrors, Answering, Standing, Before, Past, Joint, no_reset}
-use Rattle.exchange_model.proofs.Framed.{command_in, phase_by, connection_of, parameters_of, pieces_of}
+use Rattle.exchange_model.proofs.Joint.{is_guarded_in, session, Mirrors, Standing, Before, Past, no_reset}
+use Rattle.exchange_model.proofs.Framed.{command_in, phase_by, connection_of, parameters_of}
 use Rattle.exchange_model.proofs.Pieces.{order_at, Sent, AllSent, all_sent, session_phase, sent_more, data_state}
 use Rattle.exchange_model.proofs.Uploads.{Tested, tested}
 use Rattle.exchange_model.proofs.Agree.{agree, front_whole}
-use Rattle.exchange_model.proofs.Loads.{all_items}
-use Rattle.exchange_model.proofs.Related.{Related, carried_is, related}
-use Rattle.exchange_model.proofs.Taking.{NoneOther, none_other}
+use Rattle.exchange_model.proofs.Related.{Related, carried_is}
 
 -- the terms of a master's settings
 abbrev pub terms_of : MasterSettings → Terms

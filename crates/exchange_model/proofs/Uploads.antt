@@ -1,5 +1,5 @@
 -- What a slave uploads with the frames that it takes, and what it has tested of it.
-use Rattle.std.proofs.Common.{◌≡◌, ◌≢◌, ◌==◌, ℕ, suc, ◌+◌, ◌<◌, ◌≤◌, nat_le, nat_lt, List, [], ◌∷◌, ◌++◌, length, take, drop, Bool, true, false, ◌&&◌, not, Option, Some, None, if◌then◌else◌, refl, sym, ap, subst, ◌∙◌, arith, inl, inr, slice_index}
+use Rattle.std.proofs.Common.{◌≡◌, ◌≢◌, ◌==◌, ℕ, ◌+◌, ◌<◌, ◌≤◌, nat_le, nat_lt, List, [], ◌∷◌, ◌++◌, length, take, drop, Bool, true, false, ◌&&◌, Option, Some, None, if◌then◌else◌, refl, sym, ap, subst, ◌∙◌, arith, inl, inr}
 use Rattle.std.proofs.lemmas.Bool.{eqb-true, cases_lt}
 use Rattle.std.proofs.lemmas.Bool.Decides.{nat_tests}
 use Rattle.std.proofs.lemmas.List.{get_or_append_left}
@@ -11,7 +11,6 @@ use Rattle.fsoe_base.specs.declared.command.Code.{Code}
 use Rattle.fsoe_base.specs.declared.did.Did.{Did}
 use Rattle.fsoe_base.specs.Command.{code}
 use Rattle.fsoe_frame.specs.Parts.{frame_of}
-use Rattle.param_load.specs.declared.app_rule.AppRule.{AppRule}
 use Rattle.param_load.specs.declared.contents.Expected.TheVariants as expected
 use Rattle.param_load.specs.declared.entry.Move.{Move}
 use Rattle.param_load.specs.declared.entry.Move.TheVariants as move
@@ -32,7 +31,7 @@ use Rattle.end_model.specs.Step.{takes, begun, step, IsRun}
 use Rattle.end_model.proofs.Accepted.{Accepted}
 use Rattle.end_model.proofs.DeedKinds.{Kind, Drops, Turns, Rests, Ages, Resets, Again, Rejoins, Starts, Takes, answer_to, kind}
 use Rattle.end_model.proofs.Heads.{IsInSession, slave_frame}
-use Rattle.exchange_model.proofs.Joint.{is_loading, with_part, Uploads}
+use Rattle.exchange_model.proofs.Joint.{with_part, Uploads}
 use Rattle.exchange_model.proofs.Framed.{command_in, phase_by}
 use Rattle.exchange_model.proofs.Pieces.{deed}
 
@@ -66,9 +65,9 @@ pub uploads_next : (ss : SlaveSettings) (e : List Deed) (bytes load f : List ℕ
     → Uploads (receives (OfSlave ss)) (piece_len (OfSlave ss)) bytes (λ phase. uploaded ss phase e) (λ phase. uploaded ss phase (deed (move.Deliver bytes) (takes c load) f ∷ e))
 uploads_next ss e bytes load f c n b head is =
     λ phase k.
-      ap (joined phase (piece_len (OfSlave ss))) (since-more (deed (move.Deliver bytes) (takes c load) f) e b)
-      ∙ (joined-taken phase (piece_len (OfSlave ss)) c load (uploaded ss phase e) n
-      ∙ part-taken phase (receives (OfSlave ss)) (piece_len (OfSlave ss)) bytes load (uploaded ss phase e) c (phase_by bytes c head) is)
+    ap (joined phase (piece_len (OfSlave ss))) (since-more (deed (move.Deliver bytes) (takes c load) f) e b)
+    ∙ (joined-taken phase (piece_len (OfSlave ss)) c load (uploaded ss phase e) n
+    ∙ part-taken phase (receives (OfSlave ss)) (piece_len (OfSlave ss)) bytes load (uploaded ss phase e) c (phase_by bytes c head) is)
 
 pub state_next : (ss : SlaveSettings) (e : List Deed) (bytes load f : List ℕ) (c : Command) → c ≢ command.Reset → has_command command.Reset f ≡ false → state_of (OfSlave ss) (deed (move.Deliver bytes) (takes c load) f ∷ e) ≡ phase_of c
 state_next ss e bytes load f c n b =
