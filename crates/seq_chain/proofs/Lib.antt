@@ -1,1 +1,4 @@
 pub mod NextGroup
+pub mod ToldApart
+pub mod Steps
+pub mod OneChange

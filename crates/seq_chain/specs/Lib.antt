@@ -3,3 +3,4 @@ pub mod Numbers
 pub mod Sealing
 pub mod Chain
 pub mod Reset
+pub mod Differences

@@ -8,6 +8,7 @@ pub use reset::{reset_frame, reset_view};
 mod chain;
 mod compare;
 mod cover;
+pub mod laws;
 mod link;
 mod reset;
 #[cfg(test)]

@@ -1,0 +1,54 @@
+//! What the chain is sure to tell apart. The calls do nothing: each law is a contract.
+
+ghost use Rattle.std.specs.Prelude.{◌≡◌, ◌≢◌, ◌<◌, ◌≤◌, ℕ, List, length, Option, Some, IfSome, IsTrue, false};
+ghost use Rattle.fsoe_crc.specs.Remainder.{rem};
+ghost use Rattle.fsoe_frame.specs.Parts.{Frame, AreBytes};
+ghost use Rattle.seq_chain.specs.declared.link.Link.{Link};
+ghost use Rattle.seq_chain.specs.Cover.{cover, crc_0, first_of};
+ghost use Rattle.seq_chain.specs.Numbers.{next, number_of};
+ghost use Rattle.seq_chain.specs.Sealing.{sealed, noted, fits};
+ghost use Rattle.seq_chain.specs.Differences.{DifferInCommand, DifferInConnection, DifferInGroup, DifferInCrc, SteppedAlike};
+
+/// Two covers that differ in one part alone have different CRCs: in the CRC_0 taken last, in the connection id, in
+/// the number, in the command, or in the data of the group, which are one byte or two in both.
+#[tactic(auto, using(crate::proofs::ToldApart::last_told, crate::proofs::ToldApart::connection_told, crate::proofs::ToldApart::number_told, crate::proofs::ToldApart::command_told, crate::proofs::ToldApart::data_told))]
+pub fn covers()
+    ensures last { (last last' conn number cmd i : ℕ) (group : List ℕ) → last < 65536 → last' < 65536 → last ≢ last' → rem (cover last conn number cmd i group) ≢ rem (cover last' conn number cmd i group) }
+    ensures connection { (last conn conn' number cmd i : ℕ) (group : List ℕ) → conn < 65536 → conn' < 65536 → conn ≢ conn' → rem (cover last conn number cmd i group) ≢ rem (cover last conn' number cmd i group) }
+    ensures number { (last conn number number' cmd i : ℕ) (group : List ℕ) → number < 65536 → number' < 65536 → number ≢ number' → rem (cover last conn number cmd i group) ≢ rem (cover last conn number' cmd i group) }
+    ensures command { (last conn number cmd cmd' i : ℕ) (group : List ℕ) → cmd < 256 → cmd' < 256 → cmd ≢ cmd' → rem (cover last conn number cmd i group) ≢ rem (cover last conn number cmd' i group) }
+    ensures group_data { (last conn number cmd i : ℕ) (group group' : List ℕ) → length group ≤ 2 → length group ≡ length group' → AreBytes group → AreBytes group' → group ≢ group' → rem (cover last conn number cmd i group) ≢ rem (cover last conn number cmd i group') }
+{}
+
+/// One step of the number always suffices: under two numbers that follow each other a frame has different CRC_0. A
+/// number after one of 16 bits is from 1 to 65,535.
+#[tactic(auto, using(crate::proofs::Steps::one_step, crate::proofs::Steps::number_within))]
+pub fn numbers()
+    ensures one_step { (last conn number cmd : ℕ) (load : List ℕ) → number < 65536 → 0 < length load → crc_0 last conn number cmd load ≢ crc_0 last conn (next number) cmd load }
+    ensures within { (last conn cmd : ℕ) (before : Option Link) (load : List ℕ) → IfSome before (λ link. link.number < 65536) → (0 < number_of last before conn cmd load) × (number_of last before conn cmd load < 65536) }
+{}
+
+/// Frames that one end sends after one another in a session have different CRC_0: that of the frame sealed after a
+/// link isn't the link's, so that it isn't that of the frame which the link notes.
+#[tactic(auto, using(crate::proofs::Steps::after_link, crate::proofs::Steps::after_frame))]
+pub fn consecutive()
+    ensures after_link { (last conn cmd : ℕ) (link : Link) (load : List ℕ) → link.number < 65536 → 0 < length load → first_of (sealed last (Some link) conn cmd load).crcs ≢ link.crc }
+    ensures after_frame { (last last' conn cmd : ℕ) (before : Option Link) (frame : Frame) (load : List ℕ) → IfSome before (λ link. link.number < 65536) → 0 < length load → first_of (sealed last' (Some (noted last before frame)) conn cmd load).crcs ≢ first_of frame.crcs }
+{}
+
+/// A frame that differs from one that fits in the data of one group after the first alone, or in the CRC field of one
+/// group alone, doesn't fit.
+#[tactic(auto, using(crate::proofs::OneChange::later_data_refused, crate::proofs::OneChange::crc_refused))]
+pub fn one_change()
+    ensures later_data { (last : ℕ) (before : Option Link) (f g : Frame) (k : ℕ) → 0 < k → AreBytes f.load → AreBytes g.load → IsTrue (fits last before f) → DifferInGroup k f g → fits last before g ≡ false }
+    ensures crc_field { (last : ℕ) (before : Option Link) (f g : Frame) (k : ℕ) → IsTrue (fits last before f) → DifferInCrc k f g → fits last before g ≡ false }
+{}
+
+/// A frame that differs from one that fits in the command alone, in the connection id field alone, or in the data of
+/// the first group alone, doesn't fit, provided that the second step of the number comes for both or for neither.
+#[tactic(auto, using(crate::proofs::OneChange::command_refused, crate::proofs::OneChange::connection_refused, crate::proofs::OneChange::first_data_refused))]
+pub fn one_change_stepped_alike()
+    ensures command { (last : ℕ) (before : Option Link) (f g : Frame) → f.cmd < 256 → g.cmd < 256 → 0 < length f.load → IsTrue (fits last before f) → DifferInCommand f g → SteppedAlike last before f g → fits last before g ≡ false }
+    ensures connection { (last : ℕ) (before : Option Link) (f g : Frame) → f.conn < 65536 → g.conn < 65536 → 0 < length f.load → IsTrue (fits last before f) → DifferInConnection f g → SteppedAlike last before f g → fits last before g ≡ false }
+    ensures first_data { (last : ℕ) (before : Option Link) (f g : Frame) → AreBytes f.load → AreBytes g.load → IsTrue (fits last before f) → DifferInGroup 0 f g → SteppedAlike last before f g → fits last before g ≡ false }
+{}
