@@ -138,20 +138,64 @@ impl Chain {
 #[cfg(test)]
 mod tests {
     use super::*;
+    use fsoe_frame::view;
+
+    /// What is noted of the frame before, and of the next one: process data 01 00 with connection id 1 of an end that took
+    /// no frame. In the second row it would have the CRC of the frame before it under number 65,535.
+    const AROUND_THE_HIGHEST: [(Link, Link, u16); 2] = [
+        (
+            Link {
+                number: 65_534,
+                crc: 0,
+            },
+            Link {
+                number: 65_535,
+                crc: 0x321C,
+            },
+            1,
+        ),
+        (
+            Link {
+                number: 65_534,
+                crc: 0x321C,
+            },
+            Link {
+                number: 1,
+                crc: 0x82A1,
+            },
+            2,
+        ),
+    ];
 
     #[test]
     fn one_follows_the_highest_number(rt: HostRuntime) {
-        let before = Some(Link {
-            number: 65_534,
-            crc: 0,
-        });
-        let mut chain = Chain {
-            own: before,
-            taken: None,
-        };
-        let mut out = FrameBuf::new();
-        assert_eq!(rt; chain.own_seq(), 65_535);
-        chain.seal(Command::ProcessData, 1, &[0], &mut out);
-        assert_eq!(rt; chain.own_seq(), 1);
+        for (before, noted, following) in AROUND_THE_HIGHEST {
+            let mut sender = Chain {
+                own: Some(before),
+                taken: None,
+            };
+            let mut receiver = Chain {
+                own: None,
+                taken: Some(before),
+            };
+            assert_eq!(rt; (sender.own_seq(), receiver.peer_seq()), (65_535, 65_535));
+            let mut out = FrameBuf::new();
+            sender.seal(Command::ProcessData, 1, &[0x01, 0x00], &mut out);
+            let [low, high] = noted.crc.to_le_bytes();
+            assert_eq!(rt;
+                out.bytes(),
+                [0x36, 0x01, 0x00, low, high, 0x01, 0x00].as_slice()
+            );
+            assert_eq!(rt; sender.own, Some(noted));
+            let frame = view(out.bytes(), 2).expect(&rt, "two safe data bytes");
+            let conn = frame.conn();
+            assert!(rt; receiver.test(&frame, conn), "number {}", noted.number);
+            receiver.take(&frame, conn);
+            assert_eq!(rt; receiver.taken, Some(noted));
+            assert_eq!(rt;
+                (sender.own_seq(), receiver.peer_seq()),
+                (following, following)
+            );
+        }
     }
 }

@@ -48,6 +48,15 @@ const STEPPED: [Row; 4] = [
     (Command::ProcessData, [0x50, 0x26], 11, 0x0303),
 ];
 
+/// A forged frame in place of the master's second data frame, and the answer to it.
+const FORGED_DATA: [Row; 2] = [
+    (Command::ProcessData, [0xFF, 0x00], 8, 0xE94E),
+    (Command::ProcessData, [0x80, 0x00], 8, 0xEC9F),
+];
+
+/// A forged frame in place of the master's second Parameter frame.
+const FORGED_PARAMETERS: [Row; 1] = [(Command::Parameter, [0x00, 0x00], 5, 0xA7BD)];
+
 /// Reset frames with two safe data bytes, by their code.
 const RESETS: [[u8; 7]; 12] = [
     [0x2A, 0x00, 0x00, 0xC4, 0x2D, 0x00, 0x00],
@@ -102,6 +111,10 @@ fn sessions(rt: HostRuntime) {
     pass_by_turns(&rt, &DATA, slave, master);
     pass_by_turns(&rt, &HELD, slave, master);
     pass_by_turns(&rt, &STEPPED, slave, master);
+    let (master, slave) = pass_by_turns(&rt, &HANDSHAKE[..14], Chain::new(), Chain::new());
+    pass_by_turns(&rt, &FORGED_DATA, master, slave);
+    let (master, slave) = pass_by_turns(&rt, &HANDSHAKE[..8], Chain::new(), Chain::new());
+    pass_by_turns(&rt, &FORGED_PARAMETERS, master, slave);
 }
 
 #[test]
