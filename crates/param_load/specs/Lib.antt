@@ -1,5 +1,7 @@
 pub mod AppRule
 pub mod Contents
+pub mod Download
+pub mod DownloadView
 pub mod MasterSettings
 pub mod Payload
 pub mod Profile

@@ -84,6 +84,44 @@ fn a_whole_upload_tells_what_came(rt: HostRuntime) {
     );
 }
 
+/// What the last of these answers gives to a download, or the first code; Whole also where answers are left.
+fn answered(download: &mut Download, answers: &[[u8; 4]]) -> Result<Progress, Code>
+    requires { download.old.piece ≡ 2 }
+    ensures { download.new.piece ≡ 2 }
+{
+    let mut last = Progress::More;
+    for answer in answers {
+        if download.is_whole() {
+            break;
+        }
+        last = download.check(answer)?;
+    }
+    Ok(last)
+}
+
+#[test]
+fn answers_to_a_download_are_tested(rt: HostRuntime) {
+    for (echo, answers, want) in [
+        (true, [[1, 0, 0, 0]].as_slice(), Ok(Progress::More)),
+        (true, &[[1, 0, 0, 0], [2, 0, 0, 0]], Ok(Progress::Whole)),
+        (true, &[[1, 0, 0, 0], [3, 0, 0, 0]], Err(Code(0x07))),
+        (true, &[[1, 0, 0, 1]], Err(Code(0x07))),
+        (true, &[[0, 0, 0, 0]], Err(Code(0x07))),
+        (false, &[[9, 9, 0, 0], [9, 9, 0, 0]], Ok(Progress::Whole)),
+        (false, &[[9, 9, 1, 0]], Err(Code(0x07))),
+    ] {
+        let mut download = Download::new(Payload::connection(1, 2), 2, echo);
+        assert_eq!(rt; download.load(4).bytes(), [1, 0, 0, 0].as_slice());
+        assert_eq!(rt; answered(&mut download, answers), want, "after {answers:?}");
+    }
+    let mut download = Download::new(Payload::connection(1, 2), 2, true);
+    assert_eq!(rt;
+        answered(&mut download, &[[1, 0, 0, 0], [3, 0, 0, 0]]),
+        Err(Code(0x07))
+    );
+    assert_eq!(rt; download.load(4).bytes(), [2, 0, 0, 0].as_slice());
+}
+
 #[test]
 fn settings_are_refused_in_order(rt: HostRuntime) -> Result<(), Fail> {
     let lengths = Lengths::new(2, 2)?;

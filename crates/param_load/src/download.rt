@@ -1,0 +1,99 @@
+//! What a master sends piece by piece in a handshake.
+use crate::payload::{Payload, padded};
+use crate::upload::Progress;
+use fsoe_base::{Code, Image, is_all_zero};
+use std::marker::Model;
+
+/// A payload that a master sends piece by piece, one a frame, until each piece is answered. Contracts see the
+/// payload, the bytes of a piece, whether the answers are echoes, and the place where the piece in turn begins.
+#[derive(Debug, Drop)]
+pub struct Download {
+    payload: Payload,
+    piece: usize,
+    echo: bool,
+    from: usize,
+}
+
+impl Model for Download {
+    ghost use Rattle.std.specs.Prelude.{◌≤◌};
+    ghost use Rattle.param_load.specs.DownloadView.{DownloadView};
+
+    ghost Value = { DownloadView };
+
+    ghost view = { λ d. record { payload = d.payload; piece = d.piece; echo = d.echo; from = d.from } };
+
+    ghost invariant = { λ d. d.piece ≤ 126 };
+}
+
+impl Download {
+    ghost use Rattle.std.specs.Prelude.{◌≡◌, ◌≤◌, false, OnOk, OnErr, length};
+    ghost use Rattle.param_load.specs.Payload.{padded};
+    ghost use Rattle.param_load.specs.Download.{download, piece_in_turn, is_whole, is_answer, advanced, outcome};
+
+    /// The download of this payload in pieces of `piece` bytes, at most 126. With `echo` each answer repeats its
+    /// piece; without it the answers carry data of the slave's own.
+    pub fn new(payload: Payload, piece: usize, echo: bool) -> Download
+        requires { piece ≤ 126 }
+        ensures { result ≡ download payload piece echo }
+    {
+        Download {
+            payload,
+            piece,
+            echo,
+            from: 0,
+        }
+    }
+
+    /// Whether all pieces were answered.
+    pub fn is_whole(&self) -> bool
+        ensures { result ≡ is_whole self.now }
+    {
+        self.payload.bytes().len() <= self.from
+    }
+
+    /// The piece in turn, then zeros up to `len` bytes, from a piece to 126. Of a whole download zeros alone.
+    pub fn load(&self, len: usize) -> Image
+        requires piece { self.now.piece ≤ len }
+        requires most { len ≤ 126 }
+        ensures value { result ≡ padded (piece_in_turn self.now) len }
+        ensures len { length result ≡ len }
+    {
+        padded(self.payload.piece_from(self.from, self.piece), len)
+    }
+
+    /// Whether these bytes answer the piece in turn.
+    fn is_answer(&self, bytes: &[u8]) -> bool
+        requires piece { self.now.piece ≤ length bytes.now }
+        requires most { length bytes.now ≤ 126 }
+        ensures { result ≡ is_answer self.now bytes.now }
+    {
+        if self.echo {
+            return bytes == self.load(bytes.len()).bytes();
+        }
+        let piece = self.payload.piece_from(self.from, self.piece);
+        is_all_zero(&bytes[piece.len()..])
+    }
+
+    /// Takes the data of a frame, from a piece to 126 bytes, as the answer to the piece in turn, as long as the
+    /// download isn't whole. Refused with 07h where they aren't the piece with zeros after it; of an answer that is
+    /// no echo the zeros alone are tested. After a refusal the download is as it was.
+    pub fn check(&mut self, bytes: &[u8]) -> Result<Progress, Code>
+        requires more { is_whole self.old ≡ false }
+        requires piece { self.old.piece ≤ length bytes.now }
+        requires most { length bytes.now ≤ 126 }
+        ensures outcome { result ≡ outcome self.old bytes.now }
+        ensures advanced { OnOk result (self.new ≡ advanced self.old) }
+        ensures refused { OnErr result (self.new ≡ self.old) }
+    {
+        if !self.is_answer(bytes) {
+            return Err(Code(0x07));
+        }
+        let len = self.payload.bytes().len();
+        self.from += self.piece;
+        if len <= self.from {
+            Ok(Progress::Whole)
+        } else {
+            Ok(Progress::More)
+        }
+    }
+}
