@@ -4,3 +4,5 @@ pub mod Taken
 pub mod Passing
 pub mod Reading
 pub mod Newline
+pub mod Shelves
+pub mod Loading

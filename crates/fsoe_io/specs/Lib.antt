@@ -2,6 +2,7 @@ pub mod Faults
 pub mod Sink
 pub mod Planned
 pub mod Ends
+pub mod Desk
 pub mod Status
 pub mod Line
 pub mod LineReader

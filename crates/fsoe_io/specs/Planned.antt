@@ -1,5 +1,5 @@
 -- Calls that are planned to fail, by their numbers from 1.
-use Rattle.std.specs.Prelude.{◌≡◌, ℕ, ◌+◌, ◌-◌, ◌^◌, ◌<◌, ◌==◌, zero, suc, Bool, List, if◌then◌else◌}
+use Rattle.std.specs.Prelude.{◌≡◌, ℕ, ◌+◌, ◌-◌, ◌^◌, ◌<◌, ◌==◌, zero, suc, Bool, List, min, if◌then◌else◌}
 use Rattle.std.specs.List.{list_any}
 
 -- the numbers of the calls that fail, and how many calls there were
@@ -19,6 +19,10 @@ listed_calls fails (suc calls) = listed_calls fails calls + (if is_listed fails 
 -- the faults so far
 abbrev pub planned_faults : Planned → ℕ
 planned_faults planned = listed_calls planned.fails planned.calls
+
+-- the same calls and one more; the count stays at 2^64 - 1
+abbrev pub with_one_more : Planned → Planned
+with_one_more planned = record { fails = planned.fails; calls = min (planned.calls + 1) (2 ^ 64 - 1) }
 
 -- whether the next call is listed; no call after the first 2^64 - 1 has a number that can be listed
 abbrev pub IsNextListed : Planned → Bool → Type 0

@@ -1,10 +1,14 @@
 //! The outside: sources and sinks of bytes, lines read from a source, and text written to a sink.
 #![tactic(auto)]
 
+mod desk;
+mod failed_loads;
+mod file_desk;
 mod hex_text;
 mod line;
 mod line_reader;
 mod line_text;
+mod memory_desk;
 mod memory_sink;
 mod memory_source;
 mod output;
@@ -17,9 +21,12 @@ mod streams;
 #[cfg(test)]
 mod tests;
 
+pub use desk::{Desk, LoadFault};
+pub use file_desk::FileDesk;
 pub use line::{Line, LineFault};
 pub use line_reader::LineReader;
 pub use line_text::LineText;
+pub use memory_desk::{MemDesk, SureDesk};
 pub use memory_sink::{MemSink, SureSink};
 pub use memory_source::{MemSource, SureSource};
 pub use output::Output;

@@ -1,7 +1,7 @@
 //! Sinks in memory.
-ghost use Rattle.std.specs.Prelude.{◌≡◌, ◌+◌, ◌-◌, ◌≤◌, ◌<◌, Some, None, [], length, min, IfOk, IfSome, IsSome, IsErr, is_err};
+ghost use Rattle.std.specs.Prelude.{◌≡◌, ◌+◌, ◌-◌, ◌≤◌, ◌<◌, Some, None, [], length, min, IfOk, IfSome, IsSome, IsErr, is_err, if◌then◌else◌};
 ghost use Rattle.fsoe_io.specs.Faults.{HasCause};
-ghost use Rattle.fsoe_io.specs.Planned.{IsNextListed, planned_faults};
+ghost use Rattle.fsoe_io.specs.Planned.{IsNextListed, planned_faults, with_one_more};
 ghost use Rattle.fsoe_io.specs.Sink.{TakesSome, WriteGrows};
 
 use crate::planned::PlannedCalls;
@@ -82,10 +82,14 @@ impl Sink for MemSink {
             (planned_faults self.old.planned + self.old.refusals)
             (planned_faults self.new.planned + self.new.refusals)
             result }
-        // It fails at the listed calls and where its room is used up, and else takes as much as it may.
+        // Each call counts. It fails at the listed ones and where its room is used up, and else takes as much as it may.
+        ensures counts { self.new.planned ≡ with_one_more self.old.planned }
         ensures fails { length self.old.written < self.old.room → IsNextListed self.old.planned (is_err result) }
         ensures full { length self.old.written ≡ self.old.room → 0 < length piece.now → IsErr result }
         ensures count { IfOk result (λ n. n ≡ min (min (length piece.now) (self.old.room - length self.old.written)) self.old.most) }
+        ensures refusals { self.new.refusals ≤ self.old.refusals + (if is_err result then 1 else 0) }
+        ensures room { self.new.room ≡ self.old.room }
+        ensures most { self.new.most ≡ self.old.most }
     {
         if self.calls.next_fails() {
             return Err(Failed);

@@ -1,5 +1,6 @@
 use super::*;
 use std::test::Fail;
+use std::{env, fs, process};
 
 /// What a reader of lines answered: a line by its number and its length, or why there is none.
 #[derive(Clone, Copy, Debug, PartialEq, Eq)]
@@ -132,6 +133,69 @@ fn streams_of_std_are_ends(rt: HostRuntime) {
     let mut sink = StdSink::new(room.as_mut_slice());
     assert_eq!(rt; put_all(&mut sink, b"abc"), Ok(()));
     assert_eq!(rt; put_all(&mut sink, b"def"), Err(Partial { done: 1 }));
+}
+
+/// How many bytes a desk loads.
+fn loaded<D: Desk>(desk: &mut D, name: &str, limit: usize) -> Result<usize, LoadFault> {
+    match desk.load(name, limit) {
+        Ok(text) => Ok(text.len()),
+        Err(fault) => Err(fault),
+    }
+}
+
+#[test]
+fn desks_in_memory_load_texts(rt: HostRuntime) -> Result<(), Fail> {
+    let mut files = Vec::new(rt.alloc());
+    let name = String::from_str(rt.alloc(), "plant")?;
+    files.push((name, b"hello world".to_vec(rt.alloc())?))?;
+    let mut desk = MemDesk::new(files, vec![in rt.alloc(); 4]?);
+    let mut sure = SureDesk::new(b"hello world".to_vec(rt.alloc())?);
+    let rows = [
+        ("plan", 11, Err(LoadFault::Failed), Ok(11)),
+        (
+            "plant",
+            10,
+            Err(LoadFault::TooLong),
+            Err(LoadFault::TooLong),
+        ),
+        ("plant", 11, Ok(11), Ok(11)),
+        ("plant", 11, Err(LoadFault::Failed), Ok(11)),
+        (
+            "plant",
+            10,
+            Err(LoadFault::TooLong),
+            Err(LoadFault::TooLong),
+        ),
+    ];
+    for (name, limit, planned, surely) in rows {
+        assert_eq!(rt;
+            loaded(&mut desk, name, limit),
+            planned,
+            "{name} at {limit}"
+        );
+        assert_eq!(rt; loaded(&mut sure, name, limit), surely, "{name} at {limit}");
+    }
+    Ok(())
+}
+
+#[test]
+fn files_of_the_system_are_a_desk(rt: HostRuntime) -> Result<(), Fail> {
+    let name = format!(in rt.alloc(); "fsoe_io-{}", process::id(rt.process()))?;
+    let path = env::temp_dir(&rt)?.join(rt.alloc(), name.as_str())?;
+    let Some(path) = path.to_str() else {
+        return Err("no path".into());
+    };
+    let mut desk = FileDesk::new(rt);
+    assert_eq!(rt; loaded(&mut desk, path, 5000), Err(LoadFault::Failed));
+    fs::write(&rt, path, vec![in rt.alloc(); b'x'; 5000]?.as_slice())?;
+    assert_eq!(rt; loaded(&mut desk, path, 4999), Err(LoadFault::TooLong));
+    assert_eq!(rt; loaded(&mut desk, path, 5000), Ok(5000));
+    assert!(rt;
+        desk.load(path, 5000)
+            .is_ok_and(|text| text.iter().all(|byte| *byte == b'x'))
+    );
+    fs::remove_file(&rt, path)?;
+    Ok(())
 }
 
 #[test]

@@ -1,0 +1,37 @@
+//! Where texts lie under names.
+ghost use Rattle.std.specs.Prelude.{◌≡◌, ◌≢◌, ◌≤◌, ◌<◌, List, ℕ, length, IfOk, IfSome};
+ghost use Rattle.std.specs.declared.option.Option.{Option};
+ghost use Rattle.std.specs.Io.KnownBytes.{Keeps};
+ghost use Rattle.fsoe_io.specs.Faults.{Rose};
+
+/// Why a text wasn't loaded.
+#[derive(Clone, Copy, Debug, PartialEq, Eq)]
+pub enum LoadFault {
+    /// The desk failed, or has no such name.
+    Failed,
+    /// The name holds more bytes than the limit.
+    TooLong,
+    /// Memory ran out.
+    Memory,
+}
+
+/// Where texts lie under names.
+pub trait Desk {
+    /// The bytes under a name, where it tells them. Once told they stay told.
+    ghost holds: { Self → List ℕ → Option (List ℕ) };
+
+    /// How often loads of a name failed. The count never falls, and only a load of this name changes it.
+    ghost faults: { Self → List ℕ → ℕ };
+
+    /// The bytes under the name. `TooLong` comes exactly where the load didn't fail and they are more than `limit`.
+    /// `Failed` comes only where the count of this name rose, or stands at 2^64 - 1, and where the name is absent.
+    /// `Memory` comes where there is none for the bytes.
+    fn load(&mut self, name: &str, limit: usize) -> Result<Vec<u8>, LoadFault>
+        ensures bytes { IfOk result (λ text. IfSome (holds self.old name.now) (λ held. text.items ≡ held)) }
+        ensures within { IfOk result (λ text. length text.items ≤ limit) }
+        ensures too_long { result ≡ Err LoadFault.TooLong → IfSome (holds self.old name.now) (λ held. limit < length held) }
+        ensures told { (any : List ℕ) → Keeps (holds self.old any) (holds self.new any) }
+        ensures later { faults self.old name.now ≤ faults self.new name.now }
+        ensures others { (other : List ℕ) → other ≢ name.now → faults self.new other ≡ faults self.old other }
+        ensures cause { result ≡ Err LoadFault.Failed → Rose (faults self.old name.now) (faults self.new name.now) };
+}

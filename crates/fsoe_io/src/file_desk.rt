@@ -1,0 +1,88 @@
+//! The files of the system as a desk: the trusted edge.
+ghost use Rattle.std.specs.Prelude.{◌≡◌, ◌≢◌, ◌≤◌, ◌<◌, None, [], List, ℕ, length, IfOk, IfSome};
+ghost use Rattle.fsoe_io.specs.Desk.{failed_loads};
+ghost use Rattle.fsoe_io.specs.Faults.{Rose};
+
+use crate::desk::{Desk, LoadFault};
+use crate::failed_loads::FailedLoads;
+use crate::source::Source;
+use crate::streams::StdSource;
+use std::alloc::Global;
+use std::fs::File;
+use std::rt::Files;
+
+/// All bytes that a source has left, where they are at most `limit`.
+fn read_within<S: Source>(alloc: Global, source: &mut S, limit: usize) -> Result<Vec<u8>, LoadFault>
+    ensures bytes { IfOk result (λ text. IfSome (S.left source.old) (λ left. text.items ≡ left)) }
+    ensures within { IfOk result (λ text. length text.items ≤ limit) }
+    ensures too_long { result ≡ Err LoadFault.TooLong → IfSome (S.left source.old) (λ left. limit < length left) }
+    ensures cause { result ≡ Err LoadFault.Failed → Rose (S.faults source.old) (S.faults source.new) }
+{
+    let mut text = Vec::new(alloc);
+    let mut buffer = [0; 4096];
+    loop {
+        let count = match source.read(&mut buffer) {
+            Ok(count) => count,
+            Err(_) => return Err(LoadFault::Failed),
+        };
+        if count == 0 {
+            return Ok(text);
+        }
+        if count > limit - text.len() {
+            return Err(LoadFault::TooLong);
+        }
+        if text.extend_from_slice(&buffer[..count]).is_err() {
+            return Err(LoadFault::Memory);
+        }
+    }
+}
+
+/// The bytes of a file, where they are at most `limit`.
+fn read_file<R: Files + AllocGlobal>(rt: &R, name: &str, limit: usize) -> Result<Vec<u8>, LoadFault>
+    ensures within { IfOk result (λ text. length text.items ≤ limit) }
+{
+    match File::open(rt, name) {
+        Ok(file) => read_within(rt.alloc(), &mut StdSource::new(file), limit),
+        Err(_) => Err(LoadFault::Failed),
+    }
+}
+
+/// The files of the system as a desk, each under its path. It tells no content, and keeps the names of the loads that
+/// failed.
+#[derive(Drop)]
+pub struct FileDesk<R> {
+    rt: R,
+    failed: FailedLoads,
+}
+
+impl<R: Files + AllocGlobal> FileDesk<R> {
+    /// A desk of the files that the runtime opens, with no fault so far.
+    pub fn new(rt: R) -> FileDesk<R>
+        ensures { result.failed.names ≡ [] }
+    {
+        let alloc = rt.alloc();
+        FileDesk {
+            rt,
+            failed: FailedLoads::new(alloc),
+        }
+    }
+}
+
+impl<R: Files + AllocGlobal> Desk for FileDesk<R> {
+    ghost holds = { λ _ _. None };
+
+    ghost faults = { λ d name. failed_loads d.failed.names name };
+
+    fn load(&mut self, name: &str, limit: usize) -> Result<Vec<u8>, LoadFault> {
+        let Ok(copied) = self.failed.room_for(name) else {
+            return Err(LoadFault::Memory);
+        };
+        match read_file(&self.rt, name, limit) {
+            Err(LoadFault::Failed) => {
+                self.failed.note(copied);
+                Err(LoadFault::Failed)
+            }
+            answer => answer,
+        }
+    }
+}

@@ -1,0 +1,147 @@
+//! Desks in memory.
+ghost use Rattle.std.specs.Io.KnownBytes.{Keeps};
+ghost use Rattle.std.specs.Prelude.{◌≡◌, ◌≢◌, ◌≤◌, ◌<◌, ◌+◌, ◌⊎◌, Some, List, ℕ, [], ◌∷◌, ◌++◌, if◌then◌else◌, length, map, IsSome, IsNone, IfOk, IfSome, option_map, find, bytes_eq, string_bytes};
+ghost use Rattle.fsoe_io.specs.Desk.{named, text_under, failed_loads, has_failed};
+ghost use Rattle.fsoe_io.specs.Faults.{Rose};
+ghost use Rattle.fsoe_io.specs.Planned.{IsNextListed, with_one_more};
+
+use crate::desk::{Desk, LoadFault};
+use crate::failed_loads::FailedLoads;
+use crate::planned::PlannedCalls;
+use std::marker::Model;
+
+/// A copy of a text of at most `limit` bytes.
+fn copy_of(text: &Vec<u8>, limit: usize) -> Result<Vec<u8>, LoadFault>
+    ensures bytes { IfOk result (λ copied. copied.items ≡ text.now.items) }
+    ensures within { IfOk result (λ copied. length copied.items ≤ limit) }
+    ensures too_long { result ≡ Err LoadFault.TooLong → limit < length text.now.items }
+    ensures sure { result ≢ Err LoadFault.Failed }
+{
+    if text.len() > limit {
+        return Err(LoadFault::TooLong);
+    }
+    match text.clone() {
+        Ok(copied) => Ok(copied),
+        Err(_) => Err(LoadFault::Memory),
+    }
+}
+
+/// A desk in memory that never fails. It holds one text under every name, and is seen as that text.
+#[derive(Drop)]
+pub struct SureDesk {
+    text: Vec<u8>,
+}
+
+impl Model for SureDesk {
+    ghost use Rattle.std.specs.Prelude.{List, ℕ};
+
+    ghost Value = { List ℕ };
+
+    ghost view = { λ d. d.text.items };
+}
+
+impl SureDesk {
+    /// A desk that holds this text under every name.
+    pub fn new(text: Vec<u8>) -> SureDesk
+        ensures { result ≡ text.items }
+    {
+        SureDesk { text }
+    }
+}
+
+impl Desk for SureDesk {
+    ghost holds = { λ d _. Some d };
+
+    ghost faults = { λ _ _. 0 };
+
+    fn load(&mut self, name: &str, limit: usize) -> Result<Vec<u8>, LoadFault> {
+        copy_of(&self.text, limit)
+    }
+}
+
+/// The first file of a name.
+fn find_file<'a>(files: &'a [(String, Vec<u8>)], name: &str) -> Option<&'a (String, Vec<u8>)>
+    ensures { option_map (λ file. file.now) result ≡ find (λ file. bytes_eq (string_bytes file.0) name.now) files.now }
+{
+    files.iter().find(|file| file.0.as_str() == name)
+}
+
+/// The first text under a name.
+fn find_text<'a>(files: &'a [(String, Vec<u8>)], name: &str) -> Option<&'a Vec<u8>>
+    ensures { option_map (λ text. text.now.items) result ≡ text_under (map named files.now) name.now }
+{
+    match find_file(files, name) {
+        Some(file) => Some(&file.1),
+        None => None,
+    }
+}
+
+/// A desk in memory whose listed calls fail, and the loads of names that it doesn't have. It keeps the names of the
+/// loads that failed.
+#[derive(Drop)]
+pub struct MemDesk {
+    files: Vec<(String, Vec<u8>)>,
+    calls: PlannedCalls,
+    failed: FailedLoads,
+}
+
+impl Model for MemDesk {
+    ghost use Rattle.std.specs.Prelude.{map};
+    ghost use Rattle.fsoe_io.specs.Desk.{Shelf, named};
+
+    ghost Value = { Shelf };
+
+    ghost view = { λ d. record { files = map named d.files.items; planned = d.calls; failed = d.failed.names } };
+}
+
+impl MemDesk {
+    /// A desk of these texts under their names, of which the first under a name counts. It fails at the calls that
+    /// `fails` lists by their number from 1.
+    pub fn new(files: Vec<(String, Vec<u8>)>, fails: Vec<u64>) -> MemDesk
+        ensures files { result.files ≡ map named files.items }
+        ensures fails { result.planned.fails ≡ fails.items }
+        ensures calls { result.planned.calls ≡ 0 }
+        ensures failed { result.failed ≡ [] }
+    {
+        let alloc = *files.allocator();
+        MemDesk {
+            files,
+            calls: PlannedCalls::new(fails),
+            failed: FailedLoads::new(alloc),
+        }
+    }
+}
+
+impl Desk for MemDesk {
+    ghost holds = { λ d name. text_under d.files name };
+
+    ghost faults = { λ d name. failed_loads d.failed name };
+
+    fn load(&mut self, name: &str, limit: usize) -> Result<Vec<u8>, LoadFault>
+        ensures bytes { IfOk result (λ text. IfSome (text_under self.old.files name.now) (λ held. text.items ≡ held)) }
+        ensures within { IfOk result (λ text. length text.items ≤ limit) }
+        ensures too_long { result ≡ Err LoadFault.TooLong → IfSome (text_under self.old.files name.now) (λ held. limit < length held) }
+        ensures told { (any : List ℕ) → Keeps (text_under self.old.files any) (text_under self.new.files any) }
+        ensures later { failed_loads self.old.failed name.now ≤ failed_loads self.new.failed name.now }
+        ensures others { (other : List ℕ) → other ≢ name.now → failed_loads self.new.failed other ≡ failed_loads self.old.failed other }
+        ensures cause { result ≡ Err LoadFault.Failed → Rose (failed_loads self.old.failed name.now) (failed_loads self.new.failed name.now) }
+        // It fails exactly at the listed calls and where the name is absent, unless memory runs out.
+        ensures fails { IsSome (text_under self.old.files name.now) → result ≢ Err LoadFault.Memory → IsNextListed self.old.planned (has_failed result) }
+        ensures absent { IsNone (text_under self.old.files name.now) → (result ≡ Err LoadFault.Failed) ⊎ (result ≡ Err LoadFault.Memory) }
+        ensures counts { self.new.planned ≡ with_one_more self.old.planned }
+        ensures noted { self.new.failed ≡ (if has_failed result then self.old.failed ++ name.now ∷ [] else self.old.failed) }
+        ensures files { self.new.files ≡ self.old.files }
+    {
+        let fails = self.calls.next_fails();
+        let Ok(copied) = self.failed.room_for(name) else {
+            return Err(LoadFault::Memory);
+        };
+        match find_text(&self.files, name) {
+            Some(text) if !fails => copy_of(text, limit),
+            _ => {
+                self.failed.note(copied);
+                Err(LoadFault::Failed)
+            }
+        }
+    }
+}
