@@ -18,7 +18,7 @@ use Rattle.end_model.specs.Step.{takes, begun, step, IsRun}
 use Rattle.end_model.proofs.DeedKinds.{Kind, Drops, Turns, Rests, Ages, Resets, Again, Rejoins, Starts, Takes, kind}
 use Rattle.exchange_model.specs.Ends.{same_end, of_end}
 use Rattle.exchange_model.specs.World.{setup_of, deed_in, deeds, IsNextEntry, IsWorld}
-use Rattle.exchange_model.specs.Items.{put_after, last_put, hold_after, is_held, load_put, is_data_frame, load_of, Item, item_of, items_of, items}
+use Rattle.exchange_model.specs.Items.{put_after, last_put, is_held, load_put, is_data_frame, load_of, Item, item_of, items_of, items}
 use Rattle.exchange_model.specs.Fair.{is_data, frame_with, frame_if}
 use Rattle.exchange_model.proofs.Projection.{same, next_deed}
 use Rattle.exchange_model.proofs.Shown.{deeds_are_run}
@@ -51,17 +51,9 @@ put-is : (s : Setup) (which : End) (w : List Entry) → offer s (deeds which w) 
 put-is s which [] = refl
 put-is s which (x ∷ w) = put-head s which x w (same_end which x.end) (put-is s which w)
 
-held-next : (m : Move) (a b : Bool) → a ≡ b → held_after m a ≡ hold_after m b
-held-next (move.Put load) a b h = h
-held-next (move.Deliver bytes) a b h = h
-held-next move.Tick a b h = h
-held-next (move.Hold failsafe) a b h = refl
-held-next (move.Nonce id) a b h = h
-held-next move.Local a b h = h
-
 held-head : (which : End) (x : Entry) (w : List Entry) (mine : Bool) → held (deeds which w) ≡ is_held (of_end which w)
     → held (if mine then deed_in x ∷ deeds which w else deeds which w) ≡ is_held (if mine then x ∷ of_end which w else of_end which w)
-held-head which x w true h = held-next x.what _ _ h
+held-head which x w true h = ap (held_after x.what) h
 held-head which x w false h = h
 
 held-is : (which : End) (w : List Entry) → held (deeds which w) ≡ is_held (of_end which w)

@@ -5,7 +5,8 @@ use Rattle.std.proofs.lemmas.Bool.Decides.{nat_tests}
 use Rattle.std.proofs.Math.Seq.{drop-cons}
 use Rattle.std.proofs.Common.{length-drop, append-nil}
 use Rattle.fsoe_base.specs.Lengths.{is_length, group_count, frame_len}
-use Rattle.fsoe_frame.specs.Layout.{low_high, groups, with_crcs, layout}
+use Rattle.fsoe_base.specs.Bytes.{low_high}
+use Rattle.fsoe_frame.specs.Layout.{groups, with_crcs, layout}
 use Rattle.fsoe_frame.specs.Parts.{Frame, AreBytes, bytes_of, pairs, one_byte, add_group, frame_of}
 
 -- what a valid length other than 1 is

@@ -1,9 +1,6 @@
 -- How a frame is laid out: the command byte, each group of the load followed by its CRC, and the connection id.
-use Rattle.std.specs.Prelude.{ℕ, ◌/◌, ◌%◌, List, [], ◌∷◌, ◌++◌}
-
--- a number of 16 bits in two bytes, low byte first
-abbrev pub low_high : ℕ → List ℕ
-low_high n = n % 256 ∷ n / 256 ∷ []
+use Rattle.std.specs.Prelude.{ℕ, List, [], ◌∷◌, ◌++◌}
+use Rattle.fsoe_base.specs.Bytes.{low_high}
 
 -- the groups of a load: itself where it has one byte, else its pairs of bytes
 abbrev pub groups : List ℕ → List (List ℕ)

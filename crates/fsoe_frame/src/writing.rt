@@ -3,7 +3,8 @@
 ghost use Rattle.std.specs.Prelude.{◌≡◌, ◌≤◌, ◌+◌, ◌++◌, length, IsTrue};
 ghost use Rattle.fsoe_base.specs.Command.{command_byte};
 ghost use Rattle.fsoe_base.specs.Lengths.{is_length, group_count};
-ghost use Rattle.fsoe_frame.specs.Layout.{layout, low_high};
+ghost use Rattle.fsoe_base.specs.Bytes.{low_high};
+ghost use Rattle.fsoe_frame.specs.Layout.{layout};
 
 use fsoe_base::{Command, FrameBuf};
 

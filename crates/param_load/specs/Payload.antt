@@ -1,6 +1,7 @@
 -- The payloads of a handshake, and how a piece of one fills the safe data of a frame.
-use Rattle.std.specs.Prelude.{ℕ, ◌+◌, ◌-◌, ◌*◌, ◌/◌, ◌%◌, List, [], ◌∷◌, ◌++◌, length, slice_index, replicate, take, drop}
+use Rattle.std.specs.Prelude.{ℕ, ◌+◌, ◌-◌, ◌*◌, List, ◌++◌, length, slice_index, replicate, take, drop}
 use Rattle.std.specs.Int.{w16, w32, to_le_bytes}
+use Rattle.fsoe_base.specs.Bytes.{low_high}
 use Rattle.param_load.specs.declared.profile.Profile.{Profile}
 use Rattle.param_load.specs.declared.profile.Profile.TheVariants as profile
 
@@ -9,22 +10,18 @@ abbrev pub session_payload : ℕ → Profile → List ℕ
 session_payload id profile.One = to_le_bytes w16 id
 session_payload id (profile.Two word) = to_le_bytes w32 id
 
--- a number of 16 bits in two bytes, low byte first
-abbrev pub two_bytes : ℕ → List ℕ
-two_bytes n = n % 256 ∷ n / 256 ∷ []
-
 -- a connection id and a slave address
 abbrev pub connection_payload : ℕ → ℕ → List ℕ
-connection_payload conn address = two_bytes conn ++ two_bytes address
+connection_payload conn address = low_high conn ++ low_high address
 
 -- the communication parameters with their length in front
 abbrev pub communication : ℕ → Profile → List ℕ
-communication watchdog profile.One = two_bytes 2 ++ two_bytes watchdog
-communication watchdog (profile.Two word) = two_bytes 4 ++ two_bytes watchdog ++ two_bytes word
+communication watchdog profile.One = low_high 2 ++ low_high watchdog
+communication watchdog (profile.Two word) = low_high 4 ++ low_high watchdog ++ low_high word
 
 -- the communication parameters, then the application parameters, with their number in front
 abbrev pub parameter_payload : ℕ → Profile → List ℕ → List ℕ
-parameter_payload watchdog profile app = communication watchdog profile ++ two_bytes (length app) ++ app
+parameter_payload watchdog profile app = communication watchdog profile ++ low_high (length app) ++ app
 
 -- the piece of a payload that begins at a place
 abbrev pub piece_from : List ℕ → ℕ → ℕ → List ℕ

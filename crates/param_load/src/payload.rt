@@ -1,7 +1,8 @@
 //! What an end sends piece by piece in a handshake.
 ghost use Rattle.std.specs.Prelude.{◌≡◌, ◌≤◌, ◌+◌, ◌++◌, [], length, IsTrue};
+ghost use Rattle.fsoe_base.specs.Bytes.{low_high};
 ghost use Rattle.param_load.specs.Profile.{allows_id};
-ghost use Rattle.param_load.specs.Payload.{session_payload, two_bytes, connection_payload, parameter_payload, piece_from, padded};
+ghost use Rattle.param_load.specs.Payload.{session_payload, connection_payload, parameter_payload, piece_from, padded};
 
 use crate::app_bytes::AppBytes;
 use crate::profile::Profile;
@@ -43,7 +44,7 @@ impl Payload {
     /// Appends a number in 2 bytes, low byte first, for which there is room.
     fn add_number(&mut self, n: u16)
         requires { length self.old + 2 ≤ 520 }
-        ensures { self.new ≡ self.old ++ two_bytes n }
+        ensures { self.new ≡ self.old ++ low_high n }
     {
         let [low, high] = n.to_le_bytes();
         self.add(&[low, high]);

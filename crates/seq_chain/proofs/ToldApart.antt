@@ -2,7 +2,8 @@
 use Rattle.std.proofs.Common.{◌≡◌, ◌≢◌, ℕ, zero, suc, ◌/◌, ◌%◌, ◌<◌, ◌≤◌, List, [], ◌∷◌, ◌++◌, length, refl, sym, ap, ◌∙◌, arith, append_assoc}
 use Rattle.fsoe_crc.specs.Remainder.{rem}
 use Rattle.fsoe_crc.proofs.Adjacent.{rem-adjacent, rem-one}
-use Rattle.fsoe_frame.specs.Layout.{low_high, groups}
+use Rattle.fsoe_base.specs.Bytes.{low_high}
+use Rattle.fsoe_frame.specs.Layout.{groups}
 use Rattle.fsoe_frame.specs.Parts.{AreBytes}
 use Rattle.seq_chain.specs.Cover.{common, place, covered, cover, crcs_from, first_of, crc_0}
 use Rattle.seq_chain.specs.Differences.{DifferAt}

@@ -1,7 +1,8 @@
 -- What the CRCs of a frame cover. The parts and their order are this profile's own.
 use Rattle.std.specs.Prelude.{ℕ, zero, suc, List, [], ◌∷◌, ◌++◌}
 use Rattle.fsoe_crc.specs.Remainder.{rem}
-use Rattle.fsoe_frame.specs.Layout.{low_high, groups}
+use Rattle.fsoe_base.specs.Bytes.{low_high}
+use Rattle.fsoe_frame.specs.Layout.{groups}
 
 -- what all groups of a frame cover first: the CRC_0 that the sender took last, the connection id, the number and the command byte
 abbrev pub common : ℕ → ℕ → ℕ → ℕ → List ℕ

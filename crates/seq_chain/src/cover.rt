@@ -3,7 +3,7 @@
 ghost use Rattle.std.specs.Prelude.{◌≡◌, ◌<◌, ◌++◌, ℕ, List, length, IsTrue};
 ghost use Rattle.fsoe_base.specs.Lengths.{is_length, group_count};
 ghost use Rattle.fsoe_crc.specs.Remainder.{rem};
-ghost use Rattle.fsoe_frame.specs.Layout.{low_high};
+ghost use Rattle.fsoe_base.specs.Bytes.{low_high};
 ghost use Rattle.seq_chain.specs.Cover.{common, place, covered, crcs, crc_0};
 
 use arrayvec::ArrayVec;
