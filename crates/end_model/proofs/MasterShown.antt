@@ -1,6 +1,5 @@
 -- The outputs of a master are those that looking back gives.
-use Rattle.std.proofs.Common.{◌≡◌, ◌≢◌, ℕ, suc, ◌+◌, ◌<◌, List, ◌∷◌, Bool, true, false, nat_lt, if◌then◌else◌, refl, sym, ◌∙◌, arith}
-use Rattle.std.proofs.lemmas.Bool.Decides.{nat_tests}
+use Rattle.std.proofs.Common.{◌≡◌, ◌≢◌, ℕ, suc, ◌+◌, ◌<◌, List, ◌∷◌, Bool, true, false, nat_lt, if◌then◌else◌, refl, sym, subst, ◌∙◌, arith}
 use Rattle.fsoe_base.specs.declared.command.State.{State}
 use Rattle.fsoe_base.specs.declared.command.State.TheVariants as state
 use Rattle.fsoe_base.specs.declared.command.Command.{Command}
@@ -10,13 +9,14 @@ use Rattle.param_load.specs.declared.entry.Move.{Move}
 use Rattle.param_load.specs.declared.entry.Move.TheVariants as move
 use Rattle.param_load.specs.declared.master_settings.MasterSettings.{MasterSettings}
 use Rattle.end_model.specs.Setup.{Setup, OfMaster}
-use Rattle.end_model.specs.Phases.{phase_of_frame}
+use Rattle.end_model.specs.Phases.{phase_of, phase_of_frame}
 use Rattle.end_model.specs.Deed.{Deed}
 use Rattle.end_model.specs.Readiness.{state_of, ticks}
-use Rattle.end_model.specs.Step.{takes, begun}
+use Rattle.end_model.specs.Step.{takes, with_data}
 use Rattle.end_model.specs.Outputs.{zeros, outputs, out_after}
-use Rattle.end_model.proofs.DeedKinds.{Kind, Drops, Turns, Rests, Ages, Resets, Again, Rejoins, Starts, Takes, answer_to}
-use Rattle.end_model.proofs.Heads.{IsInSession, master_frame, data_phase}
+use Rattle.end_model.specs.Reactions.{IsInSession, IsNextPhase, AfterSession, AfterConnection, received, Taking, MasterStarts, MasterGoesOn, MasterNextPhase, MasterFirstData, MasterMoreData, Reaction, Puts, Holds, SetsNonce, Rests, Ages, Expires, SendsAgain, ResetsItself, DropsLength, DropsRepeat, DropsInReset, DropsReset, Refuses, PeerResets, Answers}
+use Rattle.end_model.proofs.Heads.{data_phase}
+use Rattle.end_model.proofs.SoundRuns.{handshake-data}
 
 -- what is shown in a state, where the watchdog hasn't expired
 abbrev pub shown_in : Setup → State → Bool → List ℕ → List ℕ
@@ -44,7 +44,8 @@ pub record MasterShows (ms : MasterSettings) (e : List Deed) : Type 0 where
 abbrev deed : Move → Did → List ℕ → Deed
 deed m d f = record { what = m; did = d; sent = f }
 
-master-taken : (ms : MasterSettings) (e : List Deed) (bytes load : List ℕ) (c : Command) (f : List ℕ) → IsInSession f → (c ≡ command.ProcessData → phase_of_frame f ≡ state.Data) → MasterShows ms (deed (move.Deliver bytes) (takes c load) f ∷ e)
+-- a master takes a frame, and is in Data then where it took ProcessData
+master-taken : (ms : MasterSettings) (e : List Deed) (bytes load : List ℕ) (c : Command) (f : List ℕ) → IsInSession f → (phase_of c ≡ state.Data → phase_of_frame f ≡ state.Data) → MasterShows ms (deed (move.Deliver bytes) (takes c load) f ∷ e)
 master-taken ms e bytes load command.Reset f h k = let a = h.in_session in let b = h.sent in let p : 0 < ms.watchdog = ms.some_watchdog in record { outs = λ n. simp (a, b) (sym (shown-zeros (OfMaster ms) (phase_of_frame f) _)); young = λ k. simp b p; none = λ k. simp a }
 master-taken ms e bytes load command.Session f h k = let a = h.in_session in let b = h.sent in let p : 0 < ms.watchdog = ms.some_watchdog in record { outs = λ n. simp (a, b) (sym (shown-zeros (OfMaster ms) (phase_of_frame f) _)); young = λ k. simp b p; none = λ k. simp a }
 master-taken ms e bytes load command.Connection f h k = let a = h.in_session in let b = h.sent in let p : 0 < ms.watchdog = ms.some_watchdog in record { outs = λ n. simp (a, b) (sym (shown-zeros (OfMaster ms) (phase_of_frame f) _)); young = λ k. simp b p; none = λ k. simp a }
@@ -61,31 +62,35 @@ master-taken ms e bytes load command.ProcessData f h k =
       none = λ k. absurd (k (simp (a, b) q));
     }
 
-data-answer : (ms : MasterSettings) (e : List Deed) (bytes load : List ℕ) (c : Command) → c ≡ command.ProcessData → phase_of_frame (answer_to (OfMaster ms) e bytes c load) ≡ state.Data
-data-answer ms e bytes load command.Reset h = cc
-data-answer ms e bytes load command.Session h = cc
-data-answer ms e bytes load command.Connection h = cc
-data-answer ms e bytes load command.Parameter h = cc
-data-answer ms e bytes load command.FailSafeData h = cc
-data-answer ms e bytes load command.ProcessData h = data_phase (OfMaster ms) (begun (move.Deliver bytes) (takes command.ProcessData load) ∷ e)
+-- data are answered by data
+data-answer : (ms : MasterSettings) (e : List Deed) (f : List ℕ) → f ≡ with_data (OfMaster ms) e → phase_of_frame f ≡ state.Data
+data-answer ms e f h = subst (λ (f : List ℕ). phase_of_frame f ≡ state.Data) (sym h) (data_phase (OfMaster ms) e)
 
-pub master-shows : (ms : MasterSettings) (e : List Deed) (m : Move) (d : Did) (f : List ℕ) → MasterShows ms e → Kind (OfMaster ms) e m d f → MasterShows ms (deed m d f ∷ e)
-master-shows ms e m d f h (Drops bytes passed because) = record { outs = h.outs; young = h.young; none = h.none }
-master-shows ms e m d f h (Turns (move.Put load) s) = record { outs = h.outs; young = h.young; none = h.none }
-master-shows ms e m d f h (Turns (move.Hold failsafe) s) = record { outs = h.outs; young = h.young; none = h.none }
-master-shows ms e m d f h (Turns (move.Nonce id) s) = record { outs = h.outs; young = h.young; none = h.none }
-master-shows ms e m d f h (Turns (move.Deliver bytes) s) = absurd s
-master-shows ms e m d f h (Turns move.Tick s) = absurd s
-master-shows ms e m d f h (Turns move.Local s) = absurd s
-master-shows ms e m d f h (Rests s now) = absurd s
-master-shows ms e m d f h (Ages r) =
-    record {
-      outs = λ n. let q : suc n + ticks (OfMaster ms) e ≡ n + suc (ticks (OfMaster ms) e) = omega arith in rw (← q) (h.outs (suc n));
-      young = λ k. let t : ticks (OfMaster ms) e < ms.watchdog = h.young k in grind (arith, nat_tests);
-      none = h.none;
-    }
-master-shows ms e m d f h (Resets _ passed because) = record { outs = λ n. refl; young = λ k. cc; none = λ k. refl }
-master-shows ms e m d f h (Again s now) = record { outs = λ n. h.outs (suc n) ∙ simp now; young = λ k. cc; none = λ k. refl }
-master-shows ms e m d f h (Rejoins bytes load s now) = absurd s
-master-shows ms e m d f h (Starts bytes load s now) = master-taken ms e bytes load command.Reset (answer_to (OfMaster ms) e bytes command.Reset load) (master_frame ms (begun (move.Deliver bytes) (takes command.Reset load) ∷ e) command.Reset) (data-answer ms e bytes load command.Reset)
-master-shows ms e m d f h (Takes bytes load c n a) = master-taken ms e bytes load c (answer_to (OfMaster ms) e bytes c load) (master_frame ms (begun (move.Deliver bytes) (takes c load) ∷ e) c) (data-answer ms e bytes load c)
+no-data-yet : (c next : Command) → IsNextPhase c next → phase_of c ≢ state.Data
+no-data-yet c next AfterSession = λ k. cc
+no-data-yet c next AfterConnection = λ k. cc
+
+master-took : (ms : MasterSettings) (e : List Deed) (bytes load : List ℕ) (c : Command) (f : List ℕ) → Taking e bytes load (OfMaster ms) c f → MasterShows ms (deed (move.Deliver bytes) (takes c load) f ∷ e)
+master-took ms e bytes load c f (MasterStarts _ _ now none frame zero made sent after) = master-taken ms e bytes load command.Reset f sent (λ k. cc)
+master-took ms e bytes load c f (MasterGoesOn _ _ _ is now part x) = master-taken ms e bytes load c f x.in_session (λ k. absurd (handshake-data c is k))
+master-took ms e bytes load c f (MasterNextPhase _ _ next _ is now whole x) = master-taken ms e bytes load c f x.in_session (λ k. absurd (no-data-yet c next is k))
+master-took ms e bytes load c f (MasterFirstData _ _ now whole x) = master-taken ms e bytes load command.Parameter f x.in_session (λ k. cc)
+master-took ms e bytes load c f (MasterMoreData _ _ _ is now x) = master-taken ms e bytes load c f x.in_session (λ k. data-answer ms (received bytes c load e) f x.is_made)
+
+pub master-shows : (ms : MasterSettings) (e : List Deed) (m : Move) (d : Did) (f : List ℕ) → MasterShows ms e → Reaction (OfMaster ms) e m d f → MasterShows ms (deed m d f ∷ e)
+master-shows ms e m d f h (Puts load long) = record { outs = h.outs; young = h.young; none = h.none }
+master-shows ms e m d f h (Holds failsafe) = record { outs = h.outs; young = h.young; none = h.none }
+master-shows ms e m d f h (SetsNonce id allowed) = record { outs = h.outs; young = h.young; none = h.none }
+master-shows ms e m d f h (Rests slave now) = absurd slave
+master-shows ms e m d f h (Ages counts y) =
+    record { outs = λ n. let q : suc n + ticks (OfMaster ms) e ≡ n + suc (ticks (OfMaster ms) e) = omega arith in rw (← q) (h.outs (suc n)); young = λ k. y; none = h.none }
+master-shows ms e m d f h (Expires now old) = record { outs = λ n. refl; young = λ k. cc; none = λ k. refl }
+master-shows ms e m d f h (SendsAgain master now old) = record { outs = λ n. h.outs (suc n) ∙ simp now; young = λ k. cc; none = λ k. refl }
+master-shows ms e m d f h ResetsItself = record { outs = λ n. refl; young = λ k. cc; none = λ k. refl }
+master-shows ms e m d f h (DropsLength bytes long) = record { outs = h.outs; young = h.young; none = h.none }
+master-shows ms e m d f h (DropsRepeat bytes long again now) = record { outs = h.outs; young = h.young; none = h.none }
+master-shows ms e m d f h (DropsInReset bytes passed found now fails test) = record { outs = h.outs; young = h.young; none = h.none }
+master-shows ms e m d f h (DropsReset bytes load master now frame other) = record { outs = h.outs; young = h.young; none = h.none }
+master-shows ms e m d f h (Refuses bytes passed found now fails test) = record { outs = λ n. refl; young = λ k. cc; none = λ k. refl }
+master-shows ms e m d f h (PeerResets bytes load now frame) = record { outs = λ n. refl; young = λ k. cc; none = λ k. refl }
+master-shows ms e m d f h (Answers bytes load c answer taken) = master-took ms e bytes load c f taken

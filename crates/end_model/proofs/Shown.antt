@@ -1,5 +1,5 @@
 -- The outputs of an end are those that looking back gives, and zeros outside Data.
-use Rattle.std.proofs.Common.{◌≡◌, ◌≢◌, ℕ, ◌+◌, ◌<◌, List, [], ◌∷◌, Bool, true, false, nat_lt, refl, sym, subst, ◌∙◌, arith}
+use Rattle.std.proofs.Common.{◌≡◌, ◌≢◌, ℕ, ◌+◌, ◌<◌, List, [], ◌∷◌, Bool, true, false, nat_lt, refl, sym, ◌∙◌, arith}
 use Rattle.std.proofs.lemmas.Bool.{lt-ltb}
 use Rattle.fsoe_base.specs.declared.command.State.{State}
 use Rattle.fsoe_base.specs.declared.command.State.TheVariants as state
@@ -8,23 +8,19 @@ use Rattle.param_load.specs.declared.slave_settings.SlaveSettings.{SlaveSettings
 use Rattle.end_model.specs.Setup.{Setup, OfMaster, OfSlave}
 use Rattle.end_model.specs.Deed.{Deed}
 use Rattle.end_model.specs.Readiness.{state_of, ticks, slave_limit}
-use Rattle.end_model.specs.Step.{step, IsRun}
+use Rattle.end_model.specs.Step.{IsRun}
 use Rattle.end_model.specs.Outputs.{zeros, outputs, out}
-use Rattle.end_model.proofs.DeedKinds.{kind}
+use Rattle.end_model.proofs.SoundRuns.{reacted}
 use Rattle.end_model.proofs.MasterShown.{MasterShows, shown_in, master-shows}
 use Rattle.end_model.proofs.SlaveShown.{SlaveShows, none_tested, parameters, slave-shows}
 
 master-run : (ms : MasterSettings) (e : List Deed) → IsRun (OfMaster ms) e → MasterShows ms e
 master-run ms [] r = record { outs = λ n. refl; young = λ k. cc; none = λ k. refl }
-master-run ms (x ∷ e) r =
-    let d : Deed = step (OfMaster ms) e x.what in
-    subst (λ (x : Deed). MasterShows ms (x ∷ e)) (sym r.0.stepped) (master-shows ms e d.what d.did d.sent (master-run ms e r.1) (kind (OfMaster ms) e x.what))
+master-run ms (x ∷ e) r = master-shows ms e x.what x.did x.sent (master-run ms e r.1) (reacted (OfMaster ms) x e r)
 
 pub slave-run : (ss : SlaveSettings) (e : List Deed) → IsRun (OfSlave ss) e → SlaveShows ss e
-slave-run ss [] r = record { outs = λ n. refl; young = λ k. cc; none = λ k. refl; tested = none_tested ss; is_whole = λ k. cc }
-slave-run ss (x ∷ e) r =
-    let d : Deed = step (OfSlave ss) e x.what in
-    subst (λ (x : Deed). SlaveShows ss (x ∷ e)) (sym r.0.stepped) (slave-shows ss e d.what d.did d.sent (slave-run ss e r.1) (kind (OfSlave ss) e x.what))
+slave-run ss [] r = record { outs = λ n. refl; young = λ k. cc; none = λ k. refl; tested = none_tested ss }
+slave-run ss (x ∷ e) r = slave-shows ss e x.what x.did x.sent (slave-run ss e r.1) (reacted (OfSlave ss) x e r)
 
 -- what is shown while the watchdog hasn't expired
 shown : (s : Setup) (now : State) (b : Bool) (load : List ℕ) → (now ≡ state.Data → b ≡ true) → (now ≢ state.Data → load ≡ zeros s) → load ≡ shown_in s now b load

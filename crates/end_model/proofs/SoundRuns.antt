@@ -24,23 +24,28 @@ use Rattle.end_model.proofs.Reactions.{Sound, next_reaction}
 abbrev deed : Move → Did → List ℕ → Deed
 deed m d f = record { what = m; did = d; sent = f }
 
-handshake-on : (c : Command) → IsHandshake c → phase_of c ≢ state.Reset
+-- the phases of the frames of a handshake and of data
+pub handshake-on : (c : Command) → IsHandshake c → phase_of c ≢ state.Reset
 handshake-on c OfSession = λ k. cc
 handshake-on c OfConnection = λ k. cc
 handshake-on c OfParameter = λ k. cc
 
-next-on : (before c : Command) → IsNextPhase before c → phase_of c ≢ state.Reset
+pub next-on : (before c : Command) → IsNextPhase before c → phase_of c ≢ state.Reset
 next-on before c AfterSession = λ k. cc
 next-on before c AfterConnection = λ k. cc
 
-handshake-data : (c : Command) → IsHandshake c → phase_of c ≢ state.Data
+pub handshake-data : (c : Command) → IsHandshake c → phase_of c ≢ state.Data
 handshake-data c OfSession = λ k. cc
 handshake-data c OfConnection = λ k. cc
 handshake-data c OfParameter = λ k. cc
 
-next-data : (before c : Command) → IsNextPhase before c → phase_of c ≢ state.Data
+pub next-data : (before c : Command) → IsNextPhase before c → phase_of c ≢ state.Data
 next-data before c AfterSession = λ k. cc
 next-data before c AfterConnection = λ k. cc
+
+pub data-on : (c : Command) → IsData c → phase_of c ≢ state.Reset
+data-on c OfProcessData = λ k. cc
+data-on c OfFailSafeData = λ k. cc
 
 -- a state that isn't this one
 other : (s : Setup) (e : List Deed) (p q : State) → state_of s e ≡ p → p ≢ q → state_of s e ≢ q
