@@ -2,7 +2,7 @@
 use Rattle.std.proofs.Common.{refl}
 use Rattle.hex.proofs.OnLiterals.{hex_on_literals}
 use Rattle.fsoe_crc.specs.Remainder.{computing}
-use Rattle.end_model.specs.WorkedRuns.{FirstTick, SlaveHandshake, SlaveExpires, SlaveGoesOn, SlaveRefusesOldFrame, SlaveResetItself, WrongAddress, WrongWatchdog, WrongParameters, LongSessionIds, OtherProfile, QuietInReset, QuietAtItsLimit, MasterHandshake, MasterStepsNumber, MasterIsReset, SlaveTestsInOrder, MasterTestsInOrder}
+use Rattle.end_model.specs.WorkedRuns.{FirstTick, SlaveHandshake, SlaveExpires, SlaveGoesOn, SlaveRefusesOldFrame, SlaveResetItself, WrongAddress, WrongWatchdog, WrongParameters, LongSessionIds, OtherProfile, QuietInReset, QuietAtItsLimit, MasterHandshake, MasterStepsNumber, MasterIsReset, SlaveTestsInOrder, MasterTestsInOrder, IdSetLater, OutlastsReset, SlaveExpiresInParameter, SlaveExpiresInSession, SlaveTestsConnection, MasterContents}
 
 pub first_tick : FirstTick
 unfolding FirstTick computing hex_on_literals
@@ -75,3 +75,27 @@ slave_tests_in_order = refl
 pub master_tests_in_order : MasterTestsInOrder
 unfolding MasterTestsInOrder computing hex_on_literals
 master_tests_in_order = refl
+
+pub id_set_later : IdSetLater
+unfolding IdSetLater computing hex_on_literals
+id_set_later = refl
+
+pub outlasts_reset : OutlastsReset
+unfolding OutlastsReset computing hex_on_literals
+outlasts_reset = refl
+
+pub slave_expires_in_parameter : SlaveExpiresInParameter
+unfolding SlaveExpiresInParameter computing hex_on_literals
+slave_expires_in_parameter = refl
+
+pub slave_expires_in_session : SlaveExpiresInSession
+unfolding SlaveExpiresInSession computing hex_on_literals
+slave_expires_in_session = refl
+
+pub slave_tests_connection : SlaveTestsConnection
+unfolding SlaveTestsConnection computing hex_on_literals
+slave_tests_connection = refl
+
+pub master_contents : MasterContents
+unfolding MasterContents computing hex_on_literals
+master_contents = refl

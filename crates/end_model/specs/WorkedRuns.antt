@@ -1,19 +1,24 @@
 -- Worked runs of one end: the events of a run, and each line that a report writes of them.
-use Rattle.std.specs.Prelude.{◌≡◌, ℕ, refl, List, [], ◌∷◌, ◌++◌, codes, take, drop, map, replicate, reverse, Bool, true, Result, Ok, Err}
+use Rattle.std.specs.Prelude.{◌≡◌, ℕ, refl, List, [], ◌∷◌, ◌++◌, codes, take, drop, map, replicate, reverse, Bool, true, Option, Some, None, Result, Ok, Err}
 use Rattle.std.proofs.lemmas.Bool.{ltb-true}
 use Rattle.hex.specs.Hex.{decode_of}
 use Rattle.hex.specs.declared.error.FromHexError.{FromHexError}
+use Rattle.fsoe_base.specs.declared.command.Code.{Code}
+use Rattle.fsoe_base.specs.declared.command.Command.{Command}
+use Rattle.fsoe_base.specs.declared.command.Command.TheVariants as command
 use Rattle.fsoe_base.specs.declared.lengths.Lengths.{Lengths}
 use Rattle.fsoe_base.specs.Command.{code}
+use Rattle.fsoe_frame.specs.Parts.{frame_of}
 use Rattle.param_load.specs.declared.app_rule.AppRule.TheVariants as rule
 use Rattle.param_load.specs.declared.entry.Entry.{Entry}
 use Rattle.param_load.specs.declared.entry.Move.{Move}
 use Rattle.param_load.specs.declared.entry.Move.TheVariants as move
 use Rattle.param_load.specs.declared.profile.Profile.TheVariants as profile
+use Rattle.param_load.specs.declared.master_settings.MasterSettings.{MasterSettings}
 use Rattle.param_load.specs.declared.slave_settings.SlaveSettings.{SlaveSettings}
 use Rattle.entry_text.specs.EntryText.{entry_text}
-use Rattle.end_model.specs.Setup.{Setup, OfMaster, OfSlave}
-use Rattle.end_model.specs.Verdict.{Verdict, WrongLength, Refused, verdict}
+use Rattle.end_model.specs.Setup.{Setup, OfMaster, OfSlave, receives}
+use Rattle.end_model.specs.Verdict.{Verdict, WrongLength, Refused, contents, verdict}
 use Rattle.end_model.specs.Step.{run}
 use Rattle.end_model.specs.Entries.{entries}
 
@@ -22,8 +27,8 @@ abbrev pub two_and_two : Lengths
 two_and_two = record { master = 2; slave = 2; valid_master = refl; valid_slave = refl }
 
 -- connection 1, slave address 2, watchdog 100, session id 1
-abbrev pub a_master : Setup
-a_master = OfMaster (record {
+abbrev pub master_values : MasterSettings
+master_values = record {
   lengths = two_and_two;
   conn = 1;
   address = 2;
@@ -34,7 +39,11 @@ a_master = OfMaster (record {
   some_conn = ltb-true 0 1 refl;
   some_watchdog = ltb-true 0 100 refl;
   allowed = refl;
-})
+}
+
+-- a master with these values
+abbrev pub a_master : Setup
+a_master = OfMaster master_values
 
 -- slave address 2, at most 200 ticks without a frame in a handshake, watchdogs up to 1000, no application parameters, session id 2
 abbrev pub slave_values : SlaveSettings
@@ -137,6 +146,23 @@ SlaveExpires =
     ∷ codes "reset found 05 Reset 0000 > 2a050025ae0000"
     ∷ []
 
+-- the watchdog that came with the parameters rules from the frame on that makes them whole, in state Parameter still
+unfoldable pub SlaveExpiresInParameter : Type 0
+SlaveExpiresInParameter =
+    drop 106 (lines a_slave (take 8 to_slave ++ replicate 100 t))
+    ≡ codes "quiet Parameter 0000"
+    ∷ codes "reset found 05 Reset 0000 > 2a050025ae0000"
+    ∷ []
+
+-- until then a slave's limit is its own
+unfoldable pub SlaveExpiresInSession : Type 0
+SlaveExpiresInSession =
+    drop 2 (lines (OfSlave (record slave_values { hand = 2; some_hand = ltb-true 0 2 refl })) (take 3 to_slave ++ t ∷ t ∷ []))
+    ≡ codes "took Session Session 0000 > 4e020090470000"
+    ∷ codes "quiet Session 0000"
+    ∷ codes "reset found 05 Reset 0000 > 2a050025ae0000"
+    ∷ []
+
 -- a repeat is dropped, then a held slave answers with fail-safe data
 unfoldable pub SlaveGoesOn : Type 0
 SlaveGoesOn =
@@ -168,6 +194,13 @@ first_faults = WrongLength ∷ Refused (code 0x02) ∷ Refused (code 0x03) ∷ R
 -- at a slave in Data the first test that a frame fails decides
 unfoldable pub SlaveTestsInOrder : Type 0
 SlaveTestsInOrder = verdicts a_slave to_slave faulty ≡ first_faults
+
+-- a slave in state Reset refuses a Session frame with a connection id, and in Session a first Connection frame with the
+-- connection id 0, before it looks at their CRCs, which are wrong
+unfoldable pub SlaveTestsConnection : Type 0
+SlaveTestsConnection =
+    verdicts a_slave [] (codes "4e010000000100" ∷ []) ++ verdicts a_slave (take 3 to_slave) (codes "64000000000000" ∷ codes "64000000000900" ∷ [])
+    ≡ Refused (code 0x03) ∷ Refused (code 0x03) ∷ Refused (code 0x04) ∷ []
 
 -- an older frame is no repeat: its CRCs are wrong
 unfoldable pub SlaveRefusesOldFrame : Type 0
@@ -218,6 +251,33 @@ LongSessionIds =
     ≡ codes "took Reset Reset 0000 > 2a0000c42d0000"
     ∷ codes "took Session Session 0000 > 4e020090470000"
     ∷ codes "took Session Session 0000 > 4e000043f10000"
+    ∷ []
+
+-- a session id that is set between these frames counts from the next session on
+unfoldable pub IdSetLater : Type 0
+IdSetLater =
+    lines slave_of_two (d (codes "2a0000c42d0000") ∷ d (codes "4e0100123e0000") ∷ move.Nonce 0x50000 ∷ d (codes "4e000061230000") ∷ [])
+    ≡ codes "took Reset Reset 0000 > 2a0000c42d0000"
+    ∷ codes "took Session Session 0000 > 4e020090470000"
+    ∷ codes "quiet Session 0000"
+    ∷ codes "took Session Session 0000 > 4e000043f10000"
+    ∷ []
+
+-- a session id that was set and a load that was put outlast a reset
+unfoldable pub OutlastsReset : Type 0
+OutlastsReset =
+    lines (OfSlave (record slave_values { nonce = 7; allowed = refl })) (move.Nonce 2 ∷ p (codes "8000") ∷ z ∷ drop 1 to_slave)
+    ≡ codes "quiet Reset 0000"
+    ∷ codes "quiet Reset 0000"
+    ∷ codes "reset own Reset 0000 > 2a0000c42d0000"
+    ∷ codes "took Reset Reset 0000 > 2a0000c42d0000"
+    ∷ codes "took Session Session 0000 > 4e020090470000"
+    ∷ codes "took Connection Connection 0000 > 64010093d60100"
+    ∷ codes "took Connection Connection 0000 > 64020047080100"
+    ∷ codes "took Parameter Parameter 0000 > 52020030580100"
+    ∷ codes "took Parameter Parameter 0000 > 526400ae680100"
+    ∷ codes "took Parameter Parameter 0000 > 520000772d0100"
+    ∷ codes "took ProcessData Data 0100 > 36800078c90100"
     ∷ []
 
 -- a master of profile One goes on to Connection too early: a slave of profile Two waits for a second piece of the session id
@@ -283,6 +343,29 @@ MasterStepsNumber =
     ∷ codes "took ProcessData Data 8000 > 365026d4c80100"
     ∷ codes "took ProcessData Data 8000 > 36502603030100"
     ∷ []
+
+-- what is wrong with the contents of a frame that comes after these moves, in hexadecimal; its CRCs aren't tested
+abbrev pub fault_after : Setup → List Move → Command → List ℕ → Option Code
+fault_after s moves c text = contents s (run s moves) c (frame_of (receives s) (if_bytes (decode_of text)))
+
+-- four bytes of safe data in each direction
+abbrev pub four_and_four : Lengths
+four_and_four = record { master = 4; slave = 4; valid_master = refl; valid_slave = refl }
+
+-- a master takes any session id with zeros after it, its own pieces of the connection and of the parameters alone, and fail-safe
+-- data that are zeros
+unfoldable pub MasterContents : Type 0
+MasterContents =
+    fault_after (OfMaster (record master_values { lengths = four_and_four })) (t ∷ d (codes "2a0000c42d0000b9140000") ∷ []) command.Session (codes "4e0700000000000000000000")
+    ∷ fault_after (OfMaster (record master_values { lengths = four_and_four })) (t ∷ d (codes "2a0000c42d0000b9140000") ∷ []) command.Session (codes "4e0700000001000000000000")
+    ∷ fault_after a_master (take 4 to_master) command.Connection (codes "64010000000100")
+    ∷ fault_after a_master (take 4 to_master) command.Connection (codes "64010100000100")
+    ∷ fault_after a_master (take 6 to_master) command.Parameter (codes "52020000000100")
+    ∷ fault_after a_master (take 6 to_master) command.Parameter (codes "52030000000100")
+    ∷ fault_after a_master to_master command.FailSafeData (codes "08000000000100")
+    ∷ fault_after a_master to_master command.FailSafeData (codes "08000100000100")
+    ∷ []
+    ≡ None ∷ Some (code 0x07) ∷ None ∷ Some (code 0x07) ∷ None ∷ Some (code 0x07) ∷ None ∷ Some (code 0x07) ∷ []
 
 -- at a master in Data the first test that a frame fails decides
 unfoldable pub MasterTestsInOrder : Type 0

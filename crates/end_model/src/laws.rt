@@ -1,6 +1,6 @@
 //! What holds of the definitions. The calls do nothing: each law is a contract.
 
-ghost use Rattle.std.specs.Prelude.{◌≡◌, ◌≢◌, ◌<◌, ℕ, nat_le, Bool, true, List, ◌++◌, length, All};
+ghost use Rattle.std.specs.Prelude.{◌≡◌, ◌≢◌, ◌<◌, ℕ, nat_le, Bool, true, List, ◌∷◌, ◌++◌, length, All};
 ghost use Rattle.fsoe_base.specs.declared.command.State.TheVariants as state;
 ghost use Rattle.param_load.specs.declared.entry.Move.{Move};
 ghost use Rattle.fsoe_base.specs.declared.command.Command.{Command};
@@ -19,7 +19,7 @@ ghost use Rattle.end_model.specs.Readiness.{state_of, age, limit, is_done};
 ghost use Rattle.end_model.specs.Outputs.{zeros, outputs, out};
 ghost use Rattle.end_model.specs.Step.{step, run, continued, IsProper, IsRun};
 ghost use Rattle.end_model.specs.Reactions.{HasNoSession, IsReaction};
-ghost use Rattle.end_model.specs.WorkedRuns.{FirstTick, MasterHandshake, MasterStepsNumber, MasterIsReset, SlaveHandshake, SlaveExpires, SlaveGoesOn, SlaveRefusesOldFrame, SlaveResetItself, WrongAddress, WrongWatchdog, WrongParameters, LongSessionIds, OtherProfile, QuietInReset, QuietAtItsLimit, SlaveTestsInOrder, MasterTestsInOrder};
+ghost use Rattle.end_model.specs.WorkedRuns.{FirstTick, MasterHandshake, MasterStepsNumber, MasterIsReset, SlaveHandshake, SlaveExpires, SlaveGoesOn, SlaveRefusesOldFrame, SlaveResetItself, WrongAddress, WrongWatchdog, WrongParameters, LongSessionIds, OtherProfile, QuietInReset, QuietAtItsLimit, SlaveTestsInOrder, MasterTestsInOrder, IdSetLater, OutlastsReset, SlaveExpiresInParameter, SlaveExpiresInSession, SlaveTestsConnection, MasterContents};
 
 /// Worked runs of a master: each line of its report, with its state, its outputs and the frame that it sent.
 #[tactic(auto, using(crate::proofs::WorkedRuns::first_tick, crate::proofs::WorkedRuns::master_handshake, crate::proofs::WorkedRuns::master_steps_number, crate::proofs::WorkedRuns::master_is_reset))]
@@ -31,7 +31,7 @@ pub fn worked_master_runs()
 {}
 
 /// Worked runs of a slave, in the same way.
-#[tactic(auto, using(crate::proofs::WorkedRuns::slave_handshake, crate::proofs::WorkedRuns::slave_expires, crate::proofs::WorkedRuns::slave_goes_on, crate::proofs::WorkedRuns::slave_refuses_old_frame, crate::proofs::WorkedRuns::slave_reset_itself, crate::proofs::WorkedRuns::quiet_in_reset, crate::proofs::WorkedRuns::quiet_at_its_limit, crate::proofs::WorkedRuns::long_session_ids))]
+#[tactic(auto, using(crate::proofs::WorkedRuns::slave_handshake, crate::proofs::WorkedRuns::slave_expires, crate::proofs::WorkedRuns::slave_goes_on, crate::proofs::WorkedRuns::slave_refuses_old_frame, crate::proofs::WorkedRuns::slave_reset_itself, crate::proofs::WorkedRuns::quiet_in_reset, crate::proofs::WorkedRuns::quiet_at_its_limit, crate::proofs::WorkedRuns::long_session_ids, crate::proofs::WorkedRuns::id_set_later, crate::proofs::WorkedRuns::outlasts_reset, crate::proofs::WorkedRuns::slave_expires_in_parameter, crate::proofs::WorkedRuns::slave_expires_in_session))]
 pub fn worked_slave_runs()
     ensures handshake { SlaveHandshake }
     ensures expires { SlaveExpires }
@@ -41,6 +41,10 @@ pub fn worked_slave_runs()
     ensures quiet_in_reset { QuietInReset }
     ensures quiet_at_its_limit { QuietAtItsLimit }
     ensures long_session_ids { LongSessionIds }
+    ensures id_set_later { IdSetLater }
+    ensures outlasts_reset { OutlastsReset }
+    ensures expires_in_parameter { SlaveExpiresInParameter }
+    ensures expires_in_session { SlaveExpiresInSession }
 {}
 
 /// Worked runs of a slave that ends a handshake, in the same way.
@@ -52,11 +56,14 @@ pub fn worked_refusals()
     ensures other_profile { OtherProfile }
 {}
 
-/// Frames that fail several tests, at a slave and at a master in Data: the first of the tests decides.
-#[tactic(auto, using(crate::proofs::WorkedRuns::slave_tests_in_order, crate::proofs::WorkedRuns::master_tests_in_order))]
+/// Frames that fail several tests, at a slave and at a master in Data: the first of the tests decides. The connection ids
+/// that a slave refuses in a handshake, and the contents that a master refuses.
+#[tactic(auto, using(crate::proofs::WorkedRuns::slave_tests_in_order, crate::proofs::WorkedRuns::master_tests_in_order, crate::proofs::WorkedRuns::slave_tests_connection, crate::proofs::WorkedRuns::master_contents))]
 pub fn worked_verdicts()
     ensures slave { SlaveTestsInOrder }
     ensures master { MasterTestsInOrder }
+    ensures connection { SlaveTestsConnection }
+    ensures contents { MasterContents }
 {}
 
 /// A run of moves is the run of its front, continued, and a run of proper moves is a run: each deed is the step of
@@ -67,12 +74,13 @@ pub fn runs()
     ensures proper { (s : Setup) (moves : List Move) → All (IsProper s) moves → IsRun s (run s moves) }
 {}
 
-/// In every run of an end, what it does at its next event is one of the reactions: each says in which state, at which
-/// age and after which tests of a frame it comes, and what the end does and sends then. In state Reset nothing is of a
-/// session, and in state Data a slave has the whole parameters.
-#[tactic(auto, using(crate::proofs::SoundRuns::reacts, crate::proofs::SoundRuns::outside_session, crate::proofs::SoundRuns::loaded))]
+/// In every run of an end, what it did at each event, and what it does at the next, is one of the reactions: each says
+/// in which state, at which age and after which tests of a frame it comes, and what the end does and sends then. In
+/// state Reset nothing is of a session, and in state Data a slave has the whole parameters.
+#[tactic(auto, using(crate::proofs::SoundRuns::reacts, crate::proofs::SoundRuns::reacted, crate::proofs::SoundRuns::outside_session, crate::proofs::SoundRuns::loaded))]
 pub fn reactions()
     ensures complete { (s : Setup) (e : List Deed) (what : Move) → IsRun s e → IsProper s what → IsReaction s e (step s e what) }
+    ensures each { (s : Setup) (x : Deed) (e : List Deed) → IsRun s (x ∷ e) → IsReaction s e x }
     ensures outside_session { (s : Setup) (e : List Deed) → IsRun s e → state_of s e ≡ state.Reset → HasNoSession e }
     ensures loaded { (ss : SlaveSettings) (e : List Deed) → IsRun (OfSlave ss) e → state_of (OfSlave ss) e ≡ state.Data → is_done ss state.Parameter e ≡ true }
 {}

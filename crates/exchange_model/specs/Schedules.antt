@@ -1,33 +1,16 @@
 -- The words of schedules and of reports, for worked runs of both ends.
-use Rattle.std.specs.Prelude.{ℕ, refl, nat_eq, List, [], ◌∷◌, ◌++◌, codes, take, map, length, replicate, reverse, Bool}
+use Rattle.std.specs.Prelude.{ℕ, nat_eq, List, [], ◌∷◌, ◌++◌, codes, take, map, length, replicate, reverse, Bool}
 use Rattle.std.specs.Cmp.Lexicographic.{pointwise}
 use Rattle.std.specs.List.{flat_map}
-use Rattle.std.proofs.lemmas.Bool.{ltb-true}
 use Rattle.hex.specs.Hex.{decode_of}
 use Rattle.fsoe_base.specs.declared.command.End.{End}
 use Rattle.fsoe_base.specs.declared.command.End.TheVariants as end_name
 use Rattle.param_load.specs.declared.entry.Entry.{Entry}
-use Rattle.param_load.specs.declared.profile.Profile.TheVariants as profile
-use Rattle.param_load.specs.declared.master_settings.MasterSettings.{MasterSettings}
 use Rattle.schedule_file.specs.declared.event.Event.{Event}
 use Rattle.schedule_file.specs.declared.event.Event.TheVariants as event
 use Rattle.entry_text.specs.EntryText.{entry_text}
-use Rattle.end_model.specs.WorkedRuns.{two_and_two, if_bytes, line}
-
--- connection 1, slave address 2, watchdog 100, session id 1, no application parameters
-abbrev pub master_values : MasterSettings
-master_values = record {
-  lengths = two_and_two;
-  conn = 1;
-  address = 2;
-  watchdog = 100;
-  app = [];
-  nonce = 1;
-  profile = profile.One;
-  some_conn = ltb-true 0 1 refl;
-  some_watchdog = ltb-true 0 100 refl;
-  allowed = refl;
-}
+pub use Rattle.end_model.specs.WorkedRuns.{master_values}
+use Rattle.end_model.specs.WorkedRuns.{if_bytes, line}
 
 -- the frame so many back of those of the slave comes to the master
 abbrev pub dm : ℕ → Event
