@@ -26,9 +26,13 @@ fn a_copied_register_goes_on_alone(rt: HostRuntime) {
     let mut register = Register::new();
     register.feed(0x01);
     let mut copied = register.copy();
-    copied.feed(0x02);
+    register.feed(0x02);
     copied.feed(0x03);
-    assert_eq!(rt; register.value(), 0x39B7);
-    assert_eq!(rt; copied.value(), crc_bitwise(&[0x01, 0x02, 0x03]));
+    assert_eq!(rt; register.value(), 0x429A);
+    assert_eq!(rt; copied.value(), 0x7B2D);
+    // The CRC is linear: they differ by the CRC of 01h.
+    assert_eq!(rt; register.value() ^ copied.value(), 0x39B7);
+    assert_eq!(rt; crc(&[0x01, 0x02]), register.value());
+    assert_eq!(rt; crc_bitwise(&[0x01, 0x03]), copied.value());
     laws::adjacent_bytes();
 }
