@@ -15,3 +15,7 @@ pub mod AgeBelow
 pub mod WholeUploads
 pub mod Links
 pub mod ReadBack
+pub mod WholeUploads
+pub mod SealedFrames
+pub mod Neighbours
+pub mod Repeats

@@ -10,3 +10,4 @@ pub mod Reactions
 pub mod Outputs
 pub mod Entries
 pub mod WorkedRuns
+pub mod Neighbours

@@ -1,0 +1,104 @@
+-- What an end sends in a session is sealed, with as many safe data bytes as it sends.
+use Rattle.std.proofs.Common.{◌≡◌, ℕ, suc, ◌-◌, ◌*◌, ◌≤◌, List, [], ◌∷◌, length, min, take, drop, replicate, Bool, true, false, nat_lt, if◌then◌else◌, refl, arith}
+use Rattle.std.proofs.lemmas.List.{length-take, length-replicate, length-append}
+use Rattle.fsoe_base.specs.declared.command.Command.{Command}
+use Rattle.fsoe_base.specs.declared.command.Command.TheVariants as command
+use Rattle.param_load.specs.declared.entry.Move.{Move}
+use Rattle.param_load.specs.declared.entry.Move.TheVariants as move
+use Rattle.param_load.specs.declared.master_settings.MasterSettings.{MasterSettings}
+use Rattle.param_load.specs.declared.slave_settings.SlaveSettings.{SlaveSettings}
+use Rattle.param_load.specs.Payload.{padded}
+use Rattle.end_model.specs.Setup.{Setup, OfMaster, OfSlave, sends, piece_len}
+use Rattle.end_model.specs.Phases.{is_reset, is_guarded, phase_of}
+use Rattle.end_model.specs.Deed.{Deed}
+use Rattle.end_model.specs.Chain.{since, own, seal}
+use Rattle.end_model.specs.Payloads.{pay, pieces, count_in, session_id, conn_id}
+use Rattle.end_model.specs.Readiness.{offer, offer_after, held}
+use Rattle.end_model.specs.Step.{sealed, with_piece, with_data, after_phase, after_pieces, download, master_answer, slave_answer, IsProper, IsRun}
+
+-- a frame that is sealed over the deeds so far
+pub record IsSealed (s : Setup) (e : List Deed) (f : List ℕ) : Type 0 where
+  pub conn : ℕ
+  pub command : Command
+  pub load : List ℕ
+  pub len : length load ≡ sends s
+  pub is : f ≡ seal s (since e) conn command load
+
+seals : (s : Setup) (e : List Deed) (c : Command) (load : List ℕ) → length load ≡ sends s → IsSealed s e (sealed s e c load)
+seals s e c load h = record { conn = if is_guarded c then conn_id s e else 0; command = c; load = load; len = h; is = refl }
+
+sealed-if : (s : Setup) (e : List Deed) (b : Bool) (f g : List ℕ) → IsSealed s e f → IsSealed s e g → IsSealed s e (if b then f else g)
+sealed-if s e true f g h k = h
+sealed-if s e false f g h k = k
+
+padded_len : (bytes : List ℕ) (n : ℕ) → length bytes ≤ n → length (padded bytes n) ≡ n
+padded_len bytes n h = simp (length-append, length-replicate) (omega arith)
+
+min_left : (m n : ℕ) → min m n ≤ m
+min_left m n = omega arith
+
+min_right : (m n : ℕ) → min m n ≤ n
+min_right m n = omega arith
+
+-- the piece of a payload has place in a frame
+piece_place : (s : Setup) → piece_len s ≤ sends s
+piece_place (OfMaster ms) = min_left ms.lengths.master ms.lengths.slave
+piece_place (OfSlave ss) = min_right ss.lengths.master ss.lengths.slave
+
+taken_len : (n : ℕ) (xs : List ℕ) → length (take n xs) ≤ n
+taken_len n xs = simp length-take (min_left n (length xs))
+
+piece_sealed : (s : Setup) (e : List Deed) (c : Command) (xs : List ℕ) → IsSealed s e (with_piece s e c (take (piece_len s) xs))
+piece_sealed s e c xs =
+    let fits : length (take (piece_len s) xs) ≤ sends s = let a = taken_len (piece_len s) xs in let b = piece_place s in omega arith in
+    seals s e c (padded (take (piece_len s) xs) (sends s)) (padded_len (take (piece_len s) xs) (sends s) fits)
+
+data_sealed : (s : Setup) (e : List Deed) → length (offer s e) ≡ sends s → IsSealed s e (with_data s e)
+data_sealed s e h =
+    sealed-if s e (held e) (sealed s e command.FailSafeData (replicate (sends s) 0)) (sealed s e command.ProcessData (offer s e))
+    (seals s e command.FailSafeData (replicate (sends s) 0) (length-replicate (sends s) 0)) (seals s e command.ProcessData (offer s e) h)
+
+download_sealed : (ms : MasterSettings) (e : List Deed) (c : Command) (k : ℕ) → IsSealed (OfMaster ms) e (download ms e c k)
+download_sealed ms e c k = piece_sealed (OfMaster ms) e c (drop ((k - 1) * piece_len (OfMaster ms)) (pay ms (session_id (OfMaster ms) e) (phase_of c)))
+
+first_sealed : (ms : MasterSettings) (e : List Deed) (c : Command) → length (offer (OfMaster ms) e) ≡ sends (OfMaster ms) → IsSealed (OfMaster ms) e (after_phase ms e c)
+first_sealed ms e command.Reset h = download_sealed ms e command.Session 1
+first_sealed ms e command.Session h = download_sealed ms e command.Connection 1
+first_sealed ms e command.Connection h = download_sealed ms e command.Parameter 1
+first_sealed ms e command.Parameter h = data_sealed (OfMaster ms) e h
+first_sealed ms e command.FailSafeData h = data_sealed (OfMaster ms) e h
+first_sealed ms e command.ProcessData h = data_sealed (OfMaster ms) e h
+
+next_sealed : (ms : MasterSettings) (e : List Deed) (c : Command) (k : ℕ) → length (offer (OfMaster ms) e) ≡ sends (OfMaster ms) → IsSealed (OfMaster ms) e (after_pieces ms e c k)
+next_sealed ms e c k h =
+    sealed-if (OfMaster ms) e (nat_lt k (pieces (pay ms (session_id (OfMaster ms) e) (phase_of c)) (piece_len (OfMaster ms)))) (download ms e c (suc k)) (after_phase ms e c)
+    (download_sealed ms e c (suc k)) (first_sealed ms e c h)
+
+pub master_sealed : (ms : MasterSettings) (e : List Deed) (c : Command) → length (offer (OfMaster ms) e) ≡ sends (OfMaster ms) → IsSealed (OfMaster ms) e (master_answer ms e c)
+master_sealed ms e command.Reset h = first_sealed ms e command.Reset h
+master_sealed ms e command.Session h = next_sealed ms e command.Session (count_in (phase_of command.Session) (own (since e))) h
+master_sealed ms e command.Connection h = next_sealed ms e command.Connection (count_in (phase_of command.Connection) (own (since e))) h
+master_sealed ms e command.Parameter h = next_sealed ms e command.Parameter (count_in (phase_of command.Parameter) (own (since e))) h
+master_sealed ms e command.FailSafeData h = data_sealed (OfMaster ms) e h
+master_sealed ms e command.ProcessData h = data_sealed (OfMaster ms) e h
+
+pub slave_sealed : (ss : SlaveSettings) (e : List Deed) (c : Command) (load : List ℕ) → is_reset c ≡ false → length (offer (OfSlave ss) e) ≡ sends (OfSlave ss) → IsSealed (OfSlave ss) e (slave_answer ss e c load)
+slave_sealed ss e command.Reset load other h = cc
+slave_sealed ss e command.Session load other h = piece_sealed (OfSlave ss) e command.Session _
+slave_sealed ss e command.Connection load other h = piece_sealed (OfSlave ss) e command.Connection load
+slave_sealed ss e command.Parameter load other h = piece_sealed (OfSlave ss) e command.Parameter load
+slave_sealed ss e command.FailSafeData load other h = data_sealed (OfSlave ss) e h
+slave_sealed ss e command.ProcessData load other h = data_sealed (OfSlave ss) e h
+
+-- an end offers as many safe data bytes as it sends
+offer_stays : (s : Setup) (m : Move) (before : List ℕ) → IsProper s m → length before ≡ sends s → length (offer_after m before) ≡ sends s
+offer_stays s (move.Put load) before proper h = proper
+offer_stays s (move.Deliver bytes) before proper h = h
+offer_stays s move.Tick before proper h = h
+offer_stays s (move.Hold failsafe) before proper h = h
+offer_stays s (move.Nonce id) before proper h = h
+offer_stays s move.Local before proper h = h
+
+pub offer_len : (s : Setup) (e : List Deed) → IsRun s e → length (offer s e) ≡ sends s
+offer_len s [] r = length-replicate (sends s) 0
+offer_len s (x ∷ e) r = offer_stays s x.what (offer s e) r.0.proper (offer_len s e r.1)
