@@ -2,3 +2,5 @@ pub mod NextGroup
 pub mod ToldApart
 pub mod Steps
 pub mod OneChange
+pub mod BothFit
+pub mod Received

@@ -4,3 +4,4 @@ pub mod Sealing
 pub mod Chain
 pub mod Reset
 pub mod Differences
+pub mod BothFit

@@ -2,11 +2,13 @@
 
 ghost use Rattle.std.specs.Prelude.{◌≡◌, ◌≢◌, ◌<◌, ◌≤◌, ℕ, List, length, Option, Some, IfSome, IsTrue, false};
 ghost use Rattle.fsoe_crc.specs.Remainder.{rem};
-ghost use Rattle.fsoe_frame.specs.Parts.{Frame, AreBytes};
+ghost use Rattle.fsoe_base.specs.Lengths.{is_length, frame_len};
+ghost use Rattle.fsoe_frame.specs.Parts.{Frame, AreBytes, frame_of};
 ghost use Rattle.seq_chain.specs.declared.link.Link.{Link};
 ghost use Rattle.seq_chain.specs.Cover.{cover, crc_0, first_of};
 ghost use Rattle.seq_chain.specs.Numbers.{next, number_of};
 ghost use Rattle.seq_chain.specs.Sealing.{sealed, noted, fits};
+ghost use Rattle.seq_chain.specs.BothFit.{noted_before, stepped_frame, other_frame};
 ghost use Rattle.seq_chain.specs.Differences.{DifferInCommand, DifferInConnection, DifferInGroup, DifferInCrc, SteppedAlike};
 
 /// Two covers that differ in one part alone have different CRCs: in the CRC_0 taken last, in the connection id, in
@@ -51,4 +53,23 @@ pub fn one_change_stepped_alike()
     ensures command { (last : ℕ) (before : Option Link) (f g : Frame) → f.cmd < 256 → g.cmd < 256 → 0 < length f.load → IsTrue (fits last before f) → DifferInCommand f g → SteppedAlike last before f g → fits last before g ≡ false }
     ensures connection { (last : ℕ) (before : Option Link) (f g : Frame) → f.conn < 65536 → g.conn < 65536 → 0 < length f.load → IsTrue (fits last before f) → DifferInConnection f g → SteppedAlike last before f g → fits last before g ≡ false }
     ensures first_data { (last : ℕ) (before : Option Link) (f g : Frame) → AreBytes f.load → AreBytes g.load → IsTrue (fits last before f) → DifferInGroup 0 f g → SteppedAlike last before f g → fits last before g ≡ false }
+{}
+
+/// That proviso is needed: two frames that differ in the data of the first group alone both fit after the same frames,
+/// where the number of one alone is stepped once more.
+#[tactic(auto, using(crate::proofs::BothFit::stepped_fits, crate::proofs::BothFit::other_fits, crate::proofs::BothFit::data_differ))]
+pub fn proviso_is_needed()
+    ensures one_fits { IsTrue (fits 0x672D noted_before stepped_frame) }
+    ensures another_fits { IsTrue (fits 0x672D noted_before other_frame) }
+    ensures differ { DifferInGroup 0 stepped_frame other_frame }
+{}
+
+/// A frame that is read from bytes, as many as a frame of its length has, meets the premises of these laws: it has a
+/// load of at least a byte, and its parts are within their widths.
+#[tactic(auto, using(crate::proofs::Received::received_command, crate::proofs::Received::received_connection, crate::proofs::Received::received_load, crate::proofs::Received::received_some))]
+pub fn received()
+    ensures command { (l : ℕ) (bytes : List ℕ) → IsTrue (is_length l) → length bytes ≡ frame_len l → AreBytes bytes → (frame_of l bytes).cmd < 256 }
+    ensures connection { (l : ℕ) (bytes : List ℕ) → IsTrue (is_length l) → length bytes ≡ frame_len l → AreBytes bytes → (frame_of l bytes).conn < 65536 }
+    ensures load { (l : ℕ) (bytes : List ℕ) → IsTrue (is_length l) → length bytes ≡ frame_len l → AreBytes bytes → AreBytes (frame_of l bytes).load }
+    ensures some_load { (l : ℕ) (bytes : List ℕ) → IsTrue (is_length l) → length bytes ≡ frame_len l → 0 < length (frame_of l bytes).load }
 {}
