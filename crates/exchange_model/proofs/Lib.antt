@@ -23,3 +23,4 @@ pub mod Taking
 pub mod Related
 pub mod Told
 pub mod Headline
+pub mod Noted

@@ -8,3 +8,4 @@ pub mod Schedules
 pub mod WorkedRuns
 pub mod WorkedItems
 pub mod WorkedSchedules
+pub mod Noting

@@ -3,3 +3,8 @@
 #![tactic(auto)]
 
 pub mod laws;
+mod monitor;
+mod reading;
+mod side;
+
+pub use monitor::Monitor;

@@ -1,0 +1,90 @@
+//! The monitor of a run, which keeps no list.
+ghost use Rattle.std.specs.Prelude.{◌≡◌};
+
+use crate::side::{Side, note};
+use fsoe_base::End;
+use param_load::Entry;
+use std::marker::Model;
+
+/// Finds the first other entry of a run of both ends. It keeps of each end its newest item and the item that it awaits,
+/// and takes no memory.
+#[derive(Debug, Drop)]
+pub struct Monitor {
+    noted: u64,
+    other: Option<u64>,
+    master: Side,
+    slave: Side,
+}
+
+impl Model for Monitor {
+    ghost use Rattle.std.specs.Prelude.{◌≤◌, suc};
+    ghost use Rattle.exchange_model.specs.Noting.{MonitorView, next_number};
+
+    ghost Value = { MonitorView };
+
+    ghost view = { λ m. record { noted = m.noted; other = m.other; master = m.master; slave = m.slave } };
+
+    ghost invariant = { λ m. (next_number m.master.newest ≤ suc m.noted) × (next_number m.slave.newest ≤ suc m.noted) };
+}
+
+impl Monitor {
+    ghost use Rattle.std.specs.Prelude.{◌<◌, ◌+◌, ◌^◌, List, [], ◌∷◌};
+    ghost use Rattle.fsoe_base.specs.declared.command.End.TheVariants as end_name;
+    ghost use Rattle.param_load.specs.declared.entry.Entry.{Entry};
+    ghost use Rattle.exchange_model.specs.Items.{items, awaited};
+    ghost use Rattle.exchange_model.specs.Other.{first_other};
+    ghost use Rattle.exchange_model.specs.Noting.{item_number, noted_next, view_of, Notes};
+
+    /// A monitor that noted no entry.
+    pub fn new() -> Monitor
+        ensures { result ≡ view_of [] }
+    {
+        Monitor {
+            noted: 0,
+            other: None,
+            master: Side::new(),
+            slave: Side::new(),
+        }
+    }
+
+    /// Notes the next entry of the run. Fewer than 2^64 - 1 entries were noted before.
+    #[tactic(auto, using(crate::proofs::Noted::notes_by))]
+    pub fn note(&mut self, entry: &Entry)
+        requires { self.old.noted + 1 < 2 ^ 64 }
+        ensures { Notes self.old entry.now self.new }
+    {
+        self.step(entry);
+    }
+
+    fn step(&mut self, entry: &Entry)
+        requires { self.old.noted + 1 < 2 ^ 64 }
+        ensures { self.new ≡ noted_next self.old entry.now }
+    {
+        self.noted += 1;
+        let other = match entry.end {
+            End::Master => note(&mut self.master, &mut self.slave, entry),
+            End::Slave => note(&mut self.slave, &mut self.master, entry),
+        };
+        if other && self.other.is_none() {
+            self.other = Some(self.noted);
+        }
+    }
+
+    /// The number of the first other entry, from 1; None exactly where no entry that was noted is other.
+    pub fn other(&self) -> Option<u64>
+        ensures { (w : List Entry) → self.now ≡ view_of w → result ≡ first_other w }
+    {
+        self.other
+    }
+
+    /// The number of the item that an end awaits, among those of its peer, from 1; None exactly where it awaits none.
+    #[tactic(auto, using(crate::proofs::Noted::awaited_number))]
+    pub fn awaited(&self, by: End) -> Option<u64>
+        ensures { (w : List Entry) → self.now ≡ view_of w → result ≡ item_number (awaited (items w) by) }
+    {
+        match by {
+            End::Master => self.master.awaited(),
+            End::Slave => self.slave.awaited(),
+        }
+    }
+}
