@@ -24,3 +24,5 @@ pub mod Related
 pub mod Told
 pub mod Headline
 pub mod Noted
+pub mod Lasts
+pub mod ListNoted

@@ -94,9 +94,9 @@ none-answers n (i ∷ found) all = skipped (not (has_command command.Reset i.byt
 abbrev side : Option Sent → Option Sent → Side
 side n a = record { newest = n; awaited = a }
 
-newest-next : (found : List Item) → Numbered found → next_number (sent_of (newest found)) ≡ suc (length found)
-newest-next [] num = refl
-newest-next (i ∷ found) num = ap suc num.0
+pub newest_next : (found : List Item) → Numbered found → next_number (sent_of (newest found)) ≡ suc (length found)
+newest_next [] num = refl
+newest_next (i ∷ found) num = ap suc num.0
 
 -- an end that sends an item
 own-items : (which : End) (i : Item) (found : List Item) → i.end ≡ which → kept which (i ∷ found) ≡ side (sent_of (Some i)) (sent_of (newest_answer i.number (items_of (peer which) found)))
@@ -109,7 +109,7 @@ own-kept-by which x w true h k = refl
 own-kept-by which x w false h k =
     let i : Item = item_of x w (items w) in
     let n : suc (length (items_of x.end (items w))) ≡ suc (length (items_of which (items w))) = ap (λ (it : End). suc (length (items_of it (items w)))) h in
-    let a : next_number (kept which (items w)).newest ≡ suc (length (items_of x.end (items w))) = newest-next (items_of which (items w)) (numbered which w) ∙ sym n in
+    let a : next_number (kept which (items w)).newest ≡ suc (length (items_of x.end (items w))) = newest_next (items_of which (items w)) (numbered which w) ∙ sym n in
     let b : newest_answer (suc (length (items_of x.end (items w)))) (items_of (peer which) (items w)) ≡ None = ap (λ n. newest_answer n (items_of (peer which) (items w))) n ∙ none-answers (length (items_of which (items w))) (items_of (peer which) (items w)) (back which) in
     ap₂ (λ (n : ℕ) (o : Option Item). side (Some (record { number = n; bytes = x.sent })) (sent_of o)) a (sym b) ∙ sym (own-items which i (items w) h)
   where
@@ -147,9 +147,9 @@ if-sent : (b : Bool) (o p : Option Item) → (if b then sent_of o else sent_of p
 if-sent true o p = refl
 if-sent false o p = refl
 
-answered-is : (which : End) (found : List Item) (bytes : List ℕ) (took : Option Took) → answered (kept which found) (kept (peer which) found) bytes took ≡ item_taken found which bytes took
-answered-is which found bytes None = refl
-answered-is which found bytes (Some t) =
+pub answered_is : (which : End) (found : List Item) (bytes : List ℕ) (took : Option Took) → answered (kept which found) (kept (peer which) found) bytes took ≡ item_taken found which bytes took
+answered_is which found bytes None = refl
+answered_is which found bytes (Some t) =
     ap (number_of bytes) (if-sent (is_guarded t.command) (awaited found which) (newest (items_of (peer which) found)))
     ∙ number-is bytes (if is_guarded t.command then awaited found which else newest (items_of (peer which) found))
 
@@ -160,8 +160,8 @@ peer-kept-by which x w true h k = refl
 peer-kept-by which x w false h k =
     let i : Item = item_of x w (items w) in
     let its : List Item = items w in
-    let n : next_number (kept which (items w)).newest ≡ suc (length (items_of x.end (items w))) = newest-next (items_of which (items w)) (numbered which w) ∙ ap (λ (it : End). suc (length (items_of it (items w)))) (sym h) in
-    let a : answered (kept which (items w)) (kept (peer which) (items w)) (delivered x.what) x.did.took ≡ item_taken (items w) x.end (delivered x.what) x.did.took = answered-is which (items w) (delivered x.what) x.did.took ∙ ap (λ (it : End). item_taken (items w) it (delivered x.what) x.did.took) (sym h) in
+    let n : next_number (kept which (items w)).newest ≡ suc (length (items_of x.end (items w))) = newest_next (items_of which (items w)) (numbered which w) ∙ ap (λ (it : End). suc (length (items_of it (items w)))) (sym h) in
+    let a : answered (kept which (items w)) (kept (peer which) (items w)) (delivered x.what) x.did.took ≡ item_taken (items w) x.end (delivered x.what) x.did.took = answered_is which (items w) (delivered x.what) x.did.took ∙ ap (λ (it : End). item_taken (items w) it (delivered x.what) x.did.took) (sym h) in
     ap₂ (λ (n : ℕ) (answer : Option ℕ). side (kept (peer which) (items w)).newest (if not (has_command command.Reset x.sent) && is_answer (kept (peer which) (items w)).newest answer then Some (record { number = n; bytes = x.sent }) else (kept (peer which) (items w)).awaited)) n a
     ∙ sym (peer-items which i (items w) h)
 
@@ -172,8 +172,8 @@ has-is : (bytes : List ℕ) (o : Option Item) → has bytes (sent_of o) ≡ has_
 has-is bytes None = refl
 has-is bytes (Some i) = refl
 
-other-is : (which : End) (x : Entry) (w : List Entry) → x.end ≡ which → is_other_to (kept which (items w)) x ≡ is_other (items w) x
-other-is which x w h =
+pub other_is : (which : End) (x : Entry) (w : List Entry) → x.end ≡ which → is_other_to (kept which (items w)) x ≡ is_other (items w) x
+other_is which x w h =
     ap (λ (b : Bool). x.did.passed && is_guarded_frame (delivered x.what) && not b) (has-is (delivered x.what) (awaited (items w) which) ∙ ap (λ (it : End). has_bytes (delivered x.what) (awaited (items w) it)) (sym h))
 
 same-view : (n : ℕ) (other other' : Option ℕ) (a a' b b' : Side) → other ≡ other' → a ≡ a' → b ≡ b'
@@ -183,9 +183,9 @@ same-view n other other' a a' b b' h i j = cc
 next-is : (which : End) (x : Entry) (w : List Entry) → x.end ≡ which
     → (let v : MonitorView = record { noted = suc (length w); other = first_of_both (first_other w) (is_other_to (side_of which (view_of w)) x) (suc (length w)); master = master_after which (view_of w) x; slave = slave_after which (view_of w) x } in v) ≡ view_of (x ∷ w)
 next-is end_name.Master x w h =
-    same-view (suc (length w)) _ _ _ _ _ _ (ap (λ (b : Bool). first_of_both (first_other w) b (suc (length w))) (other-is end_name.Master x w h)) (own-kept end_name.Master x w h) (peer-kept end_name.Master x w h)
+    same-view (suc (length w)) _ _ _ _ _ _ (ap (λ (b : Bool). first_of_both (first_other w) b (suc (length w))) (other_is end_name.Master x w h)) (own-kept end_name.Master x w h) (peer-kept end_name.Master x w h)
 next-is end_name.Slave x w h =
-    same-view (suc (length w)) _ _ _ _ _ _ (ap (λ (b : Bool). first_of_both (first_other w) b (suc (length w))) (other-is end_name.Slave x w h)) (peer-kept end_name.Slave x w h) (own-kept end_name.Slave x w h)
+    same-view (suc (length w)) _ _ _ _ _ _ (ap (λ (b : Bool). first_of_both (first_other w) b (suc (length w))) (other_is end_name.Slave x w h)) (peer-kept end_name.Slave x w h) (own-kept end_name.Slave x w h)
 
 -- a monitor that steps so notes the entry
 pub notes_by : {old new : MonitorView} {x : Entry} → new ≡ noted_next old x → Notes old x new

@@ -9,3 +9,4 @@ pub mod WorkedRuns
 pub mod WorkedItems
 pub mod WorkedSchedules
 pub mod Noting
+pub mod Listing

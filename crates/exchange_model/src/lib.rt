@@ -3,8 +3,10 @@
 #![tactic(auto)]
 
 pub mod laws;
+mod list_monitor;
 mod monitor;
 mod reading;
 mod side;
 
+pub use list_monitor::ListMonitor;
 pub use monitor::Monitor;

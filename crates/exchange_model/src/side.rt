@@ -9,18 +9,28 @@ use param_load::Entry;
 /// A frame that an end sent: its number among those of this end, from 1, and its bytes.
 #[derive(Debug, Drop)]
 pub struct Sent {
-    number: u64,
-    bytes: FrameBuf,
+    pub(crate) number: u64,
+    pub(crate) bytes: FrameBuf,
 }
 
 /// The newest item of an end, and the item that it awaits.
 #[derive(Debug, Drop)]
 pub struct Side {
-    newest: Option<Sent>,
-    awaited: Option<Sent>,
+    pub(crate) newest: Option<Sent>,
+    pub(crate) awaited: Option<Sent>,
 }
 
 impl Sent {
+    /// The same again.
+    pub(crate) fn copy(&self) -> Sent
+        ensures { result ≡ self.now }
+    {
+        Sent {
+            number: self.number,
+            bytes: self.bytes.copy(),
+        }
+    }
+
     /// Whether it has these bytes.
     fn is(&self, bytes: &[u8]) -> bool
         ensures { result ≡ has bytes.now (Some self.now) }
@@ -70,8 +80,16 @@ impl Side {
         }
     }
 
+    /// Whether an entry of the end is other.
+    pub(crate) fn is_other(&self, entry: &Entry) -> bool
+        ensures { result ≡ is_other_to self.now entry.now }
+    {
+        let bytes = delivered(&entry.what);
+        entry.did.passed && is_guarded_frame(bytes) && !self.awaits(bytes)
+    }
+
     /// The number of the peer's item that was taken from these bytes, if one was.
-    fn answered(&self, peer: &Side, bytes: &[u8], took: &Option<Took>) -> Option<u64>
+    pub(crate) fn answered(&self, peer: &Side, bytes: &[u8], took: &Option<Took>) -> Option<u64>
         ensures { result ≡ answered self.now peer.now bytes.now took.now }
     {
         match took {
@@ -92,7 +110,7 @@ impl Side {
     }
 
     /// The number of the end's next item.
-    fn next_number(&self) -> u64
+    pub(crate) fn next_number(&self) -> u64
         requires { next_number self.now.newest < 2 ^ 64 }
         ensures { result ≡ next_number self.now.newest }
     {
@@ -131,10 +149,9 @@ pub(crate) fn note(own: &mut Side, peer: &mut Side, entry: &Entry) -> bool
     ensures own { own.new ≡ own_after own.old entry.now }
     ensures peer { peer.new ≡ peer_after own.old peer.old entry.now }
 {
-    let bytes = delivered(&entry.what);
-    let other = entry.did.passed && is_guarded_frame(bytes) && !own.awaits(bytes);
+    let other = own.is_other(entry);
     if !entry.sent.is_empty() {
-        let answer = own.answered(peer, bytes, &entry.did.took);
+        let answer = own.answered(peer, delivered(&entry.what), &entry.did.took);
         send(own, peer, &entry.sent, answer);
     }
     other

@@ -1,0 +1,94 @@
+-- What a monitor with lists keeps: all items of both ends, oldest first.
+use Rattle.std.specs.Prelude.{ℕ, suc, ◌≡◌, List, [], ◌∷◌, ◌++◌, length, Bool, ◌&&◌, not, Option, Some, None, if◌then◌else◌}
+use Rattle.fsoe_base.specs.declared.command.End.{End}
+use Rattle.fsoe_base.specs.declared.command.End.TheVariants as end_name
+use Rattle.fsoe_base.specs.declared.command.Command.TheVariants as command
+use Rattle.param_load.specs.declared.entry.Entry.{Entry}
+use Rattle.end_model.specs.Phases.{has_command}
+use Rattle.end_model.specs.Deed.{delivered, is_empty}
+use Rattle.exchange_model.specs.declared.side.Sent.{Sent}
+use Rattle.exchange_model.specs.declared.side.Side.{Side}
+use Rattle.exchange_model.specs.declared.list_monitor.Listed.{Listed}
+use Rattle.exchange_model.specs.Ends.{peer}
+use Rattle.exchange_model.specs.Items.{Item, items_of, items, answers_to}
+use Rattle.exchange_model.specs.Other.{first_of_both, first_other}
+use Rattle.exchange_model.specs.Noting.{next_sent, is_other_to, answered}
+
+-- what is listed of an item
+abbrev pub listing : Item → Listed
+listing i = record { sent = record { number = i.number; bytes = i.bytes }; answers = i.answers }
+
+-- the items of an end, oldest first
+abbrev pub listed : List Item → List Listed
+listed [] = []
+listed (i ∷ found) = listed found ++ (listing i ∷ [])
+
+-- what contracts see of the monitor: the entries that it noted, the number of the first other one, and the items of both ends
+pub record ListView : Type 0 where
+  pub noted : ℕ
+  pub other : Option ℕ
+  pub master : List Listed
+  pub slave : List Listed
+
+-- a monitor that noted these entries
+abbrev pub list_of : List Entry → ListView
+list_of w = record { noted = length w; other = first_other w; master = listed (items_of end_name.Master (items w)); slave = listed (items_of end_name.Slave (items w)) }
+
+-- a monitor that had noted some entries has noted this one too
+pub record Lists (old : ListView) (x : Entry) (new : ListView) : Type 0 where
+  pub lists : (w : List Entry) → old ≡ list_of w → new ≡ list_of (x ∷ w)
+
+-- a later item where there is one, else this one
+abbrev pub later : Option Sent → Sent → Option Sent
+later None s = Some s
+later (Some t) s = Some t
+
+-- the newest of these items
+abbrev pub last_sent : List Listed → Option Sent
+last_sent [] = None
+last_sent (i ∷ found) = later (last_sent found) i.sent
+
+-- whether an item isn't a Reset frame and answers the one with this number
+abbrev pub is_answer_to : ℕ → Listed → Bool
+is_answer_to number i = not (has_command command.Reset i.sent.bytes) && answers_to number i.answers
+
+-- the newest of these items that isn't a Reset frame and answers the one with this number
+abbrev pub last_answer : ℕ → List Listed → Option Sent
+last_answer number [] = None
+last_answer number (i ∷ found) = if is_answer_to number i then later (last_answer number found) i.sent else last_answer number found
+
+-- the newest of these items that answers an item, if there is such an item
+abbrev pub answer_in : List Listed → Option Sent → Option Sent
+answer_in found None = None
+answer_in found (Some s) = last_answer s.number found
+
+-- the newest item of an end, and the item that it awaits
+abbrev pub side_in : List Listed → List Listed → Side
+side_in mine theirs = record { newest = last_sent mine; awaited = answer_in theirs (last_sent mine) }
+
+-- the items of an end
+abbrev pub list_in : End → ListView → List Listed
+list_in end_name.Master v = v.master
+list_in end_name.Slave v = v.slave
+
+-- what is kept of an end, looked up in the lists
+abbrev pub looked_up : End → ListView → Side
+looked_up which v = side_in (list_in which v) (list_in (peer which) v)
+
+-- the items of an end after an entry of its own
+abbrev pub list_after : Side → Side → Entry → List Listed → List Listed
+list_after own other_side x found =
+    if is_empty x.sent then found
+    else found ++ (record { sent = next_sent own x.sent; answers = answered own other_side (delivered x.what) x.did.took } ∷ [])
+
+-- the lists after an entry of this end
+abbrev pub lists_after : End → ListView → Entry → ListView
+lists_after end_name.Master v x = record v { master = list_after (looked_up end_name.Master v) (looked_up end_name.Slave v) x v.master }
+lists_after end_name.Slave v x = record v { slave = list_after (looked_up end_name.Slave v) (looked_up end_name.Master v) x v.slave }
+
+-- a monitor after an entry
+abbrev pub listed_next : ListView → Entry → ListView
+listed_next v x = record (lists_after x.end v x) {
+  noted = suc v.noted;
+  other = first_of_both v.other (is_other_to (looked_up x.end v) x) (suc v.noted);
+}

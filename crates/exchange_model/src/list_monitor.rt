@@ -1,0 +1,169 @@
+//! The plain monitor of a run, which lists all items.
+ghost use Rattle.std.specs.Prelude.{◌≡◌, ◌<◌, ◌≤◌, ◌+◌, ◌^◌, [], OnOk, OnErr, IfOk};
+ghost use Rattle.exchange_model.specs.Noting.{next_number, is_other_to};
+ghost use Rattle.exchange_model.specs.Listing.{is_answer_to, last_sent, last_answer, side_in, list_after};
+
+use crate::reading::{delivered, is_reset_frame};
+use crate::side::{Sent, Side};
+use fsoe_base::{End, Memory};
+use param_load::Entry;
+use std::alloc::Global;
+use std::marker::Model;
+
+/// An item of an end, and the number of the peer's item that it answers, if it answers one.
+#[derive(Debug, Drop)]
+pub struct Listed {
+    sent: Sent,
+    answers: Option<u64>,
+}
+
+impl Listed {
+    /// Whether the item isn't a Reset frame and answers the peer's item with this number.
+    fn is_answer_to(&self, number: u64) -> bool
+        ensures { result ≡ is_answer_to number self.now }
+    {
+        match self.answers {
+            Some(answered) => !is_reset_frame(self.sent.bytes.bytes()) && answered == number,
+            None => false,
+        }
+    }
+}
+
+/// The newest of these items, oldest first.
+fn last_sent(items: &[Listed]) -> Option<Sent>
+    ensures { result ≡ last_sent items.now }
+{
+    if items.is_empty() {
+        return None;
+    }
+    Some(items[items.len() - 1].sent.copy())
+}
+
+/// The newest of these items that answers the peer's item with this number.
+fn last_answer(items: &[Listed], number: u64) -> Option<Sent>
+    ensures { result ≡ last_answer number items.now }
+{
+    let mut left = items.len();
+    while left > 0 {
+        left -= 1;
+        let item = &items[left];
+        if item.is_answer_to(number) {
+            return Some(item.sent.copy());
+        }
+    }
+    None
+}
+
+/// The newest item of an end with these items, and the item of its peer that it awaits.
+fn side(mine: &[Listed], theirs: &[Listed]) -> Side
+    ensures { result ≡ side_in mine.now theirs.now }
+{
+    let newest = last_sent(mine);
+    let awaited = match &newest {
+        Some(sent) => last_answer(theirs, sent.number),
+        None => None,
+    };
+    Side { newest, awaited }
+}
+
+/// Appends the item of an entry of the end with the first of these lists, where it sent a frame. True exactly where the entry
+/// is other. Unchanged after `Memory`.
+#[tactic(auto, using(crate::proofs::Lasts::last_sent_more))]
+fn add(mine: &mut Vec<Listed>, theirs: &[Listed], entry: &Entry) -> Result<bool, Memory>
+    requires { next_number (last_sent mine.old.items) < 2 ^ 64 }
+    ensures other { IfOk result (λ other. other ≡ is_other_to (side_in mine.old.items theirs.now) entry.now) }
+    ensures items { OnOk result (mine.new.items ≡ list_after (side_in mine.old.items theirs.now) (side_in theirs.now mine.old.items) entry.now mine.old.items) }
+    ensures numbers { OnOk result (next_number (last_sent mine.new.items) ≤ next_number (last_sent mine.old.items) + 1) }
+    ensures err { OnErr result (mine.new.items ≡ mine.old.items) }
+{
+    let own = side(mine, theirs);
+    let peer = side(theirs, mine);
+    if !entry.sent.is_empty() {
+        let item = Listed {
+            sent: Sent {
+                number: own.next_number(),
+                bytes: entry.sent.copy(),
+            },
+            answers: own.answered(&peer, delivered(&entry.what), &entry.did.took),
+        };
+        if mine.push(item).is_err() {
+            return Err(Memory);
+        }
+    }
+    Ok(own.is_other(entry))
+}
+
+/// Finds the first other entry of a run of both ends, by lists of all frames that they sent: the plain program that `Monitor`
+/// is compared with.
+#[derive(Drop)]
+pub struct ListMonitor {
+    noted: u64,
+    other: Option<u64>,
+    master: Vec<Listed>,
+    slave: Vec<Listed>,
+}
+
+impl Model for ListMonitor {
+    ghost use Rattle.std.specs.Prelude.{◌≤◌, suc};
+    ghost use Rattle.exchange_model.specs.Noting.{next_number};
+    ghost use Rattle.exchange_model.specs.Listing.{last_sent, ListView};
+
+    ghost Value = { ListView };
+
+    ghost view = { λ m. record { noted = m.noted; other = m.other; master = m.master.items; slave = m.slave.items } };
+
+    ghost invariant = { λ m. (next_number (last_sent m.master.items) ≤ suc m.noted) × (next_number (last_sent m.slave.items) ≤ suc m.noted) };
+}
+
+impl ListMonitor {
+    ghost use Rattle.std.specs.Prelude.{List};
+    ghost use Rattle.param_load.specs.declared.entry.Entry.{Entry};
+    ghost use Rattle.exchange_model.specs.Other.{first_other};
+    ghost use Rattle.exchange_model.specs.Listing.{list_of, listed_next, Lists};
+
+    /// A monitor that noted no entry.
+    pub fn new(alloc: Global) -> ListMonitor
+        ensures { result ≡ list_of [] }
+    {
+        ListMonitor {
+            noted: 0,
+            other: None,
+            master: Vec::new(alloc),
+            slave: Vec::new(alloc),
+        }
+    }
+
+    /// Notes the next entry of the run. Fewer than 2^64 - 1 entries were noted before. `Memory` where there is none for
+    /// another item; the monitor is then unchanged.
+    #[tactic(auto, using(crate::proofs::ListNoted::lists_by))]
+    pub fn note(&mut self, entry: &Entry) -> Result<(), Memory>
+        requires { self.old.noted + 1 < 2 ^ 64 }
+        ensures ok { OnOk result (Lists self.old entry.now self.new) }
+        ensures err { OnErr result (self.new ≡ self.old) }
+    {
+        self.step(entry)
+    }
+
+    fn step(&mut self, entry: &Entry) -> Result<(), Memory>
+        requires { self.old.noted + 1 < 2 ^ 64 }
+        ensures ok { OnOk result (self.new ≡ listed_next self.old entry.now) }
+        ensures err { OnErr result (self.new ≡ self.old) }
+    {
+        let other = match entry.end {
+            End::Master => add(&mut self.master, &self.slave, entry)?,
+            End::Slave => add(&mut self.slave, &self.master, entry)?,
+        };
+        self.noted += 1;
+        if other && self.other.is_none() {
+            self.other = Some(self.noted);
+        }
+        Ok(())
+    }
+
+    /// The number of the first other entry, from 1; None exactly where no entry that was noted is other.
+    pub fn other(&self) -> Option<u64>
+        ensures { (w : List Entry) → self.now ≡ list_of w → result ≡ first_other w }
+    {
+        self.other
+    }
+}
