@@ -8,6 +8,7 @@ pub mod Verdict
 pub mod Step
 pub mod Reactions
 pub mod Outputs
+pub mod Standing
 pub mod Entries
 pub mod WorkedRuns
 pub mod Neighbours

@@ -1,0 +1,22 @@
+-- What it means that a machine does what looking back says. `setup` makes the setup of an end from what the machine is set to,
+-- and `view_of` says what contracts see of the machine after these deeds.
+use Rattle.std.specs.Prelude.{◌≡◌, ℕ, List, ◌∷◌}
+use Rattle.fsoe_base.specs.declared.did.Did.{Did}
+use Rattle.param_load.specs.declared.entry.Move.{Move}
+use Rattle.end_model.specs.Setup.{Setup}
+use Rattle.end_model.specs.Deed.{Deed}
+use Rattle.end_model.specs.Step.{step, IsRun}
+
+-- a machine stands for these deeds: it is where they leave it, and each is the step of those before it
+pub record Stands {S V : Type 0} (setup : S → Setup) (view_of : S → List Deed → V) (settings : S) (v : V) (e : List Deed) : Type 0 where
+  pub is : v ≡ view_of settings e
+  pub reached : IsRun (setup settings) e
+
+-- a machine that stood for some deeds stands, after this event, for these and the next one
+pub record Follows {S V : Type 0} (setup : S → Setup) (view_of : S → List Deed → V) (old : V) (event : Move) (new : V) : Type 0 where
+  pub stands : (settings : S) (e : List Deed) → Stands setup view_of settings old e → Stands setup view_of settings new (step (setup settings) e event ∷ e)
+
+-- what a machine does at this event, and the frame that it sends, are those of the next deed
+pub record Answers {S V : Type 0} (setup : S → Setup) (view_of : S → List Deed → V) (old : V) (event : Move) (done : Did) (frame : List ℕ) : Type 0 where
+  pub did : (settings : S) (e : List Deed) → Stands setup view_of settings old e → done ≡ (step (setup settings) e event).did
+  pub sent : (settings : S) (e : List Deed) → Stands setup view_of settings old e → frame ≡ (step (setup settings) e event).sent
