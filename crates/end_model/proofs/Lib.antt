@@ -15,7 +15,6 @@ pub mod AgeBelow
 pub mod WholeUploads
 pub mod Links
 pub mod ReadBack
-pub mod WholeUploads
 pub mod SealedFrames
 pub mod Neighbours
 pub mod Repeats

@@ -8,3 +8,4 @@ pub mod States
 pub mod Taken
 pub mod Verdict
 pub mod Views
+pub mod ViewOf

@@ -1,0 +1,190 @@
+-- What an event leaves at the machine is what looking back gives: where nothing is taken.
+use Rattle.std.proofs.Common.{◌≡◌, ◌≢◌, ℕ, suc, ◌+◌, ◌<◌, ◌==◌, nat_le, List, [], ◌∷◌, length, Bool, true, false, None, Some, if◌then◌else◌, refl, sym, ap, subst, ◌∙◌, arith}
+use Rattle.std.proofs.lemmas.Bool.Decides.{nat_tests}
+use Rattle.fsoe_base.specs.declared.command.Code.{Code}
+use Rattle.fsoe_base.specs.declared.command.Command.TheVariants as command
+use Rattle.fsoe_base.specs.declared.command.State.{State}
+use Rattle.fsoe_base.specs.declared.command.State.TheVariants as state
+use Rattle.fsoe_base.specs.declared.did.Cause.{Cause}
+use Rattle.fsoe_base.specs.declared.did.Cause.TheVariants as cause
+use Rattle.fsoe_base.specs.declared.did.Did.{Did}
+use Rattle.fsoe_base.specs.declared.did.Dropped.{Dropped}
+use Rattle.fsoe_base.specs.declared.did.Dropped.TheVariants as why
+use Rattle.fsoe_base.specs.Command.{code}
+use Rattle.fsoe_base.specs.Did.{nothing, dropped}
+use Rattle.fsoe_frame.specs.Parts.{AreBytes}
+use Rattle.seq_chain.specs.Cover.{first_of}
+use Rattle.seq_chain.specs.Reset.{reset_frame}
+use Rattle.param_load.specs.declared.entry.Move.{Move}
+use Rattle.param_load.specs.declared.entry.Move.TheVariants as move
+use Rattle.param_load.specs.declared.profile.Profile.{Profile}
+use Rattle.param_load.specs.declared.profile.Profile.TheVariants as profile
+use Rattle.param_load.specs.declared.slave_settings.SlaveSettings.{SlaveSettings}
+use Rattle.param_load.specs.Payload.{number_at}
+use Rattle.param_load.specs.Profile.{allows_id}
+use Rattle.end_model.specs.Setup.{OfSlave}
+use Rattle.end_model.specs.Deed.{Deed}
+use Rattle.end_model.specs.Payloads.{whole}
+use Rattle.end_model.specs.Readiness.{state_of, ticks, slave_age, limit, slave_limit}
+use Rattle.end_model.specs.Step.{takes, resets, on_fault, on_reset_frame, on_expiry, code_sent, deed_of}
+use Rattle.slave_core.specs.declared.now.Now.{Now}
+use Rattle.slave_core.specs.Kit.{KitView}
+use Rattle.slave_core.specs.Slave.{Outcome, quiet, drops, falls, refuses, reset_by_peer, tick_in_session, tick_of}
+use Rattle.slave_core.specs.SlaveView.{SlaveView}
+use Rattle.slave_core.specs.ViewOf.{notes_of, kit_of, now_in, view_in, view_of}
+use Rattle.slave_core.proofs.Sound.{Sound}
+use Rattle.slave_core.proofs.SameVerdict.{came}
+
+-- bytes that are delivered are bytes
+abbrev pub AreRead : Move → Type 0
+AreRead (move.Deliver bytes) = AreBytes bytes
+AreRead _ = Unit {0}
+
+-- an outcome is what the next deed leaves, does and sends
+pub record Agrees (ss : SlaveSettings) (e : List Deed) (m : Move) (d : Did) (o : Outcome) : Type 0 where
+  pub view : AreRead m → view_of ss (deed_of (OfSlave ss) e m d ∷ e) ≡ o.slave
+  pub did : d ≡ o.did
+  pub sent : (deed_of (OfSlave ss) e m d).sent ≡ o.sent
+  pub sound : Sound ss (deed_of (OfSlave ss) e m d ∷ e)
+
+-- a slave by its parts
+abbrev pub slave_at : KitView → Now → ℕ → ℕ → SlaveView
+slave_at kit now limit age = record { kit = kit; state = now; timer = record { limit = limit; age = age } }
+
+pub same_slave : (k k' : KitView) (n n' : Now) (l l' a a' : ℕ) → k ≡ k' → n ≡ n' → l ≡ l' → a ≡ a' → slave_at k n l a ≡ slave_at k' n' l' a'
+same_slave k k' n n' l l' a a' h i j g = rw (h, i, j, g) refl
+
+-- without parameters the limit is that of a handshake
+none_whole : (p : Profile) (a b : ℕ) → (if whole p state.Parameter [] then a else b) ≡ b
+none_whole profile.One a b = refl
+none_whole (profile.Two word) a b = refl
+
+pub fresh_limit : (ss : SlaveSettings) → slave_limit ss [] ≡ ss.hand
+fresh_limit ss = none_whole ss.profile (number_at 2 []) ss.hand
+
+-- a frame is dropped
+pub drop-agrees : (p : State) (ss : SlaveSettings) (e : List Deed) (bytes : List ℕ) (passed : Bool) (because : Dropped) → state_of (OfSlave ss) e ≡ p → Sound ss e
+    → Agrees ss e (move.Deliver bytes) (record (dropped because) { passed = passed }) (drops (view_in p ss e) passed because)
+drop-agrees p ss e bytes passed because now s = record {
+  view = λ r. ap (λ (p : State). view_in p ss e) now;
+  did = refl;
+  sent = refl;
+  sound = record { in_state = s.in_state; offer_len = s.offer_len; young = s.young };
+}
+
+-- the session ends
+pub resets-agree : (p : State) (ss : SlaveSettings) (e : List Deed) (m : Move) (passed : Bool) (because : Cause) (x : Code)
+    → kit_of ss (deed_of (OfSlave ss) e m (resets passed because) ∷ e) ≡ kit_of ss e → code_sent because ≡ x.0 → Sound ss e
+    → Agrees ss e m (resets passed because) (falls (view_in p ss e) passed because x)
+resets-agree p ss e m passed because x k c s = record {
+  view = λ r. same_slave _ _ _ _ _ _ _ _ k refl (fresh_limit ss) refl;
+  did = refl;
+  sent = ap (λ (n : ℕ). reset_frame n ss.lengths.slave) c;
+  sound = record { in_state = (refl, refl); offer_len = ap (λ (k : KitView). length k.offer) k ∙ s.offer_len; young = λ h. absurd (h refl) };
+}
+
+-- a test fails
+pub fault-agrees : (p : State) (ss : SlaveSettings) (e : List Deed) (bytes : List ℕ) (passed : Bool) (x : Code) → state_of (OfSlave ss) e ≡ p → Sound ss e
+    → Agrees ss e (move.Deliver bytes) (on_fault p passed x) (refuses (view_in p ss e) passed x)
+fault-agrees state.Reset ss e bytes passed x now s = drop-agrees state.Reset ss e bytes passed why.InReset now s
+fault-agrees state.Session ss e bytes passed x now s = resets-agree state.Session ss e (move.Deliver bytes) passed (cause.Found x) x refl refl s
+fault-agrees state.Connection ss e bytes passed x now s = resets-agree state.Connection ss e (move.Deliver bytes) passed (cause.Found x) x refl refl s
+fault-agrees state.Parameter ss e bytes passed x now s = resets-agree state.Parameter ss e (move.Deliver bytes) passed (cause.Found x) x refl refl s
+fault-agrees state.Data ss e bytes passed x now s = resets-agree state.Data ss e (move.Deliver bytes) passed (cause.Found x) x refl refl s
+
+-- a valid Reset frame
+acknowledged : (ss : SlaveSettings) (e : List Deed) (bytes load : List ℕ) (x : Code) → Sound ss e
+    → Agrees ss e (move.Deliver bytes) (takes command.Reset load) (reset_by_peer (view_in state.Reset ss e) x load)
+acknowledged ss e bytes load x s = record {
+  view = λ r. same_slave _ _ _ _ _ _ _ _ refl refl (fresh_limit ss) refl;
+  did = refl;
+  sent = refl;
+  sound = record { in_state = (refl, refl); offer_len = s.offer_len; young = λ h. absurd (h refl) };
+}
+
+peer-resets : (p : State) (ss : SlaveSettings) (e : List Deed) (bytes : List ℕ) (x y : Code) → x ≡ y → Sound ss e
+    → Agrees ss e (move.Deliver bytes) (resets false (cause.Peer y)) (falls (view_in p ss e) false (cause.Peer x) (code 0))
+peer-resets p ss e bytes x y h s =
+    subst (λ (x : Code). Agrees ss e (move.Deliver bytes) (resets false (cause.Peer y)) (falls (view_in p ss e) false (cause.Peer x) (code 0))) (sym h)
+    (resets-agree p ss e (move.Deliver bytes) false (cause.Peer y) (code 0) refl refl s)
+
+pub reset_frame-agrees : (p : State) (ss : SlaveSettings) (e : List Deed) (bytes load : List ℕ) (x : Code) → x ≡ code (first_of load) → Sound ss e
+    → Agrees ss e (move.Deliver bytes) (on_reset_frame p (OfSlave ss) load) (reset_by_peer (view_in p ss e) x load)
+reset_frame-agrees state.Reset ss e bytes load x h s = acknowledged ss e bytes load x s
+reset_frame-agrees state.Session ss e bytes load x h s = peer-resets state.Session ss e bytes x (code (first_of load)) h s
+reset_frame-agrees state.Connection ss e bytes load x h s = peer-resets state.Connection ss e bytes x (code (first_of load)) h s
+reset_frame-agrees state.Parameter ss e bytes load x h s = peer-resets state.Parameter ss e bytes x (code (first_of load)) h s
+reset_frame-agrees state.Data ss e bytes load x h s = peer-resets state.Data ss e bytes x (code (first_of load)) h s
+
+-- what outlasts sessions is set
+pub put-agrees : (ss : SlaveSettings) (e : List Deed) (load : List ℕ) → length load ≡ ss.lengths.slave → Sound ss e
+    → Agrees ss e (move.Put load) nothing (quiet (record (view_of ss e) { kit = record (kit_of ss e) { offer = load } }))
+put-agrees ss e load h s = record { view = λ r. refl; did = refl; sent = refl; sound = record { in_state = s.in_state; offer_len = h; young = s.young } }
+
+pub hold-agrees : (ss : SlaveSettings) (e : List Deed) (failsafe : Bool) → Sound ss e
+    → Agrees ss e (move.Hold failsafe) nothing (quiet (record (view_of ss e) { kit = record (kit_of ss e) { held = failsafe } }))
+hold-agrees ss e failsafe s = record { view = λ r. refl; did = refl; sent = refl; sound = record { in_state = s.in_state; offer_len = s.offer_len; young = s.young } }
+
+pub nonce-agrees : (ss : SlaveSettings) (e : List Deed) (id : ℕ) → Sound ss e
+    → Agrees ss e (move.Nonce id) nothing (quiet (record (view_of ss e) { kit = record (kit_of ss e) { nonce = id } }))
+nonce-agrees ss e id s = record { view = λ r. refl; did = refl; sent = refl; sound = record { in_state = s.in_state; offer_len = s.offer_len; young = s.young } }
+
+-- a tick
+abbrev tick_by : Bool → SlaveView → Outcome
+tick_by b v =
+    if b
+    then falls v false (cause.Found (code 0x05)) (code 0x05)
+    else quiet (record v { timer = record { limit = v.timer.limit; age = if b then 0 else v.timer.age + 1 } })
+
+one-more : (a t : ℕ) → a ≡ t → suc t ≡ a + 1
+one-more a t h = omega arith
+
+meets : (a t l : ℕ) → a ≡ t → t < l → nat_le l (suc t) ≡ (a + 1 == l)
+meets a t l h k = grind (arith, nat_tests)
+
+later : (t l : ℕ) → nat_le l (suc t) ≡ false → suc t < l
+later t l h = grind (arith, nat_tests)
+
+counts : (p : State) (ss : SlaveSettings) (e : List Deed) (b : Bool) → state_of (OfSlave ss) e ≡ p → slave_age p (ticks (OfSlave ss) e) ≡ ticks (OfSlave ss) e → slave_age p (suc (ticks (OfSlave ss) e)) ≡ suc (ticks (OfSlave ss) e)
+    → nat_le (limit (OfSlave ss) e) (suc (ticks (OfSlave ss) e)) ≡ b → Sound ss e
+    → Agrees ss e move.Tick (if b then resets false (cause.Found (code 0x05)) else nothing) (tick_by b (view_in p ss e))
+counts p ss e true now a n h s = resets-agree p ss e move.Tick false (cause.Found (code 0x05)) (code 0x05) refl refl s
+counts p ss e false now a n h s = record {
+  view = λ r. same_slave _ _ _ _ _ _ _ _ refl (ap (λ (p : State). now_in p ss (notes_of ss e)) now) refl (ap (λ (p : State). slave_age p (suc (ticks (OfSlave ss) e))) now ∙ n ∙ one-more _ _ a);
+  did = refl;
+  sent = refl;
+  sound = record { in_state = s.in_state; offer_len = s.offer_len; young = λ k. later (ticks (OfSlave ss) e) (limit (OfSlave ss) e) h };
+}
+
+in-session : (p : State) (ss : SlaveSettings) (e : List Deed) → state_of (OfSlave ss) e ≡ p → p ≢ state.Reset → slave_age p (ticks (OfSlave ss) e) ≡ ticks (OfSlave ss) e → slave_age p (suc (ticks (OfSlave ss) e)) ≡ suc (ticks (OfSlave ss) e) → Sound ss e
+    → Agrees ss e move.Tick (if nat_le (limit (OfSlave ss) e) (suc (ticks (OfSlave ss) e)) then resets false (cause.Found (code 0x05)) else nothing) (tick_in_session (view_in p ss e))
+in-session p ss e now some a n s =
+    let t : ℕ = ticks (OfSlave ss) e in
+    let l : ℕ = limit (OfSlave ss) e in
+    let young : t < l = s.young (λ k. some (sym now ∙ k)) in
+    subst (λ (b : Bool). Agrees ss e move.Tick (if nat_le l (suc t) then resets false (cause.Found (code 0x05)) else nothing) (tick_by b (view_in p ss e)))
+    (meets (slave_age p t) t l a young)
+    (counts p ss e (nat_le l (suc t)) now a n refl s)
+
+rests : (ss : SlaveSettings) (e : List Deed) (b : Bool) → state_of (OfSlave ss) e ≡ state.Reset → Sound ss e
+    → Agrees ss e move.Tick (if b then nothing else nothing) (quiet (view_in state.Reset ss e))
+rests ss e true now s = record {
+  view = λ r. ap (λ (p : State). slave_at (kit_of ss e) (now_in p ss (notes_of ss e)) (limit (OfSlave ss) e) (slave_age p (suc (ticks (OfSlave ss) e)))) now;
+  did = refl;
+  sent = refl;
+  sound = record { in_state = s.in_state; offer_len = s.offer_len; young = λ k. absurd (k now) };
+}
+rests ss e false now s = record {
+  view = λ r. ap (λ (p : State). slave_at (kit_of ss e) (now_in p ss (notes_of ss e)) (limit (OfSlave ss) e) (slave_age p (suc (ticks (OfSlave ss) e)))) now;
+  did = refl;
+  sent = refl;
+  sound = record { in_state = s.in_state; offer_len = s.offer_len; young = λ k. absurd (k now) };
+}
+
+pub tick-agrees : (p : State) (ss : SlaveSettings) (e : List Deed) → state_of (OfSlave ss) e ≡ p → Sound ss e
+    → Agrees ss e move.Tick (if nat_le (limit (OfSlave ss) e) (suc (slave_age p (ticks (OfSlave ss) e))) then on_expiry p (OfSlave ss) else nothing) (tick_of (view_in p ss e))
+tick-agrees state.Reset ss e now s = rests ss e (nat_le (limit (OfSlave ss) e) 1) now s
+tick-agrees state.Session ss e now s = in-session state.Session ss e now (λ k. cc) refl refl s
+tick-agrees state.Connection ss e now s = in-session state.Connection ss e now (λ k. cc) refl refl s
+tick-agrees state.Parameter ss e now s = in-session state.Parameter ss e now (λ k. cc) refl refl s
+tick-agrees state.Data ss e now s = in-session state.Data ss e now (λ k. cc) refl refl s

@@ -1,0 +1,119 @@
+-- What is known of a frame of a session that came, and how the chain goes on by it.
+use Rattle.std.proofs.Common.{◌≡◌, ℕ, suc, ◌+◌, ◌-◌, ◌*◌, ◌≤◌, ◌==◌, min, List, [], ◌∷◌, ◌++◌, length, take, drop, slice_index, Bool, true, false, IsTrue, Option, Some, None, if◌then◌else◌, refl, sym, ap, subst, ◌∙◌, arith}
+use Rattle.std.proofs.lemmas.Grind.{common_steps}
+use Rattle.std.proofs.Common.{length-append, suc-mul}
+use Rattle.fsoe_base.specs.declared.command.Command.{Command}
+use Rattle.fsoe_base.specs.declared.command.Command.TheVariants as command
+use Rattle.fsoe_base.specs.declared.command.State.{State}
+use Rattle.fsoe_base.specs.declared.command.State.TheVariants as state
+use Rattle.fsoe_base.specs.Command.{command_byte, command_of}
+use Rattle.fsoe_base.specs.Lengths.{frame_len}
+use Rattle.fsoe_frame.specs.Parts.{AreBytes, bytes_of, frame_of}
+use Rattle.fsoe_frame.proofs.Places.{Whole, FrameAt, whole, frame_at}
+use Rattle.seq_chain.specs.declared.chain.Chain.{Chain}
+use Rattle.seq_chain.specs.Cover.{first_of}
+use Rattle.seq_chain.specs.Sealing as sealing
+use Rattle.param_load.specs.declared.entry.Move.TheVariants as move
+use Rattle.param_load.specs.declared.profile.Profile.{Profile}
+use Rattle.param_load.specs.declared.slave_settings.SlaveSettings.{SlaveSettings}
+use Rattle.param_load.specs.Payload.{session_payload, piece_from, padded}
+use Rattle.end_model.specs.Setup.{Setup, OfSlave, sends, receives, piece_len}
+use Rattle.end_model.specs.Phases.{phase_of, phase_of_known, phase_of_frame, same_phase, has_command, is_reset}
+use Rattle.end_model.specs.Deed.{Deed, is_empty}
+use Rattle.end_model.specs.Chain.{own_link, taken_link}
+use Rattle.end_model.specs.Payloads.{or_else, first_some}
+use Rattle.end_model.specs.Step.{takes}
+use Rattle.end_model.proofs.Links.{own_crc}
+use Rattle.slave_core.specs.States.{answered}
+use Rattle.slave_core.proofs.SameVerdict.{came}
+
+-- a frame of the master's length whose command byte is that of a command
+pub record Arrived (ss : SlaveSettings) (bytes : List ℕ) (c : Command) : Type 0 where
+  pub load_len : length (came ss bytes).load ≡ ss.lengths.master
+  pub phase_is : phase_of_frame bytes ≡ phase_of c
+  pub connects : has_command command.Connection bytes ≡ (command_byte c == command_byte command.Connection)
+  pub back : AreBytes bytes → bytes_of (came ss bytes) ≡ bytes
+
+byte-of : (b : ℕ) (c : Command) → command_of b ≡ Some c → b ≡ command_byte c
+byte-of b c h = grind arith
+
+heads : (bytes : List ℕ) (c : Command) → command_of (slice_index bytes 0) ≡ Some c → (phase_of_frame bytes ≡ phase_of c) × (has_command command.Connection bytes ≡ (command_byte c == command_byte command.Connection))
+heads [] c h = absurd (cc h)
+heads (b ∷ bytes) c h = (ap phase_of_known h, ap (λ (n : ℕ). n == command_byte command.Connection) (byte-of b c h))
+
+pub arrived : (ss : SlaveSettings) (bytes : List ℕ) (c : Command) → length bytes ≡ frame_len ss.lengths.master → command_of (came ss bytes).cmd ≡ Some c → Arrived ss bytes c
+arrived ss bytes c len named =
+    let w : Whole ss.lengths.master bytes (came ss bytes) = whole ss.lengths.master bytes ss.lengths.valid_master len in
+    let at : FrameAt ss.lengths.master bytes (came ss bytes) = frame_at ss.lengths.master bytes ss.lengths.valid_master len in
+    let h = heads bytes c (ap command_of (sym at.cmd_is) ∙ named) in
+    record { load_len = w.load; phase_is = h.0; connects = h.1; back = w.back }
+
+-- the chain of these deeds
+abbrev pub chain_at : Setup → List Deed → Chain
+chain_at s e = record { own = own_link s e; taken = taken_link s e }
+
+-- the chain with one deed more, which took a frame and sent an answer
+pub chain-next : (s : Setup) (e : List Deed) (bytes load sent : List ℕ) (c : Command) (conn : ℕ) (c2 : Command) (answer : List ℕ) → is_reset c ≡ false → is_empty sent ≡ false
+    → frame_of (sends s) sent ≡ sealing.sealed (first_of (frame_of (receives s) bytes).crcs) (own_link s e) conn (command_byte c2) answer
+    → chain_at s (record { what = move.Deliver bytes; did = takes c load; sent = sent } ∷ e) ≡ answered (chain_at s e) (record { command = c; frame = frame_of (receives s) bytes }) conn c2 answer
+chain-next s e bytes load sent c conn c2 answer r some back = simp (r, some, back, own_crc)
+
+-- the first bytes of a load
+pub piece-len : (load : List ℕ) (l c : ℕ) → length load ≡ l → c ≤ l → length (take c load) ≡ c
+piece-len load l c h k = grind (arith, common_steps)
+
+-- a piece and zeros fill a frame
+pub filled : (bytes : List ℕ) (c l : ℕ) → c ≤ l → length (padded (take c bytes) l) ≡ l
+filled bytes c l h = grind (arith, common_steps)
+
+skips : (u p : List ℕ) → drop (length u) (u ++ p) ≡ p
+skips [] p = refl
+skips (b ∷ u) p = skips u p
+
+-- the piece that came last
+pub last-piece : (u p : List ℕ) (c : ℕ) → length p ≡ c → drop (length (u ++ p) - c) (u ++ p) ≡ p
+last-piece u p c h =
+    let long : length (u ++ p) ≡ length u + length p = length-append u p in
+    let n : length (u ++ p) - c ≡ length u = omega arith in
+    ap (λ (n : ℕ). drop n (u ++ p)) n ∙ skips u p
+
+-- a piece is at most as long as a frame of either end
+pub piece-own : (ss : SlaveSettings) → piece_len (OfSlave ss) ≤ ss.lengths.slave
+piece-own ss = omega arith
+
+pub piece-peer : (ss : SlaveSettings) → piece_len (OfSlave ss) ≤ ss.lengths.master
+piece-peer ss = omega arith
+
+-- the piece of the slave's id with the number of the frame begins where the joined bytes end
+from-is : (ph : State) (k c len : ℕ) → ph ≡ state.Session → len ≡ k * c → ((if same_phase state.Session ph then suc k else k) - 1) * c ≡ len
+from-is ph k c len h g = rw h (let z : suc k - 1 ≡ k = omega arith in ap (λ (j : ℕ). j * c) z ∙ sym g)
+
+pub id-piece : (p : Profile) (c : ℕ) (o : Option ℕ) (nonce i k len : ℕ) (ph : State) → ph ≡ state.Session → or_else o nonce ≡ i → len ≡ k * c
+    → piece_from (session_payload (or_else o nonce) p) (((if same_phase state.Session ph then suc k else k) - 1) * c) c ≡ piece_from (session_payload i p) len c
+id-piece p c o nonce i k len ph h g j =
+    ap (λ (n : ℕ). piece_from (session_payload (or_else o nonce) p) n c) (from-is ph k c len h j)
+    ∙ ap (λ (n : ℕ). piece_from (session_payload n p) len c) g
+
+-- the count of frames, each with a piece
+pub count-next : (u p : List ℕ) (k c : ℕ) (ph : State) → ph ≡ state.Session → length u ≡ k * c → length p ≡ c → length (u ++ p) ≡ (if same_phase state.Session ph then suc k else k) * c
+count-next u p k c ph h g j =
+    let long : length (u ++ p) ≡ length u + length p = length-append u p in
+    let more : suc k * c ≡ k * c + c = suc-mul k c in
+    rw h (omega arith)
+
+-- the first of these where it is there
+pub keeps : (o next : Option ℕ) (k : ℕ) → o ≡ Some k → first_some o next ≡ Some k
+keeps o next k h = ap (λ (o : Option ℕ). first_some o next) h
+
+pub connects-first : (o : Option ℕ) (b : Bool) (k : ℕ) → b ≡ true → first_some o (Some k) ≡ Some k → first_some o (if b then Some k else None) ≡ Some k
+connects-first o b k h g = rw h g
+
+pub connects-none : (o : Option ℕ) (b : Bool) (k : ℕ) → b ≡ false → o ≡ None → first_some o (if b then Some k else None) ≡ None
+connects-none o b k h g = rw (h, g) refl
+
+-- an id that is there
+pub is-there : (o : Option ℕ) (k : ℕ) → o ≡ Some k → o ≡ Some (or_else o 0)
+is-there o k h = rw h refl
+
+pub there : (o : Option ℕ) (k : ℕ) → o ≡ Some k → or_else o 0 ≡ k
+there o k h = rw h refl
