@@ -4,3 +4,7 @@ pub mod Sound
 pub mod SameVerdict
 pub mod Agrees
 pub mod Arrived
+pub mod TakenSession
+pub mod TakenConnection
+pub mod TakenParameter
+pub mod TakenData

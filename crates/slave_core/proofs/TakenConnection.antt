@@ -1,0 +1,138 @@
+-- A Connection frame that passed the tests: what the machine does is what looking back gives.
+use Rattle.std.proofs.Common.{◌≡◌, ◌==◌, ℕ, ◌+◌, ◌-◌, ◌<◌, ◌≤◌, nat_le, nat_lt, Bool, true, false, ◌&&◌, not, List, [], ◌∷◌, ◌++◌, length, take, drop, Option, Some, None, if◌then◌else◌, refl, sym, ap, subst, ◌∙◌, inl, inr, arith}
+use Rattle.std.proofs.lemmas.List.{get_or_append_left}
+use Rattle.std.proofs.lemmas.Bool.{eqb-true}
+use Rattle.std.proofs.lemmas.Bool.Decides.{leb_tells}
+use Rattle.fsoe_base.specs.declared.command.Code.{Code}
+use Rattle.fsoe_base.specs.declared.command.Command.TheVariants as command
+use Rattle.fsoe_base.specs.declared.command.State.{State}
+use Rattle.fsoe_base.specs.Command.{code}
+use Rattle.seq_chain.specs.declared.chain.Chain.{Chain}
+use Rattle.param_load.specs.declared.contents.Expected.TheVariants as expected
+use Rattle.param_load.specs.declared.entry.Move.TheVariants as move
+use Rattle.param_load.specs.declared.slave_settings.SlaveSettings.{SlaveSettings}
+use Rattle.param_load.specs.Contents.{or_else as first_fault, fails, connection_fault, padding_fault, contents_fault}
+use Rattle.param_load.specs.Payload.{number_at, padded}
+use Rattle.param_load.specs.Upload.{advanced, outcome_by, last_piece}
+use Rattle.param_load.specs.UploadView.{UploadView}
+use Rattle.end_model.specs.Setup.{OfSlave, piece_len}
+use Rattle.end_model.specs.Phases.{has_command}
+use Rattle.end_model.specs.Deed.{Deed}
+use Rattle.end_model.specs.Chain.{since, seal}
+use Rattle.end_model.specs.Payloads.{or_else, first_some, slave_conn, conn_id}
+use Rattle.end_model.specs.Readiness.{state_of, slave_limit}
+use Rattle.end_model.specs.Step.{takes, on_verdict, begun}
+use Rattle.end_model.specs.Verdict.{judged_contents, contents}
+use Rattle.end_model.proofs.ReadBack.{read_back}
+use Rattle.slave_core.specs.declared.now.Now.TheVariants as now
+use Rattle.slave_core.specs.Seen.{SeenView}
+use Rattle.slave_core.specs.Slave.{Outcome, settles}
+use Rattle.slave_core.specs.States.{answered, answer, connection_by, echo_reply_by}
+use Rattle.slave_core.specs.Taken.{as_connection}
+use Rattle.slave_core.specs.ViewOf.{notes_of, kit_of, upload_of, view_in}
+use Rattle.slave_core.proofs.Sound.{Sound}
+use Rattle.slave_core.proofs.SameVerdict.{came}
+use Rattle.slave_core.proofs.Agrees.{Agrees, same_slave, fresh_limit, fault-agrees}
+use Rattle.slave_core.proofs.Arrived.{Arrived, chain-next, piece-len, filled, piece-own, piece-peer, last-piece, connects-first, is-there, there}
+
+-- a number in the joined bytes stays what it was tested to be
+stays : (u p : List ℕ) (k : ℕ) → k + 1 < length u → number_at k (u ++ p) ≡ number_at k u
+stays u p k h = grind (arith, get_or_append_left u p 0 k (omega arith), get_or_append_left u p 0 (k + 1) h)
+
+passes : (t b : Bool) → t ≡ true → (t && not b) ≡ false → b ≡ true
+passes true true h e = refl
+passes true false h e = cc
+passes false b h e = cc
+
+said : (u p : List ℕ) (k n : ℕ) → (k + 2 ≤ length u → number_at k u ≡ n) → fails (length u) (u ++ p) (k + 1) (number_at k (u ++ p) == n) ≡ false
+    → k + 2 ≤ length (u ++ p) → number_at k (u ++ p) ≡ n
+said u p k n before tested long =
+    elim (leb_tells (length u) (k + 1)) [
+      | inl t ↦ eqb-true (number_at k (u ++ p)) n (passes (nat_le (length u) (k + 1) && nat_lt (k + 1) (length (u ++ p))) (number_at k (u ++ p) == n) (grind arith) tested)
+      | inr t ↦ stays u p k (let l : k + 1 < length u = t.1 in omega arith) ∙ before (let l : k + 1 < length u = t.1 in omega arith)
+    ]
+
+fields : (a b : Option Code) → first_fault a b ≡ None → a ≡ None
+fields None b e = refl
+fields (Some x) b e = absurd (cc e)
+
+both : (t t' : Bool) (x y : Code) → (if t then Some x else if t' then Some y else None) ≡ None → (t ≡ false) × (t' ≡ false)
+both true t' x y e = absurd (cc e)
+both false true x y e = absurd (cc e)
+both false false x y e = (refl, refl)
+
+-- the connection id and the address that were joined are the session's and the slave's
+said-both : (conn address : ℕ) (u p rest : List ℕ) → (2 ≤ length u → number_at 0 u ≡ conn) → (4 ≤ length u → number_at 2 u ≡ address)
+    → contents_fault (expected.Connection conn address) (length u) (u ++ p) rest ≡ None
+    → (2 ≤ length (u ++ p) → number_at 0 (u ++ p) ≡ conn) × (4 ≤ length (u ++ p) → number_at 2 (u ++ p) ≡ address)
+said-both conn address u p rest h g f =
+    let t = both (fails (length u) (u ++ p) 1 (number_at 0 (u ++ p) == conn)) (fails (length u) (u ++ p) 3 (number_at 2 (u ++ p) == address)) (code 0x03) (code 0x06)
+    (fields (connection_fault conn address (length u) (u ++ p)) (padding_fault (expected.Connection conn address) (u ++ p) rest) f) in
+    (said u p 0 conn h t.0, said u p 2 address g t.1)
+
+abbrev seen : SlaveSettings → List ℕ → SeenView
+seen ss bytes = record { command = command.Connection; frame = came ss bytes }
+
+abbrev upload_at : SlaveSettings → ℕ → List ℕ → UploadView
+upload_at ss conn joined = upload_of ss (expected.Connection conn ss.address) joined
+
+-- the machine at a Connection frame whose contents fail, or not
+abbrev pub connection_settles : Option Code → State → SlaveSettings → List Deed → List ℕ → Chain → ℕ → List ℕ → Outcome
+connection_settles w p ss e bytes chain conn joined =
+    settles (view_in p ss e) (seen ss bytes)
+    (echo_reply_by (outcome_by w (advanced (upload_at ss conn joined) (came ss bytes).load)) command.Connection (kit_of ss e) chain conn (upload_at ss conn joined) (seen ss bytes))
+    (as_connection (connection_by (outcome_by w (advanced (upload_at ss conn joined) (came ss bytes).load)) (kit_of ss e) chain conn (upload_at ss conn joined) (seen ss bytes)))
+
+-- what is noted before a Connection frame with this connection id
+pub record Joining (ss : SlaveSettings) (e : List Deed) (conn : ℕ) : Type 0 where
+  pub conn_next : first_some (slave_conn ss e) (Some conn) ≡ Some conn
+  pub conn_said : 2 ≤ length (notes_of ss e).connection → number_at 0 (notes_of ss e).connection ≡ conn
+  pub address_said : 4 ≤ length (notes_of ss e).connection → number_at 2 (notes_of ss e).connection ≡ ss.address
+  pub no_parameter : (notes_of ss e).parameter ≡ []
+
+same_connection : (k address : ℕ) (c c' : Chain) (i i' : ℕ) (u : List ℕ) (l l' : List ℕ) → c ≡ c' → i ≡ i' → l ≡ l'
+    → now.Connection (record { chain = c; conn = i; upload = record { expected = expected.Connection i address; piece = k; joined = u }; last = l })
+    ≡ now.Connection (record { chain = c'; conn = i'; upload = record { expected = expected.Connection i' address; piece = k; joined = u }; last = l' })
+same_connection k address c c' i i' u l l' h j g = rw (h, j, g) refl
+
+pub connection-agrees : (w : Option Code) (p : State) (ss : SlaveSettings) (e : List Deed) (bytes : List ℕ) → contents (OfSlave ss) e command.Connection (came ss bytes) ≡ w → state_of (OfSlave ss) e ≡ p → Sound ss e
+    → Joining ss e (came ss bytes).conn → Arrived ss bytes command.Connection
+    → Agrees ss e (move.Deliver bytes) (on_verdict p (OfSlave ss) (judged_contents command.Connection (came ss bytes).load w)) (connection_settles w p ss e bytes (notes_of ss e).chain (came ss bytes).conn (notes_of ss e).connection)
+connection-agrees (Some x) p ss e bytes tested at s j a = fault-agrees p ss e bytes true x at s
+connection-agrees None p ss e bytes tested at s j a =
+    let load : List ℕ = (came ss bytes).load in
+    let conn : ℕ = (came ss bytes).conn in
+    let c : ℕ = piece_len (OfSlave ss) in
+    let before : List Deed = begun (move.Deliver bytes) (takes command.Connection load) ∷ e in
+    let long : length (take c load) ≡ c = piece-len load ss.lengths.master c a.load_len (piece-peer ss) in
+    let echo : List ℕ = drop (length ((notes_of ss e).connection ++ take c load) - c) ((notes_of ss e).connection ++ take c load) in
+    let echo_is : echo ≡ take c load = last-piece (notes_of ss e).connection (take c load) c long in
+    let full : length (padded (take c load) ss.lengths.slave) ≡ ss.lengths.slave = filled load c ss.lengths.slave (piece-own ss) in
+    let next : slave_conn ss before ≡ Some conn = connects-first (slave_conn ss e) (has_command command.Connection bytes) conn a.connects j.conn_next in
+    let conn_is : conn_id (OfSlave ss) before ≡ conn = there _ conn next in
+    let limit_is : slave_limit ss (notes_of ss e).parameter ≡ ss.hand = ap (slave_limit ss) j.no_parameter ∙ fresh_limit ss in
+    let fields = said-both conn ss.address (notes_of ss e).connection (take c load) (drop c load) j.conn_said j.address_said tested in
+    record {
+      view = λ r. same_slave _ _ _ _ _ _ _ _ refl
+          (same_connection _ _ _ _ _ _ _ _ _
+          (chain-next (OfSlave ss) (since e) bytes load (seal (OfSlave ss) (since before) (conn_id (OfSlave ss) before) command.Connection (padded (take c load) ss.lengths.slave)) command.Connection (conn_id (OfSlave ss) before) command.Connection (padded (take c load) ss.lengths.slave) refl refl (read_back (OfSlave ss) (since before) (conn_id (OfSlave ss) before) command.Connection (padded (take c load) ss.lengths.slave) full)
+          ∙ ap (λ (k : ℕ). answered (notes_of ss e).chain (seen ss bytes) k command.Connection (padded (take c load) ss.lengths.slave)) conn_is
+          ∙ ap (λ (piece : List ℕ). answered (notes_of ss e).chain (seen ss bytes) conn command.Connection (padded piece ss.lengths.slave)) (sym echo_is))
+          conn_is
+          (sym (a.back r)))
+          limit_is refl;
+      did = refl;
+      sent = ap (λ (k : ℕ). answer (notes_of ss e).chain (seen ss bytes) k command.Connection (padded (take c load) ss.lengths.slave)) conn_is
+          ∙ ap (λ (piece : List ℕ). answer (notes_of ss e).chain (seen ss bytes) conn command.Connection (padded piece ss.lengths.slave)) (sym echo_is);
+      sound = record {
+        in_state = record {
+          kept_is = refl;
+          conn_is = is-there _ conn next;
+          conn_said = λ k. fields.0 k ∙ sym conn_is;
+          address_said = fields.1;
+          no_parameter = j.no_parameter;
+        };
+        offer_len = s.offer_len;
+        young = λ k. subst (λ (l : ℕ). 0 < l) (sym limit_is) ss.some_hand;
+      };
+    }

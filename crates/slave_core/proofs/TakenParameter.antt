@@ -1,0 +1,117 @@
+-- A Parameter frame that passed the tests: what the machine does is what looking back gives.
+use Rattle.std.proofs.Common.{◌≡◌, ℕ, ◌+◌, ◌-◌, ◌<◌, ◌≤◌, nat_le, Bool, true, false, List, [], ◌∷◌, ◌++◌, length, take, drop, Option, Some, None, if◌then◌else◌, refl, sym, ap, subst, ◌∙◌, arith}
+use Rattle.std.proofs.lemmas.Bool.{leb-true}
+use Rattle.fsoe_base.specs.declared.command.Code.{Code}
+use Rattle.fsoe_base.specs.declared.command.Command.TheVariants as command
+use Rattle.fsoe_base.specs.declared.command.State.{State}
+use Rattle.fsoe_base.specs.declared.command.State.TheVariants as state
+use Rattle.seq_chain.specs.declared.chain.Chain.{Chain}
+use Rattle.param_load.specs.declared.contents.Expected.{Expected}
+use Rattle.param_load.specs.declared.contents.Expected.TheVariants as expected
+use Rattle.param_load.specs.declared.entry.Move.TheVariants as move
+use Rattle.param_load.specs.declared.slave_settings.SlaveSettings.{SlaveSettings}
+use Rattle.param_load.specs.AppRule.{rule_len}
+use Rattle.param_load.specs.Payload.{number_at, padded}
+use Rattle.param_load.specs.Profile.{id_len}
+use Rattle.param_load.specs.Upload.{advanced, outcome_by}
+use Rattle.param_load.specs.UploadView.{UploadView}
+use Rattle.end_model.specs.Setup.{OfSlave, piece_len}
+use Rattle.end_model.specs.Deed.{Deed}
+use Rattle.end_model.specs.Chain.{since, seal}
+use Rattle.end_model.specs.Payloads.{or_else, slave_conn, conn_id, whole}
+use Rattle.end_model.specs.Readiness.{state_of, slave_limit}
+use Rattle.end_model.specs.Step.{takes, on_verdict, begun, deed_of, IsRun}
+use Rattle.end_model.specs.Verdict.{judged_contents}
+use Rattle.end_model.proofs.ReadBack.{read_back}
+use Rattle.end_model.proofs.Shown.{slave-run}
+use Rattle.end_model.proofs.SlaveShown.{SlaveShows, parameters}
+use Rattle.end_model.proofs.WholeUploads.{whole_parameters}
+use Rattle.slave_core.specs.declared.now.Now.TheVariants as now
+use Rattle.slave_core.specs.Seen.{SeenView}
+use Rattle.slave_core.specs.Slave.{Outcome, settles}
+use Rattle.slave_core.specs.States.{answered, answer, parameter_by, echo_reply_by}
+use Rattle.slave_core.specs.Taken.{as_parameter}
+use Rattle.slave_core.specs.ViewOf.{notes_of, kit_of, upload_of, view_in}
+use Rattle.slave_core.proofs.Sound.{Sound}
+use Rattle.slave_core.proofs.SameVerdict.{came}
+use Rattle.slave_core.proofs.Agrees.{Agrees, same_slave, fault-agrees}
+use Rattle.slave_core.proofs.Arrived.{Arrived, chain-next, piece-len, filled, piece-own, piece-peer, last-piece, keeps, is-there, there}
+
+-- the limit of a run isn't 0
+some : (b : Bool) (n h : ℕ) → (b ≡ true → 0 < n) → 0 < h → 0 < (if b then n else h)
+some true n h w k = w refl
+some false n h w k = k
+
+long : (v r l : ℕ) (b : Bool) → b ≡ nat_le (v + 4 + r) l → b ≡ true → 4 ≤ l
+long v r l b h k = let q : v + 4 + r ≤ l = leb-true (v + 4 + r) l (sym h ∙ k) in omega arith
+
+pub some-limit : (ss : SlaveSettings) (e : List Deed) → IsRun (OfSlave ss) e → 0 < slave_limit ss (parameters ss e)
+some-limit ss e r =
+    let h : SlaveShows ss e = slave-run ss e r in
+    some (whole ss.profile state.Parameter (parameters ss e)) (number_at 2 (parameters ss e)) ss.hand
+    (λ k. h.tested.watchdog (long (id_len ss.profile) (rule_len ss.rule) (length (parameters ss e)) _ (whole_parameters ss e r) k)) ss.some_hand
+
+abbrev seen : SlaveSettings → List ℕ → SeenView
+seen ss bytes = record { command = command.Parameter; frame = came ss bytes }
+
+abbrev upload_at : SlaveSettings → List ℕ → UploadView
+upload_at ss joined = upload_of ss (expected.Parameter ss.most ss.rule ss.profile) joined
+
+-- the machine at a Parameter frame whose contents fail, or not
+abbrev pub parameter_settles : Option Code → State → SlaveSettings → List Deed → List ℕ → List ℕ → Outcome
+parameter_settles w p ss e bytes joined =
+    settles (view_in p ss e) (seen ss bytes)
+    (echo_reply_by (outcome_by w (advanced (upload_at ss joined) (came ss bytes).load)) command.Parameter (kit_of ss e) (notes_of ss e).chain (or_else (notes_of ss e).conn 0) (upload_at ss joined) (seen ss bytes))
+    (as_parameter (parameter_by (outcome_by w (advanced (upload_at ss joined) (came ss bytes).load)) (kit_of ss e) (notes_of ss e).chain (or_else (notes_of ss e).conn 0) ss.address (upload_at ss joined) (seen ss bytes)))
+
+-- what is noted before a frame that comes once the connection id and the address are whole
+pub record Connected (ss : SlaveSettings) (e : List Deed) : Type 0 where
+  pub conn_is : slave_conn ss e ≡ Some (or_else (slave_conn ss e) 0)
+  pub conn_said : number_at 0 (notes_of ss e).connection ≡ or_else (slave_conn ss e) 0
+  pub address_said : number_at 2 (notes_of ss e).connection ≡ ss.address
+
+same_parameter : (x : Expected) (k address : ℕ) (c c' : Chain) (i i' : ℕ) (u : List ℕ) (l l' : List ℕ) → c ≡ c' → i ≡ i' → l ≡ l'
+    → now.Parameter (record { chain = c; conn = i; address = address; upload = record { expected = x; piece = k; joined = u }; last = l })
+    ≡ now.Parameter (record { chain = c'; conn = i'; address = address; upload = record { expected = x; piece = k; joined = u }; last = l' })
+same_parameter x k address c c' i i' u l l' h j g = rw (h, j, g) refl
+
+pub parameter-agrees : (w : Option Code) (p : State) (ss : SlaveSettings) (e : List Deed) (bytes : List ℕ) → state_of (OfSlave ss) e ≡ p → Sound ss e → Connected ss e → Arrived ss bytes command.Parameter
+    → IsRun (OfSlave ss) (deed_of (OfSlave ss) e (move.Deliver bytes) (on_verdict p (OfSlave ss) (judged_contents command.Parameter (came ss bytes).load w)) ∷ e)
+    → Agrees ss e (move.Deliver bytes) (on_verdict p (OfSlave ss) (judged_contents command.Parameter (came ss bytes).load w)) (parameter_settles w p ss e bytes (notes_of ss e).parameter)
+parameter-agrees (Some x) p ss e bytes at s j a run = fault-agrees p ss e bytes true x at s
+parameter-agrees None p ss e bytes at s j a run =
+    let load : List ℕ = (came ss bytes).load in
+    let conn : ℕ = or_else (slave_conn ss e) 0 in
+    let c : ℕ = piece_len (OfSlave ss) in
+    let u : List ℕ = (notes_of ss e).parameter ++ take c load in
+    let before : List Deed = begun (move.Deliver bytes) (takes command.Parameter load) ∷ e in
+    let after : List Deed = deed_of (OfSlave ss) e (move.Deliver bytes) (takes command.Parameter load) ∷ e in
+    let echo_is : drop (length u - c) u ≡ take c load = last-piece (notes_of ss e).parameter (take c load) c (piece-len load ss.lengths.master c a.load_len (piece-peer ss)) in
+    let full : length (padded (take c load) ss.lengths.slave) ≡ ss.lengths.slave = filled load c ss.lengths.slave (piece-own ss) in
+    let next : slave_conn ss before ≡ Some conn = keeps (slave_conn ss e) _ conn j.conn_is in
+    let conn_is : conn_id (OfSlave ss) before ≡ conn = there _ conn next in
+    let is_whole : whole ss.profile state.Parameter u ≡ nat_le (id_len ss.profile + 4 + rule_len ss.rule) (length u) = whole_parameters ss after run in
+    let young : 0 < slave_limit ss u = some-limit ss after run in
+    record {
+      view = λ r. same_slave _ _ _ _ _ _ _ _ refl
+          (same_parameter _ _ _ _ _ _ _ _ _ _
+          (chain-next (OfSlave ss) (since e) bytes load (seal (OfSlave ss) (since before) (conn_id (OfSlave ss) before) command.Parameter (padded (take c load) ss.lengths.slave)) command.Parameter (conn_id (OfSlave ss) before) command.Parameter (padded (take c load) ss.lengths.slave) refl refl (read_back (OfSlave ss) (since before) (conn_id (OfSlave ss) before) command.Parameter (padded (take c load) ss.lengths.slave) full)
+          ∙ ap (λ (k : ℕ). answered (notes_of ss e).chain (seen ss bytes) k command.Parameter (padded (take c load) ss.lengths.slave)) conn_is
+          ∙ ap (λ (piece : List ℕ). answered (notes_of ss e).chain (seen ss bytes) conn command.Parameter (padded piece ss.lengths.slave)) (sym echo_is))
+          conn_is
+          (sym (a.back r)))
+          (ap (λ (b : Bool). if b then number_at 2 u else ss.hand) is_whole) refl;
+      did = refl;
+      sent = ap (λ (k : ℕ). answer (notes_of ss e).chain (seen ss bytes) k command.Parameter (padded (take c load) ss.lengths.slave)) conn_is
+          ∙ ap (λ (piece : List ℕ). answer (notes_of ss e).chain (seen ss bytes) conn command.Parameter (padded piece ss.lengths.slave)) (sym echo_is);
+      sound = record {
+        in_state = record {
+          kept_is = refl;
+          conn_is = is-there _ conn next;
+          conn_said = j.conn_said ∙ sym conn_is;
+          address_said = j.address_said;
+        };
+        offer_len = s.offer_len;
+        young = λ k. young;
+      };
+    }

@@ -1,0 +1,109 @@
+-- A Session frame that passed the tests: what the machine does is what looking back gives.
+use Rattle.std.proofs.Common.{◌≡◌, ℕ, ◌+◌, ◌*◌, ◌<◌, List, [], ◌∷◌, length, take, true, Option, Some, None, refl, sym, ap, subst, ◌∙◌, zero-mul}
+use Rattle.fsoe_base.specs.declared.command.Code.{Code}
+use Rattle.fsoe_base.specs.declared.command.Command.TheVariants as command
+use Rattle.fsoe_base.specs.declared.command.State.{State}
+use Rattle.fsoe_base.specs.declared.command.State.TheVariants as state
+use Rattle.seq_chain.specs.declared.chain.Chain.{Chain}
+use Rattle.param_load.specs.declared.contents.Expected.{Expected}
+use Rattle.param_load.specs.declared.contents.Expected.TheVariants as expected
+use Rattle.param_load.specs.declared.entry.Move.TheVariants as move
+use Rattle.param_load.specs.declared.slave_settings.SlaveSettings.{SlaveSettings}
+use Rattle.param_load.specs.Payload.{session_payload, piece_from, padded}
+use Rattle.param_load.specs.Upload.{advanced, outcome_by}
+use Rattle.param_load.specs.UploadView.{UploadView}
+use Rattle.end_model.specs.Setup.{OfSlave, piece_len}
+use Rattle.end_model.specs.Deed.{Deed}
+use Rattle.end_model.specs.Chain.{since, seal}
+use Rattle.end_model.specs.Payloads.{or_else, first_some, nonce}
+use Rattle.end_model.specs.Readiness.{state_of, slave_limit}
+use Rattle.end_model.specs.Step.{takes, on_verdict, begun, id_piece, deed_of}
+use Rattle.end_model.specs.Verdict.{judged_contents}
+use Rattle.end_model.proofs.ReadBack.{read_back}
+use Rattle.slave_core.specs.declared.now.Now.{Now}
+use Rattle.slave_core.specs.declared.now.Now.TheVariants as now
+use Rattle.slave_core.specs.Seen.{SeenView}
+use Rattle.slave_core.specs.Slave.{Outcome, settles}
+use Rattle.slave_core.specs.States.{answered, answer, session_load, session_by, session_reply_by}
+use Rattle.slave_core.specs.Taken.{as_session}
+use Rattle.slave_core.specs.ViewOf.{Notes, notes_of, kit_of, upload_of, view_in}
+use Rattle.slave_core.proofs.Sound.{OfSession, no_notes, count_of, SoundIn, Sound}
+use Rattle.slave_core.proofs.SameVerdict.{came}
+use Rattle.slave_core.proofs.Agrees.{Agrees, same_slave, fresh_limit, fault-agrees}
+use Rattle.slave_core.proofs.Arrived.{Arrived, chain-next, piece-len, filled, piece-own, piece-peer, id-piece as the-piece, count-next, connects-none, is-there, there}
+
+-- what is noted before a Session frame: the id that is sent is i, and nothing came of the later phases
+pub record Opening (ss : SlaveSettings) (count : ℕ) (n : Notes) (nonce i : ℕ) : Type 0 where
+  pub id_now : or_else n.id nonce ≡ i
+  pub id_next : first_some n.id (Some nonce) ≡ Some i
+  pub no_conn : n.conn ≡ None
+  pub count_is : length n.session ≡ count * piece_len (OfSlave ss)
+  pub no_connection : n.connection ≡ []
+  pub no_parameter : n.parameter ≡ []
+
+pub opening-fresh : (ss : SlaveSettings) (count : ℕ) (n : Notes) (nonce : ℕ) → SoundIn state.Reset ss count n → Opening ss count n nonce nonce
+opening-fresh ss count n nonce h =
+    rw (h.0, h.1) (record { id_now = refl; id_next = refl; no_conn = refl; count_is = sym (zero-mul (piece_len (OfSlave ss))); no_connection = refl; no_parameter = refl })
+
+pub opening-session : (ss : SlaveSettings) (count : ℕ) (n : Notes) (nonce : ℕ) → OfSession ss count n → Opening ss count n nonce (or_else n.id 0)
+opening-session ss count n nonce h = record {
+  id_now = ap (λ (o : Option ℕ). or_else o nonce) h.id_is;
+  id_next = ap (λ (o : Option ℕ). first_some o (Some nonce)) h.id_is;
+  no_conn = h.no_conn;
+  count_is = h.count_is;
+  no_connection = h.no_connection;
+  no_parameter = h.no_parameter;
+}
+
+abbrev seen : SlaveSettings → List ℕ → SeenView
+seen ss bytes = record { command = command.Session; frame = came ss bytes }
+
+abbrev upload_at : SlaveSettings → List ℕ → UploadView
+upload_at ss joined = upload_of ss (expected.Session ss.profile) joined
+
+-- the machine at a Session frame whose contents fail, or not
+abbrev pub session_settles : Option Code → State → SlaveSettings → List Deed → List ℕ → Chain → ℕ → List ℕ → Outcome
+session_settles w p ss e bytes chain i joined =
+    settles (view_in p ss e) (seen ss bytes)
+    (session_reply_by (outcome_by w (advanced (upload_at ss joined) (came ss bytes).load)) (kit_of ss e) chain i (upload_at ss joined) (seen ss bytes))
+    (as_session (session_by (outcome_by w (advanced (upload_at ss joined) (came ss bytes).load)) (kit_of ss e) chain i (upload_at ss joined) (seen ss bytes)))
+
+same_session : (x : Expected) (k : ℕ) (c c' : Chain) (i i' : ℕ) (u : List ℕ) (l l' : List ℕ) → c ≡ c' → i ≡ i' → l ≡ l'
+    → now.Session (record { chain = c; id = i; upload = record { expected = x; piece = k; joined = u }; last = l }) ≡ now.Session (record { chain = c'; id = i'; upload = record { expected = x; piece = k; joined = u }; last = l' })
+same_session x k c c' i i' u l l' h j g = rw (h, j, g) refl
+
+pub session-agrees : (w : Option Code) (p : State) (ss : SlaveSettings) (e : List Deed) (bytes : List ℕ) (i : ℕ) → state_of (OfSlave ss) e ≡ p → Sound ss e
+    → Opening ss (count_of e) (notes_of ss e) (nonce (OfSlave ss) e) i → Arrived ss bytes command.Session
+    → Agrees ss e (move.Deliver bytes) (on_verdict p (OfSlave ss) (judged_contents command.Session (came ss bytes).load w)) (session_settles w p ss e bytes (notes_of ss e).chain i (notes_of ss e).session)
+session-agrees (Some x) p ss e bytes i at s o a = fault-agrees p ss e bytes true x at s
+session-agrees None p ss e bytes i at s o a =
+    let load : List ℕ = (came ss bytes).load in
+    let before : List Deed = begun (move.Deliver bytes) (takes command.Session load) ∷ e in
+    let piece : List ℕ = id_piece ss before in
+    let piece_is : piece ≡ piece_from (session_payload i ss.profile) (length (notes_of ss e).session) (piece_len (OfSlave ss)) =
+        the-piece ss.profile (piece_len (OfSlave ss)) (notes_of ss e).id (nonce (OfSlave ss) e) i (count_of e) (length (notes_of ss e).session) _ a.phase_is o.id_now o.count_is in
+    let full : length (padded piece ss.lengths.slave) ≡ ss.lengths.slave = filled _ (piece_len (OfSlave ss)) ss.lengths.slave (piece-own ss) in
+    let limit_is : slave_limit ss (notes_of ss e).parameter ≡ ss.hand = ap (slave_limit ss) o.no_parameter ∙ fresh_limit ss in
+    record {
+      view = λ r. same_slave _ _ _ _ _ _ _ _ refl
+          (same_session _ _ _ _ _ _ _ _ _
+          (chain-next (OfSlave ss) (since e) bytes load (seal (OfSlave ss) (since before) 0 command.Session (padded piece ss.lengths.slave)) command.Session 0 command.Session (padded piece ss.lengths.slave) refl refl (read_back (OfSlave ss) (since before) 0 command.Session (padded piece ss.lengths.slave) full)
+          ∙ ap (λ (piece : List ℕ). answered (notes_of ss e).chain (seen ss bytes) 0 command.Session (padded piece ss.lengths.slave)) piece_is)
+          (ap (λ (o : Option ℕ). or_else o 0) o.id_next)
+          (sym (a.back r)))
+          limit_is refl;
+      did = refl;
+      sent = ap (λ (piece : List ℕ). answer (notes_of ss e).chain (seen ss bytes) 0 command.Session (padded piece ss.lengths.slave)) piece_is;
+      sound = record {
+        in_state = record {
+          kept_is = refl;
+          id_is = is-there _ i o.id_next;
+          no_conn = connects-none _ _ _ a.connects o.no_conn;
+          count_is = count-next _ (take (piece_len (OfSlave ss)) load) _ _ _ a.phase_is o.count_is (piece-len load ss.lengths.master (piece_len (OfSlave ss)) a.load_len (piece-peer ss));
+          no_connection = o.no_connection;
+          no_parameter = o.no_parameter;
+        };
+        offer_len = s.offer_len;
+        young = λ k. subst (λ (l : ℕ). 0 < l) (sym limit_is) ss.some_hand;
+      };
+    }
