@@ -8,3 +8,5 @@ pub mod TakenSession
 pub mod TakenConnection
 pub mod TakenParameter
 pub mod TakenData
+pub mod Agreed
+pub mod Law

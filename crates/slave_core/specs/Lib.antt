@@ -9,3 +9,4 @@ pub mod Taken
 pub mod Verdict
 pub mod Views
 pub mod ViewOf
+pub mod After

@@ -1,0 +1,246 @@
+-- What each event leaves at the machine is what looking back gives.
+use Rattle.std.proofs.Common.{◌≡◌, ℕ, ◌+◌, ◌==◌, ◌<◌, ◌≤◌, nat_le, List, [], ◌∷◌, length, take, drop, Bool, true, false, not, Option, Some, None, Result, Ok, Err, if◌then◌else◌, refl, sym, ap, subst, ◌∙◌, arith}
+use Rattle.std.proofs.lemmas.Bool.{leb-true, eqb-true}
+use Rattle.std.proofs.lemmas.List.{length-replicate}
+use Rattle.fsoe_base.specs.declared.command.Code.{Code}
+use Rattle.fsoe_base.specs.declared.command.Command.{Command}
+use Rattle.fsoe_base.specs.declared.command.Command.TheVariants as command
+use Rattle.fsoe_base.specs.declared.command.State.{State}
+use Rattle.fsoe_base.specs.declared.command.State.TheVariants as state
+use Rattle.fsoe_base.specs.declared.did.Cause.TheVariants as cause
+use Rattle.fsoe_base.specs.declared.did.Did.{Did}
+use Rattle.fsoe_base.specs.declared.did.Dropped.TheVariants as why
+use Rattle.fsoe_base.specs.Bytes.{all_zero}
+use Rattle.fsoe_base.specs.Command.{code}
+use Rattle.param_load.specs.declared.contents.Expected.TheVariants as expected
+use Rattle.param_load.specs.declared.entry.Move.{Move}
+use Rattle.param_load.specs.declared.entry.Move.TheVariants as move
+use Rattle.param_load.specs.declared.slave_settings.SlaveSettings.{SlaveSettings}
+use Rattle.param_load.specs.declared.terms.Terms.{Terms}
+use Rattle.param_load.specs.AppRule.{rule_len}
+use Rattle.param_load.specs.Payload.{number_at}
+use Rattle.param_load.specs.Profile.{id_len}
+use Rattle.param_load.specs.Upload.{is_whole, upload_fault}
+use Rattle.end_model.specs.Setup.{OfSlave}
+use Rattle.end_model.specs.Deed.{Deed}
+use Rattle.end_model.specs.Payloads.{or_else, first_some, nonce, slave_conn, terms, whole}
+use Rattle.end_model.specs.Readiness.{state_of}
+use Rattle.end_model.specs.Step.{on_verdict, did_on, deed_of, step, IsProper, IsRun}
+use Rattle.end_model.specs.Verdict as model
+use Rattle.end_model.proofs.Shown.{slave-run}
+use Rattle.end_model.proofs.SlaveShown.{SlaveShows, parameters}
+use Rattle.end_model.proofs.WholeUploads.{whole_parameters}
+use Rattle.slave_core.specs.declared.now.Now.{Now}
+use Rattle.slave_core.specs.declared.states.InReset.{InReset}
+use Rattle.slave_core.specs.declared.verdict.Verdict.{Verdict}
+use Rattle.slave_core.specs.Slave.{Outcome, settles, delivered_by}
+use Rattle.slave_core.specs.After.{after}
+use Rattle.slave_core.specs.States.{terms_of, data_next, data_reply}
+use Rattle.slave_core.specs.Taken.{as_data, taken, reply}
+use Rattle.slave_core.specs.ViewOf.{Notes, notes_of, kit_of, upload_of, now_in, view_in, view_of}
+use Rattle.slave_core.proofs.Sound.{OfSession, OfConnection, OfParameters, count_of, Sound, SoundAt}
+use Rattle.slave_core.proofs.SameVerdict.{came, Came, Same, Long, Again, Refuses, ByReset, Passes, same}
+use Rattle.slave_core.proofs.Agrees.{Agrees, drop-agrees, resets-agree, fault-agrees, reset_frame-agrees, put-agrees, hold-agrees, nonce-agrees, tick-agrees}
+use Rattle.slave_core.proofs.Arrived.{Arrived, arrived, keeps}
+use Rattle.slave_core.proofs.TakenSession.{opening-fresh, opening-session, session_settles, session-agrees}
+use Rattle.slave_core.proofs.TakenConnection.{Joining, connection_settles, connection-agrees}
+use Rattle.slave_core.proofs.TakenParameter.{Connected, parameter_settles, parameter-agrees}
+use Rattle.slave_core.proofs.TakenData.{process-agrees, failsafe-agrees}
+
+-- a phase that is whole is left, and one that isn't goes on
+whole-branch : (p : State) (ss : SlaveSettings) (e : List Deed) (bytes : List ℕ) (c : Command) (d : Did) (x y : List ℕ) (r q : Result Now (InReset × Code)) (b : Bool) → b ≡ true
+    → Agrees ss e (move.Deliver bytes) d (settles (view_in p ss e) (record { command = c; frame = came ss bytes }) x r)
+    → Agrees ss e (move.Deliver bytes) d (settles (view_in p ss e) (record { command = c; frame = came ss bytes }) (if b then x else y) (if b then r else q))
+whole-branch p ss e bytes c d x y r q true h a = a
+whole-branch p ss e bytes c d x y r q false h a = absurd (cc h)
+
+more-branch : (p : State) (ss : SlaveSettings) (e : List Deed) (bytes : List ℕ) (c : Command) (d : Did) (x y : List ℕ) (r q : Result Now (InReset × Code)) (b : Bool) → not b ≡ true
+    → Agrees ss e (move.Deliver bytes) d (settles (view_in p ss e) (record { command = c; frame = came ss bytes }) y q)
+    → Agrees ss e (move.Deliver bytes) d (settles (view_in p ss e) (record { command = c; frame = came ss bytes }) (if b then x else y) (if b then r else q))
+more-branch p ss e bytes c d x y r q false h a = a
+more-branch p ss e bytes c d x y r q true h a = absurd (cc h)
+
+-- what the machine does at a frame that passed its tests
+abbrev Passed : State → SlaveSettings → List Deed → List ℕ → Command → Type 0
+Passed p ss e bytes c =
+    Agrees ss e (move.Deliver bytes) (on_verdict p (OfSlave ss) (model.judged_contents c (came ss bytes).load (model.contents (OfSlave ss) e c (came ss bytes))))
+    (settles (view_in p ss e) (record { command = c; frame = came ss bytes })
+    (reply (kit_of ss e) (now_in p ss (notes_of ss e)) (record { command = c; frame = came ss bytes }))
+    (taken (kit_of ss e) (now_in p ss (notes_of ss e)) (record { command = c; frame = came ss bytes })))
+
+-- the deed of such a frame ends a run
+abbrev RunOn : State → SlaveSettings → List Deed → List ℕ → Command → Type 0
+RunOn p ss e bytes c =
+    IsRun (OfSlave ss) (deed_of (OfSlave ss) e (move.Deliver bytes) (on_verdict p (OfSlave ss) (model.judged_contents c (came ss bytes).load (model.contents (OfSlave ss) e c (came ss bytes)))) ∷ e)
+
+nothing-joined : (u : List ℕ) (m : ℕ) → u ≡ [] → 0 < m → m ≤ length u → ⊥
+nothing-joined u m h some k = let q : length u ≡ 0 = ap length h in omega arith
+
+same-conn : (o : Option ℕ) (k field : ℕ) → o ≡ Some k → model.is_slave_conn o field ≡ true → field ≡ k
+same-conn o k field h t = eqb-true field k (sym (ap (λ (o : Option ℕ). model.is_slave_conn o field) h) ∙ t)
+
+-- from Reset a session starts
+reset-passed : (ss : SlaveSettings) (e : List Deed) (bytes : List ℕ) → state_of (OfSlave ss) e ≡ state.Reset → Sound ss e → SoundAt state.Reset ss e → Arrived ss bytes command.Session
+    → Passed state.Reset ss e bytes command.Session
+reset-passed ss e bytes at s h a =
+    subst (λ (n : Notes). Agrees ss e (move.Deliver bytes) (on_verdict state.Reset (OfSlave ss) (model.judged_contents command.Session (came ss bytes).load (model.contents (OfSlave ss) e command.Session (came ss bytes))))
+    (session_settles (upload_fault (upload_of ss (expected.Session ss.profile) n.session) (came ss bytes).load) state.Reset ss e bytes n.chain (nonce (OfSlave ss) e) n.session))
+    h.1
+    (session-agrees (model.contents (OfSlave ss) e command.Session (came ss bytes)) state.Reset ss e bytes (nonce (OfSlave ss) e) at s (opening-fresh ss (count_of e) (notes_of ss e) (nonce (OfSlave ss) e) h) a)
+
+-- in Session the id goes on, or the connection id begins
+session-passed : (ss : SlaveSettings) (e : List Deed) (bytes : List ℕ) → state_of (OfSlave ss) e ≡ state.Session → Sound ss e → OfSession ss (count_of e) (notes_of ss e)
+    → Came state.Session ss e bytes command.Session → Arrived ss bytes command.Session → Passed state.Session ss e bytes command.Session
+session-passed ss e bytes at s h k a =
+    more-branch state.Session ss e bytes command.Session _ _ _ _ _ (is_whole (upload_of ss (expected.Session ss.profile) (notes_of ss e).session)) k.is_allowed
+    (session-agrees (model.contents (OfSlave ss) e command.Session (came ss bytes)) state.Session ss e bytes (or_else (notes_of ss e).id 0) at s (opening-session ss (count_of e) (notes_of ss e) (nonce (OfSlave ss) e) h) a)
+
+connects-passed : (ss : SlaveSettings) (e : List Deed) (bytes : List ℕ) → state_of (OfSlave ss) e ≡ state.Session → Sound ss e → OfSession ss (count_of e) (notes_of ss e)
+    → Came state.Session ss e bytes command.Connection → Arrived ss bytes command.Connection → Passed state.Session ss e bytes command.Connection
+connects-passed ss e bytes at s h k a =
+    let conn : ℕ = (came ss bytes).conn in
+    whole-branch state.Session ss e bytes command.Connection _ _ _ _ _ (is_whole (upload_of ss (expected.Session ss.profile) (notes_of ss e).session)) k.is_allowed
+    (subst (λ (u : List ℕ). Agrees ss e (move.Deliver bytes) (on_verdict state.Session (OfSlave ss) (model.judged_contents command.Connection (came ss bytes).load (model.contents (OfSlave ss) e command.Connection (came ss bytes))))
+    (connection_settles (upload_fault (upload_of ss (expected.Connection conn ss.address) u) (came ss bytes).load) state.Session ss e bytes (notes_of ss e).chain conn u))
+    h.no_connection
+    (connection-agrees (model.contents (OfSlave ss) e command.Connection (came ss bytes)) state.Session ss e bytes refl at s
+    (record {
+      conn_next = ap (λ (o : Option ℕ). first_some o (Some conn)) h.no_conn;
+      conn_said = λ m. absurd (nothing-joined (notes_of ss e).connection 2 h.no_connection (omega arith) m);
+      address_said = λ m. absurd (nothing-joined (notes_of ss e).connection 4 h.no_connection (omega arith) m);
+      no_parameter = h.no_parameter;
+    })
+    a))
+
+-- in Connection it goes on, or the parameters begin
+connection-passed : (ss : SlaveSettings) (e : List Deed) (bytes : List ℕ) → state_of (OfSlave ss) e ≡ state.Connection → Sound ss e → OfConnection ss (notes_of ss e)
+    → Came state.Connection ss e bytes command.Connection → Arrived ss bytes command.Connection → Passed state.Connection ss e bytes command.Connection
+connection-passed ss e bytes at s h k a =
+    let conn : ℕ = (came ss bytes).conn in
+    let is : conn ≡ or_else (slave_conn ss e) 0 = same-conn (slave_conn ss e) _ conn h.conn_is k.has_conn in
+    more-branch state.Connection ss e bytes command.Connection _ _ _ _ _ (is_whole (upload_of ss (expected.Connection (or_else (slave_conn ss e) 0) ss.address) (notes_of ss e).connection)) k.is_allowed
+    (subst (λ (n : ℕ). Agrees ss e (move.Deliver bytes) (on_verdict state.Connection (OfSlave ss) (model.judged_contents command.Connection (came ss bytes).load (model.contents (OfSlave ss) e command.Connection (came ss bytes))))
+    (connection_settles (upload_fault (upload_of ss (expected.Connection n ss.address) (notes_of ss e).connection) (came ss bytes).load) state.Connection ss e bytes (notes_of ss e).chain n (notes_of ss e).connection))
+    is
+    (connection-agrees (model.contents (OfSlave ss) e command.Connection (came ss bytes)) state.Connection ss e bytes refl at s
+    (record {
+      conn_next = keeps (slave_conn ss e) (Some conn) conn (h.conn_is ∙ ap (λ (n : ℕ). Some n) (sym is));
+      conn_said = λ m. h.conn_said m ∙ sym is;
+      address_said = h.address_said;
+      no_parameter = h.no_parameter;
+    })
+    a))
+
+loads-passed : (ss : SlaveSettings) (e : List Deed) (bytes : List ℕ) → state_of (OfSlave ss) e ≡ state.Connection → Sound ss e → OfConnection ss (notes_of ss e)
+    → Came state.Connection ss e bytes command.Parameter → Arrived ss bytes command.Parameter → RunOn state.Connection ss e bytes command.Parameter → Passed state.Connection ss e bytes command.Parameter
+loads-passed ss e bytes at s h k a run =
+    let all : 4 ≤ length (notes_of ss e).connection = leb-true 4 (length (notes_of ss e).connection) k.is_allowed in
+    whole-branch state.Connection ss e bytes command.Parameter _ _ _ _ _ (is_whole (upload_of ss (expected.Connection (or_else (slave_conn ss e) 0) ss.address) (notes_of ss e).connection)) k.is_allowed
+    (subst (λ (u : List ℕ). Agrees ss e (move.Deliver bytes) (on_verdict state.Connection (OfSlave ss) (model.judged_contents command.Parameter (came ss bytes).load (model.contents (OfSlave ss) e command.Parameter (came ss bytes))))
+    (parameter_settles (upload_fault (upload_of ss (expected.Parameter ss.most ss.rule ss.profile) u) (came ss bytes).load) state.Connection ss e bytes u))
+    h.no_parameter
+    (parameter-agrees (model.contents (OfSlave ss) e command.Parameter (came ss bytes)) state.Connection ss e bytes at s
+    (record { conn_is = h.conn_is; conn_said = h.conn_said (omega arith); address_said = h.address_said all }) a run))
+
+-- in Parameter they go on
+parameter-passed : (ss : SlaveSettings) (e : List Deed) (bytes : List ℕ) → state_of (OfSlave ss) e ≡ state.Parameter → Sound ss e → OfParameters ss (notes_of ss e)
+    → Came state.Parameter ss e bytes command.Parameter → Arrived ss bytes command.Parameter → RunOn state.Parameter ss e bytes command.Parameter → Passed state.Parameter ss e bytes command.Parameter
+parameter-passed ss e bytes at s h k a run =
+    more-branch state.Parameter ss e bytes command.Parameter _ _ _ _ _ (is_whole (upload_of ss (expected.Parameter ss.most ss.rule ss.profile) (notes_of ss e).parameter)) k.is_allowed
+    (parameter-agrees (model.contents (OfSlave ss) e command.Parameter (came ss bytes)) state.Parameter ss e bytes at s
+    (record { conn_is = h.conn_is; conn_said = h.conn_said; address_said = h.address_said }) a run)
+
+-- the terms of whole parameters
+abbrev the-terms : ℕ → ℕ → ℕ → List ℕ → SlaveSettings → Terms
+the-terms conn address watchdog app ss = record { conn = conn; address = address; watchdog = watchdog; app = app; profile = ss.profile }
+
+same_terms : (c c' a a' w n n' : ℕ) (app : List ℕ) (ss : SlaveSettings) → c ≡ c' → a ≡ a' → n ≡ n'
+    → the-terms c a w (take n app) ss ≡ the-terms c' a' w (take n' app) ss
+same_terms c c' a a' w n n' app ss h i j = rw (h, i, j) refl
+
+terms-are : (ss : SlaveSettings) (e : List Deed) → IsRun (OfSlave ss) e → OfParameters ss (notes_of ss e) → whole ss.profile state.Parameter (parameters ss e) ≡ true
+    → terms_of (kit_of ss e) (or_else (slave_conn ss e) 0) ss.address (upload_of ss (expected.Parameter ss.most ss.rule ss.profile) (notes_of ss e).parameter) ≡ terms (OfSlave ss) e
+terms-are ss e run h w =
+    let shows : SlaveShows ss e = slave-run ss e run in
+    let all : id_len ss.profile + 4 + rule_len ss.rule ≤ length (parameters ss e) = leb-true _ _ (sym (whole_parameters ss e run) ∙ w) in
+    same_terms _ _ _ _ _ _ _ _ ss (sym h.conn_said) (sym h.address_said) (sym (shows.tested.counted (omega arith)))
+
+-- data begin once these are whole
+runs-passed : (ss : SlaveSettings) (e : List Deed) (bytes : List ℕ) (d : Did) (c : Command) → IsRun (OfSlave ss) e → OfParameters ss (notes_of ss e) → is_whole (upload_of ss (expected.Parameter ss.most ss.rule ss.profile) (notes_of ss e).parameter) ≡ true
+    → (whole ss.profile state.Parameter (parameters ss e) ≡ true
+    → Agrees ss e (move.Deliver bytes) d (settles (view_in state.Parameter ss e) (record { command = c; frame = came ss bytes })
+    (data_reply (kit_of ss e) (notes_of ss e).chain (terms (OfSlave ss) e) (record { command = c; frame = came ss bytes }))
+    (as_data (data_next (kit_of ss e) (notes_of ss e).chain (terms (OfSlave ss) e) (record { command = c; frame = came ss bytes })))))
+    → Agrees ss e (move.Deliver bytes) d (settles (view_in state.Parameter ss e) (record { command = c; frame = came ss bytes })
+    (reply (kit_of ss e) (now_in state.Parameter ss (notes_of ss e)) (record { command = c; frame = came ss bytes }))
+    (taken (kit_of ss e) (now_in state.Parameter ss (notes_of ss e)) (record { command = c; frame = came ss bytes })))
+runs-passed ss e bytes d c run h k agrees =
+    let w : whole ss.profile state.Parameter (parameters ss e) ≡ true = whole_parameters ss e run ∙ k in
+    whole-branch state.Parameter ss e bytes c _ _ _ _ _ (is_whole (upload_of ss (expected.Parameter ss.most ss.rule ss.profile) (notes_of ss e).parameter)) k
+    (subst (λ (t : Terms). Agrees ss e (move.Deliver bytes) d (settles (view_in state.Parameter ss e) (record { command = c; frame = came ss bytes })
+    (data_reply (kit_of ss e) (notes_of ss e).chain t (record { command = c; frame = came ss bytes }))
+    (as_data (data_next (kit_of ss e) (notes_of ss e).chain t (record { command = c; frame = came ss bytes })))))
+    (sym (terms-are ss e run h w)) (agrees w))
+
+connected : (ss : SlaveSettings) (e : List Deed) → OfParameters ss (notes_of ss e) → Connected ss e
+connected ss e h = record { conn_is = h.conn_is; conn_said = h.conn_said; address_said = h.address_said }
+
+-- a frame that passed its tests
+passed-agrees : (p : State) (ss : SlaveSettings) (e : List Deed) (bytes : List ℕ) (c : Command) → state_of (OfSlave ss) e ≡ p → Sound ss e → SoundAt p ss e → Came p ss e bytes c → Arrived ss bytes c → IsRun (OfSlave ss) e → RunOn p ss e bytes c
+    → Passed p ss e bytes c
+passed-agrees state.Reset ss e bytes command.Session at s h k a run next = reset-passed ss e bytes at s h a
+passed-agrees state.Session ss e bytes command.Session at s h k a run next = session-passed ss e bytes at s h k a
+passed-agrees state.Session ss e bytes command.Connection at s h k a run next = connects-passed ss e bytes at s h k a
+passed-agrees state.Connection ss e bytes command.Connection at s h k a run next = connection-passed ss e bytes at s h k a
+passed-agrees state.Connection ss e bytes command.Parameter at s h k a run next = loads-passed ss e bytes at s h k a next
+passed-agrees state.Parameter ss e bytes command.Parameter at s h k a run next = parameter-passed ss e bytes at s h k a next
+passed-agrees state.Parameter ss e bytes command.ProcessData at s h k a run next = runs-passed ss e bytes _ command.ProcessData run h k.is_allowed (λ w. process-agrees state.Parameter ss e bytes s (connected ss e h) a w run)
+passed-agrees state.Parameter ss e bytes command.FailSafeData at s h k a run next = runs-passed ss e bytes _ command.FailSafeData run h k.is_allowed (λ w. failsafe-agrees (all_zero (came ss bytes).load) state.Parameter ss e bytes at s (connected ss e h) a w run)
+passed-agrees state.Data ss e bytes command.ProcessData at s h k a run next = let shows : SlaveShows ss e = slave-run ss e run in process-agrees state.Data ss e bytes s (connected ss e h) a (shows.is_whole at) run
+passed-agrees state.Data ss e bytes command.FailSafeData at s h k a run next = let shows : SlaveShows ss e = slave-run ss e run in failsafe-agrees (all_zero (came ss bytes).load) state.Data ss e bytes at s (connected ss e h) a (shows.is_whole at) run
+passed-agrees state.Reset ss e bytes command.Reset at s h k a run next = absurd (cc k.is_allowed)
+passed-agrees state.Reset ss e bytes command.Connection at s h k a run next = absurd (cc k.is_allowed)
+passed-agrees state.Reset ss e bytes command.Parameter at s h k a run next = absurd (cc k.is_allowed)
+passed-agrees state.Reset ss e bytes command.FailSafeData at s h k a run next = absurd (cc k.is_allowed)
+passed-agrees state.Reset ss e bytes command.ProcessData at s h k a run next = absurd (cc k.is_allowed)
+passed-agrees state.Session ss e bytes command.Reset at s h k a run next = absurd (cc k.is_allowed)
+passed-agrees state.Session ss e bytes command.Parameter at s h k a run next = absurd (cc k.is_allowed)
+passed-agrees state.Session ss e bytes command.FailSafeData at s h k a run next = absurd (cc k.is_allowed)
+passed-agrees state.Session ss e bytes command.ProcessData at s h k a run next = absurd (cc k.is_allowed)
+passed-agrees state.Connection ss e bytes command.Reset at s h k a run next = absurd (cc k.is_allowed)
+passed-agrees state.Connection ss e bytes command.Session at s h k a run next = absurd (cc k.is_allowed)
+passed-agrees state.Connection ss e bytes command.FailSafeData at s h k a run next = absurd (cc k.is_allowed)
+passed-agrees state.Connection ss e bytes command.ProcessData at s h k a run next = absurd (cc k.is_allowed)
+passed-agrees state.Parameter ss e bytes command.Reset at s h k a run next = absurd (cc k.is_allowed)
+passed-agrees state.Parameter ss e bytes command.Session at s h k a run next = absurd (cc k.is_allowed)
+passed-agrees state.Parameter ss e bytes command.Connection at s h k a run next = absurd (cc k.is_allowed)
+passed-agrees state.Data ss e bytes command.Reset at s h k a run next = absurd (cc k.is_allowed)
+passed-agrees state.Data ss e bytes command.Session at s h k a run next = absurd (cc k.is_allowed)
+passed-agrees state.Data ss e bytes command.Connection at s h k a run next = absurd (cc k.is_allowed)
+passed-agrees state.Data ss e bytes command.Parameter at s h k a run next = absurd (cc k.is_allowed)
+
+judged-agrees : (p : State) (ss : SlaveSettings) (e : List Deed) (bytes : List ℕ) (v : model.Verdict) (w : Verdict) → Same p ss e bytes v w → state_of (OfSlave ss) e ≡ p → Sound ss e → SoundAt p ss e → IsRun (OfSlave ss) e
+    → IsRun (OfSlave ss) (deed_of (OfSlave ss) e (move.Deliver bytes) (on_verdict p (OfSlave ss) v) ∷ e)
+    → Agrees ss e (move.Deliver bytes) (on_verdict p (OfSlave ss) v) (delivered_by (view_in p ss e) w)
+judged-agrees p ss e bytes v w Long at s h run next = drop-agrees p ss e bytes false why.Length at s
+judged-agrees p ss e bytes v w Again at s h run next = drop-agrees p ss e bytes false why.Repeat at s
+judged-agrees p ss e bytes v w (Refuses x) at s h run next = fault-agrees p ss e bytes false x at s
+judged-agrees p ss e bytes v w (ByReset x said) at s h run next = reset_frame-agrees p ss e bytes (came ss bytes).load x said s
+judged-agrees p ss e bytes v w (Passes c k) at s h run next = passed-agrees p ss e bytes c at s h k (arrived ss bytes c k.len k.named) run next
+
+-- each event
+pub agrees : (ss : SlaveSettings) (e : List Deed) (m : Move) → Sound ss e → IsRun (OfSlave ss) e → IsProper (OfSlave ss) m → Agrees ss e m (did_on (OfSlave ss) e m) (after (view_of ss e) m)
+agrees ss e (move.Deliver bytes) s run proper =
+    judged-agrees (state_of (OfSlave ss) e) ss e bytes _ _ (same (state_of (OfSlave ss) e) ss e bytes refl s.in_state (whole_parameters ss e run)) refl s s.in_state run (record { proper = tt; stepped = refl }, run)
+agrees ss e move.Tick s run proper = tick-agrees (state_of (OfSlave ss) e) ss e refl s
+agrees ss e move.Local s run proper = resets-agree (state_of (OfSlave ss) e) ss e move.Local false cause.Local (code 0) refl refl s
+agrees ss e (move.Put load) s run proper = put-agrees ss e load proper s
+agrees ss e (move.Hold failsafe) s run proper = hold-agrees ss e failsafe s
+agrees ss e (move.Nonce id) s run proper = nonce-agrees ss e id s
+
+-- every run is sound
+pub run-sound : (ss : SlaveSettings) (e : List Deed) → IsRun (OfSlave ss) e → Sound ss e
+run-sound ss [] r = record { in_state = (refl, refl); offer_len = length-replicate ss.lengths.slave 0; young = λ k. absurd (k refl) }
+run-sound ss (x ∷ e) r =
+    let a : Agrees ss e x.what (did_on (OfSlave ss) e x.what) (after (view_of ss e) x.what) = agrees ss e x.what (run-sound ss e r.1) r.1 r.0.proper in
+    subst (λ (x : Deed). Sound ss (x ∷ e)) (sym r.0.stepped) a.sound

@@ -1,0 +1,83 @@
+-- The law: a slave that stands for some deeds stands after an event for these and the next one, and answers as that one does.
+use Rattle.std.proofs.Common.{◌≡◌, ◌≢◌, ℕ, List, ◌∷◌, replicate, Option, refl, sym, ap, subst, ◌∙◌}
+use Rattle.fsoe_base.specs.declared.command.State.{State}
+use Rattle.fsoe_base.specs.declared.command.State.TheVariants as state
+use Rattle.fsoe_base.specs.declared.did.Did.{Did}
+use Rattle.param_load.specs.declared.entry.Move.{Move}
+use Rattle.param_load.specs.declared.slave_settings.SlaveSettings.{SlaveSettings}
+use Rattle.param_load.specs.declared.terms.Terms.{Terms}
+use Rattle.end_model.specs.Setup.{OfSlave}
+use Rattle.end_model.specs.Deed.{Deed}
+use Rattle.end_model.specs.Readiness.{state_of, age, told_terms, offer, held}
+use Rattle.end_model.specs.Step.{did_on, IsProper, IsRun}
+use Rattle.end_model.specs.Outputs.{zeros, outputs, out}
+use Rattle.end_model.specs.Standing.{Stands, Follows, Answers}
+use Rattle.end_model.proofs.Shown.{looking_back, fail_safe}
+use Rattle.slave_core.specs.Now as machine
+use Rattle.slave_core.specs.After.{after}
+use Rattle.slave_core.specs.SlaveView.{SlaveView}
+use Rattle.slave_core.specs.ViewOf.{Notes, notes_of, now_in, view_of}
+use Rattle.slave_core.proofs.Agrees.{Agrees, AreRead}
+use Rattle.slave_core.proofs.Agreed.{agrees, run-sound}
+
+next : (ss : SlaveSettings) (e : List Deed) (old : SlaveView) (m : Move) → IsProper (OfSlave old.kit.settings) m → Stands OfSlave view_of ss old e → Agrees ss e m (did_on (OfSlave ss) e m) (after (view_of ss e) m)
+next ss e old m p h = agrees ss e m (run-sound ss e h.reached) h.reached (subst (λ (v : SlaveView). IsProper (OfSlave v.kit.settings) m) h.is p)
+
+pub follows_by : (old : SlaveView) (m : Move) (new : SlaveView) → IsProper (OfSlave old.kit.settings) m → AreRead m → new ≡ (after old m).slave → Follows OfSlave view_of old m new
+follows_by old m new p bytes n = record {
+  stands = λ ss e h.
+      let a = next ss e old m p h in
+      record {
+        is = n ∙ ap (λ (v : SlaveView). (after v m).slave) h.is ∙ sym (a.view bytes);
+        reached = (record { proper = subst (λ (v : SlaveView). IsProper (OfSlave v.kit.settings) m) h.is p; stepped = refl }, h.reached);
+      };
+}
+
+pub answers_by : (old : SlaveView) (m : Move) (d : Did) (f : List ℕ) → IsProper (OfSlave old.kit.settings) m → d ≡ (after old m).did → f ≡ (after old m).sent → Answers OfSlave view_of old m d f
+answers_by old m d f p i j = record {
+  did = λ ss e h. let a = next ss e old m p h in i ∙ ap (λ (v : SlaveView). (after v m).did) h.is ∙ sym a.did;
+  sent = λ ss e h. let a = next ss e old m p h in j ∙ ap (λ (v : SlaveView). (after v m).sent) h.is ∙ sym a.sent;
+}
+
+-- what the readers show
+state-in : (p : State) (ss : SlaveSettings) (n : Notes) → machine.state_of (now_in p ss n) ≡ p
+state-in state.Reset ss n = refl
+state-in state.Session ss n = refl
+state-in state.Connection ss n = refl
+state-in state.Parameter ss n = refl
+state-in state.Data ss n = refl
+
+pub state_stands : (ss : SlaveSettings) (v : SlaveView) (e : List Deed) → Stands OfSlave view_of ss v e → machine.state_of v.state ≡ state_of (OfSlave ss) e
+state_stands ss v e h = ap (λ (v : SlaveView). machine.state_of v.state) h.is ∙ state-in (state_of (OfSlave ss) e) ss (notes_of ss e)
+
+terms-in : (p : State) (ss : SlaveSettings) (e : List Deed) → state_of (OfSlave ss) e ≡ p → machine.terms_in (now_in p ss (notes_of ss e)) ≡ told_terms (OfSlave ss) e
+terms-in state.Reset ss e h = rw h refl
+terms-in state.Session ss e h = rw h refl
+terms-in state.Connection ss e h = rw h refl
+terms-in state.Parameter ss e h = rw h refl
+terms-in state.Data ss e h = rw h refl
+
+pub terms_stand : (ss : SlaveSettings) (v : SlaveView) (e : List Deed) → Stands OfSlave view_of ss v e → machine.terms_in v.state ≡ told_terms (OfSlave ss) e
+terms_stand ss v e h = ap (λ (v : SlaveView). machine.terms_in v.state) h.is ∙ terms-in (state_of (OfSlave ss) e) ss e refl
+
+outputs-in : (p : State) (ss : SlaveSettings) (e : List Deed) → (p ≢ state.Data → outputs (OfSlave ss) e ≡ zeros (OfSlave ss)) → machine.outputs_in ss (now_in p ss (notes_of ss e)) ≡ outputs (OfSlave ss) e
+outputs-in state.Reset ss e h = sym (h (λ k. cc))
+outputs-in state.Session ss e h = sym (h (λ k. cc))
+outputs-in state.Connection ss e h = sym (h (λ k. cc))
+outputs-in state.Parameter ss e h = sym (h (λ k. cc))
+outputs-in state.Data ss e h = refl
+
+pub outputs_stand : (ss : SlaveSettings) (v : SlaveView) (e : List Deed) → Stands OfSlave view_of ss v e → machine.outputs_in v.kit.settings v.state ≡ out (OfSlave ss) e
+outputs_stand ss v e h =
+    ap (λ (v : SlaveView). machine.outputs_in v.kit.settings v.state) h.is
+    ∙ outputs-in (state_of (OfSlave ss) e) ss e (fail_safe (OfSlave ss) e h.reached)
+    ∙ looking_back (OfSlave ss) e h.reached
+
+pub age_stands : (ss : SlaveSettings) (v : SlaveView) (e : List Deed) → Stands OfSlave view_of ss v e → v.timer.age ≡ age (OfSlave ss) e
+age_stands ss v e h = ap (λ (v : SlaveView). v.timer.age) h.is
+
+pub offer_stands : (ss : SlaveSettings) (v : SlaveView) (e : List Deed) → Stands OfSlave view_of ss v e → v.kit.offer ≡ offer (OfSlave ss) e
+offer_stands ss v e h = ap (λ (v : SlaveView). v.kit.offer) h.is
+
+pub held_stands : (ss : SlaveSettings) (v : SlaveView) (e : List Deed) → Stands OfSlave view_of ss v e → v.kit.held ≡ held e
+held_stands ss v e h = ap (λ (v : SlaveView). v.kit.held) h.is

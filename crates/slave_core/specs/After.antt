@@ -1,0 +1,19 @@
+-- What any event at a slave leaves, does and sends.
+use Rattle.param_load.specs.declared.entry.Move.{Move}
+use Rattle.param_load.specs.declared.entry.Move.TheVariants as move
+use Rattle.slave_core.specs.Kit.{KitView}
+use Rattle.slave_core.specs.Slave.{Outcome, quiet, delivered, tick_of, reset_of}
+use Rattle.slave_core.specs.SlaveView.{SlaveView}
+
+-- what outlasts sessions is set: an offer, a hold or a nonce
+abbrev pub with_kit : SlaveView → KitView → Outcome
+with_kit v kit = quiet (record v { kit = kit })
+
+-- the outcome of an event
+abbrev pub after : SlaveView → Move → Outcome
+after v (move.Deliver bytes) = delivered v bytes
+after v move.Tick = tick_of v
+after v move.Local = reset_of v
+after v (move.Put load) = with_kit v (record v.kit { offer = load })
+after v (move.Hold failsafe) = with_kit v (record v.kit { held = failsafe })
+after v (move.Nonce id) = with_kit v (record v.kit { nonce = id })
