@@ -20,3 +20,7 @@ pub record Follows {S V : Type 0} (setup : S → Setup) (view_of : S → List De
 pub record Answers {S V : Type 0} (setup : S → Setup) (view_of : S → List Deed → V) (old : V) (event : Move) (done : Did) (frame : List ℕ) : Type 0 where
   pub did : (settings : S) (e : List Deed) → Stands setup view_of settings old e → done ≡ (step (setup settings) e event).did
   pub sent : (settings : S) (e : List Deed) → Stands setup view_of settings old e → frame ≡ (step (setup settings) e event).sent
+
+-- what a machine shows is this word of the deeds for which it stands
+pub record Shows {S V X : Type 0} (setup : S → Setup) (view_of : S → List Deed → V) (v : V) (shown : X) (word : Setup → List Deed → X) : Type 0 where
+  pub shows : (settings : S) (e : List Deed) → Stands setup view_of settings v e → shown ≡ word (setup settings) e

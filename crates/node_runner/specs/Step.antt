@@ -1,21 +1,17 @@
--- What an event of a node does at its slave.
+-- What an event of a node is to its slave.
+use Rattle.std.specs.Prelude.{[]}
+use Rattle.param_load.specs.declared.entry.Move.{Move}
+use Rattle.param_load.specs.declared.entry.Move.TheVariants as move
 use Rattle.schedule_file.specs.declared.event.Event.{Event}
 use Rattle.schedule_file.specs.declared.event.Event.TheVariants as event
-use Rattle.slave_core.specs.Kit.{KitView}
-use Rattle.slave_core.specs.Slave.{Outcome, quiet, delivered, tick_of, reset_of}
-use Rattle.slave_core.specs.SlaveView.{SlaveView}
 
--- a slave with other offers, holds or nonces
-abbrev pub with_kit : SlaveView → KitView → Outcome
-with_kit v kit = quiet (record v { kit = kit })
-
--- a put, a hold and a nonce are noted alone; a node has no references to frames sent before
-abbrev pub stepped : SlaveView → Event → Outcome
-stepped v (event.Raw to frame) = delivered v frame
-stepped v (event.Tick at) = tick_of v
-stepped v (event.Local at) = reset_of v
-stepped v (event.Put at load) = with_kit v (record v.kit { offer = load })
-stepped v (event.Hold at failsafe) = with_kit v (record v.kit { held = failsafe })
-stepped v (event.Nonce at id) = with_kit v (record v.kit { nonce = id })
-stepped v (event.Deliver to back) = quiet v
-stepped v (event.Altered to back pos mask) = quiet v
+-- the move of an event; a node has no references to frames sent before, so that such an event brings no bytes
+abbrev pub move_of : Event → Move
+move_of (event.Raw to frame) = move.Deliver frame
+move_of (event.Tick at) = move.Tick
+move_of (event.Local at) = move.Local
+move_of (event.Put at load) = move.Put load
+move_of (event.Hold at failsafe) = move.Hold failsafe
+move_of (event.Nonce at id) = move.Nonce id
+move_of (event.Deliver to back) = move.Deliver []
+move_of (event.Altered to back pos mask) = move.Deliver []

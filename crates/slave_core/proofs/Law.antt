@@ -1,5 +1,5 @@
 -- The law: a slave that stands for some deeds stands after an event for these and the next one, and answers as that one does.
-use Rattle.std.proofs.Common.{◌≡◌, ◌≢◌, ℕ, List, ◌∷◌, replicate, Option, refl, sym, ap, subst, ◌∙◌}
+use Rattle.std.proofs.Common.{◌≡◌, ◌≢◌, ℕ, List, [], ◌∷◌, Bool, Option, refl, sym, ap, subst, ◌∙◌}
 use Rattle.fsoe_base.specs.declared.command.State.{State}
 use Rattle.fsoe_base.specs.declared.command.State.TheVariants as state
 use Rattle.fsoe_base.specs.declared.did.Did.{Did}
@@ -8,16 +8,18 @@ use Rattle.param_load.specs.declared.slave_settings.SlaveSettings.{SlaveSettings
 use Rattle.param_load.specs.declared.terms.Terms.{Terms}
 use Rattle.end_model.specs.Setup.{OfSlave}
 use Rattle.end_model.specs.Deed.{Deed}
-use Rattle.end_model.specs.Readiness.{state_of, age, told_terms, offer, held}
+use Rattle.end_model.specs.Payloads.{terms}
+use Rattle.end_model.specs.Readiness.{state_of, age, told_in, told_terms, offer, held}
 use Rattle.end_model.specs.Step.{did_on, IsProper, IsRun}
 use Rattle.end_model.specs.Outputs.{zeros, outputs, out}
-use Rattle.end_model.specs.Standing.{Stands, Follows, Answers}
+use Rattle.end_model.specs.Standing.{Stands, Follows, Answers, Shows}
 use Rattle.end_model.proofs.Shown.{looking_back, fail_safe}
 use Rattle.slave_core.specs.Now as machine
 use Rattle.slave_core.specs.After.{after}
+use Rattle.slave_core.specs.Slave.{first_slave}
 use Rattle.slave_core.specs.SlaveView.{SlaveView}
 use Rattle.slave_core.specs.ViewOf.{Notes, notes_of, now_in, view_of}
-use Rattle.slave_core.proofs.Agrees.{Agrees, AreRead}
+use Rattle.slave_core.proofs.Agrees.{Agrees, AreRead, same_slave, fresh_limit}
 use Rattle.slave_core.proofs.Agreed.{agrees, run-sound}
 
 next : (ss : SlaveSettings) (e : List Deed) (old : SlaveView) (m : Move) → IsProper (OfSlave old.kit.settings) m → Stands OfSlave view_of ss old e → Agrees ss e m (did_on (OfSlave ss) e m) (after (view_of ss e) m)
@@ -39,6 +41,10 @@ answers_by old m d f p i j = record {
   sent = λ ss e h. let a = next ss e old m p h in j ∙ ap (λ (v : SlaveView). (after v m).sent) h.is ∙ sym a.sent;
 }
 
+-- a new slave stands for no deed
+pub new_stands : (ss : SlaveSettings) (v : SlaveView) → v ≡ first_slave ss → Stands OfSlave view_of ss v []
+new_stands ss v h = record { is = h ∙ same_slave _ _ _ _ _ _ _ _ refl refl (sym (fresh_limit ss)) refl; reached = tt }
+
 -- what the readers show
 state-in : (p : State) (ss : SlaveSettings) (n : Notes) → machine.state_of (now_in p ss n) ≡ p
 state-in state.Reset ss n = refl
@@ -47,18 +53,18 @@ state-in state.Connection ss n = refl
 state-in state.Parameter ss n = refl
 state-in state.Data ss n = refl
 
-pub state_stands : (ss : SlaveSettings) (v : SlaveView) (e : List Deed) → Stands OfSlave view_of ss v e → machine.state_of v.state ≡ state_of (OfSlave ss) e
-state_stands ss v e h = ap (λ (v : SlaveView). machine.state_of v.state) h.is ∙ state-in (state_of (OfSlave ss) e) ss (notes_of ss e)
+pub state_shown : (v : SlaveView) (shown : State) → shown ≡ machine.state_of v.state → Shows OfSlave view_of v shown state_of
+state_shown v shown i = record { shows = λ ss e h. i ∙ ap (λ (v : SlaveView). machine.state_of v.state) h.is ∙ state-in (state_of (OfSlave ss) e) ss (notes_of ss e) }
 
-terms-in : (p : State) (ss : SlaveSettings) (e : List Deed) → state_of (OfSlave ss) e ≡ p → machine.terms_in (now_in p ss (notes_of ss e)) ≡ told_terms (OfSlave ss) e
-terms-in state.Reset ss e h = rw h refl
-terms-in state.Session ss e h = rw h refl
-terms-in state.Connection ss e h = rw h refl
-terms-in state.Parameter ss e h = rw h refl
-terms-in state.Data ss e h = rw h refl
+terms-in : (p : State) (ss : SlaveSettings) (e : List Deed) → machine.terms_in (now_in p ss (notes_of ss e)) ≡ told_in p (terms (OfSlave ss) e)
+terms-in state.Reset ss e = refl
+terms-in state.Session ss e = refl
+terms-in state.Connection ss e = refl
+terms-in state.Parameter ss e = refl
+terms-in state.Data ss e = refl
 
-pub terms_stand : (ss : SlaveSettings) (v : SlaveView) (e : List Deed) → Stands OfSlave view_of ss v e → machine.terms_in v.state ≡ told_terms (OfSlave ss) e
-terms_stand ss v e h = ap (λ (v : SlaveView). machine.terms_in v.state) h.is ∙ terms-in (state_of (OfSlave ss) e) ss e refl
+pub terms_shown : (v : SlaveView) (shown : Option Terms) → shown ≡ machine.terms_in v.state → Shows OfSlave view_of v shown told_terms
+terms_shown v shown i = record { shows = λ ss e h. i ∙ ap (λ (v : SlaveView). machine.terms_in v.state) h.is ∙ terms-in (state_of (OfSlave ss) e) ss e }
 
 outputs-in : (p : State) (ss : SlaveSettings) (e : List Deed) → (p ≢ state.Data → outputs (OfSlave ss) e ≡ zeros (OfSlave ss)) → machine.outputs_in ss (now_in p ss (notes_of ss e)) ≡ outputs (OfSlave ss) e
 outputs-in state.Reset ss e h = sym (h (λ k. cc))
@@ -67,17 +73,20 @@ outputs-in state.Connection ss e h = sym (h (λ k. cc))
 outputs-in state.Parameter ss e h = sym (h (λ k. cc))
 outputs-in state.Data ss e h = refl
 
-pub outputs_stand : (ss : SlaveSettings) (v : SlaveView) (e : List Deed) → Stands OfSlave view_of ss v e → machine.outputs_in v.kit.settings v.state ≡ out (OfSlave ss) e
-outputs_stand ss v e h =
-    ap (λ (v : SlaveView). machine.outputs_in v.kit.settings v.state) h.is
-    ∙ outputs-in (state_of (OfSlave ss) e) ss e (fail_safe (OfSlave ss) e h.reached)
-    ∙ looking_back (OfSlave ss) e h.reached
+pub outputs_shown : (v : SlaveView) (shown : List ℕ) → shown ≡ machine.outputs_in v.kit.settings v.state → Shows OfSlave view_of v shown out
+outputs_shown v shown i = record {
+  shows = λ ss e h.
+      i
+      ∙ ap (λ (v : SlaveView). machine.outputs_in v.kit.settings v.state) h.is
+      ∙ outputs-in (state_of (OfSlave ss) e) ss e (fail_safe (OfSlave ss) e h.reached)
+      ∙ looking_back (OfSlave ss) e h.reached;
+}
 
-pub age_stands : (ss : SlaveSettings) (v : SlaveView) (e : List Deed) → Stands OfSlave view_of ss v e → v.timer.age ≡ age (OfSlave ss) e
-age_stands ss v e h = ap (λ (v : SlaveView). v.timer.age) h.is
+pub age_shown : (v : SlaveView) (shown : ℕ) → shown ≡ v.timer.age → Shows OfSlave view_of v shown age
+age_shown v shown i = record { shows = λ ss e h. i ∙ ap (λ (v : SlaveView). v.timer.age) h.is }
 
-pub offer_stands : (ss : SlaveSettings) (v : SlaveView) (e : List Deed) → Stands OfSlave view_of ss v e → v.kit.offer ≡ offer (OfSlave ss) e
-offer_stands ss v e h = ap (λ (v : SlaveView). v.kit.offer) h.is
+pub offer_shown : (v : SlaveView) (shown : List ℕ) → shown ≡ v.kit.offer → Shows OfSlave view_of v shown offer
+offer_shown v shown i = record { shows = λ ss e h. i ∙ ap (λ (v : SlaveView). v.kit.offer) h.is }
 
-pub held_stands : (ss : SlaveSettings) (v : SlaveView) (e : List Deed) → Stands OfSlave view_of ss v e → v.kit.held ≡ held e
-held_stands ss v e h = ap (λ (v : SlaveView). v.kit.held) h.is
+pub held_shown : (v : SlaveView) (shown : Bool) → shown ≡ v.kit.held → Shows OfSlave view_of v shown (λ s e. held e)
+held_shown v shown i = record { shows = λ ss e h. i ∙ ap (λ (v : SlaveView). v.kit.held) h.is }

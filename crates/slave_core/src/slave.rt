@@ -59,10 +59,17 @@ impl Slave {
     ghost use Rattle.slave_core.specs.Slave.{first_slave, fallen, falls, refuses, reset_by_peer, settles, delivered, tick_of, reset_of, Tells};
     ghost use Rattle.slave_core.specs.Taken.{taken, reply};
     ghost use Rattle.slave_core.specs.Views.{HasPassed};
+    ghost use Rattle.slave_core.specs.ViewOf.{view_of};
+    ghost use Rattle.param_load.specs.declared.entry.Move.TheVariants as event;
+    ghost use Rattle.end_model.specs.Setup.{OfSlave};
+    ghost use Rattle.end_model.specs.Readiness as model;
+    ghost use Rattle.end_model.specs.Outputs.{out};
+    ghost use Rattle.end_model.specs.Standing.{Stands, Follows, Answers, Shows};
 
     /// A slave with these settings: in state Reset, with zeros to offer and to give, and not held.
+    #[tactic(auto, using(crate::proofs::Law::new_stands))]
     pub fn new(settings: SlaveSettings) -> Slave
-        ensures { result ≡ first_slave settings }
+        ensures { Stands OfSlave view_of settings result [] }
     {
         let hand = settings.hand();
         Slave {
@@ -206,13 +213,10 @@ impl Slave {
         }
     }
 
-    /// Takes a frame of the master, of any number of bytes, and writes the answer to `out`, in place of what it
-    /// held; `out` is empty where nothing is sent. A frame of another length, or that repeats the frame taken
-    /// last, is dropped. A valid Reset frame ends the session. A frame that fails a test ends it with the test's
-    /// code, and is dropped in state Reset. Every other frame is taken and answered.
+    /// Tests a frame of the master, and goes on by the verdict.
     #[inline(never)]
     #[tactic(auto, using(crate::proofs::Passed::is_allowed))]
-    pub fn deliver(&mut self, frame: &[u8], out: &mut FrameBuf) -> Did
+    fn receive(&mut self, frame: &[u8], out: &mut FrameBuf) -> Did
         ensures slave { self.new ≡ (delivered self.old frame.now).slave }
         ensures did { result ≡ (delivered self.old frame.now).did }
         ensures sent { out.new ≡ (delivered self.old frame.now).sent }
@@ -229,9 +233,21 @@ impl Slave {
         }
     }
 
-    /// Counts a tick outside state Reset. Where the age reaches the limit the session ends with code 5: the
-    /// outputs are zeros from this tick on, and the Reset frame is written to `out`.
-    pub fn tick(&mut self, out: &mut FrameBuf) -> Did
+    /// Takes a frame of the master, of any number of bytes, and writes the answer to `out`, in place of what it
+    /// held; `out` is empty where nothing is sent. A frame of another length, or that repeats the frame taken
+    /// last, is dropped. A valid Reset frame ends the session. A frame that fails a test ends it with the test's
+    /// code, and is dropped in state Reset. Every other frame is taken and answered.
+    pub fn deliver(&mut self, frame: &[u8], out: &mut FrameBuf) -> Did
+        ensures follows { Follows OfSlave view_of self.old (event.Deliver frame.now) self.new }
+        ensures answers { Answers OfSlave view_of self.old (event.Deliver frame.now) result out.new }
+        ensures kit { self.new.kit ≡ self.old.kit }
+        ensures tells { Tells result out.new }
+    {
+        self.receive(frame, out)
+    }
+
+    /// Counts a tick outside state Reset.
+    fn count(&mut self, out: &mut FrameBuf) -> Did
         ensures slave { self.new ≡ (tick_of self.old).slave }
         ensures did { result ≡ (tick_of self.old).did }
         ensures sent { out.new ≡ (tick_of self.old).sent }
@@ -245,13 +261,23 @@ impl Slave {
         self.fall(false, Cause::Found(Code(0x05)), Code(0x05), out)
     }
 
+    /// Counts a tick outside state Reset. Where the age reaches the limit the session ends with code 5: the
+    /// outputs are zeros from this tick on, and the Reset frame is written to `out`.
+    #[tactic(auto, using(crate::proofs::Law::follows_by, crate::proofs::Law::answers_by))]
+    pub fn tick(&mut self, out: &mut FrameBuf) -> Did
+        ensures follows { Follows OfSlave view_of self.old event.Tick self.new }
+        ensures answers { Answers OfSlave view_of self.old event.Tick result out.new }
+        ensures kit { self.new.kit ≡ self.old.kit }
+        ensures tells { Tells result out.new }
+    {
+        self.count(out)
+    }
+
     /// Ends the session, if there is one, and writes Reset(0) to `out`.
+    #[tactic(auto, using(crate::proofs::Law::follows_by, crate::proofs::Law::answers_by))]
     pub fn reset(&mut self, out: &mut FrameBuf) -> Did
-        ensures slave { self.new ≡ (reset_of self.old).slave }
-        ensures did { result ≡ (reset_of self.old).did }
-        ensures sent { out.new ≡ (reset_of self.old).sent }
-        ensures reset { state_of self.new.state ≡ state.Reset }
-        ensures cause { result.reset ≡ Some Cause.Local }
+        ensures follows { Follows OfSlave view_of self.old event.Local self.new }
+        ensures answers { Answers OfSlave view_of self.old event.Local result out.new }
         ensures kit { self.new.kit ≡ self.old.kit }
         ensures tells { Tells result out.new }
     {
@@ -259,24 +285,30 @@ impl Slave {
     }
 
     /// Offers these safe data from now on, as many as the slave's frames have. The offer outlasts resets.
+    #[tactic(auto, using(crate::proofs::Law::follows_by))]
     pub fn put(&mut self, load: &[u8])
         requires { length load.now ≡ own_len self.old.kit.settings }
-        ensures { self.new ≡ record self.old { kit = record self.old.kit { offer = load.now } } }
+        ensures follows { Follows OfSlave view_of self.old (event.Put load.now) self.new }
+        ensures settings { self.new.kit.settings ≡ self.old.kit.settings }
     {
         self.kit.put(load);
     }
 
     /// Whether zeros are sent in place of the offer from now on. It outlasts resets.
+    #[tactic(auto, using(crate::proofs::Law::follows_by))]
     pub fn hold(&mut self, failsafe: bool)
-        ensures { self.new ≡ record self.old { kit = record self.old.kit { held = failsafe } } }
+        ensures follows { Follows OfSlave view_of self.old (event.Hold failsafe) self.new }
+        ensures settings { self.new.kit.settings ≡ self.old.kit.settings }
     {
         self.kit.hold(failsafe);
     }
 
     /// The session id of the sessions that begin from now on, at most 65,535 in profile One. It outlasts resets.
+    #[tactic(auto, using(crate::proofs::Law::follows_by))]
     pub fn nonce(&mut self, id: u32)
         requires { IsTrue (allows_id self.old.kit.settings.profile id) }
-        ensures { self.new ≡ record self.old { kit = record self.old.kit { nonce = id } } }
+        ensures follows { Follows OfSlave view_of self.old (event.Nonce id) self.new }
+        ensures settings { self.new.kit.settings ≡ self.old.kit.settings }
     {
         self.kit.set_nonce(id);
     }
@@ -289,19 +321,29 @@ impl Slave {
     }
 
     /// The state: the phase of the frame that was taken last in this session, Reset without a session.
+    #[tactic(auto, using(crate::proofs::Law::state_shown))]
     pub fn state(&self) -> State
-        ensures { result ≡ state_of self.now.state }
+        ensures { Shows OfSlave view_of self.now result model.state_of }
     {
         self.state.state()
     }
 
     /// The outputs, as many bytes as the master's frames have: those of the ProcessData frame that was taken last,
     /// zeros after a FailSafeData frame, and zeros in every state but Data.
+    #[tactic(auto, using(crate::proofs::Law::outputs_shown))]
     pub fn outputs(&self) -> &[u8]
+        ensures shown { Shows OfSlave view_of self.now result.now out }
+        ensures len { length result.now ≡ peer_len self.now.kit.settings }
+        ensures most { length result.now ≤ 126 }
+    {
+        self.outputs_now()
+    }
+
+    /// The outputs in the state that the slave is in.
+    fn outputs_now(&self) -> &[u8]
         ensures value { result.now ≡ outputs_in self.now.kit.settings self.now.state }
         ensures len { length result.now ≡ peer_len self.now.kit.settings }
         ensures most { length result.now ≤ 126 }
-        ensures failsafe { state_of self.now.state ≢ state.Data → result.now ≡ replicate (peer_len self.now.kit.settings) 0 }
     {
         let len = self.kit.peer_len();
         match &self.state {
@@ -311,32 +353,34 @@ impl Slave {
     }
 
     /// The terms of the session, exactly in state Data.
+    #[tactic(auto, using(crate::proofs::Law::terms_shown))]
     pub fn terms(&self) -> Option<&Terms>
-        ensures value { option_copied result ≡ terms_in self.now.state }
-        ensures data { IsSome result ↔ (state_of self.now.state ≡ state.Data) }
+        ensures { Shows OfSlave view_of self.now (option_copied result) model.told_terms }
     {
         self.state.terms()
     }
 
     /// The ticks since a frame was taken or sent last, 0 in state Reset.
+    #[tactic(auto, using(crate::proofs::Law::age_shown))]
     pub fn age(&self) -> u16
-        ensures value { result ≡ self.now.timer.age }
-        ensures at_rest { IsTrue (is_reset self.now.state) → result ≡ 0 }
+        ensures { Shows OfSlave view_of self.now result model.age }
     {
         self.watchdog.age()
     }
 
     /// The safe data that were put last, zeros at first.
+    #[tactic(auto, using(crate::proofs::Law::offer_shown))]
     pub fn offer(&self) -> &[u8]
-        ensures value { result.now ≡ self.now.kit.offer }
+        ensures shown { Shows OfSlave view_of self.now result.now model.offer }
         ensures len { length result.now ≡ own_len self.now.kit.settings }
     {
         self.kit.offer()
     }
 
     /// Whether zeros are sent in place of the offer.
+    #[tactic(auto, using(crate::proofs::Law::held_shown))]
     pub fn held(&self) -> bool
-        ensures { result ≡ self.now.kit.held }
+        ensures { Shows OfSlave view_of self.now result (λ s e. model.held e) }
     {
         self.kit.held()
     }

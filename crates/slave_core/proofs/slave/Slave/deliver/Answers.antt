@@ -1,7 +1,9 @@
-use Rattle.std.proofs.Common.{sym, ◌∙◌}
-use Rattle.slave_core.proofs.Passed.{has_passed}
+use Rattle.std.proofs.Common.{arith}
+use Rattle.slave_core.proofs.Law.{follows_by, answers_by}
 use Rattle.slave_core.proofs.slave.Slave.deliver.Goals as goal
 
-pub take-requires-clause-passed : goal.take-requires-clause-passed
-take-requires-clause-passed c =
-    rw (← c.self.view_is) (has_passed c.self.inside.kit.settings c.self.inside.state c.args.frame.now c.in-Pass.seen (sym c.judge.ensures ∙ c.in-Pass.is))
+pub returns-clause-follows : goal.returns-clause-follows
+returns-clause-follows c = follows_by _ _ _ tt (λ i. let fits = c.type_inv.frame i in omega arith) c.receive.ensures.slave
+
+pub returns-clause-answers : goal.returns-clause-answers
+returns-clause-answers c = answers_by _ _ _ _ tt c.receive.ensures.did c.receive.ensures.sent
