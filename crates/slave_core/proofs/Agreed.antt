@@ -28,6 +28,7 @@ use Rattle.end_model.specs.Readiness.{state_of}
 use Rattle.end_model.specs.Step.{on_verdict, did_on, deed_of, step, IsProper, IsRun}
 use Rattle.end_model.specs.Verdict as model
 use Rattle.end_model.proofs.Shown.{slave-run}
+use Rattle.end_model.proofs.SoundRuns.{loaded}
 use Rattle.end_model.proofs.SlaveShown.{SlaveShows, parameters}
 use Rattle.end_model.proofs.WholeUploads.{whole_parameters}
 use Rattle.slave_core.specs.declared.now.Now.{Now}
@@ -196,8 +197,8 @@ passed-agrees state.Connection ss e bytes command.Parameter at s h k a run next 
 passed-agrees state.Parameter ss e bytes command.Parameter at s h k a run next = parameter-passed ss e bytes at s h k a next
 passed-agrees state.Parameter ss e bytes command.ProcessData at s h k a run next = runs-passed ss e bytes _ command.ProcessData run h k.is_allowed (λ w. process-agrees state.Parameter ss e bytes s (connected ss e h) a w run)
 passed-agrees state.Parameter ss e bytes command.FailSafeData at s h k a run next = runs-passed ss e bytes _ command.FailSafeData run h k.is_allowed (λ w. failsafe-agrees (all_zero (came ss bytes).load) state.Parameter ss e bytes at s (connected ss e h) a w run)
-passed-agrees state.Data ss e bytes command.ProcessData at s h k a run next = let shows : SlaveShows ss e = slave-run ss e run in process-agrees state.Data ss e bytes s (connected ss e h) a (shows.is_whole at) run
-passed-agrees state.Data ss e bytes command.FailSafeData at s h k a run next = let shows : SlaveShows ss e = slave-run ss e run in failsafe-agrees (all_zero (came ss bytes).load) state.Data ss e bytes at s (connected ss e h) a (shows.is_whole at) run
+passed-agrees state.Data ss e bytes command.ProcessData at s h k a run next = process-agrees state.Data ss e bytes s (connected ss e h) a (loaded ss e run at) run
+passed-agrees state.Data ss e bytes command.FailSafeData at s h k a run next = failsafe-agrees (all_zero (came ss bytes).load) state.Data ss e bytes at s (connected ss e h) a (loaded ss e run at) run
 passed-agrees state.Reset ss e bytes command.Reset at s h k a run next = absurd (cc k.is_allowed)
 passed-agrees state.Reset ss e bytes command.Connection at s h k a run next = absurd (cc k.is_allowed)
 passed-agrees state.Reset ss e bytes command.Parameter at s h k a run next = absurd (cc k.is_allowed)
