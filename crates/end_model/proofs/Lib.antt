@@ -1,9 +1,9 @@
 pub mod WorkedRuns
 pub mod Runs
-pub mod Heads
 pub mod Judged
 pub mod Accepted
 pub mod DeedKinds
+pub mod Heads
 pub mod Ways
 pub mod Reactions
 pub mod SoundRuns
@@ -12,9 +12,9 @@ pub mod Counted
 pub mod SlaveShown
 pub mod Shown
 pub mod AgeBelow
-pub mod WholeUploads
 pub mod Links
 pub mod ReadBack
 pub mod SealedFrames
 pub mod Neighbours
 pub mod Repeats
+pub mod WholeUploads
