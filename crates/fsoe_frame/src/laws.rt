@@ -9,5 +9,6 @@ ghost use Rattle.fsoe_frame.specs.Parts.{frame_of, bytes_of, AreBytes};
 /// connection id. The call does nothing: the law is its contract.
 pub fn one_layout()
     ensures read_back { (cmd conn : ℕ) (load crcs : List ℕ) → IsTrue (is_length (length load)) → length crcs ≡ group_count (length load) → frame_of (length load) (layout cmd load crcs conn) ≡ record { cmd = cmd; load = load; crcs = crcs; conn = conn } }
+    ensures counts { (l : ℕ) (bytes : List ℕ) → IsTrue (is_length l) → length bytes ≡ frame_len l → (length (frame_of l bytes).load ≡ l) × (length (frame_of l bytes).crcs ≡ group_count l) }
     ensures written_back { (l : ℕ) (bytes : List ℕ) → IsTrue (is_length l) → length bytes ≡ frame_len l → AreBytes bytes → bytes_of (frame_of l bytes) ≡ bytes }
 {}
