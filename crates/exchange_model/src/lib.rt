@@ -1,5 +1,5 @@
-//! What a run of both ends is, and what it is judged by. There is no code here to run: `specs` has the definitions, and
-//! the laws say what holds of them in all runs and in worked ones.
+//! What a run of both ends is, and what it is judged by: `specs` has the definitions, and the laws say what holds of them in all
+//! runs and in worked ones. Two monitors find the first other entry while a run goes on.
 #![tactic(auto)]
 
 pub mod laws;
@@ -10,3 +10,6 @@ mod side;
 
 pub use list_monitor::ListMonitor;
 pub use monitor::Monitor;
+
+#[cfg(test)]
+mod tests;

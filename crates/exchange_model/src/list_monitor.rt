@@ -139,6 +139,7 @@ impl ListMonitor {
     pub fn note(&mut self, entry: &Entry) -> Result<(), Memory>
         requires { self.old.noted + 1 < 2 ^ 64 }
         ensures ok { OnOk result (Lists self.old entry.now self.new) }
+        ensures noted { OnOk result (self.new.noted ≡ self.old.noted + 1) }
         ensures err { OnErr result (self.new ≡ self.old) }
     {
         self.step(entry)

@@ -51,7 +51,8 @@ impl Monitor {
     #[tactic(auto, using(crate::proofs::Noted::notes_by))]
     pub fn note(&mut self, entry: &Entry)
         requires { self.old.noted + 1 < 2 ^ 64 }
-        ensures { Notes self.old entry.now self.new }
+        ensures notes { Notes self.old entry.now self.new }
+        ensures noted { self.new.noted ≡ self.old.noted + 1 }
     {
         self.step(entry);
     }
