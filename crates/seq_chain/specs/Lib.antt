@@ -5,3 +5,5 @@ pub mod Chain
 pub mod Reset
 pub mod Differences
 pub mod BothFit
+pub mod SessionFrame
+pub mod Opened

@@ -3,13 +3,17 @@
 
 pub use chain::Chain;
 pub use link::Link;
+pub use opened::{Opened, open};
 pub use reset::{reset_frame, reset_view};
+pub use session_frame::SessionFrame;
 
 mod chain;
 mod compare;
 mod cover;
 pub mod laws;
 mod link;
+mod opened;
 mod reset;
+mod session_frame;
 #[cfg(test)]
 mod tests;

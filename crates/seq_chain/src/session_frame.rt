@@ -1,0 +1,83 @@
+//! A frame of a session.
+use fsoe_base::{Command, Image};
+use fsoe_frame::FrameView;
+use std::marker::Model;
+
+/// A delivered frame of a session: its command is known, and its safe data are at hand. Contracts see the command
+/// and the frame.
+#[derive(Drop)]
+pub struct SessionFrame<'a> {
+    command: Command,
+    view: FrameView<'a>,
+    load: &'a [u8],
+}
+
+impl<'a> Model for SessionFrame<'a> {
+    ghost use Rattle.seq_chain.specs.SessionFrame.{SessionFrameView, IsSessionFrame};
+
+    ghost Value = { SessionFrameView };
+
+    ghost view = { λ s. record { command = s.command; frame = s.view } };
+
+    ghost invariant = { λ s. IsSessionFrame (record { command = s.command; frame = s.view }) s.load.now };
+}
+
+impl<'a> SessionFrame<'a> {
+    ghost use Rattle.std.specs.Prelude.{◌≡◌, ◌≤◌, IsTrue, length};
+    ghost use Rattle.fsoe_base.specs.Command.{command_byte};
+    ghost use Rattle.fsoe_base.specs.Lengths.{is_length, group_count};
+    ghost use Rattle.fsoe_frame.specs.Parts.{bytes_of};
+
+    /// A frame with this command, whose byte it has. Its safe data are written to `load`.
+    pub fn new(command: Command, view: FrameView<'a>, load: &'a mut Image) -> SessionFrame<'a>
+        requires { view.cmd ≡ command_byte command }
+        ensures { result ≡ record { command = command; frame = view.entry } }
+    {
+        view.load_into(load);
+        let load = load.bytes();
+        SessionFrame {
+            command,
+            view,
+            load,
+        }
+    }
+
+    /// The command.
+    pub fn command(&self) -> Command
+        ensures { result ≡ self.now.command }
+    {
+        self.command
+    }
+
+    /// The frame.
+    pub fn view(&self) -> &FrameView<'a>
+        ensures { result.now ≡ self.now.frame }
+    {
+        &self.view
+    }
+
+    /// The connection id of the frame.
+    pub fn conn(&self) -> u16
+        ensures { result ≡ self.now.frame.conn }
+    {
+        self.view.conn()
+    }
+
+    /// The safe data of the frame, as many as a frame can have, with a CRC for each group.
+    pub fn load(&self) -> &[u8]
+        ensures value { result.now ≡ self.now.frame.load }
+        ensures most { length result.now ≤ 126 }
+        ensures valid { IsTrue (is_length (length result.now)) }
+        ensures groups { length self.now.frame.crcs ≡ group_count (length result.now) }
+    {
+        self.load
+    }
+
+    /// The bytes of the frame, at most 255.
+    pub fn bytes(&self) -> &[u8]
+        ensures value { result.now ≡ bytes_of self.now.frame }
+        ensures most { length result.now ≤ 255 }
+    {
+        self.view.bytes()
+    }
+}
