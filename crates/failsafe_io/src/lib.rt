@@ -1,10 +1,12 @@
-//! The fail-safe side of an end: the watchdog that leads to state Reset, and the outputs that are zeros
-//! unless process data stand.
+//! The fail-safe side of an end: the watchdog that leads to state Reset, the outputs that are zeros unless process
+//! data stand, and the offer that is zeros while the end is held.
 #![tactic(auto)]
 
+pub mod offer;
 pub mod outputs;
 pub mod watchdog;
 
+pub use offer::{Offer, data_holds, zeros};
 pub use outputs::Outputs;
 pub use watchdog::Watchdog;
 

@@ -25,3 +25,17 @@ fn outputs_are_zeros_unless_process_data_stand(rt: HostRuntime) {
     outputs.take(Command::FailSafeData, &[0, 0]);
     assert_eq!(rt; outputs.bytes(), [0, 0].as_slice());
 }
+
+#[test]
+fn an_end_that_is_held_sends_zeros(rt: HostRuntime) {
+    let mut offer = Offer::new(2);
+    assert_eq!(rt; offer.load(), [0, 0].as_slice());
+    offer.put(&[1, 0x80]);
+    assert_eq!(rt; offer.load(), [1, 0x80].as_slice());
+    assert!(rt; offer.command() == Command::ProcessData);
+    offer.hold(true);
+    assert_eq!(rt; offer.load(), [0, 0].as_slice());
+    assert!(rt; offer.command() == Command::FailSafeData);
+    assert_eq!(rt; offer.bytes(), [1, 0x80].as_slice());
+    assert!(rt; data_holds(Command::ProcessData, &[1]) && !data_holds(Command::FailSafeData, &[1]));
+}

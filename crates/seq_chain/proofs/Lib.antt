@@ -4,3 +4,4 @@ pub mod Steps
 pub mod OneChange
 pub mod BothFit
 pub mod Received
+pub mod OpenedFrame

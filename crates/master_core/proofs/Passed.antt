@@ -1,0 +1,29 @@
+-- What a frame that passed the tests tells.
+use Rattle.std.proofs.Common.{◌≡◌, ℕ, Bool, true, false, IsTrue, List, length, Option, Some, None, if◌then◌else◌, refl, ◌∙◌}
+use Rattle.fsoe_base.specs.declared.command.Code.{Code}
+use Rattle.fsoe_base.specs.Command.{code}
+use Rattle.fsoe_base.specs.Lengths.{is_length}
+use Rattle.param_load.specs.declared.master_settings.MasterSettings.{MasterSettings}
+use Rattle.seq_chain.specs.declared.opened.Opened.TheVariants as opened_as
+use Rattle.seq_chain.specs.Chain.{fits_next}
+use Rattle.seq_chain.specs.Opened.{opened}
+use Rattle.seq_chain.specs.SessionFrame.{SessionFrameView}
+use Rattle.seq_chain.proofs.OpenedFrame.{opened_load}
+use Rattle.master_core.specs.declared.now.Now.{Now}
+use Rattle.master_core.specs.Kit.{peer_len}
+use Rattle.master_core.specs.Now.{chain_of, allows, has_conn, fault}
+use Rattle.master_core.specs.Views.{HasPassed}
+
+by-tests : (a h t : Bool) (x y z : Code) → (if a then (if h then (if t then None else Some x) else Some y) else Some z) ≡ None → t ≡ true
+by-tests true true true x y z e = refl
+by-tests true true false x y z e = absurd (cc e)
+by-tests true false t x y z e = absurd (cc e)
+by-tests false h t x y z e = absurd (cc e)
+
+-- it has the slave's length, and fits
+pub has_passed : (settings : MasterSettings) (now : Now) (l : ℕ) (repeats : Bool) (bytes : List ℕ) (f : SessionFrameView) → IsTrue (is_length l) → l ≡ peer_len settings
+    → opened l repeats bytes ≡ opened_as.OfSession f → fault settings now f ≡ None → HasPassed settings (chain_of now) f
+has_passed settings now l repeats bytes f valid at o e = record {
+  len_is = opened_load l repeats bytes f valid o ∙ at;
+  fits = by-tests (allows now f.command) (has_conn settings f.command f.frame.conn) (fits_next (chain_of now) f.frame) (code 0x04) (code 0x03) (code 0x01) e;
+}

@@ -1,0 +1,140 @@
+-- What each event at a master leaves, does and sends.
+use Rattle.std.specs.Prelude.{ℕ, ◌+◌, ◌-◌, ◌==◌, Bool, true, false, List, [], Option, Some, None, Result, Ok, Err, if◌then◌else◌}
+use Rattle.fsoe_base.specs.declared.command.Code.{Code}
+use Rattle.fsoe_base.specs.declared.command.Command.{Command}
+use Rattle.fsoe_base.specs.declared.command.Command.TheVariants as command
+use Rattle.fsoe_base.specs.declared.did.Cause.{Cause}
+use Rattle.fsoe_base.specs.declared.did.Cause.TheVariants as cause
+use Rattle.fsoe_base.specs.declared.did.Did.{Did}
+use Rattle.fsoe_base.specs.declared.did.Dropped.{Dropped}
+use Rattle.fsoe_base.specs.declared.did.Dropped.TheVariants as dropped
+use Rattle.fsoe_base.specs.Did as did
+use Rattle.fsoe_base.specs.Command.{code}
+use Rattle.fsoe_frame.specs.Parts.{Frame, bytes_of}
+use Rattle.failsafe_io.specs.Timer.{Timer, ticked}
+use Rattle.param_load.specs.declared.master_settings.MasterSettings.{MasterSettings}
+use Rattle.seq_chain.specs.declared.opened.Opened.{Opened}
+use Rattle.seq_chain.specs.declared.opened.Opened.TheVariants as opened_as
+use Rattle.seq_chain.specs.Opened.{opened}
+use Rattle.seq_chain.specs.Reset.{reset_frame}
+use Rattle.seq_chain.specs.SessionFrame.{SessionFrameView}
+use Rattle.master_core.specs.declared.due.Next.{Next}
+use Rattle.master_core.specs.declared.due.Next.TheVariants as next
+use Rattle.master_core.specs.declared.now.Now.{Now}
+use Rattle.master_core.specs.declared.now.Now.TheVariants as now
+use Rattle.master_core.specs.Kit.{own_len, peer_len, first_kit}
+use Rattle.master_core.specs.Now.{is_reset, is_due, kept, is_repeat, fault, taken, replied, reply}
+use Rattle.master_core.specs.MasterView.{MasterView}
+use Rattle.master_core.specs.States.{no_session}
+
+-- what a frame that is accepted leaves and does
+pub record Accepted : Type 0 where
+  pub master : MasterView
+  pub did : Did
+
+-- what an event leaves, does and sends
+pub record Outcome : Type 0 where
+  pub master : MasterView
+  pub did : Did
+  pub sent : List ℕ
+
+-- a watchdog that counts from 0
+abbrev pub started : MasterSettings → Timer
+started settings = record { limit = settings.watchdog; age = 0 }
+
+-- a new master: its first tick reaches the limit
+abbrev pub first_master : MasterSettings → MasterView
+first_master settings = record { kit = first_kit settings; state = now.Reset no_session; timer = record { limit = settings.watchdog; age = settings.watchdog - 1 } }
+
+-- a frame is taken
+abbrev pub takes : Command → List ℕ → Bool → Did
+takes cmd load passed = record { took = Some (record { command = cmd; load = load }); passed = passed; sent = false; reset = None; dropped = None }
+
+-- a session ends
+abbrev pub resets : Bool → Cause → Bool → Did
+resets passed why sent = record { took = None; passed = passed; sent = sent; reset = Some why; dropped = None }
+
+-- a frame is dropped that didn't pass the test of the CRCs
+abbrev pub drops : MasterView → Dropped → Accepted
+drops v why = record { master = v; did = did.dropped why }
+
+-- a step after which a frame is due
+abbrev pub leaves : MasterView → Next → Did → Accepted
+leaves v n done = record { master = record v { state = now.Due (record { next = n }); timer = started v.kit.settings }; did = done }
+
+-- a session ends, and a Reset frame with the code is due
+abbrev pub ends : MasterView → Bool → Cause → Code → Accepted
+ends v passed why x = leaves v (next.Reset x) (resets passed why false)
+
+-- a test fails: in state Reset the frame is dropped, and else the session ends
+abbrev pub refuses : MasterView → Code → Accepted
+refuses v x = if is_reset v.state then drops v dropped.InReset else ends v false (cause.Found x) x
+
+-- in state Reset the Reset frame with code 0 begins a session, and one with another code is dropped
+abbrev pub begins : MasterView → Code → Frame → Accepted
+begins v x f = if x.0 == 0 then leaves v (next.Begin (bytes_of f)) (takes command.Reset f.load false) else drops v dropped.InReset
+
+-- a valid Reset frame: outside state Reset the session ends
+abbrev pub on_reset_frame : MasterView → Code → Frame → Accepted
+on_reset_frame v x f = if is_reset v.state then begins v x f else ends v false (cause.Peer x) (code 0)
+
+-- a frame that passed the tests, by its contents
+abbrev pub settles : MasterView → SessionFrameView → Result Next Code → Accepted
+settles v f (Ok n) = leaves v n (takes f.command f.frame.load true)
+settles v f (Err x) = ends v true (cause.Found x) x
+
+-- a frame of a session
+abbrev pub on_session : MasterView → SessionFrameView → Option Code → Accepted
+on_session v f None = settles v f (taken v.kit v.state f)
+on_session v f (Some x) = refuses v x
+
+abbrev pub accepted_by : MasterView → Opened → Accepted
+accepted_by v (opened_as.Drop why) = drops v why
+accepted_by v (opened_as.Refuse x) = refuses v x
+accepted_by v (opened_as.ResetFrame x f) = on_reset_frame v x f
+accepted_by v (opened_as.OfSession f) = on_session v f (fault v.kit.settings v.state f)
+
+-- a frame is accepted
+abbrev pub accepted : MasterView → List ℕ → Accepted
+accepted v bytes = accepted_by v (opened (peer_len v.kit.settings) (is_repeat (kept v.state) bytes) bytes)
+
+-- the frame that is due is sent
+abbrev pub replies : MasterView → MasterView
+replies v = record v { state = replied v.kit v.state }
+
+-- a frame is accepted, and the frame that is due then is sent
+abbrev pub answered_by : Accepted → Outcome
+answered_by a = record {
+  master = replies a.master;
+  did = record a.did { sent = is_due a.master.state };
+  sent = reply a.master.kit a.master.state;
+}
+
+abbrev pub delivered : MasterView → List ℕ → Outcome
+delivered v bytes = answered_by (accepted v bytes)
+
+-- a session ends, and a Reset frame with the code is sent
+abbrev pub falls : MasterView → Cause → Code → Outcome
+falls v why x = record {
+  master = record v { state = now.Reset no_session; timer = started v.kit.settings };
+  did = resets false why true;
+  sent = reset_frame x.0 (own_len v.kit.settings);
+}
+
+-- the limit is reached: in state Reset the Reset frame with code 0 is sent again
+abbrev pub expires : MasterView → Outcome
+expires v =
+    if is_reset v.state
+    then record { master = record v { timer = started v.kit.settings }; did = record did.nothing { sent = true }; sent = reset_frame 0 (own_len v.kit.settings) }
+    else falls v (cause.Found (code 0x05)) (code 0x05)
+
+-- a tick
+abbrev pub tick_of : MasterView → Outcome
+tick_of v =
+    if v.timer.age + 1 == v.timer.limit
+    then expires v
+    else record { master = record v { timer = ticked v.timer }; did = did.nothing; sent = [] }
+
+-- a reset of the master's own
+abbrev pub reset_of : MasterView → Outcome
+reset_of v = falls v cause.Local (code 0)

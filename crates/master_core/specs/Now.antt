@@ -1,0 +1,161 @@
+-- What the tests of a frame and the readers ask of the state of a master, and how it goes on.
+use Rattle.std.specs.Prelude.{◌≡◌, ℕ, ◌==◌, Bool, true, false, List, [], replicate, Option, Some, None, Result, Ok, Err, if◌then◌else◌}
+use Rattle.std.specs.Str.{bytes_eq}
+use Rattle.fsoe_base.specs.declared.command.Code.{Code}
+use Rattle.fsoe_base.specs.declared.command.Command.{Command}
+use Rattle.fsoe_base.specs.declared.command.Command.TheVariants as command
+use Rattle.fsoe_base.specs.declared.command.State.{State}
+use Rattle.fsoe_base.specs.declared.command.State.TheVariants as state
+use Rattle.fsoe_base.specs.Command.{code}
+use Rattle.seq_chain.specs.declared.chain.Chain.{Chain}
+use Rattle.seq_chain.specs.Chain.{fits_next}
+use Rattle.seq_chain.specs.Reset.{reset_frame}
+use Rattle.seq_chain.specs.SessionFrame.{SessionFrameView}
+use Rattle.param_load.specs.declared.master_settings.MasterSettings.{MasterSettings}
+use Rattle.param_load.specs.declared.terms.Terms.{Terms}
+use Rattle.master_core.specs.declared.due.Due.{Due}
+use Rattle.master_core.specs.declared.due.Next.{Next}
+use Rattle.master_core.specs.declared.due.Next.TheVariants as next
+use Rattle.master_core.specs.declared.now.Now.{Now}
+use Rattle.master_core.specs.declared.now.Now.TheVariants as now
+use Rattle.master_core.specs.Kit.{KitView, own_len, peer_len}
+use Rattle.master_core.specs.States.{no_session, fresh, first_exchange, piece_sent, piece_frame, session_next, connection_next, parameter_next, data_next, data_sent, data_frame}
+use Rattle.master_core.specs.Views.{ExchangeUnder, DataUnder}
+
+-- a state was made under these settings
+abbrev pub NextUnder : MasterSettings → Next → Type 0
+NextUnder settings (next.Reset x) = Unit {0}
+NextUnder settings (next.Begin last) = Unit {0}
+NextUnder settings (next.Session s) = ExchangeUnder settings s
+NextUnder settings (next.Connection s) = ExchangeUnder settings s
+NextUnder settings (next.Parameter s) = ExchangeUnder settings s
+NextUnder settings (next.Data s) = DataUnder settings s
+
+abbrev pub IsUnder : MasterSettings → Now → Type 0
+IsUnder settings (now.Reset s) = Unit {0}
+IsUnder settings (now.Session s) = ExchangeUnder settings s
+IsUnder settings (now.Connection s) = ExchangeUnder settings s
+IsUnder settings (now.Parameter s) = ExchangeUnder settings s
+IsUnder settings (now.Data s) = DataUnder settings s
+IsUnder settings (now.Due due) = NextUnder settings due.next
+
+abbrev pub is_reset : Now → Bool
+is_reset (now.Reset s) = true
+is_reset _ = false
+
+-- whether a frame is due
+abbrev pub is_due : Now → Bool
+is_due (now.Due due) = true
+is_due _ = false
+
+-- the state: while a frame is due, that after it is sent
+abbrev pub state_of_next : Next → State
+state_of_next (next.Reset x) = state.Reset
+state_of_next (next.Begin last) = state.Session
+state_of_next (next.Session s) = state.Session
+state_of_next (next.Connection s) = state.Connection
+state_of_next (next.Parameter s) = state.Parameter
+state_of_next (next.Data s) = state.Data
+
+abbrev pub state_of : Now → State
+state_of (now.Reset s) = state.Reset
+state_of (now.Session s) = state.Session
+state_of (now.Connection s) = state.Connection
+state_of (now.Parameter s) = state.Parameter
+state_of (now.Data s) = state.Data
+state_of (now.Due due) = state_of_next due.next
+
+-- the frame that is kept as the one taken last: none in state Reset
+abbrev pub kept : Now → Option (List ℕ)
+kept (now.Session s) = Some s.last
+kept (now.Connection s) = Some s.last
+kept (now.Parameter s) = Some s.last
+kept (now.Data s) = Some s.last
+kept _ = None
+
+-- the bytes are those of the frame that is kept
+abbrev pub is_repeat : Option (List ℕ) → List ℕ → Bool
+is_repeat None bytes = false
+is_repeat (Some last) bytes = bytes_eq last bytes
+
+-- the chain of the session, a new one in state Reset
+abbrev pub chain_of : Now → Chain
+chain_of (now.Session s) = s.chain
+chain_of (now.Connection s) = s.chain
+chain_of (now.Parameter s) = s.chain
+chain_of (now.Data s) = s.chain
+chain_of _ = fresh
+
+-- the commands of a session that are allowed: that of the phase
+abbrev pub allows : Now → Command → Bool
+allows (now.Session s) command.Session = true
+allows (now.Connection s) command.Connection = true
+allows (now.Parameter s) command.Parameter = true
+allows (now.Data s) command.ProcessData = true
+allows (now.Data s) command.FailSafeData = true
+allows _ _ = false
+
+-- the connection id of a frame is 0 for Session, and else the master's
+abbrev pub has_conn : MasterSettings → Command → ℕ → Bool
+has_conn settings command.Session field = field == 0
+has_conn settings _ field = field == settings.conn
+
+-- the code of the first test that a frame of a session fails: of its command, its connection id, and its CRCs
+abbrev pub fault : MasterSettings → Now → SessionFrameView → Option Code
+fault settings now f =
+    if allows now f.command
+    then (if has_conn settings f.command f.frame.conn then (if fits_next (chain_of now) f.frame then None else Some (code 0x04)) else Some (code 0x03))
+    else Some (code 0x01)
+
+-- the state after a frame that passed the tests, before the frame that follows it is sent
+abbrev pub taken : KitView → Now → SessionFrameView → Result Next Code
+taken kit (now.Session s) f = session_next kit s f
+taken kit (now.Connection s) f = connection_next kit s f
+taken kit (now.Parameter s) f = parameter_next kit s f
+taken kit (now.Data s) f = data_next s f
+taken kit _ f = Err (code 0x01)
+
+-- the state after the frame that is due was sent, and that frame
+abbrev pub sent_state : KitView → Next → Now
+sent_state kit (next.Reset x) = now.Reset no_session
+sent_state kit (next.Begin last) = now.Session (piece_sent command.Session 0 kit (first_exchange kit last))
+sent_state kit (next.Session s) = now.Session (piece_sent command.Session 0 kit s)
+sent_state kit (next.Connection s) = now.Connection (piece_sent command.Connection kit.settings.conn kit s)
+sent_state kit (next.Parameter s) = now.Parameter (piece_sent command.Parameter kit.settings.conn kit s)
+sent_state kit (next.Data s) = now.Data (data_sent kit s)
+
+abbrev pub due_frame : KitView → Next → List ℕ
+due_frame kit (next.Reset x) = reset_frame x.0 (own_len kit.settings)
+due_frame kit (next.Begin last) = piece_frame command.Session 0 kit (first_exchange kit last)
+due_frame kit (next.Session s) = piece_frame command.Session 0 kit s
+due_frame kit (next.Connection s) = piece_frame command.Connection kit.settings.conn kit s
+due_frame kit (next.Parameter s) = piece_frame command.Parameter kit.settings.conn kit s
+due_frame kit (next.Data s) = data_frame kit s
+
+abbrev pub replied : KitView → Now → Now
+replied kit (now.Due due) = sent_state kit due.next
+replied kit now = now
+
+abbrev pub reply : KitView → Now → List ℕ
+reply kit (now.Due due) = due_frame kit due.next
+reply kit _ = []
+
+-- the outputs: zeros in every state but Data
+abbrev pub outputs_in_next : MasterSettings → Next → List ℕ
+outputs_in_next settings (next.Data s) = s.outputs
+outputs_in_next settings _ = replicate (peer_len settings) 0
+
+abbrev pub outputs_in : MasterSettings → Now → List ℕ
+outputs_in settings (now.Data s) = s.outputs
+outputs_in settings (now.Due due) = outputs_in_next settings due.next
+outputs_in settings _ = replicate (peer_len settings) 0
+
+-- the terms, which are there in state Data
+abbrev pub terms_in_next : Next → Option Terms
+terms_in_next (next.Data s) = Some s.terms
+terms_in_next _ = None
+
+abbrev pub terms_in : Now → Option Terms
+terms_in (now.Data s) = Some s.terms
+terms_in (now.Due due) = terms_in_next due.next
+terms_in _ = None

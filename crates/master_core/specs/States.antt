@@ -1,0 +1,107 @@
+-- How the states of a master go on: by an answer that passed the tests, and by the frame that follows it.
+use Rattle.std.specs.Prelude.{ℕ, List, Result, Ok, Err, None, replicate, if◌then◌else◌}
+use Rattle.fsoe_base.specs.declared.command.Code.{Code}
+use Rattle.fsoe_base.specs.declared.command.Command.{Command}
+use Rattle.fsoe_base.specs.declared.command.Command.TheVariants as command
+use Rattle.fsoe_base.specs.Command.{command_byte, code}
+use Rattle.fsoe_frame.specs.Parts.{Frame, bytes_of}
+use Rattle.seq_chain.specs.declared.chain.Chain.{Chain}
+use Rattle.seq_chain.specs.Chain.{sealed_by, after_sent, after_taken}
+use Rattle.seq_chain.specs.SessionFrame.{SessionFrameView}
+use Rattle.param_load.specs.declared.upload.Progress.{Progress}
+use Rattle.param_load.specs.declared.upload.Progress.TheVariants as progress
+use Rattle.param_load.specs.Download.{advanced, outcome, piece_in_turn}
+use Rattle.param_load.specs.DownloadView.{DownloadView}
+use Rattle.param_load.specs.Payload.{padded}
+use Rattle.failsafe_io.specs.Offer.{data_command, data_load, data_holds}
+use Rattle.failsafe_io.specs.Outputs.{outputs_of}
+use Rattle.master_core.specs.declared.states.InReset.{InReset}
+use Rattle.master_core.specs.declared.due.Next.{Next}
+use Rattle.master_core.specs.declared.due.Next.TheVariants as next
+use Rattle.master_core.specs.Kit.{KitView, own_len, peer_len, session_download, connection_download, parameter_download, terms_of}
+use Rattle.master_core.specs.Views.{ExchangeView, DataView}
+
+abbrev pub no_session : InReset
+no_session = record { private = tt }
+
+abbrev pub fresh : Chain
+fresh = record { own = None; taken = None }
+
+-- the chain after a frame is sent
+abbrev pub chain_sent : Chain → ℕ → Command → List ℕ → Chain
+chain_sent chain conn cmd load = after_sent chain (sealed_by chain conn (command_byte cmd) load)
+
+-- the frame
+abbrev pub frame_sent : Chain → ℕ → Command → List ℕ → List ℕ
+frame_sent chain conn cmd load = bytes_of (sealed_by chain conn (command_byte cmd) load)
+
+-- the safe data of the frame with the piece in turn
+abbrev pub piece_load : KitView → ExchangeView → List ℕ
+piece_load kit x = padded (piece_in_turn x.download) (own_len kit.settings)
+
+-- a phase after the frame with the piece in turn is sent, and that frame
+abbrev pub piece_sent : Command → ℕ → KitView → ExchangeView → ExchangeView
+piece_sent cmd conn kit x = record x { chain = chain_sent x.chain conn cmd (piece_load kit x) }
+
+abbrev pub piece_frame : Command → ℕ → KitView → ExchangeView → List ℕ
+piece_frame cmd conn kit x = frame_sent x.chain conn cmd (piece_load kit x)
+
+-- a session begins with the session id's first piece; the Reset frame that answered the master's is kept
+abbrev pub first_exchange : KitView → List ℕ → ExchangeView
+first_exchange kit last = record { chain = fresh; download = session_download kit; last = last }
+
+-- a phase after the piece in turn was answered
+abbrev pub answered : ExchangeView → SessionFrameView → ExchangeView
+answered x f = record { chain = after_taken x.chain f.frame; download = advanced x.download; last = bytes_of f.frame }
+
+-- the next phase with its download
+abbrev pub with_download : ExchangeView → DownloadView → ExchangeView
+with_download x d = record x { download = d }
+
+-- state Data as it is entered
+abbrev pub first_data : KitView → ExchangeView → DataView
+first_data kit x = record { chain = x.chain; terms = terms_of kit.settings; outputs = replicate (peer_len kit.settings) 0; last = x.last }
+
+-- after an answer a phase goes on until its download is whole, then the next one begins
+abbrev pub session_by : Result Progress Code → KitView → ExchangeView → Result Next Code
+session_by (Err x) kit e = Err x
+session_by (Ok progress.More) kit e = Ok (next.Session e)
+session_by (Ok progress.Whole) kit e = Ok (next.Connection (with_download e (connection_download kit.settings)))
+
+abbrev pub session_next : KitView → ExchangeView → SessionFrameView → Result Next Code
+session_next kit x f = session_by (outcome x.download f.frame.load) kit (answered x f)
+
+abbrev pub connection_by : Result Progress Code → KitView → ExchangeView → Result Next Code
+connection_by (Err x) kit e = Err x
+connection_by (Ok progress.More) kit e = Ok (next.Connection e)
+connection_by (Ok progress.Whole) kit e = Ok (next.Parameter (with_download e (parameter_download kit.settings)))
+
+abbrev pub connection_next : KitView → ExchangeView → SessionFrameView → Result Next Code
+connection_next kit x f = connection_by (outcome x.download f.frame.load) kit (answered x f)
+
+abbrev pub parameter_by : Result Progress Code → KitView → ExchangeView → Result Next Code
+parameter_by (Err x) kit e = Err x
+parameter_by (Ok progress.More) kit e = Ok (next.Parameter e)
+parameter_by (Ok progress.Whole) kit e = Ok (next.Data (first_data kit e))
+
+abbrev pub parameter_next : KitView → ExchangeView → SessionFrameView → Result Next Code
+parameter_next kit x f = parameter_by (outcome x.download f.frame.load) kit (answered x f)
+
+-- state Data after a data frame of the slave
+abbrev pub data_answered : DataView → SessionFrameView → DataView
+data_answered s f = record { chain = after_taken s.chain f.frame; terms = s.terms; outputs = outputs_of f.command f.frame.load; last = bytes_of f.frame }
+
+abbrev pub data_next : DataView → SessionFrameView → Result Next Code
+data_next s f = if data_holds f.command f.frame.load then Ok (next.Data (data_answered s f)) else Err (code 0x07)
+
+-- a state that went on in place
+abbrev pub in_place : Result (Unit {0}) Code → DataView → Result Next Code
+in_place (Ok done) s = Ok (next.Data s)
+in_place (Err x) s = Err x
+
+-- state Data after a data frame is sent, and that frame
+abbrev pub data_sent : KitView → DataView → DataView
+data_sent kit s = record s { chain = chain_sent s.chain s.terms.conn (data_command kit.offer) (data_load kit.offer) }
+
+abbrev pub data_frame : KitView → DataView → List ℕ
+data_frame kit s = frame_sent s.chain s.terms.conn (data_command kit.offer) (data_load kit.offer)

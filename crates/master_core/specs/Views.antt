@@ -1,0 +1,35 @@
+-- What contracts see of the states of a master, and how they hang together with its settings.
+use Rattle.std.specs.Prelude.{◌≡◌, ℕ, false, IsTrue, List, length}
+use Rattle.seq_chain.specs.declared.chain.Chain.{Chain}
+use Rattle.seq_chain.specs.Chain.{fits_next}
+use Rattle.seq_chain.specs.SessionFrame.{SessionFrameView}
+use Rattle.param_load.specs.declared.master_settings.MasterSettings.{MasterSettings}
+use Rattle.param_load.specs.declared.terms.Terms.{Terms}
+use Rattle.param_load.specs.Download.{is_whole}
+use Rattle.param_load.specs.DownloadView.{DownloadView}
+use Rattle.master_core.specs.Kit.{peer_len, piece_of}
+
+-- a phase of a handshake: the chain, the download of the phase, and the frame taken last
+pub record ExchangeView : Type 0 where
+  pub chain : Chain
+  pub download : DownloadView
+  pub last : List ℕ
+
+pub record DataView : Type 0 where
+  pub chain : Chain
+  pub terms : Terms
+  pub outputs : List ℕ
+  pub last : List ℕ
+
+-- a state was made under these settings: of a download there is more to come
+pub record ExchangeUnder (settings : MasterSettings) (x : ExchangeView) : Type 0 where
+  pub piece_is : x.download.piece ≡ piece_of settings
+  pub more : is_whole x.download ≡ false
+
+pub record DataUnder (settings : MasterSettings) (s : DataView) : Type 0 where
+  pub outputs_len : length s.outputs ≡ peer_len settings
+
+-- a frame that came past the tests in a state with this chain: it has the slave's length, and its CRCs fit
+pub record HasPassed (settings : MasterSettings) (chain : Chain) (f : SessionFrameView) : Type 0 where
+  pub len_is : length f.frame.load ≡ peer_len settings
+  pub fits : IsTrue (fits_next chain f.frame)

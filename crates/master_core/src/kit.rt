@@ -1,0 +1,159 @@
+//! What a master has in every state.
+ghost use Rattle.std.specs.Prelude.{◌≡◌, ◌≤◌};
+
+use failsafe_io::Offer;
+use fsoe_base::End;
+use param_load::{Download, MasterSettings, Payload, Profile, Terms};
+use std::marker::Model;
+
+/// What a master has in every state: its settings, its offer, and its nonce. It is made and changed by the master
+/// alone.
+#[derive(Debug, Drop)]
+pub(crate) struct Kit {
+    settings: MasterSettings,
+    offer: Offer,
+    nonce: u32,
+}
+
+impl Model for Kit {
+    ghost use Rattle.master_core.specs.Kit.{KitView, IsKit};
+
+    ghost Value = { KitView };
+
+    ghost view = { λ k. record { settings = k.settings; offer = k.offer; nonce = k.nonce } };
+
+    ghost invariant = { λ k. IsKit (record { settings = k.settings; offer = k.offer; nonce = k.nonce }) };
+}
+
+impl Kit {
+    ghost use Rattle.std.specs.Prelude.{◌≡◌, ◌≤◌, false, IsTrue, length};
+    ghost use Rattle.fsoe_base.specs.Lengths.{is_length};
+    ghost use Rattle.param_load.specs.Download.{is_whole};
+    ghost use Rattle.param_load.specs.Profile.{allows_id};
+    ghost use Rattle.master_core.specs.Kit.{own_len, peer_len, piece_of, first_kit, session_download, connection_download, parameter_download, terms_of};
+
+    pub(crate) fn new(settings: MasterSettings) -> Kit
+        ensures { result ≡ first_kit settings }
+    {
+        let offer = Offer::new(settings.lengths().of(End::Master));
+        let nonce = settings.nonce();
+        Kit {
+            settings,
+            offer,
+            nonce,
+        }
+    }
+
+    pub(crate) fn settings(&self) -> &MasterSettings
+        ensures { result.now ≡ self.now.settings }
+    {
+        &self.settings
+    }
+
+    fn profile(&self) -> Profile
+        ensures { result ≡ self.now.settings.profile }
+    {
+        self.settings.profile()
+    }
+
+    /// The number of safe data bytes of the master's frames.
+    pub(crate) fn own_len(&self) -> usize
+        ensures value { result ≡ own_len self.now.settings }
+        ensures valid { IsTrue (is_length result) }
+        ensures most { result ≤ 126 }
+    {
+        self.settings.lengths().of(End::Master)
+    }
+
+    /// The number of safe data bytes of the slave's frames.
+    pub(crate) fn peer_len(&self) -> usize
+        ensures value { result ≡ peer_len self.now.settings }
+        ensures valid { IsTrue (is_length result) }
+        ensures most { result ≤ 126 }
+    {
+        self.settings.lengths().of(End::Slave)
+    }
+
+    /// The most bytes of a payload that one frame carries.
+    pub(crate) fn piece(&self) -> usize
+        ensures value { result ≡ piece_of self.now.settings }
+        ensures own { result ≤ own_len self.now.settings }
+        ensures peer { result ≤ peer_len self.now.settings }
+        ensures most { result ≤ 126 }
+    {
+        self.own_len().min(self.peer_len())
+    }
+
+    /// The download of the session id, which is the nonce at this moment.
+    pub(crate) fn session_download(&self) -> Download
+        ensures value { result ≡ session_download self.now }
+        ensures more { is_whole result ≡ false }
+    {
+        let payload = Payload::session(self.nonce, self.profile());
+        Download::new(payload, self.piece(), false)
+    }
+
+    /// The download of the connection id and the slave's address.
+    pub(crate) fn connection_download(&self) -> Download
+        ensures value { result ≡ connection_download self.now.settings }
+        ensures more { is_whole result ≡ false }
+    {
+        let payload = Payload::connection(self.settings.conn(), self.settings.address());
+        Download::new(payload, self.piece(), true)
+    }
+
+    /// The download of the parameters.
+    pub(crate) fn parameter_download(&self) -> Download
+        ensures value { result ≡ parameter_download self.now.settings }
+        ensures more { is_whole result ≡ false }
+    {
+        let settings = &self.settings;
+        let parameters = Payload::parameter(
+            settings.watchdog(),
+            settings.profile(),
+            settings.app(),
+        );
+        Download::new(parameters, self.piece(), true)
+    }
+
+    /// The terms of the connection.
+    pub(crate) fn terms(&self) -> Terms
+        ensures { result ≡ terms_of self.now.settings }
+    {
+        Terms {
+            conn: self.settings.conn(),
+            address: self.settings.address(),
+            watchdog: self.settings.watchdog(),
+            app: self.settings.app().copy(),
+            profile: self.settings.profile(),
+        }
+    }
+
+    /// What the master sends in state Data.
+    pub(crate) fn offer(&self) -> &Offer
+        ensures value { result.now ≡ self.now.offer }
+        ensures len { length result.now.load ≡ own_len self.now.settings }
+    {
+        &self.offer
+    }
+
+    pub(crate) fn put(&mut self, load: &[u8])
+        requires { length load.now ≡ own_len self.old.settings }
+        ensures { self.new ≡ record self.old { offer = record self.old.offer { load = load.now } } }
+    {
+        self.offer.put(load);
+    }
+
+    pub(crate) fn hold(&mut self, failsafe: bool)
+        ensures { self.new ≡ record self.old { offer = record self.old.offer { held = failsafe } } }
+    {
+        self.offer.hold(failsafe);
+    }
+
+    pub(crate) fn set_nonce(&mut self, id: u32)
+        requires { IsTrue (allows_id self.old.settings.profile id) }
+        ensures { self.new ≡ record self.old { nonce = id } }
+    {
+        self.nonce = id;
+    }
+}

@@ -1,0 +1,357 @@
+//! The master of a connection.
+ghost use Rattle.std.specs.Prelude.{◌≡◌, ◌≤◌, length};
+ghost use Rattle.fsoe_base.specs.Did.{nothing};
+ghost use Rattle.master_core.specs.Master.{takes, resets};
+
+use crate::due::{Due, Next};
+use crate::kit::Kit;
+use crate::now::Now;
+use crate::states::InReset;
+use failsafe_io::Watchdog;
+use fsoe_base::{Cause, Code, Command, Did, Dropped, FrameBuf, Image, State, Took};
+use fsoe_frame::FrameView;
+use param_load::{MasterSettings, Terms};
+use seq_chain::{Opened, SessionFrame, open, reset_frame};
+use std::marker::Model;
+use std::mem;
+
+/// The master of a connection. It has no clock and no line of its own: frames and ticks are handed in, and the
+/// frames that it sends are handed out.
+#[derive(Debug, Drop)]
+pub struct Master {
+    kit: Kit,
+    state: Now,
+    watchdog: Watchdog,
+}
+
+impl Model for Master {
+    ghost use Rattle.master_core.specs.MasterView.{MasterView, IsMaster};
+
+    ghost Value = { MasterView };
+
+    ghost view = { λ m. record { kit = m.kit; state = m.state; timer = m.watchdog } };
+
+    ghost invariant = { λ m. IsMaster (record { kit = m.kit; state = m.state; timer = m.watchdog }) };
+}
+
+/// A frame with these safe data was taken.
+fn took(command: Command, bytes: &[u8], passed: bool) -> Did
+    requires { length bytes.now ≤ 126 }
+    ensures { result ≡ takes command bytes.now passed }
+{
+    let mut load = Image::zeros(0);
+    load.set(bytes);
+    Did {
+        took: Some(Took { command, load }),
+        passed,
+        sent: false,
+        reset: None,
+        dropped: None,
+    }
+}
+
+/// A session ended.
+fn ended(passed: bool, why: Cause, sent: bool) -> Did
+    ensures { result ≡ resets passed why sent }
+{
+    Did {
+        took: None,
+        passed,
+        sent,
+        reset: Some(why),
+        dropped: None,
+    }
+}
+
+impl Master {
+    ghost use Rattle.std.specs.Prelude.{◌≢◌, ◌↔◌, ◌||◌, false, IsTrue, IsSome, is_some, length, option_copied, replicate};
+    ghost use Rattle.fsoe_base.specs.declared.command.State.TheVariants as state;
+    ghost use Rattle.param_load.specs.Profile.{allows_id};
+    ghost use Rattle.master_core.specs.Kit.{own_len, peer_len};
+    ghost use Rattle.master_core.specs.Master.{first_master, leaves, ends, refuses, on_reset_frame, settles, accepted, replies, delivered, falls, tick_of, reset_of};
+    ghost use Rattle.master_core.specs.Now.{NextUnder, chain_of, state_of, is_due, taken, reply, outputs_in, terms_in};
+    ghost use Rattle.master_core.specs.Views.{HasPassed};
+
+    /// A master with these settings: in state Reset, with zeros to offer and to give, and not held. Its first tick
+    /// reaches its limit.
+    pub fn new(settings: MasterSettings) -> Master
+        ensures { result ≡ first_master settings }
+    {
+        let limit = settings.watchdog();
+        Master {
+            kit: Kit::new(settings),
+            state: Now::Reset(InReset::new()),
+            watchdog: Watchdog::new(limit, limit - 1),
+        }
+    }
+
+    /// From now on this is to be sent, with the state that it leads to. The age is 0.
+    fn leave(&mut self, next: Next)
+        requires { NextUnder self.old.kit.settings next }
+        ensures { self.new ≡ (leaves self.old next nothing).master }
+    {
+        self.state = Now::Due(Due::new(next));
+        let limit = self.kit.settings().watchdog();
+        self.watchdog.restart(limit);
+    }
+
+    /// Forgets the session; the Reset frame with this code is due.
+    #[cold]
+    #[inline(never)]
+    fn end(&mut self, passed: bool, why: Cause, code: Code) -> Did
+        ensures master { self.new ≡ (ends self.old passed why code).master }
+        ensures did { result ≡ (ends self.old passed why code).did }
+    {
+        self.leave(Next::Reset(code));
+        ended(passed, why, false)
+    }
+
+    /// A test of a frame failed with this code: in state Reset the frame is dropped.
+    #[cold]
+    #[inline(never)]
+    fn refuse(&mut self, code: Code) -> Did
+        ensures master { self.new ≡ (refuses self.old code).master }
+        ensures did { result ≡ (refuses self.old code).did }
+    {
+        if self.state.is_reset() {
+            return Did::dropped(Dropped::InReset);
+        }
+        self.end(false, Cause::Found(code), code)
+    }
+
+    /// A valid Reset frame came: in state Reset the one with code 0 begins a session.
+    #[cold]
+    #[inline(never)]
+    fn acknowledge(&mut self, code: Code, view: &FrameView<'_>) -> Did
+        ensures master { self.new ≡ (on_reset_frame self.old code view.now).master }
+        ensures did { result ≡ (on_reset_frame self.old code view.now).did }
+    {
+        if !self.state.is_reset() {
+            return self.end(false, Cause::Peer(code), Code(0x00));
+        }
+        if code.0 != 0x00 {
+            return Did::dropped(Dropped::InReset);
+        }
+        let mut load = Image::zeros(0);
+        view.load_into(&mut load);
+        let mut last = FrameBuf::new();
+        last.set(view.bytes());
+        self.leave(Next::Begin(last));
+        took(Command::Reset, load.bytes(), false)
+    }
+
+    /// Takes a frame that passed the tests, unless its contents are wrong.
+    fn take(&mut self, seen: &SessionFrame<'_>) -> Did
+        requires { HasPassed self.old.kit.settings (chain_of self.old.state) seen.now }
+        ensures master { self.new ≡ (settles self.old seen.now (taken self.old.kit self.old.state seen.now)).master }
+        ensures did { result ≡ (settles self.old seen.now (taken self.old.kit self.old.state seen.now)).did }
+        ensures kit { self.new.kit ≡ self.old.kit }
+        ensures unsent { result.sent ≡ false }
+    {
+        let old = mem::replace(&mut self.state, Now::Reset(InReset::new()));
+        match old.take(seen, &self.kit) {
+            Ok(next) => {
+                self.leave(next);
+                took(seen.command(), seen.load(), true)
+            }
+            Err(code) => self.end(true, Cause::Found(code), code),
+        }
+    }
+
+    /// Accepts a frame of the slave, of any number of bytes, while no frame is due. A frame of another length, or
+    /// that repeats the frame taken last, is dropped. A valid Reset frame ends the session, and begins one in state
+    /// Reset where its code is 0. A frame that fails a test ends the session with the test's code, and is dropped in
+    /// state Reset. Every other frame is taken. Where a frame was taken or the session ended, a frame is due then.
+    #[inline(never)]
+    pub fn accept(&mut self, frame: &[u8]) -> Did
+        requires { is_due self.old.state ≡ false }
+        ensures master { self.new ≡ (accepted self.old frame.now).master }
+        ensures did { result ≡ (accepted self.old frame.now).did }
+        ensures kit { self.new.kit ≡ self.old.kit }
+        ensures unsent { result.sent ≡ false }
+    {
+        let repeats = self.state.is_repeat(frame);
+        let mut load = Image::zeros(0);
+        match open(frame, self.kit.peer_len(), repeats, &mut load) {
+            Opened::Drop(why) => Did::dropped(why),
+            Opened::Refuse(code) => self.refuse(code),
+            Opened::ResetFrame(code, view) => self.acknowledge(code, &view),
+            Opened::OfSession(seen) => match self.state.fault(self.kit.settings(), &seen) {
+                Some(code) => self.refuse(code),
+                None => self.take(&seen),
+            },
+        }
+    }
+
+    /// Whether a frame is due: a frame was taken or a session ended, and nothing was sent since.
+    pub fn due(&self) -> bool
+        ensures { result ≡ is_due self.now.state }
+    {
+        self.state.is_due()
+    }
+
+    /// Writes the frame that is due to `out`, in place of what it held. It has the offer of this moment, and a first
+    /// Session frame the nonce of this moment.
+    pub fn reply(&mut self, out: &mut FrameBuf)
+        requires { IsTrue (is_due self.old.state) }
+        ensures master { self.new ≡ replies self.old }
+        ensures sent { out.new ≡ reply self.old.kit self.old.state }
+        ensures kit { self.new.kit ≡ self.old.kit }
+        ensures done { is_due self.new.state ≡ false }
+    {
+        let old = mem::replace(&mut self.state, Now::Reset(InReset::new()));
+        self.state = old.reply(&self.kit, out);
+    }
+
+    /// Accepts a frame while none is due, and writes the frame that is due then to `out`, in place of what it held;
+    /// `out` is empty where nothing is sent.
+    pub fn deliver(&mut self, frame: &[u8], out: &mut FrameBuf) -> Did
+        requires { is_due self.old.state ≡ false }
+        ensures master { self.new ≡ (delivered self.old frame.now).master }
+        ensures did { result ≡ (delivered self.old frame.now).did }
+        ensures sent { out.new ≡ (delivered self.old frame.now).sent }
+        ensures kit { self.new.kit ≡ self.old.kit }
+        ensures done { is_due self.new.state ≡ false }
+    {
+        out.clear();
+        let mut did = self.accept(frame);
+        if self.due() {
+            self.reply(out);
+            did.sent = true;
+        }
+        did
+    }
+
+    /// Forgets the session, and sends the Reset frame with this code.
+    #[cold]
+    #[inline(never)]
+    fn fall(&mut self, why: Cause, code: Code, out: &mut FrameBuf) -> Did
+        ensures master { self.new ≡ (falls self.old why code).master }
+        ensures did { result ≡ (falls self.old why code).did }
+        ensures sent { out.new ≡ (falls self.old why code).sent }
+    {
+        self.state = Now::Reset(InReset::new());
+        let limit = self.kit.settings().watchdog();
+        self.watchdog.restart(limit);
+        reset_frame(code, self.kit.own_len(), out);
+        ended(false, why, true)
+    }
+
+    /// Counts a tick while no frame is due. Where the age reaches the watchdog the session ends with code 5: the
+    /// outputs are zeros from this tick on, and the Reset frame is written to `out`. In state Reset the Reset frame
+    /// with code 0 is written again.
+    pub fn tick(&mut self, out: &mut FrameBuf) -> Did
+        requires { is_due self.old.state ≡ false }
+        ensures master { self.new ≡ (tick_of self.old).master }
+        ensures did { result ≡ (tick_of self.old).did }
+        ensures sent { out.new ≡ (tick_of self.old).sent }
+        ensures kit { self.new.kit ≡ self.old.kit }
+        ensures done { is_due self.new.state ≡ false }
+    {
+        out.clear();
+        if !self.watchdog.tick() {
+            return Did::nothing();
+        }
+        if self.state.is_reset() {
+            reset_frame(Code(0x00), self.kit.own_len(), out);
+            return Did {
+                sent: true,
+                ..Did::nothing()
+            };
+        }
+        self.fall(Cause::Found(Code(0x05)), Code(0x05), out)
+    }
+
+    /// Ends the session, if there is one, while no frame is due, and writes Reset(0) to `out`.
+    pub fn reset(&mut self, out: &mut FrameBuf) -> Did
+        requires { is_due self.old.state ≡ false }
+        ensures master { self.new ≡ (reset_of self.old).master }
+        ensures did { result ≡ (reset_of self.old).did }
+        ensures sent { out.new ≡ (reset_of self.old).sent }
+        ensures reset { state_of self.new.state ≡ state.Reset }
+        ensures cause { result.reset ≡ Some Cause.Local }
+        ensures kit { self.new.kit ≡ self.old.kit }
+        ensures done { is_due self.new.state ≡ false }
+    {
+        self.fall(Cause::Local, Code(0x00), out)
+    }
+
+    /// Offers these safe data from now on, as many as the master's frames have, also in a frame that is due. The
+    /// offer outlasts resets.
+    pub fn put(&mut self, load: &[u8])
+        requires { length load.now ≡ own_len self.old.kit.settings }
+        ensures { self.new ≡ record self.old { kit = record self.old.kit { offer = record self.old.kit.offer { load = load.now } } } }
+    {
+        self.kit.put(load);
+    }
+
+    /// Whether zeros are sent in place of the offer from now on, also in a frame that is due. It outlasts resets.
+    pub fn hold(&mut self, failsafe: bool)
+        ensures { self.new ≡ record self.old { kit = record self.old.kit { offer = record self.old.kit.offer { held = failsafe } } } }
+    {
+        self.kit.hold(failsafe);
+    }
+
+    /// The session id of the sessions that begin from now on, also by a frame that is due. At most 65,535 in profile
+    /// One. It outlasts resets.
+    pub fn nonce(&mut self, id: u32)
+        requires { IsTrue (allows_id self.old.kit.settings.profile id) }
+        ensures { self.new ≡ record self.old { kit = record self.old.kit { nonce = id } } }
+    {
+        self.kit.set_nonce(id);
+    }
+
+    /// The settings that the master was made with.
+    pub fn settings(&self) -> &MasterSettings
+        ensures { result.now ≡ self.now.kit.settings }
+    {
+        self.kit.settings()
+    }
+
+    /// The state: the phase of the frame that was sent last in this session, Reset without a session. While a frame
+    /// is due it counts as sent.
+    pub fn state(&self) -> State
+        ensures { result ≡ state_of self.now.state }
+    {
+        self.state.state()
+    }
+
+    /// The outputs, as many bytes as the slave's frames have: those of the ProcessData frame that was taken last,
+    /// zeros after a FailSafeData frame, and zeros in every state but Data.
+    pub fn outputs(&self) -> &[u8]
+        ensures value { result.now ≡ outputs_in self.now.kit.settings self.now.state }
+        ensures failsafe { state_of self.now.state ≢ state.Data → result.now ≡ replicate (peer_len self.now.kit.settings) 0 }
+    {
+        self.state.outputs(&self.kit)
+    }
+
+    /// The terms of the session, exactly in state Data.
+    pub fn terms(&self) -> Option<&Terms>
+        ensures value { option_copied result ≡ terms_in self.now.state }
+        ensures data { IsSome result ↔ (state_of self.now.state ≡ state.Data) }
+    {
+        self.state.terms()
+    }
+
+    /// The ticks since a frame was sent last; 0 while a frame is due.
+    pub fn age(&self) -> u16
+        ensures { result ≡ self.now.timer.age }
+    {
+        self.watchdog.age()
+    }
+
+    /// The safe data that were put last, zeros at first.
+    pub fn offer(&self) -> &[u8]
+        ensures value { result.now ≡ self.now.kit.offer.load }
+        ensures len { length result.now ≡ own_len self.now.kit.settings }
+    {
+        self.kit.offer().bytes()
+    }
+
+    /// Whether zeros are sent in place of the offer.
+    pub fn held(&self) -> bool
+        ensures { result ≡ self.now.kit.offer.held }
+    {
+        self.kit.offer().held()
+    }
+}

@@ -1,0 +1,180 @@
+//! The state that a master is in.
+ghost use Rattle.std.specs.Prelude.{◌≡◌};
+ghost use Rattle.master_core.specs.Now.{has_conn};
+
+use crate::due::{Due, Next};
+use crate::kit::Kit;
+use crate::states::{InConnection, InData, InParameter, InReset, InSession};
+use failsafe_io::zeros;
+use fsoe_base::{Code, Command, FrameBuf, State};
+use param_load::{MasterSettings, Terms};
+use seq_chain::{Chain, SessionFrame};
+
+/// The state that a master is in. While a frame is due the state after it is wrapped in `Due`.
+#[derive(Debug, Drop)]
+pub(crate) enum Now {
+    Reset(InReset),
+    Session(InSession),
+    Connection(InConnection),
+    Parameter(InParameter),
+    Data(InData),
+    Due(Due),
+}
+
+/// Whether the connection id of a frame with this command is right.
+fn has_conn(settings: &MasterSettings, command: Command, field: u16) -> bool
+    ensures { result ≡ has_conn settings.now command field }
+{
+    match command {
+        Command::Session => field == 0,
+        _ => field == settings.conn(),
+    }
+}
+
+impl Now {
+    ghost use Rattle.std.specs.Prelude.{◌≡◌, ◌≤◌, length, IsTrue, IfOk, option_copied};
+    ghost use Rattle.master_core.specs.Kit.{peer_len};
+    ghost use Rattle.master_core.specs.Now.{IsUnder, NextUnder, state_of, is_reset, is_due, chain_of, kept, is_repeat, allows, fault, taken, replied, reply, outputs_in, terms_in};
+    ghost use Rattle.master_core.specs.Views.{HasPassed};
+
+    /// The state; while a frame is due, that after it is sent.
+    pub(crate) fn state(&self) -> State
+        ensures { result ≡ state_of self.now }
+    {
+        match self {
+            Now::Reset(_) => State::Reset,
+            Now::Session(_) => State::Session,
+            Now::Connection(_) => State::Connection,
+            Now::Parameter(_) => State::Parameter,
+            Now::Data(_) => State::Data,
+            Now::Due(due) => due.state(),
+        }
+    }
+
+    pub(crate) fn is_reset(&self) -> bool
+        ensures { result ≡ is_reset self.now }
+    {
+        matches!(self, Now::Reset(_))
+    }
+
+    /// Whether a frame is due.
+    pub(crate) fn is_due(&self) -> bool
+        ensures { result ≡ is_due self.now }
+    {
+        matches!(self, Now::Due(_))
+    }
+
+    /// Whether these bytes are those of the frame that was taken last. In state Reset none is kept.
+    pub(crate) fn is_repeat(&self, frame: &[u8]) -> bool
+        ensures { result ≡ is_repeat (kept self.now) frame.now }
+    {
+        match self {
+            Now::Reset(_) | Now::Due(_) => false,
+            Now::Session(state) => state.last() == frame,
+            Now::Connection(state) => state.last() == frame,
+            Now::Parameter(state) => state.last() == frame,
+            Now::Data(state) => state.last() == frame,
+        }
+    }
+
+    /// Whether a command of a session is allowed.
+    fn allows(&self, command: Command) -> bool
+        ensures { result ≡ allows self.now command }
+    {
+        match (self, command) {
+            (Now::Session(_), Command::Session) => true,
+            (Now::Connection(_), Command::Connection) => true,
+            (Now::Parameter(_), Command::Parameter) => true,
+            (Now::Data(_), Command::ProcessData) => true,
+            (Now::Data(_), Command::FailSafeData) => true,
+            _ => false,
+        }
+    }
+
+    /// The chain of the session, a new one in state Reset.
+    fn chain(&self) -> Chain
+        ensures { result ≡ chain_of self.now }
+    {
+        match self {
+            Now::Reset(_) | Now::Due(_) => Chain::new(),
+            Now::Session(state) => state.chain(),
+            Now::Connection(state) => state.chain(),
+            Now::Parameter(state) => state.chain(),
+            Now::Data(state) => state.chain(),
+        }
+    }
+
+    /// The code of the first test that a frame of a session fails: of its command, its connection id, and its CRCs.
+    pub(crate) fn fault(&self, settings: &MasterSettings, seen: &SessionFrame<'_>) -> Option<Code>
+        ensures { result ≡ fault settings.now self.now seen.now }
+    {
+        let conn = seen.conn();
+        if !self.allows(seen.command()) {
+            return Some(Code(0x01));
+        }
+        if !has_conn(settings, seen.command(), conn) {
+            return Some(Code(0x03));
+        }
+        if !self.chain().test_load(seen.view(), conn, seen.load()) {
+            return Some(Code(0x04));
+        }
+        None
+    }
+
+    /// Takes a frame that passed the tests in this state, and gives what is to be sent next.
+    pub(crate) fn take(self, seen: &SessionFrame<'_>, kit: &Kit) -> Result<Next, Code>
+        requires under { IsUnder kit.now.settings self }
+        requires passed { HasPassed kit.now.settings (chain_of self) seen.now }
+        ensures next { result ≡ taken kit.now self seen.now }
+        ensures under { IfOk result (λ next. NextUnder kit.now.settings next) }
+    {
+        match self {
+            Now::Reset(_) | Now::Due(_) => Err(Code(0x01)),
+            Now::Session(state) => state.take(seen, kit),
+            Now::Connection(state) => state.take(seen, kit),
+            Now::Parameter(state) => state.take(seen, kit),
+            Now::Data(mut state) => match state.take(seen, kit) {
+                Ok(()) => Ok(Next::Data(state)),
+                Err(code) => Err(code),
+            },
+        }
+    }
+
+    /// Sends the frame that is due, in place of what `out` held.
+    pub(crate) fn reply(self, kit: &Kit, out: &mut FrameBuf) -> Now
+        requires under { IsUnder kit.now.settings self }
+        ensures state { result ≡ replied kit.now self }
+        ensures sent { out.new ≡ reply kit.now self }
+        ensures under { IsUnder kit.now.settings result }
+    {
+        match self {
+            Now::Due(due) => due.reply(kit, out),
+            now => {
+                out.clear();
+                now
+            }
+        }
+    }
+
+    /// The terms in state Data.
+    pub(crate) fn terms(&self) -> Option<&Terms>
+        ensures { option_copied result ≡ terms_in self.now }
+    {
+        match self {
+            Now::Data(state) => Some(state.terms()),
+            Now::Due(due) => due.terms(),
+            _ => None,
+        }
+    }
+
+    /// The outputs: zeros in every state but Data.
+    pub(crate) fn outputs(&self, kit: &Kit) -> &[u8]
+        ensures { result.now ≡ outputs_in kit.now.settings self.now }
+    {
+        match self {
+            Now::Data(state) => state.outputs(),
+            Now::Due(due) => due.outputs(kit),
+            _ => zeros(kit.peer_len()),
+        }
+    }
+}
