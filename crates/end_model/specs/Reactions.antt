@@ -95,14 +95,19 @@ pub record IsValid (s : Setup) (e : List Deed) (bytes : List ℕ) (c : Command) 
 -- a frame fails a test with this code, the first test that it fails; and whether it passed that of its CRCs
 pub data Fails (s : Setup) (e : List Deed) (bytes : List ℕ) : Bool → Code → Type 0 where
   UnknownCommand : IsRead s e bytes None → Fails s e bytes false (code 0x02)
-  WrongReset : (found : Code) → IsRead s e bytes (Some command.Reset) → reset_view (parts s bytes) ≡ Err found → Fails s e bytes false found
-  NotAllowed : (c : Command) → c ≢ command.Reset → IsRead s e bytes (Some c) → allowed s e c ≡ false → Fails s e bytes false (code 0x01)
-  WrongConnection : (c : Command) → c ≢ command.Reset → IsRead s e bytes (Some c) → allowed s e c ≡ true → has_conn s e c (parts s bytes).conn ≡ false
+  WrongReset : (found : Code) → IsRead s e bytes (Some command.Reset) → reset_view (parts s bytes) ≡ Err found
+      → Fails s e bytes false found
+  NotAllowed : (c : Command) → c ≢ command.Reset → IsRead s e bytes (Some c) → allowed s e c ≡ false
+      → Fails s e bytes false (code 0x01)
+  WrongConnection : (c : Command) → c ≢ command.Reset → IsRead s e bytes (Some c) → allowed s e c ≡ true
+      → has_conn s e c (parts s bytes).conn ≡ false
       → Fails s e bytes false (code 0x03)
-  WrongCrc : (c : Command) → c ≢ command.Reset → IsRead s e bytes (Some c) → allowed s e c ≡ true → has_conn s e c (parts s bytes).conn ≡ true
+  WrongCrc : (c : Command) → c ≢ command.Reset → IsRead s e bytes (Some c) → allowed s e c ≡ true
+      → has_conn s e c (parts s bytes).conn ≡ true
       → fits s (since e) (parts s bytes) ≡ false
       → Fails s e bytes false (code 0x04)
-  WrongContents : (c : Command) (found : Code) → c ≢ command.Reset → IsRead s e bytes (Some c) → allowed s e c ≡ true → has_conn s e c (parts s bytes).conn ≡ true
+  WrongContents : (c : Command) (found : Code) → c ≢ command.Reset → IsRead s e bytes (Some c) → allowed s e c ≡ true
+      → has_conn s e c (parts s bytes).conn ≡ true
       → fits s (since e) (parts s bytes) ≡ true → contents s e c (parts s bytes) ≡ Some found
       → Fails s e bytes true found
 
@@ -150,19 +155,23 @@ pub data Taking (e : List Deed) (bytes load : List ℕ) : Setup → Command → 
       → IsExchange (OfSlave ss) e bytes load command.Session answer (slave_answer ss (received bytes command.Session load e) command.Session load) state.Session
       → Taking e bytes load (OfSlave ss) command.Session answer
   -- a slave takes a further frame of a phase whose payload isn't whole
-  SlaveGoesOn : (ss : SlaveSettings) (c : Command) (answer : List ℕ) → IsHandshake c → state_of (OfSlave ss) e ≡ phase_of c → is_done ss (phase_of c) e ≡ false
+  SlaveGoesOn : (ss : SlaveSettings) (c : Command) (answer : List ℕ) → IsHandshake c → state_of (OfSlave ss) e ≡ phase_of c
+      → is_done ss (phase_of c) e ≡ false
       → IsExchange (OfSlave ss) e bytes load c answer (slave_answer ss (received bytes c load e) c load) (phase_of c)
       → Taking e bytes load (OfSlave ss) c answer
   -- a slave has the whole payload of a phase, and takes the first frame of the next
-  SlaveNextPhase : (ss : SlaveSettings) (before c : Command) (answer : List ℕ) → IsNextPhase before c → state_of (OfSlave ss) e ≡ phase_of before → is_done ss (phase_of before) e ≡ true
+  SlaveNextPhase : (ss : SlaveSettings) (before c : Command) (answer : List ℕ) → IsNextPhase before c
+      → state_of (OfSlave ss) e ≡ phase_of before → is_done ss (phase_of before) e ≡ true
       → IsExchange (OfSlave ss) e bytes load c answer (slave_answer ss (received bytes c load e) c load) (phase_of c)
       → Taking e bytes load (OfSlave ss) c answer
   -- a slave has the whole parameters, and takes its first data
-  SlaveFirstData : (ss : SlaveSettings) (c : Command) (answer : List ℕ) → IsData c → state_of (OfSlave ss) e ≡ state.Parameter → is_done ss state.Parameter e ≡ true
+  SlaveFirstData : (ss : SlaveSettings) (c : Command) (answer : List ℕ) → IsData c → state_of (OfSlave ss) e ≡ state.Parameter
+      → is_done ss state.Parameter e ≡ true
       → IsExchange (OfSlave ss) e bytes load c answer (with_data (OfSlave ss) (received bytes c load e)) state.Data
       → Taking e bytes load (OfSlave ss) c answer
   -- a slave takes further data
-  SlaveMoreData : (ss : SlaveSettings) (c : Command) (answer : List ℕ) → IsData c → state_of (OfSlave ss) e ≡ state.Data → is_done ss state.Parameter e ≡ true
+  SlaveMoreData : (ss : SlaveSettings) (c : Command) (answer : List ℕ) → IsData c → state_of (OfSlave ss) e ≡ state.Data
+      → is_done ss state.Parameter e ≡ true
       → IsExchange (OfSlave ss) e bytes load c answer (with_data (OfSlave ss) (received bytes c load e)) state.Data
       → Taking e bytes load (OfSlave ss) c answer
   -- a master in state Reset takes the answer to its Reset frame, and sends its first Session frame
@@ -172,15 +181,18 @@ pub data Taking (e : List Deed) (bytes load : List ℕ) : Setup → Command → 
       → state_of (OfMaster ms) (answered bytes command.Reset load answer e) ≡ state.Session
       → Taking e bytes load (OfMaster ms) command.Reset answer
   -- a master takes an answer of a phase, and sends the next piece of its payload
-  MasterGoesOn : (ms : MasterSettings) (c : Command) (answer : List ℕ) → IsHandshake c → state_of (OfMaster ms) e ≡ phase_of c → pieces_sent e (phase_of c) < all_pieces ms e (phase_of c)
+  MasterGoesOn : (ms : MasterSettings) (c : Command) (answer : List ℕ) → IsHandshake c → state_of (OfMaster ms) e ≡ phase_of c
+      → pieces_sent e (phase_of c) < all_pieces ms e (phase_of c)
       → IsExchange (OfMaster ms) e bytes load c answer (download ms (received bytes c load e) c (suc (pieces_sent e (phase_of c)))) (phase_of c)
       → Taking e bytes load (OfMaster ms) c answer
   -- a master takes the answer to the last piece of a phase, and sends the first of the next
-  MasterNextPhase : (ms : MasterSettings) (c next : Command) (answer : List ℕ) → IsNextPhase c next → state_of (OfMaster ms) e ≡ phase_of c → all_pieces ms e (phase_of c) ≤ pieces_sent e (phase_of c)
+  MasterNextPhase : (ms : MasterSettings) (c next : Command) (answer : List ℕ) → IsNextPhase c next
+      → state_of (OfMaster ms) e ≡ phase_of c → all_pieces ms e (phase_of c) ≤ pieces_sent e (phase_of c)
       → IsExchange (OfMaster ms) e bytes load c answer (download ms (received bytes c load e) next 1) (phase_of next)
       → Taking e bytes load (OfMaster ms) c answer
   -- a master takes the answer to the last piece of the parameters, and sends its first data
-  MasterFirstData : (ms : MasterSettings) (answer : List ℕ) → state_of (OfMaster ms) e ≡ state.Parameter → all_pieces ms e state.Parameter ≤ pieces_sent e state.Parameter
+  MasterFirstData : (ms : MasterSettings) (answer : List ℕ) → state_of (OfMaster ms) e ≡ state.Parameter
+      → all_pieces ms e state.Parameter ≤ pieces_sent e state.Parameter
       → IsExchange (OfMaster ms) e bytes load command.Parameter answer (with_data (OfMaster ms) (received bytes command.Parameter load e)) state.Data
       → Taking e bytes load (OfMaster ms) command.Parameter answer
   -- a master takes data, and sends its next data
@@ -201,25 +213,35 @@ pub data Reaction (s : Setup) (e : List Deed) : Move → Did → List ℕ → Ty
   -- a tick is counted, and the age stays below the limit
   Ages : CountsTicks s e → suc (age s e) < limit s e → Reaction s e move.Tick nothing []
   -- the age reaches the limit outside state Reset: the session ends
-  Expires : state_of s e ≢ state.Reset → limit s e ≤ suc (age s e) → Reaction s e move.Tick (resets false (cause.Found (code 0x05))) (reset_frame 0x05 (sends s))
+  Expires : state_of s e ≢ state.Reset → limit s e ≤ suc (age s e)
+      → Reaction s e move.Tick (resets false (cause.Found (code 0x05))) (reset_frame 0x05 (sends s))
   -- the age reaches the limit at a master in state Reset: it sends Reset again
-  SendsAgain : IsMaster s → state_of s e ≡ state.Reset → limit s e ≤ suc (age s e) → Reaction s e move.Tick (record nothing { sent = true }) (reset_frame 0 (sends s))
+  SendsAgain : IsMaster s → state_of s e ≡ state.Reset → limit s e ≤ suc (age s e)
+      → Reaction s e move.Tick (record nothing { sent = true }) (reset_frame 0 (sends s))
   -- a reset of the end's own
   ResetsItself : Reaction s e move.Local (resets false cause.Local) (reset_frame 0 (sends s))
   -- a frame hasn't the length of the peer's frames
   DropsLength : (bytes : List ℕ) → length bytes ≢ frame_len (receives s) → Reaction s e (move.Deliver bytes) (dropped why.Length) []
   -- a frame is the one that was taken last: outside state Reset alone, as nothing is kept there
-  DropsRepeat : (bytes : List ℕ) → length bytes ≡ frame_len (receives s) → kept (since e) ≡ Some bytes → state_of s e ≢ state.Reset → Reaction s e (move.Deliver bytes) (dropped why.Repeat) []
+  DropsRepeat : (bytes : List ℕ) → length bytes ≡ frame_len (receives s) → kept (since e) ≡ Some bytes
+      → state_of s e ≢ state.Reset → Reaction s e (move.Deliver bytes) (dropped why.Repeat) []
   -- a frame fails a test in state Reset
-  DropsInReset : (bytes : List ℕ) (passed : Bool) (found : Code) → state_of s e ≡ state.Reset → verdict s e bytes ≡ fault passed found → Fails s e bytes passed found → Reaction s e (move.Deliver bytes) (record (dropped why.InReset) { passed = passed }) []
+  DropsInReset : (bytes : List ℕ) (passed : Bool) (found : Code) → state_of s e ≡ state.Reset
+      → verdict s e bytes ≡ fault passed found → Fails s e bytes passed found
+      → Reaction s e (move.Deliver bytes) (record (dropped why.InReset) { passed = passed }) []
   -- a Reset frame with another code than 0 comes to a master in state Reset
-  DropsReset : (bytes load : List ℕ) → IsMaster s → state_of s e ≡ state.Reset → IsResetFrame s e bytes load → first_of load ≢ 0 → Reaction s e (move.Deliver bytes) (dropped why.InReset) []
+  DropsReset : (bytes load : List ℕ) → IsMaster s → state_of s e ≡ state.Reset → IsResetFrame s e bytes load → first_of load ≢ 0
+      → Reaction s e (move.Deliver bytes) (dropped why.InReset) []
   -- a frame fails a test outside state Reset: the session ends
-  Refuses : (bytes : List ℕ) (passed : Bool) (found : Code) → state_of s e ≢ state.Reset → verdict s e bytes ≡ fault passed found → Fails s e bytes passed found → Reaction s e (move.Deliver bytes) (resets passed (cause.Found found)) (reset_frame found.0 (sends s))
+  Refuses : (bytes : List ℕ) (passed : Bool) (found : Code) → state_of s e ≢ state.Reset → verdict s e bytes ≡ fault passed found
+      → Fails s e bytes passed found
+      → Reaction s e (move.Deliver bytes) (resets passed (cause.Found found)) (reset_frame found.0 (sends s))
   -- the peer ends the session
-  PeerResets : (bytes load : List ℕ) → state_of s e ≢ state.Reset → IsResetFrame s e bytes load → Reaction s e (move.Deliver bytes) (resets false (cause.Peer (code (first_of load)))) (reset_frame 0 (sends s))
+  PeerResets : (bytes load : List ℕ) → state_of s e ≢ state.Reset → IsResetFrame s e bytes load
+      → Reaction s e (move.Deliver bytes) (resets false (cause.Peer (code (first_of load)))) (reset_frame 0 (sends s))
   -- a frame is taken and answered
-  Answers : (bytes load : List ℕ) (c : Command) (answer : List ℕ) → Taking e bytes load s c answer → Reaction s e (move.Deliver bytes) (takes c load) answer
+  Answers : (bytes load : List ℕ) (c : Command) (answer : List ℕ) → Taking e bytes load s c answer
+      → Reaction s e (move.Deliver bytes) (takes c load) answer
 
 -- a deed is of one of these kinds
 abbrev pub IsReaction : Setup → List Deed → Deed → Type 0
