@@ -1,5 +1,5 @@
 -- A slave that uploaded what a master downloaded has the master's terms.
-use Rattle.std.proofs.Common.{◌≡◌, ℕ, suc, zero, ◌+◌, ◌-◌, ◌*◌, ◌/◌, ◌%◌, ◌<◌, ◌≤◌, List, [], ◌++◌, length, take, drop, replicate, true, refl, sym, ap, subst, ◌∙◌, arith, inl, inr, append_assoc}
+use Rattle.std.proofs.Common.{◌≡◌, ℕ, suc, zero, ◌+◌, ◌-◌, ◌*◌, ◌/◌, ◌%◌, ◌<◌, ◌≤◌, List, [], ◌++◌, length, take, drop, replicate, true, refl, sym, ap, ap₂, subst, ◌∙◌, arith, inl, inr, append_assoc}
 use Rattle.std.proofs.lemmas.Bool.{eqb-true, cases_lt}
 use Rattle.std.proofs.lemmas.List.{append-nil, length-take, length-drop, take_all, drop_all, replicate-append-replicate}
 use Rattle.std.proofs.Math.Seq.{take-append_seam, take-add}
@@ -18,32 +18,45 @@ use Rattle.exchange_model.proofs.Framed.{connection_of, parameters_of}
 use Rattle.exchange_model.proofs.Pieces.{front}
 use Rattle.exchange_model.proofs.Uploads.{Tested}
 
--- one more piece
-next-piece : (p : List ℕ) (c m n : ℕ) → n ≡ m + c
-    → (take m p ++ replicate (m - length p) 0) ++ padded (take c (drop m p)) c ≡ take n p ++ replicate (n - length p) 0
+-- the first m bytes of a payload, and zeros where it has fewer
+abbrev filled : ℕ → List ℕ → List ℕ
+filled m p = take m p ++ replicate (m - length p) 0
+
+-- nothing is left of a payload that has ended: a piece of it is zeros
+no-piece : (p : List ℕ) (c m : ℕ) → length p ≤ m → padded (take c (drop m p)) c ≡ replicate c 0
+no-piece p c m h =
+    let none : take c (drop m p) ≡ [] = ap (take c) (drop_all m p h) ∙ take_all c [] (omega arith) in
+    ap (λ t. padded t c) none ∙ (let z : c - 0 ≡ c = omega arith in ap (λ k. replicate k 0) z)
+
+zeros-more : (j c k filler : ℕ) → j + c ≡ k → replicate j filler ++ replicate c filler ≡ replicate k filler
+zeros-more j c k filler h = replicate-append-replicate j c filler ∙ ap (λ k. replicate k filler) h
+
+-- one more piece of a payload that has ended
+past-its-end : (p : List ℕ) (c m n : ℕ) → length p ≤ m → length p ≤ n → (m - length p) + c ≡ n - length p → filled m p ++ padded (take c (drop m p)) c ≡ filled n p
+past-its-end p c m n h long e =
+    ap₂ (λ (t u : List ℕ). (t ++ replicate (m - length p) 0) ++ u) (take_all m p h) (no-piece p c m h)
+    ∙ (append_assoc p (replicate (m - length p) 0) (replicate c 0) ∙ ap₂ (λ (t u : List ℕ). t ++ u) (sym (take_all n p long)) (zeros-more (m - length p) c (n - length p) 0 e))
+
+-- one more piece of a payload that has more bytes
+before-its-end : (p : List ℕ) (c m n : ℕ) → m ≤ length p → n ≡ m + c → filled m p ++ padded (take c (drop m p)) c ≡ filled n p
+before-its-end p c m n h e =
+    let first : filled m p ≡ take m p = (let z : m - length p ≡ 0 = omega arith in ap (λ k. take m p ++ replicate k 0) z) ∙ append-nil (take m p) in
+    let bytes : take m p ++ take c (drop m p) ≡ take n p = sym (take-add m c p) ∙ ap (λ n. take n p) (sym e) in
+    let zeros : replicate (c - length (take c (drop m p))) 0 ≡ replicate (n - length p) 0 =
+    (let k : c - length (take c (drop m p)) ≡ n - length p = omega (arith, length-take c (drop m p), length-drop m p) in ap (λ k. replicate k 0) k) in
+    let joined : filled m p ++ padded (take c (drop m p)) c ≡ take m p ++ padded (take c (drop m p)) c = ap (λ t. t ++ padded (take c (drop m p)) c) first in
+    let moved : take m p ++ padded (take c (drop m p)) c ≡ (take m p ++ take c (drop m p)) ++ replicate (c - length (take c (drop m p))) 0 = sym (append_assoc (take m p) (take c (drop m p)) (replicate (c - length (take c (drop m p))) 0)) in
+    joined ∙ (moved ∙ ap₂ (λ (t u : List ℕ). t ++ u) bytes zeros)
+
+next-piece : (p : List ℕ) (c m n : ℕ) → n ≡ m + c → filled m p ++ padded (take c (drop m p)) c ≡ filled n p
 next-piece p c m n e =
     elim (cases_lt (length p) m) [
-      | inl h ↦
-          let a : take m p ≡ p = take_all m p (omega arith) in
-          let b : drop m p ≡ [] = drop_all m p (omega arith) in
-          let d : take n p ≡ p = take_all n p (omega arith) in
-          let f : (m - length p) + c ≡ n - length p = omega arith in
-          let g : take c [] ≡ (let z : List ℕ = [] in z) = take_all c [] (omega arith) in
-          let i : padded (take c (drop m p)) c ≡ replicate c 0 = ap (λ t. padded (take c t) c) b ∙ (ap (λ t. padded t c) g ∙ (let z : c - 0 ≡ c = omega arith in ap (λ k. replicate k 0) z)) in
-          ap (λ t. (t ++ replicate (m - length p) 0) ++ padded (take c (drop m p)) c) a ∙ (ap (λ t. (p ++ replicate (m - length p) 0) ++ t) i
-          ∙ (append_assoc p (replicate (m - length p) 0) (replicate c 0) ∙ (ap (λ t. p ++ t) (replicate-append-replicate (m - length p) c 0 ∙ ap (λ k. replicate k 0) f)
-          ∙ ap (λ t. t ++ replicate (n - length p) 0) (sym d))))
-      | inr h ↦
-          let z : m - length p ≡ 0 = omega arith in
-          let k : c - length (take c (drop m p)) ≡ n - length p = omega (arith, length-take c (drop m p), length-drop m p) in
-          ap (λ k. (take m p ++ replicate k 0) ++ padded (take c (drop m p)) c) z ∙ (ap (λ t. t ++ padded (take c (drop m p)) c) (append-nil (take m p))
-          ∙ (sym (append_assoc (take m p) (take c (drop m p)) (replicate (c - length (take c (drop m p))) 0))
-          ∙ (ap (λ t. t ++ replicate (c - length (take c (drop m p))) 0) (sym (take-add m c p) ∙ ap (λ n. take n p) (sym e))
-          ∙ ap (λ k. take n p ++ replicate k 0) k)))
+      | inl h ↦ past-its-end p c m n (omega (arith, h)) (omega (arith, h, e)) (omega (arith, h, e))
+      | inr h ↦ before-its-end p c m n h e
     ]
 
 -- the first k pieces are the first bytes of the payload, then zeros
-front-take : (p : List ℕ) (c k : ℕ) → front p c k ≡ take (k * c) p ++ replicate (k * c - length p) 0
+front-take : (p : List ℕ) (c k : ℕ) → front p c k ≡ filled (k * c) p
 front-take p c zero =
     let h : zero * c ≡ 0 = omega arith in
     let k : 0 - length p ≡ 0 = omega arith in
@@ -52,7 +65,7 @@ front-take p c (suc k) =
     let a : suc k - 1 ≡ k = omega arith in
     let e : suc k * c ≡ k * c + c = omega arith in
     ap (λ t. t ++ padded (piece p c (suc k)) c) (front-take p c k)
-    ∙ (ap (λ m. (take (k * c) p ++ replicate (k * c - length p) 0) ++ padded (take c (drop (m * c) p)) c) a
+    ∙ (ap (λ m. filled (k * c) p ++ padded (take c (drop (m * c) p)) c) a
     ∙ next-piece p c (k * c) (suc k * c) e)
 
 enough : (p : List ℕ) (c k : ℕ) → 0 < c → pieces p c ≤ k → length p ≤ k * c
