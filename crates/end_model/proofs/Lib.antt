@@ -18,3 +18,4 @@ pub mod SealedFrames
 pub mod Neighbours
 pub mod Repeats
 pub mod WholeUploads
+pub mod Calls

@@ -10,9 +10,10 @@ use Rattle.end_model.specs.Setup.{OfSlave}
 use Rattle.end_model.specs.Deed.{Deed}
 use Rattle.end_model.specs.Payloads.{terms}
 use Rattle.end_model.specs.Readiness.{state_of, age, told_in, told_terms, offer, held}
-use Rattle.end_model.specs.Step.{did_on, IsProper, IsRun}
+use Rattle.end_model.specs.Step.{did_on, run, IsProper, IsRun}
 use Rattle.end_model.specs.Outputs.{zeros, outputs, out}
-use Rattle.end_model.specs.Standing.{Stands, Follows, Answers, Shows}
+use Rattle.end_model.specs.Standing.{Stands, Follows, Answers, Shows, Called, events_of}
+use Rattle.end_model.proofs.Calls.{stands_called, run_called}
 use Rattle.end_model.proofs.Shown.{looking_back, fail_safe}
 use Rattle.slave_core.specs.Now as machine
 use Rattle.slave_core.specs.After.{after}
@@ -90,3 +91,10 @@ offer_shown v shown i = record { shows = λ ss e h. i ∙ ap (λ (v : SlaveView)
 
 pub held_shown : (v : SlaveView) (shown : Bool) → shown ≡ v.kit.held → Shows OfSlave view_of v shown (λ s e. held e)
 held_shown v shown i = record { shows = λ ss e h. i ∙ ap (λ (v : SlaveView). v.kit.held) h.is }
+
+-- all calls of a slave
+pub slave_stands : (ss : SlaveSettings) (first last : SlaveView) (e : List Deed) → Stands OfSlave view_of ss first [] → Called OfSlave view_of first e last → Stands OfSlave view_of ss last e
+slave_stands ss first last e h c = stands_called OfSlave view_of ss first last e h c
+
+pub slave_run : (ss : SlaveSettings) (first last : SlaveView) (e : List Deed) → Stands OfSlave view_of ss first [] → Called OfSlave view_of first e last → e ≡ run (OfSlave ss) (events_of e)
+slave_run ss first last e h c = run_called OfSlave view_of ss first last e h c

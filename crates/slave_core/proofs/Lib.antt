@@ -10,3 +10,4 @@ pub mod TakenParameter
 pub mod TakenData
 pub mod Agreed
 pub mod Law
+pub mod Transitions

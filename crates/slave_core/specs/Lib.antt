@@ -10,3 +10,4 @@ pub mod Verdict
 pub mod Views
 pub mod ViewOf
 pub mod After
+pub mod GoesOn

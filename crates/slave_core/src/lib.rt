@@ -2,6 +2,7 @@
 #![tactic(auto)]
 
 mod kit;
+pub mod laws;
 mod now;
 mod seen;
 pub mod slave;

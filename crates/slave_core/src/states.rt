@@ -11,8 +11,11 @@ ghost use Rattle.param_load.specs.Profile.{allows_id};
 ghost use Rattle.param_load.specs.Upload.{is_whole};
 ghost use Rattle.seq_chain.specs.Chain.{fits_next};
 ghost use Rattle.slave_core.specs.Data.{is_data, data_holds};
+ghost use Rattle.slave_core.specs.declared.now.Now.TheVariants as now;
+ghost use Rattle.slave_core.specs.GoesOn.{GoesOn};
 ghost use Rattle.slave_core.specs.Kit.{piece_of, peer_len};
 ghost use Rattle.slave_core.specs.States.{no_session, fresh, answered, answer, first_session, first_connection, first_parameter, terms_of, session_next, session_reply, connection_next, parameter_next, echo_reply, data_next, data_reply, in_place};
+ghost use Rattle.slave_core.specs.Taken.{as_session, as_connection, as_parameter, as_data};
 ghost use Rattle.slave_core.specs.Views.{SessionUnder, ConnectionUnder, ParameterUnder, DataUnder, HasPassed};
 
 use crate::kit::Kit;
@@ -112,6 +115,7 @@ impl InReset {
 
     /// Begins a session by a Session frame. The slave's session id is its nonce at this moment. Refused with 07h
     /// where the padding isn't zeros.
+    #[tactic(auto, using(crate::proofs::Transitions::start_goes))]
     pub fn start(
         self,
         seen: &Seen<'_>,
@@ -123,6 +127,7 @@ impl InReset {
         requires empty { out.old ≡ [] }
         ensures next { result ≡ session_next kit.now fresh kit.now.nonce (first_session kit.now) seen.now }
         ensures sent { out.new ≡ session_reply kit.now fresh kit.now.nonce (first_session kit.now) seen.now }
+        ensures goes_on { GoesOn (now.Reset self) kit.now seen.now (as_session result) out.new }
         ensures under { IfOk result (λ s. SessionUnder kit.now.settings s) }
     {
         let InReset { private: _ } = self;
@@ -142,6 +147,7 @@ impl InReset {
 impl InSession {
     /// Goes on by a Session frame, as long as the master's session id isn't whole. Refused with 07h where the
     /// padding isn't zeros.
+    #[tactic(auto, using(crate::proofs::Transitions::session_goes))]
     pub fn more(
         self,
         seen: &Seen<'_>,
@@ -155,6 +161,7 @@ impl InSession {
         requires empty { out.old ≡ [] }
         ensures next { result ≡ session_next kit.now self.chain self.id self.upload seen.now }
         ensures sent { out.new ≡ session_reply kit.now self.chain self.id self.upload seen.now }
+        ensures goes_on { GoesOn (now.Session self) kit.now seen.now (as_session result) out.new }
         ensures under { IfOk result (λ s. SessionUnder kit.now.settings s) }
     {
         let InSession {
@@ -169,6 +176,7 @@ impl InSession {
     /// Goes on by the first Connection frame, once the master's session id is whole. The connection id of the
     /// session is that of the frame. Refused, field by field as it comes, with 03h for another connection id and
     /// 06h for another slave address, then with 07h where the padding isn't zeros.
+    #[tactic(auto, using(crate::proofs::Transitions::connect_goes))]
     pub fn connect(
         self,
         seen: &Seen<'_>,
@@ -182,6 +190,7 @@ impl InSession {
         requires empty { out.old ≡ [] }
         ensures next { result ≡ connection_next kit.now self.chain seen.now.frame.conn (first_connection kit.now seen.now.frame.conn) seen.now }
         ensures sent { out.new ≡ echo_reply command.Connection kit.now self.chain seen.now.frame.conn (first_connection kit.now seen.now.frame.conn) seen.now }
+        ensures goes_on { GoesOn (now.Session self) kit.now seen.now (as_connection result) out.new }
         ensures under { IfOk result (λ s. ConnectionUnder kit.now.settings s) }
     {
         let InSession {
@@ -225,6 +234,7 @@ impl InSession {
 impl InConnection {
     /// Goes on by a Connection frame, as long as the connection id and the address aren't whole, with the refusals
     /// of the first one.
+    #[tactic(auto, using(crate::proofs::Transitions::connection_goes))]
     pub fn more(
         self,
         seen: &Seen<'_>,
@@ -238,6 +248,7 @@ impl InConnection {
         requires empty { out.old ≡ [] }
         ensures next { result ≡ connection_next kit.now self.chain self.conn self.upload seen.now }
         ensures sent { out.new ≡ echo_reply command.Connection kit.now self.chain self.conn self.upload seen.now }
+        ensures goes_on { GoesOn (now.Connection self) kit.now seen.now (as_connection result) out.new }
         ensures under { IfOk result (λ s. ConnectionUnder kit.now.settings s) }
     {
         let InConnection {
@@ -253,6 +264,7 @@ impl InConnection {
     /// field as it comes, with 08h for another length of the communication parameters, 09h for a watchdog of 0 or
     /// above the longest that is accepted and for another profile word, 0Ah for another number of application
     /// parameters, and 0Bh where these break the rule, then with 07h where the padding isn't zeros.
+    #[tactic(auto, using(crate::proofs::Transitions::load_goes))]
     pub fn load(
         self,
         seen: &Seen<'_>,
@@ -266,6 +278,7 @@ impl InConnection {
         requires empty { out.old ≡ [] }
         ensures next { result ≡ parameter_next kit.now self.chain self.conn kit.now.settings.address (first_parameter kit.now) seen.now }
         ensures sent { out.new ≡ echo_reply command.Parameter kit.now self.chain self.conn (first_parameter kit.now) seen.now }
+        ensures goes_on { GoesOn (now.Connection self) kit.now seen.now (as_parameter result) out.new }
         ensures under { IfOk result (λ s. ParameterUnder kit.now.settings s) }
     {
         let InConnection {
@@ -320,6 +333,7 @@ impl InConnection {
 
 impl InParameter {
     /// Goes on by a Parameter frame, as long as the parameters aren't whole, with the refusals of the first one.
+    #[tactic(auto, using(crate::proofs::Transitions::parameter_goes))]
     pub fn more(
         self,
         seen: &Seen<'_>,
@@ -333,6 +347,7 @@ impl InParameter {
         requires empty { out.old ≡ [] }
         ensures next { result ≡ parameter_next kit.now self.chain self.conn self.address self.upload seen.now }
         ensures sent { out.new ≡ echo_reply command.Parameter kit.now self.chain self.conn self.upload seen.now }
+        ensures goes_on { GoesOn (now.Parameter self) kit.now seen.now (as_parameter result) out.new }
         ensures under { IfOk result (λ s. ParameterUnder kit.now.settings s) }
     {
         let InParameter {
@@ -347,6 +362,7 @@ impl InParameter {
 
     /// Goes on by the first data frame, once the parameters are whole: from now on the outputs may be other than
     /// zeros. Refused with 07h where a FailSafeData frame has a byte that isn't 0.
+    #[tactic(auto, using(crate::proofs::Transitions::run_goes, crate::proofs::Transitions::run_refused))]
     pub fn run(
         self,
         seen: &Seen<'_>,
@@ -360,6 +376,7 @@ impl InParameter {
         requires empty { out.old ≡ [] }
         ensures next { result ≡ data_next kit.now self.chain (terms_of kit.now self.conn self.address self.upload) seen.now }
         ensures sent { out.new ≡ data_reply kit.now self.chain (terms_of kit.now self.conn self.address self.upload) seen.now }
+        ensures goes_on { GoesOn (now.Parameter self) kit.now seen.now (as_data result) out.new }
         ensures under { IfOk result (λ s. DataUnder kit.now.settings s) }
     {
         let InParameter {
@@ -433,6 +450,7 @@ impl InParameter {
 
 impl InData {
     /// Goes on by a data frame. Refused with 07h where a FailSafeData frame has a byte that isn't 0.
+    #[tactic(auto, using(crate::proofs::Transitions::data_goes, crate::proofs::Transitions::data_refused))]
     pub fn more(
         mut self,
         seen: &Seen<'_>,
@@ -445,6 +463,7 @@ impl InData {
         requires empty { out.old ≡ [] }
         ensures next { result ≡ data_next kit.now self.chain self.terms seen.now }
         ensures sent { out.new ≡ data_reply kit.now self.chain self.terms seen.now }
+        ensures goes_on { GoesOn (now.Data self) kit.now seen.now (as_data result) out.new }
         ensures under { IfOk result (λ s. DataUnder kit.now.settings s) }
     {
         match self.go_on(seen, kit, out) {
