@@ -1,5 +1,5 @@
 -- The newest of listed items, with one more.
-use Rattle.std.proofs.Common.{◌≡◌, ℕ, suc, ◌+◌, ◌-◌, ◌<◌, ◌≤◌, List, [], ◌∷◌, ◌++◌, length, take, get_or, Bool, true, false, Option, Some, None, if◌then◌else◌, refl, sym, ap, subst, ◌∙◌, arith, take_all}
+use Rattle.std.proofs.Common.{◌≡◌, ℕ, ◌+◌, ◌<◌, List, [], ◌∷◌, ◌++◌, length, take, get_or, Bool, true, false, Option, Some, if◌then◌else◌, refl, sym, ap, ◌∙◌, arith, take_all}
 use Rattle.std.proofs.lemmas.List.{take_more}
 use Rattle.exchange_model.specs.declared.side.Sent.{Sent}
 use Rattle.exchange_model.specs.declared.list_monitor.Listed.{Listed}
@@ -20,7 +20,6 @@ pub last_answer_more : (n : ℕ) (found : List Listed) (i : Listed) → last_ans
 last_answer_more n [] i = refl
 last_answer_more n (j ∷ found) i =
     ap (λ o. if is_answer_to n j then later o j.sent else o) (last_answer_more n found i) ∙ chosen-later (is_answer_to n j) (is_answer_to n i) (last_answer n found) i.sent j.sent
-
 
 -- the newest of the first items, by the last of them
 pub last_answer_at : (n k : ℕ) (found : List Listed) (i : Listed) (b : Bool) → k < length found → i ≡ get_or found k i → is_answer_to n i ≡ b

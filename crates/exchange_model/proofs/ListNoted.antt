@@ -1,5 +1,5 @@
 -- What a monitor with lists has after an entry is what the definitions say of the entries with it.
-use Rattle.std.proofs.Common.{◌≡◌, ℕ, suc, ◌+◌, ◌<◌, ◌≤◌, List, [], ◌∷◌, ◌++◌, length, take, get_or, Bool, true, false, ◌&&◌, not, Option, Some, None, if◌then◌else◌, refl, sym, ap, ap₂, subst, ◌∙◌, arith}
+use Rattle.std.proofs.Common.{◌≡◌, ℕ, suc, List, [], ◌∷◌, ◌++◌, length, Bool, true, false, Option, Some, None, if◌then◌else◌, refl, sym, ap, ap₂, ◌∙◌}
 use Rattle.fsoe_base.specs.declared.command.End.{End}
 use Rattle.fsoe_base.specs.declared.command.End.TheVariants as end_name
 use Rattle.param_load.specs.declared.entry.Entry.{Entry}
@@ -8,10 +8,10 @@ use Rattle.exchange_model.specs.declared.side.Sent.{Sent}
 use Rattle.exchange_model.specs.declared.side.Side.{Side}
 use Rattle.exchange_model.specs.declared.list_monitor.Listed.{Listed}
 use Rattle.exchange_model.specs.Ends.{peer}
-use Rattle.exchange_model.specs.Items.{Item, newest, newest_answer, answer_among, items_of, items, item_of, item_taken, awaited}
-use Rattle.exchange_model.specs.Other.{is_other, first_of_both, first_other}
-use Rattle.exchange_model.specs.Noting.{sent_of, kept, next_number, next_sent, is_other_to, answered}
-use Rattle.exchange_model.specs.Listing.{listing, listed, ListView, list_of, Lists, later, last_sent, is_answer_to, last_answer, answer_in, side_in, list_in, looked_up, list_after, lists_after, listed_next}
+use Rattle.exchange_model.specs.Items.{Item, newest, newest_answer, answer_among, items_of, items, item_of, item_taken}
+use Rattle.exchange_model.specs.Other.{first_of_both, first_other}
+use Rattle.exchange_model.specs.Noting.{sent_of, kept, next_sent, is_other_to, answered}
+use Rattle.exchange_model.specs.Listing.{listing, listed, ListView, list_of, Lists, last_sent, is_answer_to, last_answer, answer_in, side_in, looked_up, list_after, lists_after, listed_next}
 use Rattle.exchange_model.proofs.Numbered.{numbered}
 use Rattle.exchange_model.proofs.Lasts.{last_sent_more, last_answer_more}
 use Rattle.exchange_model.proofs.Noted.{newest_next, answered_is, other_is}

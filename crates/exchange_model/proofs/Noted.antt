@@ -1,5 +1,5 @@
 -- What a monitor keeps after an entry is what the definitions say of the entries with it.
-use Rattle.std.proofs.Common.{◌≡◌, ℕ, suc, ◌≤◌, ◌==◌, nat_eq, List, [], ◌∷◌, length, Bool, true, false, ◌&&◌, not, Option, Some, None, if◌then◌else◌, refl, sym, ap, ap₂, subst, ◌∙◌, arith}
+use Rattle.std.proofs.Common.{◌≡◌, ℕ, suc, ◌≤◌, nat_eq, List, [], ◌∷◌, length, Bool, true, false, ◌&&◌, not, Option, Some, None, if◌then◌else◌, refl, sym, ap, ap₂, subst, ◌∙◌, arith}
 use Rattle.std.specs.Cmp.Lexicographic.{pointwise}
 use Rattle.std.specs.List.{AllByRecursion}
 use Rattle.std.proofs.lemmas.Bool.Decides.{nat_tests}
@@ -15,10 +15,10 @@ use Rattle.exchange_model.specs.declared.side.Side.{Side}
 use Rattle.exchange_model.specs.Ends.{same_end, peer}
 use Rattle.exchange_model.specs.Items.{Item, newest, items_of, items, item_of, item_taken, awaited, answers_to, newest_answer, answer_among, has_bytes, number_if}
 use Rattle.exchange_model.specs.Other.{is_guarded_frame, is_other, first_of_both, first_other}
-use Rattle.exchange_model.specs.Noting.{sent_of, kept, MonitorView, view_of, Notes, number, item_number, has, number_of, next_number, is_answer, is_other_to, answered, next_sent, sent_next, heard_next, own_after, peer_after, side_of, master_after, slave_after, noted_next}
+use Rattle.exchange_model.specs.Noting.{sent_of, kept, MonitorView, view_of, Notes, number, item_number, has, number_of, next_number, is_answer, is_other_to, answered, sent_next, heard_next, own_after, peer_after, side_of, master_after, slave_after, noted_next}
 use Rattle.exchange_model.proofs.Projection.{same}
 use Rattle.exchange_model.proofs.Numbered.{Numbered, Grown, Same, More, grown, numbered}
-use Rattle.exchange_model.proofs.Awaited.{Found, awaited_found}
+use Rattle.exchange_model.proofs.Awaited.{awaited_found}
 use Rattle.exchange_model.proofs.Loads.{all_items}
 
 -- an item answers one of the first n
@@ -72,9 +72,9 @@ answers-within which (x ∷ w) =
     all_items (Within (length (items_of (peer which) (items (x ∷ w))))) which x w (same_end which x.end) (is_empty x.sent) refl
     (λ mine sent. record {
       within = λ k e.
-        let q : k ≤ length (items_of (peer x.end) (items w)) = taken-within w x.end (delivered x.what) x.did.took k e in
-        let p : length (items_of (peer x.end) (items w)) ≡ length (items_of (peer which) (items w)) = ap (λ (it : End). length (items_of (peer it) (items w))) (same which x.end mine) in
-        omega arith;
+          let q : k ≤ length (items_of (peer x.end) (items w)) = taken-within w x.end (delivered x.what) x.did.took k e in
+          let p : length (items_of (peer x.end) (items w)) ≡ length (items_of (peer which) (items w)) = ap (λ (it : End). length (items_of (peer it) (items w))) (same which x.end mine) in
+          omega arith;
     })
     refl (all-within _ _ _ more (answers-within which w))
 

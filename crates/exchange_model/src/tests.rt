@@ -21,22 +21,39 @@ enum Step {
 }
 
 const RESET: Frame = [0x2A, 0x00, 0x00, 0xC4, 0x2D, 0x00, 0x00];
+
 const SESSION: Frame = [0x4E, 0x01, 0x00, 0x12, 0x3E, 0x00, 0x00];
+
 const SESSION_ANSWER: Frame = [0x4E, 0x02, 0x00, 0x90, 0x47, 0x00, 0x00];
+
 const CONNECTION: Frame = [0x64, 0x01, 0x00, 0x64, 0x2A, 0x01, 0x00];
+
 const CONNECTION_ANSWER: Frame = [0x64, 0x01, 0x00, 0x93, 0xD6, 0x01, 0x00];
+
 const ADDRESS: Frame = [0x64, 0x02, 0x00, 0x62, 0x5F, 0x01, 0x00];
+
 const ADDRESS_ANSWER: Frame = [0x64, 0x02, 0x00, 0x47, 0x08, 0x01, 0x00];
+
 const LENGTH: Frame = [0x52, 0x02, 0x00, 0xEE, 0x74, 0x01, 0x00];
+
 const LENGTH_ANSWER: Frame = [0x52, 0x02, 0x00, 0x30, 0x58, 0x01, 0x00];
+
 const WATCHDOG: Frame = [0x52, 0x64, 0x00, 0x58, 0xDA, 0x01, 0x00];
+
 const WATCHDOG_ANSWER: Frame = [0x52, 0x64, 0x00, 0xAE, 0x68, 0x01, 0x00];
+
 const NONE: Frame = [0x52, 0x00, 0x00, 0x71, 0x99, 0x01, 0x00];
+
 const NONE_ANSWER: Frame = [0x52, 0x00, 0x00, 0x77, 0x2D, 0x01, 0x00];
+
 const FIRST: Frame = [0x36, 0x01, 0x00, 0xFC, 0x43, 0x01, 0x00];
+
 const FIRST_ANSWER: Frame = [0x36, 0x80, 0x00, 0x78, 0xC9, 0x01, 0x00];
+
 const SECOND: Frame = [0x36, 0x01, 0x00, 0xCF, 0xA9, 0x01, 0x00];
+
 const SECOND_ANSWER: Frame = [0x36, 0x80, 0x00, 0x2D, 0x67, 0x01, 0x00];
+
 const THIRD: Frame = [0x36, 0x01, 0x00, 0xE9, 0x5D, 0x01, 0x00];
 
 /// A run of both ends from their start to the first data of both.
@@ -95,10 +112,20 @@ fn fell(passed: bool, reset: Option<Cause>) -> Did {
 fn entry_of(step: &Step) -> Entry {
     match step {
         Step::Quiet(end) => entry(*end, Move::Hold(false), Did::nothing(), FrameBuf::new()),
-        Step::Sends(end, sent) => entry(*end, Move::Local, fell(false, Some(Cause::Local)), frame(sent)),
+        Step::Sends(end, sent) => entry(
+            *end,
+            Move::Local,
+            fell(false, Some(Cause::Local)),
+            frame(sent),
+        ),
         Step::Refuses(end, came, passed, sent) => {
             let found = Some(Cause::Found(Code(0x01)));
-            entry(*end, Move::Deliver(frame(came)), fell(*passed, found), frame(sent))
+            entry(
+                *end,
+                Move::Deliver(frame(came)),
+                fell(*passed, found),
+                frame(sent),
+            )
         }
         Step::Takes(end, came, sent) => {
             let command = Command::of(came[0]).unwrap_or(Command::Reset);
@@ -244,7 +271,10 @@ fn monitors_find_the_first_other_entry(rt: HostRuntime) -> Result<(), Fail> {
     ] {
         let mut monitor = Monitor::new();
         let mut plain = ListMonitor::new(rt.alloc());
-        assert!(rt; note_all(&mut monitor, &mut plain, &UNTIL_DATA[..count.min(19)]), "{name}");
+        assert!(rt;
+            note_all(&mut monitor, &mut plain, &UNTIL_DATA[..count.min(19)]),
+            "{name}"
+        );
         assert!(rt; note_all(&mut monitor, &mut plain, &steps), "{name}");
         assert_eq!(rt; monitor.other(), other, "{name}");
     }
