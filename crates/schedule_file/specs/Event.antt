@@ -1,14 +1,54 @@
--- Which events a node may have.
+-- Which events the ends of a pair may have, and which the node at one end.
 use Rattle.std.specs.Prelude.{◌≡◌, ◌<◌, ◌≤◌, length, IsTrue}
 use Rattle.fsoe_base.specs.declared.command.End.{End}
 use Rattle.fsoe_base.specs.declared.lengths.Lengths.{Lengths}
 use Rattle.fsoe_base.specs.LengthsOf.{length_of}
+use Rattle.fsoe_base.specs.declared.command.End.TheVariants as side
 use Rattle.param_load.specs.declared.profile.Profile.{Profile}
+use Rattle.param_load.specs.declared.profile.Profiles.{Profiles}
 use Rattle.param_load.specs.Profile.{allows_id}
+use Rattle.schedule_file.specs.EventLine.{delivered_len}
 use Rattle.schedule_file.specs.declared.event.Event.{Event}
 use Rattle.schedule_file.specs.declared.event.Event.TheVariants as event
 use Rattle.schedule_file.specs.declared.event.ScheduleLine.{ScheduleLine}
 use Rattle.schedule_file.specs.declared.event.ScheduleLine.TheVariants as line
+
+-- the profile of an end
+abbrev pub profile_of : Profiles → End → Profile
+profile_of profiles side.Master = profiles.master
+profile_of profiles side.Slave = profiles.slave
+
+-- an event that a line can say: a reference is from 1 to 64, a frame has from 1 to 255 bytes, a put from 1 to 126
+abbrev pub IsWritable : Event → Type 0
+IsWritable (event.Deliver to back) = (0 < back) × (back ≤ 64)
+IsWritable (event.Altered to back pos mask) = (0 < back) × (back ≤ 64)
+IsWritable (event.Raw to frame) = (0 < length frame) × (length frame ≤ 255)
+IsWritable (event.Put at load) = (0 < length load) × (length load ≤ 126)
+IsWritable (event.Tick at) = Unit {0}
+IsWritable (event.Hold at failsafe) = Unit {0}
+IsWritable (event.Nonce at id) = Unit {0}
+IsWritable (event.Local at) = Unit {0}
+
+-- an event that ends of these lengths and profiles may have: an altered place is one of that direction's frame, a put
+-- has exactly as many bytes as the end sends, and the end's profile allows the session id
+abbrev pub Suits : Lengths → Profiles → Event → Type 0
+Suits lengths profiles (event.Altered to back pos mask) = pos < delivered_len lengths to
+Suits lengths profiles (event.Put at load) = length load ≡ length_of lengths at
+Suits lengths profiles (event.Nonce at id) = IsTrue (allows_id (profile_of profiles at) id)
+Suits lengths profiles (event.Deliver to back) = Unit {0}
+Suits lengths profiles (event.Raw to frame) = Unit {0}
+Suits lengths profiles (event.Tick at) = Unit {0}
+Suits lengths profiles (event.Hold at failsafe) = Unit {0}
+Suits lengths profiles (event.Local at) = Unit {0}
+
+-- an event fits lengths and profiles where a line can say it and ends of these may have it
+abbrev pub Fits : Lengths → Profiles → Event → Type 0
+Fits lengths profiles event = IsWritable event × Suits lengths profiles event
+
+-- the event of a line, where it has one, fits
+abbrev pub PairLineFits : Lengths → Profiles → ScheduleLine → Type 0
+PairLineFits lengths profiles (line.Step event) = Fits lengths profiles event
+PairLineFits lengths profiles line.End = Unit {0}
 
 -- an event that the node at this end may have: it is at this end, a frame has from 1 to 255 bytes,
 -- a put has exactly as many bytes as the end sends, and the profile allows the session id

@@ -1,4 +1,5 @@
 pub mod Event
+pub mod EventLine
 pub mod Field
 pub mod Fields
 pub mod Header
@@ -8,4 +9,5 @@ pub mod HeaderPart
 pub mod LineCause
 pub mod LinesLeft
 pub mod NodeEvent
+pub mod PairEvent
 pub mod Place

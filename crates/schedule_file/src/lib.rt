@@ -3,6 +3,7 @@
 #![tactic(auto)]
 
 pub mod event;
+mod event_line;
 mod field;
 pub mod header;
 pub mod header_kind;
@@ -11,6 +12,7 @@ mod header_part;
 mod hex_digits;
 pub mod line_cause;
 pub mod node_event;
+pub mod pair_event;
 mod place;
 #[cfg(test)]
 mod tests;
@@ -20,3 +22,4 @@ pub use header::Header;
 pub use header_kind::HeaderKind;
 pub use line_cause::LineCause;
 pub use node_event::read_node_event;
+pub use pair_event::read_event;

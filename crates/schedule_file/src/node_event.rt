@@ -1,12 +1,14 @@
 ghost use Rattle.std.specs.Prelude.{◌≡◌, IfOk};
 ghost use Rattle.schedule_file.specs.Event.{LineFits};
-ghost use Rattle.schedule_file.specs.Field.{fields_after};
-ghost use Rattle.schedule_file.specs.NodeEvent.{word_of, switch_of, tick_line, raw_line, put_line, hold_line, nonce_line, local_line, end_line, node_line};
+ghost use Rattle.schedule_file.specs.NodeEvent.{word_of, node_line};
 
-use crate::event::{Event, ScheduleLine};
-use crate::field::{HexBytes, cut, no_field, number, one_field};
+use crate::event::ScheduleLine;
+use crate::event_line::{
+    read_end, read_hold, read_local, read_nonce, read_put, read_raw, read_tick,
+};
+use crate::field::cut;
 use crate::line_cause::LineCause;
-use fsoe_base::{End, FrameBuf, Image, Lengths};
+use fsoe_base::{End, Lengths};
 use param_load::Profile;
 
 /// The first field of a line.
@@ -42,82 +44,6 @@ fn read_word(text: &[u8]) -> Option<Word>
     } else {
         None
     }
-}
-
-/// Off or on.
-fn read_switch(text: &[u8]) -> Option<bool>
-    ensures { result ≡ switch_of text.now }
-{
-    if text == b"0".as_slice() {
-        Some(false)
-    } else if text == b"1".as_slice() {
-        Some(true)
-    } else {
-        None
-    }
-}
-
-fn read_tick(at: End, fields: Option<&[u8]>) -> Result<ScheduleLine, LineCause>
-    ensures { result ≡ tick_line at (fields_after fields.entry) }
-{
-    no_field(fields)?;
-    Ok(ScheduleLine::Step(Event::Tick { at }))
-}
-
-fn read_raw(to: End, fields: Option<&[u8]>) -> Result<ScheduleLine, LineCause>
-    ensures { result ≡ raw_line to (fields_after fields.entry) }
-{
-    let field = one_field(fields)?;
-    let bytes = HexBytes::read(field, 255).ok_or(LineCause::Hex)?;
-    let mut frame = FrameBuf::new();
-    frame.set(bytes.bytes());
-    Ok(ScheduleLine::Step(Event::Raw { to, frame }))
-}
-
-fn read_put(at: End, count: usize, fields: Option<&[u8]>) -> Result<ScheduleLine, LineCause>
-    ensures { result ≡ put_line at count (fields_after fields.entry) }
-{
-    let field = one_field(fields)?;
-    let bytes = HexBytes::read(field, 126).ok_or(LineCause::Hex)?;
-    if bytes.bytes().len() != count {
-        return Err(LineCause::Length);
-    }
-    let mut load = Image::zeros(0);
-    load.set(bytes.bytes());
-    Ok(ScheduleLine::Step(Event::Put { at, load }))
-}
-
-fn read_hold(at: End, fields: Option<&[u8]>) -> Result<ScheduleLine, LineCause>
-    ensures { result ≡ hold_line at (fields_after fields.entry) }
-{
-    let field = one_field(fields)?;
-    let failsafe = read_switch(field).ok_or(LineCause::Number)?;
-    Ok(ScheduleLine::Step(Event::Hold { at, failsafe }))
-}
-
-fn read_nonce(at: End, profile: Profile, fields: Option<&[u8]>) -> Result<ScheduleLine, LineCause>
-    ensures { result ≡ nonce_line at profile (fields_after fields.entry) }
-{
-    let field = one_field(fields)?;
-    let id = number(field, u32::MAX).ok_or(LineCause::Number)?;
-    if !profile.allows_id(id) {
-        return Err(LineCause::Number);
-    }
-    Ok(ScheduleLine::Step(Event::Nonce { at, id }))
-}
-
-fn read_local(at: End, fields: Option<&[u8]>) -> Result<ScheduleLine, LineCause>
-    ensures { result ≡ local_line at (fields_after fields.entry) }
-{
-    no_field(fields)?;
-    Ok(ScheduleLine::Step(Event::Local { at }))
-}
-
-fn read_end(fields: Option<&[u8]>) -> Result<ScheduleLine, LineCause>
-    ensures { result ≡ end_line (fields_after fields.entry) }
-{
-    no_field(fields)?;
-    Ok(ScheduleLine::End)
 }
 
 /// What a line after the header says to the node at `end`, without its newline: an event there, or the end of

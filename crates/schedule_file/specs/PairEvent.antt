@@ -1,0 +1,59 @@
+-- What a line says that stands after the header of a pair.
+use Rattle.std.specs.Prelude.{List, [], ◌∷◌, ℕ, codes, Option, Some, None, Result, Err, if◌then◌else◌}
+use Rattle.std.specs.Str.{bytes_eq}
+use Rattle.fsoe_base.specs.LengthsOf.{length_of}
+use Rattle.fsoe_base.specs.declared.command.End.TheVariants as side
+use Rattle.fsoe_base.specs.declared.lengths.Lengths.{Lengths}
+use Rattle.param_load.specs.declared.profile.Profiles.{Profiles}
+use Rattle.schedule_file.specs.Event.{profile_of}
+use Rattle.schedule_file.specs.EventLine.{deliver_line, altered_line, tick_line, raw_line, put_line, hold_line, nonce_line, local_line, end_line}
+use Rattle.schedule_file.specs.Field.{fields_of}
+use Rattle.schedule_file.specs.declared.event.ScheduleLine.{ScheduleLine}
+use Rattle.schedule_file.specs.declared.line_cause.LineCause.{LineCause}
+use Rattle.schedule_file.specs.declared.line_cause.LineCause.TheVariants as cause
+use Rattle.schedule_file.specs.declared.pair_event.PairWord.{PairWord}
+use Rattle.schedule_file.specs.declared.pair_event.PairWord.TheVariants as word
+
+-- the word of an event with the letter of its end, or `end`
+abbrev pub pair_word_of : List ℕ → Option PairWord
+pair_word_of text =
+    if bytes_eq text (codes "dm") then Some (word.Deliver side.Master)
+    else if bytes_eq text (codes "ds") then Some (word.Deliver side.Slave)
+    else if bytes_eq text (codes "am") then Some (word.Altered side.Master)
+    else if bytes_eq text (codes "as") then Some (word.Altered side.Slave)
+    else if bytes_eq text (codes "rm") then Some (word.Raw side.Master)
+    else if bytes_eq text (codes "rs") then Some (word.Raw side.Slave)
+    else if bytes_eq text (codes "tm") then Some (word.Tick side.Master)
+    else if bytes_eq text (codes "ts") then Some (word.Tick side.Slave)
+    else if bytes_eq text (codes "pm") then Some (word.Put side.Master)
+    else if bytes_eq text (codes "ps") then Some (word.Put side.Slave)
+    else if bytes_eq text (codes "hm") then Some (word.Hold side.Master)
+    else if bytes_eq text (codes "hs") then Some (word.Hold side.Slave)
+    else if bytes_eq text (codes "nm") then Some (word.Nonce side.Master)
+    else if bytes_eq text (codes "ns") then Some (word.Nonce side.Slave)
+    else if bytes_eq text (codes "zm") then Some (word.Local side.Master)
+    else if bytes_eq text (codes "zs") then Some (word.Local side.Slave)
+    else if bytes_eq text (codes "end") then Some word.End
+    else None
+
+-- what a word says with its fields
+abbrev pub pair_said : Lengths → Profiles → Option PairWord → List (List ℕ) → Result ScheduleLine LineCause
+pair_said lengths profiles None fields = Err cause.Word
+pair_said lengths profiles (Some (word.Deliver to)) fields = deliver_line to fields
+pair_said lengths profiles (Some (word.Altered to)) fields = altered_line to lengths fields
+pair_said lengths profiles (Some (word.Raw to)) fields = raw_line to fields
+pair_said lengths profiles (Some (word.Tick at)) fields = tick_line at fields
+pair_said lengths profiles (Some (word.Put at)) fields = put_line at (length_of lengths at) fields
+pair_said lengths profiles (Some (word.Hold at)) fields = hold_line at fields
+pair_said lengths profiles (Some (word.Nonce at)) fields = nonce_line at (profile_of profiles at) fields
+pair_said lengths profiles (Some (word.Local at)) fields = local_line at fields
+pair_said lengths profiles (Some word.End) fields = end_line fields
+
+-- what the fields of a line say, of which the first is its word
+abbrev pub pair_said_by : Lengths → Profiles → List (List ℕ) → Result ScheduleLine LineCause
+pair_said_by lengths profiles [] = Err cause.Word
+pair_said_by lengths profiles (first ∷ fields) = pair_said lengths profiles (pair_word_of first) fields
+
+-- what a line says to both ends
+abbrev pub pair_line : Lengths → Profiles → List ℕ → Result ScheduleLine LineCause
+pair_line lengths profiles text = pair_said_by lengths profiles (fields_of text)

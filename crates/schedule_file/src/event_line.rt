@@ -1,0 +1,152 @@
+//! What the fields of an event's line say that stand after its word: one reader for each kind of event.
+ghost use Rattle.std.specs.Prelude.{◌≡◌, ◌≤◌, ◌<◌, IfSome, IfOk};
+ghost use Rattle.param_load.specs.declared.profile.Profiles.{Profiles};
+ghost use Rattle.schedule_file.specs.Event.{PairLineFits};
+ghost use Rattle.schedule_file.specs.EventLine.{switch_of, reference_of, delivered_len, deliver_line, altered_line, tick_line, raw_line, put_line, hold_line, nonce_line, local_line, end_line};
+ghost use Rattle.schedule_file.specs.Field.{fields_after};
+
+use crate::event::{Event, ScheduleLine};
+use crate::field::{HexBytes, next_field, no_field, number, one_field};
+use crate::line_cause::LineCause;
+use fsoe_base::{End, FrameBuf, Image, Lengths};
+use param_load::Profile;
+
+/// Off or on.
+fn read_switch(text: &[u8]) -> Option<bool>
+    ensures { result ≡ switch_of text.now }
+{
+    if text == b"0".as_slice() {
+        Some(false)
+    } else if text == b"1".as_slice() {
+        Some(true)
+    } else {
+        None
+    }
+}
+
+/// How many frames back, from 1 to 64.
+fn read_reference(text: &[u8]) -> Option<u8>
+    ensures value { result ≡ reference_of text.now }
+    ensures range { IfSome result (λ back. (0 < back) × (back ≤ 64)) }
+{
+    let (sign, digits) = text.split_first()?;
+    if *sign != b'-' {
+        return None;
+    }
+    let back = number(digits, 64)?;
+    if back == 0 {
+        return None;
+    }
+    Some(back as u8)
+}
+
+/// The number of bytes of a frame that is delivered to this end, which its peer sent.
+fn delivered_len(to: End, lengths: &Lengths) -> usize
+    ensures value { result ≡ delivered_len lengths.now to }
+    ensures most { result ≤ 255 }
+{
+    match to {
+        End::Master => lengths.frame_len(End::Slave),
+        End::Slave => lengths.frame_len(End::Master),
+    }
+}
+
+pub fn read_deliver(to: End, fields: Option<&[u8]>) -> Result<ScheduleLine, LineCause>
+    ensures { result ≡ deliver_line to (fields_after fields.entry) }
+{
+    let field = one_field(fields)?;
+    let back = read_reference(field).ok_or(LineCause::Reference)?;
+    Ok(ScheduleLine::Step(Event::Deliver { to, back }))
+}
+
+pub fn read_altered(
+    to: End,
+    lengths: &Lengths,
+    fields: Option<&[u8]>,
+) -> Result<ScheduleLine, LineCause>
+    ensures value { result ≡ altered_line to lengths.now (fields_after fields.entry) }
+    ensures fits { (profiles : Profiles) → IfOk result (PairLineFits lengths.now profiles) }
+{
+    let (reference, rest) = next_field(fields)?;
+    let (place, rest) = next_field(rest)?;
+    let digits = one_field(rest)?;
+    let pos = number(place, 65_535).ok_or(LineCause::Number)?;
+    let back = read_reference(reference).ok_or(LineCause::Reference)?;
+    let mask = HexBytes::read(digits, 1).ok_or(LineCause::Hex)?;
+    if pos as usize >= delivered_len(to, lengths) {
+        return Err(LineCause::Position);
+    }
+    Ok(ScheduleLine::Step(Event::Altered {
+        to,
+        back,
+        pos: pos as u8,
+        mask: mask.bytes()[0],
+    }))
+}
+
+pub fn read_tick(at: End, fields: Option<&[u8]>) -> Result<ScheduleLine, LineCause>
+    ensures { result ≡ tick_line at (fields_after fields.entry) }
+{
+    no_field(fields)?;
+    Ok(ScheduleLine::Step(Event::Tick { at }))
+}
+
+pub fn read_raw(to: End, fields: Option<&[u8]>) -> Result<ScheduleLine, LineCause>
+    ensures { result ≡ raw_line to (fields_after fields.entry) }
+{
+    let field = one_field(fields)?;
+    let bytes = HexBytes::read(field, 255).ok_or(LineCause::Hex)?;
+    let mut frame = FrameBuf::new();
+    frame.set(bytes.bytes());
+    Ok(ScheduleLine::Step(Event::Raw { to, frame }))
+}
+
+pub fn read_put(at: End, count: usize, fields: Option<&[u8]>) -> Result<ScheduleLine, LineCause>
+    ensures { result ≡ put_line at count (fields_after fields.entry) }
+{
+    let field = one_field(fields)?;
+    let bytes = HexBytes::read(field, 126).ok_or(LineCause::Hex)?;
+    if bytes.bytes().len() != count {
+        return Err(LineCause::Length);
+    }
+    let mut load = Image::zeros(0);
+    load.set(bytes.bytes());
+    Ok(ScheduleLine::Step(Event::Put { at, load }))
+}
+
+pub fn read_hold(at: End, fields: Option<&[u8]>) -> Result<ScheduleLine, LineCause>
+    ensures { result ≡ hold_line at (fields_after fields.entry) }
+{
+    let field = one_field(fields)?;
+    let failsafe = read_switch(field).ok_or(LineCause::Number)?;
+    Ok(ScheduleLine::Step(Event::Hold { at, failsafe }))
+}
+
+pub fn read_nonce(
+    at: End,
+    profile: Profile,
+    fields: Option<&[u8]>,
+) -> Result<ScheduleLine, LineCause>
+    ensures { result ≡ nonce_line at profile (fields_after fields.entry) }
+{
+    let field = one_field(fields)?;
+    let id = number(field, u32::MAX).ok_or(LineCause::Number)?;
+    if !profile.allows_id(id) {
+        return Err(LineCause::Number);
+    }
+    Ok(ScheduleLine::Step(Event::Nonce { at, id }))
+}
+
+pub fn read_local(at: End, fields: Option<&[u8]>) -> Result<ScheduleLine, LineCause>
+    ensures { result ≡ local_line at (fields_after fields.entry) }
+{
+    no_field(fields)?;
+    Ok(ScheduleLine::Step(Event::Local { at }))
+}
+
+pub fn read_end(fields: Option<&[u8]>) -> Result<ScheduleLine, LineCause>
+    ensures { result ≡ end_line (fields_after fields.entry) }
+{
+    no_field(fields)?;
+    Ok(ScheduleLine::End)
+}

@@ -1,0 +1,110 @@
+ghost use Rattle.std.specs.Prelude.{◌≡◌, IfOk};
+ghost use Rattle.schedule_file.specs.Event.{PairLineFits, profile_of};
+ghost use Rattle.schedule_file.specs.PairEvent.{pair_word_of, pair_line};
+
+use crate::event::ScheduleLine;
+use crate::event_line::{
+    read_altered, read_deliver, read_end, read_hold, read_local, read_nonce, read_put, read_raw,
+    read_tick,
+};
+use crate::field::cut;
+use crate::line_cause::LineCause;
+use fsoe_base::{End, Lengths};
+use param_load::{Profile, Profiles};
+
+/// The first field of a line: what happens, and at which end.
+#[derive(Clone, Copy)]
+enum PairWord {
+    Deliver(End),
+    Altered(End),
+    Raw(End),
+    Tick(End),
+    Put(End),
+    Hold(End),
+    Nonce(End),
+    Local(End),
+    End,
+}
+
+/// The word that begins a line.
+fn read_pair_word(text: &[u8]) -> Option<PairWord>
+    ensures { result ≡ pair_word_of text.now }
+{
+    if text == b"dm".as_slice() {
+        Some(PairWord::Deliver(End::Master))
+    } else if text == b"ds".as_slice() {
+        Some(PairWord::Deliver(End::Slave))
+    } else if text == b"am".as_slice() {
+        Some(PairWord::Altered(End::Master))
+    } else if text == b"as".as_slice() {
+        Some(PairWord::Altered(End::Slave))
+    } else if text == b"rm".as_slice() {
+        Some(PairWord::Raw(End::Master))
+    } else if text == b"rs".as_slice() {
+        Some(PairWord::Raw(End::Slave))
+    } else if text == b"tm".as_slice() {
+        Some(PairWord::Tick(End::Master))
+    } else if text == b"ts".as_slice() {
+        Some(PairWord::Tick(End::Slave))
+    } else if text == b"pm".as_slice() {
+        Some(PairWord::Put(End::Master))
+    } else if text == b"ps".as_slice() {
+        Some(PairWord::Put(End::Slave))
+    } else if text == b"hm".as_slice() {
+        Some(PairWord::Hold(End::Master))
+    } else if text == b"hs".as_slice() {
+        Some(PairWord::Hold(End::Slave))
+    } else if text == b"nm".as_slice() {
+        Some(PairWord::Nonce(End::Master))
+    } else if text == b"ns".as_slice() {
+        Some(PairWord::Nonce(End::Slave))
+    } else if text == b"zm".as_slice() {
+        Some(PairWord::Local(End::Master))
+    } else if text == b"zs".as_slice() {
+        Some(PairWord::Local(End::Slave))
+    } else if text == b"end".as_slice() {
+        Some(PairWord::End)
+    } else {
+        None
+    }
+}
+
+/// The profile of an end.
+fn profile_of(profiles: &Profiles, at: End) -> Profile
+    ensures { result ≡ profile_of profiles.now at }
+{
+    match at {
+        End::Master => profiles.master,
+        End::Slave => profiles.slave,
+    }
+}
+
+/// What a line after the header says to both ends, without its newline: an event at one of them, or the end of the
+/// schedule. The word's second letter is `m` for the master and `s` for the slave: `dm -<back>` (the frame 1 to 64
+/// back of those that the peer sent), `am -<back> <place> <mask>` (the same with one byte altered by a mask of two
+/// digits), `rm <hex>` (a frame of 1 to 255 bytes), `tm` (a tick), `pm <hex>` (exactly the end's own number of safe
+/// data bytes), `hm 0` and `hm 1` (fail-safe data off and on), `nm <id>` (a session id that the end's profile allows),
+/// `zm` (a local reset), and `end`. An error is the first of these causes that applies: `Word`, `Fields`, `Number`,
+/// `Reference`, `Hex`, `Length`, `Position`.
+pub fn read_event(
+    line: &[u8],
+    lengths: &Lengths,
+    profiles: &Profiles,
+) -> Result<ScheduleLine, LineCause>
+    ensures value { result ≡ pair_line lengths.now profiles.now line.now }
+    ensures fits { IfOk result (PairLineFits lengths.now profiles.now) }
+{
+    let (first, fields) = cut(line);
+    match read_pair_word(first) {
+        Some(PairWord::Deliver(to)) => read_deliver(to, fields),
+        Some(PairWord::Altered(to)) => read_altered(to, lengths, fields),
+        Some(PairWord::Raw(to)) => read_raw(to, fields),
+        Some(PairWord::Tick(at)) => read_tick(at, fields),
+        Some(PairWord::Put(at)) => read_put(at, lengths.of(at), fields),
+        Some(PairWord::Hold(at)) => read_hold(at, fields),
+        Some(PairWord::Nonce(at)) => read_nonce(at, profile_of(profiles, at), fields),
+        Some(PairWord::Local(at)) => read_local(at, fields),
+        Some(PairWord::End) => read_end(fields),
+        None => Err(LineCause::Word),
+    }
+}
