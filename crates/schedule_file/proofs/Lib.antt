@@ -6,3 +6,4 @@ pub mod Ranges
 pub mod Split
 pub mod Space
 pub mod HexDigits
+pub mod ReadBack

@@ -1,5 +1,6 @@
 pub mod Event
 pub mod EventLine
+pub mod EventText
 pub mod Field
 pub mod Fields
 pub mod Header

@@ -4,12 +4,15 @@
 
 pub mod event;
 mod event_line;
+pub mod event_text;
 mod field;
 pub mod header;
 pub mod header_kind;
 mod header_line;
 mod header_part;
 mod hex_digits;
+pub mod laws;
+pub mod line_buf;
 pub mod line_cause;
 pub mod node_event;
 pub mod pair_event;
@@ -18,8 +21,10 @@ mod place;
 mod tests;
 
 pub use event::{Event, ScheduleLine};
+pub use event_text::write_event;
 pub use header::Header;
 pub use header_kind::HeaderKind;
+pub use line_buf::LineBuf;
 pub use line_cause::LineCause;
 pub use node_event::read_node_event;
 pub use pair_event::read_event;

@@ -1,0 +1,218 @@
+-- The line of an event is read as that event.
+use Rattle.std.proofs.Common.{◌≡◌, ℕ, ◌<◌, ◌≤◌, ◌^◌, Bool, true, false, List, [], ◌∷◌, ◌++◌, length, get_or, All, inl, inr, refl, sym, ap, ◌∙◌, arith, lit<}
+use Rattle.std.specs.Prelude.{◌⊎◌, ◌==◌, nat_lt, codes, decimal, Option, Some, None, Result, Ok, Err, if◌then◌else◌}
+use Rattle.std.specs.Char.{is_ascii_digit}
+use Rattle.std.specs.List.{join_with_byte, AllPass}
+use Rattle.std.specs.Str.{all_ascii_digits}
+use Rattle.std.specs.Str.Parse.{digits_value}
+use Rattle.std.proofs.lemmas.Bool.{and_parts, eqb-true, false≢true, cases_lt}
+use Rattle.std.proofs.lemmas.Bool.Decides.{nat_tests}
+use Rattle.std.proofs.lemmas.Fmt.{decimal_nonempty, decimal_digit, first_decimal, digits_decimal, digits_value-decimal}
+use Rattle.std.proofs.lemmas.List.Elements.{All-cons, All-nil}
+use Rattle.std.proofs.lemmas.List.Splits.{slice_split_at, slice_split_none}
+use Rattle.std.proofs.lemmas.Str.Parse.{numerals_by_value, tells_all_ascii_digits}
+use Rattle.hex.specs.Hex.{IsBytes, decode_of, encode_lower, is_hex_digit}
+use Rattle.hex.proofs.HexLemmas.{decode_of-encode_lower, decode_of-ok}
+use Rattle.fsoe_base.specs.LengthsOf.{length_of}
+use Rattle.fsoe_base.specs.declared.command.End.{End}
+use Rattle.fsoe_base.specs.declared.command.End.TheVariants as side
+use Rattle.fsoe_base.specs.declared.lengths.Lengths.{Lengths}
+use Rattle.param_load.specs.Profile.{allows_id}
+use Rattle.param_load.specs.declared.profile.Profile.{Profile}
+use Rattle.param_load.specs.declared.profile.Profiles.{Profiles}
+use Rattle.schedule_file.specs.Event.{Fits, profile_of}
+use Rattle.schedule_file.specs.EventLine.{switch_of, reference_of, delivered_len, deliver_line, altered_line, raw_line, put_line, hold_line, nonce_line}
+use Rattle.schedule_file.specs.EventText.{IsOfTypes, end_letter, event_fields, event_text, reference_text, switch_text}
+use Rattle.schedule_file.specs.Field.{is_space, fields_of, number_of, bytes_of, some_bytes}
+use Rattle.schedule_file.specs.PairEvent.{pair_line, pair_said_by}
+use Rattle.schedule_file.specs.declared.event.Event.{Event}
+use Rattle.schedule_file.specs.declared.event.Event.TheVariants as event
+use Rattle.schedule_file.specs.declared.event.ScheduleLine.TheVariants as line
+
+-- no space stands in a text
+abbrev HasNoSpace : List ℕ → Type 0
+HasNoSpace text = All (λ b. is_space b ≡ false) text
+
+spaceless-none : HasNoSpace []
+spaceless-none = All-nil (λ b. is_space b ≡ false)
+
+spaceless-more : (c : ℕ) (text : List ℕ) → is_space c ≡ false → HasNoSpace text → HasNoSpace (c ∷ text)
+spaceless-more c text e none = All-cons (λ b. is_space b ≡ false) c text e none
+
+abbrev HaveNoSpaces : List (List ℕ) → Type 0
+HaveNoSpaces [] = Unit {0}
+HaveNoSpaces (field ∷ fields) = HasNoSpace field × HaveNoSpaces fields
+
+-- fields that are joined by spaces are cut there again
+fields_joined : (first : List ℕ) (fields : List (List ℕ)) → HaveNoSpaces (first ∷ fields) → fields_of (join_with_byte 32 (first ∷ fields)) ≡ first ∷ fields
+fields_joined first [] none = slice_split_none is_space first none.0
+fields_joined first (next ∷ fields) none =
+    slice_split_at is_space first 32 (join_with_byte 32 (next ∷ fields)) none.0 refl ∙ ap (λ (z : List (List ℕ)). first ∷ z) (fields_joined next fields none.1)
+
+two_letters : (x y : ℕ) → is_space x ≡ false → is_space y ≡ false → HasNoSpace (x ∷ y ∷ [])
+two_letters x y e f = spaceless-more x (y ∷ []) e (spaceless-more y [] f spaceless-none)
+
+-- a decimal number is read as its value
+number_of-numeral : (most n : ℕ) (text : List ℕ) → 0 < length text → all_ascii_digits text ≡ true → (length text ≡ 1) ⊎ (48 < get_or text 0 0)
+    → digits_value 10 text ≡ n → n ≤ most → number_of most text ≡ Some n
+number_of-numeral most n text some digits (inl one) value le = grind (arith, nat_tests)
+number_of-numeral most n text some digits (inr first) value le = grind (arith, nat_tests)
+
+begins : (n : ℕ) → n < 2 ^ 64 → (length (decimal n) ≡ 1) ⊎ (48 < get_or (decimal n) 0 0)
+begins n lt = elim (cases_lt 0 n) [
+  | inl positive ↦ inr (first_decimal n positive lt)
+  | inr none ↦ inl (ap length (decimal_digit n (omega arith)))
+]
+
+digits-decimal : (n : ℕ) → n < 2 ^ 64 → all_ascii_digits (decimal n) ≡ true
+digits-decimal n lt = digits_decimal (numerals_by_value _ tells_all_ascii_digits) n lt
+
+number_of-decimal : (most n : ℕ) → n < 2 ^ 64 → n ≤ most → number_of most (decimal n) ≡ Some n
+number_of-decimal most n lt le =
+    number_of-numeral most n (decimal n) (decimal_nonempty n lt) (digits-decimal n lt) (begins n lt) (digits_value-decimal (numerals_by_value _ tells_all_ascii_digits) n lt) le
+
+no_space-digit : (c : ℕ) → is_ascii_digit c ≡ true → is_space c ≡ false
+no_space-digit c h = grind (arith, nat_tests)
+
+no_space-digits : (text : List ℕ) → all_ascii_digits text ≡ true → HasNoSpace text
+no_space-digits [] h = All-nil _
+no_space-digits (c ∷ text) h =
+    let parts = and_parts (is_ascii_digit c) (all_ascii_digits text) h in
+    spaceless-more c text (no_space-digit c parts.0) (no_space-digits text parts.1)
+
+no_space-decimal : (n : ℕ) → n < 2 ^ 64 → HasNoSpace (decimal n)
+no_space-decimal n lt = no_space-digits (decimal n) (digits-decimal n lt)
+
+-- hexadecimal digits are read as the bytes that they were made of
+no_space-hex_at : (c : ℕ) (b : Bool) → is_space c ≡ b → is_hex_digit c ≡ true → b ≡ false
+no_space-hex_at c false e h = refl
+no_space-hex_at c true e h = absurd (false≢true (sym (ap is_hex_digit (eqb-true c 32 e)) ∙ h))
+
+no_space-hex : (bytes : List ℕ) → IsBytes bytes → HasNoSpace (encode_lower bytes)
+no_space-hex bytes are =
+    λ k d lt. no_space-hex_at (get_or (encode_lower bytes) k d) _ refl ((decode_of-ok (encode_lower bytes) bytes (decode_of-encode_lower bytes are)).1 k d lt)
+
+some_bytes-within : (most : ℕ) (bytes : List ℕ) → 0 < length bytes → length bytes ≤ most → some_bytes most (Ok bytes) ≡ Some bytes
+some_bytes-within most bytes some le = grind (arith, nat_tests)
+
+bytes_of-hex : (most : ℕ) (bytes : List ℕ) → IsBytes bytes → 0 < length bytes → length bytes ≤ most → bytes_of most (encode_lower bytes) ≡ Some bytes
+bytes_of-hex most bytes are some le = ap (some_bytes most) (decode_of-encode_lower bytes are) ∙ some_bytes-within most bytes some le
+
+one_byte : (mask : ℕ) → mask < 256 → IsBytes (mask ∷ [])
+one_byte mask lt = λ i. grind (arith, nat_tests)
+
+-- a reference is read as its number
+reference_of-number : (back : ℕ) (digits : List ℕ) → number_of 64 digits ≡ Some back → 0 < back → reference_of (45 ∷ digits) ≡ Some back
+reference_of-number back digits e some = rw e (grind (arith, nat_tests))
+
+reference_of-text : (back : ℕ) → 0 < back → back ≤ 64 → reference_of (reference_text back) ≡ Some back
+reference_of-text back some le = reference_of-number back (decimal back) (number_of-decimal 64 back (omega arith) le) some
+
+no_space-reference : (back : ℕ) → back ≤ 64 → HasNoSpace (reference_text back)
+no_space-reference back le = spaceless-more 45 (decimal back) refl (no_space-decimal back (omega arith))
+
+switch_of-text : (on : Bool) → switch_of (switch_text on) ≡ Some on
+switch_of-text true = refl
+switch_of-text false = refl
+
+no_space-switch : (on : Bool) → HasNoSpace (switch_text on)
+no_space-switch true = spaceless-more 49 [] refl spaceless-none
+no_space-switch false = spaceless-more 48 [] refl spaceless-none
+
+-- what the fields after the word say
+deliver_read : (to : End) (back : ℕ) (reference : List ℕ) → reference_of reference ≡ Some back → deliver_line to (reference ∷ []) ≡ Ok (line.Step (event.Deliver to back))
+deliver_read to back reference e = rw e refl
+
+altered_read : (lengths : Lengths) (to : End) (back pos mask : ℕ) (reference place digits : List ℕ)
+    → number_of 65535 place ≡ Some pos → reference_of reference ≡ Some back → bytes_of 1 digits ≡ Some (mask ∷ []) → pos < delivered_len lengths to
+    → altered_line to lengths (reference ∷ place ∷ digits ∷ []) ≡ Ok (line.Step (event.Altered to back pos mask))
+altered_read lengths to back pos mask reference place digits e f g lt = rw (e, f, g) (grind (arith, nat_tests))
+
+raw_read : (to : End) (frame field : List ℕ) → bytes_of 255 field ≡ Some frame → raw_line to (field ∷ []) ≡ Ok (line.Step (event.Raw to frame))
+raw_read to frame field e = rw e refl
+
+put_read : (at : End) (count : ℕ) (load field : List ℕ) → bytes_of 126 field ≡ Some load → length load ≡ count → put_line at count (field ∷ []) ≡ Ok (line.Step (event.Put at load))
+put_read at count load field e right = rw e (grind (arith, nat_tests))
+
+hold_read : (at : End) (on : Bool) (field : List ℕ) → switch_of field ≡ Some on → hold_line at (field ∷ []) ≡ Ok (line.Step (event.Hold at on))
+hold_read at on field e = rw e refl
+
+nonce_read : (at : End) (profile : Profile) (id : ℕ) (field : List ℕ) → number_of 4294967295 field ≡ Some id → allows_id profile id ≡ true → nonce_line at profile (field ∷ []) ≡ Ok (line.Step (event.Nonce at id))
+nonce_read at profile id field e allowed = rw (e, allowed) refl
+
+-- a line whose fields have no spaces says what its fields say
+said_of_fields : (lengths : Lengths) (profiles : Profiles) (first : List ℕ) (fields : List (List ℕ)) → HaveNoSpaces (first ∷ fields)
+    → pair_line lengths profiles (join_with_byte 32 (first ∷ fields)) ≡ pair_said_by lengths profiles (first ∷ fields)
+said_of_fields lengths profiles first fields none = ap (pair_said_by lengths profiles) (fields_joined first fields none)
+
+word_spaceless : (first : ℕ) (end : End) → is_space first ≡ false → HasNoSpace (first ∷ end_letter end)
+word_spaceless first side.Master e = two_letters first 109 e refl
+word_spaceless first side.Slave e = two_letters first 115 e refl
+
+-- what is said with each word
+said_deliver : (lengths : Lengths) (profiles : Profiles) (to : End) (fields : List (List ℕ)) → pair_said_by lengths profiles ((100 ∷ end_letter to) ∷ fields) ≡ deliver_line to fields
+said_deliver lengths profiles side.Master fields = refl
+said_deliver lengths profiles side.Slave fields = refl
+
+said_altered : (lengths : Lengths) (profiles : Profiles) (to : End) (fields : List (List ℕ)) → pair_said_by lengths profiles ((97 ∷ end_letter to) ∷ fields) ≡ altered_line to lengths fields
+said_altered lengths profiles side.Master fields = refl
+said_altered lengths profiles side.Slave fields = refl
+
+said_raw : (lengths : Lengths) (profiles : Profiles) (to : End) (fields : List (List ℕ)) → pair_said_by lengths profiles ((114 ∷ end_letter to) ∷ fields) ≡ raw_line to fields
+said_raw lengths profiles side.Master fields = refl
+said_raw lengths profiles side.Slave fields = refl
+
+said_put : (lengths : Lengths) (profiles : Profiles) (at : End) (fields : List (List ℕ)) → pair_said_by lengths profiles ((112 ∷ end_letter at) ∷ fields) ≡ put_line at (length_of lengths at) fields
+said_put lengths profiles side.Master fields = refl
+said_put lengths profiles side.Slave fields = refl
+
+said_hold : (lengths : Lengths) (profiles : Profiles) (at : End) (fields : List (List ℕ)) → pair_said_by lengths profiles ((104 ∷ end_letter at) ∷ fields) ≡ hold_line at fields
+said_hold lengths profiles side.Master fields = refl
+said_hold lengths profiles side.Slave fields = refl
+
+said_nonce : (lengths : Lengths) (profiles : Profiles) (at : End) (fields : List (List ℕ)) → pair_said_by lengths profiles ((110 ∷ end_letter at) ∷ fields) ≡ nonce_line at (profile_of profiles at) fields
+said_nonce lengths profiles side.Master fields = refl
+said_nonce lengths profiles side.Slave fields = refl
+
+said_tick : (lengths : Lengths) (profiles : Profiles) (at : End) → pair_said_by lengths profiles ((116 ∷ end_letter at) ∷ []) ≡ Ok (line.Step (event.Tick at))
+said_tick lengths profiles side.Master = refl
+said_tick lengths profiles side.Slave = refl
+
+said_local : (lengths : Lengths) (profiles : Profiles) (at : End) → pair_said_by lengths profiles ((122 ∷ end_letter at) ∷ []) ≡ Ok (line.Step (event.Local at))
+said_local lengths profiles side.Master = refl
+said_local lengths profiles side.Slave = refl
+
+pub read_back : (lengths : Lengths) (profiles : Profiles) (event : Event) → IsOfTypes event → Fits lengths profiles event → pair_line lengths profiles (event_text event) ≡ Ok (line.Step event)
+read_back lengths profiles (event.Deliver to back) typed fits =
+    said_of_fields lengths profiles (100 ∷ end_letter to) (reference_text back ∷ []) (word_spaceless 100 to refl, (no_space-reference back fits.0.1, tt))
+    ∙ said_deliver lengths profiles to (reference_text back ∷ [])
+    ∙ deliver_read to back (reference_text back) (reference_of-text back fits.0.0 fits.0.1)
+read_back lengths profiles (event.Altered to back pos mask) typed fits =
+    let place : List ℕ = decimal pos in
+    let digits : List ℕ = encode_lower (mask ∷ []) in
+    let is_byte = one_byte mask typed.2 in
+    said_of_fields lengths profiles (97 ∷ end_letter to) (reference_text back ∷ place ∷ digits ∷ [])
+    (word_spaceless 97 to refl, (no_space-reference back fits.0.1, (no_space-decimal pos (omega (arith, typed.1)), (no_space-hex (mask ∷ []) is_byte, tt))))
+    ∙ said_altered lengths profiles to (reference_text back ∷ place ∷ digits ∷ [])
+    ∙ altered_read lengths to back pos mask (reference_text back) place digits (number_of-decimal 65535 pos (omega (arith, typed.1)) (omega (arith, typed.1)))
+    (reference_of-text back fits.0.0 fits.0.1) (bytes_of-hex 1 (mask ∷ []) is_byte (omega arith) (omega arith)) fits.1
+read_back lengths profiles (event.Raw to frame) typed fits =
+    said_of_fields lengths profiles (114 ∷ end_letter to) (encode_lower frame ∷ []) (word_spaceless 114 to refl, (no_space-hex frame typed, tt))
+    ∙ said_raw lengths profiles to (encode_lower frame ∷ [])
+    ∙ raw_read to frame (encode_lower frame) (bytes_of-hex 255 frame typed fits.0.0 fits.0.1)
+read_back lengths profiles (event.Tick at) typed fits =
+    said_of_fields lengths profiles (116 ∷ end_letter at) [] (word_spaceless 116 at refl, tt) ∙ said_tick lengths profiles at
+read_back lengths profiles (event.Put at load) typed fits =
+    said_of_fields lengths profiles (112 ∷ end_letter at) (encode_lower load ∷ []) (word_spaceless 112 at refl, (no_space-hex load typed, tt))
+    ∙ said_put lengths profiles at (encode_lower load ∷ [])
+    ∙ put_read at (length_of lengths at) load (encode_lower load) (bytes_of-hex 126 load typed fits.0.0 fits.0.1) fits.1
+read_back lengths profiles (event.Hold at failsafe) typed fits =
+    said_of_fields lengths profiles (104 ∷ end_letter at) (switch_text failsafe ∷ []) (word_spaceless 104 at refl, (no_space-switch failsafe, tt))
+    ∙ said_hold lengths profiles at (switch_text failsafe ∷ [])
+    ∙ hold_read at failsafe (switch_text failsafe) (switch_of-text failsafe)
+read_back lengths profiles (event.Nonce at id) typed fits =
+    said_of_fields lengths profiles (110 ∷ end_letter at) (decimal id ∷ []) (word_spaceless 110 at refl, (no_space-decimal id (omega (arith, typed)), tt))
+    ∙ said_nonce lengths profiles at (decimal id ∷ [])
+    ∙ nonce_read at (profile_of profiles at) id (decimal id) (number_of-decimal 4294967295 id (omega (arith, typed)) (omega (arith, typed))) fits.1
+read_back lengths profiles (event.Local at) typed fits =
+    said_of_fields lengths profiles (122 ∷ end_letter at) [] (word_spaceless 122 at refl, tt) ∙ said_local lengths profiles at
