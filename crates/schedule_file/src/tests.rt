@@ -1,6 +1,9 @@
-use crate::{Event, Header, HeaderKind, LineCause, ScheduleLine, read_node_event};
+use crate::{
+    Event, Header, HeaderKind, LineBuf, LineCause, ScheduleLine, read_event, read_node_event,
+    write_event,
+};
 use fsoe_base::{End, Lengths};
-use param_load::Profile;
+use param_load::{Profile, Profiles};
 use std::test::Fail;
 
 /// Why a line is refused by a slave whose data has one byte, and its master's two.
@@ -72,6 +75,98 @@ fn reads_bytes_of_events(rt: HostRuntime) -> Result<(), Fail> {
         assert_eq!(rt; found, cause);
         assert_eq!(rt; bytes, len);
         assert_eq!(rt; last, if len > 0 { Some(10) } else { None });
+    }
+    Ok(())
+}
+
+/// The profiles of a master in One and its slave in Two.
+const PROFILES: Profiles = Profiles {
+    master: Profile::One,
+    slave: Profile::Two(7),
+};
+
+/// Why a line is refused by a master whose data has two bytes, and its slave's one.
+fn pair_cause(line: &str) -> Option<LineCause> {
+    let lengths = Lengths::new(2, 1).ok()?;
+    read_event(line.as_bytes(), &lengths, &PROFILES).err()
+}
+
+#[test]
+fn refuses_lines_of_pairs(rt: HostRuntime) -> Result<(), Fail> {
+    for (line, cause) in [
+        ("", Some(LineCause::Word)),
+        ("t", Some(LineCause::Word)),
+        ("tx", Some(LineCause::Word)),
+        ("d -1", Some(LineCause::Word)),
+        ("tm ", Some(LineCause::Fields)),
+        ("end x", Some(LineCause::Fields)),
+        ("am -1 5", Some(LineCause::Fields)),
+        ("am -1 5 01 0", Some(LineCause::Fields)),
+        ("am -99 65536 zz", Some(LineCause::Number)),
+        ("am -1 05 01", Some(LineCause::Number)),
+        ("nm ", Some(LineCause::Number)),
+        ("nm 65536", Some(LineCause::Number)),
+        ("ns 4294967296", Some(LineCause::Number)),
+        ("hs 2", Some(LineCause::Number)),
+        ("am -99 9 zz", Some(LineCause::Reference)),
+        ("dm 1", Some(LineCause::Reference)),
+        ("dm -0", Some(LineCause::Reference)),
+        ("dm -01", Some(LineCause::Reference)),
+        ("ds -65", Some(LineCause::Reference)),
+        ("am -1 9 zz", Some(LineCause::Hex)),
+        ("am -1 5 0", Some(LineCause::Hex)),
+        ("am -1 5 0102", Some(LineCause::Hex)),
+        ("pm ", Some(LineCause::Hex)),
+        ("pm 01", Some(LineCause::Length)),
+        ("ps 0102", Some(LineCause::Length)),
+        ("am -1 9 01", Some(LineCause::Position)),
+        ("am -1 6 01", Some(LineCause::Position)),
+        ("as -1 7 01", Some(LineCause::Position)),
+        ("am -1 5 00", None),
+        ("as -64 6 fF", None),
+        ("pm 0102", None),
+        ("ns 4294967295", None),
+        ("end", None),
+    ] {
+        assert_eq!(rt; pair_cause(line), cause, "{line}");
+    }
+    Ok(())
+}
+
+/// The line that is written of the event of a line, between a master of six bytes and a slave of one.
+fn rewritten(line: &str, out: &mut LineBuf) -> Result<(), Fail> {
+    let lengths = Lengths::new(6, 1)?;
+    match read_event(line.as_bytes(), &lengths, &PROFILES)? {
+        ScheduleLine::Step(event) => write_event(&event, out),
+        ScheduleLine::End => out.clear(),
+    }
+    Ok(())
+}
+
+#[test]
+fn writes_events(rt: HostRuntime) -> Result<(), Fail> {
+    let mut out = LineBuf::new();
+    let event = Event::Altered {
+        to: End::Slave,
+        back: 1,
+        pos: 13,
+        mask: 1,
+    };
+    write_event(&event, &mut out);
+    assert_eq!(rt; out.bytes(), b"as -1 13 01".as_slice());
+    for line in [
+        "as -1 13 01",
+        "dm -64",
+        "rs 00ff",
+        "tm",
+        "pm 0102030405a6",
+        "hs 0",
+        "hm 1",
+        "nm 65535",
+        "zs",
+    ] {
+        rewritten(line, &mut out)?;
+        assert_eq!(rt; out.bytes(), line.as_bytes(), "{line}");
     }
     Ok(())
 }
