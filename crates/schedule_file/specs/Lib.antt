@@ -7,6 +7,7 @@ pub mod Header
 pub mod HeaderKind
 pub mod HeaderLine
 pub mod HeaderPart
+pub mod Input
 pub mod LineCause
 pub mod LinesLeft
 pub mod NodeEvent

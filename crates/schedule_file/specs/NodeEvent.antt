@@ -2,8 +2,6 @@
 use Rattle.std.specs.Prelude.{List, [], ◌∷◌, ℕ, codes, Option, Some, None, Result, Err, if◌then◌else◌}
 use Rattle.std.specs.Str.{bytes_eq}
 use Rattle.fsoe_base.specs.declared.command.End.{End}
-use Rattle.fsoe_base.specs.declared.lengths.Lengths.{Lengths}
-use Rattle.fsoe_base.specs.LengthsOf.{length_of}
 use Rattle.param_load.specs.declared.profile.Profile.{Profile}
 use Rattle.schedule_file.specs.EventLine.{tick_line, raw_line, put_line, hold_line, nonce_line, local_line, end_line}
 use Rattle.schedule_file.specs.Field.{fields_of}
@@ -26,21 +24,21 @@ word_of text =
     else None
 
 -- what a word says with its fields
-abbrev pub said : End → Lengths → Profile → Option Word → List (List ℕ) → Result ScheduleLine LineCause
-said end lengths profile None fields = Err cause.Word
-said end lengths profile (Some word.Tick) fields = tick_line end fields
-said end lengths profile (Some word.Deliver) fields = raw_line end fields
-said end lengths profile (Some word.Put) fields = put_line end (length_of lengths end) fields
-said end lengths profile (Some word.Hold) fields = hold_line end fields
-said end lengths profile (Some word.Nonce) fields = nonce_line end profile fields
-said end lengths profile (Some word.Local) fields = local_line end fields
-said end lengths profile (Some word.End) fields = end_line fields
+abbrev pub said : End → ℕ → Profile → Option Word → List (List ℕ) → Result ScheduleLine LineCause
+said end count profile None fields = Err cause.Word
+said end count profile (Some word.Tick) fields = tick_line end fields
+said end count profile (Some word.Deliver) fields = raw_line end fields
+said end count profile (Some word.Put) fields = put_line end count fields
+said end count profile (Some word.Hold) fields = hold_line end fields
+said end count profile (Some word.Nonce) fields = nonce_line end profile fields
+said end count profile (Some word.Local) fields = local_line end fields
+said end count profile (Some word.End) fields = end_line fields
 
 -- what the fields of a line say, of which the first is its word
-abbrev pub said_by : End → Lengths → Profile → List (List ℕ) → Result ScheduleLine LineCause
-said_by end lengths profile [] = Err cause.Word
-said_by end lengths profile (first ∷ fields) = said end lengths profile (word_of first) fields
+abbrev pub said_by : End → ℕ → Profile → List (List ℕ) → Result ScheduleLine LineCause
+said_by end count profile [] = Err cause.Word
+said_by end count profile (first ∷ fields) = said end count profile (word_of first) fields
 
--- what a line says to the node at this end
-abbrev pub node_line : End → Lengths → Profile → List ℕ → Result ScheduleLine LineCause
-node_line end lengths profile text = said_by end lengths profile (fields_of text)
+-- what a line says to the node at this end, which sends so many safe data bytes
+abbrev pub node_line : End → ℕ → Profile → List ℕ → Result ScheduleLine LineCause
+node_line end count profile text = said_by end count profile (fields_of text)

@@ -1,4 +1,5 @@
 ghost use Rattle.std.specs.Prelude.{◌≡◌, IfOk};
+ghost use Rattle.fsoe_base.specs.LengthsOf.{length_of};
 ghost use Rattle.schedule_file.specs.Event.{LineFits};
 ghost use Rattle.schedule_file.specs.NodeEvent.{word_of, node_line};
 
@@ -57,7 +58,7 @@ pub fn read_node_event(
     lengths: &Lengths,
     profile: Profile,
 ) -> Result<ScheduleLine, LineCause>
-    ensures value { result ≡ node_line end lengths.now profile line.now }
+    ensures value { result ≡ node_line end (length_of lengths.now end) profile line.now }
     ensures fits { IfOk result (LineFits end lengths.now profile) }
 {
     let (first, fields) = cut(line);
