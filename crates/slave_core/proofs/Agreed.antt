@@ -1,5 +1,5 @@
 -- What each event leaves at the machine is what looking back gives.
-use Rattle.std.proofs.Common.{◌≡◌, ℕ, ◌+◌, ◌==◌, ◌<◌, ◌≤◌, nat_le, List, [], ◌∷◌, length, take, drop, Bool, true, false, not, Option, Some, None, Result, Ok, Err, if◌then◌else◌, refl, sym, ap, subst, ◌∙◌, arith}
+use Rattle.std.proofs.Common.{◌≡◌, ℕ, ◌+◌, ◌<◌, ◌≤◌, List, [], ◌∷◌, length, take, Bool, true, false, not, Option, Some, Result, if◌then◌else◌, refl, sym, ap, subst, ◌∙◌, arith}
 use Rattle.std.proofs.lemmas.Bool.{leb-true, eqb-true}
 use Rattle.std.proofs.lemmas.List.{length-replicate}
 use Rattle.fsoe_base.specs.declared.command.Code.{Code}
@@ -18,14 +18,13 @@ use Rattle.param_load.specs.declared.entry.Move.TheVariants as move
 use Rattle.param_load.specs.declared.slave_settings.SlaveSettings.{SlaveSettings}
 use Rattle.param_load.specs.declared.terms.Terms.{Terms}
 use Rattle.param_load.specs.AppRule.{rule_len}
-use Rattle.param_load.specs.Payload.{number_at}
 use Rattle.param_load.specs.Profile.{id_len}
 use Rattle.param_load.specs.Upload.{is_whole, upload_fault}
 use Rattle.end_model.specs.Setup.{OfSlave}
 use Rattle.end_model.specs.Deed.{Deed}
 use Rattle.end_model.specs.Payloads.{or_else, first_some, nonce, slave_conn, terms, whole}
 use Rattle.end_model.specs.Readiness.{state_of}
-use Rattle.end_model.specs.Step.{on_verdict, did_on, deed_of, step, IsProper, IsRun}
+use Rattle.end_model.specs.Step.{on_verdict, did_on, deed_of, IsProper, IsRun}
 use Rattle.end_model.specs.Verdict as model
 use Rattle.end_model.proofs.Shown.{slave-run}
 use Rattle.end_model.proofs.SoundRuns.{loaded}
@@ -34,7 +33,7 @@ use Rattle.end_model.proofs.WholeUploads.{whole_parameters}
 use Rattle.slave_core.specs.declared.now.Now.{Now}
 use Rattle.slave_core.specs.declared.states.InReset.{InReset}
 use Rattle.slave_core.specs.declared.verdict.Verdict.{Verdict}
-use Rattle.slave_core.specs.Slave.{Outcome, settles, delivered_by}
+use Rattle.slave_core.specs.Slave.{settles, delivered_by}
 use Rattle.slave_core.specs.After.{after}
 use Rattle.slave_core.specs.States.{terms_of, data_next, data_reply}
 use Rattle.slave_core.specs.Taken.{as_data, taken, reply}
@@ -44,7 +43,7 @@ use Rattle.slave_core.proofs.SameVerdict.{came, Came, Same, Long, Again, Refuses
 use Rattle.slave_core.proofs.Agrees.{Agrees, drop-agrees, resets-agree, fault-agrees, reset_frame-agrees, put-agrees, hold-agrees, nonce-agrees, tick-agrees}
 use Rattle.slave_core.proofs.Arrived.{Arrived, arrived, keeps}
 use Rattle.slave_core.proofs.TakenSession.{opening-fresh, opening-session, session_settles, session-agrees}
-use Rattle.slave_core.proofs.TakenConnection.{Joining, connection_settles, connection-agrees}
+use Rattle.slave_core.proofs.TakenConnection.{connection_settles, connection-agrees}
 use Rattle.slave_core.proofs.TakenParameter.{Connected, parameter_settles, parameter-agrees}
 use Rattle.slave_core.proofs.TakenData.{process-agrees, failsafe-agrees}
 

@@ -1,5 +1,5 @@
 -- What an event leaves at the machine is what looking back gives: where nothing is taken.
-use Rattle.std.proofs.Common.{◌≡◌, ◌≢◌, ℕ, suc, ◌+◌, ◌<◌, ◌==◌, nat_le, List, [], ◌∷◌, length, Bool, true, false, None, Some, if◌then◌else◌, refl, sym, ap, subst, ◌∙◌, arith}
+use Rattle.std.proofs.Common.{◌≡◌, ◌≢◌, ℕ, suc, ◌+◌, ◌<◌, ◌==◌, nat_le, List, [], ◌∷◌, length, Bool, true, false, if◌then◌else◌, refl, sym, ap, subst, ◌∙◌, arith}
 use Rattle.std.proofs.lemmas.Bool.Decides.{nat_tests}
 use Rattle.fsoe_base.specs.declared.command.Code.{Code}
 use Rattle.fsoe_base.specs.declared.command.Command.TheVariants as command
@@ -21,7 +21,6 @@ use Rattle.param_load.specs.declared.profile.Profile.{Profile}
 use Rattle.param_load.specs.declared.profile.Profile.TheVariants as profile
 use Rattle.param_load.specs.declared.slave_settings.SlaveSettings.{SlaveSettings}
 use Rattle.param_load.specs.Payload.{number_at}
-use Rattle.param_load.specs.Profile.{allows_id}
 use Rattle.end_model.specs.Setup.{OfSlave}
 use Rattle.end_model.specs.Deed.{Deed}
 use Rattle.end_model.specs.Payloads.{whole}
@@ -33,7 +32,6 @@ use Rattle.slave_core.specs.Slave.{Outcome, quiet, drops, falls, refuses, reset_
 use Rattle.slave_core.specs.SlaveView.{SlaveView}
 use Rattle.slave_core.specs.ViewOf.{notes_of, kit_of, now_in, view_in, view_of}
 use Rattle.slave_core.proofs.Sound.{Sound}
-use Rattle.slave_core.proofs.SameVerdict.{came}
 
 -- bytes that are delivered are bytes
 abbrev pub AreRead : Move → Type 0

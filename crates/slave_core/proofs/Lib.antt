@@ -11,3 +11,4 @@ pub mod TakenData
 pub mod Agreed
 pub mod Law
 pub mod Transitions
+pub mod Repeats

@@ -16,19 +16,16 @@ use Rattle.seq_chain.specs.Reset.{reset_crcs, zeros_follow, reset_view}
 use Rattle.seq_chain.specs.Sealing as sealing
 use Rattle.param_load.specs.declared.slave_settings.SlaveSettings.{SlaveSettings}
 use Rattle.param_load.specs.AppRule.{rule_len}
-use Rattle.param_load.specs.Payload.{number_at}
 use Rattle.param_load.specs.Profile.{id_len}
 use Rattle.end_model.specs.Setup.{OfSlave}
 use Rattle.end_model.specs.Phases.{is_reset}
 use Rattle.end_model.specs.Deed.{Deed}
 use Rattle.end_model.specs.Chain.{since, kept, taken_link, fits}
-use Rattle.end_model.specs.Payloads.{or_else, slave_conn, uploaded, whole}
+use Rattle.end_model.specs.Payloads.{slave_conn, uploaded, whole}
 use Rattle.end_model.specs.Readiness.{state_of, slave_allows, allowed}
 use Rattle.end_model.specs.Verdict as model
-use Rattle.end_model.specs.Step.{IsRun}
 use Rattle.end_model.proofs.Links.{own_crc}
 use Rattle.end_model.proofs.SlaveShown.{parameters}
-use Rattle.slave_core.specs.declared.now.Now.{Now}
 use Rattle.slave_core.specs.declared.verdict.Verdict.{Verdict}
 use Rattle.slave_core.specs.declared.verdict.Verdict.TheVariants as verdict
 use Rattle.slave_core.specs.Now as machine

@@ -13,13 +13,13 @@ use Rattle.param_load.specs.declared.entry.Move.TheVariants as move
 use Rattle.param_load.specs.declared.slave_settings.SlaveSettings.{SlaveSettings}
 use Rattle.param_load.specs.Contents.{or_else as first_fault, fails, connection_fault, padding_fault, contents_fault}
 use Rattle.param_load.specs.Payload.{number_at, padded}
-use Rattle.param_load.specs.Upload.{advanced, outcome_by, last_piece}
+use Rattle.param_load.specs.Upload.{advanced, outcome_by}
 use Rattle.param_load.specs.UploadView.{UploadView}
 use Rattle.end_model.specs.Setup.{OfSlave, piece_len}
 use Rattle.end_model.specs.Phases.{has_command}
 use Rattle.end_model.specs.Deed.{Deed}
 use Rattle.end_model.specs.Chain.{since, seal}
-use Rattle.end_model.specs.Payloads.{or_else, first_some, slave_conn, conn_id}
+use Rattle.end_model.specs.Payloads.{first_some, slave_conn, conn_id}
 use Rattle.end_model.specs.Readiness.{state_of, slave_limit}
 use Rattle.end_model.specs.Step.{takes, on_verdict, begun}
 use Rattle.end_model.specs.Verdict.{judged_contents, contents}

@@ -1,5 +1,5 @@
 -- A Session frame that passed the tests: what the machine does is what looking back gives.
-use Rattle.std.proofs.Common.{◌≡◌, ℕ, ◌+◌, ◌*◌, ◌<◌, List, [], ◌∷◌, length, take, true, Option, Some, None, refl, sym, ap, subst, ◌∙◌, zero-mul}
+use Rattle.std.proofs.Common.{◌≡◌, ℕ, ◌*◌, ◌<◌, List, [], ◌∷◌, length, take, true, Option, Some, None, refl, sym, ap, subst, ◌∙◌, zero-mul}
 use Rattle.fsoe_base.specs.declared.command.Code.{Code}
 use Rattle.fsoe_base.specs.declared.command.Command.TheVariants as command
 use Rattle.fsoe_base.specs.declared.command.State.{State}
@@ -17,20 +17,19 @@ use Rattle.end_model.specs.Deed.{Deed}
 use Rattle.end_model.specs.Chain.{since, seal}
 use Rattle.end_model.specs.Payloads.{or_else, first_some, nonce}
 use Rattle.end_model.specs.Readiness.{state_of, slave_limit}
-use Rattle.end_model.specs.Step.{takes, on_verdict, begun, id_piece, deed_of}
+use Rattle.end_model.specs.Step.{takes, on_verdict, begun, id_piece}
 use Rattle.end_model.specs.Verdict.{judged_contents}
 use Rattle.end_model.proofs.ReadBack.{read_back}
-use Rattle.slave_core.specs.declared.now.Now.{Now}
 use Rattle.slave_core.specs.declared.now.Now.TheVariants as now
 use Rattle.slave_core.specs.Seen.{SeenView}
 use Rattle.slave_core.specs.Slave.{Outcome, settles}
-use Rattle.slave_core.specs.States.{answered, answer, session_load, session_by, session_reply_by}
+use Rattle.slave_core.specs.States.{answered, answer, session_by, session_reply_by}
 use Rattle.slave_core.specs.Taken.{as_session}
 use Rattle.slave_core.specs.ViewOf.{Notes, notes_of, kit_of, upload_of, view_in}
-use Rattle.slave_core.proofs.Sound.{OfSession, no_notes, count_of, SoundIn, Sound}
+use Rattle.slave_core.proofs.Sound.{OfSession, count_of, SoundIn, Sound}
 use Rattle.slave_core.proofs.SameVerdict.{came}
 use Rattle.slave_core.proofs.Agrees.{Agrees, same_slave, fresh_limit, fault-agrees}
-use Rattle.slave_core.proofs.Arrived.{Arrived, chain-next, piece-len, filled, piece-own, piece-peer, id-piece as the-piece, count-next, connects-none, is-there, there}
+use Rattle.slave_core.proofs.Arrived.{Arrived, chain-next, piece-len, filled, piece-own, piece-peer, id-piece as the-piece, count-next, connects-none, is-there}
 
 -- what is noted before a Session frame: the id that is sent is i, and nothing came of the later phases
 pub record Opening (ss : SlaveSettings) (count : ℕ) (n : Notes) (nonce i : ℕ) : Type 0 where
@@ -81,7 +80,7 @@ session-agrees None p ss e bytes i at s o a =
     let before : List Deed = begun (move.Deliver bytes) (takes command.Session load) ∷ e in
     let piece : List ℕ = id_piece ss before in
     let piece_is : piece ≡ piece_from (session_payload i ss.profile) (length (notes_of ss e).session) (piece_len (OfSlave ss)) =
-        the-piece ss.profile (piece_len (OfSlave ss)) (notes_of ss e).id (nonce (OfSlave ss) e) i (count_of e) (length (notes_of ss e).session) _ a.phase_is o.id_now o.count_is in
+    the-piece ss.profile (piece_len (OfSlave ss)) (notes_of ss e).id (nonce (OfSlave ss) e) i (count_of e) (length (notes_of ss e).session) _ a.phase_is o.id_now o.count_is in
     let full : length (padded piece ss.lengths.slave) ≡ ss.lengths.slave = filled _ (piece_len (OfSlave ss)) ss.lengths.slave (piece-own ss) in
     let limit_is : slave_limit ss (notes_of ss e).parameter ≡ ss.hand = ap (slave_limit ss) o.no_parameter ∙ fresh_limit ss in
     record {

@@ -15,8 +15,6 @@ use Rattle.end_model.specs.Step.{on_fault, did_on, step}
 use Rattle.slave_core.specs.declared.now.Now.{Now}
 use Rattle.slave_core.specs.declared.now.Now.TheVariants as now
 use Rattle.slave_core.specs.declared.states.InReset.{InReset}
-use Rattle.slave_core.specs.declared.verdict.Verdict.{Verdict}
-use Rattle.slave_core.specs.declared.verdict.Verdict.TheVariants as verdict
 use Rattle.slave_core.specs.After.{after}
 use Rattle.slave_core.specs.GoesOn.{Meets, GoesOn}
 use Rattle.slave_core.specs.Kit.{KitView}
@@ -26,7 +24,7 @@ use Rattle.slave_core.specs.SlaveView.{SlaveView}
 use Rattle.slave_core.specs.States as states
 use Rattle.slave_core.specs.Taken.{as_session, as_connection, as_parameter, as_data, taken, reply}
 use Rattle.slave_core.specs.Verdict.{verdict_of}
-use Rattle.slave_core.specs.ViewOf.{kit_of, view_in, view_of}
+use Rattle.slave_core.specs.ViewOf.{view_in, view_of}
 use Rattle.slave_core.specs.Views.{SessionView, ConnectionView, ParameterView, DataView}
 use Rattle.slave_core.proofs.Agrees.{Agrees}
 use Rattle.slave_core.proofs.Agreed.{agrees, run-sound}

@@ -8,7 +8,7 @@ use Rattle.param_load.specs.declared.contents.Expected.TheVariants as expected
 use Rattle.param_load.specs.declared.slave_settings.SlaveSettings.{SlaveSettings}
 use Rattle.param_load.specs.declared.terms.Terms.{Terms}
 use Rattle.param_load.specs.UploadView.{UploadView}
-use Rattle.end_model.specs.Setup.{Setup, OfSlave, piece_len}
+use Rattle.end_model.specs.Setup.{OfSlave, piece_len}
 use Rattle.end_model.specs.Deed.{Deed}
 use Rattle.end_model.specs.Chain.{since, kept, own_link, taken_link}
 use Rattle.end_model.specs.Payloads.{or_else, nonce, id_sent, slave_conn, uploaded, terms}

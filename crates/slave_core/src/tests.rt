@@ -162,16 +162,17 @@ fn a_frame_that_fails_a_test_ends_the_session_with_its_code(rt: HostRuntime) -> 
             [0x2A, 0x04, 0x00, 0xA6, 0x34, 0x00, 0x00],
         ),
     ] {
+        let frame = last.as_slice();
         let mut slave = slave(address, most, n)?;
         let mut out = FrameBuf::new();
         begin(&mut slave, count);
-        let did = slave.deliver(&last, &mut out);
+        let did = slave.deliver(frame, &mut out);
         assert_eq!(rt; did.reset, Some(Cause::Found(Code(code))), "after {last:?}");
         assert_eq!(rt; did.passed, code >= 0x06, "after {last:?}");
         assert_eq!(rt; out.bytes(), sent.as_slice());
         assert_eq!(rt; slave.state(), State::Reset);
         assert_eq!(rt; slave.outputs(), [0, 0].as_slice());
-        let did = slave.deliver(&last, &mut out);
+        let did = slave.deliver(frame, &mut out);
         assert!(rt; did.dropped == Some(Dropped::InReset) || last[0] == 0x4E);
     }
     Ok(())
