@@ -1,4 +1,5 @@
--- The outputs of an end: as it shows them in its session, and by looking back over all of its deeds.
+-- The outputs of an end: as it shows them in its session, and by looking back over all of its deeds. That they are fail-safe
+-- once the watchdog expired is the public standard's; the value 0 of each byte, and the rest, is this profile's own.
 use Rattle.std.specs.Prelude.{ℕ, nat_lt, List, [], ◌∷◌, Bool, true, false, ◌&&◌, Option, Some, None, is_some, if◌then◌else◌, replicate}
 use Rattle.fsoe_base.specs.declared.command.Command.{Command}
 use Rattle.fsoe_base.specs.declared.command.Command.TheVariants as command

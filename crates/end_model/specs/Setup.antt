@@ -1,4 +1,4 @@
--- What one end is set to, whichever end it is.
+-- What one end is set to, whichever end it is. The settings are this profile's own.
 use Rattle.std.specs.Prelude.{ℕ, min}
 use Rattle.fsoe_base.specs.declared.command.End.{End}
 use Rattle.fsoe_base.specs.declared.command.End.TheVariants as end_name

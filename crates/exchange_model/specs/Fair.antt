@@ -1,5 +1,5 @@
 -- When a run is fair: an end takes data that its peer put into the awaited answer, under equal terms and once, and all other
--- outputs are fail-safe.
+-- outputs are fail-safe. The word is this profile's own.
 use Rattle.std.specs.Prelude.{ℕ, ◌≡◌, nat_eq, nat_lt, List, [], ◌∷◌, replicate, Bool, true, false, ◌&&◌, Option, Some, None, is_some, IsSome, if◌then◌else◌}
 use Rattle.std.specs.List.{IsDistinct}
 use Rattle.fsoe_base.specs.declared.command.End.{End}

@@ -1,4 +1,5 @@
--- Honest schedules, under which a connection of matching ends comes to state Data and stays there, and after how many exchanges.
+-- Honest schedules, under which a connection of matching ends comes to state Data and stays there, and after how many
+-- exchanges. The word is this profile's own.
 use Rattle.std.specs.Prelude.{ℕ, ◌+◌, ◌≡◌, ◌≤◌, ◌==◌, IsTrue, List, [], ◌∷◌, length, Bool, true, false, ◌&&◌, ◌||◌, not, Option, Some, None, if◌then◌else◌}
 use Rattle.std.specs.List.{list_all}
 use Rattle.fsoe_base.specs.declared.command.End.{End}

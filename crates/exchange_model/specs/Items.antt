@@ -1,6 +1,6 @@
 -- The items of a run and which item answers which. What judges a run sees numbered frames, the events of both ends, and what
 -- was told after each: of a frame's CRCs it knows whether they passed the receiver's test, and it knows nothing of sequence
--- numbers and of the phases of a handshake. Lists are newest first.
+-- numbers and of the phases of a handshake. Lists are newest first. Items are this profile's own.
 use Rattle.std.specs.Prelude.{ℕ, suc, ◌==◌, nat_eq, List, [], ◌∷◌, length, Bool, false, ◌&&◌, ◌||◌, not, Option, Some, None, if◌then◌else◌}
 use Rattle.std.specs.Cmp.Lexicographic.{pointwise}
 use Rattle.fsoe_base.specs.declared.command.End.{End}

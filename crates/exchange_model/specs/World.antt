@@ -1,5 +1,5 @@
 -- What both ends do over a schedule: the list of their entries, newest first. What an end does looks back over its own deeds,
--- and a frame that comes from its peer is found among those that the peer sent.
+-- and a frame that comes from its peer is found among those that the peer sent. Schedules are this profile's own.
 use Rattle.std.specs.Prelude.{ℕ, zero, suc, ◌≡◌, List, [], ◌∷◌, ◌++◌, slice_get, slice_set, slice_index, bit_xor, Option, Some, None, if◌then◌else◌}
 use Rattle.fsoe_base.specs.declared.command.End.{End}
 use Rattle.fsoe_base.specs.declared.command.End.TheVariants as end_name

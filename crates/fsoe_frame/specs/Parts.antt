@@ -1,4 +1,4 @@
--- What the bytes of a frame say.
+-- What the bytes of a frame say, by its layout. The order is that of the public standard.
 use Rattle.std.specs.Prelude.{ℕ, ◌+◌, ◌*◌, ◌<◌, ◌==◌, List, [], ◌∷◌, slice_index, if◌then◌else◌}
 use Rattle.fsoe_frame.specs.Layout.{layout}
 

@@ -1,4 +1,4 @@
--- Which application parameters a slave accepts.
+-- Which application parameters a slave accepts. The rules are this profile's own.
 use Rattle.std.specs.Prelude.{ℕ, ◌==◌, nat_le, nat_eq, Bool, true, ◌&&◌, List, length}
 use Rattle.std.specs.Cmp.Lexicographic.{pointwise}
 use Rattle.param_load.specs.declared.app_rule.AppRule.{AppRule}

@@ -1,4 +1,4 @@
--- How a download goes on by the answers to its pieces.
+-- How a download goes on by the answers to its pieces. It is this profile's own.
 use Rattle.std.specs.Prelude.{ℕ, ◌+◌, nat_le, nat_eq, Bool, List, length, drop, Result, Ok, Err, if◌then◌else◌}
 use Rattle.std.specs.Cmp.Lexicographic.{pointwise}
 use Rattle.fsoe_base.specs.declared.command.Code.{Code}

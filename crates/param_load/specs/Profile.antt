@@ -1,4 +1,4 @@
--- The two profiles of parameters.
+-- The two profiles of parameters. They are this project's own.
 use Rattle.std.specs.Prelude.{ℕ, nat_le, Bool, true}
 use Rattle.param_load.specs.declared.profile.Profile.{Profile}
 use Rattle.param_load.specs.declared.profile.Profile.TheVariants as profile

@@ -1,4 +1,4 @@
--- How an upload goes on by the data of a frame.
+-- How an upload goes on by the data of a frame. It is this profile's own.
 use Rattle.std.specs.Prelude.{ℕ, ◌+◌, ◌-◌, ◌*◌, nat_le, Bool, List, [], ◌++◌, length, take, drop, Option, Some, None, Result, Ok, Err, if◌then◌else◌}
 use Rattle.fsoe_base.specs.declared.command.Code.{Code}
 use Rattle.param_load.specs.declared.app_rule.AppRule.{AppRule}

@@ -1,4 +1,5 @@
--- The sequence numbers of one direction, and what is noted of its last frame.
+-- The sequence numbers of one direction, and what is noted of its last frame. Numbers, their steps and their start values are
+-- this profile's own.
 use Rattle.std.specs.Prelude.{ℕ, ◌+◌, ◌==◌, List, Bool, false, Option, Some, None, if◌then◌else◌}
 use Rattle.seq_chain.specs.declared.link.Link.{Link}
 use Rattle.seq_chain.specs.Cover.{crc_0}

@@ -1,4 +1,4 @@
--- How a frame is sealed, and which frames fit, by what one direction noted of its last frame.
+-- How a frame is sealed, and which frames fit, by what one direction noted of its last frame. It is this profile's own.
 use Rattle.std.specs.Prelude.{ℕ, List, Bool, Option, nat_eq}
 use Rattle.std.specs.Cmp.Lexicographic.{pointwise}
 use Rattle.seq_chain.specs.declared.link.Link.{Link}
