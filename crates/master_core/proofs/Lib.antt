@@ -1,2 +1,15 @@
+pub mod Agreed
+pub mod Agrees
+pub mod Arrived
+pub mod Began
+pub mod Law
 pub mod Passed
-pub mod Payloads
+pub mod Pieces
+pub mod SameVerdict
+pub mod Sound
+pub mod TakenConnection
+pub mod TakenData
+pub mod TakenParameter
+pub mod TakenSession
+pub mod Taking
+pub mod Waiting

@@ -1,6 +1,9 @@
+pub mod After
 pub mod Kit
 pub mod Master
 pub mod MasterView
 pub mod Now
 pub mod States
+pub mod ViewOf
 pub mod Views
+pub mod Waiting

@@ -4,6 +4,7 @@
 
 mod due;
 mod kit;
+pub mod laws;
 pub mod master;
 mod now;
 pub mod states;

@@ -64,18 +64,27 @@ fn ended(passed: bool, why: Cause, sent: bool) -> Did
 }
 
 impl Master {
-    ghost use Rattle.std.specs.Prelude.{◌≢◌, ◌↔◌, ◌||◌, false, IsTrue, IsSome, is_some, length, option_copied, replicate};
-    ghost use Rattle.fsoe_base.specs.declared.command.State.TheVariants as state;
+    ghost use Rattle.std.specs.Prelude.{◌||◌, false, IsTrue, is_some, length, [], option_copied};
     ghost use Rattle.param_load.specs.Profile.{allows_id};
-    ghost use Rattle.master_core.specs.Kit.{own_len, peer_len};
-    ghost use Rattle.master_core.specs.Master.{first_master, leaves, ends, refuses, on_reset_frame, settles, accepted, replies, delivered, falls, tick_of, reset_of};
+    ghost use Rattle.master_core.specs.Kit.{own_len};
+    ghost use Rattle.master_core.specs.Master.{leaves, ends, refuses, on_reset_frame, settles, accepted, replies, delivered, falls, tick_of};
     ghost use Rattle.master_core.specs.Now.{NextUnder, chain_of, state_of, is_due, taken, reply, outputs_in, terms_in};
+    ghost use Rattle.master_core.specs.ViewOf.{view_of};
     ghost use Rattle.master_core.specs.Views.{HasPassed};
+    ghost use Rattle.param_load.specs.declared.entry.Move.TheVariants as event;
+    ghost use Rattle.end_model.specs.Setup.{OfMaster};
+    ghost use Rattle.end_model.specs.Readiness as model;
+    ghost use Rattle.end_model.specs.Outputs.{out};
+    ghost use Rattle.end_model.specs.Standing.{Stands, Follows, Answers, Shows};
+    ghost use Rattle.master_core.specs.Waiting.{Accepts, Keeps, Replies};
 
     /// A master with these settings: in state Reset, with zeros to offer and to give, and not held. Its first tick
     /// reaches its limit.
+    #[tactic(auto, using(crate::proofs::Law::new_stands))]
     pub fn new(settings: MasterSettings) -> Master
-        ensures { result ≡ first_master settings }
+        ensures stands { Stands OfMaster view_of settings result [] }
+        ensures settings { result.kit.settings ≡ settings }
+        ensures rest { is_due result.state ≡ false }
     {
         let limit = settings.watchdog();
         Master {
@@ -158,12 +167,9 @@ impl Master {
         }
     }
 
-    /// Accepts a frame of the slave, of any number of bytes, while no frame is due. A frame of another length, or
-    /// that repeats the frame taken last, is dropped. A valid Reset frame ends the session, and begins one in state
-    /// Reset where its code is 0. A frame that fails a test ends the session with the test's code, and is dropped in
-    /// state Reset. Every other frame is taken. Where a frame was taken or the session ended, a frame is due then.
+    /// Tests a frame and takes it, or drops it, or leaves the session.
     #[inline(never)]
-    pub fn accept(&mut self, frame: &[u8]) -> Did
+    fn receive(&mut self, frame: &[u8]) -> Did
         requires { is_due self.old.state ≡ false }
         ensures master { self.new ≡ (accepted self.old frame.now).master }
         ensures did { result ≡ (accepted self.old frame.now).did }
@@ -183,6 +189,21 @@ impl Master {
         }
     }
 
+    /// Accepts a frame of the slave, of any number of bytes, while no frame is due. A frame of another length, or
+    /// that repeats the frame taken last, is dropped. A valid Reset frame ends the session, and begins one in state
+    /// Reset where its code is 0. A frame that fails a test ends the session with the test's code, and is dropped in
+    /// state Reset. Every other frame is taken. Where a frame was taken or the session ended, a frame is due then.
+    #[tactic(auto, using(crate::proofs::Waiting::due_told))]
+    pub fn accept(&mut self, frame: &[u8]) -> Did
+        requires { is_due self.old.state ≡ false }
+        ensures accepts { Accepts self.old frame.now result self.new }
+        ensures due { is_due self.new.state ≡ (is_some result.took || is_some result.reset) }
+        ensures kit { self.new.kit ≡ self.old.kit }
+        ensures unsent { result.sent ≡ false }
+    {
+        self.receive(frame)
+    }
+
     /// Whether a frame is due: a frame was taken or a session ended, and nothing was sent since.
     pub fn due(&self) -> bool
         ensures { result ≡ is_due self.now.state }
@@ -190,10 +211,8 @@ impl Master {
         self.state.is_due()
     }
 
-    /// Writes the frame that is due to `out`, in place of what it held. It has the offer of this moment, and a first
-    /// Session frame the nonce of this moment.
-    pub fn reply(&mut self, out: &mut FrameBuf)
-        requires { IsTrue (is_due self.old.state) }
+    /// Sends the frame that is due, if one is.
+    fn send(&mut self, out: &mut FrameBuf)
         ensures master { self.new ≡ replies self.old }
         ensures sent { out.new ≡ reply self.old.kit self.old.state }
         ensures kit { self.new.kit ≡ self.old.kit }
@@ -203,9 +222,20 @@ impl Master {
         self.state = old.reply(&self.kit, out);
     }
 
-    /// Accepts a frame while none is due, and writes the frame that is due then to `out`, in place of what it held;
-    /// `out` is empty where nothing is sent.
-    pub fn deliver(&mut self, frame: &[u8], out: &mut FrameBuf) -> Did
+    /// Writes the frame that is due to `out`, in place of what it held. It has the offer of this moment, and a first
+    /// Session frame the nonce of this moment.
+    #[tactic(auto, using(crate::proofs::Waiting::replies_by))]
+    pub fn reply(&mut self, out: &mut FrameBuf)
+        requires { IsTrue (is_due self.old.state) }
+        ensures replies { Replies self.old self.new out.new }
+        ensures kit { self.new.kit ≡ self.old.kit }
+        ensures done { is_due self.new.state ≡ false }
+    {
+        self.send(out);
+    }
+
+    /// Tests a frame, and sends the frame that is due then.
+    fn exchange(&mut self, frame: &[u8], out: &mut FrameBuf) -> Did
         requires { is_due self.old.state ≡ false }
         ensures master { self.new ≡ (delivered self.old frame.now).master }
         ensures did { result ≡ (delivered self.old frame.now).did }
@@ -214,12 +244,24 @@ impl Master {
         ensures done { is_due self.new.state ≡ false }
     {
         out.clear();
-        let mut did = self.accept(frame);
+        let mut did = self.receive(frame);
         if self.due() {
-            self.reply(out);
+            self.send(out);
             did.sent = true;
         }
         did
+    }
+
+    /// Accepts a frame while none is due, and writes the frame that is due then to `out`, in place of what it held;
+    /// `out` is empty where nothing is sent.
+    pub fn deliver(&mut self, frame: &[u8], out: &mut FrameBuf) -> Did
+        requires { is_due self.old.state ≡ false }
+        ensures follows { Follows OfMaster view_of self.old (event.Deliver frame.now) self.new }
+        ensures answers { Answers OfMaster view_of self.old (event.Deliver frame.now) result out.new }
+        ensures kit { self.new.kit ≡ self.old.kit }
+        ensures done { is_due self.new.state ≡ false }
+    {
+        self.exchange(frame, out)
     }
 
     /// Forgets the session, and sends the Reset frame with this code.
@@ -237,10 +279,8 @@ impl Master {
         ended(false, why, true)
     }
 
-    /// Counts a tick while no frame is due. Where the age reaches the watchdog the session ends with code 5: the
-    /// outputs are zeros from this tick on, and the Reset frame is written to `out`. In state Reset the Reset frame
-    /// with code 0 is written again.
-    pub fn tick(&mut self, out: &mut FrameBuf) -> Did
+    /// Counts a tick.
+    fn count(&mut self, out: &mut FrameBuf) -> Did
         requires { is_due self.old.state ≡ false }
         ensures master { self.new ≡ (tick_of self.old).master }
         ensures did { result ≡ (tick_of self.old).did }
@@ -262,14 +302,26 @@ impl Master {
         self.fall(Cause::Found(Code(0x05)), Code(0x05), out)
     }
 
+    /// Counts a tick while no frame is due. Where the age reaches the watchdog the session ends with code 5: the
+    /// outputs are zeros from this tick on, and the Reset frame is written to `out`. In state Reset the Reset frame
+    /// with code 0 is written again.
+    #[tactic(auto, using(crate::proofs::Law::follows_by, crate::proofs::Law::answers_by))]
+    pub fn tick(&mut self, out: &mut FrameBuf) -> Did
+        requires { is_due self.old.state ≡ false }
+        ensures follows { Follows OfMaster view_of self.old event.Tick self.new }
+        ensures answers { Answers OfMaster view_of self.old event.Tick result out.new }
+        ensures kit { self.new.kit ≡ self.old.kit }
+        ensures done { is_due self.new.state ≡ false }
+    {
+        self.count(out)
+    }
+
     /// Ends the session, if there is one, while no frame is due, and writes Reset(0) to `out`.
+    #[tactic(auto, using(crate::proofs::Law::follows_by, crate::proofs::Law::answers_by))]
     pub fn reset(&mut self, out: &mut FrameBuf) -> Did
         requires { is_due self.old.state ≡ false }
-        ensures master { self.new ≡ (reset_of self.old).master }
-        ensures did { result ≡ (reset_of self.old).did }
-        ensures sent { out.new ≡ (reset_of self.old).sent }
-        ensures reset { state_of self.new.state ≡ state.Reset }
-        ensures cause { result.reset ≡ Some Cause.Local }
+        ensures follows { Follows OfMaster view_of self.old event.Local self.new }
+        ensures answers { Answers OfMaster view_of self.old event.Local result out.new }
         ensures kit { self.new.kit ≡ self.old.kit }
         ensures done { is_due self.new.state ≡ false }
     {
@@ -278,25 +330,37 @@ impl Master {
 
     /// Offers these safe data from now on, as many as the master's frames have, also in a frame that is due. The
     /// offer outlasts resets.
+    #[tactic(auto, using(crate::proofs::Law::follows_by, crate::proofs::Waiting::put_keeps))]
     pub fn put(&mut self, load: &[u8])
         requires { length load.now ≡ own_len self.old.kit.settings }
-        ensures { self.new ≡ record self.old { kit = record self.old.kit { offer = record self.old.kit.offer { load = load.now } } } }
+        ensures follows { Follows OfMaster view_of self.old (event.Put load.now) self.new }
+        ensures keeps { Keeps self.old (event.Put load.now) self.new }
+        ensures settings { self.new.kit.settings ≡ self.old.kit.settings }
+        ensures due { is_due self.new.state ≡ is_due self.old.state }
     {
         self.kit.put(load);
     }
 
     /// Whether zeros are sent in place of the offer from now on, also in a frame that is due. It outlasts resets.
+    #[tactic(auto, using(crate::proofs::Law::follows_by, crate::proofs::Waiting::hold_keeps))]
     pub fn hold(&mut self, failsafe: bool)
-        ensures { self.new ≡ record self.old { kit = record self.old.kit { offer = record self.old.kit.offer { held = failsafe } } } }
+        ensures follows { Follows OfMaster view_of self.old (event.Hold failsafe) self.new }
+        ensures keeps { Keeps self.old (event.Hold failsafe) self.new }
+        ensures settings { self.new.kit.settings ≡ self.old.kit.settings }
+        ensures due { is_due self.new.state ≡ is_due self.old.state }
     {
         self.kit.hold(failsafe);
     }
 
     /// The session id of the sessions that begin from now on, also by a frame that is due. At most 65,535 in profile
     /// One. It outlasts resets.
+    #[tactic(auto, using(crate::proofs::Law::follows_by, crate::proofs::Waiting::nonce_keeps))]
     pub fn nonce(&mut self, id: u32)
         requires { IsTrue (allows_id self.old.kit.settings.profile id) }
-        ensures { self.new ≡ record self.old { kit = record self.old.kit { nonce = id } } }
+        ensures follows { Follows OfMaster view_of self.old (event.Nonce id) self.new }
+        ensures keeps { Keeps self.old (event.Nonce id) self.new }
+        ensures settings { self.new.kit.settings ≡ self.old.kit.settings }
+        ensures due { is_due self.new.state ≡ is_due self.old.state }
     {
         self.kit.set_nonce(id);
     }
@@ -310,38 +374,46 @@ impl Master {
 
     /// The state: the phase of the frame that was sent last in this session, Reset without a session. While a frame
     /// is due it counts as sent.
+    #[tactic(auto, using(crate::proofs::Law::state_shown))]
     pub fn state(&self) -> State
-        ensures { result ≡ state_of self.now.state }
+        ensures shown { Shows OfMaster view_of self.now result model.state_of }
+        ensures after_reply { result ≡ state_of self.now.state }
     {
         self.state.state()
     }
 
     /// The outputs, as many bytes as the slave's frames have: those of the ProcessData frame that was taken last,
     /// zeros after a FailSafeData frame, and zeros in every state but Data.
+    #[tactic(auto, using(crate::proofs::Law::outputs_shown))]
     pub fn outputs(&self) -> &[u8]
-        ensures value { result.now ≡ outputs_in self.now.kit.settings self.now.state }
-        ensures failsafe { state_of self.now.state ≢ state.Data → result.now ≡ replicate (peer_len self.now.kit.settings) 0 }
+        ensures shown { Shows OfMaster view_of self.now result.now out }
+        ensures after_reply { result.now ≡ outputs_in self.now.kit.settings self.now.state }
     {
         self.state.outputs(&self.kit)
     }
 
     /// The terms of the session, exactly in state Data.
+    #[tactic(auto, using(crate::proofs::Law::terms_shown))]
     pub fn terms(&self) -> Option<&Terms>
-        ensures value { option_copied result ≡ terms_in self.now.state }
-        ensures data { IsSome result ↔ (state_of self.now.state ≡ state.Data) }
+        ensures shown { Shows OfMaster view_of self.now (option_copied result) model.told_terms }
+        ensures after_reply { option_copied result ≡ terms_in self.now.state }
     {
         self.state.terms()
     }
 
     /// The ticks since a frame was sent last; 0 while a frame is due.
+    #[tactic(auto, using(crate::proofs::Law::age_shown))]
     pub fn age(&self) -> u16
-        ensures { result ≡ self.now.timer.age }
+        ensures shown { Shows OfMaster view_of self.now result model.age }
+        ensures after_reply { result ≡ self.now.timer.age }
     {
         self.watchdog.age()
     }
 
     /// The safe data that were put last, zeros at first.
+    #[tactic(auto, using(crate::proofs::Law::offer_shown))]
     pub fn offer(&self) -> &[u8]
+        ensures shown { Shows OfMaster view_of self.now result.now model.offer }
         ensures value { result.now ≡ self.now.kit.offer.load }
         ensures len { length result.now ≡ own_len self.now.kit.settings }
     {
@@ -349,8 +421,10 @@ impl Master {
     }
 
     /// Whether zeros are sent in place of the offer.
+    #[tactic(auto, using(crate::proofs::Law::held_shown))]
     pub fn held(&self) -> bool
-        ensures { result ≡ self.now.kit.offer.held }
+        ensures shown { Shows OfMaster view_of self.now result (λ s e. model.held e) }
+        ensures value { result ≡ self.now.kit.offer.held }
     {
         self.kit.offer().held()
     }

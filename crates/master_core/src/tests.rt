@@ -114,6 +114,7 @@ fn a_reset_frame_is_taken_once(rt: HostRuntime) -> Result<(), Fail> {
     master.nonce(0x0201);
     assert!(rt; master.due());
     master.reply(&mut out);
+    assert_eq!(rt; out.len(), 7);
     assert_eq!(rt; &out.bytes()[..3], [0x4E, 0x01, 0x02].as_slice());
     let did = master.deliver(&RESET, &mut out);
     assert_eq!(rt; did.dropped, Some(Dropped::Repeat));
@@ -178,6 +179,7 @@ fn a_reply_carries_the_last_offer(rt: HostRuntime) -> Result<(), Fail> {
     master.put(&[0x05, 0x06]);
     assert!(rt; master.due());
     master.reply(&mut out);
+    assert_eq!(rt; out.len(), 7);
     assert_eq!(rt; &out.bytes()[..3], [0x36, 0x05, 0x06].as_slice());
     master.hold(true);
     let did = master.reset(&mut out);

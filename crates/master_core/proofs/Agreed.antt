@@ -1,0 +1,90 @@
+-- What each event leaves at the machine is what looking back gives.
+use Rattle.std.proofs.Common.{◌≡◌, ℕ, ◌-◌, ◌<◌, List, [], ◌∷◌, refl, sym, subst, arith}
+use Rattle.std.proofs.lemmas.List.{length-replicate}
+use Rattle.fsoe_base.specs.declared.command.Command.{Command}
+use Rattle.fsoe_base.specs.declared.command.Command.TheVariants as command
+use Rattle.fsoe_base.specs.declared.command.State.{State}
+use Rattle.fsoe_base.specs.declared.command.State.TheVariants as state
+use Rattle.fsoe_base.specs.declared.did.Cause.TheVariants as cause
+use Rattle.fsoe_base.specs.declared.did.Dropped.TheVariants as why
+use Rattle.fsoe_base.specs.Command.{code}
+use Rattle.param_load.specs.declared.entry.Move.{Move}
+use Rattle.param_load.specs.declared.entry.Move.TheVariants as move
+use Rattle.param_load.specs.declared.master_settings.MasterSettings.{MasterSettings}
+use Rattle.end_model.specs.Setup.{OfMaster}
+use Rattle.end_model.specs.Deed.{Deed}
+use Rattle.end_model.specs.Readiness.{state_of}
+use Rattle.end_model.specs.Step.{on_verdict, did_on, IsProper, IsRun}
+use Rattle.end_model.specs.Verdict as model
+use Rattle.master_core.specs.After.{after}
+use Rattle.master_core.specs.Master.{Accepted, settles, answered_by}
+use Rattle.master_core.specs.Now.{taken}
+use Rattle.master_core.specs.ViewOf.{notes_of, kit_of, now_in, view_in, view_of}
+use Rattle.master_core.proofs.Sound.{Sound, SoundAt}
+use Rattle.master_core.proofs.SameVerdict.{came, Came, Same, Long, Again, Refuses, ByReset, Passes, same}
+use Rattle.master_core.proofs.Agrees.{Agrees, drop-agrees, refuse-agrees, falls-agree, put-agrees, hold-agrees, nonce-agrees, tick-agrees}
+use Rattle.master_core.proofs.Arrived.{Arrived, arrived}
+use Rattle.master_core.proofs.Began.{reset_frame-agrees}
+use Rattle.master_core.proofs.TakenSession.{session-passed}
+use Rattle.master_core.proofs.TakenConnection.{connection-passed}
+use Rattle.master_core.proofs.TakenParameter.{parameter-passed}
+use Rattle.master_core.proofs.TakenData.{process-passed, failsafe-passed}
+
+-- a frame that passed its tests
+passed-agrees : (p : State) (ms : MasterSettings) (e : List Deed) (bytes : List ℕ) (c : Command) → SoundAt p ms e → Came p ms bytes c → Arrived ms bytes → Sound ms e
+    → Agrees ms e (move.Deliver bytes) (on_verdict p (OfMaster ms) (model.judged_contents c (came ms bytes).load (model.contents (OfMaster ms) e c (came ms bytes))))
+    (answered_by (settles (view_in p ms e) (record { command = c; frame = came ms bytes }) (taken (kit_of ms e) (now_in p ms (notes_of ms e)) (record { command = c; frame = came ms bytes }))))
+passed-agrees state.Session ms e bytes command.Session h k a s = session-passed ms e bytes h a s
+passed-agrees state.Connection ms e bytes command.Connection h k a s = connection-passed ms e bytes h a s
+passed-agrees state.Parameter ms e bytes command.Parameter h k a s = parameter-passed ms e bytes h a s
+passed-agrees state.Data ms e bytes command.ProcessData h k a s = process-passed ms e bytes a s
+passed-agrees state.Data ms e bytes command.FailSafeData h k a s = failsafe-passed ms e bytes a s
+passed-agrees state.Reset ms e bytes command.Session h k a s = absurd (cc k.is_allowed)
+passed-agrees state.Reset ms e bytes command.Connection h k a s = absurd (cc k.is_allowed)
+passed-agrees state.Reset ms e bytes command.Parameter h k a s = absurd (cc k.is_allowed)
+passed-agrees state.Reset ms e bytes command.FailSafeData h k a s = absurd (cc k.is_allowed)
+passed-agrees state.Reset ms e bytes command.ProcessData h k a s = absurd (cc k.is_allowed)
+passed-agrees state.Session ms e bytes command.Connection h k a s = absurd (cc k.is_allowed)
+passed-agrees state.Session ms e bytes command.Parameter h k a s = absurd (cc k.is_allowed)
+passed-agrees state.Session ms e bytes command.FailSafeData h k a s = absurd (cc k.is_allowed)
+passed-agrees state.Session ms e bytes command.ProcessData h k a s = absurd (cc k.is_allowed)
+passed-agrees state.Connection ms e bytes command.Session h k a s = absurd (cc k.is_allowed)
+passed-agrees state.Connection ms e bytes command.Parameter h k a s = absurd (cc k.is_allowed)
+passed-agrees state.Connection ms e bytes command.FailSafeData h k a s = absurd (cc k.is_allowed)
+passed-agrees state.Connection ms e bytes command.ProcessData h k a s = absurd (cc k.is_allowed)
+passed-agrees state.Parameter ms e bytes command.Session h k a s = absurd (cc k.is_allowed)
+passed-agrees state.Parameter ms e bytes command.Connection h k a s = absurd (cc k.is_allowed)
+passed-agrees state.Parameter ms e bytes command.FailSafeData h k a s = absurd (cc k.is_allowed)
+passed-agrees state.Parameter ms e bytes command.ProcessData h k a s = absurd (cc k.is_allowed)
+passed-agrees state.Data ms e bytes command.Session h k a s = absurd (cc k.is_allowed)
+passed-agrees state.Data ms e bytes command.Connection h k a s = absurd (cc k.is_allowed)
+passed-agrees state.Data ms e bytes command.Parameter h k a s = absurd (cc k.is_allowed)
+passed-agrees p ms e bytes command.Reset h k a s = absurd (cc k.is_session)
+
+judged-agrees : (p : State) (ms : MasterSettings) (e : List Deed) (bytes : List ℕ) (v : model.Verdict) (w : Accepted) → Same p ms e bytes v w → state_of (OfMaster ms) e ≡ p → SoundAt p ms e → Sound ms e
+    → Agrees ms e (move.Deliver bytes) (on_verdict p (OfMaster ms) v) (answered_by w)
+judged-agrees p ms e bytes v w Long at h s = drop-agrees p ms e bytes why.Length at s
+judged-agrees p ms e bytes v w Again at h s = drop-agrees p ms e bytes why.Repeat at s
+judged-agrees p ms e bytes v w (Refuses x) at h s = refuse-agrees p ms e bytes x at s
+judged-agrees p ms e bytes v w (ByReset len x said) at h s = reset_frame-agrees p ms e bytes x said at h (arrived ms bytes len) s
+judged-agrees p ms e bytes v w (Passes c k) at h s = passed-agrees p ms e bytes c h k (arrived ms bytes k.len) s
+
+-- each event
+pub agrees : (ms : MasterSettings) (e : List Deed) (m : Move) → Sound ms e → IsProper (OfMaster ms) m → Agrees ms e m (did_on (OfMaster ms) e m) (after (view_of ms e) m)
+agrees ms e (move.Deliver bytes) s proper =
+    judged-agrees (state_of (OfMaster ms) e) ms e bytes _ _ (same (state_of (OfMaster ms) e) ms e bytes refl s.in_state) refl s.in_state s
+agrees ms e move.Tick s proper = tick-agrees (state_of (OfMaster ms) e) ms e refl s
+agrees ms e move.Local s proper = falls-agree (state_of (OfMaster ms) e) ms e move.Local cause.Local (code 0) refl refl s
+agrees ms e (move.Put load) s proper = put-agrees ms e load proper s
+agrees ms e (move.Hold failsafe) s proper = hold-agrees ms e failsafe s
+agrees ms e (move.Nonce id) s proper = nonce-agrees ms e id s
+
+fresh-age : (w : ℕ) → 0 < w → w - 1 < w
+fresh-age w h = omega arith
+
+-- every run is sound
+pub run-sound : (ms : MasterSettings) (e : List Deed) → IsRun (OfMaster ms) e → Sound ms e
+run-sound ms [] r = record { in_state = refl; offer_len = length-replicate ms.lengths.master 0; young = fresh-age ms.watchdog ms.some_watchdog }
+run-sound ms (x ∷ e) r =
+    let a : Agrees ms e x.what (did_on (OfMaster ms) e x.what) (after (view_of ms e) x.what) = agrees ms e x.what (run-sound ms e r.1) r.0.proper in
+    subst (λ (x : Deed). Sound ms (x ∷ e)) (sym r.0.stepped) a.sound

@@ -1,0 +1,157 @@
+-- What an event leaves at the machine is what looking back gives: where no frame of a session is taken.
+use Rattle.std.proofs.Common.{◌≡◌, ℕ, suc, ◌+◌, ◌-◌, ◌<◌, ◌==◌, nat_le, List, [], ◌∷◌, length, Bool, true, false, None, Some, if◌then◌else◌, refl, sym, ap, subst, ◌∙◌, arith}
+use Rattle.std.proofs.lemmas.Bool.Decides.{nat_tests}
+use Rattle.fsoe_base.specs.declared.command.Code.{Code}
+use Rattle.fsoe_base.specs.declared.command.Command.TheVariants as command
+use Rattle.fsoe_base.specs.declared.command.State.{State}
+use Rattle.fsoe_base.specs.declared.command.State.TheVariants as state
+use Rattle.fsoe_base.specs.declared.did.Cause.{Cause}
+use Rattle.fsoe_base.specs.declared.did.Cause.TheVariants as cause
+use Rattle.fsoe_base.specs.declared.did.Did.{Did}
+use Rattle.fsoe_base.specs.declared.did.Dropped.{Dropped}
+use Rattle.fsoe_base.specs.declared.did.Dropped.TheVariants as why
+use Rattle.fsoe_base.specs.Command.{code}
+use Rattle.fsoe_base.specs.Did.{nothing, dropped}
+use Rattle.fsoe_frame.specs.Parts.{AreBytes}
+use Rattle.seq_chain.specs.Cover.{first_of}
+use Rattle.seq_chain.specs.Reset.{reset_frame}
+use Rattle.param_load.specs.declared.entry.Move.{Move}
+use Rattle.param_load.specs.declared.entry.Move.TheVariants as move
+use Rattle.param_load.specs.declared.master_settings.MasterSettings.{MasterSettings}
+use Rattle.end_model.specs.Setup.{OfMaster}
+use Rattle.end_model.specs.Deed.{Deed}
+use Rattle.end_model.specs.Readiness.{state_of, ticks}
+use Rattle.end_model.specs.Step.{resets, on_fault, on_expiry, code_sent, deed_of}
+use Rattle.master_core.specs.declared.now.Now.{Now}
+use Rattle.master_core.specs.Kit.{KitView}
+use Rattle.master_core.specs.After.{with_kit}
+use Rattle.master_core.specs.Master.{Outcome, drops, ends, refuses, answered_by, falls, expires, tick_of}
+use Rattle.master_core.specs.MasterView.{MasterView}
+use Rattle.master_core.specs.ViewOf.{notes_of, kit_of, now_in, view_in, view_of}
+use Rattle.master_core.proofs.Sound.{Sound}
+
+-- bytes that are delivered are bytes
+abbrev pub AreRead : Move → Type 0
+AreRead (move.Deliver bytes) = AreBytes bytes
+AreRead _ = Unit {0}
+
+-- an outcome is what the next deed leaves, does and sends
+pub record Agrees (ms : MasterSettings) (e : List Deed) (m : Move) (d : Did) (o : Outcome) : Type 0 where
+  pub view : AreRead m → view_of ms (deed_of (OfMaster ms) e m d ∷ e) ≡ o.master
+  pub did : d ≡ o.did
+  pub sent : (deed_of (OfMaster ms) e m d).sent ≡ o.sent
+  pub sound : Sound ms (deed_of (OfMaster ms) e m d ∷ e)
+
+-- a master by its parts
+abbrev pub master_at : KitView → Now → ℕ → ℕ → MasterView
+master_at kit now limit age = record { kit = kit; state = now; timer = record { limit = limit; age = age } }
+
+pub same_master : (k k' : KitView) (n n' : Now) (l a a' : ℕ) → k ≡ k' → n ≡ n' → a ≡ a' → master_at k n l a ≡ master_at k' n' l a'
+same_master k k' n n' l a a' h i g = rw (h, i, g) refl
+
+-- a machine at rest sends nothing after a drop
+at-rest : (p : State) (ms : MasterSettings) (e : List Deed) (because : Dropped) → answered_by (drops (view_in p ms e) because) ≡ record { master = view_in p ms e; did = dropped because; sent = [] }
+at-rest state.Reset ms e because = refl
+at-rest state.Session ms e because = refl
+at-rest state.Connection ms e because = refl
+at-rest state.Parameter ms e because = refl
+at-rest state.Data ms e because = refl
+
+-- a frame is dropped
+pub drop-agrees : (p : State) (ms : MasterSettings) (e : List Deed) (bytes : List ℕ) (because : Dropped) → state_of (OfMaster ms) e ≡ p → Sound ms e
+    → Agrees ms e (move.Deliver bytes) (dropped because) (answered_by (drops (view_in p ms e) because))
+drop-agrees p ms e bytes because now s =
+    subst (λ (o : Outcome). Agrees ms e (move.Deliver bytes) (dropped because) o) (sym (at-rest p ms e because))
+    (record {
+      view = λ r. ap (λ (p : State). view_in p ms e) now;
+      did = refl;
+      sent = refl;
+      sound = record { in_state = s.in_state; offer_len = s.offer_len; young = s.young };
+    })
+
+-- the session ends
+pub resets-agree : (p : State) (ms : MasterSettings) (e : List Deed) (m : Move) (passed : Bool) (because : Cause) (x : Code)
+    → kit_of ms (deed_of (OfMaster ms) e m (resets passed because) ∷ e) ≡ kit_of ms e → code_sent because ≡ x.0 → Sound ms e
+    → Agrees ms e m (resets passed because) (answered_by (ends (view_in p ms e) passed because x))
+resets-agree p ms e m passed because x k c s = record {
+  view = λ r. same_master _ _ _ _ _ _ _ k refl refl;
+  did = refl;
+  sent = ap (λ (n : ℕ). reset_frame n ms.lengths.master) c;
+  sound = record { in_state = refl; offer_len = ap (λ (k : KitView). length k.offer.load) k ∙ s.offer_len; young = ms.some_watchdog };
+}
+
+-- the same where the frame is sent at once
+pub falls-agree : (p : State) (ms : MasterSettings) (e : List Deed) (m : Move) (because : Cause) (x : Code)
+    → kit_of ms (deed_of (OfMaster ms) e m (resets false because) ∷ e) ≡ kit_of ms e → code_sent because ≡ x.0 → Sound ms e
+    → Agrees ms e m (resets false because) (falls (view_in p ms e) because x)
+falls-agree p ms e m because x k c s = resets-agree p ms e m false because x k c s
+
+-- a test fails
+pub refuse-agrees : (p : State) (ms : MasterSettings) (e : List Deed) (bytes : List ℕ) (x : Code) → state_of (OfMaster ms) e ≡ p → Sound ms e
+    → Agrees ms e (move.Deliver bytes) (on_fault p false x) (answered_by (refuses (view_in p ms e) x))
+refuse-agrees state.Reset ms e bytes x now s = drop-agrees state.Reset ms e bytes why.InReset now s
+refuse-agrees state.Session ms e bytes x now s = resets-agree state.Session ms e (move.Deliver bytes) false (cause.Found x) x refl refl s
+refuse-agrees state.Connection ms e bytes x now s = resets-agree state.Connection ms e (move.Deliver bytes) false (cause.Found x) x refl refl s
+refuse-agrees state.Parameter ms e bytes x now s = resets-agree state.Parameter ms e (move.Deliver bytes) false (cause.Found x) x refl refl s
+refuse-agrees state.Data ms e bytes x now s = resets-agree state.Data ms e (move.Deliver bytes) false (cause.Found x) x refl refl s
+
+-- a valid Reset frame of the peer ends a session
+pub peer-resets : (p : State) (ms : MasterSettings) (e : List Deed) (bytes : List ℕ) (x y : Code) → x ≡ y → Sound ms e
+    → Agrees ms e (move.Deliver bytes) (resets false (cause.Peer y)) (answered_by (ends (view_in p ms e) false (cause.Peer x) (code 0)))
+peer-resets p ms e bytes x y h s =
+    subst (λ (x : Code). Agrees ms e (move.Deliver bytes) (resets false (cause.Peer y)) (answered_by (ends (view_in p ms e) false (cause.Peer x) (code 0)))) (sym h)
+    (resets-agree p ms e (move.Deliver bytes) false (cause.Peer y) (code 0) refl refl s)
+
+-- what outlasts sessions is set
+pub put-agrees : (ms : MasterSettings) (e : List Deed) (load : List ℕ) → length load ≡ ms.lengths.master → Sound ms e
+    → Agrees ms e (move.Put load) nothing (with_kit (view_of ms e) (record (kit_of ms e) { offer = record (kit_of ms e).offer { load = load } }))
+put-agrees ms e load h s = record { view = λ r. refl; did = refl; sent = refl; sound = record { in_state = s.in_state; offer_len = h; young = s.young } }
+
+pub hold-agrees : (ms : MasterSettings) (e : List Deed) (failsafe : Bool) → Sound ms e
+    → Agrees ms e (move.Hold failsafe) nothing (with_kit (view_of ms e) (record (kit_of ms e) { offer = record (kit_of ms e).offer { held = failsafe } }))
+hold-agrees ms e failsafe s = record { view = λ r. refl; did = refl; sent = refl; sound = record { in_state = s.in_state; offer_len = s.offer_len; young = s.young } }
+
+pub nonce-agrees : (ms : MasterSettings) (e : List Deed) (id : ℕ) → Sound ms e
+    → Agrees ms e (move.Nonce id) nothing (with_kit (view_of ms e) (record (kit_of ms e) { nonce = id }))
+nonce-agrees ms e id s = record { view = λ r. refl; did = refl; sent = refl; sound = record { in_state = s.in_state; offer_len = s.offer_len; young = s.young } }
+
+-- a tick
+abbrev tick_by : Bool → MasterView → Outcome
+tick_by b v =
+    if b then expires v
+    else record { master = record v { timer = record { limit = v.timer.limit; age = if b then 0 else v.timer.age + 1 } }; did = nothing; sent = [] }
+
+meets : (t l : ℕ) → t < l → nat_le l (suc t) ≡ (t + 1 == l)
+meets t l k = grind (arith, nat_tests)
+
+later : (t l : ℕ) → nat_le l (suc t) ≡ false → suc t < l
+later t l h = grind (arith, nat_tests)
+
+one-more : (t : ℕ) → suc t ≡ t + 1
+one-more t = omega arith
+
+-- the limit is reached: in state Reset the Reset frame is sent again
+expiry-agrees : (p : State) (ms : MasterSettings) (e : List Deed) → state_of (OfMaster ms) e ≡ p → Sound ms e → Agrees ms e move.Tick (on_expiry p (OfMaster ms)) (expires (view_in p ms e))
+expiry-agrees state.Reset ms e now s = record { view = λ r. refl; did = refl; sent = refl; sound = record { in_state = refl; offer_len = s.offer_len; young = ms.some_watchdog } }
+expiry-agrees state.Session ms e now s = falls-agree state.Session ms e move.Tick (cause.Found (code 0x05)) (code 0x05) refl refl s
+expiry-agrees state.Connection ms e now s = falls-agree state.Connection ms e move.Tick (cause.Found (code 0x05)) (code 0x05) refl refl s
+expiry-agrees state.Parameter ms e now s = falls-agree state.Parameter ms e move.Tick (cause.Found (code 0x05)) (code 0x05) refl refl s
+expiry-agrees state.Data ms e now s = falls-agree state.Data ms e move.Tick (cause.Found (code 0x05)) (code 0x05) refl refl s
+
+counts : (p : State) (ms : MasterSettings) (e : List Deed) (b : Bool) → state_of (OfMaster ms) e ≡ p → nat_le ms.watchdog (suc (ticks (OfMaster ms) e)) ≡ b → Sound ms e
+    → Agrees ms e move.Tick (if b then on_expiry p (OfMaster ms) else nothing) (tick_by b (view_in p ms e))
+counts p ms e true now h s = expiry-agrees p ms e now s
+counts p ms e false now h s = record {
+  view = λ r. same_master _ _ _ _ _ _ _ refl (ap (λ (p : State). now_in p ms (notes_of ms e)) now) (one-more (ticks (OfMaster ms) e));
+  did = refl;
+  sent = refl;
+  sound = record { in_state = s.in_state; offer_len = s.offer_len; young = later (ticks (OfMaster ms) e) ms.watchdog h };
+}
+
+pub tick-agrees : (p : State) (ms : MasterSettings) (e : List Deed) → state_of (OfMaster ms) e ≡ p → Sound ms e
+    → Agrees ms e move.Tick (if nat_le ms.watchdog (suc (ticks (OfMaster ms) e)) then on_expiry p (OfMaster ms) else nothing) (tick_of (view_in p ms e))
+tick-agrees p ms e now s =
+    let t : ℕ = ticks (OfMaster ms) e in
+    subst (λ (b : Bool). Agrees ms e move.Tick (if nat_le ms.watchdog (suc t) then on_expiry p (OfMaster ms) else nothing) (tick_by b (view_in p ms e)))
+    (meets t ms.watchdog s.young)
+    (counts p ms e (nat_le ms.watchdog (suc t)) now refl s)

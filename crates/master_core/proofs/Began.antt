@@ -1,0 +1,111 @@
+-- A Reset frame that is taken: in state Reset it begins a session.
+use Rattle.std.proofs.Common.{◌≡◌, ℕ, ◌-◌, ◌*◌, ◌==◌, Bool, true, false, List, ◌∷◌, length, Option, Some, None, if◌then◌else◌, refl, sym, ap, subst, ◌∙◌}
+use Rattle.fsoe_base.specs.declared.command.Code.{Code}
+use Rattle.fsoe_base.specs.declared.command.Command.{Command}
+use Rattle.fsoe_base.specs.declared.command.Command.TheVariants as command
+use Rattle.fsoe_base.specs.declared.command.State.{State}
+use Rattle.fsoe_base.specs.declared.command.State.TheVariants as state
+use Rattle.fsoe_base.specs.declared.did.Dropped.TheVariants as why
+use Rattle.fsoe_base.specs.Command.{command_byte, code}
+use Rattle.fsoe_base.specs.Did.{dropped}
+use Rattle.fsoe_frame.specs.Parts.{bytes_of, frame_of}
+use Rattle.seq_chain.specs.declared.chain.Chain.{Chain}
+use Rattle.seq_chain.specs.Cover.{first_of}
+use Rattle.seq_chain.specs.Sealing as sealing
+use Rattle.param_load.specs.declared.entry.Move.TheVariants as move
+use Rattle.param_load.specs.declared.master_settings.MasterSettings.{MasterSettings}
+use Rattle.param_load.specs.Payload.{session_payload, piece_from, padded}
+use Rattle.end_model.specs.Setup.{Setup, OfMaster, sends, receives, piece_len}
+use Rattle.end_model.specs.Deed.{Deed, is_empty}
+use Rattle.end_model.specs.Chain.{since, taken, newest_crc, own_link, seal}
+use Rattle.end_model.specs.Payloads.{or_else, first_some, nonce}
+use Rattle.end_model.specs.Readiness.{state_of}
+use Rattle.end_model.specs.Step.{takes, on_reset_frame, begun, deed_of}
+use Rattle.end_model.proofs.Links.{taken_crc}
+use Rattle.end_model.proofs.ReadBack.{read_back}
+use Rattle.master_core.specs.declared.due.Next.TheVariants as next
+use Rattle.master_core.specs.declared.now.Now.TheVariants as now
+use Rattle.master_core.specs.Master.{Outcome, takes as accepts, drops, leaves, begins, answered_by}
+use Rattle.master_core.specs.Master as machine
+use Rattle.master_core.specs.States.{fresh, chain_sent, frame_sent}
+use Rattle.master_core.specs.ViewOf.{Notes, notes_of, view_in}
+use Rattle.master_core.proofs.Sound.{no_notes, Sound, SoundAt}
+use Rattle.master_core.proofs.Pieces.{piece_own}
+use Rattle.master_core.proofs.SameVerdict.{came}
+use Rattle.master_core.proofs.Agrees.{Agrees, same_master, drop-agrees, peer-resets}
+use Rattle.master_core.proofs.Arrived.{Arrived, chain_at, filled_piece}
+use Rattle.master_core.proofs.Taking.{After, takes-agree, same_exchange, there, is-there, positive, none_before}
+
+-- an end that noted nothing seals a frame outside each session
+sealed-fresh : (s : Setup) (e : List Deed) (conn : ℕ) (c : Command) (load : List ℕ) → chain_at s e ≡ fresh → seal s e conn c load ≡ frame_sent fresh conn c load
+sealed-fresh s e conn c load h =
+    ap (λ (last : ℕ). bytes_of (sealing.sealed last (own_link s e) conn (command_byte c) load)) (sym (taken_crc s e))
+    ∙ ap (λ (chain : Chain). frame_sent chain conn c load) h
+
+-- the chain after a Reset frame was taken and this frame sent
+chain-begun : (s : Setup) (e : List Deed) (bytes load sent answer : List ℕ) (conn : ℕ) (c2 : Command) → is_empty sent ≡ false
+    → frame_of (sends s) sent ≡ sealing.sealed (newest_crc (receives s) (taken e)) (own_link s e) conn (command_byte c2) answer
+    → chain_at s (record { what = move.Deliver bytes; did = takes command.Reset load; sent = sent } ∷ e) ≡ chain_sent (chain_at s e) conn c2 answer
+chain-begun s e bytes load sent answer conn c2 some back = simp (some, back, taken_crc)
+
+-- the first piece of the session id
+abbrev first_load : MasterSettings → List Deed → List ℕ
+first_load ms e = padded (piece_from (session_payload (nonce (OfMaster ms) e) ms.profile) 0 (piece_len (OfMaster ms))) ms.lengths.master
+
+abbrev begun_outcome : MasterSettings → List Deed → List ℕ → Outcome
+begun_outcome ms e bytes = answered_by (begins (view_in state.Reset ms e) (code 0) (came ms bytes))
+
+first-id : (o : Option ℕ) (n : ℕ) → o ≡ None → first_some o (Some n) ≡ Some n
+first-id o n h = ap (λ (o : Option ℕ). first_some o (Some n)) h
+
+begins-after : (ms : MasterSettings) (e : List Deed) (bytes : List ℕ) → notes_of ms e ≡ no_notes ms → Arrived ms bytes → Sound ms e → After ms e bytes command.Reset (begun_outcome ms e bytes).sent (begun_outcome ms e bytes).master
+begins-after ms e bytes h a s =
+    let c : ℕ = piece_len (OfMaster ms) in
+    let full : length (first_load ms e) ≡ ms.lengths.master = filled_piece (session_payload (nonce (OfMaster ms) e) ms.profile) 0 c ms.lengths.master (piece_own ms) in
+    let none : (notes_of ms e).chain ≡ fresh = ap (λ (n : Notes). n.chain) h in
+    let id_is : first_some (notes_of ms e).id (Some (nonce (OfMaster ms) e)) ≡ Some (nonce (OfMaster ms) e) = first-id _ _ (ap (λ (n : Notes). n.id) h) in
+    let sent_is : frame_sent fresh 0 command.Session (first_load ms e) ≡ seal (OfMaster ms) (since e) 0 command.Session (first_load ms e) = sym (sealed-fresh (OfMaster ms) (since e) 0 command.Session (first_load ms e) none) in
+    record {
+      view = λ r. same_master _ _ _ _ _ _ _ refl
+          (ap now.Session (same_exchange _ _ _ _ _ _ _ _ _ _
+          (chain-begun (OfMaster ms) (since e) bytes (came ms bytes).load (frame_sent fresh 0 command.Session (first_load ms e)) (first_load ms e) 0 command.Session refl (ap (λ (f : List ℕ). frame_of ms.lengths.master f) sent_is ∙ read_back (OfMaster ms) (since e) 0 command.Session (first_load ms e) full)
+          ∙ ap (λ (chain : Chain). chain_sent chain 0 command.Session (first_load ms e)) none)
+          (ap (λ (i : ℕ). session_payload i ms.profile) (there _ _ 0 id_is)) (none_before _ c (ap (λ (n : Notes). n.session) h)) (sym (a.back r))))
+          refl;
+      sound = record {
+        in_state = record { kept_is = refl; id_is = is-there _ _ id_is; some = positive _; no_connection = ap (λ (n : Notes). n.connection) h; no_parameter = ap (λ (n : Notes). n.parameter) h };
+        offer_len = s.offer_len;
+        young = ms.some_watchdog;
+      };
+    }
+
+begins-sent : (ms : MasterSettings) (e : List Deed) (bytes : List ℕ) → notes_of ms e ≡ no_notes ms
+    → (deed_of (OfMaster ms) e (move.Deliver bytes) (takes command.Reset (came ms bytes).load)).sent ≡ (begun_outcome ms e bytes).sent
+begins-sent ms e bytes h =
+    let before : List Deed = begun (move.Deliver bytes) (takes command.Reset (came ms bytes).load) ∷ e in
+    let id_is : or_else (notes_of ms e).id (nonce (OfMaster ms) e) ≡ nonce (OfMaster ms) e = ap (λ (n : Notes). or_else n.id (nonce (OfMaster ms) e)) h in
+    ap (λ (i : ℕ). seal (OfMaster ms) (since before) 0 command.Session (padded (piece_from (session_payload i ms.profile) ((1 - 1) * piece_len (OfMaster ms)) (piece_len (OfMaster ms))) ms.lengths.master)) id_is
+    ∙ (ap (λ (n : ℕ). seal (OfMaster ms) (since before) 0 command.Session (padded (piece_from (session_payload (nonce (OfMaster ms) e) ms.profile) n (piece_len (OfMaster ms))) ms.lengths.master)) (none_before 0 (piece_len (OfMaster ms)) refl)
+    ∙ sealed-fresh (OfMaster ms) (since before) 0 command.Session (first_load ms e) (ap (λ (n : Notes). n.chain) h))
+
+-- in state Reset the Reset frame with code 0 begins a session, another one is dropped
+by-code : (ms : MasterSettings) (e : List Deed) (bytes : List ℕ) (b : Bool) → state_of (OfMaster ms) e ≡ state.Reset → notes_of ms e ≡ no_notes ms → Arrived ms bytes → Sound ms e
+    → Agrees ms e (move.Deliver bytes) (if b then takes command.Reset (came ms bytes).load else dropped why.InReset)
+    (answered_by (if b then leaves (view_in state.Reset ms e) (next.Begin (bytes_of (came ms bytes))) (accepts command.Reset (came ms bytes).load false) else drops (view_in state.Reset ms e) why.InReset))
+by-code ms e bytes true at h a s = takes-agree ms e bytes command.Reset (begun_outcome ms e bytes) (begins-after ms e bytes h a s) refl (begins-sent ms e bytes h)
+by-code ms e bytes false at h a s = drop-agrees state.Reset ms e bytes why.InReset at s
+
+-- a valid Reset frame with this code
+of-code : (p : State) (ms : MasterSettings) (e : List Deed) (bytes : List ℕ) → state_of (OfMaster ms) e ≡ p → SoundAt p ms e → Arrived ms bytes → Sound ms e
+    → Agrees ms e (move.Deliver bytes) (on_reset_frame p (OfMaster ms) (came ms bytes).load) (answered_by (machine.on_reset_frame (view_in p ms e) (code (first_of (came ms bytes).load)) (came ms bytes)))
+of-code state.Reset ms e bytes at h a s = by-code ms e bytes (first_of (came ms bytes).load == 0) at h a s
+of-code state.Session ms e bytes at h a s = peer-resets state.Session ms e bytes _ _ refl s
+of-code state.Connection ms e bytes at h a s = peer-resets state.Connection ms e bytes _ _ refl s
+of-code state.Parameter ms e bytes at h a s = peer-resets state.Parameter ms e bytes _ _ refl s
+of-code state.Data ms e bytes at h a s = peer-resets state.Data ms e bytes _ _ refl s
+
+pub reset_frame-agrees : (p : State) (ms : MasterSettings) (e : List Deed) (bytes : List ℕ) (x : Code) → x ≡ code (first_of (came ms bytes).load) → state_of (OfMaster ms) e ≡ p → SoundAt p ms e → Arrived ms bytes → Sound ms e
+    → Agrees ms e (move.Deliver bytes) (on_reset_frame p (OfMaster ms) (came ms bytes).load) (answered_by (machine.on_reset_frame (view_in p ms e) x (came ms bytes)))
+reset_frame-agrees p ms e bytes x said at h a s =
+    subst (λ (x : Code). Agrees ms e (move.Deliver bytes) (on_reset_frame p (OfMaster ms) (came ms bytes).load) (answered_by (machine.on_reset_frame (view_in p ms e) x (came ms bytes)))) (sym said)
+    (of-code p ms e bytes at h a s)

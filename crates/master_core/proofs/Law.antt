@@ -1,0 +1,100 @@
+-- The law: a master that stands for some deeds stands after an event for these and the next one, and answers as that one does.
+use Rattle.std.proofs.Common.{◌≡◌, ◌≢◌, ℕ, List, [], ◌∷◌, Bool, Option, refl, sym, ap, subst, ◌∙◌}
+use Rattle.fsoe_base.specs.declared.command.State.{State}
+use Rattle.fsoe_base.specs.declared.command.State.TheVariants as state
+use Rattle.fsoe_base.specs.declared.did.Did.{Did}
+use Rattle.param_load.specs.declared.entry.Move.{Move}
+use Rattle.param_load.specs.declared.master_settings.MasterSettings.{MasterSettings}
+use Rattle.param_load.specs.declared.terms.Terms.{Terms}
+use Rattle.end_model.specs.Setup.{OfMaster}
+use Rattle.end_model.specs.Deed.{Deed}
+use Rattle.end_model.specs.Payloads.{terms}
+use Rattle.end_model.specs.Readiness.{state_of, age, told_in, told_terms, offer, held}
+use Rattle.end_model.specs.Step.{did_on, run, IsProper, IsRun}
+use Rattle.end_model.specs.Outputs.{zeros, outputs, out}
+use Rattle.end_model.specs.Standing.{Stands, Follows, Answers, Shows, Called, events_of}
+use Rattle.end_model.proofs.Calls.{stands_called, run_called}
+use Rattle.end_model.proofs.Shown.{looking_back, fail_safe}
+use Rattle.master_core.specs.Now as machine
+use Rattle.master_core.specs.After.{after}
+use Rattle.master_core.specs.Master.{first_master}
+use Rattle.master_core.specs.MasterView.{MasterView}
+use Rattle.master_core.specs.ViewOf.{Notes, notes_of, now_in, view_of}
+use Rattle.master_core.proofs.Agrees.{Agrees, AreRead}
+use Rattle.master_core.proofs.Agreed.{agrees, run-sound}
+
+next : (ms : MasterSettings) (e : List Deed) (old : MasterView) (m : Move) → IsProper (OfMaster old.kit.settings) m → Stands OfMaster view_of ms old e → Agrees ms e m (did_on (OfMaster ms) e m) (after (view_of ms e) m)
+next ms e old m p h = agrees ms e m (run-sound ms e h.reached) (subst (λ (v : MasterView). IsProper (OfMaster v.kit.settings) m) h.is p)
+
+pub follows_by : (old : MasterView) (m : Move) (new : MasterView) → IsProper (OfMaster old.kit.settings) m → AreRead m → new ≡ (after old m).master → Follows OfMaster view_of old m new
+follows_by old m new p bytes n = record {
+  stands = λ ms e h.
+      let a = next ms e old m p h in
+      record {
+        is = n ∙ ap (λ (v : MasterView). (after v m).master) h.is ∙ sym (a.view bytes);
+        reached = (record { proper = subst (λ (v : MasterView). IsProper (OfMaster v.kit.settings) m) h.is p; stepped = refl }, h.reached);
+      };
+}
+
+pub answers_by : (old : MasterView) (m : Move) (d : Did) (f : List ℕ) → IsProper (OfMaster old.kit.settings) m → d ≡ (after old m).did → f ≡ (after old m).sent → Answers OfMaster view_of old m d f
+answers_by old m d f p i j = record {
+  did = λ ms e h. let a = next ms e old m p h in i ∙ ap (λ (v : MasterView). (after v m).did) h.is ∙ sym a.did;
+  sent = λ ms e h. let a = next ms e old m p h in j ∙ ap (λ (v : MasterView). (after v m).sent) h.is ∙ sym a.sent;
+}
+
+-- a new master stands for no deed
+pub new_stands : (ms : MasterSettings) (v : MasterView) → v ≡ first_master ms → Stands OfMaster view_of ms v []
+new_stands ms v h = record { is = h; reached = tt }
+
+-- what the readers show
+state-in : (p : State) (ms : MasterSettings) (n : Notes) → machine.state_of (now_in p ms n) ≡ p
+state-in state.Reset ms n = refl
+state-in state.Session ms n = refl
+state-in state.Connection ms n = refl
+state-in state.Parameter ms n = refl
+state-in state.Data ms n = refl
+
+pub state_shown : (v : MasterView) (shown : State) → shown ≡ machine.state_of v.state → Shows OfMaster view_of v shown state_of
+state_shown v shown i = record { shows = λ ms e h. i ∙ ap (λ (v : MasterView). machine.state_of v.state) h.is ∙ state-in (state_of (OfMaster ms) e) ms (notes_of ms e) }
+
+terms-in : (p : State) (ms : MasterSettings) (e : List Deed) → machine.terms_in (now_in p ms (notes_of ms e)) ≡ told_in p (terms (OfMaster ms) e)
+terms-in state.Reset ms e = refl
+terms-in state.Session ms e = refl
+terms-in state.Connection ms e = refl
+terms-in state.Parameter ms e = refl
+terms-in state.Data ms e = refl
+
+pub terms_shown : (v : MasterView) (shown : Option Terms) → shown ≡ machine.terms_in v.state → Shows OfMaster view_of v shown told_terms
+terms_shown v shown i = record { shows = λ ms e h. i ∙ ap (λ (v : MasterView). machine.terms_in v.state) h.is ∙ terms-in (state_of (OfMaster ms) e) ms e }
+
+outputs-in : (p : State) (ms : MasterSettings) (e : List Deed) → (p ≢ state.Data → outputs (OfMaster ms) e ≡ zeros (OfMaster ms)) → machine.outputs_in ms (now_in p ms (notes_of ms e)) ≡ outputs (OfMaster ms) e
+outputs-in state.Reset ms e h = sym (h (λ k. cc))
+outputs-in state.Session ms e h = sym (h (λ k. cc))
+outputs-in state.Connection ms e h = sym (h (λ k. cc))
+outputs-in state.Parameter ms e h = sym (h (λ k. cc))
+outputs-in state.Data ms e h = refl
+
+pub outputs_shown : (v : MasterView) (shown : List ℕ) → shown ≡ machine.outputs_in v.kit.settings v.state → Shows OfMaster view_of v shown out
+outputs_shown v shown i = record {
+  shows = λ ms e h.
+      i
+      ∙ ap (λ (v : MasterView). machine.outputs_in v.kit.settings v.state) h.is
+      ∙ outputs-in (state_of (OfMaster ms) e) ms e (fail_safe (OfMaster ms) e h.reached)
+      ∙ looking_back (OfMaster ms) e h.reached;
+}
+
+pub age_shown : (v : MasterView) (shown : ℕ) → shown ≡ v.timer.age → Shows OfMaster view_of v shown age
+age_shown v shown i = record { shows = λ ms e h. i ∙ ap (λ (v : MasterView). v.timer.age) h.is }
+
+pub offer_shown : (v : MasterView) (shown : List ℕ) → shown ≡ v.kit.offer.load → Shows OfMaster view_of v shown offer
+offer_shown v shown i = record { shows = λ ms e h. i ∙ ap (λ (v : MasterView). v.kit.offer.load) h.is }
+
+pub held_shown : (v : MasterView) (shown : Bool) → shown ≡ v.kit.offer.held → Shows OfMaster view_of v shown (λ s e. held e)
+held_shown v shown i = record { shows = λ ms e h. i ∙ ap (λ (v : MasterView). v.kit.offer.held) h.is }
+
+-- all calls of a master
+pub master_stands : (ms : MasterSettings) (first last : MasterView) (e : List Deed) → Stands OfMaster view_of ms first [] → Called OfMaster view_of first e last → Stands OfMaster view_of ms last e
+master_stands ms first last e h c = stands_called OfMaster view_of ms first last e h c
+
+pub master_run : (ms : MasterSettings) (first last : MasterView) (e : List Deed) → Stands OfMaster view_of ms first [] → Called OfMaster view_of first e last → e ≡ run (OfMaster ms) (events_of e)
+master_run ms first last e h c = run_called OfMaster view_of ms first last e h c

@@ -1,0 +1,124 @@
+-- A data frame that passed the tests of a master: what the machine does is what looking back gives.
+use Rattle.std.proofs.Common.{◌≡◌, ℕ, ◌-◌, Bool, true, false, List, ◌∷◌, length, replicate, Ok, Err, if◌then◌else◌, refl, sym, ap, subst}
+use Rattle.fsoe_base.specs.declared.command.Command.{Command}
+use Rattle.fsoe_base.specs.declared.command.Command.TheVariants as command
+use Rattle.fsoe_base.specs.declared.command.State.TheVariants as state
+use Rattle.fsoe_base.specs.declared.did.Cause.TheVariants as cause
+use Rattle.fsoe_base.specs.Bytes.{all_zero}
+use Rattle.fsoe_base.specs.Command.{code}
+use Rattle.fsoe_frame.specs.Parts.{bytes_of}
+use Rattle.seq_chain.specs.declared.chain.Chain.{Chain}
+use Rattle.seq_chain.specs.SessionFrame.{SessionFrameView}
+use Rattle.param_load.specs.declared.entry.Move.TheVariants as move
+use Rattle.param_load.specs.declared.master_settings.MasterSettings.{MasterSettings}
+use Rattle.end_model.specs.Setup.{OfMaster}
+use Rattle.end_model.specs.Deed.{Deed}
+use Rattle.end_model.specs.Chain.{since}
+use Rattle.end_model.specs.Readiness.{offer, held}
+use Rattle.end_model.specs.Step.{takes, on_verdict, begun, with_data}
+use Rattle.end_model.specs.Verdict.{judged_contents, unless}
+use Rattle.master_core.specs.declared.now.Now.TheVariants as now
+use Rattle.master_core.specs.Master.{Outcome, settles, answered_by}
+use Rattle.master_core.specs.MasterView.{MasterView}
+use Rattle.master_core.specs.States.{data_answered}
+use Rattle.master_core.specs.Views.{DataView}
+use Rattle.master_core.specs.ViewOf.{notes_of, kit_of, bytes_kept, view_in}
+use Rattle.master_core.proofs.Sound.{Sound}
+use Rattle.master_core.proofs.SameVerdict.{came}
+use Rattle.master_core.proofs.Agrees.{Agrees, master_at, same_master, resets-agree}
+use Rattle.master_core.proofs.Arrived.{Arrived, next_frame, next_chain, chain_after}
+use Rattle.master_core.proofs.Taking.{After, takes-agree}
+use Rattle.std.proofs.lemmas.List.{length-replicate}
+use Rattle.failsafe_io.specs.Offer.{data_command, data_load}
+use Rattle.failsafe_io.specs.Outputs.{outputs_of}
+use Rattle.param_load.specs.declared.terms.Terms.{Terms}
+use Rattle.end_model.specs.Phases.{is_reset}
+use Rattle.master_core.specs.declared.due.Next.TheVariants as next
+use Rattle.master_core.specs.Kit.{terms_of}
+
+-- state Data by its parts
+pub same_data : (t : Terms) (c c' : Chain) (o o' l l' : List ℕ) → c ≡ c' → o ≡ o' → l ≡ l'
+    → now.Data (record { chain = c; terms = t; outputs = o; last = l }) ≡ now.Data (record { chain = c'; terms = t; outputs = o'; last = l' })
+same_data t c c' o o' l l' h j g = rw (h, j, g) refl
+
+-- a data frame is the offer, or zeros while the master is held
+by-held : (ms : MasterSettings) (e : List Deed) (bytes : List ℕ) (h : Bool) (n : ℕ) (load : List ℕ) → n ≡ ms.lengths.master
+    → (if h then next_frame ms e bytes ms.conn command.FailSafeData (replicate ms.lengths.master 0) else next_frame ms e bytes ms.conn command.ProcessData load)
+    ≡ next_frame ms e bytes ms.conn (if h then command.FailSafeData else command.ProcessData) (if h then replicate n 0 else load)
+by-held ms e bytes true n load i = ap (λ (n : ℕ). next_frame ms e bytes ms.conn command.FailSafeData (replicate n 0)) (sym i)
+by-held ms e bytes false n load i = refl
+
+pub data_sent : (ms : MasterSettings) (e : List Deed) (bytes : List ℕ) (c : Command) → is_reset c ≡ false → Sound ms e
+    → with_data (OfMaster ms) (begun (move.Deliver bytes) (takes c (came ms bytes).load) ∷ e) ≡ next_frame ms e bytes ms.conn (data_command (kit_of ms e).offer) (data_load (kit_of ms e).offer)
+data_sent ms e bytes command.Reset r s = absurd (cc r)
+data_sent ms e bytes command.Session r s = by-held ms e bytes (held e) (length (offer (OfMaster ms) e)) (offer (OfMaster ms) e) s.offer_len
+data_sent ms e bytes command.Connection r s = by-held ms e bytes (held e) (length (offer (OfMaster ms) e)) (offer (OfMaster ms) e) s.offer_len
+data_sent ms e bytes command.Parameter r s = by-held ms e bytes (held e) (length (offer (OfMaster ms) e)) (offer (OfMaster ms) e) s.offer_len
+data_sent ms e bytes command.FailSafeData r s = by-held ms e bytes (held e) (length (offer (OfMaster ms) e)) (offer (OfMaster ms) e) s.offer_len
+data_sent ms e bytes command.ProcessData r s = by-held ms e bytes (held e) (length (offer (OfMaster ms) e)) (offer (OfMaster ms) e) s.offer_len
+
+-- the master after a data frame and the next one
+abbrev gone_on : MasterSettings → List Deed → List ℕ → Command → Command → List ℕ → MasterView
+gone_on ms e bytes c c2 load =
+    master_at (kit_of ms e)
+    (now.Data (record { chain = next_chain ms e bytes ms.conn c2 load; terms = terms_of ms; outputs = outputs_of c (came ms bytes).load; last = bytes_of (came ms bytes) }))
+    ms.watchdog 0
+
+-- what holds after a data frame that is answered by one with this command and load
+abbrev IsNext : MasterSettings → List Deed → List ℕ → Command → Command → List ℕ → Type 0
+IsNext ms e bytes c c2 load = After ms e bytes c (next_frame ms e bytes ms.conn c2 load) (gone_on ms e bytes c c2 load)
+
+process-next : (ms : MasterSettings) (e : List Deed) (bytes : List ℕ) (h : Bool) (load : List ℕ) → length load ≡ ms.lengths.master → Arrived ms bytes → Sound ms e
+    → IsNext ms e bytes command.ProcessData (if h then command.FailSafeData else command.ProcessData) (if h then replicate ms.lengths.master 0 else load)
+process-next ms e bytes true load h a s = record {
+  view = λ r. same_master _ _ _ _ _ _ _ refl (same_data _ _ _ _ _ _ _ (chain_after ms (since e) bytes command.ProcessData ms.conn command.FailSafeData (replicate ms.lengths.master 0) refl (length-replicate ms.lengths.master 0)) refl (sym (a.back r))) refl;
+  sound = record { in_state = refl; offer_len = s.offer_len; young = ms.some_watchdog };
+}
+process-next ms e bytes false load h a s = record {
+  view = λ r. same_master _ _ _ _ _ _ _ refl (same_data _ _ _ _ _ _ _ (chain_after ms (since e) bytes command.ProcessData ms.conn command.ProcessData load refl h) refl (sym (a.back r))) refl;
+  sound = record { in_state = refl; offer_len = s.offer_len; young = ms.some_watchdog };
+}
+
+failsafe-next : (ms : MasterSettings) (e : List Deed) (bytes : List ℕ) (h : Bool) (load : List ℕ) → length load ≡ ms.lengths.master → Arrived ms bytes → Sound ms e
+    → IsNext ms e bytes command.FailSafeData (if h then command.FailSafeData else command.ProcessData) (if h then replicate ms.lengths.master 0 else load)
+failsafe-next ms e bytes true load h a s = record {
+  view = λ r. same_master _ _ _ _ _ _ _ refl (same_data _ _ _ _ _ _ _ (chain_after ms (since e) bytes command.FailSafeData ms.conn command.FailSafeData (replicate ms.lengths.master 0) refl (length-replicate ms.lengths.master 0)) (ap (λ (n : ℕ). replicate n 0) (sym a.load_len)) (sym (a.back r))) refl;
+  sound = record { in_state = refl; offer_len = s.offer_len; young = ms.some_watchdog };
+}
+failsafe-next ms e bytes false load h a s = record {
+  view = λ r. same_master _ _ _ _ _ _ _ refl (same_data _ _ _ _ _ _ _ (chain_after ms (since e) bytes command.FailSafeData ms.conn command.ProcessData load refl h) (ap (λ (n : ℕ). replicate n 0) (sym a.load_len)) (sym (a.back r))) refl;
+  sound = record { in_state = refl; offer_len = s.offer_len; young = ms.some_watchdog };
+}
+
+abbrev seen : MasterSettings → List ℕ → Command → SessionFrameView
+seen ms bytes c = record { command = c; frame = came ms bytes }
+
+-- state Data before the frame
+abbrev before : MasterSettings → List Deed → DataView
+before ms e = record { chain = (notes_of ms e).chain; terms = terms_of ms; outputs = (notes_of ms e).outputs; last = bytes_kept (notes_of ms e).kept }
+
+abbrev data_outcome : MasterSettings → List Deed → List ℕ → Command → Bool → Outcome
+data_outcome ms e bytes c b = answered_by (settles (view_in state.Data ms e) (seen ms bytes c) (if b then Ok (next.Data (data_answered (before ms e) (seen ms bytes c))) else Err (code 0x07)))
+
+-- a ProcessData frame that passed the tests
+pub process-passed : (ms : MasterSettings) (e : List Deed) (bytes : List ℕ) → Arrived ms bytes → Sound ms e
+    → Agrees ms e (move.Deliver bytes) (takes command.ProcessData (came ms bytes).load) (data_outcome ms e bytes command.ProcessData true)
+process-passed ms e bytes a s =
+    takes-agree ms e bytes command.ProcessData (data_outcome ms e bytes command.ProcessData true)
+    (subst (λ (n : ℕ). IsNext ms e bytes command.ProcessData (data_command (kit_of ms e).offer) (if held e then replicate n 0 else offer (OfMaster ms) e)) (sym s.offer_len)
+    (process-next ms e bytes (held e) (offer (OfMaster ms) e) s.offer_len a s))
+    refl (data_sent ms e bytes command.ProcessData refl s)
+
+-- a FailSafeData frame that passed the tests
+by-zeros : (ms : MasterSettings) (e : List Deed) (bytes : List ℕ) (b : Bool) → Arrived ms bytes → Sound ms e
+    → Agrees ms e (move.Deliver bytes) (on_verdict state.Data (OfMaster ms) (judged_contents command.FailSafeData (came ms bytes).load (unless b 0x07))) (data_outcome ms e bytes command.FailSafeData b)
+by-zeros ms e bytes false a s = resets-agree state.Data ms e (move.Deliver bytes) true (cause.Found (code 0x07)) (code 0x07) refl refl s
+by-zeros ms e bytes true a s =
+    takes-agree ms e bytes command.FailSafeData (data_outcome ms e bytes command.FailSafeData true)
+    (subst (λ (n : ℕ). IsNext ms e bytes command.FailSafeData (data_command (kit_of ms e).offer) (if held e then replicate n 0 else offer (OfMaster ms) e)) (sym s.offer_len)
+    (failsafe-next ms e bytes (held e) (offer (OfMaster ms) e) s.offer_len a s))
+    refl (data_sent ms e bytes command.FailSafeData refl s)
+
+pub failsafe-passed : (ms : MasterSettings) (e : List Deed) (bytes : List ℕ) → Arrived ms bytes → Sound ms e
+    → Agrees ms e (move.Deliver bytes) (on_verdict state.Data (OfMaster ms) (judged_contents command.FailSafeData (came ms bytes).load (unless (all_zero (came ms bytes).load) 0x07))) (data_outcome ms e bytes command.FailSafeData (all_zero (came ms bytes).load))
+failsafe-passed ms e bytes a s = by-zeros ms e bytes (all_zero (came ms bytes).load) a s

@@ -1,0 +1,74 @@
+-- What contracts see of a master after these deeds, by looking back over them.
+use Rattle.std.specs.Prelude.{ℕ, ◌-◌, ◌*◌, Bool, true, false, List, [], Option, Some, None}
+use Rattle.fsoe_base.specs.declared.command.State.{State}
+use Rattle.fsoe_base.specs.declared.command.State.TheVariants as state
+use Rattle.seq_chain.specs.declared.chain.Chain.{Chain}
+use Rattle.param_load.specs.declared.master_settings.MasterSettings.{MasterSettings}
+use Rattle.param_load.specs.DownloadView.{DownloadView}
+use Rattle.end_model.specs.Setup.{Setup, OfMaster, piece_len}
+use Rattle.end_model.specs.Deed.{Deed}
+use Rattle.end_model.specs.Chain.{since, own, kept, own_link, taken_link}
+use Rattle.end_model.specs.Payloads.{or_else, nonce, id_sent, pay, count_in, terms}
+use Rattle.end_model.specs.Readiness.{state_of, offer, held, ticks}
+use Rattle.end_model.specs.Outputs.{outputs}
+use Rattle.master_core.specs.declared.now.Now.{Now}
+use Rattle.master_core.specs.declared.now.Now.TheVariants as now
+use Rattle.master_core.specs.Kit.{KitView}
+use Rattle.master_core.specs.MasterView.{MasterView}
+use Rattle.master_core.specs.States.{no_session}
+use Rattle.master_core.specs.Views.{ExchangeView}
+
+-- the offer, the hold and the nonce outlast sessions
+abbrev pub kit_of : MasterSettings → List Deed → KitView
+kit_of ms e = record { settings = ms; offer = record { load = offer (OfMaster ms) e; held = held e }; nonce = nonce (OfMaster ms) e }
+
+-- what a master notes of its session: the frames of a phase are those that it sent
+pub record Notes : Type 0 where
+  pub chain : Chain
+  pub kept : Option (List ℕ)
+  pub id : Option ℕ
+  pub session : ℕ
+  pub connection : ℕ
+  pub parameter : ℕ
+  pub outputs : List ℕ
+
+-- the notes after these deeds: the chain, the frame taken last, the session id, the frames of each phase, and the outputs
+abbrev pub notes_of : MasterSettings → List Deed → Notes
+notes_of ms e = record {
+  chain = record { own = own_link (OfMaster ms) (since e); taken = taken_link (OfMaster ms) (since e) };
+  kept = kept (since e);
+  id = id_sent (OfMaster ms) e;
+  session = count_in state.Session (own (since e));
+  connection = count_in state.Connection (own (since e));
+  parameter = count_in state.Parameter (own (since e));
+  outputs = outputs (OfMaster ms) e;
+}
+
+-- the bytes of the frame that was taken last, if one is kept
+abbrev pub bytes_kept : Option (List ℕ) → List ℕ
+bytes_kept None = []
+bytes_kept (Some bytes) = bytes
+
+-- a phase with this payload of which so many frames were sent: the piece of the last one is in turn
+abbrev pub exchange_of : MasterSettings → Notes → List ℕ → Bool → ℕ → ExchangeView
+exchange_of ms n payload echo count = record {
+  chain = n.chain;
+  download = record { payload = payload; piece = piece_len (OfMaster ms); echo = echo; from = (count - 1) * piece_len (OfMaster ms) };
+  last = bytes_kept n.kept;
+}
+
+-- the machine's state in each state, by what is noted
+abbrev pub now_in : State → MasterSettings → Notes → Now
+now_in state.Reset ms n = now.Reset no_session
+now_in state.Session ms n = now.Session (exchange_of ms n (pay ms (or_else n.id 0) state.Session) false n.session)
+now_in state.Connection ms n = now.Connection (exchange_of ms n (pay ms 0 state.Connection) true n.connection)
+now_in state.Parameter ms n = now.Parameter (exchange_of ms n (pay ms 0 state.Parameter) true n.parameter)
+now_in state.Data ms n = now.Data (record { chain = n.chain; terms = terms (OfMaster ms) []; outputs = n.outputs; last = bytes_kept n.kept })
+
+-- a master in this state after these deeds
+abbrev pub view_in : State → MasterSettings → List Deed → MasterView
+view_in p ms e = record { kit = kit_of ms e; state = now_in p ms (notes_of ms e); timer = record { limit = ms.watchdog; age = ticks (OfMaster ms) e } }
+
+-- a master after these deeds
+abbrev pub view_of : MasterSettings → List Deed → MasterView
+view_of ms e = view_in (state_of (OfMaster ms) e) ms e

@@ -1,0 +1,56 @@
+-- A master that accepted a frame, and hasn't sent the frame that is due then.
+use Rattle.std.specs.Prelude.{◌≡◌, ℕ, true, false, List, [], ◌∷◌}
+use Rattle.fsoe_base.specs.declared.did.Did.{Did}
+use Rattle.fsoe_frame.specs.Parts.{AreBytes}
+use Rattle.param_load.specs.declared.entry.Move.{Move}
+use Rattle.param_load.specs.declared.entry.Move.TheVariants as move
+use Rattle.param_load.specs.declared.master_settings.MasterSettings.{MasterSettings}
+use Rattle.end_model.specs.Setup.{OfMaster}
+use Rattle.end_model.specs.Deed.{Deed}
+use Rattle.end_model.specs.Standing.{Stands}
+use Rattle.end_model.specs.Step.{step, IsRun}
+use Rattle.master_core.specs.Master.{accepted}
+use Rattle.master_core.specs.MasterView.{MasterView}
+use Rattle.master_core.specs.Now.{is_due}
+use Rattle.master_core.specs.ViewOf.{view_of}
+
+-- a master that accepted these bytes after these deeds, and then told this
+pub record Waits (settings : MasterSettings) (v : MasterView) (e : List Deed) (bytes : List ℕ) (done : Did) : Type 0 where
+  pub is : v ≡ (accepted (view_of settings e) bytes).master
+  pub told : done ≡ (accepted (view_of settings e) bytes).did
+  pub reached : IsRun (OfMaster settings) e
+  pub read : AreBytes bytes
+
+-- a master that stood for some deeds accepted these bytes: it did what the delivery does but for the sending; it waits, or stands for
+-- these deeds and the delivery where nothing is due
+pub record Accepts (old : MasterView) (bytes : List ℕ) (done : Did) (new : MasterView) : Type 0 where
+  pub did : (settings : MasterSettings) (e : List Deed) → Stands OfMaster view_of settings old e → done ≡ record (step (OfMaster settings) e (move.Deliver bytes)).did { sent = false }
+  pub waits : (settings : MasterSettings) (e : List Deed) → Stands OfMaster view_of settings old e → Waits settings new e bytes done
+  pub stands : (settings : MasterSettings) (e : List Deed) → Stands OfMaster view_of settings old e → is_due new.state ≡ false
+      → Stands OfMaster view_of settings new (step (OfMaster settings) e (move.Deliver bytes) ∷ e)
+
+-- a master that waited after some deeds waits after these and this event, as if the event had come before the frame
+pub record Keeps (old : MasterView) (event : Move) (new : MasterView) : Type 0 where
+  pub waits : (settings : MasterSettings) (e : List Deed) (bytes : List ℕ) (done : Did) → Waits settings old e bytes done → Waits settings new (step (OfMaster settings) e event ∷ e) bytes done
+
+-- a master that waited after some deeds stands for these and the delivery of the bytes, and did and sent what the delivery does and sends
+pub record Replies (old : MasterView) (new : MasterView) (frame : List ℕ) : Type 0 where
+  pub stands : (settings : MasterSettings) (e : List Deed) (bytes : List ℕ) (done : Did) → Waits settings old e bytes done
+      → Stands OfMaster view_of settings new (step (OfMaster settings) e (move.Deliver bytes) ∷ e)
+  pub did : (settings : MasterSettings) (e : List Deed) (bytes : List ℕ) (done : Did) → Waits settings old e bytes done
+      → (step (OfMaster settings) e (move.Deliver bytes)).did ≡ record done { sent = is_due old.state }
+  pub sent : (settings : MasterSettings) (e : List Deed) (bytes : List ℕ) (done : Did) → Waits settings old e bytes done → frame ≡ (step (OfMaster settings) e (move.Deliver bytes)).sent
+
+-- what is put, held and set while a master waits, in order
+abbrev pub KeptOver : MasterView → List Move → MasterView → Type 0
+KeptOver first [] last = first ≡ last
+KeptOver first (event ∷ events) last = (v : MasterView) × Keeps first event v × KeptOver v events last
+
+-- a delivery in two calls, with these events between them
+pub record InTwo (old : MasterView) (bytes : List ℕ) (done : Did) (events : List Move) (new : MasterView) (frame : List ℕ) : Type 0 where
+  pub first : MasterView
+  pub last : MasterView
+  pub accepts : Accepts old bytes done first
+  pub kept : KeptOver first events last
+  pub due : is_due last.state ≡ true
+  pub replies : Replies last new frame
