@@ -13,7 +13,7 @@ use Rattle.param_load.specs.declared.entry.Entry.{Entry}
 use Rattle.param_load.specs.declared.master_settings.MasterSettings.{MasterSettings}
 use Rattle.param_load.specs.declared.slave_settings.SlaveSettings.{SlaveSettings}
 use Rattle.end_model.specs.Setup.{Setup, OfMaster, OfSlave}
-use Rattle.end_model.specs.Phases.{has_command, is_reset}
+use Rattle.end_model.specs.Phases.{has_command}
 use Rattle.end_model.specs.Deed.{Deed, is_empty}
 use Rattle.end_model.specs.Step.{step, takes, begun}
 use Rattle.end_model.proofs.DeedKinds.{Kind, Drops, Turns, Rests, Ages, Resets, Again, Rejoins, Starts, Takes, answer_to, kind}
@@ -23,6 +23,7 @@ use Rattle.exchange_model.specs.World.{setup_of, deeds, IsNextEntry, IsWorld}
 use Rattle.exchange_model.specs.Items.{Item, item_of, items_of, newest, answers_to, newest_answer, answer_among, awaited, items}
 use Rattle.exchange_model.specs.Fair.{data_taken, with_number, numbers_taken}
 use Rattle.exchange_model.proofs.Projection.{next_deed}
+use Rattle.exchange_model.proofs.Uploads.{not_reset}
 use Rattle.exchange_model.proofs.Numbered.{Numbered, Grown, Same, More, next_number, grown}
 
 -- what the item with this number answers
@@ -148,14 +149,6 @@ once-taken mine theirs ns j i h next o =
 -- an entry that took a frame sent one
 abbrev IsSending : Entry → Type 0
 IsSending x = is_some x.did.took ≡ true → is_empty x.sent ≡ false
-
-not_reset : (c : Command) → (c ≡ command.Reset → ⊥) → is_reset c ≡ false
-not_reset command.Reset n = absurd (n refl)
-not_reset command.Session n = refl
-not_reset command.Connection n = refl
-not_reset command.Parameter n = refl
-not_reset command.FailSafeData n = refl
-not_reset command.ProcessData n = refl
 
 master-sends : (ms : MasterSettings) (e : List Deed) (m : Move) (d : Did) (f : List ℕ) → Kind (OfMaster ms) e m d f → is_some d.took ≡ true → is_empty f ≡ false
 master-sends ms e m d f (Drops bytes passed because) h = cc
