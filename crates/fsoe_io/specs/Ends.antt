@@ -1,7 +1,7 @@
 -- What the sources and sinks in memory hold.
-use Rattle.std.specs.Prelude.{ℕ, List}
+use Rattle.std.specs.Prelude.{ℕ, ◌+◌, ◌-◌, ◌^◌, ◌==◌, nat_lt, Bool, ◌&&◌, not, List, length, min, if◌then◌else◌}
 use Rattle.std.specs.declared.option.Option.{Option}
-use Rattle.fsoe_io.specs.Planned.{Planned}
+use Rattle.fsoe_io.specs.Planned.{Planned, is_next_listed}
 
 -- the bytes left of a source, the most that it gives in a call, and the calls that fail
 pub record Feed : Type 0 where
@@ -15,10 +15,20 @@ pub record Told : Type 0 where
   pub room : ℕ
 
 -- the bytes that a sink took, the room for all of them, the most that it takes in a call, the calls that fail,
--- and how many further calls failed for want of room
+-- and how many others failed for want of room
 pub record Store : Type 0 where
   pub written : List ℕ
   pub room : ℕ
   pub most : ℕ
   pub planned : Planned
   pub refusals : ℕ
+
+-- whether a write finds no room: the piece has a byte, and the room is used up
+abbrev pub finds_no_room : Store → List ℕ → Bool
+finds_no_room store piece = nat_lt 0 (length piece) && length store.written == store.room
+
+-- the refusals after a write: one more where it finds no room and isn't listed; the count stays at 2^64 - 1
+abbrev pub refusals_after : Store → List ℕ → ℕ
+refusals_after store piece =
+    if finds_no_room store piece && not (is_next_listed store.planned) then min (store.refusals + 1) (2 ^ 64 - 1)
+    else store.refusals

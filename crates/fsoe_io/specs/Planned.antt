@@ -1,5 +1,5 @@
 -- Calls that are planned to fail, by their numbers from 1.
-use Rattle.std.specs.Prelude.{◌≡◌, ℕ, ◌+◌, ◌-◌, ◌^◌, ◌<◌, ◌==◌, zero, suc, Bool, List, min, if◌then◌else◌}
+use Rattle.std.specs.Prelude.{ℕ, ◌+◌, ◌-◌, ◌^◌, ◌==◌, nat_lt, zero, suc, Bool, ◌&&◌, List, min, if◌then◌else◌}
 use Rattle.std.specs.List.{list_any}
 
 -- the numbers of the calls that fail, and how many calls there were
@@ -25,5 +25,5 @@ abbrev pub with_one_more : Planned → Planned
 with_one_more planned = record { fails = planned.fails; calls = min (planned.calls + 1) (2 ^ 64 - 1) }
 
 -- whether the next call is listed; no call after the first 2^64 - 1 has a number that can be listed
-abbrev pub IsNextListed : Planned → Bool → Type 0
-IsNextListed planned listed = planned.calls < 2 ^ 64 - 1 → listed ≡ is_listed planned.fails (planned.calls + 1)
+abbrev pub is_next_listed : Planned → Bool
+is_next_listed planned = nat_lt planned.calls (2 ^ 64 - 1) && is_listed planned.fails (planned.calls + 1)

@@ -1,7 +1,8 @@
 //! Sinks in memory.
-ghost use Rattle.std.specs.Prelude.{◌≡◌, ◌+◌, ◌-◌, ◌≤◌, ◌<◌, Some, None, [], length, min, IfOk, IfSome, IsSome, IsErr, is_err, if◌then◌else◌};
+ghost use Rattle.std.specs.Prelude.{◌≡◌, ◌+◌, ◌-◌, ◌≤◌, ◌<◌, ◌||◌, Some, None, [], length, min, IfOk, IfSome, IsSome, is_err};
+ghost use Rattle.fsoe_io.specs.Ends.{finds_no_room, refusals_after};
 ghost use Rattle.fsoe_io.specs.Faults.{HasCause};
-ghost use Rattle.fsoe_io.specs.Planned.{IsNextListed, planned_faults, with_one_more};
+ghost use Rattle.fsoe_io.specs.Planned.{is_next_listed, planned_faults, with_one_more};
 ghost use Rattle.fsoe_io.specs.Sink.{TakesSome, WriteGrows};
 
 use crate::planned::PlannedCalls;
@@ -11,7 +12,8 @@ use fsoe_base::Memory;
 use std::alloc::Global;
 use std::marker::Model;
 
-/// A sink in memory whose listed calls fail, and those with a byte to take once its room is used up.
+/// A sink in memory whose listed calls fail, and those with a byte to take once its room is used up. Its count of faults
+/// is the number of listed calls so far and that of the others that found no room: a call that is both counts once.
 #[derive(Drop)]
 pub struct MemSink {
     room: Vec<u8>,
@@ -82,12 +84,12 @@ impl Sink for MemSink {
             (planned_faults self.old.planned + self.old.refusals)
             (planned_faults self.new.planned + self.new.refusals)
             result }
-        // Each call counts. It fails at the listed ones and where its room is used up, and else takes as much as it may.
+        // Each call counts. It fails exactly where it is listed or finds no room, and else takes as much as it may. A call
+        // that is listed and finds no room counts once, as listed.
         ensures counts { self.new.planned ≡ with_one_more self.old.planned }
-        ensures fails { length self.old.written < self.old.room → IsNextListed self.old.planned (is_err result) }
-        ensures full { length self.old.written ≡ self.old.room → 0 < length piece.now → IsErr result }
+        ensures fails { is_err result ≡ (is_next_listed self.old.planned || finds_no_room self.old piece.now) }
         ensures count { IfOk result (λ n. n ≡ min (min (length piece.now) (self.old.room - length self.old.written)) self.old.most) }
-        ensures refusals { self.new.refusals ≤ self.old.refusals + (if is_err result then 1 else 0) }
+        ensures refusals { self.new.refusals ≡ refusals_after self.old piece.now }
         ensures room { self.new.room ≡ self.old.room }
         ensures most { self.new.most ≡ self.old.most }
     {

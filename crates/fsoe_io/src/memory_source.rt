@@ -3,7 +3,7 @@ ghost use Rattle.std.specs.Io.KnownBytes.{ReadConsumes};
 ghost use Rattle.std.specs.Io.{ReadsAtMost};
 ghost use Rattle.std.specs.Prelude.{◌≡◌, ◌<◌, Some, List, ℕ, length, min, is_err, IfOk};
 ghost use Rattle.fsoe_io.specs.Faults.{HasCause};
-ghost use Rattle.fsoe_io.specs.Planned.{IsNextListed, planned_faults, with_one_more};
+ghost use Rattle.fsoe_io.specs.Planned.{is_next_listed, planned_faults, with_one_more};
 
 use crate::planned::PlannedCalls;
 use crate::source::{Failed, Source};
@@ -102,7 +102,7 @@ impl Source for MemSource {
         ensures cause { HasCause (planned_faults self.old.planned) (planned_faults self.new.planned) result }
         // Each call counts. It fails exactly at the listed ones, and else gives as much as it may.
         ensures counts { self.new.planned ≡ with_one_more self.old.planned }
-        ensures fails { IsNextListed self.old.planned (is_err result) }
+        ensures fails { is_err result ≡ is_next_listed self.old.planned }
         ensures count { IfOk result (λ n. n ≡ min (min (length buffer.old) self.old.most) (length self.old.left)) }
         ensures most { self.new.most ≡ self.old.most }
     {

@@ -1,6 +1,6 @@
 //! Calls that are planned to fail.
 ghost use Rattle.std.specs.Prelude.{◌≡◌, ◌+◌, if◌then◌else◌};
-ghost use Rattle.fsoe_io.specs.Planned.{IsNextListed, planned_faults, with_one_more};
+ghost use Rattle.fsoe_io.specs.Planned.{is_next_listed, planned_faults, with_one_more};
 
 use std::marker::Model;
 
@@ -29,7 +29,7 @@ impl PlannedCalls {
 
     /// Counts a call, and says whether it fails. After 2^64 - 1 calls none fails, and the count stands.
     pub fn next_fails(&mut self) -> bool
-        ensures listed { IsNextListed self.old result }
+        ensures listed { result ≡ is_next_listed self.old }
         ensures counts { self.new ≡ with_one_more self.old }
         ensures faults { planned_faults self.new ≡ planned_faults self.old + (if result then 1 else 0) }
     {
