@@ -1,5 +1,5 @@
 //! Sinks in memory.
-ghost use Rattle.std.specs.Prelude.{◌≡◌, ◌+◌, ◌-◌, ◌≤◌, ◌<◌, ◌||◌, Some, None, [], length, min, IfOk, IfSome, IsSome, is_err};
+ghost use Rattle.std.specs.Prelude.{◌≡◌, ◌+◌, ◌-◌, ◌≤◌, ◌<◌, ◌||◌, Some, None, [], length, min, ◌++◌, IfOk, IfSome, IsNone, SomeIff, is_err};
 ghost use Rattle.fsoe_io.specs.Ends.{finds_no_room, refusals_after};
 ghost use Rattle.fsoe_io.specs.Faults.{HasCause};
 ghost use Rattle.fsoe_io.specs.Planned.{is_next_listed, planned_faults, with_one_more};
@@ -12,8 +12,9 @@ use fsoe_base::Memory;
 use std::alloc::Global;
 use std::marker::Model;
 
-/// A sink in memory whose listed calls fail, and those with a byte to take once its room is used up. Its count of faults
-/// is the number of listed calls so far and that of the others that found no room: a call that is both counts once.
+/// A sink in memory whose listed calls fail, and those with a byte to take once its room is used up. Its count of
+/// faults is the number of listed calls so far and that of the others that found no room: a call that is both counts
+/// once.
 #[derive(Drop)]
 pub struct MemSink {
     room: Vec<u8>,
@@ -107,8 +108,8 @@ impl Sink for MemSink {
     }
 }
 
-/// A sink in memory that never fails. It tells what was written until its room is used up; from then on it takes
-/// bytes and tells nothing.
+/// A sink in memory that never fails. It tells what was written until a piece doesn't fit into its room; from then on
+/// it takes bytes and tells nothing.
 #[derive(Drop)]
 pub struct SureSink {
     room: Vec<u8>,
@@ -146,10 +147,14 @@ impl SureSink {
         }
     }
 
-    /// What was written, until the room was used up.
+    /// What was written, and nothing once a piece didn't fit into the room.
     pub fn bytes(&self) -> &[u8]
-        ensures { IfSome self.now.written (λ written. result.now ≡ written) }
+        ensures told { IfSome self.now.written (λ written. result.now ≡ written) }
+        ensures untold { IsNone self.now.written → result.now ≡ [] }
     {
+        if self.over {
+            return &[];
+        }
         &self.room[..self.len]
     }
 }
@@ -163,10 +168,10 @@ impl Sink for SureSink {
         ensures bound { TakesSome result piece.now }
         ensures bytes { WriteGrows self.old.written self.new.written result piece.now }
         ensures cause { HasCause 0 0 result }
-        // It takes the whole piece, and goes on to tell what was written while there is room for it.
+        // It takes the whole piece, and goes on to tell what was written exactly where the piece fits into the room.
         ensures count { result ≡ Ok (length piece.now) }
         ensures tells { IfSome self.old.written (λ written.
-            length written + length piece.now ≤ self.old.room → IsSome self.new.written) }
+            SomeIff self.new.written (length written + length piece.now ≤ self.old.room) (written ++ piece.now)) }
         ensures room { self.new.room ≡ self.old.room }
     {
         if self.over || piece.len() > self.room.len() - self.len {

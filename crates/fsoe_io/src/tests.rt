@@ -115,9 +115,11 @@ fn an_output_sends_what_waits(rt: HostRuntime) -> Result<(), Fail> {
 #[test]
 fn a_sure_sink_takes_more_than_it_tells(rt: HostRuntime) -> Result<(), Fail> {
     let mut sink = SureSink::new(rt.alloc(), 4).ok().ok_or("no memory")?;
-    assert_eq!(rt; put_all(&mut sink, b"abc"), Ok(()));
-    assert_eq!(rt; put_all(&mut sink, b"def"), Ok(()));
-    assert_eq!(rt; sink.bytes(), b"abc".as_slice());
+    let rows: [(&[u8], &[u8]); 4] = [(b"abc", b"abc"), (b"d", b"abcd"), (b"ef", b""), (b"", b"")];
+    for (piece, told) in rows {
+        assert_eq!(rt; put_all(&mut sink, piece), Ok(()));
+        assert_eq!(rt; sink.bytes(), told);
+    }
     Ok(())
 }
 
