@@ -1,5 +1,5 @@
 -- What is known of a frame of a session that came, and how a master goes on by it and by the frame that follows.
-use Rattle.std.proofs.Common.{◌≡◌, ℕ, ◌+◌, ◌-◌, ◌≤◌, ◌==◌, List, [], ◌∷◌, length, Bool, true, false, Some, if◌then◌else◌, refl, ◌∙◌, arith}
+use Rattle.std.proofs.Common.{◌≡◌, ℕ, ◌≤◌, List, ◌∷◌, length, false, refl, arith}
 use Rattle.std.proofs.lemmas.Grind.{common_steps}
 use Rattle.fsoe_base.specs.declared.command.Command.{Command}
 use Rattle.fsoe_base.specs.declared.command.Command.TheVariants as command
@@ -17,7 +17,7 @@ use Rattle.param_load.specs.Payload.{piece_from, padded}
 use Rattle.end_model.specs.Setup.{Setup, OfMaster, sends, receives}
 use Rattle.end_model.specs.Phases.{is_reset}
 use Rattle.end_model.specs.Deed.{Deed, is_empty}
-use Rattle.end_model.specs.Chain.{own_link, taken_link, seal}
+use Rattle.end_model.specs.Chain.{own_link, taken_link}
 use Rattle.end_model.specs.Step.{takes, begun}
 use Rattle.end_model.proofs.Links.{own_crc}
 use Rattle.end_model.proofs.ReadBack.{read_back}

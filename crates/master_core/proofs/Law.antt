@@ -1,5 +1,5 @@
 -- The law: a master that stands for some deeds stands after an event for these and the next one, and answers as that one does.
-use Rattle.std.proofs.Common.{◌≡◌, ◌≢◌, ℕ, List, [], ◌∷◌, Bool, Option, refl, sym, ap, subst, ◌∙◌}
+use Rattle.std.proofs.Common.{◌≡◌, ◌≢◌, ℕ, List, [], Bool, Option, refl, sym, ap, subst, ◌∙◌}
 use Rattle.fsoe_base.specs.declared.command.State.{State}
 use Rattle.fsoe_base.specs.declared.command.State.TheVariants as state
 use Rattle.fsoe_base.specs.declared.did.Did.{Did}
@@ -10,7 +10,7 @@ use Rattle.end_model.specs.Setup.{OfMaster}
 use Rattle.end_model.specs.Deed.{Deed}
 use Rattle.end_model.specs.Payloads.{terms}
 use Rattle.end_model.specs.Readiness.{state_of, age, told_in, told_terms, offer, held}
-use Rattle.end_model.specs.Step.{did_on, run, IsProper, IsRun}
+use Rattle.end_model.specs.Step.{did_on, run, IsProper}
 use Rattle.end_model.specs.Outputs.{zeros, outputs, out}
 use Rattle.end_model.specs.Standing.{Stands, Follows, Answers, Shows, Called, events_of}
 use Rattle.end_model.proofs.Calls.{stands_called, run_called}

@@ -1,5 +1,5 @@
 -- What a frame that passed the tests tells.
-use Rattle.std.proofs.Common.{◌≡◌, ℕ, Bool, true, false, IsTrue, List, length, Option, Some, None, if◌then◌else◌, refl, ◌∙◌}
+use Rattle.std.proofs.Common.{◌≡◌, ℕ, Bool, true, false, IsTrue, List, Some, None, if◌then◌else◌, refl, ◌∙◌}
 use Rattle.fsoe_base.specs.declared.command.Code.{Code}
 use Rattle.fsoe_base.specs.Command.{code}
 use Rattle.fsoe_base.specs.Lengths.{is_length}

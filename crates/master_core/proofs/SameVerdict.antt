@@ -25,7 +25,6 @@ use Rattle.end_model.specs.Chain.{since, kept, taken_link, fits}
 use Rattle.end_model.specs.Readiness.{state_of, master_allows, allowed}
 use Rattle.end_model.specs.Verdict as model
 use Rattle.end_model.proofs.Links.{own_crc}
-use Rattle.master_core.specs.declared.now.Now.{Now}
 use Rattle.master_core.specs.Master.{Accepted, drops, refuses, on_reset_frame, settles, on_session, accepted_by, accepted}
 use Rattle.master_core.specs.Now as machine
 use Rattle.master_core.specs.ViewOf.{Notes, notes_of, kit_of, now_in, view_in}

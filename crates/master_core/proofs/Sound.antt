@@ -1,5 +1,5 @@
 -- What holds of a master in each state, after every run.
-use Rattle.std.proofs.Common.{◌≡◌, ℕ, ◌<◌, List, length, replicate, Some, None}
+use Rattle.std.proofs.Common.{◌≡◌, ◌<◌, List, length, replicate, Some, None}
 use Rattle.fsoe_base.specs.declared.command.State.{State}
 use Rattle.fsoe_base.specs.declared.command.State.TheVariants as state
 use Rattle.param_load.specs.declared.master_settings.MasterSettings.{MasterSettings}

@@ -8,7 +8,7 @@ use Rattle.param_load.specs.declared.entry.Move.TheVariants as move
 use Rattle.param_load.specs.declared.master_settings.MasterSettings.{MasterSettings}
 use Rattle.end_model.specs.Setup.{OfMaster}
 use Rattle.end_model.specs.Deed.{Deed}
-use Rattle.end_model.specs.Payloads.{or_else, first_some, pieces}
+use Rattle.end_model.specs.Payloads.{or_else, first_some}
 use Rattle.end_model.specs.Step.{takes, deed_of}
 use Rattle.master_core.specs.Master.{Outcome}
 use Rattle.master_core.specs.MasterView.{MasterView}

@@ -1,5 +1,5 @@
 -- What a master has in every state: its settings, its offer, and its nonce.
-use Rattle.std.specs.Prelude.{◌≡◌, ℕ, min, true, false, IsTrue, List, length}
+use Rattle.std.specs.Prelude.{◌≡◌, ℕ, min, true, false, IsTrue, length}
 use Rattle.param_load.specs.declared.master_settings.MasterSettings.{MasterSettings}
 use Rattle.param_load.specs.declared.terms.Terms.{Terms}
 use Rattle.param_load.specs.Download.{download}

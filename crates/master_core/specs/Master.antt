@@ -20,7 +20,6 @@ use Rattle.seq_chain.specs.Reset.{reset_frame}
 use Rattle.seq_chain.specs.SessionFrame.{SessionFrameView}
 use Rattle.master_core.specs.declared.due.Next.{Next}
 use Rattle.master_core.specs.declared.due.Next.TheVariants as next
-use Rattle.master_core.specs.declared.now.Now.{Now}
 use Rattle.master_core.specs.declared.now.Now.TheVariants as now
 use Rattle.master_core.specs.Kit.{own_len, peer_len, first_kit}
 use Rattle.master_core.specs.Now.{is_reset, is_due, kept, is_repeat, fault, taken, replied, reply}

@@ -1,5 +1,5 @@
 -- What contracts see of a master.
-use Rattle.std.specs.Prelude.{◌≡◌, ℕ}
+use Rattle.std.specs.Prelude.{◌≡◌}
 use Rattle.failsafe_io.specs.Timer.{Timer}
 use Rattle.master_core.specs.declared.now.Now.{Now}
 use Rattle.master_core.specs.Kit.{KitView}

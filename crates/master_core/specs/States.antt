@@ -2,9 +2,8 @@
 use Rattle.std.specs.Prelude.{ℕ, List, Result, Ok, Err, None, replicate, if◌then◌else◌}
 use Rattle.fsoe_base.specs.declared.command.Code.{Code}
 use Rattle.fsoe_base.specs.declared.command.Command.{Command}
-use Rattle.fsoe_base.specs.declared.command.Command.TheVariants as command
 use Rattle.fsoe_base.specs.Command.{command_byte, code}
-use Rattle.fsoe_frame.specs.Parts.{Frame, bytes_of}
+use Rattle.fsoe_frame.specs.Parts.{bytes_of}
 use Rattle.seq_chain.specs.declared.chain.Chain.{Chain}
 use Rattle.seq_chain.specs.Chain.{sealed_by, after_sent, after_taken}
 use Rattle.seq_chain.specs.SessionFrame.{SessionFrameView}

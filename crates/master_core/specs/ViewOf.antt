@@ -4,8 +4,7 @@ use Rattle.fsoe_base.specs.declared.command.State.{State}
 use Rattle.fsoe_base.specs.declared.command.State.TheVariants as state
 use Rattle.seq_chain.specs.declared.chain.Chain.{Chain}
 use Rattle.param_load.specs.declared.master_settings.MasterSettings.{MasterSettings}
-use Rattle.param_load.specs.DownloadView.{DownloadView}
-use Rattle.end_model.specs.Setup.{Setup, OfMaster, piece_len}
+use Rattle.end_model.specs.Setup.{OfMaster, piece_len}
 use Rattle.end_model.specs.Deed.{Deed}
 use Rattle.end_model.specs.Chain.{since, own, kept, own_link, taken_link}
 use Rattle.end_model.specs.Payloads.{or_else, nonce, id_sent, pay, count_in, terms}

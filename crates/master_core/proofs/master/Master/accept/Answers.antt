@@ -1,4 +1,4 @@
-use Rattle.std.proofs.Common.{sym, ap, ◌∙◌, arith}
+use Rattle.std.proofs.Common.{arith}
 use Rattle.master_core.proofs.Waiting.{accepts_by}
 use Rattle.master_core.proofs.master.Master.accept.Goals as goal
 
