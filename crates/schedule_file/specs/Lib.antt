@@ -13,3 +13,4 @@ pub mod LinesLeft
 pub mod NodeEvent
 pub mod PairEvent
 pub mod Place
+pub mod WorkedInputs

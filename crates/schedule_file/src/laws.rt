@@ -1,5 +1,5 @@
 //! What is written is read again, and what inputs say.
-ghost use Rattle.std.specs.Prelude.{◌≡◌, [], None};
+ghost use Rattle.std.specs.Prelude.{◌≡◌, [], ◌∷◌, None, codes, true};
 ghost use Rattle.std.specs.declared.result.Result.TheVariants.{Ok};
 ghost use Rattle.fsoe_base.specs.declared.command.End.{End};
 ghost use Rattle.fsoe_base.specs.declared.lengths.Lengths.{Lengths};
@@ -8,7 +8,11 @@ ghost use Rattle.schedule_file.specs.declared.event.Event.{Event};
 ghost use Rattle.schedule_file.specs.declared.event.ScheduleLine.TheVariants.{Step};
 ghost use Rattle.schedule_file.specs.Event.{Fits};
 ghost use Rattle.schedule_file.specs.EventText.{IsOfTypes, event_text};
-ghost use Rattle.schedule_file.specs.Input.{NoLine, Refused, node_input};
+ghost use Rattle.schedule_file.specs.Input.{AtEnd, NoLine, NoNewline, Line, Refused, node_input};
+ghost use Rattle.schedule_file.specs.WorkedInputs.{input_with};
+ghost use Rattle.schedule_file.specs.declared.event.Event.TheVariants as event;
+ghost use Rattle.schedule_file.specs.declared.line_cause.LineCause.TheVariants as cause;
+ghost use Rattle.fsoe_base.specs.declared.command.End.TheVariants as side;
 ghost use Rattle.schedule_file.specs.PairEvent.{pair_line};
 
 /// The line that is written of an event is read as the same event, under all lengths and profiles that the event fits.
@@ -20,4 +24,14 @@ pub fn written_is_read()
 /// An input without a byte is refused at its first line, since there is none.
 pub fn no_bytes_are_refused()
     ensures { (end : End) → node_input end [] ≡ record { heading = None; events = []; stop = Refused 1 NoLine } }
+{}
+
+/// What inputs of a slave's node say that have a header of five lines: two events and the end; an id with a leading
+/// zero; a line without its newline; and no line where one has to be.
+pub fn worked_inputs()
+    ensures events { (input_with (codes "t\nh 1\nend\n")).events ≡ event.Tick side.Slave ∷ event.Hold side.Slave true ∷ [] }
+    ensures end { (input_with (codes "t\nh 1\nend\n")).stop ≡ AtEnd }
+    ensures leading_zero { (input_with (codes "t\nn 007\nend\n")).stop ≡ Refused 7 (Line cause.Number) }
+    ensures no_newline { (input_with (codes "t\nend")).stop ≡ Refused 7 NoNewline }
+    ensures no_end { (input_with (codes "t\n")).stop ≡ Refused 7 NoLine }
 {}
