@@ -401,7 +401,7 @@ impl Master {
         self.state.terms()
     }
 
-    /// The ticks since a frame was sent last; 0 while a frame is due.
+    /// The ticks since the last frame was sent, 0 while a frame is due. That of a new master is its watchdog less 1.
     #[tactic(auto, using(crate::proofs::Law::age_shown))]
     pub fn age(&self) -> u16
         ensures shown { Shows OfMaster view_of self.now result model.age }

@@ -8,7 +8,8 @@ use std::test::Fail;
 /// What the last of these frames gives to an upload, or the first code; Whole also where frames are left.
 fn outcome(upload: &mut Upload, frames: &[[u8; 2]]) -> Result<Progress, Code>
     requires { upload.old.piece ≡ 2 }
-    ensures { upload.new.piece ≡ 2 }
+    ensures piece { upload.new.piece ≡ 2 }
+    ensures expected { upload.new.expected ≡ upload.old.expected }
 {
     let mut last = Progress::More;
     for frame in frames {
@@ -77,11 +78,19 @@ fn a_whole_upload_tells_what_came(rt: HostRuntime) {
     let frames = [[2, 0], [100, 0], [1, 0], [0x20, 0]];
     assert_eq!(rt; outcome(&mut upload, &frames), Ok(Progress::Whole));
     assert_eq!(rt; upload.echo(4).bytes(), [0x20, 0, 0, 0].as_slice());
+    assert_eq!(rt; upload.is_whole(), true);
+    if upload.is_whole() {
+        assert_eq!(rt; upload.watchdog(), 100);
+        assert_eq!(rt; upload.app().bytes(), [0x20].as_slice());
+    }
     let mut upload = Upload::session(2, Profile::Two(7));
     assert_eq!(rt;
         outcome(&mut upload, &[[1, 2], [3, 4]]),
         Ok(Progress::Whole)
     );
+    if upload.is_whole() {
+        assert_eq!(rt; upload.id(), 0x0403_0201);
+    }
 }
 
 /// What the last of these answers gives to a download, or the first code; Whole also where answers are left.

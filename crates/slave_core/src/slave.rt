@@ -360,7 +360,7 @@ impl Slave {
         self.state.terms()
     }
 
-    /// The ticks since a frame was taken or sent last, 0 in state Reset.
+    /// The ticks since the last frame was sent, 0 in state Reset.
     #[tactic(auto, using(crate::proofs::Law::age_shown))]
     pub fn age(&self) -> u16
         ensures { Shows OfSlave view_of self.now result model.age }
