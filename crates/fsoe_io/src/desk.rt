@@ -24,8 +24,8 @@ pub trait Desk {
     ghost faults: { Self → List ℕ → ℕ };
 
     /// The bytes under the name. `TooLong` comes exactly where the load didn't fail and they are more than `limit`.
-    /// `Failed` comes only where the count of this name rose, or stands at 2^64 - 1, and where the name is absent.
-    /// `Memory` comes where there is none for the bytes.
+    /// `Failed` comes only where the count of this name rose, or stands at 2^64 - 1. `Memory` comes where there is none
+    /// for the bytes.
     fn load(&mut self, name: &str, limit: usize) -> Result<Vec<u8>, LoadFault>
         ensures bytes { IfOk result (λ text. IfSome (holds self.old name.now) (λ held. text.items ≡ held)) }
         ensures within { IfOk result (λ text. length text.items ≤ limit) }

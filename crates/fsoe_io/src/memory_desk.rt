@@ -76,8 +76,8 @@ fn find_text<'a>(files: &'a [(String, Vec<u8>)], name: &str) -> Option<&'a Vec<u
     }
 }
 
-/// A desk in memory whose listed calls fail, and the loads of names that it doesn't have. It keeps the names of the
-/// loads that failed.
+/// A desk in memory whose listed calls fail, and the loads of names that it doesn't have: a load of an absent name is
+/// `Failed`, unless memory runs out. It keeps the names of the loads that failed.
 #[derive(Drop)]
 pub struct MemDesk {
     files: Vec<(String, Vec<u8>)>,
