@@ -7,3 +7,4 @@ pub mod Split
 pub mod Space
 pub mod HexDigits
 pub mod ReadBack
+pub mod FewEvents

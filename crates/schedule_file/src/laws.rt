@@ -1,5 +1,5 @@
 //! What is written is read again, and what inputs say.
-ghost use Rattle.std.specs.Prelude.{◌≡◌, [], ◌∷◌, None, codes, true};
+ghost use Rattle.std.specs.Prelude.{◌≡◌, ◌≤◌, ℕ, List, [], ◌∷◌, None, codes, length, true};
 ghost use Rattle.std.specs.declared.result.Result.TheVariants.{Ok};
 ghost use Rattle.fsoe_base.specs.declared.command.End.{End};
 ghost use Rattle.fsoe_base.specs.declared.lengths.Lengths.{Lengths};
@@ -24,6 +24,11 @@ pub fn written_is_read()
 /// An input without a byte is refused at its first line, since there is none.
 pub fn no_bytes_are_refused()
     ensures { (end : End) → node_input end [] ≡ record { heading = None; events = []; stop = Refused 1 NoLine } }
+{}
+
+/// An input has at most 200,000 events.
+pub fn inputs_have_few_events()
+    ensures { (end : End) (bytes : List ℕ) → length (node_input end bytes).events ≤ 200000 }
 {}
 
 /// What inputs of a slave's node say that have a header of five lines: two events and the end; an id with a leading
