@@ -10,7 +10,7 @@ use Rattle.fsoe_base.specs.declared.did.Cause.TheVariants as cause
 use Rattle.fsoe_base.specs.declared.did.Dropped.{Dropped}
 use Rattle.fsoe_base.specs.declared.did.Dropped.TheVariants as why
 use Rattle.fsoe_base.specs.declared.did.Did.{Did}
-use Rattle.fsoe_base.specs.Did.{nothing, dropped}
+use Rattle.fsoe_base.specs.Did.{nothing, dropped, resets}
 use Rattle.fsoe_frame.specs.Parts.{frame_of}
 use Rattle.seq_chain.specs.Cover.{first_of}
 use Rattle.seq_chain.specs.Reset.{reset_frame}
@@ -21,7 +21,7 @@ use Rattle.end_model.specs.Setup.{Setup, OfMaster, OfSlave, sends, receives}
 use Rattle.end_model.specs.Deed.{Deed}
 use Rattle.end_model.specs.Readiness.{state_of, age, limit}
 use Rattle.end_model.specs.Verdict.{Verdict, Valid, WrongLength, Repeated, Refused, Wrong, verdict}
-use Rattle.end_model.specs.Step.{takes, resets, on_fault, on_reset_frame, on_verdict, on_expiry, code_sent, answer, begun, deed_of, step}
+use Rattle.end_model.specs.Step.{takes, on_fault, on_reset_frame, on_verdict, on_expiry, code_sent, answer, begun, deed_of, step}
 use Rattle.end_model.proofs.Accepted.{Accepted, passes}
 
 -- events that set something of an end

@@ -7,6 +7,7 @@ use Rattle.fsoe_base.specs.declared.command.Command.{Command}
 use Rattle.fsoe_base.specs.declared.command.Command.TheVariants as command
 use Rattle.fsoe_base.specs.declared.command.Code.{Code}
 use Rattle.fsoe_base.specs.declared.did.Dropped.TheVariants as why
+use Rattle.fsoe_base.specs.Data.{is_data}
 use Rattle.fsoe_base.specs.Did.{nothing, dropped}
 use Rattle.seq_chain.specs.Cover.{first_of}
 use Rattle.param_load.specs.declared.entry.Move.{Move}
@@ -20,7 +21,7 @@ use Rattle.end_model.specs.Chain.{since, kept}
 use Rattle.end_model.specs.Readiness.{state_of, age, limit, is_done}
 use Rattle.end_model.specs.Verdict.{Verdict, verdict}
 use Rattle.end_model.specs.Step.{takes, on_fault, on_reset_frame, on_verdict, on_expiry, with_data, slave_answer, download, after_phase, deed_of, step, IsProper}
-use Rattle.end_model.specs.Reactions.{HasNoSession, IsHandshake, OfSession, OfConnection, OfParameter, AfterSession, AfterConnection, IsData, OfProcessData, OfFailSafeData, IsResetFrame, IsValid, Fails, fault, received, answered, pieces_sent, all_pieces, IsExchange, Taking, SlaveRejoins, SlaveStarts, SlaveGoesOn, SlaveNextPhase, SlaveFirstData, SlaveMoreData, MasterStarts, MasterGoesOn, MasterNextPhase, MasterFirstData, MasterMoreData, Puts, Holds, SetsNonce, Rests, Ages, Expires, SendsAgain, ResetsItself, DropsLength, DropsRepeat, DropsInReset, DropsReset, Refuses, PeerResets, Answers, IsReaction}
+use Rattle.end_model.specs.Reactions.{HasNoSession, IsHandshake, OfSession, OfConnection, OfParameter, AfterSession, AfterConnection, IsResetFrame, IsValid, Fails, fault, received, answered, pieces_sent, all_pieces, IsExchange, Taking, SlaveRejoins, SlaveStarts, SlaveGoesOn, SlaveNextPhase, SlaveFirstData, SlaveMoreData, MasterStarts, MasterGoesOn, MasterNextPhase, MasterFirstData, MasterMoreData, Puts, Holds, SetsNonce, Rests, Ages, Expires, SendsAgain, ResetsItself, DropsLength, DropsRepeat, DropsInReset, DropsReset, Refuses, PeerResets, Answers, IsReaction}
 use Rattle.end_model.proofs.Heads.{IsInSession, master_frame, slave_frame, data_phase}
 use Rattle.end_model.proofs.Judged.{Judged, HasOtherLength, IsKept, FailsTest, FailsContents, ResetsFrame, IsNext, is_judged}
 use Rattle.end_model.proofs.Ways.{SlaveWay, Start, More, Next, First, Data, slave_way, MasterWay, Echo, Reply, master_way}
@@ -59,9 +60,13 @@ no-reset command.Parameter n = refl
 no-reset command.FailSafeData n = refl
 no-reset command.ProcessData n = refl
 
-slave-data : (ss : SlaveSettings) (e : List Deed) (c : Command) (load : List ℕ) → IsData c → slave_answer ss e c load ≡ with_data (OfSlave ss) e
-slave-data ss e c load OfProcessData = refl
-slave-data ss e c load OfFailSafeData = refl
+slave-data : (ss : SlaveSettings) (e : List Deed) (c : Command) (load : List ℕ) → is_data c ≡ true → slave_answer ss e c load ≡ with_data (OfSlave ss) e
+slave-data ss e command.Reset load h = cc
+slave-data ss e command.Session load h = cc
+slave-data ss e command.Connection load h = cc
+slave-data ss e command.Parameter load h = cc
+slave-data ss e command.FailSafeData load h = refl
+slave-data ss e command.ProcessData load h = refl
 
 -- a slave takes a frame of a session, and answers it
 slave-exchange : (ss : SlaveSettings) (e : List Deed) (bytes load : List ℕ) (c : Command) → c ≢ command.Reset → IsValid (OfSlave ss) e bytes c load
@@ -70,12 +75,16 @@ slave-exchange ss e bytes load c n valid =
     let f : IsInSession (slave_answer ss (received bytes c load e) c load) = slave_frame ss (received bytes c load e) c load (no-reset c n) in
     record { valid = valid; is_made = refl; in_session = f; after = slave-after ss e bytes load c (slave_answer ss (received bytes c load e) c load) (no-reset c n) f }
 
-data-phase : (c : Command) → IsData c → phase_of c ≡ state.Data
-data-phase c OfProcessData = refl
-data-phase c OfFailSafeData = refl
+data-phase : (c : Command) → is_data c ≡ true → phase_of c ≡ state.Data
+data-phase command.Reset h = cc
+data-phase command.Session h = cc
+data-phase command.Connection h = cc
+data-phase command.Parameter h = cc
+data-phase command.FailSafeData h = refl
+data-phase command.ProcessData h = refl
 
 -- a slave takes data, and answers with data
-slave-data-exchange : (ss : SlaveSettings) (e : List Deed) (bytes load : List ℕ) (c : Command) → c ≢ command.Reset → IsValid (OfSlave ss) e bytes c load → IsData c
+slave-data-exchange : (ss : SlaveSettings) (e : List Deed) (bytes load : List ℕ) (c : Command) → c ≢ command.Reset → IsValid (OfSlave ss) e bytes c load → is_data c ≡ true
     → IsExchange (OfSlave ss) e bytes load c (slave_answer ss (received bytes c load e) c load) (with_data (OfSlave ss) (received bytes c load e)) state.Data
 slave-data-exchange ss e bytes load c n valid is =
     let x : IsExchange (OfSlave ss) e bytes load c (slave_answer ss (received bytes c load e) c load) (slave_answer ss (received bytes c load e) c load) (phase_of c) = slave-exchange ss e bytes load c n valid in
@@ -151,9 +160,13 @@ master-echo ms e bytes load c OfConnection now valid =
 master-echo ms e bytes load c OfParameter now valid =
     Answers bytes load command.Parameter _ (master-next ms e bytes load command.Parameter (nat_lt (pieces_sent e state.Parameter) (all_pieces ms e state.Parameter)) OfParameter now valid refl)
 
-master-reply : (ms : MasterSettings) (e : List Deed) (bytes load : List ℕ) (c : Command) → IsData c → state_of (OfMaster ms) e ≡ state.Data → IsValid (OfMaster ms) e bytes c load → is_next (OfMaster ms) e bytes load c
-master-reply ms e bytes load c OfProcessData now valid = Answers bytes load command.ProcessData _ (MasterMoreData ms command.ProcessData _ OfProcessData now (data-exchange ms e bytes load command.ProcessData valid))
-master-reply ms e bytes load c OfFailSafeData now valid = Answers bytes load command.FailSafeData _ (MasterMoreData ms command.FailSafeData _ OfFailSafeData now (data-exchange ms e bytes load command.FailSafeData valid))
+master-reply : (ms : MasterSettings) (e : List Deed) (bytes load : List ℕ) (c : Command) → is_data c ≡ true → state_of (OfMaster ms) e ≡ state.Data → IsValid (OfMaster ms) e bytes c load → is_next (OfMaster ms) e bytes load c
+master-reply ms e bytes load command.Reset h now valid = absurd (cc h)
+master-reply ms e bytes load command.Session h now valid = absurd (cc h)
+master-reply ms e bytes load command.Connection h now valid = absurd (cc h)
+master-reply ms e bytes load command.Parameter h now valid = absurd (cc h)
+master-reply ms e bytes load command.FailSafeData h now valid = Answers bytes load command.FailSafeData _ (MasterMoreData ms command.FailSafeData _ refl now (data-exchange ms e bytes load command.FailSafeData valid))
+master-reply ms e bytes load command.ProcessData h now valid = Answers bytes load command.ProcessData _ (MasterMoreData ms command.ProcessData _ refl now (data-exchange ms e bytes load command.ProcessData valid))
 
 master-takes : (ms : MasterSettings) (e : List Deed) (bytes load : List ℕ) (c : Command) → IsValid (OfMaster ms) e bytes c load → MasterWay (state_of (OfMaster ms) e) c → is_next (OfMaster ms) e bytes load c
 master-takes ms e bytes load c valid (Echo is now) = master-echo ms e bytes load c is now valid

@@ -8,6 +8,7 @@ use Rattle.fsoe_base.specs.declared.did.Cause.{Cause}
 use Rattle.fsoe_base.specs.declared.did.Did.{Did}
 use Rattle.fsoe_base.specs.declared.did.Dropped.{Dropped}
 use Rattle.fsoe_base.specs.declared.did.Dropped.TheVariants as why
+use Rattle.fsoe_base.specs.Data.{is_data}
 use Rattle.param_load.specs.declared.entry.Move.{Move}
 use Rattle.param_load.specs.declared.entry.Move.TheVariants as move
 use Rattle.param_load.specs.declared.master_settings.MasterSettings.{MasterSettings}
@@ -17,7 +18,7 @@ use Rattle.end_model.specs.Phases.{phase_of}
 use Rattle.end_model.specs.Deed.{Deed, is_empty}
 use Rattle.end_model.specs.Readiness.{state_of, is_done}
 use Rattle.end_model.specs.Step.{takes, step, IsProper, IsRun}
-use Rattle.end_model.specs.Reactions.{HasNoSession, IsHandshake, OfSession, OfConnection, OfParameter, IsNextPhase, AfterSession, AfterConnection, IsData, OfProcessData, OfFailSafeData, answered, IsExchange, Taking, SlaveRejoins, SlaveStarts, SlaveGoesOn, SlaveNextPhase, SlaveFirstData, SlaveMoreData, MasterStarts, MasterGoesOn, MasterNextPhase, MasterFirstData, MasterMoreData, Reaction, Puts, Holds, SetsNonce, Rests, Ages, Expires, SendsAgain, ResetsItself, DropsLength, DropsRepeat, DropsInReset, DropsReset, Refuses, PeerResets, Answers, IsReaction}
+use Rattle.end_model.specs.Reactions.{HasNoSession, IsHandshake, OfSession, OfConnection, OfParameter, IsNextPhase, AfterSession, AfterConnection, answered, IsExchange, Taking, SlaveRejoins, SlaveStarts, SlaveGoesOn, SlaveNextPhase, SlaveFirstData, SlaveMoreData, MasterStarts, MasterGoesOn, MasterNextPhase, MasterFirstData, MasterMoreData, Reaction, Puts, Holds, SetsNonce, Rests, Ages, Expires, SendsAgain, ResetsItself, DropsLength, DropsRepeat, DropsInReset, DropsReset, Refuses, PeerResets, Answers, IsReaction}
 use Rattle.end_model.proofs.Heads.{IsInSession}
 use Rattle.end_model.proofs.Reactions.{Sound, next_reaction}
 
@@ -43,9 +44,13 @@ pub next-data : (before c : Command) → IsNextPhase before c → phase_of c ≢
 next-data before c AfterSession = λ k. cc
 next-data before c AfterConnection = λ k. cc
 
-pub data-on : (c : Command) → IsData c → phase_of c ≢ state.Reset
-data-on c OfProcessData = λ k. cc
-data-on c OfFailSafeData = λ k. cc
+pub data-on : (c : Command) → is_data c ≡ true → phase_of c ≢ state.Reset
+data-on command.Reset h = λ k. cc
+data-on command.Session h = λ k. cc
+data-on command.Connection h = λ k. cc
+data-on command.Parameter h = λ k. cc
+data-on command.FailSafeData h = λ k. cc
+data-on command.ProcessData h = λ k. cc
 
 -- a state that isn't this one
 other : (s : Setup) (e : List Deed) (p q : State) → state_of s e ≡ p → p ≢ q → state_of s e ≢ q
@@ -89,11 +94,15 @@ slave-on : (ss : SlaveSettings) (e : List Deed) (p : State) → state_of (OfSlav
 slave-on ss e p h n k = record { no_session = λ r. absurd (other (OfSlave ss) e p state.Reset h n r); is_loaded = λ d. absurd (other (OfSlave ss) e p state.Data h k d) }
 
 -- data leave the parameters
-stays-loaded : (ss : SlaveSettings) (e : List Deed) (bytes load answer : List ℕ) (c : Command) → IsData c → IsInSession answer → is_done ss state.Parameter e ≡ true → is_done ss state.Parameter (answered bytes c load answer e) ≡ true
-stays-loaded ss e bytes load answer c OfProcessData f h = let a = f.in_session in simp a h
-stays-loaded ss e bytes load answer c OfFailSafeData f h = let a = f.in_session in simp a h
+stays-loaded : (ss : SlaveSettings) (e : List Deed) (bytes load answer : List ℕ) (c : Command) → is_data c ≡ true → IsInSession answer → is_done ss state.Parameter e ≡ true → is_done ss state.Parameter (answered bytes c load answer e) ≡ true
+stays-loaded ss e bytes load answer command.Reset d f h = absurd (cc d)
+stays-loaded ss e bytes load answer command.Session d f h = absurd (cc d)
+stays-loaded ss e bytes load answer command.Connection d f h = absurd (cc d)
+stays-loaded ss e bytes load answer command.Parameter d f h = absurd (cc d)
+stays-loaded ss e bytes load answer command.FailSafeData d f h = let a = f.in_session in simp a h
+stays-loaded ss e bytes load answer command.ProcessData d f h = let a = f.in_session in simp a h
 
-slave-in-data : (ss : SlaveSettings) (e : List Deed) (bytes load answer made : List ℕ) (c : Command) → IsData c → is_done ss state.Parameter e ≡ true
+slave-in-data : (ss : SlaveSettings) (e : List Deed) (bytes load answer made : List ℕ) (c : Command) → is_data c ≡ true → is_done ss state.Parameter e ≡ true
     → IsExchange (OfSlave ss) e bytes load c answer made state.Data → Sound (OfSlave ss) (answered bytes c load answer e)
 slave-in-data ss e bytes load answer made c is whole x =
     record {

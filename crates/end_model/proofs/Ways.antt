@@ -4,17 +4,18 @@ use Rattle.fsoe_base.specs.declared.command.State.{State}
 use Rattle.fsoe_base.specs.declared.command.State.TheVariants as state
 use Rattle.fsoe_base.specs.declared.command.Command.{Command}
 use Rattle.fsoe_base.specs.declared.command.Command.TheVariants as command
+use Rattle.fsoe_base.specs.Data.{is_data}
 use Rattle.end_model.specs.Phases.{phase_of}
 use Rattle.end_model.specs.Readiness.{slave_allows, master_allows}
-use Rattle.end_model.specs.Reactions.{IsHandshake, OfSession, OfConnection, OfParameter, IsNextPhase, AfterSession, AfterConnection, IsData, OfProcessData, OfFailSafeData}
+use Rattle.end_model.specs.Reactions.{IsHandshake, OfSession, OfConnection, OfParameter, IsNextPhase, AfterSession, AfterConnection}
 
 -- a frame at a slave, where `done` says which payloads are whole
 pub data SlaveWay (done : State → Bool) (now : State) (c : Command) : Type 0 where
   Start : now ≡ state.Reset → c ≡ command.Session → SlaveWay done now c
   More : IsHandshake c → now ≡ phase_of c → done (phase_of c) ≡ false → SlaveWay done now c
   Next : (before : Command) → IsNextPhase before c → now ≡ phase_of before → done (phase_of before) ≡ true → SlaveWay done now c
-  First : IsData c → now ≡ state.Parameter → done state.Parameter ≡ true → SlaveWay done now c
-  Data : IsData c → now ≡ state.Data → SlaveWay done now c
+  First : is_data c ≡ true → now ≡ state.Parameter → done state.Parameter ≡ true → SlaveWay done now c
+  Data : is_data c ≡ true → now ≡ state.Data → SlaveWay done now c
 
 off : (b : Bool) → not b ≡ true → b ≡ false
 off true h = cc
@@ -40,18 +41,18 @@ slave_way done state.Data command.Parameter n h = cc
 slave_way done state.Reset command.FailSafeData n h = cc
 slave_way done state.Session command.FailSafeData n h = cc
 slave_way done state.Connection command.FailSafeData n h = cc
-slave_way done state.Parameter command.FailSafeData n h = First OfFailSafeData refl h
-slave_way done state.Data command.FailSafeData n h = Data OfFailSafeData refl
+slave_way done state.Parameter command.FailSafeData n h = First refl refl h
+slave_way done state.Data command.FailSafeData n h = Data refl refl
 slave_way done state.Reset command.ProcessData n h = cc
 slave_way done state.Session command.ProcessData n h = cc
 slave_way done state.Connection command.ProcessData n h = cc
-slave_way done state.Parameter command.ProcessData n h = First OfProcessData refl h
-slave_way done state.Data command.ProcessData n h = Data OfProcessData refl
+slave_way done state.Parameter command.ProcessData n h = First refl refl h
+slave_way done state.Data command.ProcessData n h = Data refl refl
 
 -- an answer at a master
 pub data MasterWay (now : State) (c : Command) : Type 0 where
   Echo : IsHandshake c → now ≡ phase_of c → MasterWay now c
-  Reply : IsData c → now ≡ state.Data → MasterWay now c
+  Reply : is_data c ≡ true → now ≡ state.Data → MasterWay now c
 
 pub master_way : (now : State) (c : Command) → c ≢ command.Reset → master_allows now c ≡ true → MasterWay now c
 master_way now command.Reset n h = absurd (n refl)
@@ -74,9 +75,9 @@ master_way state.Reset command.FailSafeData n h = cc
 master_way state.Session command.FailSafeData n h = cc
 master_way state.Connection command.FailSafeData n h = cc
 master_way state.Parameter command.FailSafeData n h = cc
-master_way state.Data command.FailSafeData n h = Reply OfFailSafeData refl
+master_way state.Data command.FailSafeData n h = Reply refl refl
 master_way state.Reset command.ProcessData n h = cc
 master_way state.Session command.ProcessData n h = cc
 master_way state.Connection command.ProcessData n h = cc
 master_way state.Parameter command.ProcessData n h = cc
-master_way state.Data command.ProcessData n h = Reply OfProcessData refl
+master_way state.Data command.ProcessData n h = Reply refl refl

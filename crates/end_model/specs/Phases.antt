@@ -5,6 +5,7 @@ use Rattle.fsoe_base.specs.declared.command.State.TheVariants as state
 use Rattle.fsoe_base.specs.declared.command.Command.{Command}
 use Rattle.fsoe_base.specs.declared.command.Command.TheVariants as command
 use Rattle.fsoe_base.specs.Command.{command_byte, command_of}
+use Rattle.fsoe_base.specs.Data.{is_data}
 
 -- the phase of a frame with this command
 abbrev pub phase_of : Command → State
@@ -49,3 +50,23 @@ phase_of_known (Some c) = phase_of c
 abbrev pub phase_of_frame : List ℕ → State
 phase_of_frame [] = state.Reset
 phase_of_frame (b ∷ bytes) = phase_of_known (command_of b)
+
+-- whether there is a command, and one of guarded frames
+abbrev pub is_guarded_if : Option Command → Bool
+is_guarded_if None = false
+is_guarded_if (Some c) = is_guarded c
+
+-- whether these bytes are a guarded frame, by the first of them
+abbrev pub is_guarded_frame : List ℕ → Bool
+is_guarded_frame [] = false
+is_guarded_frame (b ∷ bytes) = is_guarded_if (command_of b)
+
+-- whether there is a command, and one of data frames
+abbrev pub is_data_if : Option Command → Bool
+is_data_if None = false
+is_data_if (Some c) = is_data c
+
+-- whether these bytes are a data frame, by the first of them
+abbrev pub is_data_frame : List ℕ → Bool
+is_data_frame [] = false
+is_data_frame (b ∷ bytes) = is_data_if (command_of b)

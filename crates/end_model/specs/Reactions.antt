@@ -10,7 +10,8 @@ use Rattle.fsoe_base.specs.declared.did.Cause.TheVariants as cause
 use Rattle.fsoe_base.specs.declared.did.Dropped.TheVariants as why
 use Rattle.fsoe_base.specs.declared.did.Did.{Did}
 use Rattle.fsoe_base.specs.Command.{command_of, code}
-use Rattle.fsoe_base.specs.Did.{nothing, dropped}
+use Rattle.fsoe_base.specs.Data.{is_data}
+use Rattle.fsoe_base.specs.Did.{nothing, dropped, resets}
 use Rattle.fsoe_base.specs.Lengths.{frame_len}
 use Rattle.fsoe_frame.specs.Parts.{Frame, frame_of}
 use Rattle.seq_chain.specs.Cover.{first_of}
@@ -27,7 +28,7 @@ use Rattle.end_model.specs.Chain.{since, own, taken, kept, fits}
 use Rattle.end_model.specs.Payloads.{pay, pieces, count_in, session_id}
 use Rattle.end_model.specs.Readiness.{state_of, age, limit, allowed, is_done}
 use Rattle.end_model.specs.Verdict.{Verdict, Refused, Wrong, has_conn, contents, verdict}
-use Rattle.end_model.specs.Step.{takes, resets, begun, with_data, slave_answer, download}
+use Rattle.end_model.specs.Step.{takes, begun, with_data, slave_answer, download}
 
 -- the setup is a master's
 abbrev pub IsMaster : Setup → Type 0
@@ -60,11 +61,6 @@ pub data IsHandshake : Command → Type 0 where
 pub data IsNextPhase : Command → Command → Type 0 where
   AfterSession : IsNextPhase command.Session command.Connection
   AfterConnection : IsNextPhase command.Connection command.Parameter
-
--- the commands of data
-pub data IsData : Command → Type 0 where
-  OfProcessData : IsData command.ProcessData
-  OfFailSafeData : IsData command.FailSafeData
 
 -- the parts of a frame that came
 abbrev pub parts : Setup → List ℕ → Frame
@@ -165,12 +161,12 @@ pub data Taking (e : List Deed) (bytes load : List ℕ) : Setup → Command → 
       → IsExchange (OfSlave ss) e bytes load c answer (slave_answer ss (received bytes c load e) c load) (phase_of c)
       → Taking e bytes load (OfSlave ss) c answer
   -- a slave has the whole parameters, and takes its first data
-  SlaveFirstData : (ss : SlaveSettings) (c : Command) (answer : List ℕ) → IsData c → state_of (OfSlave ss) e ≡ state.Parameter
+  SlaveFirstData : (ss : SlaveSettings) (c : Command) (answer : List ℕ) → IsTrue (is_data c) → state_of (OfSlave ss) e ≡ state.Parameter
       → is_done ss state.Parameter e ≡ true
       → IsExchange (OfSlave ss) e bytes load c answer (with_data (OfSlave ss) (received bytes c load e)) state.Data
       → Taking e bytes load (OfSlave ss) c answer
   -- a slave takes further data
-  SlaveMoreData : (ss : SlaveSettings) (c : Command) (answer : List ℕ) → IsData c → state_of (OfSlave ss) e ≡ state.Data
+  SlaveMoreData : (ss : SlaveSettings) (c : Command) (answer : List ℕ) → IsTrue (is_data c) → state_of (OfSlave ss) e ≡ state.Data
       → is_done ss state.Parameter e ≡ true
       → IsExchange (OfSlave ss) e bytes load c answer (with_data (OfSlave ss) (received bytes c load e)) state.Data
       → Taking e bytes load (OfSlave ss) c answer
@@ -196,7 +192,7 @@ pub data Taking (e : List Deed) (bytes load : List ℕ) : Setup → Command → 
       → IsExchange (OfMaster ms) e bytes load command.Parameter answer (with_data (OfMaster ms) (received bytes command.Parameter load e)) state.Data
       → Taking e bytes load (OfMaster ms) command.Parameter answer
   -- a master takes data, and sends its next data
-  MasterMoreData : (ms : MasterSettings) (c : Command) (answer : List ℕ) → IsData c → state_of (OfMaster ms) e ≡ state.Data
+  MasterMoreData : (ms : MasterSettings) (c : Command) (answer : List ℕ) → IsTrue (is_data c) → state_of (OfMaster ms) e ≡ state.Data
       → IsExchange (OfMaster ms) e bytes load c answer (with_data (OfMaster ms) (received bytes c load e)) state.Data
       → Taking e bytes load (OfMaster ms) c answer
 

@@ -10,7 +10,8 @@ use Rattle.fsoe_base.specs.declared.did.Cause.TheVariants as cause
 use Rattle.fsoe_base.specs.declared.did.Dropped.TheVariants as why
 use Rattle.fsoe_base.specs.declared.did.Took.{Took}
 use Rattle.fsoe_base.specs.declared.did.Did.{Did}
-use Rattle.fsoe_base.specs.Did.{nothing, dropped}
+use Rattle.fsoe_base.specs.Did as did
+use Rattle.fsoe_base.specs.Did.{nothing, dropped, resets}
 use Rattle.seq_chain.specs.Cover.{first_of}
 use Rattle.seq_chain.specs.Reset.{reset_frame}
 use Rattle.param_load.specs.declared.entry.Move.{Move}
@@ -28,13 +29,9 @@ use Rattle.end_model.specs.Payloads.{pay, piece, pieces, count_in, session_id, c
 use Rattle.end_model.specs.Readiness.{state_of, offer, held, reaches_limit}
 use Rattle.end_model.specs.Verdict.{Verdict, Valid, WrongLength, Repeated, Refused, Wrong, verdict}
 
--- a frame was taken, and one is sent
+-- a frame is taken, and one is sent: a frame of a session passed the test of its CRCs
 abbrev pub takes : Command → List ℕ → Did
-takes c load = record { took = Some (record { command = c; load = load }); passed = not (is_reset c); sent = true; reset = None; dropped = None }
-
--- the session ends, and a Reset frame is sent; `passed` says whether the test of the CRCs was passed
-abbrev pub resets : Bool → Cause → Did
-resets passed because = record { took = None; passed = passed; sent = true; reset = Some because; dropped = None }
+takes c load = did.takes c load (not (is_reset c))
 
 -- a test failed with this code: in state Reset the frame is dropped, else the session ends
 abbrev pub on_fault : State → Bool → Code → Did

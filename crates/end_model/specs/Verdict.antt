@@ -14,9 +14,9 @@ use Rattle.param_load.specs.declared.contents.Expected.{Expected}
 use Rattle.param_load.specs.declared.contents.Expected.TheVariants as expected
 use Rattle.param_load.specs.declared.master_settings.MasterSettings.{MasterSettings}
 use Rattle.param_load.specs.declared.slave_settings.SlaveSettings.{SlaveSettings}
-use Rattle.fsoe_base.specs.Bytes.{all_zero}
+use Rattle.fsoe_base.specs.Data.{data_holds}
 use Rattle.param_load.specs.Contents.{contents_fault}
-use Rattle.param_load.specs.Payload.{padded}
+use Rattle.param_load.specs.Download.{is_echo, is_padded}
 use Rattle.end_model.specs.Setup.{Setup, OfMaster, OfSlave, receives, piece_len}
 use Rattle.end_model.specs.Phases.{is_guarded}
 use Rattle.end_model.specs.Deed.{Deed}
@@ -62,33 +62,31 @@ upload_fault ss e phase expects load =
     let before : List ℕ = uploaded ss phase e in
     contents_fault expects (length before) (before ++ take c load) (drop c load)
 
--- a FailSafeData frame carries zeros
-abbrev pub failsafe_fault : List ℕ → Option Code
-failsafe_fault load = unless (all_zero load) 0x07
+-- the contents of a frame of state Data: a FailSafeData frame carries zeros
+abbrev pub data_fault : Command → List ℕ → Option Code
+data_fault c load = unless (data_holds c load) 0x07
 
 -- the contents of a frame at a slave
 abbrev pub slave_fault : SlaveSettings → List Deed → Command → Frame → Option Code
 slave_fault ss e command.Session f = upload_fault ss e state.Session (expected.Session ss.profile) f.load
 slave_fault ss e command.Connection f = upload_fault ss e state.Connection (expected.Connection f.conn ss.address) f.load
 slave_fault ss e command.Parameter f = upload_fault ss e state.Parameter (expected.Parameter ss.most ss.rule ss.profile) f.load
-slave_fault ss e command.FailSafeData f = failsafe_fault f.load
-slave_fault ss e _ f = None
+slave_fault ss e c f = data_fault c f.load
 
 -- the piece that a master sent last, in the phase that it is in
 abbrev pub last_piece : MasterSettings → List Deed → State → List ℕ
 last_piece ms e phase = piece (pay ms (session_id (OfMaster ms) e) phase) (piece_len (OfMaster ms)) (count_in phase (own (since e)))
 
 -- an answer of the slave in a handshake repeats the master's last piece, with zeros after it
-abbrev pub echo_fault : MasterSettings → List ℕ → List ℕ → Option Code
-echo_fault ms sent load = unless (pointwise nat_eq load (padded sent (receives (OfMaster ms)))) 0x07
+abbrev pub echo_fault : List ℕ → List ℕ → Option Code
+echo_fault sent load = unless (is_echo sent load) 0x07
 
 -- the contents of a frame at a master; a slave's session id is its own, so that the padding alone is tested
 abbrev pub master_fault : MasterSettings → List Deed → Command → Frame → Option Code
-master_fault ms e command.Session f = unless (all_zero (drop (length (last_piece ms e state.Session)) f.load)) 0x07
-master_fault ms e command.Connection f = echo_fault ms (last_piece ms e state.Connection) f.load
-master_fault ms e command.Parameter f = echo_fault ms (last_piece ms e state.Parameter) f.load
-master_fault ms e command.FailSafeData f = failsafe_fault f.load
-master_fault ms e _ f = None
+master_fault ms e command.Session f = unless (is_padded (last_piece ms e state.Session) f.load) 0x07
+master_fault ms e command.Connection f = echo_fault (last_piece ms e state.Connection) f.load
+master_fault ms e command.Parameter f = echo_fault (last_piece ms e state.Parameter) f.load
+master_fault ms e c f = data_fault c f.load
 
 -- the code of the first test of a frame's contents that fails
 abbrev pub contents : Setup → List Deed → Command → Frame → Option Code

@@ -14,15 +14,14 @@ use Rattle.param_load.specs.declared.master_settings.MasterSettings.{MasterSetti
 use Rattle.param_load.specs.declared.slave_settings.SlaveSettings.{SlaveSettings}
 use Rattle.param_load.specs.Payload.{connection_payload, parameter_payload, padded}
 use Rattle.end_model.specs.Setup.{Setup, OfMaster, OfSlave, sends, piece_len}
-use Rattle.end_model.specs.Phases.{is_guarded, phase_of, phase_of_known, phase_of_frame}
+use Rattle.end_model.specs.Phases.{is_guarded, is_guarded_if, is_guarded_frame, phase_of, phase_of_known, phase_of_frame}
 use Rattle.end_model.specs.Deed.{Deed}
 use Rattle.end_model.specs.Chain.{since, own}
 use Rattle.end_model.specs.Payloads.{piece, pieces, count_in, conn_id, session_id, pay}
 use Rattle.end_model.specs.Readiness.{offer, offer_after, held}
 use Rattle.end_model.specs.Step.{sealed, with_piece, with_data, download, after_phase, master_answer, slave_answer, IsProper, IsRun}
 use Rattle.end_model.proofs.ReadBack.{read_back}
-use Rattle.exchange_model.specs.Fair.{is_data}
-use Rattle.exchange_model.specs.Other.{is_guarded_if, is_guarded_frame}
+use Rattle.fsoe_base.specs.Data.{is_data}
 use Rattle.exchange_model.proofs.Joint.{is_guarded_in}
 
 -- the command of a frame by its first byte, if it has one

@@ -30,7 +30,8 @@ use Rattle.exchange_model.specs.Ends.{same_end, peer}
 use Rattle.exchange_model.specs.World.{setup_of, deed_in, deeds, world, SameLengths, IsProperEvent, IsNextEntry, IsWorld}
 use Rattle.exchange_model.specs.Items.{Item, items_of, items, item_of, awaited}
 use Rattle.exchange_model.specs.Other.{NoOther, before_other}
-use Rattle.exchange_model.specs.Fair.{received, is_data, data_taken, frame_if, IsTakenFrom, TakesAwaited, Fair}
+use Rattle.fsoe_base.specs.Data.{is_data}
+use Rattle.exchange_model.specs.Fair.{received, data_taken, frame_if, IsTakenFrom, TakesAwaited, Fair}
 use Rattle.exchange_model.proofs.Projection.{same, next_deed, world_is_world}
 use Rattle.exchange_model.proofs.Shown.{shows_due}
 use Rattle.exchange_model.proofs.Once.{at_most_once}

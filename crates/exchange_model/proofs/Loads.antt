@@ -18,8 +18,10 @@ use Rattle.end_model.specs.Step.{takes, begun, step, IsRun}
 use Rattle.end_model.proofs.DeedKinds.{Kind, Drops, Turns, Rests, Ages, Resets, Again, Rejoins, Starts, Takes, kind}
 use Rattle.exchange_model.specs.Ends.{same_end, of_end}
 use Rattle.exchange_model.specs.World.{setup_of, deed_in, deeds, IsNextEntry, IsWorld}
-use Rattle.exchange_model.specs.Items.{put_after, last_put, is_held, load_put, is_data_frame, load_of, Item, item_of, items_of, items}
-use Rattle.exchange_model.specs.Fair.{is_data, frame_with, frame_if}
+use Rattle.exchange_model.specs.Items.{put_after, last_put, is_held, load_put, load_of, Item, item_of, items_of, items}
+use Rattle.fsoe_base.specs.Data.{is_data}
+use Rattle.end_model.specs.Phases.{is_data_if, is_data_frame}
+use Rattle.exchange_model.specs.Fair.{frame_with, frame_if}
 use Rattle.exchange_model.proofs.Projection.{same, next_deed}
 use Rattle.exchange_model.proofs.Shown.{deeds_are_run}
 use Rattle.exchange_model.proofs.Framed.{command_in, IsFrame, command_framed, IsData, Zeros, Offers, offer_long, SlaveSends, Echoes, Gives, slave_sends, MasterSends, Begins, GoesOn, Connects, MoreConnection, Sets, MoreParameter, Opens, Exchanges, master_sends}
@@ -82,10 +84,6 @@ data-carries s which w f c (Offers h g) k =
     let d : is_data_frame f ≡ true = ap is_data_frame g.is in
     let q : is_held (of_end which w) ≡ false = sym (held-is which w) ∙ h in
     simp (d, q, ← a, b) (ap Some (put-frame (sends s) (last_put (of_end which w))))
-
-abbrev is_data_if : Option Command → Bool
-is_data_if None = false
-is_data_if (Some c) = is_data c
 
 -- the frame of a deed, if it has one: of data or not
 data Sending (s : Setup) (e : List Deed) (f : List ℕ) : Type 0 where

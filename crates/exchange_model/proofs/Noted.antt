@@ -8,13 +8,13 @@ use Rattle.fsoe_base.specs.declared.command.End.TheVariants as end_name
 use Rattle.fsoe_base.specs.declared.command.Command.TheVariants as command
 use Rattle.fsoe_base.specs.declared.did.Took.{Took}
 use Rattle.param_load.specs.declared.entry.Entry.{Entry}
-use Rattle.end_model.specs.Phases.{is_guarded, has_command}
+use Rattle.end_model.specs.Phases.{is_guarded, is_guarded_frame, has_command}
 use Rattle.end_model.specs.Deed.{delivered, is_empty}
 use Rattle.exchange_model.specs.declared.side.Sent.{Sent}
 use Rattle.exchange_model.specs.declared.side.Side.{Side}
 use Rattle.exchange_model.specs.Ends.{same_end, peer}
 use Rattle.exchange_model.specs.Items.{Item, newest, items_of, items, item_of, item_taken, awaited, answers_to, newest_answer, answer_among, has_bytes, number_if}
-use Rattle.exchange_model.specs.Other.{is_guarded_frame, is_other, first_of_both, first_other}
+use Rattle.exchange_model.specs.Other.{is_other, first_of_both, first_other}
 use Rattle.exchange_model.specs.Noting.{sent_of, kept, MonitorView, view_of, Notes, number, item_number, has, number_of, next_number, is_answer, is_other_to, answered, sent_next, heard_next, own_after, peer_after, side_of, master_after, slave_after, noted_next}
 use Rattle.exchange_model.proofs.Projection.{same}
 use Rattle.exchange_model.proofs.Numbered.{Numbered, Grown, Same, More, grown, numbered}

@@ -23,7 +23,7 @@ use Rattle.end_model.specs.Readiness.{phase_sent, master_allows}
 use Rattle.end_model.specs.Step.{takes, begun, step, IsRun}
 use Rattle.end_model.proofs.DeedKinds.{Kind, Drops, Turns, Rests, Ages, Resets, Again, Rejoins, Starts, Takes, answer_to, kind}
 use Rattle.end_model.proofs.Heads.{IsInSession, master_frame}
-use Rattle.exchange_model.specs.Fair.{is_data}
+use Rattle.fsoe_base.specs.Data.{is_data}
 use Rattle.exchange_model.proofs.Joint.{is_guarded_in, session, carried_by}
 use Rattle.exchange_model.proofs.Framed.{IsFrame, IsData, Zeros, Offers, phase_framed, piece_fits, offer_long, connection_of, parameters_of, IsPiece, pieces_of, MasterSends, Begins, GoesOn, Connects, MoreConnection, Sets, MoreParameter, Opens, Exchanges, master_sends}
 

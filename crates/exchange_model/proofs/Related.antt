@@ -28,7 +28,7 @@ use Rattle.end_model.proofs.Heads.{IsInSession, master_frame, slave_frame}
 use Rattle.exchange_model.specs.World.{setup_of, deeds, SameLengths, IsNextEntry, IsWorld}
 use Rattle.exchange_model.specs.Items.{Item, newest, items_of, items, item_of, number_if}
 use Rattle.exchange_model.specs.Other.{is_other, NoOther}
-use Rattle.exchange_model.specs.Fair.{is_data}
+use Rattle.fsoe_base.specs.Data.{is_data}
 use Rattle.exchange_model.proofs.Frames.{bytes_in, frames}
 use Rattle.exchange_model.proofs.Shown.{deeds_are_run}
 use Rattle.exchange_model.proofs.Numbered.{numbered}

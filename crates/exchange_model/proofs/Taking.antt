@@ -5,13 +5,13 @@ use Rattle.fsoe_base.specs.declared.command.Command.{Command}
 use Rattle.fsoe_base.specs.declared.command.Command.TheVariants as command
 use Rattle.param_load.specs.declared.entry.Entry.{Entry}
 use Rattle.param_load.specs.declared.entry.Move.TheVariants as move
-use Rattle.end_model.specs.Phases.{is_reset, is_guarded, phase_of_frame}
+use Rattle.end_model.specs.Phases.{is_reset, is_guarded, is_guarded_frame, phase_of_frame}
 use Rattle.end_model.specs.Deed.{delivered}
 use Rattle.end_model.specs.Step.{takes}
 use Rattle.exchange_model.specs.Ends.{peer}
 use Rattle.exchange_model.specs.Items.{Item, newest, items_of, items, item_of, awaited, has_bytes, number_if}
-use Rattle.exchange_model.specs.Other.{is_guarded_frame, is_other, first_of_both, first_other, NoOther}
-use Rattle.exchange_model.specs.Fair.{is_data}
+use Rattle.exchange_model.specs.Other.{is_other, first_of_both, first_other, NoOther}
+use Rattle.fsoe_base.specs.Data.{is_data}
 use Rattle.exchange_model.proofs.Numbered.{numbered}
 use Rattle.exchange_model.proofs.Awaited.{Found, awaited_found, Is, with_bytes}
 use Rattle.exchange_model.proofs.Joint.{is_guarded_in}

@@ -19,7 +19,7 @@ use Rattle.end_model.proofs.Heads.{IsInSession}
 use Rattle.exchange_model.specs.Ends.{same_end}
 use Rattle.exchange_model.specs.World.{deed_in, deeds, SameLengths, IsNextEntry, IsWorld}
 use Rattle.exchange_model.specs.Items.{Item, items_of, items}
-use Rattle.exchange_model.specs.Fair.{is_data}
+use Rattle.fsoe_base.specs.Data.{is_data}
 use Rattle.exchange_model.proofs.Projection.{next_told}
 use Rattle.exchange_model.proofs.Frames.{bytes_in, frames}
 use Rattle.exchange_model.proofs.Shown.{deeds_are_run}

@@ -1,12 +1,13 @@
 -- When a run is fair: an end takes data that its peer put into the awaited answer, under equal terms and once, and all other
 -- outputs are fail-safe. The word is this profile's own.
-use Rattle.std.specs.Prelude.{ℕ, ◌≡◌, nat_eq, nat_lt, List, [], ◌∷◌, replicate, Bool, true, false, ◌&&◌, Option, Some, None, is_some, IsSome, if◌then◌else◌}
+use Rattle.std.specs.Prelude.{ℕ, ◌≡◌, nat_eq, nat_lt, List, [], ◌∷◌, replicate, Bool, false, ◌&&◌, Option, Some, None, is_some, IsSome, if◌then◌else◌}
 use Rattle.std.specs.List.{IsDistinct}
 use Rattle.fsoe_base.specs.declared.command.End.{End}
 use Rattle.fsoe_base.specs.declared.command.End.TheVariants as end_name
 use Rattle.fsoe_base.specs.declared.command.Command.{Command}
 use Rattle.fsoe_base.specs.declared.command.Command.TheVariants as command
 use Rattle.fsoe_base.specs.declared.did.Took.{Took}
+use Rattle.fsoe_base.specs.Data.{is_data}
 use Rattle.fsoe_base.specs.declared.lengths.Lengths.{Lengths}
 use Rattle.fsoe_base.specs.LengthsOf.{length_of}
 use Rattle.param_load.specs.declared.terms.Terms.{Terms}
@@ -18,12 +19,6 @@ use Rattle.exchange_model.specs.Items.{Load, FailSafe, Values, Unset, Item, item
 -- the number of safe data bytes that an end receives
 abbrev pub received : Lengths → End → ℕ
 received lengths which = length_of lengths (peer which)
-
--- whether a command is that of data frames
-abbrev pub is_data : Command → Bool
-is_data command.ProcessData = true
-is_data command.FailSafeData = true
-is_data _ = false
 
 -- the data frame that was taken, if one was
 abbrev pub data_taken : Option Took → Option Took

@@ -15,7 +15,7 @@ use Rattle.param_load.specs.AppRule.{rule_len, allows}
 use Rattle.param_load.specs.Profile.{id_len}
 use Rattle.schedule_file.specs.declared.event.Event.{Event}
 use Rattle.schedule_file.specs.declared.event.Event.TheVariants as event
-use Rattle.end_model.specs.Setup.{Setup, OfMaster, OfSlave, piece_len}
+use Rattle.end_model.specs.Setup.{OfMaster, OfSlave, piece_len}
 use Rattle.end_model.specs.Deed.{Deed}
 use Rattle.end_model.specs.Payloads.{pieces_for}
 use Rattle.end_model.specs.Readiness.{state_of, reaches_limit}

@@ -1,7 +1,7 @@
 -- The items of a run and which item answers which. What judges a run sees numbered frames, the events of both ends, and what
 -- was told after each: of a frame's CRCs it knows whether they passed the receiver's test, and it knows nothing of sequence
 -- numbers and of the phases of a handshake. Lists are newest first. Items are this profile's own.
-use Rattle.std.specs.Prelude.{ℕ, suc, ◌==◌, nat_eq, List, [], ◌∷◌, length, Bool, false, ◌&&◌, ◌||◌, not, Option, Some, None, if◌then◌else◌}
+use Rattle.std.specs.Prelude.{ℕ, suc, ◌==◌, nat_eq, List, [], ◌∷◌, length, Bool, false, ◌&&◌, not, Option, Some, None, if◌then◌else◌}
 use Rattle.std.specs.Cmp.Lexicographic.{pointwise}
 use Rattle.fsoe_base.specs.declared.command.End.{End}
 use Rattle.fsoe_base.specs.declared.command.Command.TheVariants as command
@@ -10,7 +10,7 @@ use Rattle.param_load.specs.declared.terms.Terms.{Terms}
 use Rattle.param_load.specs.declared.entry.Move.{Move}
 use Rattle.param_load.specs.declared.entry.Move.TheVariants as move
 use Rattle.param_load.specs.declared.entry.Entry.{Entry}
-use Rattle.end_model.specs.Phases.{is_guarded, has_command}
+use Rattle.end_model.specs.Phases.{is_guarded, is_data_frame, has_command}
 use Rattle.end_model.specs.Deed.{delivered, is_empty}
 use Rattle.end_model.specs.Readiness.{held_after}
 use Rattle.exchange_model.specs.Ends.{same_end, peer, of_end}
@@ -57,10 +57,6 @@ load_put (Some bytes) = Values bytes
 -- the load of the next data frame of an end, by its own entries
 abbrev pub next_load : List Entry → Load
 next_load e = if is_held e then FailSafe else load_put (last_put e)
-
--- whether a frame is a data frame
-abbrev pub is_data_frame : List ℕ → Bool
-is_data_frame frame = has_command command.ProcessData frame || has_command command.FailSafeData frame
 
 -- the load of a frame, where e are the entries of its end before it: a data frame alone has one
 abbrev pub load_of : List ℕ → List Entry → Option Load

@@ -6,12 +6,12 @@ use Rattle.fsoe_base.specs.declared.command.End.TheVariants as end_name
 use Rattle.fsoe_base.specs.declared.command.Command.TheVariants as command
 use Rattle.fsoe_base.specs.declared.did.Took.{Took}
 use Rattle.param_load.specs.declared.entry.Entry.{Entry}
-use Rattle.end_model.specs.Phases.{is_guarded, has_command}
+use Rattle.end_model.specs.Phases.{is_guarded, is_guarded_frame, has_command}
 use Rattle.end_model.specs.Deed.{delivered, is_empty}
 use Rattle.exchange_model.specs.declared.side.Sent.{Sent}
 use Rattle.exchange_model.specs.declared.side.Side.{Side}
 use Rattle.exchange_model.specs.Items.{Item, newest, items_of, items, awaited, answers_to}
-use Rattle.exchange_model.specs.Other.{is_guarded_frame, first_of_both, first_other}
+use Rattle.exchange_model.specs.Other.{first_of_both, first_other}
 
 -- an item by its number and its bytes
 abbrev pub sent_of : Option Item → Option Sent

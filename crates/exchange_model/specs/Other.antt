@@ -2,22 +2,10 @@
 -- awaited, or it awaited none. That taken data are the peer's rests on there being no such entry. The word is this profile's
 -- own.
 use Rattle.std.specs.Prelude.{ℕ, suc, ◌≡◌, List, [], ◌∷◌, length, Bool, true, false, ◌&&◌, not, Option, Some, None, is_some, if◌then◌else◌}
-use Rattle.fsoe_base.specs.declared.command.Command.{Command}
-use Rattle.fsoe_base.specs.Command.{command_of}
 use Rattle.param_load.specs.declared.entry.Entry.{Entry}
-use Rattle.end_model.specs.Phases.{is_guarded}
+use Rattle.end_model.specs.Phases.{is_guarded_frame}
 use Rattle.end_model.specs.Deed.{delivered}
 use Rattle.exchange_model.specs.Items.{Item, items, awaited, has_bytes}
-
--- whether this is a guarded command
-abbrev pub is_guarded_if : Option Command → Bool
-is_guarded_if None = false
-is_guarded_if (Some c) = is_guarded c
-
--- whether a frame is guarded, by its first byte
-abbrev pub is_guarded_frame : List ℕ → Bool
-is_guarded_frame [] = false
-is_guarded_frame (b ∷ bytes) = is_guarded_if (command_of b)
 
 -- whether an entry is other, by the items before it
 abbrev pub is_other : List Item → Entry → Bool

@@ -1,12 +1,12 @@
 -- Settings that don't match and schedules that aren't honest, each by one thing alone.
-use Rattle.std.specs.Prelude.{◌≡◌, ℕ, refl, List, [], ◌∷◌, ◌++◌, codes, false}
+use Rattle.std.specs.Prelude.{◌≡◌, refl, [], ◌∷◌, ◌++◌, codes, false}
 use Rattle.std.specs.List.{list_all}
 use Rattle.std.proofs.lemmas.Bool.{ltb-true}
 use Rattle.fsoe_base.specs.declared.command.End.TheVariants as end_name
 use Rattle.end_model.specs.WorkedRuns.{slave_values, two_and_two}
-use Rattle.exchange_model.specs.Schedules.{master_values, dm, ds, altered_ds, rs, tm, pm, zs, rounds, until_data}
+use Rattle.exchange_model.specs.Schedules.{master_values, dm, ds, altered_ds, rs, tm, pm, zs, until_data}
 use Rattle.exchange_model.specs.WorkedRuns.{master_of_two}
-use Rattle.exchange_model.specs.Honest.{Match, is_plain, in_turn, ticks_first, keeps_time}
+use Rattle.exchange_model.specs.Honest.{Match, is_plain, in_turn, ticks_first}
 
 -- settings that don't match: other lengths, another address, another profile, a watchdog that the slave doesn't accept, and
 -- parameters that its rule doesn't allow

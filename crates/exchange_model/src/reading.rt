@@ -1,9 +1,8 @@
 //! What a monitor reads of an entry.
 ghost use Rattle.std.specs.Prelude.{◌≡◌};
 ghost use Rattle.fsoe_base.specs.declared.command.Command.TheVariants as command;
-ghost use Rattle.end_model.specs.Phases.{is_guarded, has_command};
+ghost use Rattle.end_model.specs.Phases.{is_guarded, is_guarded_frame, has_command};
 ghost use Rattle.end_model.specs.Deed.{delivered};
-ghost use Rattle.exchange_model.specs.Other.{is_guarded_frame};
 
 use fsoe_base::Command;
 use param_load::Move;

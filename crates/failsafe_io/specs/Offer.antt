@@ -1,8 +1,7 @@
--- What an end sends in state Data, and what it may take there.
-use Rattle.std.specs.Prelude.{ℕ, Bool, true, false, List, length, replicate, if◌then◌else◌}
+-- What an end sends in state Data.
+use Rattle.std.specs.Prelude.{ℕ, Bool, false, List, length, replicate, if◌then◌else◌}
 use Rattle.fsoe_base.specs.declared.command.Command.{Command}
 use Rattle.fsoe_base.specs.declared.command.Command.TheVariants as command
-use Rattle.fsoe_base.specs.Bytes.{all_zero}
 
 -- the safe data that an end offers, and whether it is held
 pub record OfferView : Type 0 where
@@ -19,14 +18,3 @@ data_command v = if v.held then command.FailSafeData else command.ProcessData
 
 abbrev pub data_load : OfferView → List ℕ
 data_load v = if v.held then replicate (length v.load) 0 else v.load
-
--- the commands of state Data
-abbrev pub is_data : Command → Bool
-is_data command.ProcessData = true
-is_data command.FailSafeData = true
-is_data _ = false
-
--- a FailSafeData frame carries zeros alone
-abbrev pub data_holds : Command → List ℕ → Bool
-data_holds command.FailSafeData load = all_zero load
-data_holds _ load = true

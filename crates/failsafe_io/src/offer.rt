@@ -1,6 +1,6 @@
 //! What an end sends in state Data, and what it may take there.
 ghost use Rattle.std.specs.Prelude.{◌≡◌, ◌≤◌, replicate};
-ghost use Rattle.failsafe_io.specs.Offer.{data_holds};
+ghost use Rattle.fsoe_base.specs.Data.{data_holds};
 
 use fsoe_base::{Command, Image, is_all_zero};
 use std::marker::Model;

@@ -1,5 +1,6 @@
 pub mod Bytes
 pub mod Command
+pub mod Data
 pub mod Did
 pub mod Image
 pub mod Lengths

@@ -45,8 +45,8 @@ pub struct Did {
 }
 
 impl Did {
-    ghost use Rattle.std.specs.Prelude.{◌≡◌};
-    ghost use Rattle.fsoe_base.specs.Did.{nothing, dropped};
+    ghost use Rattle.std.specs.Prelude.{◌≡◌, ◌≤◌, length};
+    ghost use Rattle.fsoe_base.specs.Did.{nothing, dropped, takes, resets};
 
     /// Nothing was taken, sent, reset or dropped.
     pub fn nothing() -> Did
@@ -68,6 +68,40 @@ impl Did {
         Did {
             dropped: Some(why),
             ..Did::nothing()
+        }
+    }
+
+    /// A frame with these safe data, at most 126 bytes, was taken, and one was sent. `passed` says whether it passed
+    /// the CRC test of a session.
+    pub fn took(command: Command, load: &[u8], passed: bool) -> Did
+        requires { length load.now ≤ 126 }
+        ensures { result ≡ takes command load.now passed }
+    {
+        let mut image = Image::zeros(0);
+        image.set(load);
+        Did {
+            took: Some(Took {
+                command,
+                load: image,
+            }),
+            passed,
+            sent: true,
+            reset: None,
+            dropped: None,
+        }
+    }
+
+    /// The end went to state Reset for this cause, and a Reset frame was sent. `passed` says whether a frame led to it
+    /// that passed the CRC test of a session.
+    pub fn reset(passed: bool, why: Cause) -> Did
+        ensures { result ≡ resets passed why }
+    {
+        Did {
+            took: None,
+            passed,
+            sent: true,
+            reset: Some(why),
+            dropped: None,
         }
     }
 }

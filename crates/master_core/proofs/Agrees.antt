@@ -10,7 +10,7 @@ use Rattle.fsoe_base.specs.declared.did.Did.{Did}
 use Rattle.fsoe_base.specs.declared.did.Dropped.{Dropped}
 use Rattle.fsoe_base.specs.declared.did.Dropped.TheVariants as why
 use Rattle.fsoe_base.specs.Command.{code}
-use Rattle.fsoe_base.specs.Did.{nothing, dropped}
+use Rattle.fsoe_base.specs.Did.{nothing, dropped, resets}
 use Rattle.fsoe_frame.specs.Parts.{AreBytes}
 use Rattle.seq_chain.specs.Reset.{reset_frame}
 use Rattle.param_load.specs.declared.entry.Move.{Move}
@@ -19,7 +19,7 @@ use Rattle.param_load.specs.declared.master_settings.MasterSettings.{MasterSetti
 use Rattle.end_model.specs.Setup.{OfMaster}
 use Rattle.end_model.specs.Deed.{Deed}
 use Rattle.end_model.specs.Readiness.{state_of, ticks}
-use Rattle.end_model.specs.Step.{resets, on_fault, on_expiry, code_sent, deed_of}
+use Rattle.end_model.specs.Step.{on_fault, on_expiry, code_sent, deed_of}
 use Rattle.master_core.specs.declared.now.Now.{Now}
 use Rattle.master_core.specs.Kit.{KitView}
 use Rattle.master_core.specs.After.{with_kit}

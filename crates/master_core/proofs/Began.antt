@@ -25,7 +25,8 @@ use Rattle.end_model.proofs.Links.{taken_crc}
 use Rattle.end_model.proofs.ReadBack.{read_back}
 use Rattle.master_core.specs.declared.due.Next.TheVariants as next
 use Rattle.master_core.specs.declared.now.Now.TheVariants as now
-use Rattle.master_core.specs.Master.{Outcome, takes as accepts, drops, leaves, begins, answered_by}
+use Rattle.fsoe_base.specs.Did.{takes as accepts}
+use Rattle.master_core.specs.Master.{Outcome, drops, leaves, begins, answered_by}
 use Rattle.master_core.specs.Master as machine
 use Rattle.master_core.specs.States.{fresh, chain_sent, frame_sent}
 use Rattle.master_core.specs.ViewOf.{Notes, notes_of, view_in}

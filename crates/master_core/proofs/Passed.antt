@@ -1,18 +1,20 @@
 -- What a frame that passed the tests tells.
-use Rattle.std.proofs.Common.{◌≡◌, ℕ, Bool, true, false, IsTrue, List, Some, None, if◌then◌else◌, refl, ◌∙◌}
+use Rattle.std.proofs.Common.{◌≡◌, ℕ, Bool, true, false, IsTrue, List, Option, Some, None, is_some, if◌then◌else◌, refl, sym, ap, subst, ◌∙◌}
 use Rattle.fsoe_base.specs.declared.command.Code.{Code}
 use Rattle.fsoe_base.specs.Command.{code}
 use Rattle.fsoe_base.specs.Lengths.{is_length}
 use Rattle.param_load.specs.declared.master_settings.MasterSettings.{MasterSettings}
+use Rattle.seq_chain.specs.declared.chain.Chain.{Chain}
 use Rattle.seq_chain.specs.declared.opened.Opened.TheVariants as opened_as
 use Rattle.seq_chain.specs.Chain.{fits_next}
 use Rattle.seq_chain.specs.Opened.{opened}
 use Rattle.seq_chain.specs.SessionFrame.{SessionFrameView}
 use Rattle.seq_chain.proofs.OpenedFrame.{opened_load}
 use Rattle.master_core.specs.declared.now.Now.{Now}
+use Rattle.master_core.specs.declared.now.Now.TheVariants as now
 use Rattle.master_core.specs.Kit.{peer_len}
 use Rattle.master_core.specs.Now.{chain_of, allows, has_conn, fault}
-use Rattle.master_core.specs.Views.{HasPassed}
+use Rattle.master_core.specs.Views.{DataView, HasPassed}
 
 by-tests : (a h t : Bool) (x y z : Code) → (if a then (if h then (if t then None else Some x) else Some y) else Some z) ≡ None → t ≡ true
 by-tests true true true x y z e = refl
@@ -27,3 +29,13 @@ has_passed settings now l repeats bytes f valid at o e = record {
   len_is = opened_load l repeats bytes f valid o ∙ at;
   fits = by-tests (allows now f.command) (has_conn settings f.command f.frame.conn) (fits_next (chain_of now) f.frame) (code 0x04) (code 0x03) (code 0x01) e;
 }
+
+none-found : (found : Option Code) → is_some found ≡ false → found ≡ None
+none-found None h = refl
+none-found (Some x) h = absurd (cc h)
+
+-- the same in state Data
+pub data_passed : (settings : MasterSettings) (n : Now) (s : DataView) (l : ℕ) (repeats : Bool) (bytes : List ℕ) (f : SessionFrameView) (found : Option Code) → n ≡ now.Data s → IsTrue (is_length l) → l ≡ peer_len settings
+    → opened l repeats bytes ≡ opened_as.OfSession f → found ≡ fault settings n f → is_some found ≡ false → HasPassed settings s.chain f
+data_passed settings n s l repeats bytes f found here valid at o i e =
+    subst (λ (chain : Chain). HasPassed settings chain f) (ap chain_of here) (has_passed settings n l repeats bytes f valid at o (sym i ∙ none-found found e))

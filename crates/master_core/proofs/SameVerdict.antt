@@ -70,10 +70,6 @@ fits-same p ms e f h =
     ap (λ chain. fits_next chain f) (chain-same p ms e h)
     ∙ ap (λ (last : ℕ). sealing.fits last (taken_link (OfMaster ms) (since e)) f) (own_crc (OfMaster ms) (since e))
 
-repeat-same : (o : Option (List ℕ)) (bytes : List ℕ) → model.is_repeat o bytes ≡ machine.is_repeat o bytes
-repeat-same None bytes = refl
-repeat-same (Some last) bytes = refl
-
 -- the tests of the command and of the connection id
 allows-same : (p : State) (ms : MasterSettings) (n : Notes) (c : Command) → is_reset c ≡ false → machine.allows (now_in p ms n) c ≡ master_allows p c
 allows-same p ms n command.Reset r = absurd (cc r)
@@ -170,5 +166,5 @@ pub same : (p : State) (ms : MasterSettings) (e : List Deed) (bytes : List ℕ) 
     → Same p ms e bytes (model.verdict (OfMaster ms) e bytes) (accepted (view_in p ms e) bytes)
 same p ms e bytes now h =
     by-length p ms e bytes _ _ (length bytes == frame_len ms.lengths.slave) _ _
-    (repeat-same (kept (since e)) bytes ∙ ap (λ (o : Option (List ℕ)). machine.is_repeat o bytes) (sym (kept-same p ms e h)))
+    (ap (λ (o : Option (List ℕ)). model.is_repeat o bytes) (sym (kept-same p ms e h)))
     (λ k. command-same p ms e bytes (command_of (came ms bytes).cmd) now (equal (length bytes) (frame_len ms.lengths.slave) k) h)

@@ -1,6 +1,5 @@
 -- A Parameter frame that passed the tests of a master: what the machine does is what looking back gives.
-use Rattle.std.proofs.Common.{◌≡◌, ℕ, suc, ◌+◌, ◌-◌, ◌*◌, nat_lt, nat_eq, Bool, true, false, not, List, length, replicate, Ok, Err, if◌then◌else◌, refl, sym, ap, subst, ◌∙◌}
-use Rattle.std.specs.Cmp.Lexicographic.{pointwise}
+use Rattle.std.proofs.Common.{◌≡◌, ℕ, suc, ◌+◌, ◌-◌, ◌*◌, nat_lt, Bool, true, false, not, List, length, replicate, Ok, Err, if◌then◌else◌, refl, sym, ap, subst, ◌∙◌}
 use Rattle.fsoe_base.specs.declared.command.Command.TheVariants as command
 use Rattle.fsoe_base.specs.declared.command.State.TheVariants as state
 use Rattle.fsoe_base.specs.declared.did.Cause.TheVariants as cause
@@ -149,7 +148,4 @@ pub parameter-passed : (ms : MasterSettings) (e : List Deed) (bytes : List ℕ) 
 parameter-passed ms e bytes h a s =
     let b : Bool = is_answer (before ms e).download (came ms bytes).load in
     let w : Bool = is_whole (advanced (before ms e).download) in
-    subst (λ (t : Bool). Agrees ms e (move.Deliver bytes) (on_verdict state.Parameter (OfMaster ms) (judged_contents command.Parameter (came ms bytes).load (unless t 0x07)))
-    (answered_by (settles (view_in state.Parameter ms e) (seen ms bytes) (taken (kit_of ms e) (now_in state.Parameter ms (notes_of ms e)) (seen ms bytes)))))
-    (sym (ap (λ (n : ℕ). pointwise nat_eq (came ms bytes).load (padded (piece_from (payload ms (id_of ms e)) (((notes_of ms e).parameter - 1) * piece_len (OfMaster ms)) (piece_len (OfMaster ms))) n)) (sym a.load_len)))
-    (by-answer ms e bytes b w h a s (more_to_come (length (payload ms (id_of ms e))) (piece_len (OfMaster ms)) (notes_of ms e).parameter w (some_piece ms) h.some refl))
+    by-answer ms e bytes b w h a s (more_to_come (length (payload ms (id_of ms e))) (piece_len (OfMaster ms)) (notes_of ms e).parameter w (some_piece ms) h.some refl)

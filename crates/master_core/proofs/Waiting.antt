@@ -32,9 +32,11 @@ use Rattle.master_core.specs.declared.now.Now.{Now}
 use Rattle.master_core.specs.declared.now.Now.TheVariants as now
 use Rattle.master_core.specs.After.{after}
 use Rattle.master_core.specs.Kit.{KitView, peer_len}
-use Rattle.master_core.specs.Master.{Accepted, takes, drops, leaves, ends, begins, settles, refuses, on_session, accepted_by, accepted, replies}
+use Rattle.fsoe_base.specs.Did.{takes}
+use Rattle.end_model.specs.Verdict.{is_repeat}
+use Rattle.master_core.specs.Master.{Accepted, drops, leaves, ends, begins, settles, refuses, on_session, accepted_by, accepted, replies}
 use Rattle.master_core.specs.MasterView.{MasterView}
-use Rattle.master_core.specs.Now.{is_reset, is_due, kept, is_repeat, fault, taken, replied, reply}
+use Rattle.master_core.specs.Now.{is_reset, is_due, kept, fault, taken, replied, reply}
 use Rattle.master_core.specs.States.{answered, session_by, connection_by, parameter_by}
 use Rattle.master_core.specs.Views.{ExchangeView}
 use Rattle.master_core.specs.ViewOf.{kit_of, view_of}

@@ -1,7 +1,6 @@
 -- What each event at a master leaves, does and sends.
 use Rattle.std.specs.Prelude.{ℕ, ◌+◌, ◌-◌, ◌==◌, Bool, true, false, List, [], Option, Some, None, Result, Ok, Err, if◌then◌else◌}
 use Rattle.fsoe_base.specs.declared.command.Code.{Code}
-use Rattle.fsoe_base.specs.declared.command.Command.{Command}
 use Rattle.fsoe_base.specs.declared.command.Command.TheVariants as command
 use Rattle.fsoe_base.specs.declared.did.Cause.{Cause}
 use Rattle.fsoe_base.specs.declared.did.Cause.TheVariants as cause
@@ -9,6 +8,7 @@ use Rattle.fsoe_base.specs.declared.did.Did.{Did}
 use Rattle.fsoe_base.specs.declared.did.Dropped.{Dropped}
 use Rattle.fsoe_base.specs.declared.did.Dropped.TheVariants as dropped
 use Rattle.fsoe_base.specs.Did as did
+use Rattle.fsoe_base.specs.Did.{takes, resets}
 use Rattle.fsoe_base.specs.Command.{code}
 use Rattle.fsoe_frame.specs.Parts.{Frame, bytes_of}
 use Rattle.failsafe_io.specs.Timer.{Timer, ticked}
@@ -18,11 +18,12 @@ use Rattle.seq_chain.specs.declared.opened.Opened.TheVariants as opened_as
 use Rattle.seq_chain.specs.Opened.{opened}
 use Rattle.seq_chain.specs.Reset.{reset_frame}
 use Rattle.seq_chain.specs.SessionFrame.{SessionFrameView}
+use Rattle.end_model.specs.Verdict.{is_repeat}
 use Rattle.master_core.specs.declared.due.Next.{Next}
 use Rattle.master_core.specs.declared.due.Next.TheVariants as next
 use Rattle.master_core.specs.declared.now.Now.TheVariants as now
 use Rattle.master_core.specs.Kit.{own_len, peer_len, first_kit}
-use Rattle.master_core.specs.Now.{is_reset, is_due, kept, is_repeat, fault, taken, replied, reply}
+use Rattle.master_core.specs.Now.{is_reset, is_due, kept, fault, taken, replied, reply}
 use Rattle.master_core.specs.MasterView.{MasterView}
 use Rattle.master_core.specs.States.{no_session}
 
@@ -45,25 +46,17 @@ started settings = record { limit = settings.watchdog; age = 0 }
 abbrev pub first_master : MasterSettings → MasterView
 first_master settings = record { kit = first_kit settings; state = now.Reset no_session; timer = record { limit = settings.watchdog; age = settings.watchdog - 1 } }
 
--- a frame is taken
-abbrev pub takes : Command → List ℕ → Bool → Did
-takes cmd load passed = record { took = Some (record { command = cmd; load = load }); passed = passed; sent = false; reset = None; dropped = None }
-
--- a session ends
-abbrev pub resets : Bool → Cause → Bool → Did
-resets passed why sent = record { took = None; passed = passed; sent = sent; reset = Some why; dropped = None }
-
 -- a frame is dropped that didn't pass the test of the CRCs
 abbrev pub drops : MasterView → Dropped → Accepted
 drops v why = record { master = v; did = did.dropped why }
 
--- a step after which a frame is due
+-- a step after which a frame is due: none was sent yet
 abbrev pub leaves : MasterView → Next → Did → Accepted
-leaves v n done = record { master = record v { state = now.Due (record { next = n }); timer = started v.kit.settings }; did = done }
+leaves v n done = record { master = record v { state = now.Due (record { next = n }); timer = started v.kit.settings }; did = record done { sent = false } }
 
 -- a session ends, and a Reset frame with the code is due
 abbrev pub ends : MasterView → Bool → Cause → Code → Accepted
-ends v passed why x = leaves v (next.Reset x) (resets passed why false)
+ends v passed why x = leaves v (next.Reset x) (resets passed why)
 
 -- a test fails: in state Reset the frame is dropped, and else the session ends
 abbrev pub refuses : MasterView → Code → Accepted
@@ -116,7 +109,7 @@ delivered v bytes = answered_by (accepted v bytes)
 abbrev pub falls : MasterView → Cause → Code → Outcome
 falls v why x = record {
   master = record v { state = now.Reset no_session; timer = started v.kit.settings };
-  did = resets false why true;
+  did = resets false why;
   sent = reset_frame x.0 (own_len v.kit.settings);
 }
 

@@ -1,6 +1,5 @@
 -- What the tests of a frame and the readers ask of the state of a master, and how it goes on.
 use Rattle.std.specs.Prelude.{ℕ, ◌==◌, Bool, true, false, List, [], replicate, Option, Some, None, Result, Err, if◌then◌else◌}
-use Rattle.std.specs.Str.{bytes_eq}
 use Rattle.fsoe_base.specs.declared.command.Code.{Code}
 use Rattle.fsoe_base.specs.declared.command.Command.{Command}
 use Rattle.fsoe_base.specs.declared.command.Command.TheVariants as command
@@ -71,11 +70,6 @@ kept (now.Connection s) = Some s.last
 kept (now.Parameter s) = Some s.last
 kept (now.Data s) = Some s.last
 kept _ = None
-
--- the bytes are those of the frame that is kept
-abbrev pub is_repeat : Option (List ℕ) → List ℕ → Bool
-is_repeat None bytes = false
-is_repeat (Some last) bytes = bytes_eq last bytes
 
 -- the chain of the session, a new one in state Reset
 abbrev pub chain_of : Now → Chain

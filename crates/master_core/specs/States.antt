@@ -12,7 +12,8 @@ use Rattle.param_load.specs.declared.upload.Progress.TheVariants as progress
 use Rattle.param_load.specs.Download.{advanced, outcome, piece_in_turn}
 use Rattle.param_load.specs.DownloadView.{DownloadView}
 use Rattle.param_load.specs.Payload.{padded}
-use Rattle.failsafe_io.specs.Offer.{data_command, data_load, data_holds}
+use Rattle.fsoe_base.specs.Data.{data_holds}
+use Rattle.failsafe_io.specs.Offer.{data_command, data_load}
 use Rattle.failsafe_io.specs.Outputs.{outputs_of}
 use Rattle.master_core.specs.declared.states.InReset.{InReset}
 use Rattle.master_core.specs.declared.due.Next.{Next}

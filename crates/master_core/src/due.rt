@@ -1,5 +1,6 @@
 //! A step whose frame is still to be sent.
-ghost use Rattle.std.specs.Prelude.{◌≡◌, [], IsTrue, option_copied};
+ghost use Rattle.std.specs.Prelude.{◌≡◌, ◌≤◌, length, option_copied};
+ghost use Rattle.master_core.specs.Kit.{peer_len};
 ghost use Rattle.master_core.specs.Now.{NextUnder, IsUnder, state_of_next, terms_in_next, outputs_in_next, sent_state, due_frame};
 
 use crate::kit::Kit;
@@ -64,7 +65,10 @@ impl Due {
 
     /// The outputs: zeros in every state but Data.
     pub(crate) fn outputs(&self, kit: &Kit) -> &[u8]
-        ensures { result.now ≡ outputs_in_next kit.now.settings self.now.next }
+        requires under { NextUnder kit.now.settings self.now.next }
+        ensures value { result.now ≡ outputs_in_next kit.now.settings self.now.next }
+        ensures len { length result.now ≡ peer_len kit.now.settings }
+        ensures most { length result.now ≤ 126 }
     {
         match &self.next {
             Next::Data(state) => state.outputs(),

@@ -1,14 +1,12 @@
 //! The master of a connection.
-ghost use Rattle.std.specs.Prelude.{◌≡◌, ◌≤◌, length};
 ghost use Rattle.fsoe_base.specs.Did.{nothing};
-ghost use Rattle.master_core.specs.Master.{takes, resets};
 
 use crate::due::{Due, Next};
 use crate::kit::Kit;
 use crate::now::Now;
 use crate::states::InReset;
 use failsafe_io::Watchdog;
-use fsoe_base::{Cause, Code, Command, Did, Dropped, FrameBuf, Image, State, Took};
+use fsoe_base::{Cause, Code, Command, Did, Dropped, FrameBuf, Image, State};
 use fsoe_frame::FrameView;
 use param_load::{MasterSettings, Terms};
 use seq_chain::{Opened, SessionFrame, open, reset_frame};
@@ -34,39 +32,10 @@ impl Model for Master {
     ghost invariant = { λ m. IsMaster (record { kit = m.kit; state = m.state; timer = m.watchdog }) };
 }
 
-/// A frame with these safe data was taken.
-fn took(command: Command, bytes: &[u8], passed: bool) -> Did
-    requires { length bytes.now ≤ 126 }
-    ensures { result ≡ takes command bytes.now passed }
-{
-    let mut load = Image::zeros(0);
-    load.set(bytes);
-    Did {
-        took: Some(Took { command, load }),
-        passed,
-        sent: false,
-        reset: None,
-        dropped: None,
-    }
-}
-
-/// A session ended.
-fn ended(passed: bool, why: Cause, sent: bool) -> Did
-    ensures { result ≡ resets passed why sent }
-{
-    Did {
-        took: None,
-        passed,
-        sent,
-        reset: Some(why),
-        dropped: None,
-    }
-}
-
 impl Master {
-    ghost use Rattle.std.specs.Prelude.{◌||◌, false, IsTrue, is_some, length, [], option_copied};
+    ghost use Rattle.std.specs.Prelude.{◌≡◌, ◌≤◌, ◌||◌, false, IsTrue, IfSome, OnSome, IfNone, is_some, length, [], option_copied};
     ghost use Rattle.param_load.specs.Profile.{allows_id};
-    ghost use Rattle.master_core.specs.Kit.{own_len};
+    ghost use Rattle.master_core.specs.Kit.{own_len, peer_len};
     ghost use Rattle.master_core.specs.Master.{leaves, ends, refuses, on_reset_frame, settles, accepted, replies, delivered, falls, tick_of};
     ghost use Rattle.master_core.specs.Now.{NextUnder, chain_of, state_of, is_due, taken, reply, outputs_in, terms_in};
     ghost use Rattle.master_core.specs.ViewOf.{view_of};
@@ -112,7 +81,10 @@ impl Master {
         ensures did { result ≡ (ends self.old passed why code).did }
     {
         self.leave(Next::Reset(code));
-        ended(passed, why, false)
+        Did {
+            sent: false,
+            ..Did::reset(passed, why)
+        }
     }
 
     /// A test of a frame failed with this code: in state Reset the frame is dropped.
@@ -146,7 +118,10 @@ impl Master {
         let mut last = FrameBuf::new();
         last.set(view.bytes());
         self.leave(Next::Begin(last));
-        took(Command::Reset, load.bytes(), false)
+        Did {
+            sent: false,
+            ..Did::took(Command::Reset, load.bytes(), false)
+        }
     }
 
     /// Takes a frame that passed the tests, unless its contents are wrong.
@@ -161,7 +136,10 @@ impl Master {
         match old.take(seen, &self.kit) {
             Ok(next) => {
                 self.leave(next);
-                took(seen.command(), seen.load(), true)
+                Did {
+                    sent: false,
+                    ..Did::took(seen.command(), seen.load(), true)
+                }
             }
             Err(code) => self.end(true, Cause::Found(code), code),
         }
@@ -234,8 +212,60 @@ impl Master {
         self.send(out);
     }
 
-    /// Tests a frame, and sends the frame that is due then.
+    /// Goes on in place where this is a data frame that passes all tests in state Data, so that no data frame bears
+    /// the cost of a move of the state. Else nothing is changed.
+    #[inline(never)]
+    fn go_on(&mut self, frame: &[u8], out: &mut FrameBuf) -> Option<Did>
+        ensures master { OnSome result (self.new ≡ (delivered self.old frame.now).master) }
+        ensures did { IfSome result (λ did. did ≡ (delivered self.old frame.now).did) }
+        ensures sent { OnSome result (out.new ≡ (delivered self.old frame.now).sent) }
+        ensures kept { IfNone result (self.new ≡ self.old) }
+        ensures kit { self.new.kit ≡ self.old.kit }
+        ensures done { OnSome result (is_due self.new.state ≡ false) }
+    {
+        if !matches!(self.state, Now::Data(_)) {
+            return None;
+        }
+        let repeats = self.state.is_repeat(frame);
+        let mut load = Image::zeros(0);
+        let Opened::OfSession(seen) = open(frame, self.kit.peer_len(), repeats, &mut load) else {
+            return None;
+        };
+        if self.state.fault(self.kit.settings(), &seen).is_some() {
+            return None;
+        }
+        let Now::Data(state) = &mut self.state else {
+            return None;
+        };
+        match state.take(&seen, &self.kit) {
+            Err(_) => None,
+            Ok(()) => {
+                state.send_next(&self.kit, out);
+                let limit = self.kit.settings().watchdog();
+                self.watchdog.restart(limit);
+                Some(Did::took(seen.command(), seen.load(), true))
+            }
+        }
+    }
+
+    /// Tests a frame, and sends the frame that is due then. A data frame goes on in place.
     fn exchange(&mut self, frame: &[u8], out: &mut FrameBuf) -> Did
+        requires { is_due self.old.state ≡ false }
+        ensures master { self.new ≡ (delivered self.old frame.now).master }
+        ensures did { result ≡ (delivered self.old frame.now).did }
+        ensures sent { out.new ≡ (delivered self.old frame.now).sent }
+        ensures kit { self.new.kit ≡ self.old.kit }
+        ensures done { is_due self.new.state ≡ false }
+    {
+        match self.go_on(frame, out) {
+            Some(did) => did,
+            None => self.exchange_by_move(frame, out),
+        }
+    }
+
+    /// The same by a move of the state.
+    #[inline(never)]
+    fn exchange_by_move(&mut self, frame: &[u8], out: &mut FrameBuf) -> Did
         requires { is_due self.old.state ≡ false }
         ensures master { self.new ≡ (delivered self.old frame.now).master }
         ensures did { result ≡ (delivered self.old frame.now).did }
@@ -276,7 +306,7 @@ impl Master {
         let limit = self.kit.settings().watchdog();
         self.watchdog.restart(limit);
         reset_frame(code, self.kit.own_len(), out);
-        ended(false, why, true)
+        Did::reset(false, why)
     }
 
     /// Counts a tick.
@@ -388,6 +418,8 @@ impl Master {
     pub fn outputs(&self) -> &[u8]
         ensures shown { Shows OfMaster view_of self.now result.now out }
         ensures after_reply { result.now ≡ outputs_in self.now.kit.settings self.now.state }
+        ensures len { length result.now ≡ peer_len self.now.kit.settings }
+        ensures most { length result.now ≤ 126 }
     {
         self.state.outputs(&self.kit)
     }

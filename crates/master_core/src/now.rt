@@ -33,8 +33,9 @@ fn has_conn(settings: &MasterSettings, command: Command, field: u16) -> bool
 
 impl Now {
     ghost use Rattle.std.specs.Prelude.{◌≡◌, ◌≤◌, length, IsTrue, IfOk, option_copied};
+    ghost use Rattle.end_model.specs.Verdict.{is_repeat};
     ghost use Rattle.master_core.specs.Kit.{peer_len};
-    ghost use Rattle.master_core.specs.Now.{IsUnder, NextUnder, state_of, is_reset, is_due, chain_of, kept, is_repeat, allows, fault, taken, replied, reply, outputs_in, terms_in};
+    ghost use Rattle.master_core.specs.Now.{IsUnder, NextUnder, state_of, is_reset, is_due, chain_of, kept, allows, fault, taken, replied, reply, outputs_in, terms_in};
     ghost use Rattle.master_core.specs.Views.{HasPassed};
 
     /// The state; while a frame is due, that after it is sent.
@@ -169,7 +170,10 @@ impl Now {
 
     /// The outputs: zeros in every state but Data.
     pub(crate) fn outputs(&self, kit: &Kit) -> &[u8]
-        ensures { result.now ≡ outputs_in kit.now.settings self.now }
+        requires under { IsUnder kit.now.settings self.now }
+        ensures value { result.now ≡ outputs_in kit.now.settings self.now }
+        ensures len { length result.now ≡ peer_len kit.now.settings }
+        ensures most { length result.now ≤ 126 }
     {
         match self {
             Now::Data(state) => state.outputs(),

@@ -1,14 +1,13 @@
 //! The five states of a master. A state is made by the transitions of this crate alone, and owns what it needs. A
 //! transition takes an answer that passed the tests in this state, and gives what is to be sent next, or the code of
 //! the test of the answer's contents that fails.
-ghost use Rattle.std.specs.Prelude.{◌≡◌, ◌≤◌, IsTrue, IfOk, OnOk, false, length};
+ghost use Rattle.std.specs.Prelude.{◌≡◌, ◌≤◌, IsTrue, IfOk, OnOk, OnErr, false, length};
 ghost use Rattle.fsoe_base.specs.declared.command.Command.TheVariants as command;
 ghost use Rattle.fsoe_base.specs.Lengths.{is_length};
 ghost use Rattle.fsoe_frame.specs.Parts.{bytes_of};
 ghost use Rattle.param_load.specs.Download.{is_whole, outcome, piece_in_turn};
 ghost use Rattle.param_load.specs.Payload.{padded};
 ghost use Rattle.seq_chain.specs.Chain.{fits_next};
-ghost use Rattle.failsafe_io.specs.Offer.{is_data};
 ghost use Rattle.master_core.specs.Kit.{own_len, peer_len, piece_of};
 ghost use Rattle.master_core.specs.Now.{NextUnder};
 ghost use Rattle.master_core.specs.States.{no_session, chain_sent, frame_sent, piece_sent, piece_frame, first_exchange, answered, with_download, first_data, session_next, connection_next, parameter_next, data_next, in_place, data_sent, data_frame};
@@ -322,11 +321,12 @@ impl InData {
     }
 
     /// Goes on by a data frame, in place. Refused with 07h where a FailSafeData frame has a byte that isn't 0; then
-    /// the state is only left.
+    /// nothing is changed.
     pub(crate) fn take(&mut self, seen: &SessionFrame<'_>, kit: &Kit) -> Result<(), Code>
         requires under { DataUnder kit.now.settings self.old }
         requires passed { HasPassed kit.now.settings self.old.chain seen.now }
         ensures next { in_place result self.new ≡ data_next self.old seen.now }
+        ensures kept { OnErr result (self.new ≡ self.old) }
         ensures under { DataUnder kit.now.settings self.new }
     {
         if !data_holds(seen.command(), seen.load()) {
@@ -339,6 +339,18 @@ impl InData {
         Ok(())
     }
 
+    /// Sends a data frame, in place.
+    pub(crate) fn send_next(&mut self, kit: &Kit, out: &mut FrameBuf)
+        requires { DataUnder kit.now.settings self.old }
+        ensures next { self.new ≡ data_sent kit.now self.old }
+        ensures sent { out.new ≡ data_frame kit.now self.old }
+        ensures under { DataUnder kit.now.settings self.new }
+    {
+        let offer = kit.offer();
+        self.chain
+            .seal(offer.command(), self.terms.conn, offer.load(), out);
+    }
+
     /// Sends a data frame.
     pub(crate) fn send(mut self, kit: &Kit, out: &mut FrameBuf) -> InData
         requires { DataUnder kit.now.settings self }
@@ -346,9 +358,7 @@ impl InData {
         ensures sent { out.new ≡ data_frame kit.now self }
         ensures under { DataUnder kit.now.settings result }
     {
-        let offer = kit.offer();
-        self.chain
-            .seal(offer.command(), self.terms.conn, offer.load(), out);
+        self.send_next(kit, out);
         self
     }
 
@@ -367,7 +377,8 @@ impl InData {
 
     /// The outputs: the data of the frame that was taken last.
     pub(crate) fn outputs(&self) -> &[u8]
-        ensures { result.now ≡ self.now.outputs }
+        ensures value { result.now ≡ self.now.outputs }
+        ensures most { length result.now ≤ 126 }
     {
         self.outputs.bytes()
     }

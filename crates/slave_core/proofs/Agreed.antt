@@ -32,8 +32,7 @@ use Rattle.end_model.proofs.SlaveShown.{SlaveShows, parameters}
 use Rattle.end_model.proofs.WholeUploads.{whole_parameters}
 use Rattle.slave_core.specs.declared.now.Now.{Now}
 use Rattle.slave_core.specs.declared.states.InReset.{InReset}
-use Rattle.slave_core.specs.declared.verdict.Verdict.{Verdict}
-use Rattle.slave_core.specs.Slave.{settles, delivered_by}
+use Rattle.slave_core.specs.Slave.{Outcome, settles}
 use Rattle.slave_core.specs.After.{after}
 use Rattle.slave_core.specs.States.{terms_of, data_next, data_reply}
 use Rattle.slave_core.specs.Taken.{as_data, taken, reply}
@@ -219,9 +218,9 @@ passed-agrees state.Data ss e bytes command.Session at s h k a run next = absurd
 passed-agrees state.Data ss e bytes command.Connection at s h k a run next = absurd (cc k.is_allowed)
 passed-agrees state.Data ss e bytes command.Parameter at s h k a run next = absurd (cc k.is_allowed)
 
-judged-agrees : (p : State) (ss : SlaveSettings) (e : List Deed) (bytes : List ℕ) (v : model.Verdict) (w : Verdict) → Same p ss e bytes v w → state_of (OfSlave ss) e ≡ p → Sound ss e → SoundAt p ss e → IsRun (OfSlave ss) e
+judged-agrees : (p : State) (ss : SlaveSettings) (e : List Deed) (bytes : List ℕ) (v : model.Verdict) (w : Outcome) → Same p ss e bytes v w → state_of (OfSlave ss) e ≡ p → Sound ss e → SoundAt p ss e → IsRun (OfSlave ss) e
     → IsRun (OfSlave ss) (deed_of (OfSlave ss) e (move.Deliver bytes) (on_verdict p (OfSlave ss) v) ∷ e)
-    → Agrees ss e (move.Deliver bytes) (on_verdict p (OfSlave ss) v) (delivered_by (view_in p ss e) w)
+    → Agrees ss e (move.Deliver bytes) (on_verdict p (OfSlave ss) v) w
 judged-agrees p ss e bytes v w Long at s h run next = drop-agrees p ss e bytes false why.Length at s
 judged-agrees p ss e bytes v w Again at s h run next = drop-agrees p ss e bytes false why.Repeat at s
 judged-agrees p ss e bytes v w (Refuses x) at s h run next = fault-agrees p ss e bytes false x at s

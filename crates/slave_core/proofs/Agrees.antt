@@ -11,7 +11,7 @@ use Rattle.fsoe_base.specs.declared.did.Did.{Did}
 use Rattle.fsoe_base.specs.declared.did.Dropped.{Dropped}
 use Rattle.fsoe_base.specs.declared.did.Dropped.TheVariants as why
 use Rattle.fsoe_base.specs.Command.{code}
-use Rattle.fsoe_base.specs.Did.{nothing, dropped}
+use Rattle.fsoe_base.specs.Did.{nothing, dropped, resets}
 use Rattle.fsoe_frame.specs.Parts.{AreBytes}
 use Rattle.seq_chain.specs.Cover.{first_of}
 use Rattle.seq_chain.specs.Reset.{reset_frame}
@@ -25,7 +25,7 @@ use Rattle.end_model.specs.Setup.{OfSlave}
 use Rattle.end_model.specs.Deed.{Deed}
 use Rattle.end_model.specs.Payloads.{whole}
 use Rattle.end_model.specs.Readiness.{state_of, ticks, slave_age, limit, slave_limit}
-use Rattle.end_model.specs.Step.{takes, resets, on_fault, on_reset_frame, on_expiry, code_sent, deed_of}
+use Rattle.end_model.specs.Step.{takes, on_fault, on_reset_frame, on_expiry, code_sent, deed_of}
 use Rattle.slave_core.specs.declared.now.Now.{Now}
 use Rattle.slave_core.specs.Kit.{KitView}
 use Rattle.slave_core.specs.Slave.{Outcome, quiet, drops, falls, refuses, reset_by_peer, tick_in_session, tick_of}
@@ -78,7 +78,7 @@ resets-agree p ss e m passed because x k c s = record {
   view = λ r. same_slave _ _ _ _ _ _ _ _ k refl (fresh_limit ss) refl;
   did = refl;
   sent = ap (λ (n : ℕ). reset_frame n ss.lengths.slave) c;
-  sound = record { in_state = (refl, refl); offer_len = ap (λ (k : KitView). length k.offer) k ∙ s.offer_len; young = λ h. absurd (h refl) };
+  sound = record { in_state = (refl, refl); offer_len = ap (λ (k : KitView). length k.offer.load) k ∙ s.offer_len; young = λ h. absurd (h refl) };
 }
 
 -- a test fails
@@ -116,11 +116,11 @@ reset_frame-agrees state.Data ss e bytes load x h s = peer-resets state.Data ss 
 
 -- what outlasts sessions is set
 pub put-agrees : (ss : SlaveSettings) (e : List Deed) (load : List ℕ) → length load ≡ ss.lengths.slave → Sound ss e
-    → Agrees ss e (move.Put load) nothing (quiet (record (view_of ss e) { kit = record (kit_of ss e) { offer = load } }))
+    → Agrees ss e (move.Put load) nothing (quiet (record (view_of ss e) { kit = record (kit_of ss e) { offer = record (kit_of ss e).offer { load = load } } }))
 put-agrees ss e load h s = record { view = λ r. refl; did = refl; sent = refl; sound = record { in_state = s.in_state; offer_len = h; young = s.young } }
 
 pub hold-agrees : (ss : SlaveSettings) (e : List Deed) (failsafe : Bool) → Sound ss e
-    → Agrees ss e (move.Hold failsafe) nothing (quiet (record (view_of ss e) { kit = record (kit_of ss e) { held = failsafe } }))
+    → Agrees ss e (move.Hold failsafe) nothing (quiet (record (view_of ss e) { kit = record (kit_of ss e) { offer = record (kit_of ss e).offer { held = failsafe } } }))
 hold-agrees ss e failsafe s = record { view = λ r. refl; did = refl; sent = refl; sound = record { in_state = s.in_state; offer_len = s.offer_len; young = s.young } }
 
 pub nonce-agrees : (ss : SlaveSettings) (e : List Deed) (id : ℕ) → Sound ss e

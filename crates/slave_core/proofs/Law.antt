@@ -86,11 +86,11 @@ outputs_shown v shown i = record {
 pub age_shown : (v : SlaveView) (shown : ℕ) → shown ≡ v.timer.age → Shows OfSlave view_of v shown age
 age_shown v shown i = record { shows = λ ss e h. i ∙ ap (λ (v : SlaveView). v.timer.age) h.is }
 
-pub offer_shown : (v : SlaveView) (shown : List ℕ) → shown ≡ v.kit.offer → Shows OfSlave view_of v shown offer
-offer_shown v shown i = record { shows = λ ss e h. i ∙ ap (λ (v : SlaveView). v.kit.offer) h.is }
+pub offer_shown : (v : SlaveView) (shown : List ℕ) → shown ≡ v.kit.offer.load → Shows OfSlave view_of v shown offer
+offer_shown v shown i = record { shows = λ ss e h. i ∙ ap (λ (v : SlaveView). v.kit.offer.load) h.is }
 
-pub held_shown : (v : SlaveView) (shown : Bool) → shown ≡ v.kit.held → Shows OfSlave view_of v shown (λ s e. held e)
-held_shown v shown i = record { shows = λ ss e h. i ∙ ap (λ (v : SlaveView). v.kit.held) h.is }
+pub held_shown : (v : SlaveView) (shown : Bool) → shown ≡ v.kit.offer.held → Shows OfSlave view_of v shown (λ s e. held e)
+held_shown v shown i = record { shows = λ ss e h. i ∙ ap (λ (v : SlaveView). v.kit.offer.held) h.is }
 
 -- all calls of a slave
 pub slave_stands : (ss : SlaveSettings) (first last : SlaveView) (e : List Deed) → Stands OfSlave view_of ss first [] → Called OfSlave view_of first e last → Stands OfSlave view_of ss last e

@@ -25,9 +25,9 @@ use Rattle.end_model.specs.Step.{takes, on_verdict, begun}
 use Rattle.end_model.specs.Verdict.{judged_contents, contents}
 use Rattle.end_model.proofs.ReadBack.{read_back}
 use Rattle.slave_core.specs.declared.now.Now.TheVariants as now
-use Rattle.slave_core.specs.Seen.{SeenView}
+use Rattle.seq_chain.specs.SessionFrame.{SessionFrameView}
 use Rattle.slave_core.specs.Slave.{Outcome, settles}
-use Rattle.slave_core.specs.States.{answered, answer, connection_by, echo_reply_by}
+use Rattle.slave_core.specs.States.{answered, answer, connection_by, echo_reply}
 use Rattle.slave_core.specs.Taken.{as_connection}
 use Rattle.slave_core.specs.ViewOf.{notes_of, kit_of, upload_of, view_in}
 use Rattle.slave_core.proofs.Sound.{Sound}
@@ -70,7 +70,7 @@ said-both conn address u p rest h g f =
     (fields (connection_fault conn address (length u) (u ++ p)) (padding_fault (expected.Connection conn address) (u ++ p) rest) f) in
     (said u p 0 conn h t.0, said u p 2 address g t.1)
 
-abbrev seen : SlaveSettings → List ℕ → SeenView
+abbrev seen : SlaveSettings → List ℕ → SessionFrameView
 seen ss bytes = record { command = command.Connection; frame = came ss bytes }
 
 abbrev upload_at : SlaveSettings → ℕ → List ℕ → UploadView
@@ -80,7 +80,7 @@ upload_at ss conn joined = upload_of ss (expected.Connection conn ss.address) jo
 abbrev pub connection_settles : Option Code → State → SlaveSettings → List Deed → List ℕ → Chain → ℕ → List ℕ → Outcome
 connection_settles w p ss e bytes chain conn joined =
     settles (view_in p ss e) (seen ss bytes)
-    (echo_reply_by (outcome_by w (advanced (upload_at ss conn joined) (came ss bytes).load)) command.Connection (kit_of ss e) chain conn (upload_at ss conn joined) (seen ss bytes))
+    (echo_reply command.Connection (kit_of ss e) chain conn (upload_at ss conn joined) (seen ss bytes))
     (as_connection (connection_by (outcome_by w (advanced (upload_at ss conn joined) (came ss bytes).load)) (kit_of ss e) chain conn (upload_at ss conn joined) (seen ss bytes)))
 
 -- what is noted before a Connection frame with this connection id

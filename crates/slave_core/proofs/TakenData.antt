@@ -1,5 +1,5 @@
 -- A data frame that passed the tests: what the machine does is what looking back gives.
-use Rattle.std.proofs.Common.{◌≡◌, ℕ, ◌<◌, List, [], ◌∷◌, length, replicate, Bool, true, false, Option, Some, None, Ok, Err, if◌then◌else◌, refl, sym, ap, subst, ◌∙◌}
+use Rattle.std.proofs.Common.{◌≡◌, ℕ, ◌<◌, List, ◌∷◌, length, replicate, Bool, true, false, Option, Some, None, Ok, Err, if◌then◌else◌, refl, sym, ap, subst, ◌∙◌}
 use Rattle.std.proofs.lemmas.List.{length-replicate}
 use Rattle.fsoe_base.specs.declared.command.Command.{Command}
 use Rattle.fsoe_base.specs.declared.command.Command.TheVariants as command
@@ -7,6 +7,8 @@ use Rattle.fsoe_base.specs.declared.command.State.{State}
 use Rattle.fsoe_base.specs.declared.command.State.TheVariants as state
 use Rattle.fsoe_base.specs.Command.{code}
 use Rattle.fsoe_frame.specs.Parts.{AreBytes, bytes_of}
+use Rattle.fsoe_base.specs.Data.{is_data}
+use Rattle.failsafe_io.specs.Offer.{data_command, data_load}
 use Rattle.failsafe_io.specs.Outputs.{outputs_of}
 use Rattle.seq_chain.specs.declared.chain.Chain.{Chain}
 use Rattle.param_load.specs.declared.entry.Move.TheVariants as move
@@ -23,8 +25,7 @@ use Rattle.end_model.specs.Step.{takes, on_verdict, begun, deed_of, IsRun}
 use Rattle.end_model.specs.Verdict.{judged_contents}
 use Rattle.end_model.proofs.ReadBack.{read_back}
 use Rattle.slave_core.specs.declared.now.Now.TheVariants as now
-use Rattle.slave_core.specs.Kit.{data_command, data_load}
-use Rattle.slave_core.specs.Seen.{SeenView}
+use Rattle.seq_chain.specs.SessionFrame.{SessionFrameView}
 use Rattle.slave_core.specs.Slave.{Outcome, settles}
 use Rattle.slave_core.specs.SlaveView.{SlaveView}
 use Rattle.slave_core.specs.States.{no_session, answered, answer}
@@ -36,7 +37,7 @@ use Rattle.slave_core.proofs.Agrees.{Agrees, slave_at, same_slave, fault-agrees}
 use Rattle.slave_core.proofs.Arrived.{Arrived, chain_at, chain-next, keeps, is-there, there}
 use Rattle.slave_core.proofs.TakenParameter.{Connected, some-limit}
 
-abbrev seen : SlaveSettings → List ℕ → Command → SeenView
+abbrev seen : SlaveSettings → List ℕ → Command → SessionFrameView
 seen ss bytes c = record { command = c; frame = came ss bytes }
 
 -- the connection id of the terms
@@ -78,12 +79,6 @@ data-chain ss e bytes c c2 load r h =
     chain-next (OfSlave ss) (since e) bytes (came ss bytes).load (reply ss e bytes c c2 load) c (conn_of ss e) c2 load r refl
     (read_back (OfSlave ss) (since (begun (move.Deliver bytes) (takes command.Session (came ss bytes).load) ∷ e)) (conn_of ss e) c2 load h)
 
--- commands of data frames
-abbrev IsData : Command → Type 0
-IsData command.ProcessData = Unit {0}
-IsData command.FailSafeData = Unit {0}
-IsData _ = ⊥
-
 -- what is known before a data frame
 record Ready (ss : SlaveSettings) (e : List Deed) (bytes : List ℕ) : Type 0 where
   sound : Sound ss e
@@ -93,7 +88,7 @@ record Ready (ss : SlaveSettings) (e : List Deed) (bytes : List ℕ) : Type 0 wh
   limit_is : slave_limit ss (notes_of ss e).parameter ≡ (notes_of ss e).terms.watchdog
   some : 0 < slave_limit ss (notes_of ss e).parameter
 
-after : (ss : SlaveSettings) (e : List Deed) (bytes : List ℕ) (c c2 : Command) (load : List ℕ) → IsData c → IsData c2 → length load ≡ ss.lengths.slave → Ready ss e bytes
+after : (ss : SlaveSettings) (e : List Deed) (bytes : List ℕ) (c c2 : Command) (load : List ℕ) → is_data c ≡ true → is_data c2 ≡ true → length load ≡ ss.lengths.slave → Ready ss e bytes
     → After ss e bytes c (reply ss e bytes c c2 load) (gone_on ss e bytes c c2 load)
 after ss e bytes command.ProcessData command.ProcessData load d d2 h y =
     let j : Connected ss e = y.connected in
@@ -135,48 +130,51 @@ after ss e bytes command.FailSafeData command.FailSafeData load d d2 h y =
         young = λ k. y.some;
       };
     }
-after ss e bytes command.Reset c2 load d d2 h y = absurd d
-after ss e bytes command.Session c2 load d d2 h y = absurd d
-after ss e bytes command.Connection c2 load d d2 h y = absurd d
-after ss e bytes command.Parameter c2 load d d2 h y = absurd d
-after ss e bytes c command.Reset load d d2 h y = absurd d2
-after ss e bytes c command.Session load d d2 h y = absurd d2
-after ss e bytes c command.Connection load d d2 h y = absurd d2
-after ss e bytes c command.Parameter load d d2 h y = absurd d2
+after ss e bytes command.Reset c2 load d d2 h y = absurd (cc d)
+after ss e bytes command.Session c2 load d d2 h y = absurd (cc d)
+after ss e bytes command.Connection c2 load d d2 h y = absurd (cc d)
+after ss e bytes command.Parameter c2 load d d2 h y = absurd (cc d)
+after ss e bytes c command.Reset load d d2 h y = absurd (cc d2)
+after ss e bytes c command.Session load d d2 h y = absurd (cc d2)
+after ss e bytes c command.Connection load d d2 h y = absurd (cc d2)
+after ss e bytes c command.Parameter load d d2 h y = absurd (cc d2)
 
 -- an answer is fail-safe data while the slave is held, else its offer
-after-held : (ss : SlaveSettings) (e : List Deed) (bytes : List ℕ) (c : Command) (h : Bool) → IsData c → Ready ss e bytes
-    → After ss e bytes c (reply ss e bytes c (if h then command.FailSafeData else command.ProcessData) (if h then replicate ss.lengths.slave 0 else offer (OfSlave ss) e))
-    (gone_on ss e bytes c (if h then command.FailSafeData else command.ProcessData) (if h then replicate ss.lengths.slave 0 else offer (OfSlave ss) e))
-after-held ss e bytes c true d y = after ss e bytes c command.FailSafeData (replicate ss.lengths.slave 0) d tt (length-replicate ss.lengths.slave 0) y
-after-held ss e bytes c false d y = after ss e bytes c command.ProcessData (offer (OfSlave ss) e) d tt y.sound.offer_len y
+after-held : (ss : SlaveSettings) (e : List Deed) (bytes : List ℕ) (c : Command) (h : Bool) (n : ℕ) → n ≡ ss.lengths.slave → is_data c ≡ true → Ready ss e bytes
+    → After ss e bytes c (reply ss e bytes c (if h then command.FailSafeData else command.ProcessData) (if h then replicate n 0 else offer (OfSlave ss) e))
+    (gone_on ss e bytes c (if h then command.FailSafeData else command.ProcessData) (if h then replicate n 0 else offer (OfSlave ss) e))
+after-held ss e bytes c true n i d y = after ss e bytes c command.FailSafeData (replicate n 0) d refl (length-replicate n 0 ∙ i) y
+after-held ss e bytes c false n i d y = after ss e bytes c command.ProcessData (offer (OfSlave ss) e) d refl y.sound.offer_len y
 
 -- it is the one that looking back gives
-sent-held : (ss : SlaveSettings) (e before : List Deed) (bytes : List ℕ) (c : Command) (h : Bool) (load zeros : List ℕ) (k : ℕ) → k ≡ conn_of ss e
+sent-held : (ss : SlaveSettings) (e before : List Deed) (bytes : List ℕ) (c : Command) (h : Bool) (load : List ℕ) (k n : ℕ) → k ≡ conn_of ss e → n ≡ ss.lengths.slave
     → ((k : ℕ) (c2 : Command) (load : List ℕ) → seal (OfSlave ss) before k c2 load ≡ answer (notes_of ss e).chain (seen ss bytes c) k c2 load)
-    → (if h then seal (OfSlave ss) before k command.FailSafeData zeros else seal (OfSlave ss) before k command.ProcessData load)
-    ≡ reply ss e bytes c (if h then command.FailSafeData else command.ProcessData) (if h then zeros else load)
-sent-held ss e before bytes c true load zeros k h f = f k command.FailSafeData zeros ∙ ap (λ (k : ℕ). answer (notes_of ss e).chain (seen ss bytes c) k command.FailSafeData zeros) h
-sent-held ss e before bytes c false load zeros k h f = f k command.ProcessData load ∙ ap (λ (k : ℕ). answer (notes_of ss e).chain (seen ss bytes c) k command.ProcessData load) h
+    → (if h then seal (OfSlave ss) before k command.FailSafeData (replicate ss.lengths.slave 0) else seal (OfSlave ss) before k command.ProcessData load)
+    ≡ reply ss e bytes c (if h then command.FailSafeData else command.ProcessData) (if h then replicate n 0 else load)
+sent-held ss e before bytes c true load k n h i f =
+    f k command.FailSafeData (replicate ss.lengths.slave 0)
+    ∙ ap (λ (k : ℕ). answer (notes_of ss e).chain (seen ss bytes c) k command.FailSafeData (replicate ss.lengths.slave 0)) h
+    ∙ ap (λ (n : ℕ). answer (notes_of ss e).chain (seen ss bytes c) (conn_of ss e) command.FailSafeData (replicate n 0)) (sym i)
+sent-held ss e before bytes c false load k n h i f = f k command.ProcessData load ∙ ap (λ (k : ℕ). answer (notes_of ss e).chain (seen ss bytes c) k command.ProcessData load) h
 
 -- the machine at a data frame whose contents are right, or not
 abbrev pub data_settles : Bool → State → SlaveSettings → List Deed → List ℕ → Command → Outcome
 data_settles b p ss e bytes c =
     settles (view_in p ss e) (seen ss bytes c)
-    (if b then reply ss e bytes c (data_command (kit_of ss e)) (data_load (kit_of ss e)) else [])
+    (reply ss e bytes c (data_command (kit_of ss e).offer) (data_load (kit_of ss e).offer))
     (as_data (if b then Ok (record {
-      chain = answered (notes_of ss e).chain (seen ss bytes c) (conn_of ss e) (data_command (kit_of ss e)) (data_load (kit_of ss e));
+      chain = answered (notes_of ss e).chain (seen ss bytes c) (conn_of ss e) (data_command (kit_of ss e).offer) (data_load (kit_of ss e).offer);
       terms = (notes_of ss e).terms;
       outputs = outputs_of c (came ss bytes).load;
       last = bytes_of (came ss bytes);
     }) else Err (no_session, code 0x07)))
 
 -- a data frame is taken
-taken-agrees : (p : State) (ss : SlaveSettings) (e : List Deed) (bytes : List ℕ) (c : Command) → IsData c → Ready ss e bytes
-    → (deed_of (OfSlave ss) e (move.Deliver bytes) (takes c (came ss bytes).load)).sent ≡ reply ss e bytes c (data_command (kit_of ss e)) (data_load (kit_of ss e))
+taken-agrees : (p : State) (ss : SlaveSettings) (e : List Deed) (bytes : List ℕ) (c : Command) → is_data c ≡ true → Ready ss e bytes
+    → (deed_of (OfSlave ss) e (move.Deliver bytes) (takes c (came ss bytes).load)).sent ≡ reply ss e bytes c (data_command (kit_of ss e).offer) (data_load (kit_of ss e).offer)
     → Agrees ss e (move.Deliver bytes) (takes c (came ss bytes).load) (data_settles true p ss e bytes c)
 taken-agrees p ss e bytes command.ProcessData d y sent =
-    let done : After ss e bytes command.ProcessData _ _ = after-held ss e bytes command.ProcessData (held e) d y in
+    let done : After ss e bytes command.ProcessData _ _ = after-held ss e bytes command.ProcessData (held e) (length (offer (OfSlave ss) e)) y.sound.offer_len d y in
     record {
       view = λ r. ap (λ (f : List ℕ). view_of ss (taking ss bytes command.ProcessData f ∷ e)) sent ∙ done.view r;
       did = refl;
@@ -184,17 +182,17 @@ taken-agrees p ss e bytes command.ProcessData d y sent =
       sound = subst (λ (f : List ℕ). Sound ss (taking ss bytes command.ProcessData f ∷ e)) (sym sent) done.sound;
     }
 taken-agrees p ss e bytes command.FailSafeData d y sent =
-    let done : After ss e bytes command.FailSafeData _ _ = after-held ss e bytes command.FailSafeData (held e) d y in
+    let done : After ss e bytes command.FailSafeData _ _ = after-held ss e bytes command.FailSafeData (held e) (length (offer (OfSlave ss) e)) y.sound.offer_len d y in
     record {
       view = λ r. ap (λ (f : List ℕ). view_of ss (taking ss bytes command.FailSafeData f ∷ e)) sent ∙ done.view r;
       did = refl;
       sent = sent;
       sound = subst (λ (f : List ℕ). Sound ss (taking ss bytes command.FailSafeData f ∷ e)) (sym sent) done.sound;
     }
-taken-agrees p ss e bytes command.Reset d y sent = absurd d
-taken-agrees p ss e bytes command.Session d y sent = absurd d
-taken-agrees p ss e bytes command.Connection d y sent = absurd d
-taken-agrees p ss e bytes command.Parameter d y sent = absurd d
+taken-agrees p ss e bytes command.Reset d y sent = absurd (cc d)
+taken-agrees p ss e bytes command.Session d y sent = absurd (cc d)
+taken-agrees p ss e bytes command.Connection d y sent = absurd (cc d)
+taken-agrees p ss e bytes command.Parameter d y sent = absurd (cc d)
 
 ready : (ss : SlaveSettings) (e : List Deed) (bytes : List ℕ) (c : Command) → Sound ss e → Connected ss e → Arrived ss bytes c → whole ss.profile state.Parameter (notes_of ss e).parameter ≡ true → IsRun (OfSlave ss) e → Ready ss e bytes
 ready ss e bytes c s j a w run = record {
@@ -214,13 +212,13 @@ pub process-agrees : (p : State) (ss : SlaveSettings) (e : List Deed) (bytes : L
     → Agrees ss e (move.Deliver bytes) (takes command.ProcessData (came ss bytes).load) (data_settles true p ss e bytes command.ProcessData)
 process-agrees p ss e bytes s j a w run =
     let before : List Deed = begun (move.Deliver bytes) (takes command.ProcessData (came ss bytes).load) ∷ e in
-    taken-agrees p ss e bytes command.ProcessData tt (ready ss e bytes command.ProcessData s j a w run)
-    (sent-held ss e (since before) bytes command.ProcessData (held e) (offer (OfSlave ss) e) (replicate ss.lengths.slave 0) (conn_id (OfSlave ss) before) (answer-conn ss e _ j) (λ k c2 load. refl))
+    taken-agrees p ss e bytes command.ProcessData refl (ready ss e bytes command.ProcessData s j a w run)
+    (sent-held ss e (since before) bytes command.ProcessData (held e) (offer (OfSlave ss) e) (conn_id (OfSlave ss) before) (length (offer (OfSlave ss) e)) (answer-conn ss e _ j) s.offer_len (λ k c2 load. refl))
 
 pub failsafe-agrees : (b : Bool) (p : State) (ss : SlaveSettings) (e : List Deed) (bytes : List ℕ) → state_of (OfSlave ss) e ≡ p → Sound ss e → Connected ss e → Arrived ss bytes command.FailSafeData → whole ss.profile state.Parameter (notes_of ss e).parameter ≡ true → IsRun (OfSlave ss) e
     → Agrees ss e (move.Deliver bytes) (on_verdict p (OfSlave ss) (judged_contents command.FailSafeData (came ss bytes).load (if b then None else Some (code 0x07)))) (data_settles b p ss e bytes command.FailSafeData)
 failsafe-agrees false p ss e bytes at s j a w run = fault-agrees p ss e bytes true (code 0x07) at s
 failsafe-agrees true p ss e bytes at s j a w run =
     let before : List Deed = begun (move.Deliver bytes) (takes command.FailSafeData (came ss bytes).load) ∷ e in
-    taken-agrees p ss e bytes command.FailSafeData tt (ready ss e bytes command.FailSafeData s j a w run)
-    (sent-held ss e (since before) bytes command.FailSafeData (held e) (offer (OfSlave ss) e) (replicate ss.lengths.slave 0) (conn_id (OfSlave ss) before) (answer-conn ss e _ j) (λ k c2 load. refl))
+    taken-agrees p ss e bytes command.FailSafeData refl (ready ss e bytes command.FailSafeData s j a w run)
+    (sent-held ss e (since before) bytes command.FailSafeData (held e) (offer (OfSlave ss) e) (conn_id (OfSlave ss) before) (length (offer (OfSlave ss) e)) (answer-conn ss e _ j) s.offer_len (λ k c2 load. refl))

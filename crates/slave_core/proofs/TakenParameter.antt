@@ -27,9 +27,9 @@ use Rattle.end_model.proofs.Shown.{slave-run}
 use Rattle.end_model.proofs.SlaveShown.{SlaveShows, parameters}
 use Rattle.end_model.proofs.WholeUploads.{whole_parameters}
 use Rattle.slave_core.specs.declared.now.Now.TheVariants as now
-use Rattle.slave_core.specs.Seen.{SeenView}
+use Rattle.seq_chain.specs.SessionFrame.{SessionFrameView}
 use Rattle.slave_core.specs.Slave.{Outcome, settles}
-use Rattle.slave_core.specs.States.{answered, answer, parameter_by, echo_reply_by}
+use Rattle.slave_core.specs.States.{answered, answer, parameter_by, echo_reply}
 use Rattle.slave_core.specs.Taken.{as_parameter}
 use Rattle.slave_core.specs.ViewOf.{notes_of, kit_of, upload_of, view_in}
 use Rattle.slave_core.proofs.Sound.{Sound}
@@ -51,7 +51,7 @@ some-limit ss e r =
     some (whole ss.profile state.Parameter (parameters ss e)) (number_at 2 (parameters ss e)) ss.hand
     (λ k. h.tested.watchdog (long (id_len ss.profile) (rule_len ss.rule) (length (parameters ss e)) _ (whole_parameters ss e r) k)) ss.some_hand
 
-abbrev seen : SlaveSettings → List ℕ → SeenView
+abbrev seen : SlaveSettings → List ℕ → SessionFrameView
 seen ss bytes = record { command = command.Parameter; frame = came ss bytes }
 
 abbrev upload_at : SlaveSettings → List ℕ → UploadView
@@ -61,7 +61,7 @@ upload_at ss joined = upload_of ss (expected.Parameter ss.most ss.rule ss.profil
 abbrev pub parameter_settles : Option Code → State → SlaveSettings → List Deed → List ℕ → List ℕ → Outcome
 parameter_settles w p ss e bytes joined =
     settles (view_in p ss e) (seen ss bytes)
-    (echo_reply_by (outcome_by w (advanced (upload_at ss joined) (came ss bytes).load)) command.Parameter (kit_of ss e) (notes_of ss e).chain (or_else (notes_of ss e).conn 0) (upload_at ss joined) (seen ss bytes))
+    (echo_reply command.Parameter (kit_of ss e) (notes_of ss e).chain (or_else (notes_of ss e).conn 0) (upload_at ss joined) (seen ss bytes))
     (as_parameter (parameter_by (outcome_by w (advanced (upload_at ss joined) (came ss bytes).load)) (kit_of ss e) (notes_of ss e).chain (or_else (notes_of ss e).conn 0) ss.address (upload_at ss joined) (seen ss bytes)))
 
 -- what is noted before a frame that comes once the connection id and the address are whole

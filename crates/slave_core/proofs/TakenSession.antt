@@ -21,9 +21,9 @@ use Rattle.end_model.specs.Step.{takes, on_verdict, begun, id_piece}
 use Rattle.end_model.specs.Verdict.{judged_contents}
 use Rattle.end_model.proofs.ReadBack.{read_back}
 use Rattle.slave_core.specs.declared.now.Now.TheVariants as now
-use Rattle.slave_core.specs.Seen.{SeenView}
+use Rattle.seq_chain.specs.SessionFrame.{SessionFrameView}
 use Rattle.slave_core.specs.Slave.{Outcome, settles}
-use Rattle.slave_core.specs.States.{answered, answer, session_by, session_reply_by}
+use Rattle.slave_core.specs.States.{answered, answer, session_by, session_reply}
 use Rattle.slave_core.specs.Taken.{as_session}
 use Rattle.slave_core.specs.ViewOf.{Notes, notes_of, kit_of, upload_of, view_in}
 use Rattle.slave_core.proofs.Sound.{OfSession, count_of, SoundIn, Sound}
@@ -54,7 +54,7 @@ opening-session ss count n nonce h = record {
   no_parameter = h.no_parameter;
 }
 
-abbrev seen : SlaveSettings → List ℕ → SeenView
+abbrev seen : SlaveSettings → List ℕ → SessionFrameView
 seen ss bytes = record { command = command.Session; frame = came ss bytes }
 
 abbrev upload_at : SlaveSettings → List ℕ → UploadView
@@ -64,7 +64,7 @@ upload_at ss joined = upload_of ss (expected.Session ss.profile) joined
 abbrev pub session_settles : Option Code → State → SlaveSettings → List Deed → List ℕ → Chain → ℕ → List ℕ → Outcome
 session_settles w p ss e bytes chain i joined =
     settles (view_in p ss e) (seen ss bytes)
-    (session_reply_by (outcome_by w (advanced (upload_at ss joined) (came ss bytes).load)) (kit_of ss e) chain i (upload_at ss joined) (seen ss bytes))
+    (session_reply (kit_of ss e) chain i (upload_at ss joined) (seen ss bytes))
     (as_session (session_by (outcome_by w (advanced (upload_at ss joined) (came ss bytes).load)) (kit_of ss e) chain i (upload_at ss joined) (seen ss bytes)))
 
 same_session : (x : Expected) (k : ℕ) (c c' : Chain) (i i' : ℕ) (u : List ℕ) (l l' : List ℕ) → c ≡ c' → i ≡ i' → l ≡ l'

@@ -1,16 +1,19 @@
 -- Each transition of a typed state goes on as looking back says.
-use Rattle.std.proofs.Common.{◌≡◌, ℕ, List, [], ◌∷◌, Bool, true, false, IsTrue, Result, Ok, Err, is_ok, IfOk, IfErr, if◌then◌else◌, refl, sym, ap, ◌∙◌}
+use Rattle.std.proofs.Common.{◌≡◌, ℕ, List, Bool, true, false, IsTrue, Result, Ok, Err, IfOk, IfErr, OnOk, OnErr, if◌then◌else◌, refl, sym, ap, subst, ◌∙◌}
 use Rattle.fsoe_base.specs.declared.command.Code.{Code}
 use Rattle.fsoe_base.specs.declared.command.Command.TheVariants as command
 use Rattle.fsoe_base.specs.declared.command.State.{State}
 use Rattle.fsoe_base.specs.declared.command.State.TheVariants as state
 use Rattle.fsoe_base.specs.declared.did.Did.{Did}
+use Rattle.seq_chain.specs.Opened.{opened}
+use Rattle.seq_chain.specs.SessionFrame.{SessionFrameView}
 use Rattle.param_load.specs.declared.entry.Move.TheVariants as move
 use Rattle.param_load.specs.declared.slave_settings.SlaveSettings.{SlaveSettings}
 use Rattle.param_load.specs.Upload.{is_whole}
 use Rattle.end_model.specs.Setup.{OfSlave}
 use Rattle.end_model.specs.Deed.{Deed}
 use Rattle.end_model.specs.Readiness.{state_of}
+use Rattle.end_model.specs.Verdict.{is_repeat}
 use Rattle.end_model.specs.Step.{on_fault, did_on, step}
 use Rattle.slave_core.specs.declared.now.Now.{Now}
 use Rattle.slave_core.specs.declared.now.Now.TheVariants as now
@@ -18,17 +21,16 @@ use Rattle.slave_core.specs.declared.states.InReset.{InReset}
 use Rattle.slave_core.specs.After.{after}
 use Rattle.slave_core.specs.GoesOn.{Meets, GoesOn}
 use Rattle.slave_core.specs.Kit.{KitView}
-use Rattle.slave_core.specs.Seen.{SeenView}
-use Rattle.slave_core.specs.Slave.{Outcome, is_sent, settles, refuses, delivered_by}
+use Rattle.slave_core.specs.Now.{kept}
+use Rattle.slave_core.specs.Slave.{Outcome, settles, refuses, on_session, delivered_by}
 use Rattle.slave_core.specs.SlaveView.{SlaveView}
 use Rattle.slave_core.specs.States as states
 use Rattle.slave_core.specs.Taken.{as_session, as_connection, as_parameter, as_data, taken, reply}
-use Rattle.slave_core.specs.Verdict.{verdict_of}
+use Rattle.slave_core.specs.Verdict.{fault}
 use Rattle.slave_core.specs.ViewOf.{view_in, view_of}
 use Rattle.slave_core.specs.Views.{SessionView, ConnectionView, ParameterView, DataView}
 use Rattle.slave_core.proofs.Agrees.{Agrees}
 use Rattle.slave_core.proofs.Agreed.{agrees, run-sound}
-use Rattle.slave_core.proofs.Shown.{shown}
 
 refused-did : (p : State) (ss : SlaveSettings) (e : List Deed) (x : Code) → (refuses (view_in p ss e) true x).did ≡ on_fault p true x
 refused-did state.Reset ss e x = refl
@@ -37,39 +39,45 @@ refused-did state.Connection ss e x = refl
 refused-did state.Parameter ss e x = refl
 refused-did state.Data ss e x = refl
 
-silent : (bytes : List ℕ) → is_sent bytes ≡ false → bytes ≡ []
-silent [] h = refl
-silent (b ∷ bytes) h = absurd (cc h)
-
 -- the outcome of a frame that passed the tests
-settled : (ss : SlaveSettings) (e : List Deed) (old : Now) (kit : KitView) (f : SeenView) (bytes : List ℕ) → Meets ss e old kit f bytes → after (view_of ss e) (move.Deliver bytes) ≡ settles (view_of ss e) f (reply kit old f) (taken kit old f)
+settled : (ss : SlaveSettings) (e : List Deed) (old : Now) (kit : KitView) (f : SessionFrameView) (bytes : List ℕ) → Meets ss e old kit f bytes → after (view_of ss e) (move.Deliver bytes) ≡ settles (view_of ss e) f (reply kit old f) (taken kit old f)
 settled ss e old kit f bytes h =
-    ap (delivered_by (view_of ss e)) (sym (ap (λ (n : Now). verdict_of ss.lengths.master n bytes) h.state_is) ∙ h.passed)
+    ap (delivered_by (view_of ss e)) (sym (ap (λ (n : Now). opened ss.lengths.master (is_repeat (kept n) bytes) bytes) h.state_is) ∙ h.is_opened)
+    ∙ ap (on_session (view_of ss e) f) (sym (ap (λ (n : Now). fault n f) h.state_is) ∙ h.passed)
     ∙ sym (ap (λ (n : Now). settles (view_of ss e) f (reply kit n f) (taken kit n f)) h.state_is ∙ ap (λ (k : KitView). settles (view_of ss e) f (reply k (view_of ss e).state f) (taken k (view_of ss e).state f)) h.kit_is)
 
-ok-by : (ss : SlaveSettings) (e : List Deed) (f : SeenView) (bytes sent : List ℕ) (r : Result Now (InReset × Code)) (v : SlaveView) (d : Did × List ℕ) (o : Outcome) → v ≡ o.slave → d.1 ≡ o.sent → o ≡ settles (view_of ss e) f sent r
-    → IfOk r (λ next. (next ≡ v.state) × (sent ≡ d.1))
-ok-by ss e f bytes sent (Ok next) v d o i j k = (sym (ap (λ (v : SlaveView). v.state) i ∙ ap (λ (o : Outcome). o.slave.state) k), sym (j ∙ ap (λ (o : Outcome). o.sent) k))
-ok-by ss e f bytes sent (Err x) v d o i j k = tt
+ok-by : (ss : SlaveSettings) (e : List Deed) (f : SessionFrameView) (answer sent : List ℕ) (r : Result Now (InReset × Code)) (v : SlaveView) (d : List ℕ) (o : Outcome) → OnOk r (sent ≡ answer) → v ≡ o.slave → d ≡ o.sent
+    → o ≡ settles (view_of ss e) f answer r
+    → IfOk r (λ next. (next ≡ v.state) × (sent ≡ d))
+ok-by ss e f answer sent (Ok next) v d o w i j k = (sym (ap (λ (v : SlaveView). v.state) i ∙ ap (λ (o : Outcome). o.slave.state) k), w ∙ sym (j ∙ ap (λ (o : Outcome). o.sent) k))
+ok-by ss e f answer sent (Err x) v d o w i j k = tt
 
-err-by : (ss : SlaveSettings) (e : List Deed) (f : SeenView) (sent : List ℕ) (r : Result Now (InReset × Code)) (d : Did) (o : Outcome) → d ≡ o.did → o ≡ settles (view_of ss e) f sent r → is_ok r ≡ is_sent sent
-    → IfErr r (λ refusal. (d ≡ on_fault (state_of (OfSlave ss) e) true refusal.1) × (sent ≡ []))
-err-by ss e f sent (Ok next) d o i k s = tt
-err-by ss e f sent (Err x) d o i k s = (i ∙ ap (λ (o : Outcome). o.did) k ∙ refused-did (state_of (OfSlave ss) e) ss e x.1, silent sent (sym s))
+err-by : (ss : SlaveSettings) (e : List Deed) (f : SessionFrameView) (answer before sent : List ℕ) (r : Result Now (InReset × Code)) (d : Did) (o : Outcome) → OnErr r (sent ≡ before) → d ≡ o.did → o ≡ settles (view_of ss e) f answer r
+    → IfErr r (λ refusal. (d ≡ on_fault (state_of (OfSlave ss) e) true refusal.1) × (sent ≡ before))
+err-by ss e f answer before sent (Ok next) d o w i k = tt
+err-by ss e f answer before sent (Err x) d o w i k = (i ∙ ap (λ (o : Outcome). o.did) k ∙ refused-did (state_of (OfSlave ss) e) ss e x.1, w)
 
 -- a state that goes on as the machine's table says goes on as looking back says
-goes : (old : Now) (kit : KitView) (f : SeenView) → GoesOn old kit f (taken kit old f) (reply kit old f)
-goes old kit f = record {
+goes : (old : Now) (kit : KitView) (f : SessionFrameView) (before sent : List ℕ) → OnOk (taken kit old f) (sent ≡ reply kit old f) → OnErr (taken kit old f) (sent ≡ before) → GoesOn old kit f (taken kit old f) before sent
+goes old kit f before sent written unwritten = record {
   ok = λ ss e bytes h.
       let a : Agrees ss e (move.Deliver bytes) (did_on (OfSlave ss) e (move.Deliver bytes)) (after (view_of ss e) (move.Deliver bytes)) = agrees ss e (move.Deliver bytes) (run-sound ss e h.reached) h.reached tt in
-      ok-by ss e f bytes (reply kit old f) (taken kit old f) _ (did_on (OfSlave ss) e (move.Deliver bytes), (step (OfSlave ss) e (move.Deliver bytes)).sent) (after (view_of ss e) (move.Deliver bytes)) (a.view h.bytes_are) a.sent (settled ss e old kit f bytes h);
+      ok-by ss e f (reply kit old f) sent (taken kit old f) _ (step (OfSlave ss) e (move.Deliver bytes)).sent (after (view_of ss e) (move.Deliver bytes)) written (a.view h.bytes_are) a.sent (settled ss e old kit f bytes h);
   err = λ ss e bytes h.
       let a : Agrees ss e (move.Deliver bytes) (did_on (OfSlave ss) e (move.Deliver bytes)) (after (view_of ss e) (move.Deliver bytes)) = agrees ss e (move.Deliver bytes) (run-sound ss e h.reached) h.reached tt in
-      err-by ss e f (reply kit old f) (taken kit old f) _ (after (view_of ss e) (move.Deliver bytes)) a.did (settled ss e old kit f bytes h) (shown kit old f);
+      err-by ss e f (reply kit old f) before sent (taken kit old f) _ (after (view_of ss e) (move.Deliver bytes)) unwritten a.did (settled ss e old kit f bytes h);
 }
 
-goes-by : (old : Now) (kit : KitView) (f : SeenView) (r : Result Now (InReset × Code)) (sent : List ℕ) → r ≡ taken kit old f → sent ≡ reply kit old f → GoesOn old kit f r sent
-goes-by old kit f r sent i j = rw (i, j) (goes old kit f)
+-- what a transition wrote: this answer where it went on, and nothing else
+record Wrote {N : Type 0} (r : Result N (InReset × Code)) (answer before sent : List ℕ) : Type 0 where
+  written : OnOk r (sent ≡ answer)
+  unwritten : OnErr r (sent ≡ before)
+
+goes-by : (old : Now) (kit : KitView) (f : SessionFrameView) (r : Result Now (InReset × Code)) (answer before sent : List ℕ) → r ≡ taken kit old f → answer ≡ reply kit old f → Wrote r answer before sent → GoesOn old kit f r before sent
+goes-by old kit f r answer before sent i j w =
+    subst (λ (r : Result Now (InReset × Code)). Wrote r answer before sent → GoesOn old kit f r before sent) (sym i)
+    (λ w. goes old kit f before sent (subst (λ (answer : List ℕ). OnOk (taken kit old f) (sent ≡ answer)) j w.written) w.unwritten)
+    w
 
 whole-then : {T : Type 0} (b : Bool) (x y r : T) → b ≡ true → r ≡ x → r ≡ (if b then x else y)
 whole-then true x y r h i = i
@@ -79,59 +87,79 @@ more-then : {T : Type 0} (b : Bool) (x y r : T) → b ≡ false → r ≡ y → 
 more-then false x y r h i = i
 more-then true x y r h i = absurd (cc h)
 
-pub start_goes : (s : InReset) (kit : KitView) (f : SeenView) (r : Result SessionView (InReset × Code)) (sent : List ℕ)
-    → r ≡ states.session_next kit states.fresh kit.nonce (states.first_session kit) f → sent ≡ states.session_reply kit states.fresh kit.nonce (states.first_session kit) f
-    → GoesOn (now.Reset s) kit f (as_session r) sent
-start_goes s kit f r sent i j = goes-by (now.Reset s) kit f (as_session r) sent (ap as_session i) j
+-- the same of the state as one of the machine's
+session-wrote : (r : Result SessionView (InReset × Code)) (answer before sent : List ℕ) → OnOk r (sent ≡ answer) → OnErr r (sent ≡ before) → Wrote (as_session r) answer before sent
+session-wrote (Ok s) answer before sent w u = record { written = w; unwritten = tt }
+session-wrote (Err x) answer before sent w u = record { written = tt; unwritten = u }
 
-pub session_goes : (s : SessionView) (kit : KitView) (f : SeenView) (r : Result SessionView (InReset × Code)) (sent : List ℕ) → is_whole s.upload ≡ false
-    → r ≡ states.session_next kit s.chain s.id s.upload f → sent ≡ states.session_reply kit s.chain s.id s.upload f
-    → GoesOn (now.Session s) kit f (as_session r) sent
-session_goes s kit f r sent h i j = goes-by (now.Session s) kit f (as_session r) sent (more-then (is_whole s.upload) _ _ (as_session r) h (ap as_session i)) (more-then (is_whole s.upload) _ _ sent h j)
+connection-wrote : (r : Result ConnectionView (InReset × Code)) (answer before sent : List ℕ) → OnOk r (sent ≡ answer) → OnErr r (sent ≡ before) → Wrote (as_connection r) answer before sent
+connection-wrote (Ok s) answer before sent w u = record { written = w; unwritten = tt }
+connection-wrote (Err x) answer before sent w u = record { written = tt; unwritten = u }
 
-pub connect_goes : (s : SessionView) (kit : KitView) (f : SeenView) (r : Result ConnectionView (InReset × Code)) (sent : List ℕ) → IsTrue (is_whole s.upload)
-    → r ≡ states.connection_next kit s.chain f.frame.conn (states.first_connection kit f.frame.conn) f → sent ≡ states.echo_reply command.Connection kit s.chain f.frame.conn (states.first_connection kit f.frame.conn) f
-    → GoesOn (now.Session s) kit f (as_connection r) sent
-connect_goes s kit f r sent h i j = goes-by (now.Session s) kit f (as_connection r) sent (whole-then (is_whole s.upload) _ _ (as_connection r) h (ap as_connection i)) (whole-then (is_whole s.upload) _ _ sent h j)
+parameter-wrote : (r : Result ParameterView (InReset × Code)) (answer before sent : List ℕ) → OnOk r (sent ≡ answer) → OnErr r (sent ≡ before) → Wrote (as_parameter r) answer before sent
+parameter-wrote (Ok s) answer before sent w u = record { written = w; unwritten = tt }
+parameter-wrote (Err x) answer before sent w u = record { written = tt; unwritten = u }
 
-pub connection_goes : (s : ConnectionView) (kit : KitView) (f : SeenView) (r : Result ConnectionView (InReset × Code)) (sent : List ℕ) → is_whole s.upload ≡ false
-    → r ≡ states.connection_next kit s.chain s.conn s.upload f → sent ≡ states.echo_reply command.Connection kit s.chain s.conn s.upload f
-    → GoesOn (now.Connection s) kit f (as_connection r) sent
-connection_goes s kit f r sent h i j = goes-by (now.Connection s) kit f (as_connection r) sent (more-then (is_whole s.upload) _ _ (as_connection r) h (ap as_connection i)) (more-then (is_whole s.upload) _ _ sent h j)
+pub start_goes : (s : InReset) (kit : KitView) (f : SessionFrameView) (r : Result SessionView (InReset × Code)) (before sent : List ℕ)
+    → r ≡ states.session_next kit states.fresh kit.nonce (states.first_session kit) f
+    → OnOk r (sent ≡ states.session_reply kit states.fresh kit.nonce (states.first_session kit) f) → OnErr r (sent ≡ before)
+    → GoesOn (now.Reset s) kit f (as_session r) before sent
+start_goes s kit f r before sent i w u = goes-by (now.Reset s) kit f (as_session r) _ before sent (ap as_session i) refl (session-wrote r _ before sent w u)
 
-pub load_goes : (s : ConnectionView) (kit : KitView) (f : SeenView) (r : Result ParameterView (InReset × Code)) (sent : List ℕ) → IsTrue (is_whole s.upload)
-    → r ≡ states.parameter_next kit s.chain s.conn kit.settings.address (states.first_parameter kit) f → sent ≡ states.echo_reply command.Parameter kit s.chain s.conn (states.first_parameter kit) f
-    → GoesOn (now.Connection s) kit f (as_parameter r) sent
-load_goes s kit f r sent h i j = goes-by (now.Connection s) kit f (as_parameter r) sent (whole-then (is_whole s.upload) _ _ (as_parameter r) h (ap as_parameter i)) (whole-then (is_whole s.upload) _ _ sent h j)
+pub session_goes : (s : SessionView) (kit : KitView) (f : SessionFrameView) (r : Result SessionView (InReset × Code)) (before sent : List ℕ) → is_whole s.upload ≡ false
+    → r ≡ states.session_next kit s.chain s.id s.upload f
+    → OnOk r (sent ≡ states.session_reply kit s.chain s.id s.upload f) → OnErr r (sent ≡ before)
+    → GoesOn (now.Session s) kit f (as_session r) before sent
+session_goes s kit f r before sent h i w u =
+    goes-by (now.Session s) kit f (as_session r) _ before sent (more-then (is_whole s.upload) _ _ (as_session r) h (ap as_session i)) (more-then (is_whole s.upload) _ _ _ h refl) (session-wrote r _ before sent w u)
 
-pub parameter_goes : (s : ParameterView) (kit : KitView) (f : SeenView) (r : Result ParameterView (InReset × Code)) (sent : List ℕ) → is_whole s.upload ≡ false
-    → r ≡ states.parameter_next kit s.chain s.conn s.address s.upload f → sent ≡ states.echo_reply command.Parameter kit s.chain s.conn s.upload f
-    → GoesOn (now.Parameter s) kit f (as_parameter r) sent
-parameter_goes s kit f r sent h i j = goes-by (now.Parameter s) kit f (as_parameter r) sent (more-then (is_whole s.upload) _ _ (as_parameter r) h (ap as_parameter i)) (more-then (is_whole s.upload) _ _ sent h j)
+pub connect_goes : (s : SessionView) (kit : KitView) (f : SessionFrameView) (r : Result ConnectionView (InReset × Code)) (before sent : List ℕ) → IsTrue (is_whole s.upload)
+    → r ≡ states.connection_next kit s.chain f.frame.conn (states.first_connection kit f.frame.conn) f
+    → OnOk r (sent ≡ states.echo_reply command.Connection kit s.chain f.frame.conn (states.first_connection kit f.frame.conn) f) → OnErr r (sent ≡ before)
+    → GoesOn (now.Session s) kit f (as_connection r) before sent
+connect_goes s kit f r before sent h i w u =
+    goes-by (now.Session s) kit f (as_connection r) _ before sent (whole-then (is_whole s.upload) _ _ (as_connection r) h (ap as_connection i)) (whole-then (is_whole s.upload) _ _ _ h refl) (connection-wrote r _ before sent w u)
 
-run-goes : (s : ParameterView) (kit : KitView) (f : SeenView) (r : Result DataView (InReset × Code)) (sent : List ℕ) → IsTrue (is_whole s.upload)
-    → r ≡ states.data_next kit s.chain (states.terms_of kit s.conn s.address s.upload) f → sent ≡ states.data_reply kit s.chain (states.terms_of kit s.conn s.address s.upload) f
-    → GoesOn (now.Parameter s) kit f (as_data r) sent
-run-goes s kit f r sent h i j = goes-by (now.Parameter s) kit f (as_data r) sent (whole-then (is_whole s.upload) _ _ (as_data r) h (ap as_data i)) (whole-then (is_whole s.upload) _ _ sent h j)
+pub connection_goes : (s : ConnectionView) (kit : KitView) (f : SessionFrameView) (r : Result ConnectionView (InReset × Code)) (before sent : List ℕ) → is_whole s.upload ≡ false
+    → r ≡ states.connection_next kit s.chain s.conn s.upload f
+    → OnOk r (sent ≡ states.echo_reply command.Connection kit s.chain s.conn s.upload f) → OnErr r (sent ≡ before)
+    → GoesOn (now.Connection s) kit f (as_connection r) before sent
+connection_goes s kit f r before sent h i w u =
+    goes-by (now.Connection s) kit f (as_connection r) _ before sent (more-then (is_whole s.upload) _ _ (as_connection r) h (ap as_connection i)) (more-then (is_whole s.upload) _ _ _ h refl) (connection-wrote r _ before sent w u)
 
-pub run_goes : (s : ParameterView) (kit : KitView) (f : SeenView) (next : DataView) (sent : List ℕ) → IsTrue (is_whole s.upload)
-    → Ok next ≡ states.data_next kit s.chain (states.terms_of kit s.conn s.address s.upload) f → sent ≡ states.data_reply kit s.chain (states.terms_of kit s.conn s.address s.upload) f
-    → GoesOn (now.Parameter s) kit f (Ok (now.Data next)) sent
-run_goes s kit f next sent h i j = run-goes s kit f (Ok next) sent h i j
+pub load_goes : (s : ConnectionView) (kit : KitView) (f : SessionFrameView) (r : Result ParameterView (InReset × Code)) (before sent : List ℕ) → IsTrue (is_whole s.upload)
+    → r ≡ states.parameter_next kit s.chain s.conn kit.settings.address (states.first_parameter kit) f
+    → OnOk r (sent ≡ states.echo_reply command.Parameter kit s.chain s.conn (states.first_parameter kit) f) → OnErr r (sent ≡ before)
+    → GoesOn (now.Connection s) kit f (as_parameter r) before sent
+load_goes s kit f r before sent h i w u =
+    goes-by (now.Connection s) kit f (as_parameter r) _ before sent (whole-then (is_whole s.upload) _ _ (as_parameter r) h (ap as_parameter i)) (whole-then (is_whole s.upload) _ _ _ h refl) (parameter-wrote r _ before sent w u)
 
-pub run_refused : (s : ParameterView) (kit : KitView) (f : SeenView) (reset : InReset) (x : Code) (sent : List ℕ) → IsTrue (is_whole s.upload)
-    → Err (reset, x) ≡ states.data_next kit s.chain (states.terms_of kit s.conn s.address s.upload) f → sent ≡ states.data_reply kit s.chain (states.terms_of kit s.conn s.address s.upload) f
-    → GoesOn (now.Parameter s) kit f (Err (reset, x)) sent
-run_refused s kit f reset x sent h i j = run-goes s kit f (Err (reset, x)) sent h i j
+pub parameter_goes : (s : ParameterView) (kit : KitView) (f : SessionFrameView) (r : Result ParameterView (InReset × Code)) (before sent : List ℕ) → is_whole s.upload ≡ false
+    → r ≡ states.parameter_next kit s.chain s.conn s.address s.upload f
+    → OnOk r (sent ≡ states.echo_reply command.Parameter kit s.chain s.conn s.upload f) → OnErr r (sent ≡ before)
+    → GoesOn (now.Parameter s) kit f (as_parameter r) before sent
+parameter_goes s kit f r before sent h i w u =
+    goes-by (now.Parameter s) kit f (as_parameter r) _ before sent (more-then (is_whole s.upload) _ _ (as_parameter r) h (ap as_parameter i)) (more-then (is_whole s.upload) _ _ _ h refl) (parameter-wrote r _ before sent w u)
 
-data-goes : (s : DataView) (kit : KitView) (f : SeenView) (r : Result DataView (InReset × Code)) (sent : List ℕ) → r ≡ states.data_next kit s.chain s.terms f → sent ≡ states.data_reply kit s.chain s.terms f
-    → GoesOn (now.Data s) kit f (as_data r) sent
-data-goes s kit f r sent i j = goes-by (now.Data s) kit f (as_data r) sent (ap as_data i) j
+pub run_goes : (s : ParameterView) (kit : KitView) (f : SessionFrameView) (next : DataView) (before sent : List ℕ) → IsTrue (is_whole s.upload)
+    → Ok next ≡ states.data_next kit s.chain (states.terms_of kit s.conn s.address s.upload) f
+    → sent ≡ states.data_reply kit s.chain (states.terms_of kit s.conn s.address s.upload) f
+    → GoesOn (now.Parameter s) kit f (Ok (now.Data next)) before sent
+run_goes s kit f next before sent h i w =
+    goes-by (now.Parameter s) kit f (Ok (now.Data next)) _ before sent (whole-then (is_whole s.upload) _ _ (Ok (now.Data next)) h (ap as_data i)) (whole-then (is_whole s.upload) _ _ _ h refl) (record { written = w; unwritten = tt })
 
-pub data_goes : (s : DataView) (kit : KitView) (f : SeenView) (next : DataView) (sent : List ℕ) → Ok next ≡ states.data_next kit s.chain s.terms f → sent ≡ states.data_reply kit s.chain s.terms f
-    → GoesOn (now.Data s) kit f (Ok (now.Data next)) sent
-data_goes s kit f next sent i j = data-goes s kit f (Ok next) sent i j
+pub run_refused : (s : ParameterView) (kit : KitView) (f : SessionFrameView) (reset : InReset) (x : Code) (before sent : List ℕ) → IsTrue (is_whole s.upload)
+    → Err (reset, x) ≡ states.data_next kit s.chain (states.terms_of kit s.conn s.address s.upload) f → sent ≡ before
+    → GoesOn (now.Parameter s) kit f (Err (reset, x)) before sent
+run_refused s kit f reset x before sent h i u =
+    goes-by (now.Parameter s) kit f (Err (reset, x)) (reply kit (now.Parameter s) f) before sent (whole-then (is_whole s.upload) _ _ (Err (reset, x)) h (ap as_data i)) refl (record { written = tt; unwritten = u })
 
-pub data_refused : (s : DataView) (kit : KitView) (f : SeenView) (reset : InReset) (x : Code) (sent : List ℕ) → Err (reset, x) ≡ states.data_next kit s.chain s.terms f → sent ≡ states.data_reply kit s.chain s.terms f
-    → GoesOn (now.Data s) kit f (Err (reset, x)) sent
-data_refused s kit f reset x sent i j = data-goes s kit f (Err (reset, x)) sent i j
+pub data_goes : (s : DataView) (kit : KitView) (f : SessionFrameView) (next : DataView) (before sent : List ℕ)
+    → Ok next ≡ states.data_next kit s.chain s.terms f → sent ≡ states.data_reply kit s.chain s.terms f
+    → GoesOn (now.Data s) kit f (Ok (now.Data next)) before sent
+data_goes s kit f next before sent i w = goes-by (now.Data s) kit f (Ok (now.Data next)) _ before sent (ap as_data i) refl (record { written = w; unwritten = tt })
+
+pub data_refused : (s : DataView) (kit : KitView) (f : SessionFrameView) (reset : InReset) (x : Code) (before sent : List ℕ)
+    → Err (reset, x) ≡ states.data_next kit s.chain s.terms f → sent ≡ before
+    → GoesOn (now.Data s) kit f (Err (reset, x)) before sent
+data_refused s kit f reset x before sent i u = goes-by (now.Data s) kit f (Err (reset, x)) (reply kit (now.Data s) f) before sent (ap as_data i) refl (record { written = tt; unwritten = u })

@@ -14,6 +14,6 @@ abbrev pub after : SlaveView → Move → Outcome
 after v (move.Deliver bytes) = delivered v bytes
 after v move.Tick = tick_of v
 after v move.Local = reset_of v
-after v (move.Put load) = with_kit v (record v.kit { offer = load })
-after v (move.Hold failsafe) = with_kit v (record v.kit { held = failsafe })
+after v (move.Put load) = with_kit v (record v.kit { offer = record v.kit.offer { load = load } })
+after v (move.Hold failsafe) = with_kit v (record v.kit { offer = record v.kit.offer { held = failsafe } })
 after v (move.Nonce id) = with_kit v (record v.kit { nonce = id })

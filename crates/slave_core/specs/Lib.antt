@@ -1,7 +1,5 @@
-pub mod Data
 pub mod Kit
 pub mod Now
-pub mod Seen
 pub mod Slave
 pub mod SlaveView
 pub mod States

@@ -1,7 +1,6 @@
 -- What each event at a slave leaves, does and sends.
-use Rattle.std.specs.Prelude.{ℕ, ◌+◌, ◌==◌, Bool, true, false, not, ◌&&◌, ◌≡◌, List, [], ◌∷◌, Some, None, is_some, Result, Ok, Err, if◌then◌else◌}
+use Rattle.std.specs.Prelude.{ℕ, ◌+◌, ◌==◌, Bool, true, false, not, ◌&&◌, ◌≡◌, List, [], ◌∷◌, Option, Some, None, is_some, Result, Ok, Err, if◌then◌else◌}
 use Rattle.fsoe_base.specs.declared.command.Code.{Code}
-use Rattle.fsoe_base.specs.declared.command.Command.{Command}
 use Rattle.fsoe_base.specs.declared.command.Command.TheVariants as command
 use Rattle.fsoe_base.specs.declared.did.Cause.{Cause}
 use Rattle.fsoe_base.specs.declared.did.Cause.TheVariants as cause
@@ -9,22 +8,25 @@ use Rattle.fsoe_base.specs.declared.did.Did.{Did}
 use Rattle.fsoe_base.specs.declared.did.Dropped.{Dropped}
 use Rattle.fsoe_base.specs.declared.did.Dropped.TheVariants as dropped
 use Rattle.fsoe_base.specs.Did as did
+use Rattle.fsoe_base.specs.Did.{takes, resets}
 use Rattle.failsafe_io.specs.Timer.{ticked}
 use Rattle.fsoe_base.specs.Command.{code}
 use Rattle.param_load.specs.declared.slave_settings.SlaveSettings.{SlaveSettings}
+use Rattle.seq_chain.specs.declared.opened.Opened.{Opened}
+use Rattle.seq_chain.specs.declared.opened.Opened.TheVariants as opened_as
+use Rattle.seq_chain.specs.Opened.{opened}
 use Rattle.seq_chain.specs.Reset.{reset_frame}
+use Rattle.seq_chain.specs.SessionFrame.{SessionFrameView}
+use Rattle.end_model.specs.Verdict.{is_repeat}
 use Rattle.slave_core.specs.declared.now.Now.{Now}
 use Rattle.slave_core.specs.declared.now.Now.TheVariants as now
 use Rattle.slave_core.specs.declared.states.InReset.{InReset}
-use Rattle.slave_core.specs.declared.verdict.Verdict.{Verdict}
-use Rattle.slave_core.specs.declared.verdict.Verdict.TheVariants as verdict
 use Rattle.slave_core.specs.Kit.{own_len, peer_len, first_kit}
-use Rattle.slave_core.specs.Now.{is_reset, limit_of}
-use Rattle.slave_core.specs.Seen.{SeenView}
+use Rattle.slave_core.specs.Now.{is_reset, kept, limit_of}
 use Rattle.slave_core.specs.SlaveView.{SlaveView, started}
 use Rattle.slave_core.specs.States.{no_session}
 use Rattle.slave_core.specs.Taken.{taken, reply}
-use Rattle.slave_core.specs.Verdict.{verdict_of}
+use Rattle.slave_core.specs.Verdict.{fault}
 
 -- what an event leaves, does and sends
 pub record Outcome : Type 0 where
@@ -42,11 +44,7 @@ quiet v = record { slave = v; did = did.nothing; sent = [] }
 
 -- a frame is dropped
 abbrev pub drops : SlaveView → Bool → Dropped → Outcome
-drops v passed why = record { slave = v; did = record { took = None; passed = passed; sent = false; reset = None; dropped = Some why }; sent = [] }
-
--- a frame is taken
-abbrev pub takes : Command → List ℕ → Bool → Did
-takes cmd load passed = record { took = Some (record { command = cmd; load = load }); passed = passed; sent = true; reset = None; dropped = None }
+drops v passed why = record { slave = v; did = record (did.dropped why) { passed = passed }; sent = [] }
 
 -- a slave without its session
 abbrev pub fallen : SlaveView → SlaveView
@@ -56,7 +54,7 @@ fallen v = record v { state = now.Reset no_session; timer = started v.kit.settin
 abbrev pub falls : SlaveView → Bool → Cause → Code → Outcome
 falls v passed why x = record {
   slave = fallen v;
-  did = record { took = None; passed = passed; sent = true; reset = Some why; dropped = None };
+  did = resets passed why;
   sent = reset_frame x.0 (own_len v.kit.settings);
 }
 
@@ -72,7 +70,7 @@ abbrev pub reset_by_peer : SlaveView → Code → List ℕ → Outcome
 reset_by_peer v x load = if is_reset v.state then acknowledges v load else falls v false (cause.Peer x) (code 0)
 
 -- a frame whose contents were tested
-abbrev pub settles : SlaveView → SeenView → List ℕ → Result Now (InReset × Code) → Outcome
+abbrev pub settles : SlaveView → SessionFrameView → List ℕ → Result Now (InReset × Code) → Outcome
 settles v f answer (Ok next) = record {
   slave = record v { state = next; timer = started (limit_of v.kit.settings next) };
   did = takes f.command f.frame.load true;
@@ -80,15 +78,20 @@ settles v f answer (Ok next) = record {
 }
 settles v f answer (Err e) = refuses v true e.1
 
+-- a frame of a session, by the first test that it fails
+abbrev pub on_session : SlaveView → SessionFrameView → Option Code → Outcome
+on_session v f None = settles v f (reply v.kit v.state f) (taken v.kit v.state f)
+on_session v f (Some x) = refuses v false x
+
 -- a frame is delivered
-abbrev pub delivered_by : SlaveView → Verdict → Outcome
-delivered_by v (verdict.Drop why) = drops v false why
-delivered_by v (verdict.Refuse x) = refuses v false x
-delivered_by v (verdict.ResetFrame x f) = reset_by_peer v x f.load
-delivered_by v (verdict.Pass f) = settles v f (reply v.kit v.state f) (taken v.kit v.state f)
+abbrev pub delivered_by : SlaveView → Opened → Outcome
+delivered_by v (opened_as.Drop why) = drops v false why
+delivered_by v (opened_as.Refuse x) = refuses v false x
+delivered_by v (opened_as.ResetFrame x f) = reset_by_peer v x f.load
+delivered_by v (opened_as.OfSession f) = on_session v f (fault v.state f)
 
 abbrev pub delivered : SlaveView → List ℕ → Outcome
-delivered v bytes = delivered_by v (verdict_of (peer_len v.kit.settings) v.state bytes)
+delivered v bytes = delivered_by v (opened (peer_len v.kit.settings) (is_repeat (kept v.state) bytes) bytes)
 
 -- a tick: in state Reset none is counted
 abbrev pub tick_in_session : SlaveView → Outcome

@@ -1,5 +1,5 @@
 -- How the states of a slave go on by a frame that passed the tests.
-use Rattle.std.specs.Prelude.{ℕ, List, [], length, Result, Ok, Err, None, if◌then◌else◌}
+use Rattle.std.specs.Prelude.{ℕ, List, length, Result, Ok, Err, None, if◌then◌else◌}
 use Rattle.fsoe_base.specs.declared.command.Code.{Code}
 use Rattle.fsoe_base.specs.declared.command.Command.{Command}
 use Rattle.fsoe_base.specs.declared.command.Command.TheVariants as command
@@ -7,17 +7,18 @@ use Rattle.fsoe_base.specs.Command.{command_byte, code}
 use Rattle.fsoe_frame.specs.Parts.{bytes_of}
 use Rattle.seq_chain.specs.declared.chain.Chain.{Chain}
 use Rattle.seq_chain.specs.Chain.{sealed_by, after_sent, after_taken}
+use Rattle.seq_chain.specs.SessionFrame.{SessionFrameView}
 use Rattle.param_load.specs.declared.terms.Terms.{Terms}
 use Rattle.param_load.specs.declared.upload.Progress.{Progress}
 use Rattle.param_load.specs.Contents.{app_part}
 use Rattle.param_load.specs.Payload.{session_payload, number_at, piece_from, padded}
 use Rattle.param_load.specs.Upload.{session_upload, connection_upload, parameter_upload, advanced, outcome, last_piece}
 use Rattle.param_load.specs.UploadView.{UploadView}
+use Rattle.fsoe_base.specs.Data.{data_holds}
+use Rattle.failsafe_io.specs.Offer.{data_command, data_load}
 use Rattle.failsafe_io.specs.Outputs.{outputs_of}
 use Rattle.slave_core.specs.declared.states.InReset.{InReset}
-use Rattle.slave_core.specs.Data.{data_holds}
-use Rattle.slave_core.specs.Kit.{KitView, own_len, piece_of, data_command, data_load}
-use Rattle.slave_core.specs.Seen.{SeenView}
+use Rattle.slave_core.specs.Kit.{KitView, own_len, piece_of}
 use Rattle.slave_core.specs.Views.{SessionView, ConnectionView, ParameterView, DataView}
 
 abbrev pub no_session : InReset
@@ -27,51 +28,43 @@ abbrev pub fresh : Chain
 fresh = record { own = None; taken = None }
 
 -- the chain after a frame is taken and answered, and the answer
-abbrev pub answered : Chain → SeenView → ℕ → Command → List ℕ → Chain
+abbrev pub answered : Chain → SessionFrameView → ℕ → Command → List ℕ → Chain
 answered chain f conn cmd load = after_sent (after_taken chain f.frame) (sealed_by (after_taken chain f.frame) conn (command_byte cmd) load)
 
-abbrev pub answer : Chain → SeenView → ℕ → Command → List ℕ → List ℕ
+abbrev pub answer : Chain → SessionFrameView → ℕ → Command → List ℕ → List ℕ
 answer chain f conn cmd load = bytes_of (sealed_by (after_taken chain f.frame) conn (command_byte cmd) load)
 
 -- a Session frame is answered with the piece of the slave's own session id that has the number of the frame
 abbrev pub session_load : KitView → ℕ → UploadView → List ℕ
 session_load kit id upload = padded (piece_from (session_payload id kit.settings.profile) (length upload.joined) (piece_of kit.settings)) (own_len kit.settings)
 
-abbrev pub session_by : Result Progress Code → KitView → Chain → ℕ → UploadView → SeenView → Result SessionView (InReset × Code)
+abbrev pub session_by : Result Progress Code → KitView → Chain → ℕ → UploadView → SessionFrameView → Result SessionView (InReset × Code)
 session_by (Err fault) kit chain id upload f = Err (no_session, fault)
 session_by (Ok progress) kit chain id upload f =
     Ok (record { chain = answered chain f 0 command.Session (session_load kit id upload); id = id; upload = advanced upload f.frame.load; last = bytes_of f.frame })
 
-abbrev pub session_next : KitView → Chain → ℕ → UploadView → SeenView → Result SessionView (InReset × Code)
+abbrev pub session_next : KitView → Chain → ℕ → UploadView → SessionFrameView → Result SessionView (InReset × Code)
 session_next kit chain id upload f = session_by (outcome upload f.frame.load) kit chain id upload f
 
-abbrev pub session_reply_by : Result Progress Code → KitView → Chain → ℕ → UploadView → SeenView → List ℕ
-session_reply_by (Err fault) kit chain id upload f = []
-session_reply_by (Ok progress) kit chain id upload f = answer chain f 0 command.Session (session_load kit id upload)
-
-abbrev pub session_reply : KitView → Chain → ℕ → UploadView → SeenView → List ℕ
-session_reply kit chain id upload f = session_reply_by (outcome upload f.frame.load) kit chain id upload f
+abbrev pub session_reply : KitView → Chain → ℕ → UploadView → SessionFrameView → List ℕ
+session_reply kit chain id upload f = answer chain f 0 command.Session (session_load kit id upload)
 
 -- a Connection or a Parameter frame is answered with its own piece
-abbrev pub echo : KitView → UploadView → SeenView → List ℕ
+abbrev pub echo : KitView → UploadView → SessionFrameView → List ℕ
 echo kit upload f = padded (last_piece (advanced upload f.frame.load)) (own_len kit.settings)
 
-abbrev pub echo_reply_by : Result Progress Code → Command → KitView → Chain → ℕ → UploadView → SeenView → List ℕ
-echo_reply_by (Err fault) cmd kit chain conn upload f = []
-echo_reply_by (Ok progress) cmd kit chain conn upload f = answer chain f conn cmd (echo kit upload f)
+abbrev pub echo_reply : Command → KitView → Chain → ℕ → UploadView → SessionFrameView → List ℕ
+echo_reply cmd kit chain conn upload f = answer chain f conn cmd (echo kit upload f)
 
-abbrev pub echo_reply : Command → KitView → Chain → ℕ → UploadView → SeenView → List ℕ
-echo_reply cmd kit chain conn upload f = echo_reply_by (outcome upload f.frame.load) cmd kit chain conn upload f
-
-abbrev pub connection_by : Result Progress Code → KitView → Chain → ℕ → UploadView → SeenView → Result ConnectionView (InReset × Code)
+abbrev pub connection_by : Result Progress Code → KitView → Chain → ℕ → UploadView → SessionFrameView → Result ConnectionView (InReset × Code)
 connection_by (Err fault) kit chain conn upload f = Err (no_session, fault)
 connection_by (Ok progress) kit chain conn upload f =
     Ok (record { chain = answered chain f conn command.Connection (echo kit upload f); conn = conn; upload = advanced upload f.frame.load; last = bytes_of f.frame })
 
-abbrev pub connection_next : KitView → Chain → ℕ → UploadView → SeenView → Result ConnectionView (InReset × Code)
+abbrev pub connection_next : KitView → Chain → ℕ → UploadView → SessionFrameView → Result ConnectionView (InReset × Code)
 connection_next kit chain conn upload f = connection_by (outcome upload f.frame.load) kit chain conn upload f
 
-abbrev pub parameter_by : Result Progress Code → KitView → Chain → ℕ → ℕ → UploadView → SeenView → Result ParameterView (InReset × Code)
+abbrev pub parameter_by : Result Progress Code → KitView → Chain → ℕ → ℕ → UploadView → SessionFrameView → Result ParameterView (InReset × Code)
 parameter_by (Err fault) kit chain conn address upload f = Err (no_session, fault)
 parameter_by (Ok progress) kit chain conn address upload f =
     Ok (record {
@@ -82,7 +75,7 @@ parameter_by (Ok progress) kit chain conn address upload f =
       last = bytes_of f.frame;
     })
 
-abbrev pub parameter_next : KitView → Chain → ℕ → ℕ → UploadView → SeenView → Result ParameterView (InReset × Code)
+abbrev pub parameter_next : KitView → Chain → ℕ → ℕ → UploadView → SessionFrameView → Result ParameterView (InReset × Code)
 parameter_next kit chain conn address upload f = parameter_by (outcome upload f.frame.load) kit chain conn address upload f
 
 -- the uploads that a slave begins
@@ -106,14 +99,14 @@ terms_of kit conn address upload = record {
 }
 
 -- a data frame is answered with the offer, or with zeros while the slave is held
-abbrev pub data_next : KitView → Chain → Terms → SeenView → Result DataView (InReset × Code)
+abbrev pub data_next : KitView → Chain → Terms → SessionFrameView → Result DataView (InReset × Code)
 data_next kit chain terms f =
     if data_holds f.command f.frame.load
-    then Ok (record { chain = answered chain f terms.conn (data_command kit) (data_load kit); terms = terms; outputs = outputs_of f.command f.frame.load; last = bytes_of f.frame })
+    then Ok (record { chain = answered chain f terms.conn (data_command kit.offer) (data_load kit.offer); terms = terms; outputs = outputs_of f.command f.frame.load; last = bytes_of f.frame })
     else Err (no_session, code 0x07)
 
-abbrev pub data_reply : KitView → Chain → Terms → SeenView → List ℕ
-data_reply kit chain terms f = if data_holds f.command f.frame.load then answer chain f terms.conn (data_command kit) (data_load kit) else []
+abbrev pub data_reply : KitView → Chain → Terms → SessionFrameView → List ℕ
+data_reply kit chain terms f = answer chain f terms.conn (data_command kit.offer) (data_load kit.offer)
 
 -- a state that went on in place, as a transition gives it
 abbrev pub in_place : Result (Unit {0}) Code → DataView → Result DataView (InReset × Code)

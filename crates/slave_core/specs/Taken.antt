@@ -2,12 +2,12 @@
 use Rattle.std.specs.Prelude.{ℕ, List, Result, Ok, Err, if◌then◌else◌}
 use Rattle.fsoe_base.specs.declared.command.Code.{Code}
 use Rattle.fsoe_base.specs.declared.command.Command.TheVariants as command
+use Rattle.seq_chain.specs.SessionFrame.{SessionFrameView}
 use Rattle.param_load.specs.Upload.{is_whole}
 use Rattle.slave_core.specs.declared.now.Now.{Now}
 use Rattle.slave_core.specs.declared.now.Now.TheVariants as now
 use Rattle.slave_core.specs.declared.states.InReset.{InReset}
 use Rattle.slave_core.specs.Kit.{KitView}
-use Rattle.slave_core.specs.Seen.{SeenView}
 use Rattle.slave_core.specs.States.{fresh, first_session, first_connection, first_parameter, terms_of, session_next, session_reply, connection_next, parameter_next, echo_reply, data_next, data_reply}
 use Rattle.slave_core.specs.Views.{SessionView, ConnectionView, ParameterView, DataView}
 
@@ -27,8 +27,8 @@ abbrev pub as_data : Result DataView (InReset × Code) → Result Now (InReset �
 as_data (Ok s) = Ok (now.Data s)
 as_data (Err e) = Err e
 
--- a phase goes on until its payload is whole, then the next one begins
-abbrev pub taken : KitView → Now → SeenView → Result Now (InReset × Code)
+-- the state: a phase goes on until its payload is whole, then the next one begins
+abbrev pub taken : KitView → Now → SessionFrameView → Result Now (InReset × Code)
 taken kit (now.Reset s) f = as_session (session_next kit fresh kit.nonce (first_session kit) f)
 taken kit (now.Session s) f =
     if is_whole s.upload
@@ -44,7 +44,8 @@ taken kit (now.Parameter s) f =
     else as_parameter (parameter_next kit s.chain s.conn s.address s.upload f)
 taken kit (now.Data s) f = as_data (data_next kit s.chain s.terms f)
 
-abbrev pub reply : KitView → Now → SeenView → List ℕ
+-- the answer, which is sent where the frame is taken
+abbrev pub reply : KitView → Now → SessionFrameView → List ℕ
 reply kit (now.Reset s) f = session_reply kit fresh kit.nonce (first_session kit) f
 reply kit (now.Session s) f =
     if is_whole s.upload

@@ -22,7 +22,7 @@ use Rattle.slave_core.specs.States.{no_session}
 
 -- the offer, the hold and the nonce outlast sessions
 abbrev pub kit_of : SlaveSettings → List Deed → KitView
-kit_of ss e = record { settings = ss; offer = offer (OfSlave ss) e; held = held e; nonce = nonce (OfSlave ss) e }
+kit_of ss e = record { settings = ss; offer = record { load = offer (OfSlave ss) e; held = held e }; nonce = nonce (OfSlave ss) e }
 
 -- what a slave notes of its session
 pub record Notes : Type 0 where

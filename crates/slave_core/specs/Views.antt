@@ -2,13 +2,13 @@
 use Rattle.std.specs.Prelude.{◌≡◌, ℕ, ◌<◌, IsTrue, List, length}
 use Rattle.seq_chain.specs.declared.chain.Chain.{Chain}
 use Rattle.seq_chain.specs.Chain.{fits_next}
+use Rattle.seq_chain.specs.SessionFrame.{SessionFrameView}
 use Rattle.param_load.specs.declared.contents.Expected.TheVariants as expected
 use Rattle.param_load.specs.declared.slave_settings.SlaveSettings.{SlaveSettings}
 use Rattle.param_load.specs.declared.terms.Terms.{Terms}
 use Rattle.param_load.specs.Profile.{allows_id}
 use Rattle.param_load.specs.UploadView.{UploadView}
 use Rattle.slave_core.specs.Kit.{peer_len, piece_of}
-use Rattle.slave_core.specs.Seen.{SeenView}
 
 -- the chain, the slave's session id, the upload of the master's, and the frame taken last
 pub record SessionView : Type 0 where
@@ -55,6 +55,6 @@ pub record DataUnder (settings : SlaveSettings) (s : DataView) : Type 0 where
   pub some_watchdog : 0 < s.terms.watchdog
 
 -- a frame that came past the tests in a state with this chain: it has the master's length, and its CRCs fit
-pub record HasPassed (settings : SlaveSettings) (chain : Chain) (f : SeenView) : Type 0 where
+pub record HasPassed (settings : SlaveSettings) (chain : Chain) (f : SessionFrameView) : Type 0 where
   pub len_is : length f.frame.load ≡ peer_len settings
   pub fits : IsTrue (fits_next chain f.frame)

@@ -7,7 +7,6 @@ mod now;
 mod seen;
 pub mod slave;
 pub mod states;
-mod verdict;
 
 pub use kit::Kit;
 pub use seen::Seen;

@@ -4,7 +4,7 @@ use crate::seen::Seen;
 use crate::states::{InConnection, InData, InParameter, InReset, InSession};
 use fsoe_base::{Code, Command, FrameBuf, State};
 use param_load::Terms;
-use seq_chain::Chain;
+use seq_chain::{Chain, SessionFrame};
 
 /// The state that a slave is in.
 #[derive(Debug, Drop)]
@@ -17,10 +17,11 @@ pub(crate) enum Now {
 }
 
 impl Now {
-    ghost use Rattle.std.specs.Prelude.{◌≡◌, ◌<◌, [], IsTrue, IfOk, option_copied};
+    ghost use Rattle.std.specs.Prelude.{◌≡◌, ◌<◌, IsTrue, IfOk, OnOk, OnErr, option_copied};
+    ghost use Rattle.end_model.specs.Verdict.{is_repeat};
     ghost use Rattle.slave_core.specs.Now.{IsUnder, state_of, is_reset, chain_of, kept, allows, has_conn, limit_of, terms_in};
     ghost use Rattle.slave_core.specs.Taken.{taken, reply};
-    ghost use Rattle.slave_core.specs.Verdict.{is_repeat};
+    ghost use Rattle.slave_core.specs.Verdict.{fault};
     ghost use Rattle.slave_core.specs.Views.{HasPassed};
 
     pub(crate) fn state(&self) -> State
@@ -55,7 +56,7 @@ impl Now {
     }
 
     /// Whether a command of a session is allowed.
-    pub(crate) fn allows(&self, command: Command) -> bool
+    fn allows(&self, command: Command) -> bool
         ensures { result ≡ allows self.now command }
     {
         match (self, command) {
@@ -74,7 +75,7 @@ impl Now {
     }
 
     /// Whether the connection id of a frame is right.
-    pub(crate) fn has_conn(&self, command: Command, field: u16) -> bool
+    fn has_conn(&self, command: Command, field: u16) -> bool
         ensures { result ≡ has_conn self.now command field }
     {
         match (self, command) {
@@ -88,7 +89,7 @@ impl Now {
     }
 
     /// The chain of the session, a new one in state Reset.
-    pub(crate) fn chain(&self) -> Chain
+    fn chain(&self) -> Chain
         ensures { result ≡ chain_of self.now }
     {
         match self {
@@ -98,6 +99,23 @@ impl Now {
             Now::Parameter(state) => state.chain(),
             Now::Data(state) => state.chain(),
         }
+    }
+
+    /// The code of the first test that a frame of a session fails: of its command, its connection id, and its CRCs.
+    pub(crate) fn fault(&self, seen: &SessionFrame<'_>) -> Option<Code>
+        ensures { result ≡ fault self.now seen.now }
+    {
+        let conn = seen.conn();
+        if !self.allows(seen.command()) {
+            return Some(Code(0x01));
+        }
+        if !self.has_conn(seen.command(), conn) {
+            return Some(Code(0x03));
+        }
+        if !self.chain().test_load(seen.view(), conn, seen.load()) {
+            return Some(Code(0x04));
+        }
+        None
     }
 
     /// The ticks after which the session expires.
@@ -139,9 +157,9 @@ impl Now {
         requires allowed { IsTrue (allows self seen.now.command) }
         requires under { IsUnder kit.now.settings self }
         requires passed { HasPassed kit.now.settings (chain_of self) seen.now }
-        requires empty { out.old ≡ [] }
         ensures next { result ≡ taken kit.now self seen.now }
-        ensures sent { out.new ≡ reply kit.now self seen.now }
+        ensures sent { OnOk result (out.new ≡ reply kit.now self seen.now) }
+        ensures unwritten { OnErr result (out.new ≡ out.old) }
         ensures under { IfOk result (λ now. IsUnder kit.now.settings now) }
     {
         match self {

@@ -1,17 +1,15 @@
 //! The slave of a connection.
 ghost use Rattle.std.specs.Prelude.{◌≡◌, ◌≤◌, length, replicate};
-ghost use Rattle.slave_core.specs.Slave.{takes};
 
-use crate::kit::{Kit, zeros};
+use crate::kit::Kit;
 use crate::now::Now;
 use crate::seen::Seen;
 use crate::states::InReset;
-use crate::verdict::{Verdict, judge};
-use failsafe_io::Watchdog;
-use fsoe_base::{Cause, Code, Command, Did, Dropped, FrameBuf, Image, State, Took};
+use failsafe_io::{Watchdog, zeros};
+use fsoe_base::{Cause, Code, Command, Did, Dropped, FrameBuf, Image, State};
 use fsoe_frame::FrameView;
 use param_load::{SlaveSettings, Terms};
-use seq_chain::reset_frame;
+use seq_chain::{Opened, open, reset_frame};
 use std::marker::Model;
 use std::mem;
 
@@ -32,22 +30,6 @@ impl Model for Slave {
     ghost view = { λ s. record { kit = s.kit; state = s.state; timer = s.watchdog } };
 
     ghost invariant = { λ s. IsSlave (record { kit = s.kit; state = s.state; timer = s.watchdog }) };
-}
-
-/// A frame with these safe data was taken, and its answer sent.
-fn took(command: Command, bytes: &[u8], passed: bool) -> Did
-    requires { length bytes.now ≤ 126 }
-    ensures { result ≡ takes command bytes.now passed }
-{
-    let mut load = Image::zeros(0);
-    load.set(bytes);
-    Did {
-        took: Some(Took { command, load }),
-        passed,
-        sent: true,
-        reset: None,
-        dropped: None,
-    }
 }
 
 impl Slave {
@@ -90,13 +72,7 @@ impl Slave {
     {
         self.forget();
         reset_frame(code, self.kit.own_len(), out);
-        Did {
-            took: None,
-            passed,
-            sent: true,
-            reset: Some(why),
-            dropped: None,
-        }
+        Did::reset(passed, why)
     }
 
     fn forget(&mut self)
@@ -119,11 +95,8 @@ impl Slave {
     {
         if self.state.is_reset() {
             return Did {
-                took: None,
                 passed,
-                sent: false,
-                reset: None,
-                dropped: Some(Dropped::InReset),
+                ..Did::dropped(Dropped::InReset)
             };
         }
         self.fall(passed, Cause::Found(code), code, out)
@@ -143,28 +116,28 @@ impl Slave {
             view.load_into(&mut load);
             self.forget();
             reset_frame(Code(0x00), self.kit.own_len(), out);
-            return took(Command::Reset, load.bytes(), false);
+            return Did::took(Command::Reset, load.bytes(), false);
         }
         self.fall(false, Cause::Peer(code), Code(0x00), out)
     }
 
     /// Takes a frame that passed the tests, unless its contents are wrong. A data frame goes on in place.
-    fn take(&mut self, seen: Seen<'_>, out: &mut FrameBuf) -> Did
-        requires allowed { IsTrue (allows self.old.state seen.command) }
-        requires passed { HasPassed self.old.kit.settings (chain_of self.old.state) seen }
+    fn take(&mut self, seen: &Seen<'_>, out: &mut FrameBuf) -> Did
+        requires allowed { IsTrue (allows self.old.state seen.now.command) }
+        requires passed { HasPassed self.old.kit.settings (chain_of self.old.state) seen.now }
         requires empty { out.old ≡ [] }
-        ensures slave { self.new ≡ (settles self.old seen.entry (reply self.old.kit self.old.state seen.entry) (taken self.old.kit self.old.state seen.entry)).slave }
-        ensures did { result ≡ (settles self.old seen.entry (reply self.old.kit self.old.state seen.entry) (taken self.old.kit self.old.state seen.entry)).did }
-        ensures sent { out.new ≡ (settles self.old seen.entry (reply self.old.kit self.old.state seen.entry) (taken self.old.kit self.old.state seen.entry)).sent }
+        ensures slave { self.new ≡ (settles self.old seen.now (reply self.old.kit self.old.state seen.now) (taken self.old.kit self.old.state seen.now)).slave }
+        ensures did { result ≡ (settles self.old seen.now (reply self.old.kit self.old.state seen.now) (taken self.old.kit self.old.state seen.now)).did }
+        ensures sent { out.new ≡ (settles self.old seen.now (reply self.old.kit self.old.state seen.now) (taken self.old.kit self.old.state seen.now)).sent }
         ensures kit { self.new.kit ≡ self.old.kit }
         ensures tells { Tells result out.new }
     {
         match &mut self.state {
-            Now::Data(state) => match state.go_on(&seen, &self.kit, out) {
+            Now::Data(state) => match state.go_on(seen.frame(), &self.kit, out) {
                 Ok(()) => {
                     let limit = state.terms().watchdog;
                     self.watchdog.restart(limit);
-                    took(seen.command(), seen.load(), true)
+                    Did::took(seen.frame().command(), seen.frame().load(), true)
                 }
                 Err(code) => self.fall(true, Cause::Found(code), code, out),
             },
@@ -176,24 +149,24 @@ impl Slave {
 
     /// The same by a move of the state, whose cost no data frame is to bear.
     #[inline(never)]
-    fn take_by_move(&mut self, seen: Seen<'_>, out: &mut FrameBuf) -> Did
-        requires allowed { IsTrue (allows self.old.state seen.command) }
-        requires passed { HasPassed self.old.kit.settings (chain_of self.old.state) seen }
+    fn take_by_move(&mut self, seen: &Seen<'_>, out: &mut FrameBuf) -> Did
+        requires allowed { IsTrue (allows self.old.state seen.now.command) }
+        requires passed { HasPassed self.old.kit.settings (chain_of self.old.state) seen.now }
         requires empty { out.old ≡ [] }
-        ensures slave { self.new ≡ (settles self.old seen.entry (reply self.old.kit self.old.state seen.entry) (taken self.old.kit self.old.state seen.entry)).slave }
-        ensures did { result ≡ (settles self.old seen.entry (reply self.old.kit self.old.state seen.entry) (taken self.old.kit self.old.state seen.entry)).did }
-        ensures sent { out.new ≡ (settles self.old seen.entry (reply self.old.kit self.old.state seen.entry) (taken self.old.kit self.old.state seen.entry)).sent }
+        ensures slave { self.new ≡ (settles self.old seen.now (reply self.old.kit self.old.state seen.now) (taken self.old.kit self.old.state seen.now)).slave }
+        ensures did { result ≡ (settles self.old seen.now (reply self.old.kit self.old.state seen.now) (taken self.old.kit self.old.state seen.now)).did }
+        ensures sent { out.new ≡ (settles self.old seen.now (reply self.old.kit self.old.state seen.now) (taken self.old.kit self.old.state seen.now)).sent }
         ensures kit { self.new.kit ≡ self.old.kit }
         ensures tells { Tells result out.new }
     {
         let was_reset = self.state.is_reset();
         let old = mem::replace(&mut self.state, Now::Reset(InReset::new()));
-        match old.take(&seen, &self.kit, out) {
+        match old.take(seen, &self.kit, out) {
             Ok(next) => {
                 let limit = next.limit(&self.kit);
                 self.state = next;
                 self.watchdog.restart(limit);
-                took(seen.command(), seen.load(), true)
+                Did::took(seen.frame().command(), seen.frame().load(), true)
             }
             Err((reset, code)) => {
                 self.state = Now::Reset(reset);
@@ -201,11 +174,8 @@ impl Slave {
                 self.watchdog.restart(hand);
                 if was_reset {
                     return Did {
-                        took: None,
                         passed: true,
-                        sent: false,
-                        reset: None,
-                        dropped: Some(Dropped::InReset),
+                        ..Did::dropped(Dropped::InReset)
                     };
                 }
                 self.fall(true, Cause::Found(code), code, out)
@@ -224,12 +194,16 @@ impl Slave {
         ensures tells { Tells result out.new }
     {
         out.clear();
+        let repeats = self.state.is_repeat(frame);
         let mut load = Image::zeros(0);
-        match judge(&self.state, &self.kit, frame, &mut load) {
-            Verdict::Drop(why) => Did::dropped(why),
-            Verdict::Refuse(code) => self.refuse(false, code, out),
-            Verdict::ResetFrame(code, view) => self.acknowledge(code, &view, out),
-            Verdict::Pass(seen) => self.take(seen, out),
+        match open(frame, self.kit.peer_len(), repeats, &mut load) {
+            Opened::Drop(why) => Did::dropped(why),
+            Opened::Refuse(code) => self.refuse(false, code, out),
+            Opened::ResetFrame(code, view) => self.acknowledge(code, &view, out),
+            Opened::OfSession(frame) => match self.state.fault(&frame) {
+                Some(code) => self.refuse(false, code, out),
+                None => self.take(&Seen::new(frame), out),
+            },
         }
     }
 
@@ -374,7 +348,7 @@ impl Slave {
         ensures shown { Shows OfSlave view_of self.now result.now model.offer }
         ensures len { length result.now ≡ own_len self.now.kit.settings }
     {
-        self.kit.offer()
+        self.kit.offer().bytes()
     }
 
     /// Whether zeros are sent in place of the offer.
@@ -382,6 +356,6 @@ impl Slave {
     pub fn held(&self) -> bool
         ensures { Shows OfSlave view_of self.now result (λ s e. model.held e) }
     {
-        self.kit.held()
+        self.kit.offer().held()
     }
 }

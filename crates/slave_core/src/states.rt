@@ -1,7 +1,8 @@
 //! The five states of a slave. A state is made by the transitions of this module alone, and owns what it needs.
 //! A transition takes a frame that passed the tests in this state, and gives the next state with the answer, or
-//! state Reset with the code of the first test of the frame's contents that fails; then nothing is written.
-ghost use Rattle.std.specs.Prelude.{◌≡◌, ◌<◌, IsTrue, IfOk, false, length, []};
+//! state Reset with the code of the first test of the frame's contents that fails; then nothing is written, and `out`
+//! keeps what it held.
+ghost use Rattle.std.specs.Prelude.{◌≡◌, ◌<◌, IsTrue, IfOk, OnOk, OnErr, false, length};
 ghost use Rattle.fsoe_base.specs.declared.command.Command.TheVariants as command;
 ghost use Rattle.fsoe_base.specs.Lengths.{is_length};
 ghost use Rattle.fsoe_frame.specs.Parts.{bytes_of};
@@ -10,7 +11,7 @@ ghost use Rattle.param_load.specs.Payload.{number_at};
 ghost use Rattle.param_load.specs.Profile.{allows_id};
 ghost use Rattle.param_load.specs.Upload.{is_whole};
 ghost use Rattle.seq_chain.specs.Chain.{fits_next};
-ghost use Rattle.slave_core.specs.Data.{is_data, data_holds};
+ghost use Rattle.fsoe_base.specs.Data.{is_data};
 ghost use Rattle.slave_core.specs.declared.now.Now.TheVariants as now;
 ghost use Rattle.slave_core.specs.GoesOn.{GoesOn};
 ghost use Rattle.slave_core.specs.Kit.{piece_of, peer_len};
@@ -20,10 +21,10 @@ ghost use Rattle.slave_core.specs.Views.{SessionUnder, ConnectionUnder, Paramete
 
 use crate::kit::Kit;
 use crate::seen::Seen;
-use failsafe_io::Outputs;
-use fsoe_base::{Code, Command, FrameBuf, is_all_zero};
+use failsafe_io::{Outputs, data_holds};
+use fsoe_base::{Code, Command, FrameBuf};
 use param_load::{Payload, Terms, Upload, padded};
-use seq_chain::Chain;
+use seq_chain::{Chain, SessionFrame};
 use std::marker::Model;
 
 /// No session.
@@ -124,15 +125,15 @@ impl InReset {
     ) -> Result<InSession, (InReset, Code)>
         requires command { seen.now.command ≡ Command.Session }
         requires passed { HasPassed kit.now.settings fresh seen.now }
-        requires empty { out.old ≡ [] }
         ensures next { result ≡ session_next kit.now fresh kit.now.nonce (first_session kit.now) seen.now }
-        ensures sent { out.new ≡ session_reply kit.now fresh kit.now.nonce (first_session kit.now) seen.now }
-        ensures goes_on { GoesOn (now.Reset self) kit.now seen.now (as_session result) out.new }
+        ensures sent { OnOk result (out.new ≡ session_reply kit.now fresh kit.now.nonce (first_session kit.now) seen.now) }
+        ensures unwritten { OnErr result (out.new ≡ out.old) }
+        ensures goes_on { GoesOn (now.Reset self) kit.now seen.now (as_session result) out.old out.new }
         ensures under { IfOk result (λ s. SessionUnder kit.now.settings s) }
     {
         let InReset { private: _ } = self;
         let upload = Upload::session(kit.piece(), kit.profile());
-        in_session(Chain::new(), kit.nonce(), upload, seen, kit, out)
+        in_session(Chain::new(), kit.nonce(), upload, seen.frame(), kit, out)
     }
 
     /// State Reset.
@@ -158,10 +159,10 @@ impl InSession {
         requires more { is_whole self.upload ≡ false }
         requires under { SessionUnder kit.now.settings self }
         requires passed { HasPassed kit.now.settings self.chain seen.now }
-        requires empty { out.old ≡ [] }
         ensures next { result ≡ session_next kit.now self.chain self.id self.upload seen.now }
-        ensures sent { out.new ≡ session_reply kit.now self.chain self.id self.upload seen.now }
-        ensures goes_on { GoesOn (now.Session self) kit.now seen.now (as_session result) out.new }
+        ensures sent { OnOk result (out.new ≡ session_reply kit.now self.chain self.id self.upload seen.now) }
+        ensures unwritten { OnErr result (out.new ≡ out.old) }
+        ensures goes_on { GoesOn (now.Session self) kit.now seen.now (as_session result) out.old out.new }
         ensures under { IfOk result (λ s. SessionUnder kit.now.settings s) }
     {
         let InSession {
@@ -170,7 +171,7 @@ impl InSession {
             upload,
             last: _,
         } = self;
-        in_session(chain, id, upload, seen, kit, out)
+        in_session(chain, id, upload, seen.frame(), kit, out)
     }
 
     /// Goes on by the first Connection frame, once the master's session id is whole. The connection id of the
@@ -187,10 +188,10 @@ impl InSession {
         requires whole { IsTrue (is_whole self.upload) }
         requires under { SessionUnder kit.now.settings self }
         requires passed { HasPassed kit.now.settings self.chain seen.now }
-        requires empty { out.old ≡ [] }
         ensures next { result ≡ connection_next kit.now self.chain seen.now.frame.conn (first_connection kit.now seen.now.frame.conn) seen.now }
-        ensures sent { out.new ≡ echo_reply command.Connection kit.now self.chain seen.now.frame.conn (first_connection kit.now seen.now.frame.conn) seen.now }
-        ensures goes_on { GoesOn (now.Session self) kit.now seen.now (as_connection result) out.new }
+        ensures sent { OnOk result (out.new ≡ echo_reply command.Connection kit.now self.chain seen.now.frame.conn (first_connection kit.now seen.now.frame.conn) seen.now) }
+        ensures unwritten { OnErr result (out.new ≡ out.old) }
+        ensures goes_on { GoesOn (now.Session self) kit.now seen.now (as_connection result) out.old out.new }
         ensures under { IfOk result (λ s. ConnectionUnder kit.now.settings s) }
     {
         let InSession {
@@ -199,9 +200,9 @@ impl InSession {
             upload: _,
             last: _,
         } = self;
-        let conn = seen.conn();
+        let conn = seen.frame().conn();
         let upload = Upload::connection(kit.piece(), conn, kit.settings().address());
-        in_connection(chain, conn, upload, seen, kit, out)
+        in_connection(chain, conn, upload, seen.frame(), kit, out)
     }
 
     /// State Reset; the session is forgotten.
@@ -245,10 +246,10 @@ impl InConnection {
         requires more { is_whole self.upload ≡ false }
         requires under { ConnectionUnder kit.now.settings self }
         requires passed { HasPassed kit.now.settings self.chain seen.now }
-        requires empty { out.old ≡ [] }
         ensures next { result ≡ connection_next kit.now self.chain self.conn self.upload seen.now }
-        ensures sent { out.new ≡ echo_reply command.Connection kit.now self.chain self.conn self.upload seen.now }
-        ensures goes_on { GoesOn (now.Connection self) kit.now seen.now (as_connection result) out.new }
+        ensures sent { OnOk result (out.new ≡ echo_reply command.Connection kit.now self.chain self.conn self.upload seen.now) }
+        ensures unwritten { OnErr result (out.new ≡ out.old) }
+        ensures goes_on { GoesOn (now.Connection self) kit.now seen.now (as_connection result) out.old out.new }
         ensures under { IfOk result (λ s. ConnectionUnder kit.now.settings s) }
     {
         let InConnection {
@@ -257,7 +258,7 @@ impl InConnection {
             upload,
             last: _,
         } = self;
-        in_connection(chain, conn, upload, seen, kit, out)
+        in_connection(chain, conn, upload, seen.frame(), kit, out)
     }
 
     /// Goes on by the first Parameter frame, once the connection id and the address are whole. Refused, field by
@@ -275,10 +276,10 @@ impl InConnection {
         requires whole { IsTrue (is_whole self.upload) }
         requires under { ConnectionUnder kit.now.settings self }
         requires passed { HasPassed kit.now.settings self.chain seen.now }
-        requires empty { out.old ≡ [] }
         ensures next { result ≡ parameter_next kit.now self.chain self.conn kit.now.settings.address (first_parameter kit.now) seen.now }
-        ensures sent { out.new ≡ echo_reply command.Parameter kit.now self.chain self.conn (first_parameter kit.now) seen.now }
-        ensures goes_on { GoesOn (now.Connection self) kit.now seen.now (as_parameter result) out.new }
+        ensures sent { OnOk result (out.new ≡ echo_reply command.Parameter kit.now self.chain self.conn (first_parameter kit.now) seen.now) }
+        ensures unwritten { OnErr result (out.new ≡ out.old) }
+        ensures goes_on { GoesOn (now.Connection self) kit.now seen.now (as_parameter result) out.old out.new }
         ensures under { IfOk result (λ s. ParameterUnder kit.now.settings s) }
     {
         let InConnection {
@@ -294,7 +295,15 @@ impl InConnection {
             settings.rule(),
             settings.profile(),
         );
-        in_parameter(chain, conn, settings.address(), upload, seen, kit, out)
+        in_parameter(
+            chain,
+            conn,
+            settings.address(),
+            upload,
+            seen.frame(),
+            kit,
+            out,
+        )
     }
 
     /// State Reset; the session is forgotten.
@@ -344,10 +353,10 @@ impl InParameter {
         requires more { is_whole self.upload ≡ false }
         requires under { ParameterUnder kit.now.settings self }
         requires passed { HasPassed kit.now.settings self.chain seen.now }
-        requires empty { out.old ≡ [] }
         ensures next { result ≡ parameter_next kit.now self.chain self.conn self.address self.upload seen.now }
-        ensures sent { out.new ≡ echo_reply command.Parameter kit.now self.chain self.conn self.upload seen.now }
-        ensures goes_on { GoesOn (now.Parameter self) kit.now seen.now (as_parameter result) out.new }
+        ensures sent { OnOk result (out.new ≡ echo_reply command.Parameter kit.now self.chain self.conn self.upload seen.now) }
+        ensures unwritten { OnErr result (out.new ≡ out.old) }
+        ensures goes_on { GoesOn (now.Parameter self) kit.now seen.now (as_parameter result) out.old out.new }
         ensures under { IfOk result (λ s. ParameterUnder kit.now.settings s) }
     {
         let InParameter {
@@ -357,7 +366,7 @@ impl InParameter {
             upload,
             last: _,
         } = self;
-        in_parameter(chain, conn, address, upload, seen, kit, out)
+        in_parameter(chain, conn, address, upload, seen.frame(), kit, out)
     }
 
     /// Goes on by the first data frame, once the parameters are whole: from now on the outputs may be other than
@@ -373,10 +382,10 @@ impl InParameter {
         requires whole { IsTrue (is_whole self.upload) }
         requires under { ParameterUnder kit.now.settings self }
         requires passed { HasPassed kit.now.settings self.chain seen.now }
-        requires empty { out.old ≡ [] }
         ensures next { result ≡ data_next kit.now self.chain (terms_of kit.now self.conn self.address self.upload) seen.now }
-        ensures sent { out.new ≡ data_reply kit.now self.chain (terms_of kit.now self.conn self.address self.upload) seen.now }
-        ensures goes_on { GoesOn (now.Parameter self) kit.now seen.now (as_data result) out.new }
+        ensures sent { OnOk result (out.new ≡ data_reply kit.now self.chain (terms_of kit.now self.conn self.address self.upload) seen.now) }
+        ensures unwritten { OnErr result (out.new ≡ out.old) }
+        ensures goes_on { GoesOn (now.Parameter self) kit.now seen.now (as_data result) out.old out.new }
         ensures under { IfOk result (λ s. DataUnder kit.now.settings s) }
     {
         let InParameter {
@@ -399,7 +408,7 @@ impl InParameter {
             outputs: Outputs::new(kit.peer_len()),
             last: FrameBuf::new(),
         };
-        match next.go_on(seen, kit, out) {
+        match next.go_on(seen.frame(), kit, out) {
             Ok(()) => Ok(next),
             Err(code) => Err((InReset::new(), code)),
         }
@@ -460,13 +469,13 @@ impl InData {
         requires command { IsTrue (is_data seen.now.command) }
         requires under { DataUnder kit.now.settings self }
         requires passed { HasPassed kit.now.settings self.chain seen.now }
-        requires empty { out.old ≡ [] }
         ensures next { result ≡ data_next kit.now self.chain self.terms seen.now }
-        ensures sent { out.new ≡ data_reply kit.now self.chain self.terms seen.now }
-        ensures goes_on { GoesOn (now.Data self) kit.now seen.now (as_data result) out.new }
+        ensures sent { OnOk result (out.new ≡ data_reply kit.now self.chain self.terms seen.now) }
+        ensures unwritten { OnErr result (out.new ≡ out.old) }
+        ensures goes_on { GoesOn (now.Data self) kit.now seen.now (as_data result) out.old out.new }
         ensures under { IfOk result (λ s. DataUnder kit.now.settings s) }
     {
-        match self.go_on(seen, kit, out) {
+        match self.go_on(seen.frame(), kit, out) {
             Ok(()) => Ok(self),
             Err(code) => Err((InReset::new(), code)),
         }
@@ -475,28 +484,28 @@ impl InData {
     /// The same in place. After a refusal the state is as it was, and only left.
     pub(crate) fn go_on(
         &mut self,
-        seen: &Seen<'_>,
+        seen: &SessionFrame<'_>,
         kit: &Kit,
         out: &mut FrameBuf,
     ) -> Result<(), Code>
         requires command { IsTrue (is_data seen.now.command) }
         requires under { DataUnder kit.now.settings self.old }
         requires passed { HasPassed kit.now.settings self.old.chain seen.now }
-        requires empty { out.old ≡ [] }
         ensures next { in_place result self.new ≡ data_next kit.now self.old.chain self.old.terms seen.now }
-        ensures sent { out.new ≡ data_reply kit.now self.old.chain self.old.terms seen.now }
+        ensures sent { OnOk result (out.new ≡ data_reply kit.now self.old.chain self.old.terms seen.now) }
+        ensures unwritten { OnErr result (out.new ≡ out.old) }
         ensures under { DataUnder kit.now.settings self.new }
     {
-        if !data_holds(seen) {
+        if !data_holds(seen.command(), seen.load()) {
             return Err(Code(0x07));
         }
-        let command = kit.data_command();
+        let offer = kit.offer();
         answer(
             &mut self.chain,
             seen,
-            command,
+            offer.command(),
             self.terms.conn,
-            kit.data_load(),
+            offer.load(),
             out,
         );
         self.outputs.take(seen.command(), seen.load());
@@ -542,7 +551,7 @@ impl InData {
 /// Notes a frame that is taken, and seals its answer.
 fn answer(
     chain: &mut Chain,
-    seen: &Seen<'_>,
+    seen: &SessionFrame<'_>,
     command: Command,
     conn: u16,
     load: &[u8],
@@ -562,7 +571,7 @@ fn in_session(
     mut chain: Chain,
     id: u32,
     mut upload: Upload,
-    seen: &Seen<'_>,
+    seen: &SessionFrame<'_>,
     kit: &Kit,
     out: &mut FrameBuf,
 ) -> Result<InSession, (InReset, Code)>
@@ -571,9 +580,9 @@ fn in_session(
     requires expected { upload.expected ≡ expected.Session kit.now.settings.profile }
     requires allowed { IsTrue (allows_id kit.now.settings.profile id) }
     requires more { is_whole upload ≡ false }
-    requires empty { out.old ≡ [] }
     ensures next { result ≡ session_next kit.now chain id upload seen.now }
-    ensures sent { out.new ≡ session_reply kit.now chain id upload seen.now }
+    ensures sent { OnOk result (out.new ≡ session_reply kit.now chain id upload seen.now) }
+    ensures unwritten { OnErr result (out.new ≡ out.old) }
     ensures under { IfOk result (λ s. SessionUnder kit.now.settings s) }
 {
     let from = upload.len();
@@ -597,7 +606,7 @@ fn in_connection(
     mut chain: Chain,
     conn: u16,
     mut upload: Upload,
-    seen: &Seen<'_>,
+    seen: &SessionFrame<'_>,
     kit: &Kit,
     out: &mut FrameBuf,
 ) -> Result<InConnection, (InReset, Code)>
@@ -605,9 +614,9 @@ fn in_connection(
     requires piece { upload.piece ≡ piece_of kit.now.settings }
     requires expected { upload.expected ≡ expected.Connection conn kit.now.settings.address }
     requires more { is_whole upload ≡ false }
-    requires empty { out.old ≡ [] }
     ensures next { result ≡ connection_next kit.now chain conn upload seen.now }
-    ensures sent { out.new ≡ echo_reply command.Connection kit.now chain conn upload seen.now }
+    ensures sent { OnOk result (out.new ≡ echo_reply command.Connection kit.now chain conn upload seen.now) }
+    ensures unwritten { OnErr result (out.new ≡ out.old) }
     ensures under { IfOk result (λ s. ConnectionUnder kit.now.settings s) }
 {
     if let Err(code) = upload.take(seen.load()) {
@@ -636,7 +645,7 @@ fn in_parameter(
     conn: u16,
     address: u16,
     mut upload: Upload,
-    seen: &Seen<'_>,
+    seen: &SessionFrame<'_>,
     kit: &Kit,
     out: &mut FrameBuf,
 ) -> Result<InParameter, (InReset, Code)>
@@ -644,9 +653,9 @@ fn in_parameter(
     requires piece { upload.piece ≡ piece_of kit.now.settings }
     requires expected { upload.expected ≡ expected.Parameter kit.now.settings.most kit.now.settings.rule kit.now.settings.profile }
     requires more { is_whole upload ≡ false }
-    requires empty { out.old ≡ [] }
     ensures next { result ≡ parameter_next kit.now chain conn address upload seen.now }
-    ensures sent { out.new ≡ echo_reply command.Parameter kit.now chain conn upload seen.now }
+    ensures sent { OnOk result (out.new ≡ echo_reply command.Parameter kit.now chain conn upload seen.now) }
+    ensures unwritten { OnErr result (out.new ≡ out.old) }
     ensures under { IfOk result (λ s. ParameterUnder kit.now.settings s) }
 {
     if let Err(code) = upload.take(seen.load()) {
@@ -670,18 +679,8 @@ fn in_parameter(
     })
 }
 
-/// Whether the safe data of a data frame are right: those of a FailSafeData frame are zeros.
-fn data_holds(seen: &Seen<'_>) -> bool
-    ensures { result ≡ data_holds seen.now.command seen.now.frame.load }
-{
-    match seen.command() {
-        Command::FailSafeData => is_all_zero(seen.load()),
-        _ => true,
-    }
-}
-
 /// A copy of the bytes of a frame, to know a repeat by.
-fn kept(seen: &Seen<'_>) -> FrameBuf
+fn kept(seen: &SessionFrame<'_>) -> FrameBuf
     ensures { result ≡ bytes_of seen.now.frame }
 {
     let mut last = FrameBuf::new();

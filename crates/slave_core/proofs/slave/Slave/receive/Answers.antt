@@ -4,4 +4,6 @@ use Rattle.slave_core.proofs.slave.Slave.receive.Goals as goal
 
 pub take-requires-clause-passed : goal.take-requires-clause-passed
 take-requires-clause-passed c =
-    rw (← c.self.view_is) (has_passed c.self.inside.kit.settings c.self.inside.state c.args.frame.now c.in-Pass.seen (sym c.judge.ensures ∙ c.in-Pass.is))
+    rw (← c.self.view_is, c.new.ensures)
+    (has_passed c.self.inside.kit.settings c.self.inside.state c.peer_len.result c.is_repeat-repeats.result c.args.frame.now c.in-OfSession.frame c.peer_len.ensures.valid
+    c.peer_len.ensures.value (sym c.open.ensures ∙ c.in-OfSession.is) (sym c.fault.ensures ∙ c.in-None.is))

@@ -1,9 +1,10 @@
--- The commands of state Data.
+-- Data frames. Their commands are those of the public standard, the fail-safe value 0 is this profile's own.
 use Rattle.std.specs.Prelude.{ℕ, Bool, true, false, List}
 use Rattle.fsoe_base.specs.declared.command.Command.{Command}
 use Rattle.fsoe_base.specs.declared.command.Command.TheVariants as command
 use Rattle.fsoe_base.specs.Bytes.{all_zero}
 
+-- whether a command is that of data frames
 abbrev pub is_data : Command → Bool
 is_data command.ProcessData = true
 is_data command.FailSafeData = true

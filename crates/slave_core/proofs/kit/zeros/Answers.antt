@@ -1,6 +1,0 @@
-use Rattle.std.proofs.Common.{ℕ}
-use Rattle.std.proofs.lemmas.List.{take-replicate}
-use Rattle.slave_core.proofs.kit.zeros.Goals as goal
-
-pub returns : goal.returns
-returns c = take-replicate {X = ℕ} c.args.len 126 0 c.requires
