@@ -1,8 +1,10 @@
 //! The commands of the program.
-ghost use Rattle.std.specs.Prelude.{◌≡◌, ◌≢◌, ◌⊎◌, ◌↔◌, IsTrue};
+ghost use Rattle.std.specs.Prelude.{◌≡◌, ◌≢◌, ◌⊎◌, IfSome, None, Some, map, string_bytes};
 ghost use Rattle.fsoe_io.specs.Faults.{Rose};
 ghost use Rattle.node_runner.specs.Ending.{Ends};
-ghost use Rattle.fsoe_tool.specs.Command.{IsNodeSlave, RanUsage};
+ghost use Rattle.node_runner.specs.Ran.{Ran, ended_at};
+ghost use Rattle.schedule_file.specs.Input.{node_input};
+ghost use Rattle.fsoe_tool.specs.Command.{RanUsage, end_named, node_of};
 
 use fsoe_base::End;
 use fsoe_io::{Ended, Sink, Source, Status, put_all};
@@ -29,35 +31,63 @@ fn show_usage<K: Sink>(sink: &mut K) -> Ended
     }
 }
 
-/// Whether the words are `node slave`.
-fn is_node_slave(words: &[String]) -> bool
-    ensures { IsTrue result ↔ IsNodeSlave words.now }
+/// The end that a word names.
+fn end_named(word: &str) -> Option<End>
+    ensures { result ≡ end_named word.now }
+{
+    if word == "master" {
+        Some(End::Master)
+    } else if word == "slave" {
+        Some(End::Slave)
+    } else {
+        None
+    }
+}
+
+/// The end whose node the words run, which are `node master` or `node slave`.
+fn node_of(words: &[String]) -> Option<End>
+    ensures { result ≡ node_of (map string_bytes words.now) }
 {
     match words {
-        [command, end] => command.as_str() == "node" && end.as_str() == "slave",
-        _ => false,
+        [command, end] => {
+            if command.as_str() == "node" {
+                end_named(end.as_str())
+            } else {
+                None
+            }
+        }
+        _ => None,
     }
 }
 
 /// Runs the command that the words after the program's name are, over what the source gives, and writes its
 /// report to the sink.
 ///
-/// `node slave` runs a slave over a node file. All other words write the usage line, with status `Usage`.
+/// `node master` and `node slave` run this end over a node file. All other words write the usage line, with status
+/// `Usage`.
 pub fn run<S: Source, K: Sink>(words: &[String], source: &mut S, sink: &mut K) -> Ended
     // The words are no command: the usage line is written, or a first part of it where a write fails.
-    ensures usage { ¬ IsNodeSlave words.now → RanUsage result (K.written sink.old) (K.written sink.new) }
-    // They are `node slave`: the place is the refused line, the whole lines read, or the bytes written.
-    ensures ends { IsNodeSlave words.now → Ends result (S.left source.old) (S.left source.new) (K.written sink.old) (K.written sink.new) }
-    ensures command { IsNodeSlave words.now → result.status ≢ Status.Usage }
+    ensures usage { node_of (map string_bytes words.now) ≡ None → RanUsage result (K.written sink.old) (K.written sink.new) }
+    // They run a node, and the source tells its bytes: the status says how these stop, and appended is the report, or a
+    // first part of it where a read or a write failed.
+    ensures ran { (end : End) → node_of (map string_bytes words.now) ≡ Some end
+        → Ran end result (S.left source.old) (S.left source.new) (K.written sink.old) (K.written sink.new) }
+    // Where neither a read nor a write failed besides, the status and the place are those of how the input stops.
+    ensures stops { ¬ Rose (S.faults source.old) (S.faults source.new) → ¬ Rose (K.faults sink.old) (K.faults sink.new)
+        → (end : End) → node_of (map string_bytes words.now) ≡ Some end
+        → IfSome (S.left source.old) (λ input. result ≡ ended_at (node_input end input).stop) }
+    // Also where the source doesn't tell them: the place is the refused line, the whole lines read, or the bytes written.
+    ensures ends { (end : End) → node_of (map string_bytes words.now) ≡ Some end
+        → Ends result (S.left source.old) (S.left source.new) (K.written sink.old) (K.written sink.new) }
+    ensures command { (end : End) → node_of (map string_bytes words.now) ≡ Some end → result.status ≢ Status.Usage }
     // A failure is blamed on an end only where its count of faults rose.
     ensures read { result.status ≡ Status.Read → Rose (S.faults source.old) (S.faults source.new) }
     ensures write { result.status ≡ Status.Write → Rose (K.faults sink.old) (K.faults sink.new) }
     // Nothing on this way takes memory.
     ensures memory { result.status ≢ Status.Memory }
 {
-    if is_node_slave(words) {
-        run_node(End::Slave, source, sink)
-    } else {
-        show_usage(sink)
+    match node_of(words) {
+        Some(end) => run_node(end, source, sink),
+        None => show_usage(sink),
     }
 }

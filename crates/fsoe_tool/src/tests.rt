@@ -182,7 +182,7 @@ fn worked_runs(rt: HostRuntime) -> Result<(), Fail> {
 /// A whole input after its first line, a line of its report, and how that line ends.
 type Long = (&'static str, usize, &'static str);
 
-const OTHER_LENGTHS: [Long; 4] = [
+const OTHER_LENGTHS: [Long; 6] = [
     // At 8 and 8, a change of the last group alone.
     (
         "lengths 8 8
@@ -264,7 +264,127 @@ end
         4,
         "4 reset found 08 Reset 00000000 > 2a0800001f0000b9140000",
     ),
+    // A slave of profile Two answers with the second piece of its session id.
+    (
+        "lengths 2 2
+slave 2 200 1000 2
+profile 7
+rule any 0
+go
+d 2a0000c42d0000
+d 4e0100123e0000
+d 4e000061230000
+end
+",
+        3,
+        "3 took Session Session 0000 > 4e000043f10000",
+    ),
+    // In profile Two a session id may have 32 bits.
+    (
+        "lengths 2 2
+slave 2 200 1000 2
+profile 7
+rule any 0
+go
+n 4294967295
+end
+",
+        1,
+        "1 quiet Reset 0000",
+    ),
 ];
+
+/// The slave's answers of a handshake at lengths 2 and 2, and its first data frame.
+const ANSWERS: &str = "d 2a0000c42d0000
+d 4e020090470000
+d 64010093d60100
+d 64020047080100
+d 52020030580100
+d 526400ae680100
+d 520000772d0100
+d 36800078c90100
+";
+
+/// A master's header after its first line, events before the slave's answers, events after them, and a line of the
+/// report that they give.
+type MasterRow = (
+    &'static str,
+    &'static str,
+    &'static str,
+    usize,
+    &'static str,
+);
+
+const MASTERS: [MasterRow; 6] = [
+    (
+        "lengths 2 2\nmaster 1 2 100 1\n",
+        "t\n",
+        "",
+        1,
+        "1 again Reset 0000 > 2a0000c42d0000",
+    ),
+    (
+        "lengths 2 2\nmaster 1 2 100 1\n",
+        "p 0100\nt\n",
+        "",
+        10,
+        "10 took ProcessData Data 8000 > 360100cfa90100",
+    ),
+    // A slave that resets after the data.
+    (
+        "lengths 2 2\nmaster 1 2 100 1\n",
+        "p 0100\nt\n",
+        "d 3680002d670100\nd 2a0000c42d0000\n",
+        11,
+        "11 took ProcessData Data 8000 > 360100e95d0100",
+    ),
+    (
+        "lengths 2 2\nmaster 1 2 100 1\n",
+        "p 0100\nt\n",
+        "d 3680002d670100\nd 2a0000c42d0000\n",
+        12,
+        "12 reset peer 00 Reset 0000 > 2a0000c42d0000",
+    ),
+    // At 1 and 1.
+    (
+        "lengths 1 1\nmaster 1 2 100 1\napp 0a0b0c\n",
+        "t\n",
+        "",
+        1,
+        "1 again Reset 00 > 2a0086f80000",
+    ),
+    // In profile Two the session id has two pieces.
+    (
+        "lengths 2 2\nmaster 1 2 100 1\nprofile 7\n",
+        "p 0100\nt\n",
+        "",
+        4,
+        "4 took Session Session 0000 > 4e000061230000",
+    ),
+];
+
+#[test]
+fn a_master_leads(rt: HostRuntime) -> Result<(), Fail> {
+    let setting = Setting {
+        words: &["node", "master"],
+        ..PLAIN
+    };
+    for (header, before, after, number, line) in MASTERS {
+        let input = [
+            "fsoe 1 node master\n",
+            header,
+            "go\n",
+            before,
+            ANSWERS,
+            after,
+            "end\n",
+        ];
+        let (ended, sink) = run_over(&rt, &setting, &input)?;
+        assert_eq!(rt; ended.status, Status::Ok, "{line}");
+        assert_eq!(rt; line_of(sink.bytes(), number), line.as_bytes(), "{line}");
+    }
+    Ok(())
+}
 
 #[test]
 fn other_lengths_and_profile_two(rt: HostRuntime) -> Result<(), Fail> {
@@ -307,7 +427,7 @@ go
 ";
 
 /// An input, the line that it is refused at, and the last line of the report.
-const REFUSED: [(&str, u64, &str); 12] = [
+const REFUSED: [(&str, u64, &str); 14] = [
     ("", 1, "refused 1 End"),
     ("fsoe 1 node slave\nlengths 3 2\n", 2, "refused 2 Length"),
     ("fsoe 1 node slave\ngo\n", 2, "refused 2 Header"),
@@ -330,6 +450,16 @@ const REFUSED: [(&str, u64, &str); 12] = [
         "fsoe 1 node slave\nlengths 2 2\nslave 2 200 1000 2\nrule any 0\ngo\nn 007\n",
         6,
         "refused 6 Number",
+    ),
+    (
+        "fsoe 1 node slave\nlengths 2 2\nslave 2 200 1000 2\nrule any 0\ngo\nn 65536\n",
+        6,
+        "refused 6 Number",
+    ),
+    (
+        "fsoe 1 node master\nlengths 2 2\nmaster 1 2 100 1\ngo\n",
+        1,
+        "refused 1 Header",
     ),
     (
         "fsoe 1 node slave\nlengths 2 2\nslave 2 200 1000 2\nrule any 0\ngo\np 01\n",
@@ -407,7 +537,7 @@ const NO_COMMANDS: [&[&str]; 12] = [
     &["node"],
     &["-h"],
     &["node", "slave", "x"],
-    &["node", "master"],
+    &["node", "both"],
     &["replay"],
     &["bulk", "0", "17"],
     &["plant", "x"],

@@ -1,18 +1,20 @@
 -- A run that goes on, and how it ends.
-use Rattle.std.proofs.Common.{◌≡◌, ℕ, ◌+◌, ◌*◌, ◌≤◌, ◌<◌, List, [], ◌++◌, length, arith, ap, ◌∙◌, sym, subst}
+use Rattle.std.proofs.Common.{◌≡◌, ℕ, ◌+◌, ◌*◌, ◌≤◌, ◌<◌, List, [], ◌∷◌, ◌++◌, length, arith, ap, ◌∙◌, sym, subst}
 use Rattle.std.specs.Prelude.{Bool}
 use Rattle.std.specs.declared.option.Option.{Option}
 use Rattle.std.specs.declared.result.Result.TheVariants.{Err}
 use Rattle.std.proofs.Common.{inl, inr}
 use Rattle.std.proofs.lemmas.List.{length-append}
-use Rattle.std.specs.Io.KnownBytes.{prepend_known}
+use Rattle.std.specs.Io.KnownBytes.{Consumes, prepend_known}
 use Rattle.fsoe_io.proofs.Grown.{grew_then}
+use Rattle.fsoe_io.proofs.Passing.{grew_none}
+use Rattle.fsoe_io.specs.Line.{IsLine}
 use Rattle.fsoe_io.specs.Output.{Waiting, Passes}
 use Rattle.fsoe_io.specs.declared.status.Ended.{Ended}
 use Rattle.fsoe_io.specs.declared.status.Status.TheVariants as status
 use Rattle.node_runner.specs.Ending.{Appended, Ends, Closes, Halts}
 use Rattle.node_runner.specs.Input.{TookLines}
-use Rattle.node_runner.specs.Halt.{TookLine, Goes, Stalls}
+use Rattle.node_runner.specs.Halt.{Goes, Stalls}
 use Rattle.node_runner.specs.Stop.{ended_by}
 use Rattle.node_runner.specs.declared.halt.Halt.{Halt}
 use Rattle.node_runner.specs.declared.halt.Halt.TheVariants as halt
@@ -25,6 +27,16 @@ pub record Going (left0 left written0 written : Option (List ℕ)) (waiting : Wa
   pub size : waiting.sent + length waiting.bytes ≤ 1024 * events
   pub few : events ≤ 200000
   pub lined : lines ≤ 1032 + events
+
+-- after the header nothing was sent
+pub going_start : (left0 left w : Option (List ℕ)) (waiting : Waiting) (lines : ℕ) → TookLines lines left0 left → lines ≤ 1032 → waiting.bytes ≡ [] → waiting.sent ≡ 0 → Going left0 left w w waiting 0 lines
+going_start left0 left w waiting lines took most none sent = record {
+  took = took;
+  sent = ([], grew_none w, sent);
+  size = omega (arith, sent, ap (length {A = ℕ}) none);
+  few = omega arith;
+  lined = omega arith;
+}
 
 -- a first part of what waited, and of a piece after it, went to the sink
 pub appended_part : (w0 w1 w2 : Option (List ℕ)) (waiting now : Waiting) (piece rest : List ℕ) → Appended waiting.sent w0 w1 → Passes waiting now w1 w2 piece rest → Appended now.sent w0 w2
@@ -46,11 +58,11 @@ going_sent left0 left w0 w1 w2 waiting now events lines g p same = record {
 }
 
 -- an event was taken, and its line waits
-pub going_event : (left0 left1 left2 w0 w1 w2 : Option (List ℕ)) (waiting now : Waiting) (events lines next : ℕ) (piece : List ℕ) → Going left0 left1 w0 w1 waiting events lines
-    → TookLine left1 left2 → next ≡ lines + 1 → events < 200000 → Passes waiting now w1 w2 piece now.bytes
+pub going_event : (left0 left1 left2 w0 w1 w2 : Option (List ℕ)) (waiting now : Waiting) (events lines next : ℕ) (piece text : List ℕ) → Going left0 left1 w0 w1 waiting events lines
+    → IsLine text → Consumes left1 left2 (text ++ 10 ∷ []) → next ≡ lines + 1 → events < 200000 → Passes waiting now w1 w2 piece now.bytes
     → now.sent + length now.bytes ≡ waiting.sent + length waiting.bytes + length piece → length piece ≤ 1024 → Going left0 left2 w0 w2 now (events + 1) next
-going_event left0 left1 left2 w0 w1 w2 waiting now events lines next piece g t step few p size short = record {
-  took = took_line lines next left0 left1 left2 t.0 g.took t.1 t.2 step;
+going_event left0 left1 left2 w0 w1 w2 waiting now events lines next piece text g is goes step few p size short = record {
+  took = took_line lines next left0 left1 left2 text g.took is goes step;
   sent = appended_part w0 w1 w2 waiting now piece now.bytes g.sent p;
   size = omega (arith, size, g.size);
   few = omega arith;

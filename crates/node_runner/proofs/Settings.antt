@@ -3,16 +3,15 @@ use Rattle.std.proofs.Common.{◌≡◌, ℕ, List, [], Bool}
 use Rattle.fsoe_base.specs.declared.did.Did.{Did}
 use Rattle.fsoe_base.specs.Did.{nothing}
 use Rattle.param_load.specs.declared.entry.Move.TheVariants as move
-use Rattle.end_model.specs.Setup.{OfSlave}
+use Rattle.end_model.specs.Setup.{Setup}
+use Rattle.end_model.specs.Deed.{Deed}
 use Rattle.end_model.specs.Standing.{Answers}
-use Rattle.slave_core.specs.SlaveView.{SlaveView}
-use Rattle.slave_core.specs.ViewOf.{view_of}
 
-pub put_answers : (old : SlaveView) (load : List ℕ) (d : Did) (f : List ℕ) → d ≡ nothing → f ≡ [] → Answers OfSlave view_of old (move.Put load) d f
-put_answers old load d f i j = record { did = λ ss e h. i; sent = λ ss e h. j }
+pub put_answers : {S V : Type 0} (setup : S → Setup) (view_of : S → List Deed → V) (old : V) (load : List ℕ) (d : Did) (f : List ℕ) → d ≡ nothing → f ≡ [] → Answers setup view_of old (move.Put load) d f
+put_answers setup view_of old load d f i j = record { did = λ settings e h. i; sent = λ settings e h. j }
 
-pub hold_answers : (old : SlaveView) (failsafe : Bool) (d : Did) (f : List ℕ) → d ≡ nothing → f ≡ [] → Answers OfSlave view_of old (move.Hold failsafe) d f
-hold_answers old failsafe d f i j = record { did = λ ss e h. i; sent = λ ss e h. j }
+pub hold_answers : {S V : Type 0} (setup : S → Setup) (view_of : S → List Deed → V) (old : V) (failsafe : Bool) (d : Did) (f : List ℕ) → d ≡ nothing → f ≡ [] → Answers setup view_of old (move.Hold failsafe) d f
+hold_answers setup view_of old failsafe d f i j = record { did = λ settings e h. i; sent = λ settings e h. j }
 
-pub nonce_answers : (old : SlaveView) (id : ℕ) (d : Did) (f : List ℕ) → d ≡ nothing → f ≡ [] → Answers OfSlave view_of old (move.Nonce id) d f
-nonce_answers old id d f i j = record { did = λ ss e h. i; sent = λ ss e h. j }
+pub nonce_answers : {S V : Type 0} (setup : S → Setup) (view_of : S → List Deed → V) (old : V) (id : ℕ) (d : Did) (f : List ℕ) → d ≡ nothing → f ≡ [] → Answers setup view_of old (move.Nonce id) d f
+nonce_answers setup view_of old id d f i j = record { did = λ settings e h. i; sent = λ settings e h. j }

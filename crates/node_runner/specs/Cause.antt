@@ -1,12 +1,22 @@
--- The names of the causes for which a line of a node file is refused.
+-- The causes for which a line of a node file is refused, and their names.
 use Rattle.std.specs.Prelude.{ℕ, List, codes}
+use Rattle.schedule_file.specs.Input as input
 use Rattle.schedule_file.specs.LineCause.{cause_name}
 use Rattle.node_runner.specs.declared.cause.Cause.{Cause}
 use Rattle.node_runner.specs.declared.cause.Cause.TheVariants as cause
 
-abbrev pub cause_text : Cause → List ℕ
-cause_text cause.Long = codes "Long"
-cause_text cause.NoNewline = codes "NoNewline"
-cause_text cause.End = codes "End"
-cause_text cause.TooMany = codes "TooMany"
-cause_text (cause.Line why) = cause_name why
+-- a cause, as it is said of an input
+abbrev pub input_cause : Cause → input.InputCause
+input_cause cause.Long = input.Long
+input_cause cause.NoNewline = input.NoNewline
+input_cause cause.End = input.NoLine
+input_cause cause.TooMany = input.TooMany
+input_cause (cause.Line why) = input.Line why
+
+-- the name of a cause in a report
+abbrev pub cause_text : input.InputCause → List ℕ
+cause_text input.Long = codes "Long"
+cause_text input.NoNewline = codes "NoNewline"
+cause_text input.NoLine = codes "End"
+cause_text input.TooMany = codes "TooMany"
+cause_text (input.Line why) = cause_name why

@@ -49,9 +49,13 @@ Halts (Ok x) old left = Unit {0}
 Halts (Err (halt.Read lines)) old left = Broke lines old left
 Halts (Err (halt.Refused line cause)) old left = Follows line old
 
--- the last piece and all that waited was written; or the sink failed, and the place is the bytes sent in all
+-- the second list begins with the first
+abbrev pub IsPrefix : List ℕ → List ℕ → Type 0
+IsPrefix part whole = (rest : List ℕ) × (whole ≡ part ++ rest)
+
+-- the last piece and all that waited was written; or the sink failed after a first part, and the place is the bytes sent in all
 abbrev pub Closes : Ended → Ended → Waiting → Option (List ℕ) → Option (List ℕ) → List ℕ → Type 0
 Closes result ended waiting before now last =
     (part : List ℕ) × Grew before now part
     × (((result ≡ ended) × (part ≡ waiting.bytes ++ last))
-    ⊎ ((result.status ≡ status.Write) × (result.place ≡ waiting.sent + length part)))
+    ⊎ ((result.status ≡ status.Write) × (result.place ≡ waiting.sent + length part) × IsPrefix part (waiting.bytes ++ last)))

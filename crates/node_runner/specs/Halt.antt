@@ -1,11 +1,11 @@
 -- The next line of a node's input, or why the input goes no further.
-use Rattle.std.specs.Prelude.{◌≡◌, ℕ, ◌+◌, List, [], ◌∷◌, ◌++◌}
+use Rattle.std.specs.Prelude.{◌≡◌, ℕ, ◌+◌, List, []}
 use Rattle.std.specs.declared.option.Option.{Option}
 use Rattle.std.specs.declared.result.Result.{Result}
 use Rattle.std.specs.declared.result.Result.TheVariants.{Ok, Err}
 use Rattle.std.specs.Io.KnownBytes.{Consumes}
 use Rattle.fsoe_io.specs.Faults.{Rose}
-use Rattle.fsoe_io.specs.Line.{IsLine, HasNoNewline}
+use Rattle.fsoe_io.specs.Line.{HasNoNewline}
 use Rattle.node_runner.specs.declared.halt.Halt.{Halt}
 use Rattle.node_runner.specs.declared.halt.Halt.TheVariants as halt
 
@@ -14,13 +14,9 @@ abbrev pub Refuses : ℕ → Halt → Type 0
 Refuses number (halt.Refused line cause) = line ≡ number
 Refuses number (halt.Read lines) = ⊥
 
--- a line was taken with its newline
-abbrev pub TookLine : Option (List ℕ) → Option (List ℕ) → Type 0
-TookLine old new = (line : List ℕ) × IsLine line × Consumes old new (line ++ 10 ∷ [])
-
--- the next line was taken; a refused line is the one after those before; a failed read took nothing
+-- one line more was taken; a refused line is the one after those before; a failed read took nothing
 abbrev pub Goes : {T : Type 0} → Result T Halt → ℕ → ℕ → Option (List ℕ) → Option (List ℕ) → Type 0
-Goes (Ok says) before lines old new = (lines ≡ before + 1) × TookLine old new
+Goes (Ok says) before lines old new = lines ≡ before + 1
 Goes (Err (halt.Read count)) before lines old new = (count ≡ before) × Consumes old new []
 Goes (Err (halt.Refused line cause)) before lines old new = line ≡ before + 1
 

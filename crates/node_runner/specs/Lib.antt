@@ -3,7 +3,10 @@ pub mod Ending
 pub mod Event
 pub mod Halt
 pub mod HaltOf
+pub mod Header
 pub mod Input
+pub mod Node
+pub mod Ran
 pub mod Report
 pub mod Step
 pub mod Stop

@@ -2,6 +2,7 @@
 use Rattle.std.specs.Prelude.{ℕ, List, []}
 use Rattle.fsoe_io.specs.declared.status.Ended.{Ended}
 use Rattle.fsoe_io.specs.declared.status.Status.TheVariants as status
+use Rattle.node_runner.specs.Cause.{input_cause}
 use Rattle.node_runner.specs.Report.{refused_line}
 use Rattle.node_runner.specs.declared.halt.Halt.{Halt}
 use Rattle.node_runner.specs.declared.halt.Halt.TheVariants as halt
@@ -14,4 +15,4 @@ ended_by (halt.Refused line cause) = record { status = status.Line; place = line
 -- nothing is written of a failed read
 abbrev pub last_of : Halt → List ℕ
 last_of (halt.Read lines) = []
-last_of (halt.Refused line cause) = refused_line line cause
+last_of (halt.Refused line cause) = refused_line line (input_cause cause)

@@ -1,6 +1,6 @@
 //! Why a line of a node file is refused.
 ghost use Rattle.std.specs.Prelude.{◌≡◌, ◌≤◌, length};
-ghost use Rattle.node_runner.specs.Cause.{cause_text};
+ghost use Rattle.node_runner.specs.Cause.{cause_text, input_cause};
 
 use fsoe_io::LineFault;
 use schedule_file::LineCause;
@@ -23,7 +23,7 @@ pub enum Cause {
 impl Cause {
     /// The name as reports write it.
     pub fn name(self) -> &'static str
-        ensures text { result.now ≡ cause_text self }
+        ensures text { result.now ≡ cause_text (input_cause self) }
         ensures most { length result.now ≤ 10 }
     {
         match self {

@@ -1,55 +1,52 @@
-//! The events of a slave's node.
+//! The events of a node.
 ghost use Rattle.std.specs.Io.KnownBytes.{prepend_known};
-ghost use Rattle.std.specs.Prelude.{◌-◌, ◌^◌, ◌≤◌, ◌<◌, IfOk, IfErr};
-ghost use Rattle.fsoe_base.specs.declared.command.End.TheVariants as side;
+ghost use Rattle.std.specs.Prelude.{◌≡◌, ◌-◌, ◌^◌, ◌≤◌, ◌<◌, IfOk};
 ghost use Rattle.schedule_file.specs.Event.{LineFits};
-ghost use Rattle.node_runner.specs.Event.{IsWithin};
-ghost use Rattle.node_runner.specs.Halt.{Blames, Goes, Refuses, Stalls};
+ghost use Rattle.node_runner.specs.Event.{Finds, IsWithin, says_after};
+ghost use Rattle.node_runner.specs.Halt.{Blames, Goes, Stalls};
+ghost use Rattle.node_runner.specs.Node.{end_of, lengths_of, profile_of};
 
 use crate::cause::Cause;
 use crate::halt::{Halt, halt_of};
-use fsoe_base::End;
+use crate::node::Node;
 use fsoe_io::{Line, LineReader, Source};
-use param_load::SlaveSettings;
 use schedule_file::{ScheduleLine, read_node_event};
 
 /// The most events of a node.
 const MOST: u64 = 200_000;
 
-/// What a line says that stands after so many events of a slave with these settings, or that it is refused.
-fn read_event(line: &Line, events: u64, settings: &SlaveSettings) -> Result<ScheduleLine, Halt>
-    ensures fits { IfOk result (LineFits side.Slave settings.now.lengths settings.now.profile) }
+/// What a line says that stands after so many events of this node, or why it is refused.
+fn read_event(line: &Line, events: u64, node: &Node) -> Result<ScheduleLine, Cause>
+    ensures says { result ≡ says_after node.now events line.now.bytes }
+    ensures fits { IfOk result (LineFits (end_of node.now) (lengths_of node.now) (profile_of node.now)) }
     ensures few { IfOk result (IsWithin events) }
-    ensures refused { IfErr result (Refuses line.now.number) }
 {
     if events < MOST {
-        match read_node_event(
-            line.bytes(),
-            End::Slave,
-            settings.lengths(),
-            settings.profile(),
-        ) {
+        match read_node_event(line.bytes(), node.end(), node.lengths(), node.profile()) {
             Ok(says) => Ok(says),
-            Err(cause) => Err(Halt::Refused(line.number(), Cause::Line(cause))),
+            Err(cause) => Err(Cause::Line(cause)),
         }
     } else if line.bytes() == b"end".as_slice() {
         Ok(ScheduleLine::End)
     } else {
-        Err(Halt::Refused(line.number(), Cause::TooMany))
+        Err(Cause::TooMany)
     }
 }
 
-/// What the next line says, after so many events of a slave with these settings. The line is written to `line`.
+/// What the next line says, after so many events of this node. The line is written to `line`.
 pub fn next_event<S: Source>(
     reader: &mut LineReader,
     source: &mut S,
     line: &mut Line,
     events: u64,
-    settings: &SlaveSettings,
+    node: &Node,
 ) -> Result<ScheduleLine, Halt>
     requires { reader.old.lines < 2 ^ 64 - 1 }
-    ensures fits { IfOk result (LineFits side.Slave settings.now.lengths settings.now.profile) }
+    ensures fits { IfOk result (LineFits (end_of node.now) (lengths_of node.now) (profile_of node.now)) }
     ensures few { IfOk result (IsWithin events) }
+    ensures finds { Finds node.now events result
+        (prepend_known reader.old.bytes (S.left source.old))
+        (prepend_known reader.new.bytes (S.left source.new)) }
     ensures goes { Goes result reader.old.lines reader.new.lines
         (prepend_known reader.old.bytes (S.left source.old))
         (prepend_known reader.new.bytes (S.left source.new)) }
@@ -59,7 +56,10 @@ pub fn next_event<S: Source>(
 {
     let before = reader.lines();
     match reader.next_into(source, line) {
-        Ok(true) => read_event(line, events, settings),
+        Ok(true) => match read_event(line, events, node) {
+            Ok(says) => Ok(says),
+            Err(cause) => Err(Halt::Refused(line.number(), cause)),
+        },
         Ok(false) => Err(Halt::Refused(before + 1, Cause::End)),
         Err(fault) => Err(halt_of(fault, before)),
     }

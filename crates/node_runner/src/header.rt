@@ -5,13 +5,15 @@ ghost use Rattle.schedule_file.specs.Header.{is_done, kind_of};
 ghost use Rattle.schedule_file.specs.LinesLeft.{lines_left};
 ghost use Rattle.node_runner.specs.Ending.{Halts};
 ghost use Rattle.node_runner.specs.Halt.{Blames, Goes, Stalls};
+ghost use Rattle.node_runner.specs.Header.{FindsHeading, Heads};
 ghost use Rattle.node_runner.specs.Input.{TookLines};
+ghost use Rattle.node_runner.specs.Node.{IsReady};
 
 use crate::cause::Cause;
 use crate::halt::{Halt, halt_of};
+use crate::node::Node;
 use fsoe_base::End;
 use fsoe_io::{LineReader, Source};
-use param_load::SlaveSettings;
 use schedule_file::{Header, HeaderKind};
 
 /// Reads the next line of the header: whether it is the last.
@@ -24,6 +26,9 @@ fn next_header_line<S: Source>(
     ensures kind { kind_of header.new ≡ kind_of header.old }
     ensures done { IfOk result (λ done. done ≡ is_done header.new) }
     ensures fewer { OnOk result (lines_left header.new < lines_left header.old) }
+    ensures finds { FindsHeading header.old result header.new
+        (prepend_known reader.old.bytes (S.left source.old))
+        (prepend_known reader.new.bytes (S.left source.new)) }
     ensures goes { Goes result reader.old.lines reader.new.lines
         (prepend_known reader.old.bytes (S.left source.old))
         (prepend_known reader.new.bytes (S.left source.new)) }
@@ -42,19 +47,23 @@ fn next_header_line<S: Source>(
     }
 }
 
-/// Reads the header of a slave's node up to its `go`.
+/// Reads the header of the node at this end up to its `go`, and makes the node.
 pub fn read_header<S: Source>(
     end: End,
     reader: &mut LineReader,
     source: &mut S,
-) -> Result<SlaveSettings, Halt>
-    requires slave { end ≡ End.Slave }
+) -> Result<Node, Halt>
     requires bytes { reader.old.bytes ≡ [] }
     requires lines { reader.old.lines ≡ 0 }
     ensures took { OnOk result (TookLines reader.new.lines
         (S.left source.old)
         (prepend_known reader.new.bytes (S.left source.new))) }
     ensures most { OnOk result (reader.new.lines ≤ 1032) }
+    ensures ready { IfOk result IsReady }
+    ensures heads { Heads end result reader.new.lines
+        (S.left source.old)
+        (prepend_known reader.new.bytes (S.left source.new)) }
+    ensures stalls { Stalls result reader.new.bytes }
     ensures halts { Halts result (S.left source.old) (S.left source.new) }
     ensures later { S.faults source.old ≤ S.faults source.new }
     ensures cause { Blames result (S.faults source.old) (S.faults source.new) }
@@ -62,7 +71,7 @@ pub fn read_header<S: Source>(
     let mut header = Header::new(HeaderKind::Node(end));
     loop {
         match next_header_line(reader, source, &mut header) {
-            Ok(true) => return Ok(header.slave()),
+            Ok(true) => return Ok(Node::new(end, &header)),
             Ok(false) => {}
             Err(why) => return Err(why),
         }

@@ -5,6 +5,7 @@ mod cause;
 mod event;
 mod halt;
 mod header;
+pub mod laws;
 mod node;
 mod report;
 mod run;

@@ -1,27 +1,72 @@
-//! One event at a slave, and its line of the report.
-ghost use Rattle.std.specs.Prelude.{◌≡◌, ◌≤◌, length};
+//! The end that a node runs: one event at it, and its line of the report.
+ghost use Rattle.std.specs.Prelude.{◌≡◌, ◌≤◌, false, IsTrue, length};
 ghost use Rattle.fsoe_base.specs.declared.command.End.TheVariants as side;
 ghost use Rattle.schedule_file.specs.Event.{FitsNode};
+ghost use Rattle.schedule_file.specs.Header.{is_done, kind_of};
+ghost use Rattle.schedule_file.specs.declared.header_kind.HeaderKind.TheVariants as kind;
 ghost use Rattle.node_runner.specs.Report.{entry_line};
 ghost use Rattle.node_runner.specs.Step.{move_of};
-ghost use Rattle.end_model.specs.Setup.{OfSlave};
 ghost use Rattle.end_model.specs.Outputs.{out};
 ghost use Rattle.end_model.specs.Readiness.{state_of};
-ghost use Rattle.end_model.specs.Standing.{Follows, Answers, Shows};
-ghost use Rattle.slave_core.specs.ViewOf.{view_of};
+ghost use Rattle.end_model.specs.Setup.{OfMaster, OfSlave};
+ghost use Rattle.end_model.specs.Standing.{Follows, Answers};
+ghost use Rattle.master_core.specs.Now.{is_due};
+ghost use Rattle.master_core.specs.ViewOf as master_core;
+ghost use Rattle.slave_core.specs.ViewOf as slave_core;
 
 use entry_text::push_entry;
-use fsoe_base::{Did, FrameBuf};
+use fsoe_base::{Did, End, FrameBuf, Lengths, State};
 use fsoe_io::LineText;
-use schedule_file::Event;
+use master_core::Master;
+use param_load::Profile;
+use schedule_file::{Event, Header};
 use slave_core::Slave;
 
-/// One event at the slave. The frame that it sends is written to `sent`, which is empty where it sends none.
+/// The end that a node runs.
+#[derive(Drop)]
+pub enum Node {
+    Master(Master),
+    Slave(Slave),
+}
+
+/// One event at a master. The frame that it sends is written to `sent`, which is empty where it sends none.
 #[tactic(auto, using(crate::proofs::Settings::put_answers, crate::proofs::Settings::hold_answers, crate::proofs::Settings::nonce_answers))]
-pub fn step(slave: &mut Slave, event: &Event, sent: &mut FrameBuf) -> Did
+fn step_master(master: &mut Master, event: &Event, sent: &mut FrameBuf) -> Did
+    requires fits { FitsNode side.Master master.old.kit.settings.lengths master.old.kit.settings.profile event.now }
+    requires rest { is_due master.old.state ≡ false }
+    ensures follows { Follows OfMaster master_core.view_of master.old (move_of event.now) master.new }
+    ensures answers { Answers OfMaster master_core.view_of master.old (move_of event.now) result sent.new }
+    ensures rest { is_due master.new.state ≡ false }
+{
+    match event {
+        Event::Raw { frame, .. } => master.deliver(frame.bytes(), sent),
+        Event::Tick { .. } => master.tick(sent),
+        Event::Local { .. } => master.reset(sent),
+        Event::Put { load, .. } => {
+            master.put(load.bytes());
+            sent.clear();
+            Did::nothing()
+        }
+        Event::Hold { failsafe, .. } => {
+            master.hold(*failsafe);
+            sent.clear();
+            Did::nothing()
+        }
+        Event::Nonce { id, .. } => {
+            master.nonce(*id);
+            sent.clear();
+            Did::nothing()
+        }
+        Event::Deliver { .. } | Event::Altered { .. } => unreachable!(),
+    }
+}
+
+/// The same at a slave.
+#[tactic(auto, using(crate::proofs::Settings::put_answers, crate::proofs::Settings::hold_answers, crate::proofs::Settings::nonce_answers))]
+fn step_slave(slave: &mut Slave, event: &Event, sent: &mut FrameBuf) -> Did
     requires { FitsNode side.Slave slave.old.kit.settings.lengths slave.old.kit.settings.profile event.now }
-    ensures follows { Follows OfSlave view_of slave.old (move_of event.now) slave.new }
-    ensures answers { Answers OfSlave view_of slave.old (move_of event.now) result sent.new }
+    ensures follows { Follows OfSlave slave_core.view_of slave.old (move_of event.now) slave.new }
+    ensures answers { Answers OfSlave slave_core.view_of slave.old (move_of event.now) result sent.new }
 {
     match event {
         Event::Raw { frame, .. } => slave.deliver(frame.bytes(), sent),
@@ -46,14 +91,99 @@ pub fn step(slave: &mut Slave, event: &Event, sent: &mut FrameBuf) -> Did
     }
 }
 
-/// Writes the line of the event of this number, from 1.
-pub fn write_entry(events: u64, did: &Did, slave: &Slave, sent: &FrameBuf, text: &mut LineText)
-    ensures text { Shows OfSlave view_of slave.now text.new (λ s e. entry_line events did.now (state_of s e) (out s e) sent.now) }
-    ensures most { length text.new ≤ 1000 }
-{
-    text.clear();
-    text.push_decimal(events);
-    text.push(b" ");
-    push_entry(did, slave.state(), slave.outputs(), sent.bytes(), text);
-    text.push(b"\n");
+impl Node {
+    ghost use Rattle.node_runner.specs.Node.{NodeFollows, NodeAnswers, NodeShows, IsNew, IsReady, end_of, lengths_of, profile_of};
+
+    /// The end that a header describes which is done.
+    pub fn new(end: End, header: &Header) -> Node
+        requires done { IsTrue (is_done header.now) }
+        requires kind { kind_of header.now ≡ kind.Node end }
+        ensures new { IsNew end header.now result }
+        ensures ready { IsReady result }
+    {
+        match end {
+            End::Master => Node::Master(Master::new(header.master())),
+            End::Slave => Node::Slave(Slave::new(header.slave())),
+        }
+    }
+
+    /// Which end it is.
+    pub fn end(&self) -> End
+        ensures { result ≡ end_of self.now }
+    {
+        match self {
+            Node::Master(_) => End::Master,
+            Node::Slave(_) => End::Slave,
+        }
+    }
+
+    /// The lengths of its connection.
+    pub fn lengths(&self) -> &Lengths
+        ensures { result.now ≡ lengths_of self.now }
+    {
+        match self {
+            Node::Master(master) => master.settings().lengths(),
+            Node::Slave(slave) => slave.settings().lengths(),
+        }
+    }
+
+    /// The profile of its parameters.
+    pub fn profile(&self) -> Profile
+        ensures { result ≡ profile_of self.now }
+    {
+        match self {
+            Node::Master(master) => master.settings().profile(),
+            Node::Slave(slave) => slave.settings().profile(),
+        }
+    }
+
+    /// One event at it. The frame that it sends is written to `sent`, which is empty where it sends none.
+    #[tactic(auto, using(crate::proofs::Nodes::master_follows, crate::proofs::Nodes::slave_follows, crate::proofs::Nodes::master_answers, crate::proofs::Nodes::slave_answers))]
+    pub fn step(&mut self, event: &Event, sent: &mut FrameBuf) -> Did
+        requires fits { FitsNode (end_of self.old) (lengths_of self.old) (profile_of self.old) event.now }
+        requires ready { IsReady self.old }
+        ensures follows { NodeFollows self.old (move_of event.now) self.new }
+        ensures answers { NodeAnswers self.old (move_of event.now) result sent.new }
+        ensures ready { IsReady self.new }
+    {
+        match self {
+            Node::Master(master) => step_master(master, event, sent),
+            Node::Slave(slave) => step_slave(slave, event, sent),
+        }
+    }
+
+    /// Its state.
+    #[tactic(auto, using(crate::proofs::Nodes::master_shows, crate::proofs::Nodes::slave_shows))]
+    fn state(&self) -> State
+        ensures { NodeShows self.now result state_of }
+    {
+        match self {
+            Node::Master(master) => master.state(),
+            Node::Slave(slave) => slave.state(),
+        }
+    }
+
+    /// Its outputs.
+    #[tactic(auto, using(crate::proofs::Nodes::master_shows, crate::proofs::Nodes::slave_shows))]
+    fn outputs(&self) -> &[u8]
+        ensures shown { NodeShows self.now result.now out }
+        ensures most { length result.now ≤ 126 }
+    {
+        match self {
+            Node::Master(master) => master.outputs(),
+            Node::Slave(slave) => slave.outputs(),
+        }
+    }
+
+    /// Writes the line of the event of this number, from 1.
+    pub fn write_entry(&self, events: u64, did: &Did, sent: &FrameBuf, text: &mut LineText)
+        ensures text { NodeShows self.now text.new (λ s e. entry_line events did.now (state_of s e) (out s e) sent.now) }
+        ensures most { length text.new ≤ 1000 }
+    {
+        text.clear();
+        text.push_decimal(events);
+        text.push(b" ");
+        push_entry(did, self.state(), self.outputs(), sent.bytes(), text);
+        text.push(b"\n");
+    }
 }

@@ -1,5 +1,6 @@
 //! The closing lines of a report.
 ghost use Rattle.std.specs.Prelude.{◌≡◌, ◌≤◌, length};
+ghost use Rattle.node_runner.specs.Cause.{input_cause};
 ghost use Rattle.node_runner.specs.Report.{events_line, refused_line};
 
 use crate::cause::Cause;
@@ -17,7 +18,7 @@ pub fn write_events(events: u64, text: &mut LineText)
 
 /// The last line where a line is refused, with its number from 1.
 pub fn write_refusal(line: u64, cause: Cause, text: &mut LineText)
-    ensures text { text.new ≡ refused_line line cause }
+    ensures text { text.new ≡ refused_line line (input_cause cause) }
 {
     text.clear();
     text.push_str("refused ");
