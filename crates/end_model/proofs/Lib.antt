@@ -1,12 +1,11 @@
 pub mod WorkedRuns
 pub mod Runs
 pub mod Judged
-pub mod Accepted
-pub mod DeedKinds
 pub mod Heads
 pub mod Ways
 pub mod Reactions
 pub mod SoundRuns
+pub mod Taken
 pub mod MasterShown
 pub mod Counted
 pub mod SlaveShown

@@ -1,5 +1,5 @@
 -- Frames that one end sends after one another in a session have different CRC_0.
-use Rattle.std.proofs.Common.{◌≡◌, ◌≢◌, ℕ, ◌<◌, List, [], ◌∷◌, length, Bool, true, false, Option, Some, None, IfSome, IsTrue, if◌then◌else◌, refl, sym, subst, ◌∙◌, arith}
+use Rattle.std.proofs.Common.{◌≡◌, ℕ, ◌<◌, List, [], ◌∷◌, length, Bool, true, false, Option, Some, None, IfSome, IsTrue, if◌then◌else◌, refl, sym, subst, ◌∙◌, arith}
 use Rattle.std.proofs.lemmas.Bool.Decides.{nat_tests}
 use Rattle.fsoe_base.specs.declared.command.Command.{Command}
 use Rattle.fsoe_base.specs.declared.command.Command.TheVariants as command
@@ -14,14 +14,15 @@ use Rattle.seq_chain.proofs.Steps.{number_within, after_link}
 use Rattle.param_load.specs.declared.entry.Move.{Move}
 use Rattle.param_load.specs.declared.entry.Move.TheVariants as move
 use Rattle.end_model.specs.Setup.{Setup, OfMaster, OfSlave, sends, receives}
-use Rattle.end_model.specs.Phases.{is_reset}
 use Rattle.end_model.specs.Deed.{Deed, is_empty}
 use Rattle.end_model.specs.Chain.{since, own, taken, newest_crc, own_link}
 use Rattle.end_model.specs.Readiness.{offer}
-use Rattle.end_model.specs.Step.{takes, begun, step, IsRun}
+use Rattle.end_model.specs.Step.{takes, IsRun}
 use Rattle.end_model.specs.Neighbours.{IsOtherThanNewest, NeighboursDiffer}
-use Rattle.end_model.proofs.DeedKinds.{Kind, Drops, Turns, Rests, Ages, Resets, Again, Rejoins, Starts, Takes, IsMaster, kind, answer_to}
-use Rattle.end_model.proofs.Heads.{IsInSession, master_frame, slave_frame}
+use Rattle.end_model.specs.Reactions.{received, answered, Taking, Reaction, Expires, SendsAgain, ResetsItself, Refuses, PeerResets, Answers}
+use Rattle.end_model.proofs.Heads.{IsInSession}
+use Rattle.end_model.proofs.SoundRuns.{reacted}
+use Rattle.end_model.proofs.Taken.{exchange_of, answer_is, master_answers}
 use Rattle.end_model.proofs.ReadBack.{valid_length, read_back}
 use Rattle.end_model.proofs.SealedFrames.{IsSealed, master_sealed, slave_sealed, offer_len}
 
@@ -76,45 +77,30 @@ goes_on : (s : Setup) (e : List Deed) (m : Move) (did : Did) (f : List ℕ) → 
 goes_on s e m did f here h so_far =
     subst (NeighboursDiffer (sends s)) (sym (newest s e (record { what = m; did = did; sent = f }) here)) (other_sent s m did e f h, so_far)
 
-no_reset : (c : Command) → c ≢ command.Reset → is_reset c ≡ false
-no_reset command.Reset h = absurd (h refl)
-no_reset command.Session h = refl
-no_reset command.Connection h = refl
-no_reset command.Parameter h = refl
-no_reset command.FailSafeData h = refl
-no_reset command.ProcessData h = refl
+answers : (s : Setup) (e : List Deed) (bytes load : List ℕ) (c : Command) (f : List ℕ) → Taking e bytes load s c f → length (offer s e) ≡ sends s → NeighboursDiffer (sends s) (own (since e))
+    → NeighboursDiffer (sends s) (own (since (answered bytes c load f e)))
+answers (OfMaster ms) e bytes load c f taking len so_far =
+    let draft : List Deed = received bytes c load e in
+    goes_on (OfMaster ms) e (move.Deliver bytes) (takes c load) f (master_answers e bytes load ms c f taking)
+    (subst (IsSealed (OfMaster ms) draft) (sym (answer_is e bytes load (OfMaster ms) c f taking)) (master_sealed ms draft c len)) so_far
+answers (OfSlave ss) e bytes load command.Reset f taking len so_far =
+    subst (λ (f : List ℕ). NeighboursDiffer (sends (OfSlave ss)) (own (since (answered bytes command.Reset load f e)))) (sym (answer_is e bytes load (OfSlave ss) command.Reset f taking)) tt
+answers (OfSlave ss) e bytes load c f taking len so_far =
+    let draft : List Deed = received bytes c load e in
+    goes_on (OfSlave ss) e (move.Deliver bytes) (takes c load) f (exchange_of e bytes load (OfSlave ss) c f taking (λ k. cc)).2.in_session
+    (subst (IsSealed (OfSlave ss) draft) (sym (answer_is e bytes load (OfSlave ss) c f taking)) (slave_sealed ss draft c load refl len)) so_far
 
-answers : (s : Setup) (e : List Deed) (bytes load : List ℕ) (c : Command) → is_reset c ≡ false → length (offer s e) ≡ sends s → NeighboursDiffer (sends s) (own (since e))
-    → NeighboursDiffer (sends s) (own (since (record { what = move.Deliver bytes; did = takes c load; sent = answer_to s e bytes c load } ∷ e)))
-answers (OfMaster ms) e bytes load c h len so_far =
-    let draft : List Deed = begun (move.Deliver bytes) (takes c load) ∷ e in
-    goes_on (OfMaster ms) e (move.Deliver bytes) (takes c load) (answer_to (OfMaster ms) e bytes c load) (master_frame ms draft c) (master_sealed ms draft c len) so_far
-answers (OfSlave ss) e bytes load c h len so_far =
-    let draft : List Deed = begun (move.Deliver bytes) (takes c load) ∷ e in
-    goes_on (OfSlave ss) e (move.Deliver bytes) (takes c load) (answer_to (OfSlave ss) e bytes c load) (slave_frame ss draft c load h) (slave_sealed ss draft c load h len) so_far
-
-starts : (s : Setup) (e : List Deed) (bytes load : List ℕ) → IsMaster s → length (offer s e) ≡ sends s → NeighboursDiffer (sends s) (own (since e))
-    → NeighboursDiffer (sends s) (own (since (record { what = move.Deliver bytes; did = takes command.Reset load; sent = answer_to s e bytes command.Reset load } ∷ e)))
-starts (OfMaster ms) e bytes load master len so_far =
-    let draft : List Deed = begun (move.Deliver bytes) (takes command.Reset load) ∷ e in
-    goes_on (OfMaster ms) e (move.Deliver bytes) (takes command.Reset load) (answer_to (OfMaster ms) e bytes command.Reset load) (master_frame ms draft command.Reset) (master_sealed ms draft command.Reset len) so_far
-starts (OfSlave ss) e bytes load master len so_far = absurd master
-
--- one more deed
-more : (s : Setup) (e : List Deed) (m : Move) (did : Did) (sent : List ℕ) → length (offer s e) ≡ sends s → NeighboursDiffer (sends s) (own (since e)) → Kind s e m did sent
+-- one more deed: an answer is another frame, a Reset frame begins a session, and else none is sent
+more : (s : Setup) (e : List Deed) (m : Move) (did : Did) (sent : List ℕ) → length (offer s e) ≡ sends s → NeighboursDiffer (sends s) (own (since e)) → Reaction s e m did sent
     → NeighboursDiffer (sends s) (own (since (record { what = m; did = did; sent = sent } ∷ e)))
-more s e m did sent len so_far (Drops bytes passed because) = so_far
-more s e m did sent len so_far (Turns _ sets) = so_far
-more s e m did sent len so_far (Rests slave now) = so_far
-more s e m did sent len so_far (Ages young) = so_far
-more s e m did sent len so_far (Resets _ passed because) = tt
-more s e m did sent len so_far (Again master now) = tt
-more s e m did sent len so_far (Rejoins bytes load slave now) = tt
-more s e m did sent len so_far (Starts bytes load master now) = starts s e bytes load master len so_far
-more s e m did sent len so_far (Takes bytes load c other accepted) = answers s e bytes load c (no_reset c other) len so_far
+more s e m did sent len so_far (Answers bytes load c answer taking) = answers s e bytes load c answer taking len so_far
+more s e m did sent len so_far (Expires now old) = tt
+more s e m did sent len so_far (SendsAgain master now old) = tt
+more s e m did sent len so_far ResetsItself = tt
+more s e m did sent len so_far (Refuses bytes passed found now fails test) = tt
+more s e m did sent len so_far (PeerResets bytes load now frame) = tt
+more s e m did sent len so_far _ = so_far
 
 pub neighbours : (s : Setup) (e : List Deed) → IsRun s e → NeighboursDiffer (sends s) (own (since e))
 neighbours s [] r = tt
-neighbours s (x ∷ e) r =
-    let d : Deed = step s e x.what in
-    subst (λ (x : Deed). NeighboursDiffer (sends s) (own (since (x ∷ e)))) (sym r.0.stepped) (more s e d.what d.did d.sent (offer_len s e r.1) (neighbours s e r.1) (kind s e x.what))
+neighbours s (x ∷ e) r = more s e x.what x.did x.sent (offer_len s e r.1) (neighbours s e r.1) (reacted s x e r)

@@ -60,13 +60,13 @@ no-reset command.Parameter n = refl
 no-reset command.FailSafeData n = refl
 no-reset command.ProcessData n = refl
 
-slave-data : (ss : SlaveSettings) (e : List Deed) (c : Command) (load : List ℕ) → is_data c ≡ true → slave_answer ss e c load ≡ with_data (OfSlave ss) e
-slave-data ss e command.Reset load h = cc
-slave-data ss e command.Session load h = cc
-slave-data ss e command.Connection load h = cc
-slave-data ss e command.Parameter load h = cc
-slave-data ss e command.FailSafeData load h = refl
-slave-data ss e command.ProcessData load h = refl
+pub slave_data : (ss : SlaveSettings) (e : List Deed) (c : Command) (load : List ℕ) → is_data c ≡ true → slave_answer ss e c load ≡ with_data (OfSlave ss) e
+slave_data ss e command.Reset load h = cc
+slave_data ss e command.Session load h = cc
+slave_data ss e command.Connection load h = cc
+slave_data ss e command.Parameter load h = cc
+slave_data ss e command.FailSafeData load h = refl
+slave_data ss e command.ProcessData load h = refl
 
 -- a slave takes a frame of a session, and answers it
 slave-exchange : (ss : SlaveSettings) (e : List Deed) (bytes load : List ℕ) (c : Command) → c ≢ command.Reset → IsValid (OfSlave ss) e bytes c load
@@ -75,20 +75,20 @@ slave-exchange ss e bytes load c n valid =
     let f : IsInSession (slave_answer ss (received bytes c load e) c load) = slave_frame ss (received bytes c load e) c load (no-reset c n) in
     record { valid = valid; is_made = refl; in_session = f; after = slave-after ss e bytes load c (slave_answer ss (received bytes c load e) c load) (no-reset c n) f }
 
-data-phase : (c : Command) → is_data c ≡ true → phase_of c ≡ state.Data
-data-phase command.Reset h = cc
-data-phase command.Session h = cc
-data-phase command.Connection h = cc
-data-phase command.Parameter h = cc
-data-phase command.FailSafeData h = refl
-data-phase command.ProcessData h = refl
+pub phase_of_data : (c : Command) → is_data c ≡ true → phase_of c ≡ state.Data
+phase_of_data command.Reset h = cc
+phase_of_data command.Session h = cc
+phase_of_data command.Connection h = cc
+phase_of_data command.Parameter h = cc
+phase_of_data command.FailSafeData h = refl
+phase_of_data command.ProcessData h = refl
 
 -- a slave takes data, and answers with data
 slave-data-exchange : (ss : SlaveSettings) (e : List Deed) (bytes load : List ℕ) (c : Command) → c ≢ command.Reset → IsValid (OfSlave ss) e bytes c load → is_data c ≡ true
     → IsExchange (OfSlave ss) e bytes load c (slave_answer ss (received bytes c load e) c load) (with_data (OfSlave ss) (received bytes c load e)) state.Data
 slave-data-exchange ss e bytes load c n valid is =
     let x : IsExchange (OfSlave ss) e bytes load c (slave_answer ss (received bytes c load e) c load) (slave_answer ss (received bytes c load e) c load) (phase_of c) = slave-exchange ss e bytes load c n valid in
-    record { valid = valid; is_made = slave-data ss (received bytes c load e) c load is; in_session = x.in_session; after = x.after ∙ data-phase c is }
+    record { valid = valid; is_made = slave_data ss (received bytes c load e) c load is; in_session = x.in_session; after = x.after ∙ phase_of_data c is }
 
 slave-takes : (ss : SlaveSettings) (e : List Deed) (bytes load : List ℕ) (c : Command) → c ≢ command.Reset → Sound (OfSlave ss) e → IsValid (OfSlave ss) e bytes c load
     → SlaveWay (λ phase. is_done ss phase e) (state_of (OfSlave ss) e) c → Taking e bytes load (OfSlave ss) c (slave_answer ss (received bytes c load e) c load)

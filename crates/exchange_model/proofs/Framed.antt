@@ -1,5 +1,5 @@
 -- The frames that an end sends: how they begin, and what they carry.
-use Rattle.std.proofs.Common.{◌≡◌, ◌≢◌, ℕ, suc, ◌+◌, ◌-◌, ◌≤◌, List, [], ◌∷◌, length, take, replicate, Bool, true, false, Option, Some, None, nat_lt, ◌==◌, if◌then◌else◌, refl, ap, ◌∙◌, arith}
+use Rattle.std.proofs.Common.{◌≡◌, ◌≢◌, ℕ, suc, ◌+◌, ◌-◌, ◌≤◌, List, [], ◌∷◌, length, take, replicate, Bool, true, false, Option, Some, None, nat_lt, ◌==◌, if◌then◌else◌, refl, sym, ap, subst, ◌∙◌, arith}
 use Rattle.std.proofs.lemmas.List.{length-append, length-replicate, length-take}
 use Rattle.std.proofs.lemmas.Bool.Decides.{nat_tests}
 use Rattle.fsoe_base.specs.declared.command.State.{State}
@@ -20,7 +20,9 @@ use Rattle.end_model.specs.Chain.{since, own}
 use Rattle.end_model.specs.Payloads.{piece, pieces, count_in, conn_id, session_id, pay}
 use Rattle.end_model.specs.Readiness.{offer, offer_after, held}
 use Rattle.end_model.specs.Step.{sealed, with_piece, with_data, download, after_phase, master_answer, slave_answer, IsProper, IsRun}
+use Rattle.end_model.specs.Reactions.{received, Taking}
 use Rattle.end_model.proofs.ReadBack.{read_back}
+use Rattle.end_model.proofs.Taken.{answer_is}
 use Rattle.fsoe_base.specs.Data.{is_data}
 use Rattle.exchange_model.proofs.Joint.{is_guarded_in}
 
@@ -140,13 +142,16 @@ pub data SlaveSends (ss : SlaveSettings) (e : List Deed) (c : Command) (f : List
   Echoes : (load : List ℕ) → is_data c ≡ false → IsFrame (sends (OfSlave ss)) c load f → SlaveSends ss e c f
   Gives : is_data c ≡ true → IsData (OfSlave ss) e f → SlaveSends ss e c f
 
-pub slave_sends : (ss : SlaveSettings) (e : List Deed) (c : Command) (load : List ℕ) → length (offer (OfSlave ss) e) ≡ sends (OfSlave ss) → c ≢ command.Reset → SlaveSends ss e c (slave_answer ss e c load)
-slave_sends ss e command.Reset load k n = absurd (n refl)
-slave_sends ss e command.Session load k n = Echoes _ refl (piece_frame (OfSlave ss) e command.Session _ (front_fits (OfSlave ss) _))
-slave_sends ss e command.Connection load k n = Echoes _ refl (piece_frame (OfSlave ss) e command.Connection _ (front_fits (OfSlave ss) load))
-slave_sends ss e command.Parameter load k n = Echoes _ refl (piece_frame (OfSlave ss) e command.Parameter _ (front_fits (OfSlave ss) load))
-slave_sends ss e command.FailSafeData load k n = Gives refl (data_framed (OfSlave ss) e k)
-slave_sends ss e command.ProcessData load k n = Gives refl (data_framed (OfSlave ss) e k)
+slave-gives : (ss : SlaveSettings) (e : List Deed) (c : Command) (load : List ℕ) → length (offer (OfSlave ss) e) ≡ sends (OfSlave ss) → c ≢ command.Reset → SlaveSends ss e c (slave_answer ss e c load)
+slave-gives ss e command.Reset load k n = absurd (n refl)
+slave-gives ss e command.Session load k n = Echoes _ refl (piece_frame (OfSlave ss) e command.Session _ (front_fits (OfSlave ss) _))
+slave-gives ss e command.Connection load k n = Echoes _ refl (piece_frame (OfSlave ss) e command.Connection _ (front_fits (OfSlave ss) load))
+slave-gives ss e command.Parameter load k n = Echoes _ refl (piece_frame (OfSlave ss) e command.Parameter _ (front_fits (OfSlave ss) load))
+slave-gives ss e command.FailSafeData load k n = Gives refl (data_framed (OfSlave ss) e k)
+slave-gives ss e command.ProcessData load k n = Gives refl (data_framed (OfSlave ss) e k)
+
+pub slave_sends : (ss : SlaveSettings) (e : List Deed) (bytes load : List ℕ) (c : Command) (f : List ℕ) → IsRun (OfSlave ss) e → Taking e bytes load (OfSlave ss) c f → c ≢ command.Reset → SlaveSends ss (received bytes c load e) c f
+slave_sends ss e bytes load c f r taking n = subst (SlaveSends ss (received bytes c load e) c) (sym (answer_is e bytes load (OfSlave ss) c f taking)) (slave-gives ss (received bytes c load e) c load (offer_long (OfSlave ss) e r) n)
 
 -- what a master downloads
 abbrev pub connection_of : MasterSettings → List ℕ
@@ -194,10 +199,13 @@ after-parameter : (ms : MasterSettings) (e : List Deed) (b : Bool) → length (o
 after-parameter ms e true k h = MoreParameter _ (download-frame ms e command.Parameter (suc (sent_in state.Parameter e)))
 after-parameter ms e false k h = Opens _ (grind (arith, nat_tests)) (data_framed (OfMaster ms) e k)
 
-pub master_sends : (ms : MasterSettings) (e : List Deed) (c : Command) → length (offer (OfMaster ms) e) ≡ sends (OfMaster ms) → MasterSends ms e c (master_answer ms e c)
-master_sends ms e command.Reset k = Begins _ _ (download-frame ms e command.Session 1)
-master_sends ms e command.Session k = after-session ms e (sent_in state.Session e) _
-master_sends ms e command.Connection k = after-connection ms e _ refl
-master_sends ms e command.Parameter k = after-parameter ms e _ k refl
-master_sends ms e command.FailSafeData k = Exchanges command.FailSafeData _ refl (data_framed (OfMaster ms) e k)
-master_sends ms e command.ProcessData k = Exchanges command.ProcessData _ refl (data_framed (OfMaster ms) e k)
+master-gives : (ms : MasterSettings) (e : List Deed) (c : Command) → length (offer (OfMaster ms) e) ≡ sends (OfMaster ms) → MasterSends ms e c (master_answer ms e c)
+master-gives ms e command.Reset k = Begins _ _ (download-frame ms e command.Session 1)
+master-gives ms e command.Session k = after-session ms e (sent_in state.Session e) _
+master-gives ms e command.Connection k = after-connection ms e _ refl
+master-gives ms e command.Parameter k = after-parameter ms e _ k refl
+master-gives ms e command.FailSafeData k = Exchanges command.FailSafeData _ refl (data_framed (OfMaster ms) e k)
+master-gives ms e command.ProcessData k = Exchanges command.ProcessData _ refl (data_framed (OfMaster ms) e k)
+
+pub master_sends : (ms : MasterSettings) (e : List Deed) (bytes load : List ℕ) (c : Command) (f : List ℕ) → IsRun (OfMaster ms) e → Taking e bytes load (OfMaster ms) c f → MasterSends ms (received bytes c load e) c f
+master_sends ms e bytes load c f r taking = subst (MasterSends ms (received bytes c load e) c) (sym (answer_is e bytes load (OfMaster ms) c f taking)) (master-gives ms (received bytes c load e) c (offer_long (OfMaster ms) e r))

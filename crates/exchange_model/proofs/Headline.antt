@@ -21,25 +21,24 @@ use Rattle.schedule_file.specs.declared.event.Event.{Event}
 use Rattle.end_model.specs.Setup.{Setup, OfMaster, OfSlave, sends, receives}
 use Rattle.end_model.specs.Phases.{phase_of_frame}
 use Rattle.end_model.specs.Deed.{Deed, is_empty}
-use Rattle.end_model.specs.Readiness.{state_of, phase_sent}
-use Rattle.end_model.specs.Step.{takes, begun, step, master_answer}
-use Rattle.end_model.proofs.Accepted.{Accepted}
-use Rattle.end_model.proofs.DeedKinds.{Kind, Drops, Turns, Rests, Ages, Resets, Again, Rejoins, Starts, Takes, answer_to, kind}
-use Rattle.end_model.proofs.Heads.{IsInSession, master_frame, slave_frame, data_phase}
+use Rattle.end_model.specs.Readiness.{state_of}
+use Rattle.end_model.specs.Step.{takes}
+use Rattle.end_model.specs.Reactions.{Taking, Reaction, Answers}
+use Rattle.end_model.proofs.Reactions.{phase_of_data}
+use Rattle.end_model.proofs.Taken.{exchange_of, data_after}
 use Rattle.exchange_model.specs.Ends.{same_end, peer}
 use Rattle.exchange_model.specs.World.{setup_of, deed_in, deeds, world, SameLengths, IsProperEvent, IsNextEntry, IsWorld}
 use Rattle.exchange_model.specs.Items.{Item, items_of, items, item_of, awaited}
 use Rattle.exchange_model.specs.Other.{NoOther, before_other}
 use Rattle.fsoe_base.specs.Data.{is_data}
 use Rattle.exchange_model.specs.Fair.{received, data_taken, frame_if, IsTakenFrom, TakesAwaited, Fair}
-use Rattle.exchange_model.proofs.Projection.{same, next_deed, world_is_world}
+use Rattle.exchange_model.proofs.Projection.{same, entry_reacted, world_is_world}
 use Rattle.exchange_model.proofs.Shown.{shows_due}
 use Rattle.exchange_model.proofs.Once.{at_most_once}
 use Rattle.exchange_model.proofs.Others.{before_is_clean, before_is_world}
 use Rattle.exchange_model.proofs.Awaited.{up_to, newest_phase}
 use Rattle.exchange_model.proofs.Framed.{command_in, head_is, phase_by}
-use Rattle.exchange_model.proofs.Pieces.{deed, sent_more, data_state}
-use Rattle.exchange_model.proofs.Uploads.{state_next, not_reset}
+use Rattle.exchange_model.proofs.Pieces.{deed}
 use Rattle.exchange_model.proofs.Loads.{Carries, all_carry, all_items}
 use Rattle.exchange_model.proofs.Taking.{TakesItem, takes_item, data_guarded, NoneOther, none_other}
 use Rattle.exchange_model.proofs.Related.{Related, related}
@@ -70,7 +69,7 @@ tells-slave ms ss x w lens h k is sent =
     record {
       tells = λ c head d.
           slave_told ms ss x w lens h k is (subst (λ (it : End). IsNextEntry (setup_of ms ss it) x (deeds it w)) is h.0)
-          (sym (newest-state ms ss x w is sent k) ∙ (phase_by x.sent c head ∙ data_state c d));
+          (sym (newest-state ms ss x w is sent k) ∙ (phase_by x.sent c head ∙ phase_of_data c d));
     }
 
 -- each item of a slave that is of data was sent under the master's terms
@@ -99,43 +98,15 @@ data Takings (s : Setup) (e : List Deed) (x : Deed) : Type 0 where
   SomeData : (bytes load : List ℕ) (c : Command) → x.what ≡ move.Deliver bytes → x.did ≡ takes c load → is_data c ≡ true → command_in bytes ≡ Some c → (frame_of (receives s) bytes).load ≡ load
       → state_of s (x ∷ e) ≡ state.Data → Takings s e x
 
-master-data-phase : (ms : MasterSettings) (e : List Deed) (c : Command) → is_data c ≡ true → phase_of_frame (master_answer ms e c) ≡ state.Data
-master-data-phase ms e command.Reset d = cc
-master-data-phase ms e command.Session d = cc
-master-data-phase ms e command.Connection d = cc
-master-data-phase ms e command.Parameter d = cc
-master-data-phase ms e command.FailSafeData d = data_phase (OfMaster ms) e
-master-data-phase ms e command.ProcessData d = data_phase (OfMaster ms) e
+takings-by : (s : Setup) (e : List Deed) (bytes load : List ℕ) (c : Command) (f : List ℕ) (some : Bool) → Taking e bytes load s c f → is_data c ≡ some → Takings s e (deed (move.Deliver bytes) (takes c load) f)
+takings-by s e bytes load c f true taking d =
+    let x = (exchange_of e bytes load s c f taking (λ k. let q : is_data command.Reset ≡ true = ap is_data (sym k) ∙ d in cc)).2 in
+    SomeData bytes load c refl refl d (head_is (receives s) bytes c x.valid.is_read.command_is) x.valid.load_is (data_after e bytes load s c f taking d)
+takings-by s e bytes load c f false taking d = NoData (simp d)
 
-data-state-next : (s : Setup) (e : List Deed) (bytes load : List ℕ) (c : Command) → c ≢ command.Reset → is_data c ≡ true → state_of s (deed (move.Deliver bytes) (takes c load) (answer_to s e bytes c load) ∷ e) ≡ state.Data
-data-state-next (OfMaster ms) e bytes load c n d =
-    let before : List Deed = begun (move.Deliver bytes) (takes c load) ∷ e in
-    ap phase_sent (sent_more (deed (move.Deliver bytes) (takes c load) (answer_to (OfMaster ms) e bytes c load)) e (master_frame ms before c)) ∙ master-data-phase ms before c d
-data-state-next (OfSlave ss) e bytes load c n d =
-    let before : List Deed = begun (move.Deliver bytes) (takes c load) ∷ e in
-    let it : IsInSession (answer_to (OfSlave ss) e bytes c load) = slave_frame ss before c load (not_reset c n) in
-    state_next ss e bytes load (answer_to (OfSlave ss) e bytes c load) c n it.in_session ∙ data_state c d
-
-takings-by : (s : Setup) (e : List Deed) (bytes load : List ℕ) (c : Command) (some : Bool) → c ≢ command.Reset → Accepted s e (frame_of (receives s) bytes) c load → is_data c ≡ some
-    → Takings s e (deed (move.Deliver bytes) (takes c load) (answer_to s e bytes c load))
-takings-by s e bytes load c true n a d = SomeData bytes load c refl refl d (head_is (receives s) bytes c a.command_is) a.load_is (data-state-next s e bytes load c n d)
-takings-by s e bytes load c false n a d = NoData (simp d)
-
-takings : (s : Setup) (e : List Deed) (m : Move) (d : Did) (f : List ℕ) → Kind s e m d f → Takings s e (deed m d f)
-takings s e m d f (Drops bytes passed because) = NoData refl
-takings s e m d f (Turns _ setting) = NoData refl
-takings s e m d f (Rests slave now) = NoData refl
-takings s e m d f (Ages young) = NoData refl
-takings s e m d f (Resets _ passed because) = NoData refl
-takings s e m d f (Again master now) = NoData refl
-takings s e m d f (Rejoins bytes load slave now) = NoData refl
-takings s e m d f (Starts bytes load master now) = NoData refl
-takings s e m d f (Takes bytes load c n a) = takings-by s e bytes load c (is_data c) n a refl
-
-next-takings : (s : Setup) (x : Entry) (e : List Deed) → IsNextEntry s x e → Takings s e (deed_in x)
-next-takings s x e next =
-    let d : Deed = step s e x.what in
-    subst (λ (y : Deed). Takings s e y) (sym (next_deed s x e next)) (takings s e d.what d.did d.sent (kind s e x.what))
+takings : (s : Setup) (e : List Deed) (m : Move) (d : Did) (f : List ℕ) → Reaction s e m d f → Takings s e (deed m d f)
+takings s e m d f (Answers bytes load c answer taking) = takings-by s e bytes load c answer (is_data c) taking refl
+takings s e m d f _ = NoData refl
 
 -- an end in Data tells the terms of the master's settings
 told-in-data : (ms : MasterSettings) (ss : SlaveSettings) (which : End) (x : Entry) (w : List Entry) → SameLengths ms ss → IsWorld ms ss (x ∷ w) → Related ms ss (x ∷ w) → x.end ≡ which → state_of (setup_of ms ss which) (deed_in x ∷ deeds which w) ≡ state.Data
@@ -188,7 +159,7 @@ pub takes_awaited : (ms : MasterSettings) (ss : SlaveSettings) (w : List Entry) 
 takes_awaited ms ss [] lens h n = tt
 takes_awaited ms ss (x ∷ w) lens h n =
     let o : NoneOther x w = none_other x w n in
-    (taken-head ms ss x w lens h n (next-takings (setup_of ms ss x.end) x (deeds x.end w) h.0), takes_awaited ms ss w lens h.1 o.before)
+    (taken-head ms ss x w lens h n (takings (setup_of ms ss x.end) (deeds x.end w) x.what x.did x.sent (entry_reacted ms ss x w h)), takes_awaited ms ss w lens h.1 o.before)
 
 -- a world without another entry is fair
 pub fair_world : (ms : MasterSettings) (ss : SlaveSettings) (w : List Entry) → SameLengths ms ss → IsWorld ms ss w → NoOther w → Fair ms.lengths w

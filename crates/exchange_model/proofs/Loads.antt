@@ -14,16 +14,16 @@ use Rattle.param_load.specs.declared.slave_settings.SlaveSettings.{SlaveSettings
 use Rattle.end_model.specs.Setup.{Setup, OfMaster, OfSlave, sends}
 use Rattle.end_model.specs.Deed.{Deed, is_empty}
 use Rattle.end_model.specs.Readiness.{offer, offer_after, held, held_after}
-use Rattle.end_model.specs.Step.{takes, begun, step, IsRun}
-use Rattle.end_model.proofs.DeedKinds.{Kind, Drops, Turns, Rests, Ages, Resets, Again, Rejoins, Starts, Takes, kind}
+use Rattle.end_model.specs.Step.{takes, begun, IsRun}
+use Rattle.end_model.specs.Reactions.{Taking, Reaction, Answers}
+use Rattle.end_model.proofs.Taken.{answer_is}
 use Rattle.exchange_model.specs.Ends.{same_end, of_end}
-use Rattle.exchange_model.specs.World.{setup_of, deed_in, deeds, IsNextEntry, IsWorld}
+use Rattle.exchange_model.specs.World.{setup_of, deed_in, deeds, IsWorld}
 use Rattle.exchange_model.specs.Items.{put_after, last_put, is_held, load_put, load_of, Item, item_of, items_of, items}
 use Rattle.fsoe_base.specs.Data.{is_data}
 use Rattle.end_model.specs.Phases.{is_data_if, is_data_frame}
 use Rattle.exchange_model.specs.Fair.{frame_with, frame_if}
-use Rattle.exchange_model.proofs.Projection.{same, next_deed}
-use Rattle.exchange_model.proofs.Shown.{deeds_are_run}
+use Rattle.exchange_model.proofs.Projection.{same, deeds_are_run, entry_reacted}
 use Rattle.exchange_model.proofs.Framed.{command_in, IsFrame, command_framed, IsData, Zeros, Offers, offer_long, SlaveSends, Echoes, Gives, slave_sends, MasterSends, Begins, GoesOn, Connects, MoreConnection, Sets, MoreParameter, Opens, Exchanges, master_sends}
 
 -- an item of data is of the frame that its load makes
@@ -112,37 +112,26 @@ slave-sending : (ss : SlaveSettings) (e : List Deed) (bytes : List ℕ) (d : Did
 slave-sending ss e bytes d c f (Echoes load x g) = plain _ e _ c load f x g
 slave-sending ss e bytes d c f (Gives x g) = OfData (before-it (OfSlave ss) e bytes f d g)
 
-sending : (s : Setup) (e : List Deed) (m : Move) (d : Did) (f : List ℕ) → IsRun s e → Kind s e m d f → Sending s e f
-sending s e m d f r (Drops bytes passed because) = Plain refl
-sending s e m d f r (Turns _ setting) = Plain refl
-sending s e m d f r (Rests slave now) = Plain refl
-sending s e m d f r (Ages young) = Plain refl
-sending s e m d f r (Resets _ passed because) = Plain refl
-sending s e m d f r (Again master now) = Plain refl
-sending s e m d f r (Rejoins bytes load slave now) = Plain refl
-sending (OfMaster ms) e m d f r (Starts bytes load master now) =
-    master-sending ms e bytes (takes command.Reset load) command.Reset f (master_sends ms (begun (move.Deliver bytes) (takes command.Reset load) ∷ e) command.Reset (offer_long (OfMaster ms) e r))
-sending (OfSlave ss) e m d f r (Starts bytes load master now) = absurd master
-sending (OfMaster ms) e m d f r (Takes bytes load c n a) =
-    master-sending ms e bytes (takes c load) c f (master_sends ms (begun (move.Deliver bytes) (takes c load) ∷ e) c (offer_long (OfMaster ms) e r))
-sending (OfSlave ss) e m d f r (Takes bytes load c n a) =
-    slave-sending ss e bytes (takes c load) c f (slave_sends ss (begun (move.Deliver bytes) (takes c load) ∷ e) c load (offer_long (OfSlave ss) e r) n)
+answering : (s : Setup) (e : List Deed) (bytes load : List ℕ) (c : Command) (f : List ℕ) → IsRun s e → Taking e bytes load s c f → Sending s e f
+answering (OfMaster ms) e bytes load c f r taking = master-sending ms e bytes (takes c load) c f (master_sends ms e bytes load c f r taking)
+answering (OfSlave ss) e bytes load command.Reset f r taking = Plain (ap (λ (f : List ℕ). is_data_if (command_in f)) (answer_is e bytes load (OfSlave ss) command.Reset f taking))
+answering (OfSlave ss) e bytes load c f r taking = slave-sending ss e bytes (takes c load) c f (slave_sends ss e bytes load c f r taking (λ k. cc))
+
+sending : (s : Setup) (e : List Deed) (m : Move) (d : Did) (f : List ℕ) → IsRun s e → Reaction s e m d f → Sending s e f
+sending s e m d f r (Answers bytes load c answer taking) = answering s e bytes load c answer r taking
+sending s e m d f r _ = Plain refl
 
 carries-by : (s : Setup) (which : End) (w : List Entry) (f : List ℕ) → Sending s (deeds which w) f → (c : Command) → command_in f ≡ Some c → is_data c ≡ true
     → frame_if (sends s) (load_of f (of_end which w)) ≡ Some (record { command = c; load = (frame_of (sends s) f).load })
 carries-by s which w f (Plain h) c k d = absurd (let q : false ≡ true = sym h ∙ (ap is_data_if k ∙ d) in cc)
 carries-by s which w f (OfData g) c k d = data-carries s which w f c g k
 
-next-sending : (s : Setup) (x : Entry) (e : List Deed) → IsRun s e → IsNextEntry s x e → Sending s e x.sent
-next-sending s x e r next =
-    let d : Deed = step s e x.what in
-    subst (λ (y : Deed). Sending s e y.sent) (sym (next_deed s x e next)) (sending s e d.what d.did d.sent r (kind s e x.what))
-
-item-carries : (ms : MasterSettings) (ss : SlaveSettings) (which : End) (x : Entry) (w : List Entry) → x.end ≡ which → IsNextEntry (setup_of ms ss x.end) x (deeds x.end w) → IsWorld ms ss w
-    → Carries (sends (setup_of ms ss which)) (item_of x w (items w))
-item-carries ms ss which x w h next so_far =
+item-carries : (ms : MasterSettings) (ss : SlaveSettings) (which : End) (x : Entry) (w : List Entry) → x.end ≡ which → IsWorld ms ss (x ∷ w) → Carries (sends (setup_of ms ss which)) (item_of x w (items w))
+item-carries ms ss which x w h so_far =
+    let s : Setup = setup_of ms ss x.end in
+    let e : List Deed = deeds x.end w in
     subst (λ (it : End). Carries (sends (setup_of ms ss it)) (item_of x w (items w))) h
-    (record { carries = carries-by (setup_of ms ss x.end) x.end w x.sent (next-sending (setup_of ms ss x.end) x (deeds x.end w) (deeds_are_run ms ss x.end w so_far) next) })
+    (record { carries = carries-by s x.end w x.sent (sending s e x.what x.did x.sent (deeds_are_run ms ss x.end w so_far.1) (entry_reacted ms ss x w so_far)) })
 
 -- a property of items that holds of each new one holds of all
 pub all_items : (P : Item → Type 0) (which : End) (x : Entry) (w : List Entry) (mine none : Bool) → same_end which x.end ≡ mine → (mine ≡ true → is_empty x.sent ≡ false → P (item_of x w (items w)))
@@ -155,4 +144,4 @@ all_items P which x w false false h new k all = simp h all
 pub all_carry : (ms : MasterSettings) (ss : SlaveSettings) (which : End) (w : List Entry) → IsWorld ms ss w → AllByRecursion (Carries (sends (setup_of ms ss which))) (items_of which (items w))
 all_carry ms ss which [] h = tt
 all_carry ms ss which (x ∷ w) h =
-    all_items (Carries (sends (setup_of ms ss which))) which x w (same_end which x.end) (is_empty x.sent) refl (λ mine sent. item-carries ms ss which x w (same which x.end mine) h.0 h.1) refl (all_carry ms ss which w h.1)
+    all_items (Carries (sends (setup_of ms ss which))) which x w (same_end which x.end) (is_empty x.sent) refl (λ mine sent. item-carries ms ss which x w (same which x.end mine) h) refl (all_carry ms ss which w h.1)

@@ -14,15 +14,13 @@ use Rattle.param_load.specs.declared.slave_settings.SlaveSettings.{SlaveSettings
 use Rattle.end_model.specs.Setup.{Setup, OfMaster, OfSlave}
 use Rattle.end_model.specs.Phases.{has_command}
 use Rattle.end_model.specs.Deed.{Deed, is_empty}
-use Rattle.end_model.specs.Step.{step, takes, begun}
-use Rattle.end_model.proofs.DeedKinds.{Kind, Drops, Turns, Rests, Ages, Resets, Again, Rejoins, Starts, Takes, answer_to, kind}
-use Rattle.end_model.proofs.Heads.{IsInSession, master_frame, slave_frame}
+use Rattle.end_model.specs.Reactions.{Reaction, Answers}
+use Rattle.end_model.proofs.SoundRuns.{answer_sent}
 use Rattle.exchange_model.specs.Ends.{same_end, peer}
-use Rattle.exchange_model.specs.World.{setup_of, deeds, IsNextEntry, IsWorld}
+use Rattle.exchange_model.specs.World.{setup_of, deeds, IsWorld}
 use Rattle.exchange_model.specs.Items.{Item, item_of, items_of, newest, answers_to, newest_answer, answer_among, awaited, items}
 use Rattle.exchange_model.specs.Fair.{data_taken, with_number, numbers_taken}
-use Rattle.exchange_model.proofs.Projection.{next_deed}
-use Rattle.exchange_model.proofs.Uploads.{not_reset}
+use Rattle.exchange_model.proofs.Projection.{entry_reacted}
 use Rattle.exchange_model.proofs.Numbered.{Numbered, Grown, Same, More, next_number, grown}
 
 -- what the item with this number answers
@@ -57,7 +55,7 @@ all-later count more [] theirs h all = tt
 all-later count more (n ∷ ns) theirs h all = (used-later count more n theirs h all.0, all-later count more ns theirs h all.1)
 
 -- an awaited item answers the newest item of the end that awaits it
-record Answers (k : ℕ) (theirs : List Item) (j : Item) : Type 0 where
+record AnswersNewest (k : ℕ) (theirs : List Item) (j : Item) : Type 0 where
   pub within : j.number ≤ length theirs
   pub answered : answer_of j.number theirs ≡ Some k
 
@@ -73,28 +71,28 @@ itself : (n : ℕ) → (n == n) ≡ true
 itself n = grind (arith, nat_tests)
 
 answer-head : (k : ℕ) (i : Item) (theirs : List Item) (j : Item) (b : Bool) → (not (has_command command.Reset i.bytes) && answers_to k i.answers) ≡ b
-    → Numbered (i ∷ theirs) → (newest_answer k theirs ≡ Some j → Answers k theirs j) → (if b then Some i else newest_answer k theirs) ≡ Some j → Answers k (i ∷ theirs) j
+    → Numbered (i ∷ theirs) → (newest_answer k theirs ≡ Some j → AnswersNewest k theirs j) → (if b then Some i else newest_answer k theirs) ≡ Some j → AnswersNewest k (i ∷ theirs) j
 answer-head k i theirs j true is numbered rest h =
     let it : i ≡ j = cc in
     let same_number : (i.number == i.number) ≡ true = itself i.number in
     let number : i.number ≡ suc (length theirs) = numbered.0 in
-    subst (Answers k (i ∷ theirs)) it (record {
+    subst (AnswersNewest k (i ∷ theirs)) it (record {
       within = omega arith;
       answered = simp same_number (is-answer k i.answers (right (not (has_command command.Reset i.bytes)) (answers_to k i.answers) is));
     })
 answer-head k i theirs j false is numbered rest h =
-    let older_one : Answers k theirs j = rest h in
+    let older_one : AnswersNewest k theirs j = rest h in
     let other : (i.number == j.number) ≡ false = older j.number i.number theirs numbered.0 older_one.within in
     record { within = let l : j.number ≤ length theirs = older_one.within in omega arith; answered = simp other older_one.answered }
 
-answers : (k : ℕ) (theirs : List Item) (j : Item) → Numbered theirs → newest_answer k theirs ≡ Some j → Answers k theirs j
+answers : (k : ℕ) (theirs : List Item) (j : Item) → Numbered theirs → newest_answer k theirs ≡ Some j → AnswersNewest k theirs j
 answers k [] j numbered h = cc
 answers k (i ∷ theirs) j numbered h =
     answer-head k i theirs j (not (has_command command.Reset i.bytes) && answers_to k i.answers) refl numbered (answers k theirs j numbered.1) h
 
-awaits : (mine theirs : List Item) (j : Item) → Numbered mine → Numbered theirs → answer_among theirs (newest mine) ≡ Some j → Answers (length mine) theirs j
+awaits : (mine theirs : List Item) (j : Item) → Numbered mine → Numbered theirs → answer_among theirs (newest mine) ≡ Some j → AnswersNewest (length mine) theirs j
 awaits [] theirs j numbered others h = cc
-awaits (i ∷ mine) theirs j numbered others h = subst (λ (k : ℕ). Answers k theirs j) numbered.0 (answers i.number theirs j others h)
+awaits (i ∷ mine) theirs j numbered others h = subst (λ (k : ℕ). AnswersNewest k theirs j) numbered.0 (answers i.number theirs j others h)
 
 -- numbers taken before are older
 apart : (count n : ℕ) (ns : List ℕ) (theirs : List Item) → answer_of n theirs ≡ Some count → AllByRecursion (Used count theirs) ns → AllByRecursion (λ m. nat_eq n m ≡ false) ns
@@ -134,7 +132,7 @@ once-taken : (mine theirs : List Item) (ns : List ℕ) (j i : Item) → answer_a
     → Once (i ∷ mine) theirs (j.number ∷ ns)
 unfolding IsDistinct
 once-taken mine theirs ns j i h next o =
-    let a : Answers (length mine) theirs j = awaits mine theirs j o.numbered o.others h in
+    let a : AnswersNewest (length mine) theirs j = awaits mine theirs j o.numbered o.others h in
     record {
       numbered = (next, o.numbered);
       others = o.others;
@@ -145,43 +143,10 @@ once-taken mine theirs ns j i h next o =
       differ = (apart (length mine) j.number ns theirs a.answered o.used, o.differ);
     }
 
--- an entry that took a frame sent one
-abbrev IsSending : Entry → Type 0
-IsSending x = is_some x.did.took ≡ true → is_empty x.sent ≡ false
-
-master-sends : (ms : MasterSettings) (e : List Deed) (m : Move) (d : Did) (f : List ℕ) → Kind (OfMaster ms) e m d f → is_some d.took ≡ true → is_empty f ≡ false
-master-sends ms e m d f (Drops bytes passed because) h = cc
-master-sends ms e m d f (Turns _ setting) h = cc
-master-sends ms e m d f (Rests slave now) h = cc
-master-sends ms e m d f (Ages young) h = cc
-master-sends ms e m d f (Resets _ passed because) h = cc
-master-sends ms e m d f (Again master now) h = cc
-master-sends ms e m d f (Rejoins bytes load slave now) h = absurd slave
-master-sends ms e m d f (Starts bytes load master now) h = let it : IsInSession (answer_to (OfMaster ms) e bytes command.Reset load) = master_frame ms (begun (move.Deliver bytes) (takes command.Reset load) ∷ e) command.Reset in it.sent
-master-sends ms e m d f (Takes bytes load c other accepted) h = let it : IsInSession (answer_to (OfMaster ms) e bytes c load) = master_frame ms (begun (move.Deliver bytes) (takes c load) ∷ e) c in it.sent
-
-slave-sends : (ss : SlaveSettings) (e : List Deed) (m : Move) (d : Did) (f : List ℕ) → Kind (OfSlave ss) e m d f → is_some d.took ≡ true → is_empty f ≡ false
-slave-sends ss e m d f (Drops bytes passed because) h = cc
-slave-sends ss e m d f (Turns _ setting) h = cc
-slave-sends ss e m d f (Rests slave now) h = cc
-slave-sends ss e m d f (Ages young) h = cc
-slave-sends ss e m d f (Resets _ passed because) h = cc
-slave-sends ss e m d f (Again master now) h = absurd master
-slave-sends ss e m d f (Rejoins bytes load slave now) h = refl
-slave-sends ss e m d f (Starts bytes load master now) h = absurd master
-slave-sends ss e m d f (Takes bytes load c other accepted) h =
-    let it : IsInSession (answer_to (OfSlave ss) e bytes c load) = slave_frame ss (begun (move.Deliver bytes) (takes c load) ∷ e) c load (not_reset c other) in it.sent
-
-sends : (s : Setup) (e : List Deed) (m : Move) (d : Did) (f : List ℕ) → Kind s e m d f → is_some d.took ≡ true → is_empty f ≡ false
-sends (OfMaster ms) e m d f k h = master-sends ms e m d f k h
-sends (OfSlave ss) e m d f k h = slave-sends ss e m d f k h
-
-step-sends : (s : Setup) (e : List Deed) (m : Move) → is_some (step s e m).did.took ≡ true → is_empty (step s e m).sent ≡ false
-step-sends s e m h = let d : Deed = step s e m in sends s e d.what d.did d.sent (kind s e m) h
-
-is_sending : (s : Setup) (x : Entry) (e : List Deed) → IsNextEntry s x e → IsSending x
-is_sending s x e next =
-    subst (λ (d : Deed). is_some d.did.took ≡ true → is_empty d.sent ≡ false) (sym (next_deed s x e next)) (step-sends s e x.what)
+-- a deed that took a frame sent one
+sends : (s : Setup) (e : List Deed) (m : Move) (d : Did) (f : List ℕ) → Reaction s e m d f → is_some d.took ≡ true → is_empty f ≡ false
+sends s e m d f (Answers bytes load c answer taking) h = answer_sent e bytes load s c answer taking
+sends s e m d f _ h = cc
 
 took-some : (t : Option Took) → is_some (data_taken t) ≡ true → is_some t ≡ true
 took-some None h = cc
@@ -202,7 +167,7 @@ once-awaited which x w ns (Some j) h k l so_far =
     once-theirs _ theirs _ (j.number ∷ ns) (grown (peer which) x w)
     (subst (λ (m : List Item). Once m theirs (j.number ∷ ns)) (sym (mine-grows which x w k l)) (once-taken mine theirs ns j i h (next_number which x w k) so_far))
 
-once-next : (which : End) (x : Entry) (w : List Entry) (ns : List ℕ) (mine takes_some : Bool) → same_end which x.end ≡ mine → is_some (data_taken x.did.took) ≡ takes_some → IsSending x
+once-next : (which : End) (x : Entry) (w : List Entry) (ns : List ℕ) (mine takes_some : Bool) → same_end which x.end ≡ mine → is_some (data_taken x.did.took) ≡ takes_some → (is_some x.did.took ≡ true → is_empty x.sent ≡ false)
     → Once (items_of which (items w)) (items_of (peer which) (items w)) ns
     → Once (items_of which (items (x ∷ w))) (items_of (peer which) (items (x ∷ w))) (if mine && takes_some then with_number (awaited (items w) which) ns else ns)
 once-next which x w ns true true h k sending so_far = once-awaited which x w ns (awaited (items w) which) refl h (sending (took-some x.did.took k)) so_far
@@ -214,7 +179,7 @@ unfolding IsDistinct
 once ms ss which [] h = record { numbered = tt; others = tt; used = tt; differ = tt }
 once ms ss which (x ∷ w) h =
     once-next which x w (numbers_taken which w) (same_end which x.end) (is_some (data_taken x.did.took)) refl refl
-    (is_sending (setup_of ms ss x.end) x (deeds x.end w) h.0) (once ms ss which w h.1)
+    (sends (setup_of ms ss x.end) (deeds x.end w) x.what x.did x.sent (entry_reacted ms ss x w h)) (once ms ss which w h.1)
 
 -- no awaited item gives data twice
 pub at_most_once : (ms : MasterSettings) (ss : SlaveSettings) (which : End) (w : List Entry) → IsWorld ms ss w → IsDistinct nat_eq (numbers_taken which w)

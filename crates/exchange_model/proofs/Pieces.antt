@@ -19,10 +19,13 @@ use Rattle.end_model.specs.Phases.{phase_of, phase_of_frame}
 use Rattle.end_model.specs.Deed.{Deed, is_empty}
 use Rattle.end_model.specs.Chain.{since, own}
 use Rattle.end_model.specs.Payloads.{piece, count_in}
-use Rattle.end_model.specs.Readiness.{phase_sent, master_allows}
-use Rattle.end_model.specs.Step.{takes, begun, step, IsRun}
-use Rattle.end_model.proofs.DeedKinds.{Kind, Drops, Turns, Rests, Ages, Resets, Again, Rejoins, Starts, Takes, answer_to, kind}
-use Rattle.end_model.proofs.Heads.{IsInSession, master_frame}
+use Rattle.end_model.specs.Readiness.{phase_sent}
+use Rattle.end_model.specs.Step.{takes, IsRun}
+use Rattle.end_model.specs.Reactions.{received, answered, Taking, Reaction, Expires, SendsAgain, ResetsItself, Refuses, PeerResets, Answers}
+use Rattle.end_model.proofs.Heads.{IsInSession}
+use Rattle.end_model.proofs.Reactions.{phase_of_data}
+use Rattle.end_model.proofs.SoundRuns.{reacted}
+use Rattle.end_model.proofs.Taken.{master_answers, master_phase}
 use Rattle.fsoe_base.specs.Data.{is_data}
 use Rattle.exchange_model.proofs.Joint.{is_guarded_in, session, carried_by}
 use Rattle.exchange_model.proofs.Framed.{IsFrame, IsData, Zeros, Offers, phase_framed, piece_fits, offer_long, connection_of, parameters_of, IsPiece, pieces_of, MasterSends, Begins, GoesOn, Connects, MoreConnection, Sets, MoreParameter, Opens, Exchanges, master_sends}
@@ -109,43 +112,6 @@ pub data_phase : (s : Setup) (e : List Deed) (f : List ℕ) → IsData s e f →
 data_phase s e f (Zeros h g) = phase_framed _ command.FailSafeData _ f g
 data_phase s e f (Offers h g) = phase_framed _ command.ProcessData _ f g
 
--- the phase in which a master allows a command
-pub allowed_in : (now : State) (c : Command) → master_allows now c ≡ true → c ≢ command.Reset → now ≡ phase_of c
-allowed_in now command.Reset h n = absurd (n refl)
-allowed_in state.Reset command.Session h n = cc
-allowed_in state.Session command.Session h n = refl
-allowed_in state.Connection command.Session h n = cc
-allowed_in state.Parameter command.Session h n = cc
-allowed_in state.Data command.Session h n = cc
-allowed_in state.Reset command.Connection h n = cc
-allowed_in state.Session command.Connection h n = cc
-allowed_in state.Connection command.Connection h n = refl
-allowed_in state.Parameter command.Connection h n = cc
-allowed_in state.Data command.Connection h n = cc
-allowed_in state.Reset command.Parameter h n = cc
-allowed_in state.Session command.Parameter h n = cc
-allowed_in state.Connection command.Parameter h n = cc
-allowed_in state.Parameter command.Parameter h n = refl
-allowed_in state.Data command.Parameter h n = cc
-allowed_in state.Reset command.ProcessData h n = cc
-allowed_in state.Session command.ProcessData h n = cc
-allowed_in state.Connection command.ProcessData h n = cc
-allowed_in state.Parameter command.ProcessData h n = cc
-allowed_in state.Data command.ProcessData h n = refl
-allowed_in state.Reset command.FailSafeData h n = cc
-allowed_in state.Session command.FailSafeData h n = cc
-allowed_in state.Connection command.FailSafeData h n = cc
-allowed_in state.Parameter command.FailSafeData h n = cc
-allowed_in state.Data command.FailSafeData h n = refl
-
-pub data_state : (c : Command) → is_data c ≡ true → phase_of c ≡ state.Data
-data_state command.Reset h = cc
-data_state command.Session h = cc
-data_state command.Connection h = cc
-data_state command.Parameter h = cc
-data_state command.ProcessData h = refl
-data_state command.FailSafeData h = refl
-
 pub order_at : (now now' : State) (k n k' n' : ℕ) → now ≡ now' → InOrder now k n k' n' → InOrder now' k n k' n'
 order_at now now' k n k' n' h o = subst (λ (x : State). InOrder x k n k' n') h o
 
@@ -163,7 +129,7 @@ sent-next ms e command.Connection f (Sets _ d g) now h =
 sent-next ms e command.Parameter f (MoreParameter _ g) now h = sent-parameter ms f (own (since e)) g (order_at _ state.Parameter _ _ _ _ now h.order) h
 sent-next ms e command.Parameter f (Opens _ d g) now h = sent-data ms f (own (since e)) (data_phase (OfMaster ms) e f g) (order_at _ state.Parameter _ _ _ _ now h.order) d h
 sent-next ms e c f (Exchanges _ _ d g) now h =
-    let z = order_at _ state.Data _ _ _ _ (now ∙ data_state c d) h.order in
+    let z = order_at _ state.Data _ _ _ _ (now ∙ phase_of_data c d) h.order in
     sent-data ms f (own (since e)) (data_phase (OfMaster ms) e f g) z.0 z.1 h
 
 abbrev pub deed : Move → Did → List ℕ → Deed
@@ -173,31 +139,25 @@ deed m d f = record { what = m; did = d; sent = f }
 pub sent_more : (x : Deed) (e : List Deed) → IsInSession x.sent → own (since (x ∷ e)) ≡ x.sent ∷ own (since e)
 sent_more x e h = let a = h.in_session in let b = h.sent in simp (a, b)
 
-sent-taken : (ms : MasterSettings) (e : List Deed) (bytes load : List ℕ) (c : Command) → IsRun (OfMaster ms) e → phase_sent (own (since e)) ≡ phase_of c → Sent ms (own (since e))
-    → Sent ms (own (since (deed (move.Deliver bytes) (takes c load) (answer_to (OfMaster ms) e bytes c load) ∷ e)))
-sent-taken ms e bytes load c r now h =
-    let before : List Deed = begun (move.Deliver bytes) (takes c load) ∷ e in
-    let f : List ℕ = answer_to (OfMaster ms) e bytes c load in
-    let sends_it : MasterSends ms before c f = master_sends ms before c (offer_long (OfMaster ms) e r) in
-    subst (Sent ms) (sym (sent_more (deed (move.Deliver bytes) (takes c load) f) e (master_frame ms before c))) (sent-next ms before c f sends_it now h)
+sent-taken : (ms : MasterSettings) (e : List Deed) (bytes load : List ℕ) (c : Command) (f : List ℕ) → IsRun (OfMaster ms) e → Taking e bytes load (OfMaster ms) c f → Sent ms (own (since e))
+    → Sent ms (own (since (answered bytes c load f e)))
+sent-taken ms e bytes load c f r taking h =
+    subst (Sent ms) (sym (sent_more (deed (move.Deliver bytes) (takes c load) f) e (master_answers e bytes load ms c f taking)))
+    (sent-next ms (received bytes c load e) c f (master_sends ms e bytes load c f r taking) (master_phase e bytes load ms c f taking) h)
 
-sent-kept : (ms : MasterSettings) (e : List Deed) (m : Move) (d : Did) (f : List ℕ) → IsRun (OfMaster ms) e → Sent ms (own (since e)) → Kind (OfMaster ms) e m d f → Sent ms (own (since (deed m d f ∷ e)))
-sent-kept ms e m d f r h (Drops bytes passed because) = h
-sent-kept ms e m d f r h (Turns _ setting) = h
-sent-kept ms e m d f r h (Rests slave now) = h
-sent-kept ms e m d f r h (Ages young) = h
-sent-kept ms e m d f r h (Resets _ passed because) = none_sent ms
-sent-kept ms e m d f r h (Again master now) = none_sent ms
-sent-kept ms e m d f r h (Rejoins bytes load slave now) = absurd slave
-sent-kept ms e m d f r h (Starts bytes load master now) = sent-taken ms e bytes load command.Reset r now h
-sent-kept ms e m d f r h (Takes bytes load c n a) = sent-taken ms e bytes load c r (allowed_in _ c a.is_allowed n) h
+sent-kept : (ms : MasterSettings) (e : List Deed) (m : Move) (d : Did) (f : List ℕ) → IsRun (OfMaster ms) e → Sent ms (own (since e)) → Reaction (OfMaster ms) e m d f → Sent ms (own (since (deed m d f ∷ e)))
+sent-kept ms e m d f r h (Answers bytes load c answer taking) = sent-taken ms e bytes load c answer r taking h
+sent-kept ms e m d f r h (Expires now old) = none_sent ms
+sent-kept ms e m d f r h (SendsAgain master now old) = none_sent ms
+sent-kept ms e m d f r h ResetsItself = none_sent ms
+sent-kept ms e m d f r h (Refuses bytes passed found now fails test) = none_sent ms
+sent-kept ms e m d f r h (PeerResets bytes load now frame) = none_sent ms
+sent-kept ms e m d f r h _ = h
 
 -- in every run of a master what it sent in its session are the pieces of its payloads, in order
 pub pieces_sent : (ms : MasterSettings) (e : List Deed) → IsRun (OfMaster ms) e → Sent ms (own (since e))
 pieces_sent ms [] r = none_sent ms
-pieces_sent ms (x ∷ e) r =
-    let d : Deed = step (OfMaster ms) e x.what in
-    subst (λ (x : Deed). Sent ms (own (since (x ∷ e)))) (sym r.0.stepped) (sent-kept ms e d.what d.did d.sent r.1 (pieces_sent ms e r.1) (kind (OfMaster ms) e x.what))
+pieces_sent ms (x ∷ e) r = sent-kept ms e x.what x.did x.sent r.1 (pieces_sent ms e r.1) (reacted (OfMaster ms) x e r)
 
 session-own-by : (x : Deed) (e : List Deed) (f : List ℕ) → x.sent ≡ f → own (since e) ≡ session (own e) → own (since (x ∷ e)) ≡ session (own (x ∷ e))
 session-own-by x e [] k h = simp k h

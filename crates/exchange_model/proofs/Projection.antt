@@ -11,9 +11,11 @@ use Rattle.schedule_file.specs.declared.event.Event.{Event}
 use Rattle.schedule_file.specs.declared.event.Event.TheVariants as event
 use Rattle.end_model.specs.Setup.{Setup}
 use Rattle.end_model.specs.Deed.{Deed}
-use Rattle.end_model.specs.Step.{step, run, IsProper}
+use Rattle.end_model.specs.Step.{step, run, IsProper, IsNext, IsRun}
+use Rattle.end_model.specs.Reactions.{IsReaction}
 use Rattle.end_model.specs.Entries.{entry_of, entries}
 use Rattle.end_model.proofs.Runs.{run_append}
+use Rattle.end_model.proofs.SoundRuns.{reacted}
 use Rattle.exchange_model.specs.Ends.{same_end, peer, of_end}
 use Rattle.exchange_model.specs.World.{setup_of, deed_in, deeds, frames_of, moves, end_of_event, back_th, delivery, altered_delivery, move_of, entry_on, entry_at, going_on, world_after, world, IsProperEvent, IsNextEntry, IsWorld}
 
@@ -68,6 +70,26 @@ told ms ss which (x ∷ w) so_far = told_head ms ss which x w (same_end which x.
 pub projection : (ms : MasterSettings) (ss : SlaveSettings) (which : End) (w : List Entry) → IsWorld ms ss w
     → of_end which w ≡ entries (setup_of ms ss which) (run (setup_of ms ss which) (moves which w))
 projection ms ss which w so_far = told ms ss which w so_far ∙ ap (entries (setup_of ms ss which)) (own_run ms ss which w so_far)
+
+deeds_head : (ms : MasterSettings) (ss : SlaveSettings) (which : End) (x : Entry) (w : List Entry) (mine : Bool)
+    → IsNextEntry (setup_of ms ss x.end) x (deeds x.end w) → IsRun (setup_of ms ss which) (deeds which w) → same_end which x.end ≡ mine
+    → IsRun (setup_of ms ss which) (if mine then deed_in x ∷ deeds which w else deeds which w)
+deeds_head ms ss which x w false next before h = before
+deeds_head ms ss which x w true next before h =
+    (subst (λ (it : End). IsNext (setup_of ms ss it) (deed_in x) (deeds it w)) (same which x.end h) (record { proper = next.proper; stepped = next_deed (setup_of ms ss x.end) x (deeds x.end w) next }), before)
+
+-- the deeds of an end in a world are a run
+pub deeds_are_run : (ms : MasterSettings) (ss : SlaveSettings) (which : End) (w : List Entry) → IsWorld ms ss w → IsRun (setup_of ms ss which) (deeds which w)
+deeds_are_run ms ss which [] h = tt
+deeds_are_run ms ss which (x ∷ w) h = deeds_head ms ss which x w (same_end which x.end) h.0 (deeds_are_run ms ss which w h.1) refl
+
+-- the same of the deeds of an entry's end, with the entry's own
+pub next_run : (ms : MasterSettings) (ss : SlaveSettings) (x : Entry) (w : List Entry) → IsWorld ms ss (x ∷ w) → IsRun (setup_of ms ss x.end) (deed_in x ∷ deeds x.end w)
+next_run ms ss x w h = (record { proper = h.0.proper; stepped = next_deed (setup_of ms ss x.end) x (deeds x.end w) h.0 }, deeds_are_run ms ss x.end w h.1)
+
+-- each entry of a world is one of the reactions of its end
+pub entry_reacted : (ms : MasterSettings) (ss : SlaveSettings) (x : Entry) (w : List Entry) → IsWorld ms ss (x ∷ w) → IsReaction (setup_of ms ss x.end) (deeds x.end w) (deed_in x)
+entry_reacted ms ss x w h = reacted (setup_of ms ss x.end) (deed_in x) (deeds x.end w) (next_run ms ss x w h)
 
 -- an entry that follows, if there is one
 abbrev IsNextIfAny : MasterSettings → SlaveSettings → List Entry → Option Entry → Type 0

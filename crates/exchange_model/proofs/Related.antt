@@ -20,24 +20,26 @@ use Rattle.end_model.specs.Deed.{Deed, is_empty}
 use Rattle.end_model.specs.Chain.{since, own}
 use Rattle.end_model.specs.Payloads.{uploaded}
 use Rattle.end_model.specs.Readiness.{state_of, phase_sent, slave_allows}
-use Rattle.end_model.specs.Step.{takes, begun, step, IsRun}
+use Rattle.end_model.specs.Step.{takes, IsRun}
 use Rattle.end_model.specs.Entries.{entry_of}
-use Rattle.end_model.proofs.Accepted.{Accepted}
-use Rattle.end_model.proofs.DeedKinds.{Kind, Drops, Turns, Rests, Ages, Resets, Again, Rejoins, Starts, Takes, answer_to, kind}
-use Rattle.end_model.proofs.Heads.{IsInSession, master_frame, slave_frame}
-use Rattle.exchange_model.specs.World.{setup_of, deeds, SameLengths, IsNextEntry, IsWorld}
+use Rattle.end_model.specs.Reactions.{received, IsValid, IsReaction, Taking, Reaction, Expires, SendsAgain, ResetsItself, Refuses, PeerResets, Answers}
+use Rattle.end_model.proofs.Reactions.{phase_of_data}
+use Rattle.end_model.proofs.SoundRuns.{answer_sent}
+use Rattle.end_model.proofs.Taken.{exchange_of, answer_is, master_phase}
+use Rattle.end_model.proofs.Heads.{IsInSession}
+use Rattle.exchange_model.specs.World.{setup_of, deed_in, deeds, SameLengths, IsNextEntry, IsWorld}
 use Rattle.exchange_model.specs.Items.{Item, newest, items_of, items, item_of, number_if}
 use Rattle.exchange_model.specs.Other.{is_other, NoOther}
 use Rattle.fsoe_base.specs.Data.{is_data}
+use Rattle.exchange_model.proofs.Projection.{next_told, deeds_are_run, entry_reacted}
 use Rattle.exchange_model.proofs.Frames.{bytes_in, frames}
-use Rattle.exchange_model.proofs.Shown.{deeds_are_run}
 use Rattle.exchange_model.proofs.Numbered.{numbered}
 use Rattle.exchange_model.proofs.Awaited.{IsNewest, newest_is}
 use Rattle.exchange_model.proofs.Joint.{is_guarded_in, is_loading, session, carried, with_part, Placed, Joint, Before, Uploads}
 use Rattle.exchange_model.proofs.JointSteps.{master_adds, unguarded_placed, next_placed, first_placed, slave_before, slave_past, none_uploaded}
 use Rattle.exchange_model.proofs.Framed.{command_in, head_is, phase_by, phase_framed, IsFrame, offer_long, connection_of, parameters_of, SlaveSends, Echoes, Gives, slave_sends, MasterSends, Begins, GoesOn, Connects, MoreConnection, Sets, MoreParameter, Opens, Exchanges, master_sends}
-use Rattle.exchange_model.proofs.Pieces.{front, order_at, Sent, pieces_sent, session_own, deed, allowed_in, data_state, data_phase}
-use Rattle.exchange_model.proofs.Uploads.{uploads_next, state_next, not_reset}
+use Rattle.exchange_model.proofs.Pieces.{front, order_at, Sent, pieces_sent, session_own, deed, data_phase}
+use Rattle.exchange_model.proofs.Uploads.{uploads_next, state_next}
 use Rattle.exchange_model.proofs.Taking.{TakesItem, takes_item, answers_newest, data_guarded, NoneOther, none_other}
 
 -- what both ends' items say of one another in a world
@@ -129,51 +131,41 @@ answer-placed ms ss w bytes load f c g o head =
     let it : TakesItem w x bytes = takes_item w x bytes c load (record { what_is = refl; did_is = refl }) head g o in
     next_placed _ _ (items_of end_name.Slave (items w)) (items_of end_name.Master (items w)) (item_of x w (items w)) it.item it.guarded it.found it.answers
 
--- what the tests tell of a frame of a session that an end took
-abbrev AcceptedIn : Setup → List Deed → List ℕ → Command → List ℕ → Type 0
-AcceptedIn s e bytes c load = c ≢ command.Reset → Accepted s e (frame_of (receives s) bytes) c load
-
-head-in : (s : Setup) (e : List Deed) (bytes load : List ℕ) (c : Command) → Accepted s e (frame_of (receives s) bytes) c load → command_in bytes ≡ Some c
-head-in s e bytes load c a = head_is (receives s) bytes c a.command_is
+head-in : (s : Setup) (e : List Deed) (bytes load : List ℕ) (c : Command) → IsValid s e bytes c load → command_in bytes ≡ Some c
+head-in s e bytes load c v = head_is (receives s) bytes c v.is_read.command_is
 
 -- each item of a master that takes a frame has its place
 master-placed : (ms : MasterSettings) (ss : SlaveSettings) (w : List Entry) (bytes load : List ℕ) (c : Command) (f : List ℕ) (e : List Deed) → SameLengths ms ss → IsRun (OfMaster ms) (deeds end_name.Master w)
-    → AcceptedIn (OfMaster ms) (deeds end_name.Master w) bytes c load → is_other (items w) (of_master ms w (move.Deliver bytes) (takes c load) f) ≡ false
+    → state_of (OfMaster ms) (deeds end_name.Master w) ≡ phase_of c → (c ≢ command.Reset → command_in bytes ≡ Some c) → is_other (items w) (of_master ms w (move.Deliver bytes) (takes c load) f) ≡ false
     → MasterSends ms e c f → PlacedIn ss w (item_of (of_master ms w (move.Deliver bytes) (takes c load) f) w (items w))
-master-placed ms ss w bytes load command.Reset f e same r a o (Begins given _ g) = session-placed ms ss w bytes load command.Reset f given g refl
-master-placed ms ss w bytes load command.Session f e same r a o (GoesOn given _ g) = session-placed ms ss w bytes load command.Session f given g refl
-master-placed ms ss w bytes load command.Session f e same r a o (Connects _ g) =
-    let n : command.Session ≢ command.Reset = λ x. cc in
-    connection-placed ms ss w bytes load f same r (allowed_in _ command.Session (a n).is_allowed n) (head-in _ _ bytes load command.Session (a n))
-master-placed ms ss w bytes load command.Connection f e same r a o (MoreConnection _ g) = answer-placed ms ss w bytes load f command.Connection refl o (head-in _ _ bytes load command.Connection (a (λ x. cc)))
-master-placed ms ss w bytes load command.Connection f e same r a o (Sets _ d g) = answer-placed ms ss w bytes load f command.Connection refl o (head-in _ _ bytes load command.Connection (a (λ x. cc)))
-master-placed ms ss w bytes load command.Parameter f e same r a o (MoreParameter _ g) = answer-placed ms ss w bytes load f command.Parameter refl o (head-in _ _ bytes load command.Parameter (a (λ x. cc)))
-master-placed ms ss w bytes load command.Parameter f e same r a o (Opens _ d g) = answer-placed ms ss w bytes load f command.Parameter refl o (head-in _ _ bytes load command.Parameter (a (λ x. cc)))
-master-placed ms ss w bytes load c f e same r a o (Exchanges _ _ d g) =
-    answer-placed ms ss w bytes load f c (data_guarded c d) o (head-in _ _ bytes load c (a (λ x. let q : is_data command.Reset ≡ true = ap is_data (sym x) ∙ d in cc)))
+master-placed ms ss w bytes load command.Reset f e same r now head o (Begins given _ g) = session-placed ms ss w bytes load command.Reset f given g refl
+master-placed ms ss w bytes load command.Session f e same r now head o (GoesOn given _ g) = session-placed ms ss w bytes load command.Session f given g refl
+master-placed ms ss w bytes load command.Session f e same r now head o (Connects _ g) = connection-placed ms ss w bytes load f same r now (head (λ x. cc))
+master-placed ms ss w bytes load command.Connection f e same r now head o (MoreConnection _ g) = answer-placed ms ss w bytes load f command.Connection refl o (head (λ x. cc))
+master-placed ms ss w bytes load command.Connection f e same r now head o (Sets _ d g) = answer-placed ms ss w bytes load f command.Connection refl o (head (λ x. cc))
+master-placed ms ss w bytes load command.Parameter f e same r now head o (MoreParameter _ g) = answer-placed ms ss w bytes load f command.Parameter refl o (head (λ x. cc))
+master-placed ms ss w bytes load command.Parameter f e same r now head o (Opens _ d g) = answer-placed ms ss w bytes load f command.Parameter refl o (head (λ x. cc))
+master-placed ms ss w bytes load c f e same r now head o (Exchanges _ _ d g) =
+    answer-placed ms ss w bytes load f c (data_guarded c d) o (head (λ x. let q : is_data command.Reset ≡ true = ap is_data (sym x) ∙ d in cc))
 
-master-takes : (ms : MasterSettings) (ss : SlaveSettings) (w : List Entry) (bytes load : List ℕ) (c : Command) → SameLengths ms ss → IsRun (OfMaster ms) (deeds end_name.Master w) → Related ms ss w
-    → AcceptedIn (OfMaster ms) (deeds end_name.Master w) bytes c load → is_other (items w) (of_master ms w (move.Deliver bytes) (takes c load) (answer_to (OfMaster ms) (deeds end_name.Master w) bytes c load)) ≡ false
-    → Related ms ss (of_master ms w (move.Deliver bytes) (takes c load) (answer_to (OfMaster ms) (deeds end_name.Master w) bytes c load) ∷ w)
-master-takes ms ss w bytes load c same r h a o =
+master-takes : (ms : MasterSettings) (ss : SlaveSettings) (w : List Entry) (bytes load : List ℕ) (c : Command) (f : List ℕ) → SameLengths ms ss → IsRun (OfMaster ms) (deeds end_name.Master w) → Related ms ss w
+    → Taking (deeds end_name.Master w) bytes load (OfMaster ms) c f → is_other (items w) (of_master ms w (move.Deliver bytes) (takes c load) f) ≡ false → Related ms ss (of_master ms w (move.Deliver bytes) (takes c load) f ∷ w)
+master-takes ms ss w bytes load c f same r h taking o =
     let e : List Deed = deeds end_name.Master w in
-    let before : List Deed = begun (move.Deliver bytes) (takes c load) ∷ e in
-    let f : List ℕ = answer_to (OfMaster ms) e bytes c load in
-    let sent : IsInSession f = master_frame ms before c in
-    master-grows ms ss w (move.Deliver bytes) (takes c load) f sent.sent (master-placed ms ss w bytes load c f before same r a o (master_sends ms before c (offer_long (OfMaster ms) e r))) h
+    master-grows ms ss w (move.Deliver bytes) (takes c load) f (answer_sent e bytes load (OfMaster ms) c f taking)
+    (master-placed ms ss w bytes load c f (received bytes c load e) same r (master_phase e bytes load ms c f taking)
+    (λ n. head-in (OfMaster ms) e bytes load c (exchange_of e bytes load (OfMaster ms) c f taking n).2.valid) o (master_sends ms e bytes load c f r taking)) h
 
 -- each entry of a master keeps it
 master-keeps : (ms : MasterSettings) (ss : SlaveSettings) (w : List Entry) (m : Move) (d : Did) (f : List ℕ) → SameLengths ms ss → IsRun (OfMaster ms) (deeds end_name.Master w) → Related ms ss w
-    → Kind (OfMaster ms) (deeds end_name.Master w) m d f → is_other (items w) (of_master ms w m d f) ≡ false → Related ms ss (of_master ms w m d f ∷ w)
-master-keeps ms ss w m d f same r h (Drops bytes passed because) o = h
-master-keeps ms ss w m d f same r h (Turns _ setting) o = h
-master-keeps ms ss w m d f same r h (Rests slave now) o = absurd slave
-master-keeps ms ss w m d f same r h (Ages young) o = h
-master-keeps ms ss w m d f same r h (Resets _ passed because) o = master-grows ms ss w m d f refl (unanswered ms ss w _ refl) h
-master-keeps ms ss w m d f same r h (Again master now) o = master-grows ms ss w m d f refl (unanswered ms ss w _ refl) h
-master-keeps ms ss w m d f same r h (Rejoins bytes load slave now) o = absurd slave
-master-keeps ms ss w m d f same r h (Starts bytes load master now) o = master-takes ms ss w bytes load command.Reset same r h (λ n. absurd (n refl)) o
-master-keeps ms ss w m d f same r h (Takes bytes load c n a) o = master-takes ms ss w bytes load c same r h (λ n. a) o
+    → Reaction (OfMaster ms) (deeds end_name.Master w) m d f → is_other (items w) (of_master ms w m d f) ≡ false → Related ms ss (of_master ms w m d f ∷ w)
+master-keeps ms ss w m d f same r h (Answers bytes load c answer taking) o = master-takes ms ss w bytes load c answer same r h taking o
+master-keeps ms ss w m d f same r h (Expires now old) o = master-grows ms ss w m d f refl (unanswered ms ss w _ refl) h
+master-keeps ms ss w m d f same r h (SendsAgain master now old) o = master-grows ms ss w m d f refl (unanswered ms ss w _ refl) h
+master-keeps ms ss w m d f same r h ResetsItself o = master-grows ms ss w m d f refl (unanswered ms ss w _ refl) h
+master-keeps ms ss w m d f same r h (Refuses bytes passed found now fails test) o = master-grows ms ss w m d f refl (unanswered ms ss w _ refl) h
+master-keeps ms ss w m d f same r h (PeerResets bytes load now frame) o = master-grows ms ss w m d f refl (unanswered ms ss w _ refl) h
+master-keeps ms ss w m d f same r h _ o = h
 
 -- the slave's items are one more
 slave-grows : (ms : MasterSettings) (ss : SlaveSettings) (w : List Entry) (m : Move) (d : Did) (f : List ℕ) → is_empty f ≡ false
@@ -197,7 +189,7 @@ session-allowed state.Data done h = cc
 -- the phase of a slave's answer
 answer-phase : (ss : SlaveSettings) (e : List Deed) (c : Command) (f : List ℕ) → SlaveSends ss e c f → phase_of_frame f ≡ phase_of c
 answer-phase ss e c f (Echoes load d g) = phase_framed _ c load f g
-answer-phase ss e c f (Gives d g) = data_phase (OfSlave ss) e f g ∙ sym (data_state c d)
+answer-phase ss e c f (Gives d g) = data_phase (OfSlave ss) e f g ∙ sym (phase_of_data c d)
 
 -- a frame of the session id brings nothing of a connection or of parameters
 unloaded : (phase : State) (l c : ℕ) (bytes before : List ℕ) → is_loading phase ≡ true → phase_of_frame bytes ≡ state.Session → before ≡ [] → with_part phase l c bytes before ≡ []
@@ -219,7 +211,7 @@ unguarded-is command.ProcessData n g = cc
 record SlaveTakes (ms : MasterSettings) (ss : SlaveSettings) (w : List Entry) (bytes load : List ℕ) (c : Command) (f : List ℕ) : Type 0 where
   pub related : Related ms ss w
   pub in_session : c ≢ command.Reset
-  pub accepted : Accepted (OfSlave ss) (deeds end_name.Slave w) (frame_of (receives (OfSlave ss)) bytes) c load
+  pub valid : IsValid (OfSlave ss) (deeds end_name.Slave w) bytes c load
   pub answer_is : phase_of_frame f ≡ phase_of c
   pub state_is : state_of (OfSlave ss) (deed (move.Deliver bytes) (takes c load) f ∷ deeds end_name.Slave w) ≡ phase_of c
   pub uploads : Uploads (receives (OfSlave ss)) (piece_len (OfSlave ss)) bytes (λ phase. uploaded ss phase (deeds end_name.Slave w)) (λ phase. uploaded ss phase (deed (move.Deliver bytes) (takes c load) f ∷ deeds end_name.Slave w))
@@ -234,7 +226,7 @@ JointAfter ss w bytes load c f =
 slave-guarded : (ms : MasterSettings) (ss : SlaveSettings) (w : List Entry) (bytes load : List ℕ) (c : Command) (f : List ℕ) → SlaveTakes ms ss w bytes load c f → is_guarded c ≡ true → JointAfter ss w bytes load c f
 slave-guarded ms ss w bytes load c f t g =
     let x : Entry = of_slave ss w (move.Deliver bytes) (takes c load) f in
-    let head : command_in bytes ≡ Some c = head-in (OfSlave ss) (deeds end_name.Slave w) bytes load c t.accepted in
+    let head : command_in bytes ≡ Some c = head-in (OfSlave ss) (deeds end_name.Slave w) bytes load c t.valid in
     let it : TakesItem w x bytes = takes_item w x bytes c load (record { what_is = refl; did_is = refl }) head g t.no_other in
     let phase : phase_of_frame it.item.bytes ≡ phase_of c = ap phase_of_frame it.bytes_are ∙ phase_by bytes c head in
     let before : State → List ℕ = λ phase. uploaded ss phase (deeds end_name.Slave w) in
@@ -248,14 +240,14 @@ slave-guarded ms ss w bytes load c f t g =
 slave-unguarded : (ms : MasterSettings) (ss : SlaveSettings) (w : List Entry) (bytes load : List ℕ) (c : Command) (f : List ℕ) → SlaveTakes ms ss w bytes load c f → c ≡ command.Session → JointAfter ss w bytes load c f
 slave-unguarded ms ss w bytes load c f t k =
     let x : Entry = of_slave ss w (move.Deliver bytes) (takes c load) f in
-    let head : command_in bytes ≡ Some c = head-in (OfSlave ss) (deeds end_name.Slave w) bytes load c t.accepted in
+    let head : command_in bytes ≡ Some c = head-in (OfSlave ss) (deeds end_name.Slave w) bytes load c t.valid in
     let phase : phase_of_frame bytes ≡ state.Session = phase_by bytes c head ∙ ap phase_of k in
     let now : State = state_of (OfSlave ss) (deeds end_name.Slave w) in
     let before : State → List ℕ = λ phase. uploaded ss phase (deeds end_name.Slave w) in
     let after : State → List ℕ = λ phase. uploaded ss phase (deed (move.Deliver bytes) (takes c load) f ∷ deeds end_name.Slave w) in
     let s : List Item = items_of end_name.Slave (items w) in
     let m : List Item = items_of end_name.Master (items w) in
-    let unguarded : is_guarded_in (state_of (OfSlave ss) (deeds end_name.Slave w)) ≡ false = session-allowed _ _ (ap (slave_allows (state_of (OfSlave ss) (deeds end_name.Slave w)) _) (sym k) ∙ t.accepted.is_allowed) in
+    let unguarded : is_guarded_in (state_of (OfSlave ss) (deeds end_name.Slave w)) ≡ false = session-allowed _ _ (ap (slave_allows (state_of (OfSlave ss) (deeds end_name.Slave w)) _) (sym k) ∙ t.valid.is_allowed) in
     slave_before (receives (OfSlave ss)) (piece_len (OfSlave ss)) now _ before after s m (item_of x w (items w)) (t.answer_is ∙ sym t.state_is) (ap is_guarded_in (t.state_is ∙ ap phase_of k))
     (λ p q. t.uploads p q ∙ unloaded p _ _ bytes _ q phase (none_uploaded (receives (OfSlave ss)) (piece_len (OfSlave ss)) now before s m unguarded t.related.standing p q)) t.related
 
@@ -263,54 +255,53 @@ slave-joint : (ms : MasterSettings) (ss : SlaveSettings) (w : List Entry) (bytes
 slave-joint ms ss w bytes load c f true t g = slave-guarded ms ss w bytes load c f t g
 slave-joint ms ss w bytes load c f false t g = slave-unguarded ms ss w bytes load c f t (unguarded-is c t.in_session g)
 
-slave-takes : (ms : MasterSettings) (ss : SlaveSettings) (w : List Entry) (bytes load : List ℕ) (c : Command) → IsRun (OfSlave ss) (deeds end_name.Slave w) → Related ms ss w → c ≢ command.Reset
-    → Accepted (OfSlave ss) (deeds end_name.Slave w) (frame_of (receives (OfSlave ss)) bytes) c load → is_other (items w) (of_slave ss w (move.Deliver bytes) (takes c load) (answer_to (OfSlave ss) (deeds end_name.Slave w) bytes c load)) ≡ false
-    → Related ms ss (of_slave ss w (move.Deliver bytes) (takes c load) (answer_to (OfSlave ss) (deeds end_name.Slave w) bytes c load) ∷ w)
-slave-takes ms ss w bytes load c r h n a o =
+slave-takes : (ms : MasterSettings) (ss : SlaveSettings) (w : List Entry) (bytes load : List ℕ) (c : Command) (f : List ℕ) → IsRun (OfSlave ss) (deeds end_name.Slave w) → Related ms ss w → c ≢ command.Reset
+    → Taking (deeds end_name.Slave w) bytes load (OfSlave ss) c f → is_other (items w) (of_slave ss w (move.Deliver bytes) (takes c load) f) ≡ false → Related ms ss (of_slave ss w (move.Deliver bytes) (takes c load) f ∷ w)
+slave-takes ms ss w bytes load c f r h n taking o =
     let e : List Deed = deeds end_name.Slave w in
-    let before : List Deed = begun (move.Deliver bytes) (takes c load) ∷ e in
-    let f : List ℕ = answer_to (OfSlave ss) e bytes c load in
-    let sent : IsInSession f = slave_frame ss before c load (not_reset c n) in
-    let phase : phase_of_frame f ≡ phase_of c = answer-phase ss before c f (slave_sends ss before c load (offer_long (OfSlave ss) e r) n) in
-    let head : command_in bytes ≡ Some c = head-in (OfSlave ss) e bytes load c a in
+    let x = (exchange_of e bytes load (OfSlave ss) c f taking n).2 in
+    let sent : IsInSession f = x.in_session in
+    let valid : IsValid (OfSlave ss) e bytes c load = x.valid in
     slave-grows ms ss w (move.Deliver bytes) (takes c load) f sent.sent
     (slave-joint ms ss w bytes load c f (is_guarded c) (record {
       related = h;
       in_session = n;
-      accepted = a;
-      answer_is = phase;
+      valid = valid;
+      answer_is = answer-phase ss (received bytes c load e) c f (slave_sends ss e bytes load c f r taking n);
       state_is = state_next ss e bytes load f c n sent.in_session;
-      uploads = uploads_next ss e bytes load f c n sent.in_session head a.load_is;
+      uploads = uploads_next ss e bytes load f c n sent.in_session (head-in (OfSlave ss) e bytes load c valid) valid.load_is;
       no_other = o;
     }) refl)
 
+slave-took : (ms : MasterSettings) (ss : SlaveSettings) (w : List Entry) (bytes load : List ℕ) (c : Command) (f : List ℕ) → IsRun (OfSlave ss) (deeds end_name.Slave w) → Related ms ss w
+    → Taking (deeds end_name.Slave w) bytes load (OfSlave ss) c f → is_other (items w) (of_slave ss w (move.Deliver bytes) (takes c load) f) ≡ false → Related ms ss (of_slave ss w (move.Deliver bytes) (takes c load) f ∷ w)
+slave-took ms ss w bytes load command.Reset f r h taking o =
+    subst (λ (f : List ℕ). Related ms ss (of_slave ss w (move.Deliver bytes) (takes command.Reset load) f ∷ w)) (sym (answer_is (deeds end_name.Slave w) bytes load (OfSlave ss) command.Reset f taking)) (slave-resets ms ss w (move.Deliver bytes) (takes command.Reset load) 0 h)
+slave-took ms ss w bytes load c f r h taking o = slave-takes ms ss w bytes load c f r h (λ k. cc) taking o
+
 -- each entry of a slave keeps it
 slave-keeps : (ms : MasterSettings) (ss : SlaveSettings) (w : List Entry) (m : Move) (d : Did) (f : List ℕ) → IsRun (OfSlave ss) (deeds end_name.Slave w) → Related ms ss w
-    → Kind (OfSlave ss) (deeds end_name.Slave w) m d f → is_other (items w) (of_slave ss w m d f) ≡ false → Related ms ss (of_slave ss w m d f ∷ w)
-slave-keeps ms ss w m d f r h (Drops bytes passed because) o = h
-slave-keeps ms ss w m d f r h (Turns _ setting) o = h
-slave-keeps ms ss w m d f r h (Rests slave now) o = h
-slave-keeps ms ss w m d f r h (Ages young) o = h
-slave-keeps ms ss w m d f r h (Resets _ passed because) o = slave-resets ms ss w m d _ h
-slave-keeps ms ss w m d f r h (Again master now) o = absurd master
-slave-keeps ms ss w m d f r h (Rejoins bytes load slave now) o = slave-resets ms ss w m d 0 h
-slave-keeps ms ss w m d f r h (Starts bytes load master now) o = absurd master
-slave-keeps ms ss w m d f r h (Takes bytes load c n a) o = slave-takes ms ss w bytes load c r h n a o
+    → Reaction (OfSlave ss) (deeds end_name.Slave w) m d f → is_other (items w) (of_slave ss w m d f) ≡ false → Related ms ss (of_slave ss w m d f ∷ w)
+slave-keeps ms ss w m d f r h (Answers bytes load c answer taking) o = slave-took ms ss w bytes load c answer r h taking o
+slave-keeps ms ss w m d f r h (Expires now old) o = slave-resets ms ss w m d _ h
+slave-keeps ms ss w m d f r h (SendsAgain master now old) o = absurd master
+slave-keeps ms ss w m d f r h ResetsItself o = slave-resets ms ss w m d _ h
+slave-keeps ms ss w m d f r h (Refuses bytes passed found now fails test) o = slave-resets ms ss w m d _ h
+slave-keeps ms ss w m d f r h (PeerResets bytes load now frame) o = slave-resets ms ss w m d _ h
+slave-keeps ms ss w m d f r h _ o = h
 
-keeps : (ms : MasterSettings) (ss : SlaveSettings) (which : End) (x : Entry) (w : List Entry) → SameLengths ms ss → IsNextEntry (setup_of ms ss which) x (deeds which w) → IsWorld ms ss w → Related ms ss w
+keeps : (ms : MasterSettings) (ss : SlaveSettings) (which : End) (x : Entry) (w : List Entry) → SameLengths ms ss → IsNextEntry (setup_of ms ss which) x (deeds which w) → IsReaction (setup_of ms ss which) (deeds which w) (deed_in x) → IsWorld ms ss w → Related ms ss w
     → is_other (items w) x ≡ false → Related ms ss (x ∷ w)
-keeps ms ss end_name.Master x w same next so_far h o =
-    let d : Deed = step (OfMaster ms) (deeds end_name.Master w) x.what in
-    subst (λ (y : Entry). Related ms ss (y ∷ w)) (sym next.stepped)
-    (master-keeps ms ss w d.what d.did d.sent same (deeds_are_run ms ss end_name.Master w so_far) h (kind (OfMaster ms) (deeds end_name.Master w) x.what) (sym (ap (is_other (items w)) next.stepped) ∙ o))
-keeps ms ss end_name.Slave x w same next so_far h o =
-    let d : Deed = step (OfSlave ss) (deeds end_name.Slave w) x.what in
-    subst (λ (y : Entry). Related ms ss (y ∷ w)) (sym next.stepped)
-    (slave-keeps ms ss w d.what d.did d.sent (deeds_are_run ms ss end_name.Slave w so_far) h (kind (OfSlave ss) (deeds end_name.Slave w) x.what) (sym (ap (is_other (items w)) next.stepped) ∙ o))
+keeps ms ss end_name.Master x w same next reaction so_far h o =
+    let told : x ≡ entry_of (OfMaster ms) (deeds end_name.Master w) (deed_in x) = next_told (OfMaster ms) x (deeds end_name.Master w) next in
+    subst (λ (y : Entry). Related ms ss (y ∷ w)) (sym told) (master-keeps ms ss w x.what x.did x.sent same (deeds_are_run ms ss end_name.Master w so_far) h reaction (sym (ap (is_other (items w)) told) ∙ o))
+keeps ms ss end_name.Slave x w same next reaction so_far h o =
+    let told : x ≡ entry_of (OfSlave ss) (deeds end_name.Slave w) (deed_in x) = next_told (OfSlave ss) x (deeds end_name.Slave w) next in
+    subst (λ (y : Entry). Related ms ss (y ∷ w)) (sym told) (slave-keeps ms ss w x.what x.did x.sent (deeds_are_run ms ss end_name.Slave w so_far) h reaction (sym (ap (is_other (items w)) told) ∙ o))
 
 -- in each world without another entry both ends' items are related
 pub related : (ms : MasterSettings) (ss : SlaveSettings) (w : List Entry) → SameLengths ms ss → IsWorld ms ss w → NoOther w → Related ms ss w
 related ms ss [] same h n = record { placed = tt; newest_is = refl; standing = Before refl (λ phase k. refl) }
 related ms ss (x ∷ w) same h n =
     let o : NoneOther x w = none_other x w n in
-    keeps ms ss x.end x w same h.0 h.1 (related ms ss w same h.1 o.before) o.here
+    keeps ms ss x.end x w same h.0 (entry_reacted ms ss x w h) h.1 (related ms ss w same h.1 o.before) o.here

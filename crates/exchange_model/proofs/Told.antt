@@ -16,17 +16,17 @@ use Rattle.end_model.specs.Deed.{Deed}
 use Rattle.end_model.specs.Payloads.{uploaded, terms, terms_in}
 use Rattle.end_model.specs.Readiness.{state_of, phase_sent, told_in}
 use Rattle.end_model.proofs.Heads.{IsInSession}
+use Rattle.end_model.proofs.Reactions.{phase_of_data}
 use Rattle.exchange_model.specs.Ends.{same_end}
 use Rattle.exchange_model.specs.World.{deed_in, deeds, SameLengths, IsNextEntry, IsWorld}
 use Rattle.exchange_model.specs.Items.{Item, items_of, items}
 use Rattle.fsoe_base.specs.Data.{is_data}
-use Rattle.exchange_model.proofs.Projection.{next_told}
+use Rattle.exchange_model.proofs.Projection.{next_told, deeds_are_run}
 use Rattle.exchange_model.proofs.Frames.{bytes_in, frames}
-use Rattle.exchange_model.proofs.Shown.{deeds_are_run}
 use Rattle.exchange_model.proofs.Awaited.{up_to}
 use Rattle.exchange_model.proofs.Joint.{is_guarded_in, session, Mirrors, Standing, Before, Past, no_reset}
 use Rattle.exchange_model.proofs.Framed.{command_in, phase_by, connection_of, parameters_of}
-use Rattle.exchange_model.proofs.Pieces.{order_at, Sent, AllSent, all_sent, session_phase, sent_more, data_state}
+use Rattle.exchange_model.proofs.Pieces.{order_at, Sent, AllSent, all_sent, session_phase, sent_more}
 use Rattle.exchange_model.proofs.Uploads.{Tested, tested}
 use Rattle.exchange_model.proofs.Agree.{agree, front_whole}
 use Rattle.exchange_model.proofs.Related.{Related, carried_is}
@@ -89,11 +89,11 @@ told-data now t u h k = ap (λ (now : State). told_in now t) h ∙ ap Some k
 -- a data frame belongs to a session
 data-in-session : (f : List ℕ) (c : Command) → command_in f ≡ Some c → is_data c ≡ true → IsInSession f
 data-in-session [] c h d = cc
-data-in-session (b ∷ f) c h d = record { in_session = no_reset (b ∷ f) (ap is_guarded_in (phase_by (b ∷ f) c h ∙ data_state c d)); sent = refl }
+data-in-session (b ∷ f) c h d = record { in_session = no_reset (b ∷ f) (ap is_guarded_in (phase_by (b ∷ f) c h ∙ phase_of_data c d)); sent = refl }
 
 -- a master that sent a data frame is in Data
 pub master_state : (ms : MasterSettings) (x : Deed) (e : List Deed) (c : Command) → command_in x.sent ≡ Some c → is_data c ≡ true → state_of (OfMaster ms) (x ∷ e) ≡ state.Data
-master_state ms x e c h d = ap phase_sent (sent_more x e (data-in-session x.sent c h d)) ∙ (phase_by x.sent c h ∙ data_state c d)
+master_state ms x e c h d = ap phase_sent (sent_more x e (data-in-session x.sent c h d)) ∙ (phase_by x.sent c h ∙ phase_of_data c d)
 
 -- an entry of a master in Data tells the terms of its settings
 pub master_told : (ms : MasterSettings) (x : Entry) (e : List Deed) → IsNextEntry (OfMaster ms) x e → state_of (OfMaster ms) (deed_in x ∷ e) ≡ state.Data → x.terms ≡ Some (terms_of ms)

@@ -22,15 +22,15 @@ use Rattle.param_load.specs.Contents.{or_else, fails, word_is, communication_fau
 use Rattle.param_load.specs.Payload.{number_at}
 use Rattle.param_load.specs.Profile.{id_len}
 use Rattle.end_model.specs.Setup.{OfSlave, piece_len, receives}
-use Rattle.end_model.specs.Phases.{has_command, same_phase, is_reset, phase_of, phase_of_frame}
+use Rattle.end_model.specs.Phases.{has_command, same_phase, phase_of, phase_of_frame}
 use Rattle.end_model.specs.Deed.{Deed, of_session}
 use Rattle.end_model.specs.Chain.{since}
 use Rattle.end_model.specs.Payloads.{joined, joined_with, uploaded}
 use Rattle.end_model.specs.Readiness.{state_of, phase_taken}
-use Rattle.end_model.specs.Step.{takes, begun, step, IsRun}
-use Rattle.end_model.proofs.Accepted.{Accepted}
-use Rattle.end_model.proofs.DeedKinds.{Kind, Drops, Turns, Rests, Ages, Resets, Again, Rejoins, Starts, Takes, answer_to, kind}
-use Rattle.end_model.proofs.Heads.{IsInSession, slave_frame}
+use Rattle.end_model.specs.Step.{takes, IsRun}
+use Rattle.end_model.specs.Reactions.{answered, Taking, Reaction, Expires, SendsAgain, ResetsItself, Refuses, PeerResets, Answers}
+use Rattle.end_model.proofs.SoundRuns.{reacted}
+use Rattle.end_model.proofs.Taken.{exchange_of, answer_is}
 use Rattle.exchange_model.proofs.Joint.{with_part, Uploads}
 use Rattle.exchange_model.proofs.Framed.{command_in, phase_by}
 use Rattle.exchange_model.proofs.Pieces.{deed}
@@ -146,43 +146,29 @@ tested-next ss u p rest t h =
       word = word-next ss.profile u p t.word k.word;
     }
 
-tested-taken : (ss : SlaveSettings) (e : List Deed) (bytes load : List ℕ) (c : Command) (f : List ℕ) → Tested ss (uploaded ss state.Parameter e) → c ≢ command.Reset → Accepted (OfSlave ss) e (frame_of (receives (OfSlave ss)) bytes) c load → IsInSession f
-    → Tested ss (uploaded ss state.Parameter (deed (move.Deliver bytes) (takes c load) f ∷ e))
-tested-taken ss e bytes load command.Reset f t n a k = absurd (n refl)
-tested-taken ss e bytes load command.Session f t n a k = let b = k.in_session in simp b t
-tested-taken ss e bytes load command.Connection f t n a k = let b = k.in_session in simp b t
-tested-taken ss e bytes load command.Parameter f t n a k =
-    let b = k.in_session in
+tested-taken : (ss : SlaveSettings) (e : List Deed) (bytes load : List ℕ) (c : Command) (f : List ℕ) → Tested ss (uploaded ss state.Parameter e) → Taking e bytes load (OfSlave ss) c f
+    → Tested ss (uploaded ss state.Parameter (answered bytes c load f e))
+tested-taken ss e bytes load command.Reset f t taking =
+    subst (λ (f : List ℕ). Tested ss (uploaded ss state.Parameter (answered bytes command.Reset load f e))) (sym (answer_is e bytes load (OfSlave ss) command.Reset f taking)) (none-tested ss)
+tested-taken ss e bytes load command.Parameter f t taking =
+    let x = (exchange_of e bytes load (OfSlave ss) command.Parameter f taking (λ k. cc)).2 in
+    let b = x.in_session.in_session in
     let u : List ℕ = uploaded ss state.Parameter e in
     let came : List ℕ = (frame_of (receives (OfSlave ss)) bytes).load in
-    let next : Tested ss (u ++ take (piece_len (OfSlave ss)) came) = tested-next ss u (take (piece_len (OfSlave ss)) came) (drop (piece_len (OfSlave ss)) came) t a.sound in
-    simp b (subst (λ (load : List ℕ). Tested ss (uploaded ss state.Parameter e ++ take (piece_len (OfSlave ss)) load)) a.load_is next)
-tested-taken ss e bytes load command.FailSafeData f t n a k = let b = k.in_session in simp b t
-tested-taken ss e bytes load command.ProcessData f t n a k = let b = k.in_session in simp b t
+    let next : Tested ss (u ++ take (piece_len (OfSlave ss)) came) = tested-next ss u (take (piece_len (OfSlave ss)) came) (drop (piece_len (OfSlave ss)) came) t x.valid.is_sound in
+    simp b (subst (λ (load : List ℕ). Tested ss (uploaded ss state.Parameter e ++ take (piece_len (OfSlave ss)) load)) x.valid.load_is next)
+tested-taken ss e bytes load c f t taking = let b = (exchange_of e bytes load (OfSlave ss) c f taking (λ k. cc)).2.in_session.in_session in simp b t
 
-pub not_reset : (c : Command) → c ≢ command.Reset → is_reset c ≡ false
-not_reset command.Reset n = absurd (n refl)
-not_reset command.Session n = refl
-not_reset command.Connection n = refl
-not_reset command.Parameter n = refl
-not_reset command.FailSafeData n = refl
-not_reset command.ProcessData n = refl
-
-tested-kept : (ss : SlaveSettings) (e : List Deed) (m : Move) (d : Did) (f : List ℕ) → Tested ss (uploaded ss state.Parameter e) → Kind (OfSlave ss) e m d f → Tested ss (uploaded ss state.Parameter (deed m d f ∷ e))
-tested-kept ss e m d f t (Drops bytes passed because) = t
-tested-kept ss e m d f t (Turns _ setting) = t
-tested-kept ss e m d f t (Rests slave now) = t
-tested-kept ss e m d f t (Ages young) = t
-tested-kept ss e m d f t (Resets _ passed because) = none-tested ss
-tested-kept ss e m d f t (Again master now) = absurd master
-tested-kept ss e m d f t (Rejoins bytes load slave now) = none-tested ss
-tested-kept ss e m d f t (Starts bytes load master now) = absurd master
-tested-kept ss e m d f t (Takes bytes load c n a) =
-    tested-taken ss e bytes load c (answer_to (OfSlave ss) e bytes c load) t n a (slave_frame ss (begun (move.Deliver bytes) (takes c load) ∷ e) c load (not_reset c n))
+tested-kept : (ss : SlaveSettings) (e : List Deed) (m : Move) (d : Did) (f : List ℕ) → Tested ss (uploaded ss state.Parameter e) → Reaction (OfSlave ss) e m d f → Tested ss (uploaded ss state.Parameter (deed m d f ∷ e))
+tested-kept ss e m d f t (Answers bytes load c answer taking) = tested-taken ss e bytes load c answer t taking
+tested-kept ss e m d f t (Expires now old) = none-tested ss
+tested-kept ss e m d f t (SendsAgain master now old) = none-tested ss
+tested-kept ss e m d f t ResetsItself = none-tested ss
+tested-kept ss e m d f t (Refuses bytes passed found now fails test) = none-tested ss
+tested-kept ss e m d f t (PeerResets bytes load now frame) = none-tested ss
+tested-kept ss e m d f t _ = t
 
 -- in every run of a slave what it uploaded stands tested
 pub tested : (ss : SlaveSettings) (e : List Deed) → IsRun (OfSlave ss) e → Tested ss (uploaded ss state.Parameter e)
 tested ss [] r = none-tested ss
-tested ss (x ∷ e) r =
-    let d : Deed = step (OfSlave ss) e x.what in
-    subst (λ (x : Deed). Tested ss (uploaded ss state.Parameter (x ∷ e))) (sym r.0.stepped) (tested-kept ss e d.what d.did d.sent (tested ss e r.1) (kind (OfSlave ss) e x.what))
+tested ss (x ∷ e) r = tested-kept ss e x.what x.did x.sent (tested ss e r.1) (reacted (OfSlave ss) x e r)
