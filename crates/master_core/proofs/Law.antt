@@ -10,10 +10,9 @@ use Rattle.end_model.specs.Setup.{OfMaster}
 use Rattle.end_model.specs.Deed.{Deed}
 use Rattle.end_model.specs.Payloads.{terms}
 use Rattle.end_model.specs.Readiness.{state_of, age, told_in, told_terms, offer, held}
-use Rattle.end_model.specs.Step.{did_on, run, IsProper}
+use Rattle.end_model.specs.Step.{did_on, IsProper}
 use Rattle.end_model.specs.Outputs.{zeros, outputs, out}
-use Rattle.end_model.specs.Standing.{Stands, Follows, Answers, Shows, Called, events_of}
-use Rattle.end_model.proofs.Calls.{stands_called, run_called}
+use Rattle.end_model.specs.Standing.{Stands, Follows, Answers, Shows}
 use Rattle.end_model.proofs.Shown.{looking_back, fail_safe}
 use Rattle.master_core.specs.Now as machine
 use Rattle.master_core.specs.After.{after}
@@ -91,10 +90,3 @@ offer_shown v shown i = record { shows = λ ms e h. i ∙ ap (λ (v : MasterView
 
 pub held_shown : (v : MasterView) (shown : Bool) → shown ≡ v.kit.offer.held → Shows OfMaster view_of v shown (λ s e. held e)
 held_shown v shown i = record { shows = λ ms e h. i ∙ ap (λ (v : MasterView). v.kit.offer.held) h.is }
-
--- all calls of a master
-pub master_stands : (ms : MasterSettings) (first last : MasterView) (e : List Deed) → Stands OfMaster view_of ms first [] → Called OfMaster view_of first e last → Stands OfMaster view_of ms last e
-master_stands ms first last e h c = stands_called OfMaster view_of ms first last e h c
-
-pub master_run : (ms : MasterSettings) (first last : MasterView) (e : List Deed) → Stands OfMaster view_of ms first [] → Called OfMaster view_of first e last → e ≡ run (OfMaster ms) (events_of e)
-master_run ms first last e h c = run_called OfMaster view_of ms first last e h c

@@ -2,6 +2,7 @@ pub mod Agreed
 pub mod Agrees
 pub mod Arrived
 pub mod Began
+pub mod Calls
 pub mod Law
 pub mod Passed
 pub mod Pieces

@@ -1,5 +1,5 @@
 -- A master that accepted a frame: what is put, held or set meanwhile counts as if it had come before, and the reply ends the delivery.
-use Rattle.std.proofs.Common.{◌≡◌, ℕ, List, [], ◌∷◌, ◌==◌, Bool, true, false, ◌||◌, is_some, Option, Some, None, Result, Ok, Err, if◌then◌else◌, IsTrue, length, refl, sym, ap, subst, ◌∙◌}
+use Rattle.std.proofs.Common.{◌≡◌, ℕ, List, ◌∷◌, ◌==◌, Bool, true, false, ◌||◌, is_some, Option, Some, None, Result, Ok, Err, if◌then◌else◌, IsTrue, length, refl, sym, ap, subst, ◌∙◌}
 use Rattle.fsoe_base.specs.declared.command.Code.{Code}
 use Rattle.fsoe_base.specs.declared.command.Command.TheVariants as command
 use Rattle.fsoe_base.specs.declared.did.Cause.{Cause}
@@ -25,7 +25,7 @@ use Rattle.seq_chain.specs.SessionFrame.{SessionFrameView}
 use Rattle.end_model.specs.Setup.{OfMaster}
 use Rattle.end_model.specs.Deed.{Deed}
 use Rattle.end_model.specs.Standing.{Stands}
-use Rattle.end_model.specs.Step.{step, did_on, continued, IsProper}
+use Rattle.end_model.specs.Step.{step, did_on, IsProper}
 use Rattle.master_core.specs.declared.due.Next.{Next}
 use Rattle.master_core.specs.declared.due.Next.TheVariants as next
 use Rattle.master_core.specs.declared.now.Now.{Now}
@@ -40,7 +40,7 @@ use Rattle.master_core.specs.Now.{is_reset, is_due, kept, fault, taken, replied,
 use Rattle.master_core.specs.States.{answered, session_by, connection_by, parameter_by}
 use Rattle.master_core.specs.Views.{ExchangeView}
 use Rattle.master_core.specs.ViewOf.{kit_of, view_of}
-use Rattle.master_core.specs.Waiting.{Waits, Accepts, Keeps, Replies, KeptOver, InTwo}
+use Rattle.master_core.specs.Waiting.{Waits, Accepts, Keeps, Replies}
 use Rattle.master_core.proofs.Agrees.{Agrees, AreRead}
 use Rattle.master_core.proofs.Agreed.{agrees, run-sound}
 
@@ -241,29 +241,6 @@ replies_by old new frame n f = record {
       let a = agrees ms e (move.Deliver bytes) (run-sound ms e w.reached) tt in
       f ∙ (ap (λ (v : MasterView). reply v.kit v.state) w.is ∙ sym a.sent);
 }
-
--- a delivery in two calls
-waited : (ms : MasterSettings) (first last : MasterView) (e : List Deed) (events : List Move) (bytes : List ℕ) (done : Did) → KeptOver first events last → Waits ms first e bytes done
-    → Waits ms last (continued (OfMaster ms) e events) bytes done
-waited ms first last e [] bytes done k w = subst (λ (v : MasterView). Waits ms v e bytes done) k w
-waited ms first last e (m ∷ events) bytes done k w = waited ms k.0 last (step (OfMaster ms) e m ∷ e) events bytes done k.2 (k.1.waits ms e bytes done w)
-
-in-two : (ms : MasterSettings) (e : List Deed) (old new : MasterView) (bytes : List ℕ) (done : Did) (events : List Move) (frame : List ℕ) → Stands OfMaster view_of ms old e → (t : InTwo old bytes done events new frame)
-    → Waits ms t.last (continued (OfMaster ms) e events) bytes done
-in-two ms e old new bytes done events frame h t = waited ms t.first t.last e events bytes done t.kept (t.accepts.waits ms e h)
-
-pub two_stand : (ms : MasterSettings) (e : List Deed) (old new : MasterView) (bytes : List ℕ) (done : Did) (events : List Move) (frame : List ℕ) → Stands OfMaster view_of ms old e → InTwo old bytes done events new frame
-    → Stands OfMaster view_of ms new (step (OfMaster ms) (continued (OfMaster ms) e events) (move.Deliver bytes) ∷ continued (OfMaster ms) e events)
-two_stand ms e old new bytes done events frame h t = t.replies.stands ms (continued (OfMaster ms) e events) bytes done (in-two ms e old new bytes done events frame h t)
-
-pub two_did : (ms : MasterSettings) (e : List Deed) (old new : MasterView) (bytes : List ℕ) (done : Did) (events : List Move) (frame : List ℕ) → Stands OfMaster view_of ms old e → InTwo old bytes done events new frame
-    → (step (OfMaster ms) (continued (OfMaster ms) e events) (move.Deliver bytes)).did ≡ record done { sent = true }
-two_did ms e old new bytes done events frame h t =
-    t.replies.did ms (continued (OfMaster ms) e events) bytes done (in-two ms e old new bytes done events frame h t) ∙ ap (λ (b : Bool). record done { sent = b }) t.due
-
-pub two_sent : (ms : MasterSettings) (e : List Deed) (old new : MasterView) (bytes : List ℕ) (done : Did) (events : List Move) (frame : List ℕ) → Stands OfMaster view_of ms old e → InTwo old bytes done events new frame
-    → frame ≡ (step (OfMaster ms) (continued (OfMaster ms) e events) (move.Deliver bytes)).sent
-two_sent ms e old new bytes done events frame h t = t.replies.sent ms (continued (OfMaster ms) e events) bytes done (in-two ms e old new bytes done events frame h t)
 
 -- a frame is due exactly where something was taken or a reset came
 either-due : (b : Bool) (x y : Accepted) → is_due x.master.state ≡ (is_some x.did.took || is_some x.did.reset) → is_due y.master.state ≡ (is_some y.did.took || is_some y.did.reset)

@@ -1,4 +1,5 @@
 pub mod After
+pub mod Calls
 pub mod Kit
 pub mod Master
 pub mod MasterView

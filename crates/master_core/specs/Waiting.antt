@@ -1,5 +1,5 @@
 -- A master that accepted a frame, and hasn't sent the frame that is due then.
-use Rattle.std.specs.Prelude.{◌≡◌, ℕ, true, false, List, [], ◌∷◌}
+use Rattle.std.specs.Prelude.{◌≡◌, ℕ, false, List, ◌∷◌}
 use Rattle.fsoe_base.specs.declared.did.Did.{Did}
 use Rattle.fsoe_frame.specs.Parts.{AreBytes}
 use Rattle.param_load.specs.declared.entry.Move.{Move}
@@ -40,17 +40,3 @@ pub record Replies (old : MasterView) (new : MasterView) (frame : List ℕ) : Ty
   pub did : (settings : MasterSettings) (e : List Deed) (bytes : List ℕ) (done : Did) → Waits settings old e bytes done
       → (step (OfMaster settings) e (move.Deliver bytes)).did ≡ record done { sent = is_due old.state }
   pub sent : (settings : MasterSettings) (e : List Deed) (bytes : List ℕ) (done : Did) → Waits settings old e bytes done → frame ≡ (step (OfMaster settings) e (move.Deliver bytes)).sent
-
--- what is put, held and set while a master waits, in order
-abbrev pub KeptOver : MasterView → List Move → MasterView → Type 0
-KeptOver first [] last = first ≡ last
-KeptOver first (event ∷ events) last = (v : MasterView) × Keeps first event v × KeptOver v events last
-
--- a delivery in two calls, with these events between them
-pub record InTwo (old : MasterView) (bytes : List ℕ) (done : Did) (events : List Move) (new : MasterView) (frame : List ℕ) : Type 0 where
-  pub first : MasterView
-  pub last : MasterView
-  pub accepts : Accepts old bytes done first
-  pub kept : KeptOver first events last
-  pub due : is_due last.state ≡ true
-  pub replies : Replies last new frame
