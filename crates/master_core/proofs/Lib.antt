@@ -7,6 +7,7 @@ pub mod Law
 pub mod Passed
 pub mod Pieces
 pub mod SameVerdict
+pub mod ShownDue
 pub mod Sound
 pub mod TakenConnection
 pub mod TakenData

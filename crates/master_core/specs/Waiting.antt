@@ -5,7 +5,7 @@ use Rattle.fsoe_frame.specs.Parts.{AreBytes}
 use Rattle.param_load.specs.declared.entry.Move.{Move}
 use Rattle.param_load.specs.declared.entry.Move.TheVariants as move
 use Rattle.param_load.specs.declared.master_settings.MasterSettings.{MasterSettings}
-use Rattle.end_model.specs.Setup.{OfMaster}
+use Rattle.end_model.specs.Setup.{Setup, OfMaster}
 use Rattle.end_model.specs.Deed.{Deed}
 use Rattle.end_model.specs.Standing.{Stands}
 use Rattle.end_model.specs.Step.{step, IsRun}
@@ -40,3 +40,7 @@ pub record Replies (old : MasterView) (new : MasterView) (frame : List ℕ) : Ty
   pub did : (settings : MasterSettings) (e : List Deed) (bytes : List ℕ) (done : Did) → Waits settings old e bytes done
       → (step (OfMaster settings) e (move.Deliver bytes)).did ≡ record done { sent = is_due old.state }
   pub sent : (settings : MasterSettings) (e : List Deed) (bytes : List ℕ) (done : Did) → Waits settings old e bytes done → frame ≡ (step (OfMaster settings) e (move.Deliver bytes)).sent
+
+-- what a master that waits shows is this word of the deeds after the delivery, as if its frame had been sent
+pub record ShowsDue {X : Type 0} (v : MasterView) (shown : X) (word : Setup → List Deed → X) : Type 0 where
+  pub shows : (settings : MasterSettings) (e : List Deed) (bytes : List ℕ) (done : Did) → Waits settings v e bytes done → shown ≡ word (OfMaster settings) (step (OfMaster settings) e (move.Deliver bytes) ∷ e)

@@ -37,7 +37,7 @@ impl Master {
     ghost use Rattle.param_load.specs.Profile.{allows_id};
     ghost use Rattle.master_core.specs.Kit.{own_len, peer_len};
     ghost use Rattle.master_core.specs.Master.{leaves, ends, refuses, on_reset_frame, settles, accepted, replies, delivered, falls, tick_of};
-    ghost use Rattle.master_core.specs.Now.{NextUnder, chain_of, state_of, is_due, taken, reply, outputs_in, terms_in};
+    ghost use Rattle.master_core.specs.Now.{NextUnder, chain_of, is_due, taken, reply};
     ghost use Rattle.master_core.specs.ViewOf.{view_of};
     ghost use Rattle.master_core.specs.Views.{HasPassed};
     ghost use Rattle.param_load.specs.declared.entry.Move.TheVariants as event;
@@ -45,7 +45,7 @@ impl Master {
     ghost use Rattle.end_model.specs.Readiness as model;
     ghost use Rattle.end_model.specs.Outputs.{out};
     ghost use Rattle.end_model.specs.Standing.{Stands, Follows, Answers, Shows};
-    ghost use Rattle.master_core.specs.Waiting.{Accepts, Keeps, Replies};
+    ghost use Rattle.master_core.specs.Waiting.{Accepts, Keeps, Replies, ShowsDue};
 
     /// A master with these settings: in state Reset, with zeros to offer and to give, and not held. Its first tick
     /// reaches its limit.
@@ -404,20 +404,20 @@ impl Master {
 
     /// The state: the phase of the frame that was sent last in this session, Reset without a session. While a frame
     /// is due it counts as sent.
-    #[tactic(auto, using(crate::proofs::Law::state_shown))]
+    #[tactic(auto, using(crate::proofs::Law::state_shown, crate::proofs::ShownDue::state_due))]
     pub fn state(&self) -> State
         ensures shown { Shows OfMaster view_of self.now result model.state_of }
-        ensures after_reply { result ≡ state_of self.now.state }
+        ensures shown_due { ShowsDue self.now result model.state_of }
     {
         self.state.state()
     }
 
     /// The outputs, as many bytes as the slave's frames have: those of the ProcessData frame that was taken last,
     /// zeros after a FailSafeData frame, and zeros in every state but Data.
-    #[tactic(auto, using(crate::proofs::Law::outputs_shown))]
+    #[tactic(auto, using(crate::proofs::Law::outputs_shown, crate::proofs::ShownDue::outputs_due))]
     pub fn outputs(&self) -> &[u8]
         ensures shown { Shows OfMaster view_of self.now result.now out }
-        ensures after_reply { result.now ≡ outputs_in self.now.kit.settings self.now.state }
+        ensures shown_due { ShowsDue self.now result.now out }
         ensures len { length result.now ≡ peer_len self.now.kit.settings }
         ensures most { length result.now ≤ 126 }
     {
@@ -425,38 +425,38 @@ impl Master {
     }
 
     /// The terms of the session, exactly in state Data.
-    #[tactic(auto, using(crate::proofs::Law::terms_shown))]
+    #[tactic(auto, using(crate::proofs::Law::terms_shown, crate::proofs::ShownDue::terms_due))]
     pub fn terms(&self) -> Option<&Terms>
         ensures shown { Shows OfMaster view_of self.now (option_copied result) model.told_terms }
-        ensures after_reply { option_copied result ≡ terms_in self.now.state }
+        ensures shown_due { ShowsDue self.now (option_copied result) model.told_terms }
     {
         self.state.terms()
     }
 
     /// The ticks since the last frame was sent, 0 while a frame is due. That of a new master is its watchdog less 1.
-    #[tactic(auto, using(crate::proofs::Law::age_shown))]
+    #[tactic(auto, using(crate::proofs::Law::age_shown, crate::proofs::ShownDue::age_due))]
     pub fn age(&self) -> u16
         ensures shown { Shows OfMaster view_of self.now result model.age }
-        ensures after_reply { result ≡ self.now.timer.age }
+        ensures shown_due { ShowsDue self.now result model.age }
     {
         self.watchdog.age()
     }
 
     /// The safe data that were put last, zeros at first.
-    #[tactic(auto, using(crate::proofs::Law::offer_shown))]
+    #[tactic(auto, using(crate::proofs::Law::offer_shown, crate::proofs::ShownDue::offer_due))]
     pub fn offer(&self) -> &[u8]
         ensures shown { Shows OfMaster view_of self.now result.now model.offer }
-        ensures value { result.now ≡ self.now.kit.offer.load }
+        ensures shown_due { ShowsDue self.now result.now model.offer }
         ensures len { length result.now ≡ own_len self.now.kit.settings }
     {
         self.kit.offer().bytes()
     }
 
     /// Whether zeros are sent in place of the offer.
-    #[tactic(auto, using(crate::proofs::Law::held_shown))]
+    #[tactic(auto, using(crate::proofs::Law::held_shown, crate::proofs::ShownDue::held_due))]
     pub fn held(&self) -> bool
         ensures shown { Shows OfMaster view_of self.now result (λ s e. model.held e) }
-        ensures value { result ≡ self.now.kit.offer.held }
+        ensures shown_due { ShowsDue self.now result (λ s e. model.held e) }
     {
         self.kit.offer().held()
     }

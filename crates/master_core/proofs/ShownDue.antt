@@ -1,0 +1,99 @@
+-- What a master shows while a frame is due is what it shows after the reply.
+use Rattle.std.proofs.Common.{◌≡◌, ℕ, List, ◌∷◌, Bool, Option, refl, sym, ◌∙◌}
+use Rattle.fsoe_base.specs.declared.command.State.{State}
+use Rattle.fsoe_base.specs.declared.did.Did.{Did}
+use Rattle.param_load.specs.declared.entry.Move.TheVariants as move
+use Rattle.param_load.specs.declared.master_settings.MasterSettings.{MasterSettings}
+use Rattle.param_load.specs.declared.terms.Terms.{Terms}
+use Rattle.end_model.specs.Setup.{Setup, OfMaster}
+use Rattle.end_model.specs.Deed.{Deed}
+use Rattle.end_model.specs.Outputs.{out}
+use Rattle.end_model.specs.Readiness.{state_of, age, told_terms, offer, held}
+use Rattle.end_model.specs.Standing.{Shows}
+use Rattle.end_model.specs.Step.{step}
+use Rattle.master_core.specs.declared.due.Next.{Next}
+use Rattle.master_core.specs.declared.due.Next.TheVariants as next
+use Rattle.master_core.specs.declared.now.Now.{Now}
+use Rattle.master_core.specs.declared.now.Now.TheVariants as now
+use Rattle.master_core.specs.Kit.{KitView}
+use Rattle.master_core.specs.Master.{replies}
+use Rattle.master_core.specs.MasterView.{MasterView}
+use Rattle.master_core.specs.Now as machine
+use Rattle.master_core.specs.ViewOf.{view_of}
+use Rattle.master_core.specs.Waiting.{ShowsDue}
+use Rattle.master_core.proofs.Law.{state_shown, terms_shown, outputs_shown, age_shown, offer_shown, held_shown}
+use Rattle.master_core.proofs.Waiting.{replies_by}
+
+-- what the master after the reply shows
+shows-due : {X : Type 0} (v : MasterView) (shown : X) (word : Setup → List Deed → X) → Shows OfMaster view_of (replies v) shown word → ShowsDue v shown word
+shows-due v shown word h = record {
+  shows = λ ms e bytes done w. h.shows ms (step (OfMaster ms) e (move.Deliver bytes) ∷ e) ((replies_by v (replies v) (machine.reply v.kit v.state) refl refl).stands ms e bytes done w);
+}
+
+-- the reply changes none of what the state shows
+state-sent : (kit : KitView) (n : Next) → machine.state_of (machine.sent_state kit n) ≡ machine.state_of_next n
+state-sent kit (next.Reset x) = refl
+state-sent kit (next.Begin last) = refl
+state-sent kit (next.Session s) = refl
+state-sent kit (next.Connection s) = refl
+state-sent kit (next.Parameter s) = refl
+state-sent kit (next.Data s) = refl
+
+state-replied : (kit : KitView) (n : Now) → machine.state_of (machine.replied kit n) ≡ machine.state_of n
+state-replied kit (now.Reset s) = refl
+state-replied kit (now.Session s) = refl
+state-replied kit (now.Connection s) = refl
+state-replied kit (now.Parameter s) = refl
+state-replied kit (now.Data s) = refl
+state-replied kit (now.Due due) = state-sent kit due.next
+
+terms-sent : (kit : KitView) (n : Next) → machine.terms_in (machine.sent_state kit n) ≡ machine.terms_in_next n
+terms-sent kit (next.Reset x) = refl
+terms-sent kit (next.Begin last) = refl
+terms-sent kit (next.Session s) = refl
+terms-sent kit (next.Connection s) = refl
+terms-sent kit (next.Parameter s) = refl
+terms-sent kit (next.Data s) = refl
+
+terms-replied : (kit : KitView) (n : Now) → machine.terms_in (machine.replied kit n) ≡ machine.terms_in n
+terms-replied kit (now.Reset s) = refl
+terms-replied kit (now.Session s) = refl
+terms-replied kit (now.Connection s) = refl
+terms-replied kit (now.Parameter s) = refl
+terms-replied kit (now.Data s) = refl
+terms-replied kit (now.Due due) = terms-sent kit due.next
+
+outputs-sent : (kit : KitView) (n : Next) → machine.outputs_in kit.settings (machine.sent_state kit n) ≡ machine.outputs_in_next kit.settings n
+outputs-sent kit (next.Reset x) = refl
+outputs-sent kit (next.Begin last) = refl
+outputs-sent kit (next.Session s) = refl
+outputs-sent kit (next.Connection s) = refl
+outputs-sent kit (next.Parameter s) = refl
+outputs-sent kit (next.Data s) = refl
+
+outputs-replied : (kit : KitView) (n : Now) → machine.outputs_in kit.settings (machine.replied kit n) ≡ machine.outputs_in kit.settings n
+outputs-replied kit (now.Reset s) = refl
+outputs-replied kit (now.Session s) = refl
+outputs-replied kit (now.Connection s) = refl
+outputs-replied kit (now.Parameter s) = refl
+outputs-replied kit (now.Data s) = refl
+outputs-replied kit (now.Due due) = outputs-sent kit due.next
+
+-- the readers
+pub state_due : (v : MasterView) (shown : State) → shown ≡ machine.state_of v.state → ShowsDue v shown state_of
+state_due v shown i = shows-due v shown state_of (state_shown (replies v) shown (i ∙ sym (state-replied v.kit v.state)))
+
+pub terms_due : (v : MasterView) (shown : Option Terms) → shown ≡ machine.terms_in v.state → ShowsDue v shown told_terms
+terms_due v shown i = shows-due v shown told_terms (terms_shown (replies v) shown (i ∙ sym (terms-replied v.kit v.state)))
+
+pub outputs_due : (v : MasterView) (shown : List ℕ) → shown ≡ machine.outputs_in v.kit.settings v.state → ShowsDue v shown out
+outputs_due v shown i = shows-due v shown out (outputs_shown (replies v) shown (i ∙ sym (outputs-replied v.kit v.state)))
+
+pub age_due : (v : MasterView) (shown : ℕ) → shown ≡ v.timer.age → ShowsDue v shown age
+age_due v shown i = shows-due v shown age (age_shown (replies v) shown i)
+
+pub offer_due : (v : MasterView) (shown : List ℕ) → shown ≡ v.kit.offer.load → ShowsDue v shown offer
+offer_due v shown i = shows-due v shown offer (offer_shown (replies v) shown i)
+
+pub held_due : (v : MasterView) (shown : Bool) → shown ≡ v.kit.offer.held → ShowsDue v shown (λ s e. held e)
+held_due v shown i = shows-due v shown (λ s e. held e) (held_shown (replies v) shown i)
