@@ -8,10 +8,11 @@ use Rattle.param_load.specs.Payload.{session_payload, connection_payload, parame
 use Rattle.param_load.specs.Profile.{allows_id}
 use Rattle.failsafe_io.specs.Offer.{OfferView, first_offer}
 
--- the safe data bytes of a frame of the master, and of one of its slave
+-- the safe data bytes of a frame of the master
 abbrev pub own_len : MasterSettings → ℕ
 own_len settings = settings.lengths.master
 
+-- the safe data bytes of a frame of its slave
 abbrev pub peer_len : MasterSettings → ℕ
 peer_len settings = settings.lengths.slave
 
@@ -34,13 +35,15 @@ pub record IsKit (k : KitView) : Type 0 where
   pub offer_len : length k.offer.load ≡ own_len k.settings
   pub nonce_allowed : IsTrue (allows_id k.settings.profile k.nonce)
 
--- what a master downloads: its session id, which no answer repeats, then the connection id and the address, then the parameters
+-- what a master downloads first is its session id, which no answer repeats
 abbrev pub session_download : KitView → DownloadView
 session_download k = download (session_payload k.nonce k.settings.profile) (piece_of k.settings) false
 
+-- what it downloads then are the connection id and the address, which each answer repeats
 abbrev pub connection_download : MasterSettings → DownloadView
 connection_download settings = download (connection_payload settings.conn settings.address) (piece_of settings) true
 
+-- what it downloads last are the parameters, which each answer repeats
 abbrev pub parameter_download : MasterSettings → DownloadView
 parameter_download settings = download (parameter_payload settings.watchdog settings.profile settings.app) (piece_of settings) true
 

@@ -80,21 +80,22 @@ abbrev pub on_session : MasterView → SessionFrameView → Option Code → Acce
 on_session v f None = settles v f (taken v.kit v.state f)
 on_session v f (Some x) = refuses v x
 
+-- a frame is accepted, by what the tests that need no session say of it
 abbrev pub accepted_by : MasterView → Opened → Accepted
 accepted_by v (opened_as.Drop why) = drops v why
 accepted_by v (opened_as.Refuse x) = refuses v x
 accepted_by v (opened_as.ResetFrame x f) = on_reset_frame v x f
 accepted_by v (opened_as.OfSession f) = on_session v f (fault v.kit.settings v.state f)
 
--- a frame is accepted
+-- a frame is accepted: it is tested for its length, and against the frame that was taken last
 abbrev pub accepted : MasterView → List ℕ → Accepted
 accepted v bytes = accepted_by v (opened (peer_len v.kit.settings) (is_repeat (kept v.state) bytes) bytes)
 
--- the frame that is due is sent
+-- the frame that is due is sent, and the master is in the state that it leads to
 abbrev pub replies : MasterView → MasterView
 replies v = record v { state = replied v.kit v.state }
 
--- a frame is accepted, and the frame that is due then is sent
+-- after a frame was accepted so, the frame that is due then is sent
 abbrev pub answered_by : Accepted → Outcome
 answered_by a = record {
   master = replies a.master;
@@ -102,6 +103,7 @@ answered_by a = record {
   sent = reply a.master.kit a.master.state;
 }
 
+-- a frame is accepted, and the frame that is due then is sent at once
 abbrev pub delivered : MasterView → List ℕ → Outcome
 delivered v bytes = answered_by (accepted v bytes)
 
@@ -120,7 +122,7 @@ expires v =
     then record { master = record v { timer = started v.kit.settings }; did = record did.nothing { sent = true }; sent = reset_frame 0 (own_len v.kit.settings) }
     else falls v (cause.Found (code 0x05)) (code 0x05)
 
--- a tick
+-- a tick makes the age one more, and expires where that reaches the limit
 abbrev pub tick_of : MasterView → Outcome
 tick_of v =
     if v.timer.age + 1 == v.timer.limit

@@ -20,7 +20,7 @@ use Rattle.master_core.specs.Kit.{KitView, own_len, peer_len}
 use Rattle.master_core.specs.States.{no_session, fresh, first_exchange, piece_sent, piece_frame, session_next, connection_next, parameter_next, data_next, data_sent, data_frame}
 use Rattle.master_core.specs.Views.{ExchangeUnder, DataUnder}
 
--- a state was made under these settings
+-- what is to be sent was made under these settings
 abbrev pub NextUnder : MasterSettings → Next → Type 0
 NextUnder settings (next.Reset x) = Unit {0}
 NextUnder settings (next.Begin last) = Unit {0}
@@ -29,6 +29,7 @@ NextUnder settings (next.Connection s) = ExchangeUnder settings s
 NextUnder settings (next.Parameter s) = ExchangeUnder settings s
 NextUnder settings (next.Data s) = DataUnder settings s
 
+-- a state was made under these settings
 abbrev pub IsUnder : MasterSettings → Now → Type 0
 IsUnder settings (now.Reset s) = Unit {0}
 IsUnder settings (now.Session s) = ExchangeUnder settings s
@@ -37,6 +38,7 @@ IsUnder settings (now.Parameter s) = ExchangeUnder settings s
 IsUnder settings (now.Data s) = DataUnder settings s
 IsUnder settings (now.Due due) = NextUnder settings due.next
 
+-- whether there is no session
 abbrev pub is_reset : Now → Bool
 is_reset (now.Reset s) = true
 is_reset _ = false
@@ -46,7 +48,7 @@ abbrev pub is_due : Now → Bool
 is_due (now.Due due) = true
 is_due _ = false
 
--- the state: while a frame is due, that after it is sent
+-- the state after the frame that is due is sent
 abbrev pub state_of_next : Next → State
 state_of_next (next.Reset x) = state.Reset
 state_of_next (next.Begin last) = state.Session
@@ -55,6 +57,7 @@ state_of_next (next.Connection s) = state.Connection
 state_of_next (next.Parameter s) = state.Parameter
 state_of_next (next.Data s) = state.Data
 
+-- the state: while a frame is due, that after it is sent
 abbrev pub state_of : Now → State
 state_of (now.Reset s) = state.Reset
 state_of (now.Session s) = state.Session
@@ -108,7 +111,7 @@ taken kit (now.Parameter s) f = parameter_next kit s f
 taken kit (now.Data s) f = data_next s f
 taken kit _ f = Err (code 0x01)
 
--- the state after the frame that is due was sent, and that frame
+-- the machine's state after the frame that is due was sent
 abbrev pub sent_state : KitView → Next → Now
 sent_state kit (next.Reset x) = now.Reset no_session
 sent_state kit (next.Begin last) = now.Session (piece_sent command.Session 0 kit (first_exchange kit last))
@@ -117,6 +120,7 @@ sent_state kit (next.Connection s) = now.Connection (piece_sent command.Connecti
 sent_state kit (next.Parameter s) = now.Parameter (piece_sent command.Parameter kit.settings.conn kit s)
 sent_state kit (next.Data s) = now.Data (data_sent kit s)
 
+-- the frame that is due, with the kit of the moment when it is sent
 abbrev pub due_frame : KitView → Next → List ℕ
 due_frame kit (next.Reset x) = reset_frame x.0 (own_len kit.settings)
 due_frame kit (next.Begin last) = piece_frame command.Session 0 kit (first_exchange kit last)
@@ -125,29 +129,33 @@ due_frame kit (next.Connection s) = piece_frame command.Connection kit.settings.
 due_frame kit (next.Parameter s) = piece_frame command.Parameter kit.settings.conn kit s
 due_frame kit (next.Data s) = data_frame kit s
 
+-- the machine's state after the frame that is due was sent, if one is
 abbrev pub replied : KitView → Now → Now
 replied kit (now.Due due) = sent_state kit due.next
 replied kit now = now
 
+-- the frame that is due, empty where none is
 abbrev pub reply : KitView → Now → List ℕ
 reply kit (now.Due due) = due_frame kit due.next
 reply kit _ = []
 
--- the outputs: zeros in every state but Data
+-- the outputs after the frame that is due is sent: zeros in every state but Data
 abbrev pub outputs_in_next : MasterSettings → Next → List ℕ
 outputs_in_next settings (next.Data s) = s.outputs
 outputs_in_next settings _ = replicate (peer_len settings) 0
 
+-- the outputs: zeros in every state but Data
 abbrev pub outputs_in : MasterSettings → Now → List ℕ
 outputs_in settings (now.Data s) = s.outputs
 outputs_in settings (now.Due due) = outputs_in_next settings due.next
 outputs_in settings _ = replicate (peer_len settings) 0
 
--- the terms, which are there in state Data
+-- the terms after the frame that is due is sent, exactly in state Data
 abbrev pub terms_in_next : Next → Option Terms
 terms_in_next (next.Data s) = Some s.terms
 terms_in_next _ = None
 
+-- the terms, exactly in state Data
 abbrev pub terms_in : Now → Option Terms
 terms_in (now.Data s) = Some s.terms
 terms_in (now.Due due) = terms_in_next due.next

@@ -21,17 +21,19 @@ use Rattle.master_core.specs.declared.due.Next.TheVariants as next
 use Rattle.master_core.specs.Kit.{KitView, own_len, peer_len, session_download, connection_download, parameter_download, terms_of}
 use Rattle.master_core.specs.Views.{ExchangeView, DataView}
 
+-- state Reset keeps nothing
 abbrev pub no_session : InReset
 no_session = record { private = tt }
 
+-- the chain of a session in which no frame was sent or taken yet
 abbrev pub fresh : Chain
 fresh = record { own = None; taken = None }
 
--- the chain after a frame is sent
+-- the chain after a frame with this connection id, command and load is sent
 abbrev pub chain_sent : Chain → ℕ → Command → List ℕ → Chain
 chain_sent chain conn cmd load = after_sent chain (sealed_by chain conn (command_byte cmd) load)
 
--- the frame
+-- the bytes of that frame
 abbrev pub frame_sent : Chain → ℕ → Command → List ℕ → List ℕ
 frame_sent chain conn cmd load = bytes_of (sealed_by chain conn (command_byte cmd) load)
 
@@ -39,10 +41,11 @@ frame_sent chain conn cmd load = bytes_of (sealed_by chain conn (command_byte cm
 abbrev pub piece_load : KitView → ExchangeView → List ℕ
 piece_load kit x = padded (piece_in_turn x.download) (own_len kit.settings)
 
--- a phase after the frame with the piece in turn is sent, and that frame
+-- a phase after the frame with the piece in turn is sent
 abbrev pub piece_sent : Command → ℕ → KitView → ExchangeView → ExchangeView
 piece_sent cmd conn kit x = record x { chain = chain_sent x.chain conn cmd (piece_load kit x) }
 
+-- the frame with the piece in turn
 abbrev pub piece_frame : Command → ℕ → KitView → ExchangeView → List ℕ
 piece_frame cmd conn kit x = frame_sent x.chain conn cmd (piece_load kit x)
 
@@ -62,28 +65,33 @@ with_download x d = record x { download = d }
 abbrev pub first_data : KitView → ExchangeView → DataView
 first_data kit x = record { chain = x.chain; terms = terms_of kit.settings; outputs = replicate (peer_len kit.settings) 0; last = x.last }
 
--- after an answer a phase goes on until its download is whole, then the next one begins
+-- by what the download said of an answer, Session goes on, or Connection begins where the session id is whole
 abbrev pub session_by : Result Progress Code → KitView → ExchangeView → Result Next Code
 session_by (Err x) kit e = Err x
 session_by (Ok progress.More) kit e = Ok (next.Session e)
 session_by (Ok progress.Whole) kit e = Ok (next.Connection (with_download e (connection_download kit.settings)))
 
+-- what an answer in Session leads to
 abbrev pub session_next : KitView → ExchangeView → SessionFrameView → Result Next Code
 session_next kit x f = session_by (outcome x.download f.frame.load) kit (answered x f)
 
+-- in the same way Connection goes on, or Parameter begins
 abbrev pub connection_by : Result Progress Code → KitView → ExchangeView → Result Next Code
 connection_by (Err x) kit e = Err x
 connection_by (Ok progress.More) kit e = Ok (next.Connection e)
 connection_by (Ok progress.Whole) kit e = Ok (next.Parameter (with_download e (parameter_download kit.settings)))
 
+-- what an answer in Connection leads to
 abbrev pub connection_next : KitView → ExchangeView → SessionFrameView → Result Next Code
 connection_next kit x f = connection_by (outcome x.download f.frame.load) kit (answered x f)
 
+-- in the same way Parameter goes on, or Data begins
 abbrev pub parameter_by : Result Progress Code → KitView → ExchangeView → Result Next Code
 parameter_by (Err x) kit e = Err x
 parameter_by (Ok progress.More) kit e = Ok (next.Parameter e)
 parameter_by (Ok progress.Whole) kit e = Ok (next.Data (first_data kit e))
 
+-- what an answer in Parameter leads to
 abbrev pub parameter_next : KitView → ExchangeView → SessionFrameView → Result Next Code
 parameter_next kit x f = parameter_by (outcome x.download f.frame.load) kit (answered x f)
 
@@ -91,6 +99,7 @@ parameter_next kit x f = parameter_by (outcome x.download f.frame.load) kit (ans
 abbrev pub data_answered : DataView → SessionFrameView → DataView
 data_answered s f = record { chain = after_taken s.chain f.frame; terms = s.terms; outputs = outputs_of f.command f.frame.load; last = bytes_of f.frame }
 
+-- what a data frame of the slave leads to: state Data goes on, and FailSafeData with other data than zeros has code 07h
 abbrev pub data_next : DataView → SessionFrameView → Result Next Code
 data_next s f = if data_holds f.command f.frame.load then Ok (next.Data (data_answered s f)) else Err (code 0x07)
 
@@ -99,9 +108,10 @@ abbrev pub in_place : Result (Unit {0}) Code → DataView → Result Next Code
 in_place (Ok done) s = Ok (next.Data s)
 in_place (Err x) s = Err x
 
--- state Data after a data frame is sent, and that frame
+-- state Data after a data frame is sent
 abbrev pub data_sent : KitView → DataView → DataView
 data_sent kit s = record s { chain = chain_sent s.chain s.terms.conn (data_command kit.offer) (data_load kit.offer) }
 
+-- that data frame: it carries the offer, or zeros while the master is held
 abbrev pub data_frame : KitView → DataView → List ℕ
 data_frame kit s = frame_sent s.chain s.terms.conn (data_command kit.offer) (data_load kit.offer)

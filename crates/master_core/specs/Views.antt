@@ -15,6 +15,7 @@ pub record ExchangeView : Type 0 where
   pub download : DownloadView
   pub last : List ℕ
 
+-- state Data: the chain, the terms, the outputs, and the frame taken last
 pub record DataView : Type 0 where
   pub chain : Chain
   pub terms : Terms
@@ -26,6 +27,7 @@ pub record ExchangeUnder (settings : MasterSettings) (x : ExchangeView) : Type 0
   pub piece_is : x.download.piece ≡ piece_of settings
   pub more : is_whole x.download ≡ false
 
+-- state Data was made under these settings: the outputs have the length of the slave's frames
 pub record DataUnder (settings : MasterSettings) (s : DataView) : Type 0 where
   pub outputs_len : length s.outputs ≡ peer_len settings
 
