@@ -1,7 +1,20 @@
 -- What a master shows while a frame is due is what it shows after the reply.
-use Rattle.std.proofs.Common.{◌≡◌, ℕ, List, ◌∷◌, Bool, Option, refl, sym, ◌∙◌}
+use Rattle.std.proofs.Common.{◌≡◌, ℕ, ◌==◌, List, ◌∷◌, Bool, true, false, Option, Some, None, Result, Ok, Err, if◌then◌else◌, IsTrue, refl, sym, ap, ◌∙◌}
+use Rattle.fsoe_base.specs.declared.command.Code.{Code}
+use Rattle.fsoe_base.specs.declared.command.Command.TheVariants as command
 use Rattle.fsoe_base.specs.declared.command.State.{State}
+use Rattle.fsoe_base.specs.declared.command.State.TheVariants as state
+use Rattle.fsoe_base.specs.declared.did.Cause.TheVariants as cause
 use Rattle.fsoe_base.specs.declared.did.Did.{Did}
+use Rattle.fsoe_base.specs.declared.did.Dropped.{Dropped}
+use Rattle.fsoe_base.specs.declared.did.Dropped.TheVariants as dropped
+use Rattle.fsoe_base.specs.Command.{code}
+use Rattle.fsoe_base.specs.Did.{takes}
+use Rattle.fsoe_frame.specs.Parts.{Frame, bytes_of}
+use Rattle.seq_chain.specs.declared.opened.Opened.{Opened}
+use Rattle.seq_chain.specs.declared.opened.Opened.TheVariants as opened_as
+use Rattle.seq_chain.specs.Opened.{opened}
+use Rattle.seq_chain.specs.SessionFrame.{SessionFrameView}
 use Rattle.param_load.specs.declared.entry.Move.TheVariants as move
 use Rattle.param_load.specs.declared.master_settings.MasterSettings.{MasterSettings}
 use Rattle.param_load.specs.declared.terms.Terms.{Terms}
@@ -11,16 +24,18 @@ use Rattle.end_model.specs.Outputs.{out}
 use Rattle.end_model.specs.Readiness.{state_of, age, told_terms, offer, held}
 use Rattle.end_model.specs.Standing.{Shows}
 use Rattle.end_model.specs.Step.{step}
+use Rattle.end_model.specs.Verdict.{is_repeat}
 use Rattle.master_core.specs.declared.due.Next.{Next}
 use Rattle.master_core.specs.declared.due.Next.TheVariants as next
 use Rattle.master_core.specs.declared.now.Now.{Now}
 use Rattle.master_core.specs.declared.now.Now.TheVariants as now
-use Rattle.master_core.specs.Kit.{KitView}
-use Rattle.master_core.specs.Master.{replies}
+use Rattle.master_core.specs.Kit.{KitView, peer_len}
+use Rattle.master_core.specs.Master.{Accepted, drops, leaves, ends, begins, settles, refuses, on_session, accepted_by, replies}
 use Rattle.master_core.specs.MasterView.{MasterView}
 use Rattle.master_core.specs.Now as machine
-use Rattle.master_core.specs.ViewOf.{view_of}
-use Rattle.master_core.specs.Waiting.{ShowsDue}
+use Rattle.master_core.specs.Now.{is_reset, is_due, kept, fault, taken}
+use Rattle.master_core.specs.ViewOf.{Notes, notes_of, now_in, view_of}
+use Rattle.master_core.specs.Waiting.{Waits, ShowsDue}
 use Rattle.master_core.proofs.Law.{state_shown, terms_shown, outputs_shown, age_shown, offer_shown, held_shown}
 use Rattle.master_core.proofs.Waiting.{replies_by}
 
@@ -97,3 +112,49 @@ offer_due v shown i = shows-due v shown offer (offer_shown (replies v) shown i)
 
 pub held_due : (v : MasterView) (shown : Bool) → shown ≡ v.kit.offer.held → ShowsDue v shown (λ s e. held e)
 held_due v shown i = shows-due v shown (λ s e. held e) (held_shown (replies v) shown i)
+
+-- a frame that is accepted leaves the age at 0 where a frame is due then
+abbrev StartsAge : Accepted → Type 0
+StartsAge a = is_due a.master.state ≡ true → a.master.timer.age ≡ 0
+
+either-starts : (b : Bool) (x y : Accepted) → StartsAge x → StartsAge y → StartsAge (if b then x else y)
+either-starts true x y h i = h
+either-starts false x y h i = i
+
+drops-starts : (v : MasterView) (why : Dropped) → is_due v.state ≡ false → StartsAge (drops v why)
+drops-starts v why h = λ k. absurd (cc (h, k))
+
+refused-starts : (x : Code) (v : MasterView) → is_due v.state ≡ false → StartsAge (refuses v x)
+refused-starts x v h = either-starts (is_reset v.state) (drops v dropped.InReset) (ends v false (cause.Found x) x) (drops-starts v dropped.InReset h) (λ k. refl)
+
+begins-starts : (x : Code) (f : Frame) (v : MasterView) → is_due v.state ≡ false → StartsAge (begins v x f)
+begins-starts x f v h = either-starts (x.0 == 0) (leaves v (next.Begin (bytes_of f)) (takes command.Reset f.load false)) (drops v dropped.InReset) (λ k. refl) (drops-starts v dropped.InReset h)
+
+settles-starts : (r : Result Next Code) (v : MasterView) (f : SessionFrameView) → StartsAge (settles v f r)
+settles-starts (Ok x) v f = λ k. refl
+settles-starts (Err x) v f = λ k. refl
+
+session-starts : (w : Option Code) (v : MasterView) (f : SessionFrameView) → is_due v.state ≡ false → StartsAge (on_session v f w)
+session-starts None v f h = settles-starts (taken v.kit v.state f) v f
+session-starts (Some x) v f h = refused-starts x v h
+
+opened-starts : (w : Opened) (v : MasterView) → is_due v.state ≡ false → StartsAge (accepted_by v w)
+opened-starts (opened_as.Drop why) v h = drops-starts v why h
+opened-starts (opened_as.Refuse x) v h = refused-starts x v h
+opened-starts (opened_as.ResetFrame x f) v h = either-starts (is_reset v.state) (begins v x f) (ends v false (cause.Peer x) (code 0)) (begins-starts x f v h) (λ k. refl)
+opened-starts (opened_as.OfSession f) v h = session-starts (fault v.kit.settings v.state f) v f h
+
+-- no frame is due after deeds
+none-due : (p : State) (ms : MasterSettings) (n : Notes) → is_due (now_in p ms n) ≡ false
+none-due state.Reset ms n = refl
+none-due state.Session ms n = refl
+none-due state.Connection ms n = refl
+none-due state.Parameter ms n = refl
+none-due state.Data ms n = refl
+
+-- while a frame is due the age is 0
+pub age_zero : (v : MasterView) (shown : ℕ) → shown ≡ v.timer.age → (ms : MasterSettings) (e : List Deed) (bytes : List ℕ) (done : Did) → Waits ms v e bytes done → IsTrue (is_due v.state) → shown ≡ 0
+age_zero v shown i ms e bytes done w k =
+    let rest = none-due (state_of (OfMaster ms) e) ms (notes_of ms e) in
+    let start = opened-starts (opened (peer_len ms) (is_repeat (kept (view_of ms e).state) bytes) bytes) (view_of ms e) rest in
+    i ∙ ap (λ (v : MasterView). v.timer.age) w.is ∙ start (sym (ap (λ (v : MasterView). is_due v.state) w.is) ∙ k)

@@ -33,7 +33,7 @@ impl Model for Master {
 }
 
 impl Master {
-    ghost use Rattle.std.specs.Prelude.{◌≡◌, ◌≤◌, ◌||◌, false, IsTrue, IfSome, OnSome, IfNone, is_some, length, [], option_copied};
+    ghost use Rattle.std.specs.Prelude.{◌≡◌, ◌≤◌, ◌||◌, ℕ, List, false, IsTrue, IfSome, OnSome, IfNone, is_some, length, [], option_copied};
     ghost use Rattle.param_load.specs.Profile.{allows_id};
     ghost use Rattle.master_core.specs.Kit.{own_len, peer_len};
     ghost use Rattle.master_core.specs.Master.{leaves, ends, refuses, on_reset_frame, settles, accepted, replies, delivered, falls, tick_of};
@@ -41,11 +41,14 @@ impl Master {
     ghost use Rattle.master_core.specs.ViewOf.{view_of};
     ghost use Rattle.master_core.specs.Views.{HasPassed};
     ghost use Rattle.param_load.specs.declared.entry.Move.TheVariants as event;
+    ghost use Rattle.fsoe_base.specs.declared.did.Did.{Did};
+    ghost use Rattle.param_load.specs.declared.master_settings.MasterSettings.{MasterSettings};
+    ghost use Rattle.end_model.specs.Deed.{Deed};
     ghost use Rattle.end_model.specs.Setup.{OfMaster};
     ghost use Rattle.end_model.specs.Readiness as model;
     ghost use Rattle.end_model.specs.Outputs.{out};
     ghost use Rattle.end_model.specs.Standing.{Stands, Follows, Answers, Shows};
-    ghost use Rattle.master_core.specs.Waiting.{Accepts, Keeps, Replies, ShowsDue};
+    ghost use Rattle.master_core.specs.Waiting.{Waits, Accepts, Keeps, Replies, ShowsDue};
 
     /// A master with these settings: in state Reset, with zeros to offer and to give, and not held. Its first tick
     /// reaches its limit.
@@ -438,6 +441,7 @@ impl Master {
     pub fn age(&self) -> u16
         ensures shown { Shows OfMaster view_of self.now result model.age }
         ensures shown_due { ShowsDue self.now result model.age }
+        ensures zero_while_due { (settings : MasterSettings) (e : List Deed) (bytes : List ℕ) (done : Did) → Waits settings self.now e bytes done → IsTrue (is_due self.now.state) → result ≡ 0 }
     {
         self.watchdog.age()
     }
