@@ -1,5 +1,5 @@
 -- A master that accepted a frame: what is put, held or set meanwhile counts as if it had come before, and the reply ends the delivery.
-use Rattle.std.proofs.Common.{◌≡◌, ℕ, List, ◌∷◌, ◌==◌, Bool, true, false, ◌||◌, is_some, Option, Some, None, Result, Ok, Err, if◌then◌else◌, IsTrue, length, refl, sym, ap, subst, ◌∙◌}
+use Rattle.std.proofs.Common.{◌≡◌, ℕ, List, ◌==◌, Bool, true, false, ◌||◌, is_some, Option, Some, None, Result, Ok, Err, if◌then◌else◌, IsTrue, length, refl, sym, ap, subst, ◌∙◌}
 use Rattle.fsoe_base.specs.declared.command.Code.{Code}
 use Rattle.fsoe_base.specs.declared.command.Command.TheVariants as command
 use Rattle.fsoe_base.specs.declared.did.Cause.{Cause}
@@ -25,7 +25,7 @@ use Rattle.seq_chain.specs.SessionFrame.{SessionFrameView}
 use Rattle.end_model.specs.Setup.{OfMaster}
 use Rattle.end_model.specs.Deed.{Deed}
 use Rattle.end_model.specs.Standing.{Stands}
-use Rattle.end_model.specs.Step.{step, did_on, IsProper}
+use Rattle.end_model.specs.Step.{did_on, IsProper}
 use Rattle.master_core.specs.declared.due.Next.{Next}
 use Rattle.master_core.specs.declared.due.Next.TheVariants as next
 use Rattle.master_core.specs.declared.now.Now.{Now}
@@ -40,7 +40,7 @@ use Rattle.master_core.specs.Now.{is_reset, is_due, kept, fault, taken, replied,
 use Rattle.master_core.specs.States.{answered, session_by, connection_by, parameter_by}
 use Rattle.master_core.specs.Views.{ExchangeView}
 use Rattle.master_core.specs.ViewOf.{kit_of, view_of}
-use Rattle.master_core.specs.Waiting.{Waits, Accepts, Keeps, Replies}
+use Rattle.master_core.specs.Waiting.{Accepts, Keeps, Replies}
 use Rattle.master_core.proofs.Agrees.{Agrees, AreRead}
 use Rattle.master_core.proofs.Agreed.{agrees, run-sound}
 
