@@ -11,4 +11,3 @@ pub mod TakenData
 pub mod Agreed
 pub mod Law
 pub mod Transitions
-pub mod Repeats
