@@ -50,6 +50,93 @@ const HANDSHAKE: [Exchange; 8] = [
     ),
 ];
 
+/// A frame that fails a test at a slave of these settings, after so many frames of the handshake, with the code and
+/// the Reset frame that is sent.
+struct Refusal {
+    address: u16,
+    most: u16,
+    n: u16,
+    count: usize,
+    frame: [u8; 7],
+    code: u8,
+    sent: [u8; 7],
+}
+
+const REFUSALS: [Refusal; 8] = [
+    Refusal {
+        address: 3,
+        most: 1000,
+        n: 0,
+        count: 3,
+        frame: [0x64, 0x02, 0x00, 0x62, 0x5F, 0x01, 0x00],
+        code: 0x06,
+        sent: [0x2A, 0x06, 0x00, 0x17, 0x38, 0x00, 0x00],
+    },
+    Refusal {
+        address: 2,
+        most: 50,
+        n: 0,
+        count: 5,
+        frame: [0x52, 0x64, 0x00, 0x58, 0xDA, 0x01, 0x00],
+        code: 0x09,
+        sent: [0x2A, 0x09, 0x00, 0x83, 0x85, 0x00, 0x00],
+    },
+    Refusal {
+        address: 2,
+        most: 1000,
+        n: 1,
+        count: 6,
+        frame: [0x52, 0x00, 0x00, 0x71, 0x99, 0x01, 0x00],
+        code: 0x0A,
+        sent: [0x2A, 0x0A, 0x00, 0xB1, 0x13, 0x00, 0x00],
+    },
+    Refusal {
+        address: 2,
+        most: 1000,
+        n: 0,
+        count: 5,
+        frame: [0x52, 0x00, 0x00, 0xBD, 0xA7, 0x01, 0x00],
+        code: 0x09,
+        sent: [0x2A, 0x09, 0x00, 0x83, 0x85, 0x00, 0x00],
+    },
+    Refusal {
+        address: 2,
+        most: 1000,
+        n: 0,
+        count: 8,
+        frame: [0x00, 0x00, 0x00, 0x00, 0x00, 0x00, 0x00],
+        code: 0x02,
+        sent: [0x2A, 0x02, 0x00, 0x75, 0x21, 0x00, 0x00],
+    },
+    Refusal {
+        address: 2,
+        most: 1000,
+        n: 0,
+        count: 8,
+        frame: [0x4E, 0x01, 0x00, 0x12, 0x3E, 0x00, 0x00],
+        code: 0x01,
+        sent: [0x2A, 0x01, 0x00, 0x47, 0xB7, 0x00, 0x00],
+    },
+    Refusal {
+        address: 2,
+        most: 1000,
+        n: 0,
+        count: 8,
+        frame: [0x36, 0x01, 0x00, 0xCF, 0xA9, 0x02, 0x00],
+        code: 0x03,
+        sent: [0x2A, 0x03, 0x00, 0xF6, 0xBB, 0x00, 0x00],
+    },
+    Refusal {
+        address: 2,
+        most: 1000,
+        n: 0,
+        count: 8,
+        frame: [0x36, 0x01, 0x00, 0xCE, 0xA9, 0x01, 0x00],
+        code: 0x04,
+        sent: [0x2A, 0x04, 0x00, 0xA6, 0x34, 0x00, 0x00],
+    },
+];
+
 /// A data frame that follows the handshake.
 const DATA: [u8; 7] = [0x36, 0x01, 0x00, 0xCF, 0xA9, 0x01, 0x00];
 
@@ -88,92 +175,23 @@ fn a_handshake_is_answered_frame_by_frame(rt: HostRuntime) -> Result<(), Fail> {
 
 #[test]
 fn a_frame_that_fails_a_test_ends_the_session_with_its_code(rt: HostRuntime) -> Result<(), Fail> {
-    for (address, most, n, count, last, code, sent) in [
-        (
-            3,
-            1000,
-            0,
-            3,
-            [0x64, 0x02, 0x00, 0x62, 0x5F, 0x01, 0x00],
-            0x06,
-            [0x2A, 0x06, 0x00, 0x17, 0x38, 0x00, 0x00],
-        ),
-        (
-            2,
-            50,
-            0,
-            5,
-            [0x52, 0x64, 0x00, 0x58, 0xDA, 0x01, 0x00],
-            0x09,
-            [0x2A, 0x09, 0x00, 0x83, 0x85, 0x00, 0x00],
-        ),
-        (
-            2,
-            1000,
-            1,
-            6,
-            [0x52, 0x00, 0x00, 0x71, 0x99, 0x01, 0x00],
-            0x0A,
-            [0x2A, 0x0A, 0x00, 0xB1, 0x13, 0x00, 0x00],
-        ),
-        (
-            2,
-            1000,
-            0,
-            5,
-            [0x52, 0x00, 0x00, 0xBD, 0xA7, 0x01, 0x00],
-            0x09,
-            [0x2A, 0x09, 0x00, 0x83, 0x85, 0x00, 0x00],
-        ),
-        (
-            2,
-            1000,
-            0,
-            8,
-            [0x00, 0x00, 0x00, 0x00, 0x00, 0x00, 0x00],
-            0x02,
-            [0x2A, 0x02, 0x00, 0x75, 0x21, 0x00, 0x00],
-        ),
-        (
-            2,
-            1000,
-            0,
-            8,
-            [0x4E, 0x01, 0x00, 0x12, 0x3E, 0x00, 0x00],
-            0x01,
-            [0x2A, 0x01, 0x00, 0x47, 0xB7, 0x00, 0x00],
-        ),
-        (
-            2,
-            1000,
-            0,
-            8,
-            [0x36, 0x01, 0x00, 0xCF, 0xA9, 0x02, 0x00],
-            0x03,
-            [0x2A, 0x03, 0x00, 0xF6, 0xBB, 0x00, 0x00],
-        ),
-        (
-            2,
-            1000,
-            0,
-            8,
-            [0x36, 0x01, 0x00, 0xCE, 0xA9, 0x01, 0x00],
-            0x04,
-            [0x2A, 0x04, 0x00, 0xA6, 0x34, 0x00, 0x00],
-        ),
-    ] {
-        let frame = last.as_slice();
-        let mut slave = slave(address, most, n)?;
+    for row in &REFUSALS {
+        let frame = row.frame.as_slice();
+        let mut slave = slave(row.address, row.most, row.n)?;
         let mut out = FrameBuf::new();
-        begin(&mut slave, count);
+        begin(&mut slave, row.count);
         let did = slave.deliver(frame, &mut out);
-        assert_eq!(rt; did.reset, Some(Cause::Found(Code(code))), "after {last:?}");
-        assert_eq!(rt; did.passed, code >= 0x06, "after {last:?}");
-        assert_eq!(rt; out.bytes(), sent.as_slice());
+        assert_eq!(rt;
+            did.reset,
+            Some(Cause::Found(Code(row.code))),
+            "after {frame:?}"
+        );
+        assert_eq!(rt; did.passed, row.code >= 0x06, "after {frame:?}");
+        assert_eq!(rt; out.bytes(), row.sent.as_slice());
         assert_eq!(rt; slave.state(), State::Reset);
         assert_eq!(rt; slave.outputs(), [0, 0].as_slice());
         let did = slave.deliver(frame, &mut out);
-        assert!(rt; did.dropped == Some(Dropped::InReset) || last[0] == 0x4E);
+        assert!(rt; did.dropped == Some(Dropped::InReset) || row.frame[0] == 0x4E);
     }
     Ok(())
 }
