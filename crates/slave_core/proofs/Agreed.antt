@@ -35,7 +35,7 @@ use Rattle.slave_core.specs.declared.states.InReset.{InReset}
 use Rattle.slave_core.specs.Slave.{Outcome, settles}
 use Rattle.slave_core.specs.After.{after}
 use Rattle.slave_core.specs.States.{terms_of, data_next, data_reply}
-use Rattle.slave_core.specs.Taken.{as_data, taken, reply}
+use Rattle.slave_core.specs.Taken.{as_data, next_state, reply}
 use Rattle.slave_core.specs.ViewOf.{Notes, notes_of, kit_of, upload_of, now_in, view_in, view_of}
 use Rattle.slave_core.proofs.Sound.{OfSession, OfConnection, OfParameters, count_of, Sound, SoundAt}
 use Rattle.slave_core.proofs.SameVerdict.{came, Came, Same, Long, Again, Refuses, ByReset, Passes, same}
@@ -65,7 +65,7 @@ Passed p ss e bytes c =
     Agrees ss e (move.Deliver bytes) (on_verdict p (OfSlave ss) (model.judged_contents c (came ss bytes).load (model.contents (OfSlave ss) e c (came ss bytes))))
     (settles (view_in p ss e) (record { command = c; frame = came ss bytes })
     (reply (kit_of ss e) (now_in p ss (notes_of ss e)) (record { command = c; frame = came ss bytes }))
-    (taken (kit_of ss e) (now_in p ss (notes_of ss e)) (record { command = c; frame = came ss bytes })))
+    (next_state (kit_of ss e) (now_in p ss (notes_of ss e)) (record { command = c; frame = came ss bytes })))
 
 -- the deed of such a frame ends a run
 abbrev RunOn : State → SlaveSettings → List Deed → List ℕ → Command → Type 0
@@ -172,7 +172,7 @@ runs-passed : (ss : SlaveSettings) (e : List Deed) (bytes : List ℕ) (d : Did) 
     (as_data (data_next (kit_of ss e) (notes_of ss e).chain (terms (OfSlave ss) e) (record { command = c; frame = came ss bytes })))))
     → Agrees ss e (move.Deliver bytes) d (settles (view_in state.Parameter ss e) (record { command = c; frame = came ss bytes })
     (reply (kit_of ss e) (now_in state.Parameter ss (notes_of ss e)) (record { command = c; frame = came ss bytes }))
-    (taken (kit_of ss e) (now_in state.Parameter ss (notes_of ss e)) (record { command = c; frame = came ss bytes })))
+    (next_state (kit_of ss e) (now_in state.Parameter ss (notes_of ss e)) (record { command = c; frame = came ss bytes })))
 runs-passed ss e bytes d c run h k agrees =
     let w : whole ss.profile state.Parameter (parameters ss e) ≡ true = whole_parameters ss e run ∙ k in
     whole-branch state.Parameter ss e bytes c _ _ _ _ _ (is_whole (upload_of ss (expected.Parameter ss.most ss.rule ss.profile) (notes_of ss e).parameter)) k

@@ -31,7 +31,7 @@ use Rattle.end_model.proofs.Links.{own_crc}
 use Rattle.end_model.proofs.SlaveShown.{parameters}
 use Rattle.slave_core.specs.Now as machine
 use Rattle.slave_core.specs.Slave.{Outcome, drops, refuses, reset_by_peer, settles, on_session, delivered_by, delivered}
-use Rattle.slave_core.specs.Taken.{taken, reply}
+use Rattle.slave_core.specs.Taken.{next_state, reply}
 use Rattle.slave_core.specs.ViewOf.{Notes, notes_of, kit_of, now_in, view_in}
 use Rattle.slave_core.proofs.Sound.{SoundAt}
 
@@ -56,10 +56,10 @@ pub data Same (p : State) (ss : SlaveSettings) (e : List Deed) (bytes : List ℕ
       → Same p ss e bytes (model.judged_contents c (came ss bytes).load (model.contents (OfSlave ss) e c (came ss bytes)))
       (settles (view_in p ss e) (record { command = c; frame = came ss bytes })
       (reply (kit_of ss e) (now_in p ss (notes_of ss e)) (record { command = c; frame = came ss bytes }))
-      (taken (kit_of ss e) (now_in p ss (notes_of ss e)) (record { command = c; frame = came ss bytes })))
+      (next_state (kit_of ss e) (now_in p ss (notes_of ss e)) (record { command = c; frame = came ss bytes })))
 
 -- the frame that is kept, and the chain
-kept-same : (p : State) (ss : SlaveSettings) (e : List Deed) → SoundAt p ss e → machine.kept (now_in p ss (notes_of ss e)) ≡ kept (since e)
+kept-same : (p : State) (ss : SlaveSettings) (e : List Deed) → SoundAt p ss e → machine.last_taken (now_in p ss (notes_of ss e)) ≡ kept (since e)
 kept-same state.Reset ss e h = sym (ap (λ (n : Notes). n.kept) h.1)
 kept-same state.Session ss e h = sym h.kept_is
 kept-same state.Connection ss e h = sym h.kept_is

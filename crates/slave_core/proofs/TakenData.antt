@@ -49,8 +49,8 @@ abbrev taking : SlaveSettings → List ℕ → Command → List ℕ → Deed
 taking ss bytes c sent = record { what = move.Deliver bytes; did = takes c (came ss bytes).load; sent = sent }
 
 -- the answer with this command and load
-abbrev reply : SlaveSettings → List Deed → List ℕ → Command → Command → List ℕ → List ℕ
-reply ss e bytes c c2 load = answer (notes_of ss e).chain (seen ss bytes c) (conn_of ss e) c2 load
+abbrev data_answer : SlaveSettings → List Deed → List ℕ → Command → Command → List ℕ → List ℕ
+data_answer ss e bytes c c2 load = answer (notes_of ss e).chain (seen ss bytes c) (conn_of ss e) c2 load
 
 -- the slave after a data frame and this answer
 abbrev gone_on : SlaveSettings → List Deed → List ℕ → Command → Command → List ℕ → SlaveView
@@ -74,9 +74,9 @@ same_data : (t : Terms) (c c' : Chain) (o o' l l' : List ℕ) → c ≡ c' → o
 same_data t c c' o o' l l' h j g = rw (h, j, g) refl
 
 data-chain : (ss : SlaveSettings) (e : List Deed) (bytes : List ℕ) (c c2 : Command) (load : List ℕ) → is_reset c ≡ false → length load ≡ ss.lengths.slave
-    → chain_at (OfSlave ss) (taking ss bytes c (reply ss e bytes c c2 load) ∷ since e) ≡ answered (notes_of ss e).chain (seen ss bytes c) (conn_of ss e) c2 load
+    → chain_at (OfSlave ss) (taking ss bytes c (data_answer ss e bytes c c2 load) ∷ since e) ≡ answered (notes_of ss e).chain (seen ss bytes c) (conn_of ss e) c2 load
 data-chain ss e bytes c c2 load r h =
-    chain-next (OfSlave ss) (since e) bytes (came ss bytes).load (reply ss e bytes c c2 load) c (conn_of ss e) c2 load r refl
+    chain-next (OfSlave ss) (since e) bytes (came ss bytes).load (data_answer ss e bytes c c2 load) c (conn_of ss e) c2 load r refl
     (read_back (OfSlave ss) (since (begun (move.Deliver bytes) (takes command.Session (came ss bytes).load) ∷ e)) (conn_of ss e) c2 load h)
 
 -- what is known before a data frame
@@ -89,7 +89,7 @@ record Ready (ss : SlaveSettings) (e : List Deed) (bytes : List ℕ) : Type 0 wh
   some : 0 < slave_limit ss (notes_of ss e).parameter
 
 after : (ss : SlaveSettings) (e : List Deed) (bytes : List ℕ) (c c2 : Command) (load : List ℕ) → is_data c ≡ true → is_data c2 ≡ true → length load ≡ ss.lengths.slave → Ready ss e bytes
-    → After ss e bytes c (reply ss e bytes c c2 load) (gone_on ss e bytes c c2 load)
+    → After ss e bytes c (data_answer ss e bytes c c2 load) (gone_on ss e bytes c c2 load)
 after ss e bytes command.ProcessData command.ProcessData load d d2 h y =
     let j : Connected ss e = y.connected in
     record {
@@ -141,7 +141,7 @@ after ss e bytes c command.Parameter load d d2 h y = absurd (cc d2)
 
 -- an answer is fail-safe data while the slave is held, else its offer
 after-held : (ss : SlaveSettings) (e : List Deed) (bytes : List ℕ) (c : Command) (h : Bool) (n : ℕ) → n ≡ ss.lengths.slave → is_data c ≡ true → Ready ss e bytes
-    → After ss e bytes c (reply ss e bytes c (if h then command.FailSafeData else command.ProcessData) (if h then replicate n 0 else offer (OfSlave ss) e))
+    → After ss e bytes c (data_answer ss e bytes c (if h then command.FailSafeData else command.ProcessData) (if h then replicate n 0 else offer (OfSlave ss) e))
     (gone_on ss e bytes c (if h then command.FailSafeData else command.ProcessData) (if h then replicate n 0 else offer (OfSlave ss) e))
 after-held ss e bytes c true n i d y = after ss e bytes c command.FailSafeData (replicate n 0) d refl (length-replicate n 0 ∙ i) y
 after-held ss e bytes c false n i d y = after ss e bytes c command.ProcessData (offer (OfSlave ss) e) d refl y.sound.offer_len y
@@ -150,7 +150,7 @@ after-held ss e bytes c false n i d y = after ss e bytes c command.ProcessData (
 sent-held : (ss : SlaveSettings) (e before : List Deed) (bytes : List ℕ) (c : Command) (h : Bool) (load : List ℕ) (k n : ℕ) → k ≡ conn_of ss e → n ≡ ss.lengths.slave
     → ((k : ℕ) (c2 : Command) (load : List ℕ) → seal (OfSlave ss) before k c2 load ≡ answer (notes_of ss e).chain (seen ss bytes c) k c2 load)
     → (if h then seal (OfSlave ss) before k command.FailSafeData (replicate ss.lengths.slave 0) else seal (OfSlave ss) before k command.ProcessData load)
-    ≡ reply ss e bytes c (if h then command.FailSafeData else command.ProcessData) (if h then replicate n 0 else load)
+    ≡ data_answer ss e bytes c (if h then command.FailSafeData else command.ProcessData) (if h then replicate n 0 else load)
 sent-held ss e before bytes c true load k n h i f =
     f k command.FailSafeData (replicate ss.lengths.slave 0)
     ∙ ap (λ (k : ℕ). answer (notes_of ss e).chain (seen ss bytes c) k command.FailSafeData (replicate ss.lengths.slave 0)) h
@@ -161,7 +161,7 @@ sent-held ss e before bytes c false load k n h i f = f k command.ProcessData loa
 abbrev pub data_settles : Bool → State → SlaveSettings → List Deed → List ℕ → Command → Outcome
 data_settles b p ss e bytes c =
     settles (view_in p ss e) (seen ss bytes c)
-    (reply ss e bytes c (data_command (kit_of ss e).offer) (data_load (kit_of ss e).offer))
+    (data_answer ss e bytes c (data_command (kit_of ss e).offer) (data_load (kit_of ss e).offer))
     (as_data (if b then Ok (record {
       chain = answered (notes_of ss e).chain (seen ss bytes c) (conn_of ss e) (data_command (kit_of ss e).offer) (data_load (kit_of ss e).offer);
       terms = (notes_of ss e).terms;
@@ -171,7 +171,7 @@ data_settles b p ss e bytes c =
 
 -- a data frame is taken
 taken-agrees : (p : State) (ss : SlaveSettings) (e : List Deed) (bytes : List ℕ) (c : Command) → is_data c ≡ true → Ready ss e bytes
-    → (deed_of (OfSlave ss) e (move.Deliver bytes) (takes c (came ss bytes).load)).sent ≡ reply ss e bytes c (data_command (kit_of ss e).offer) (data_load (kit_of ss e).offer)
+    → (deed_of (OfSlave ss) e (move.Deliver bytes) (takes c (came ss bytes).load)).sent ≡ data_answer ss e bytes c (data_command (kit_of ss e).offer) (data_load (kit_of ss e).offer)
     → Agrees ss e (move.Deliver bytes) (takes c (came ss bytes).load) (data_settles true p ss e bytes c)
 taken-agrees p ss e bytes command.ProcessData d y sent =
     let done : After ss e bytes command.ProcessData _ _ = after-held ss e bytes command.ProcessData (held e) (length (offer (OfSlave ss) e)) y.sound.offer_len d y in

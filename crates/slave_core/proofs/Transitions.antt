@@ -21,11 +21,11 @@ use Rattle.slave_core.specs.declared.states.InReset.{InReset}
 use Rattle.slave_core.specs.After.{after}
 use Rattle.slave_core.specs.GoesOn.{Meets, GoesOn}
 use Rattle.slave_core.specs.Kit.{KitView}
-use Rattle.slave_core.specs.Now.{kept}
+use Rattle.slave_core.specs.Now.{last_taken}
 use Rattle.slave_core.specs.Slave.{Outcome, settles, refuses, on_session, delivered_by}
 use Rattle.slave_core.specs.SlaveView.{SlaveView}
 use Rattle.slave_core.specs.States as states
-use Rattle.slave_core.specs.Taken.{as_session, as_connection, as_parameter, as_data, taken, reply}
+use Rattle.slave_core.specs.Taken.{as_session, as_connection, as_parameter, as_data, next_state, reply}
 use Rattle.slave_core.specs.Verdict.{fault}
 use Rattle.slave_core.specs.ViewOf.{view_in, view_of}
 use Rattle.slave_core.specs.Views.{SessionView, ConnectionView, ParameterView, DataView}
@@ -40,11 +40,11 @@ refused-did state.Parameter ss e x = refl
 refused-did state.Data ss e x = refl
 
 -- the outcome of a frame that passed the tests
-settled : (ss : SlaveSettings) (e : List Deed) (old : Now) (kit : KitView) (f : SessionFrameView) (bytes : List ℕ) → Meets ss e old kit f bytes → after (view_of ss e) (move.Deliver bytes) ≡ settles (view_of ss e) f (reply kit old f) (taken kit old f)
+settled : (ss : SlaveSettings) (e : List Deed) (old : Now) (kit : KitView) (f : SessionFrameView) (bytes : List ℕ) → Meets ss e old kit f bytes → after (view_of ss e) (move.Deliver bytes) ≡ settles (view_of ss e) f (reply kit old f) (next_state kit old f)
 settled ss e old kit f bytes h =
-    ap (delivered_by (view_of ss e)) (sym (ap (λ (n : Now). opened ss.lengths.master (is_repeat (kept n) bytes) bytes) h.state_is) ∙ h.is_opened)
+    ap (delivered_by (view_of ss e)) (sym (ap (λ (n : Now). opened ss.lengths.master (is_repeat (last_taken n) bytes) bytes) h.state_is) ∙ h.is_opened)
     ∙ ap (on_session (view_of ss e) f) (sym (ap (λ (n : Now). fault n f) h.state_is) ∙ h.passed)
-    ∙ sym (ap (λ (n : Now). settles (view_of ss e) f (reply kit n f) (taken kit n f)) h.state_is ∙ ap (λ (k : KitView). settles (view_of ss e) f (reply k (view_of ss e).state f) (taken k (view_of ss e).state f)) h.kit_is)
+    ∙ sym (ap (λ (n : Now). settles (view_of ss e) f (reply kit n f) (next_state kit n f)) h.state_is ∙ ap (λ (k : KitView). settles (view_of ss e) f (reply k (view_of ss e).state f) (next_state k (view_of ss e).state f)) h.kit_is)
 
 ok-by : (ss : SlaveSettings) (e : List Deed) (f : SessionFrameView) (answer sent : List ℕ) (r : Result Now (InReset × Code)) (v : SlaveView) (d : List ℕ) (o : Outcome) → OnOk r (sent ≡ answer) → v ≡ o.slave → d ≡ o.sent
     → o ≡ settles (view_of ss e) f answer r
@@ -58,14 +58,14 @@ err-by ss e f answer before sent (Ok next) d o w i k = tt
 err-by ss e f answer before sent (Err x) d o w i k = (i ∙ ap (λ (o : Outcome). o.did) k ∙ refused-did (state_of (OfSlave ss) e) ss e x.1, w)
 
 -- a state that goes on as the machine's table says goes on as looking back says
-goes : (old : Now) (kit : KitView) (f : SessionFrameView) (before sent : List ℕ) → OnOk (taken kit old f) (sent ≡ reply kit old f) → OnErr (taken kit old f) (sent ≡ before) → GoesOn old kit f (taken kit old f) before sent
+goes : (old : Now) (kit : KitView) (f : SessionFrameView) (before sent : List ℕ) → OnOk (next_state kit old f) (sent ≡ reply kit old f) → OnErr (next_state kit old f) (sent ≡ before) → GoesOn old kit f (next_state kit old f) before sent
 goes old kit f before sent written unwritten = record {
   ok = λ ss e bytes h.
       let a : Agrees ss e (move.Deliver bytes) (did_on (OfSlave ss) e (move.Deliver bytes)) (after (view_of ss e) (move.Deliver bytes)) = agrees ss e (move.Deliver bytes) (run-sound ss e h.reached) h.reached tt in
-      ok-by ss e f (reply kit old f) sent (taken kit old f) _ (step (OfSlave ss) e (move.Deliver bytes)).sent (after (view_of ss e) (move.Deliver bytes)) written (a.view h.bytes_are) a.sent (settled ss e old kit f bytes h);
+      ok-by ss e f (reply kit old f) sent (next_state kit old f) _ (step (OfSlave ss) e (move.Deliver bytes)).sent (after (view_of ss e) (move.Deliver bytes)) written (a.view h.bytes_are) a.sent (settled ss e old kit f bytes h);
   err = λ ss e bytes h.
       let a : Agrees ss e (move.Deliver bytes) (did_on (OfSlave ss) e (move.Deliver bytes)) (after (view_of ss e) (move.Deliver bytes)) = agrees ss e (move.Deliver bytes) (run-sound ss e h.reached) h.reached tt in
-      err-by ss e f (reply kit old f) before sent (taken kit old f) _ (after (view_of ss e) (move.Deliver bytes)) unwritten a.did (settled ss e old kit f bytes h);
+      err-by ss e f (reply kit old f) before sent (next_state kit old f) _ (after (view_of ss e) (move.Deliver bytes)) unwritten a.did (settled ss e old kit f bytes h);
 }
 
 -- what a transition wrote: this answer where it went on, and nothing else
@@ -73,10 +73,10 @@ record Wrote {N : Type 0} (r : Result N (InReset × Code)) (answer before sent :
   written : OnOk r (sent ≡ answer)
   unwritten : OnErr r (sent ≡ before)
 
-goes-by : (old : Now) (kit : KitView) (f : SessionFrameView) (r : Result Now (InReset × Code)) (answer before sent : List ℕ) → r ≡ taken kit old f → answer ≡ reply kit old f → Wrote r answer before sent → GoesOn old kit f r before sent
+goes-by : (old : Now) (kit : KitView) (f : SessionFrameView) (r : Result Now (InReset × Code)) (answer before sent : List ℕ) → r ≡ next_state kit old f → answer ≡ reply kit old f → Wrote r answer before sent → GoesOn old kit f r before sent
 goes-by old kit f r answer before sent i j w =
     subst (λ (r : Result Now (InReset × Code)). Wrote r answer before sent → GoesOn old kit f r before sent) (sym i)
-    (λ w. goes old kit f before sent (subst (λ (answer : List ℕ). OnOk (taken kit old f) (sent ≡ answer)) j w.written) w.unwritten)
+    (λ w. goes old kit f before sent (subst (λ (answer : List ℕ). OnOk (next_state kit old f) (sent ≡ answer)) j w.written) w.unwritten)
     w
 
 whole-then : {T : Type 0} (b : Bool) (x y r : T) → b ≡ true → r ≡ x → r ≡ (if b then x else y)

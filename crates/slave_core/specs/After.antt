@@ -5,11 +5,11 @@ use Rattle.slave_core.specs.Kit.{KitView}
 use Rattle.slave_core.specs.Slave.{Outcome, quiet, delivered, tick_of, reset_of}
 use Rattle.slave_core.specs.SlaveView.{SlaveView}
 
--- what outlasts sessions is set: an offer, a hold or a nonce
+-- what outlasts sessions is set, an offer, a hold or a nonce, and nothing else changes
 abbrev pub with_kit : SlaveView → KitView → Outcome
 with_kit v kit = quiet (record v { kit = kit })
 
--- the outcome of an event
+-- the outcome of each event
 abbrev pub after : SlaveView → Move → Outcome
 after v (move.Deliver bytes) = delivered v bytes
 after v move.Tick = tick_of v

@@ -15,7 +15,7 @@ use Rattle.end_model.specs.Step.{on_fault, step, IsRun}
 use Rattle.slave_core.specs.declared.now.Now.{Now}
 use Rattle.slave_core.specs.declared.states.InReset.{InReset}
 use Rattle.slave_core.specs.Kit.{KitView}
-use Rattle.slave_core.specs.Now.{kept}
+use Rattle.slave_core.specs.Now.{last_taken}
 use Rattle.slave_core.specs.Verdict.{fault}
 use Rattle.slave_core.specs.ViewOf.{kit_of, view_of}
 
@@ -25,7 +25,7 @@ pub record Meets (ss : SlaveSettings) (e : List Deed) (old : Now) (kit : KitView
   pub state_is : old ≡ (view_of ss e).state
   pub kit_is : kit ≡ kit_of ss e
   pub bytes_are : AreBytes bytes
-  pub is_opened : opened ss.lengths.master (is_repeat (kept old) bytes) bytes ≡ opened_as.OfSession f
+  pub is_opened : opened ss.lengths.master (is_repeat (last_taken old) bytes) bytes ≡ opened_as.OfSession f
   pub passed : fault old f ≡ None
 
 -- the state goes on to the one after the next deed, with that deed's frame; or the deed does what the code says, and what was

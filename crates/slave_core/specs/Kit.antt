@@ -4,10 +4,11 @@ use Rattle.param_load.specs.declared.slave_settings.SlaveSettings.{SlaveSettings
 use Rattle.param_load.specs.Profile.{allows_id}
 use Rattle.failsafe_io.specs.Offer.{OfferView, first_offer}
 
--- the safe data bytes of a frame of the slave, and of one of its master
+-- the number of safe data bytes of a frame of the slave
 abbrev pub own_len : SlaveSettings → ℕ
 own_len settings = settings.lengths.slave
 
+-- the number of safe data bytes of a frame of its master
 abbrev pub peer_len : SlaveSettings → ℕ
 peer_len settings = settings.lengths.master
 
@@ -15,7 +16,7 @@ peer_len settings = settings.lengths.master
 abbrev pub piece_of : SlaveSettings → ℕ
 piece_of settings = min settings.lengths.master settings.lengths.slave
 
--- what a slave has in every state
+-- what a slave has in every state: its settings, what it offers, and its nonce
 pub record KitView : Type 0 where
   pub settings : SlaveSettings
   pub offer : OfferView

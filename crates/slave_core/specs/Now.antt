@@ -23,6 +23,7 @@ IsUnder settings (now.Connection s) = ConnectionUnder settings s
 IsUnder settings (now.Parameter s) = ParameterUnder settings s
 IsUnder settings (now.Data s) = DataUnder settings s
 
+-- the name of a state
 abbrev pub state_of : Now → State
 state_of (now.Reset s) = state.Reset
 state_of (now.Session s) = state.Session
@@ -30,17 +31,18 @@ state_of (now.Connection s) = state.Connection
 state_of (now.Parameter s) = state.Parameter
 state_of (now.Data s) = state.Data
 
+-- whether there is no session
 abbrev pub is_reset : Now → Bool
 is_reset (now.Reset s) = true
 is_reset _ = false
 
--- the frame that is kept as the one taken last: none in state Reset
-abbrev pub kept : Now → Option (List ℕ)
-kept (now.Reset s) = None
-kept (now.Session s) = Some s.last
-kept (now.Connection s) = Some s.last
-kept (now.Parameter s) = Some s.last
-kept (now.Data s) = Some s.last
+-- the bytes of the frame that was taken last in the session: none in state Reset
+abbrev pub last_taken : Now → Option (List ℕ)
+last_taken (now.Reset s) = None
+last_taken (now.Session s) = Some s.last
+last_taken (now.Connection s) = Some s.last
+last_taken (now.Parameter s) = Some s.last
+last_taken (now.Data s) = Some s.last
 
 -- the chain of the session, a new one in state Reset
 abbrev pub chain_of : Now → Chain
@@ -73,7 +75,7 @@ has_conn (now.Connection s) cmd field = field == s.conn
 has_conn (now.Parameter s) cmd field = field == s.conn
 has_conn (now.Data s) cmd field = field == s.terms.conn
 
--- the ticks after which a session expires: the watchdog once it is whole
+-- the ticks after which a session expires: those of a handshake, and the downloaded watchdog once the parameters are whole
 abbrev pub limit_of : SlaveSettings → Now → ℕ
 limit_of settings (now.Reset s) = settings.hand
 limit_of settings (now.Session s) = settings.hand
@@ -81,7 +83,7 @@ limit_of settings (now.Connection s) = settings.hand
 limit_of settings (now.Parameter s) = if is_whole s.upload then number_at 2 s.upload.joined else settings.hand
 limit_of settings (now.Data s) = s.terms.watchdog
 
--- the outputs: zeros in every state but Data
+-- the outputs: those of state Data, and zeros in every other state
 abbrev pub outputs_in : SlaveSettings → Now → List ℕ
 outputs_in settings (now.Data s) = s.outputs
 outputs_in settings _ = replicate (peer_len settings) 0

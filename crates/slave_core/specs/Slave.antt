@@ -22,10 +22,10 @@ use Rattle.slave_core.specs.declared.now.Now.{Now}
 use Rattle.slave_core.specs.declared.now.Now.TheVariants as now
 use Rattle.slave_core.specs.declared.states.InReset.{InReset}
 use Rattle.slave_core.specs.Kit.{own_len, peer_len, first_kit}
-use Rattle.slave_core.specs.Now.{is_reset, kept, limit_of}
+use Rattle.slave_core.specs.Now.{is_reset, last_taken, limit_of}
 use Rattle.slave_core.specs.SlaveView.{SlaveView, started}
 use Rattle.slave_core.specs.States.{no_session}
-use Rattle.slave_core.specs.Taken.{taken, reply}
+use Rattle.slave_core.specs.Taken.{next_state, reply}
 use Rattle.slave_core.specs.Verdict.{fault}
 
 -- what an event leaves, does and sends
@@ -34,23 +34,23 @@ pub record Outcome : Type 0 where
   pub did : Did
   pub sent : List ℕ
 
--- a new slave
+-- a new slave is in state Reset and counts no tick
 abbrev pub first_slave : SlaveSettings → SlaveView
 first_slave settings = record { kit = first_kit settings; state = now.Reset no_session; timer = started settings.hand }
 
--- nothing happens
+-- nothing is done, and nothing is sent
 abbrev pub quiet : SlaveView → Outcome
 quiet v = record { slave = v; did = did.nothing; sent = [] }
 
--- a frame is dropped
+-- a frame is dropped: the slave stays as it is, and nothing is sent
 abbrev pub drops : SlaveView → Bool → Dropped → Outcome
 drops v passed why = record { slave = v; did = record (did.dropped why) { passed = passed }; sent = [] }
 
--- a slave without its session
+-- a slave without its session: in state Reset, with age 0
 abbrev pub fallen : SlaveView → SlaveView
 fallen v = record v { state = now.Reset no_session; timer = started v.kit.settings.hand }
 
--- a session ends, and a Reset frame with the code is sent
+-- the session ends, and a Reset frame with the code is sent
 abbrev pub falls : SlaveView → Bool → Cause → Code → Outcome
 falls v passed why x = record {
   slave = fallen v;
@@ -62,14 +62,15 @@ falls v passed why x = record {
 abbrev pub refuses : SlaveView → Bool → Code → Outcome
 refuses v passed x = if is_reset v.state then drops v passed dropped.InReset else falls v passed (cause.Found x) x
 
--- a valid Reset frame: in state Reset it is taken and acknowledged, and else the session ends
+-- a valid Reset frame is taken in state Reset, and a Reset frame with code 0 is sent
 abbrev pub acknowledges : SlaveView → List ℕ → Outcome
 acknowledges v load = record { slave = fallen v; did = takes command.Reset load false; sent = reset_frame 0 (own_len v.kit.settings) }
 
+-- a valid Reset frame: in state Reset it is taken, and else the session ends with the peer's code, and code 0 is sent
 abbrev pub reset_by_peer : SlaveView → Code → List ℕ → Outcome
 reset_by_peer v x load = if is_reset v.state then acknowledges v load else falls v false (cause.Peer x) (code 0)
 
--- a frame whose contents were tested
+-- a frame whose contents were tested is taken and answered, or refused with their code
 abbrev pub settles : SlaveView → SessionFrameView → List ℕ → Result Now (InReset × Code) → Outcome
 settles v f answer (Ok next) = record {
   slave = record v { state = next; timer = started (limit_of v.kit.settings next) };
@@ -78,32 +79,34 @@ settles v f answer (Ok next) = record {
 }
 settles v f answer (Err e) = refuses v true e.1
 
--- a frame of a session, by the first test that it fails
+-- a frame of a session is refused by the first of its tests that fails, and else its contents are tested
 abbrev pub on_session : SlaveView → SessionFrameView → Option Code → Outcome
-on_session v f None = settles v f (reply v.kit v.state f) (taken v.kit v.state f)
+on_session v f None = settles v f (reply v.kit v.state f) (next_state v.kit v.state f)
 on_session v f (Some x) = refuses v false x
 
--- a frame is delivered
+-- a delivered frame, by what the tests that need no session say of it
 abbrev pub delivered_by : SlaveView → Opened → Outcome
 delivered_by v (opened_as.Drop why) = drops v false why
 delivered_by v (opened_as.Refuse x) = refuses v false x
 delivered_by v (opened_as.ResetFrame x f) = reset_by_peer v x f.load
 delivered_by v (opened_as.OfSession f) = on_session v f (fault v.state f)
 
+-- a delivered frame of any bytes
 abbrev pub delivered : SlaveView → List ℕ → Outcome
-delivered v bytes = delivered_by v (opened (peer_len v.kit.settings) (is_repeat (kept v.state) bytes) bytes)
+delivered v bytes = delivered_by v (opened (peer_len v.kit.settings) (is_repeat (last_taken v.state) bytes) bytes)
 
--- a tick: in state Reset none is counted
+-- a tick in a session: where the age reaches the limit the session ends with code 5
 abbrev pub tick_in_session : SlaveView → Outcome
 tick_in_session v =
     if v.timer.age + 1 == v.timer.limit
     then falls v false (cause.Found (code 0x05)) (code 0x05)
     else quiet (record v { timer = ticked v.timer })
 
+-- a tick: in state Reset none is counted
 abbrev pub tick_of : SlaveView → Outcome
 tick_of v = if is_reset v.state then quiet v else tick_in_session v
 
--- a reset of the slave's own
+-- a reset of the slave's own: the session ends, and Reset with code 0 is sent
 abbrev pub reset_of : SlaveView → Outcome
 reset_of v = falls v false cause.Local (code 0)
 

@@ -11,38 +11,42 @@ use Rattle.slave_core.specs.Kit.{KitView}
 use Rattle.slave_core.specs.States.{fresh, first_session, first_connection, first_parameter, terms_of, session_next, session_reply, connection_next, parameter_next, echo_reply, data_next, data_reply}
 use Rattle.slave_core.specs.Views.{SessionView, ConnectionView, ParameterView, DataView}
 
+-- a typed state Session, or its refusal, as a state of the slave
 abbrev pub as_session : Result SessionView (InReset × Code) → Result Now (InReset × Code)
 as_session (Ok s) = Ok (now.Session s)
 as_session (Err e) = Err e
 
+-- a typed state Connection, or its refusal, as a state of the slave
 abbrev pub as_connection : Result ConnectionView (InReset × Code) → Result Now (InReset × Code)
 as_connection (Ok s) = Ok (now.Connection s)
 as_connection (Err e) = Err e
 
+-- a typed state Parameter, or its refusal, as a state of the slave
 abbrev pub as_parameter : Result ParameterView (InReset × Code) → Result Now (InReset × Code)
 as_parameter (Ok s) = Ok (now.Parameter s)
 as_parameter (Err e) = Err e
 
+-- a typed state Data, or its refusal, as a state of the slave
 abbrev pub as_data : Result DataView (InReset × Code) → Result Now (InReset × Code)
 as_data (Ok s) = Ok (now.Data s)
 as_data (Err e) = Err e
 
--- the state: a phase goes on until its payload is whole, then the next one begins
-abbrev pub taken : KitView → Now → SessionFrameView → Result Now (InReset × Code)
-taken kit (now.Reset s) f = as_session (session_next kit fresh kit.nonce (first_session kit) f)
-taken kit (now.Session s) f =
+-- the next state: a phase goes on until its payload is whole, then the next phase begins
+abbrev pub next_state : KitView → Now → SessionFrameView → Result Now (InReset × Code)
+next_state kit (now.Reset s) f = as_session (session_next kit fresh kit.nonce (first_session kit) f)
+next_state kit (now.Session s) f =
     if is_whole s.upload
     then as_connection (connection_next kit s.chain f.frame.conn (first_connection kit f.frame.conn) f)
     else as_session (session_next kit s.chain s.id s.upload f)
-taken kit (now.Connection s) f =
+next_state kit (now.Connection s) f =
     if is_whole s.upload
     then as_parameter (parameter_next kit s.chain s.conn kit.settings.address (first_parameter kit) f)
     else as_connection (connection_next kit s.chain s.conn s.upload f)
-taken kit (now.Parameter s) f =
+next_state kit (now.Parameter s) f =
     if is_whole s.upload
     then as_data (data_next kit s.chain (terms_of kit s.conn s.address s.upload) f)
     else as_parameter (parameter_next kit s.chain s.conn s.address s.upload f)
-taken kit (now.Data s) f = as_data (data_next kit s.chain s.terms f)
+next_state kit (now.Data s) f = as_data (data_next kit s.chain s.terms f)
 
 -- the answer, which is sent where the frame is taken
 abbrev pub reply : KitView → Now → SessionFrameView → List ℕ

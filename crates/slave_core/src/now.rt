@@ -19,8 +19,8 @@ pub(crate) enum Now {
 impl Now {
     ghost use Rattle.std.specs.Prelude.{◌≡◌, ◌<◌, IsTrue, IfOk, OnOk, OnErr, option_copied};
     ghost use Rattle.end_model.specs.Verdict.{is_repeat};
-    ghost use Rattle.slave_core.specs.Now.{IsUnder, state_of, is_reset, chain_of, kept, allows, has_conn, limit_of, terms_in};
-    ghost use Rattle.slave_core.specs.Taken.{taken, reply};
+    ghost use Rattle.slave_core.specs.Now.{IsUnder, state_of, is_reset, chain_of, last_taken, allows, has_conn, limit_of, terms_in};
+    ghost use Rattle.slave_core.specs.Taken.{next_state, reply};
     ghost use Rattle.slave_core.specs.Verdict.{fault};
     ghost use Rattle.slave_core.specs.Views.{HasPassed};
 
@@ -44,7 +44,7 @@ impl Now {
 
     /// Whether these bytes are those of the frame that was taken last. In state Reset none is kept.
     pub(crate) fn is_repeat(&self, frame: &[u8]) -> bool
-        ensures { result ≡ is_repeat (kept self.now) frame.now }
+        ensures { result ≡ is_repeat (last_taken self.now) frame.now }
     {
         match self {
             Now::Reset(_) => false,
@@ -157,7 +157,7 @@ impl Now {
         requires allowed { IsTrue (allows self seen.now.command) }
         requires under { IsUnder kit.now.settings self }
         requires passed { HasPassed kit.now.settings (chain_of self) seen.now }
-        ensures next { result ≡ taken kit.now self seen.now }
+        ensures next { result ≡ next_state kit.now self seen.now }
         ensures sent { OnOk result (out.new ≡ reply kit.now self seen.now) }
         ensures unwritten { OnErr result (out.new ≡ out.old) }
         ensures under { IfOk result (λ now. IsUnder kit.now.settings now) }

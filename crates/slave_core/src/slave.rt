@@ -1,5 +1,5 @@
 //! The slave of a connection.
-ghost use Rattle.std.specs.Prelude.{◌≡◌, ◌≤◌, length, replicate};
+ghost use Rattle.std.specs.Prelude.{◌≡◌, ◌≤◌, length};
 
 use crate::kit::Kit;
 use crate::now::Now;
@@ -33,19 +33,18 @@ impl Model for Slave {
 }
 
 impl Slave {
-    ghost use Rattle.std.specs.Prelude.{◌≢◌, ◌↔◌, IsTrue, IsSome, [], length, option_copied};
-    ghost use Rattle.fsoe_base.specs.declared.command.State.TheVariants as state;
+    ghost use Rattle.std.specs.Prelude.{IsTrue, [], length, option_copied};
     ghost use Rattle.param_load.specs.Profile.{allows_id};
     ghost use Rattle.slave_core.specs.Kit.{own_len, peer_len};
-    ghost use Rattle.slave_core.specs.Now.{allows, chain_of, state_of, is_reset, outputs_in, terms_in};
-    ghost use Rattle.slave_core.specs.Slave.{first_slave, fallen, falls, refuses, reset_by_peer, settles, delivered, tick_of, reset_of, Tells};
-    ghost use Rattle.slave_core.specs.Taken.{taken, reply};
+    ghost use Rattle.slave_core.specs.Now.{allows, chain_of, outputs_in};
+    ghost use Rattle.slave_core.specs.Slave.{fallen, falls, refuses, reset_by_peer, settles, delivered, tick_of, Tells};
+    ghost use Rattle.slave_core.specs.Taken.{next_state, reply};
     ghost use Rattle.slave_core.specs.Views.{HasPassed};
     ghost use Rattle.slave_core.specs.ViewOf.{view_of};
     ghost use Rattle.param_load.specs.declared.entry.Move.TheVariants as event;
     ghost use Rattle.end_model.specs.Setup.{OfSlave};
     ghost use Rattle.end_model.specs.Readiness as model;
-    ghost use Rattle.end_model.specs.Outputs.{out};
+    ghost use Rattle.end_model.specs.Outputs as looking_back;
     ghost use Rattle.end_model.specs.Standing.{Stands, Follows, Answers, Shows};
 
     /// A slave with these settings: in state Reset, with zeros to offer and to give, and not held.
@@ -126,9 +125,9 @@ impl Slave {
         requires allowed { IsTrue (allows self.old.state seen.now.command) }
         requires passed { HasPassed self.old.kit.settings (chain_of self.old.state) seen.now }
         requires empty { out.old ≡ [] }
-        ensures slave { self.new ≡ (settles self.old seen.now (reply self.old.kit self.old.state seen.now) (taken self.old.kit self.old.state seen.now)).slave }
-        ensures did { result ≡ (settles self.old seen.now (reply self.old.kit self.old.state seen.now) (taken self.old.kit self.old.state seen.now)).did }
-        ensures sent { out.new ≡ (settles self.old seen.now (reply self.old.kit self.old.state seen.now) (taken self.old.kit self.old.state seen.now)).sent }
+        ensures slave { self.new ≡ (settles self.old seen.now (reply self.old.kit self.old.state seen.now) (next_state self.old.kit self.old.state seen.now)).slave }
+        ensures did { result ≡ (settles self.old seen.now (reply self.old.kit self.old.state seen.now) (next_state self.old.kit self.old.state seen.now)).did }
+        ensures sent { out.new ≡ (settles self.old seen.now (reply self.old.kit self.old.state seen.now) (next_state self.old.kit self.old.state seen.now)).sent }
         ensures kit { self.new.kit ≡ self.old.kit }
         ensures tells { Tells result out.new }
     {
@@ -153,9 +152,9 @@ impl Slave {
         requires allowed { IsTrue (allows self.old.state seen.now.command) }
         requires passed { HasPassed self.old.kit.settings (chain_of self.old.state) seen.now }
         requires empty { out.old ≡ [] }
-        ensures slave { self.new ≡ (settles self.old seen.now (reply self.old.kit self.old.state seen.now) (taken self.old.kit self.old.state seen.now)).slave }
-        ensures did { result ≡ (settles self.old seen.now (reply self.old.kit self.old.state seen.now) (taken self.old.kit self.old.state seen.now)).did }
-        ensures sent { out.new ≡ (settles self.old seen.now (reply self.old.kit self.old.state seen.now) (taken self.old.kit self.old.state seen.now)).sent }
+        ensures slave { self.new ≡ (settles self.old seen.now (reply self.old.kit self.old.state seen.now) (next_state self.old.kit self.old.state seen.now)).slave }
+        ensures did { result ≡ (settles self.old seen.now (reply self.old.kit self.old.state seen.now) (next_state self.old.kit self.old.state seen.now)).did }
+        ensures sent { out.new ≡ (settles self.old seen.now (reply self.old.kit self.old.state seen.now) (next_state self.old.kit self.old.state seen.now)).sent }
         ensures kit { self.new.kit ≡ self.old.kit }
         ensures tells { Tells result out.new }
     {
@@ -306,7 +305,7 @@ impl Slave {
     /// zeros after a FailSafeData frame, and zeros in every state but Data.
     #[tactic(auto, using(crate::proofs::Law::outputs_shown))]
     pub fn outputs(&self) -> &[u8]
-        ensures shown { Shows OfSlave view_of self.now result.now out }
+        ensures shown { Shows OfSlave view_of self.now result.now looking_back.out }
         ensures len { length result.now ≡ peer_len self.now.kit.settings }
         ensures most { length result.now ≤ 126 }
     {

@@ -7,6 +7,7 @@ ghost use Rattle.fsoe_base.specs.declared.command.Command.TheVariants as command
 ghost use Rattle.fsoe_base.specs.Lengths.{is_length};
 ghost use Rattle.fsoe_frame.specs.Parts.{bytes_of};
 ghost use Rattle.param_load.specs.declared.contents.Expected.TheVariants as expected;
+ghost use Rattle.param_load.specs.Contents.{is_parameter};
 ghost use Rattle.param_load.specs.Payload.{number_at};
 ghost use Rattle.param_load.specs.Profile.{allows_id};
 ghost use Rattle.param_load.specs.Upload.{is_whole};
@@ -14,7 +15,7 @@ ghost use Rattle.seq_chain.specs.Chain.{fits_next};
 ghost use Rattle.fsoe_base.specs.Data.{is_data};
 ghost use Rattle.slave_core.specs.declared.now.Now.TheVariants as now;
 ghost use Rattle.slave_core.specs.GoesOn.{GoesOn};
-ghost use Rattle.slave_core.specs.Kit.{piece_of, peer_len};
+ghost use Rattle.slave_core.specs.Kit.{piece_of};
 ghost use Rattle.slave_core.specs.States.{no_session, fresh, answered, answer, first_session, first_connection, first_parameter, terms_of, session_next, session_reply, connection_next, parameter_next, echo_reply, data_next, data_reply, in_place};
 ghost use Rattle.slave_core.specs.Taken.{as_session, as_connection, as_parameter, as_data};
 ghost use Rattle.slave_core.specs.Views.{SessionUnder, ConnectionUnder, ParameterUnder, DataUnder, HasPassed};
@@ -395,16 +396,9 @@ impl InParameter {
             upload,
             last: _,
         } = self;
-        let terms = Terms {
-            conn,
-            address,
-            watchdog: upload.watchdog(),
-            app: upload.app().copy(),
-            profile: kit.profile(),
-        };
         let mut next = InData {
             chain,
-            terms,
+            terms: terms(conn, address, &upload, kit),
             outputs: Outputs::new(kit.peer_len()),
             last: FrameBuf::new(),
         };
@@ -597,7 +591,7 @@ fn in_session(
         chain,
         id,
         upload,
-        last: kept(seen),
+        last: copy_of(seen),
     })
 }
 
@@ -635,7 +629,7 @@ fn in_connection(
         chain,
         conn,
         upload,
-        last: kept(seen),
+        last: copy_of(seen),
     })
 }
 
@@ -675,12 +669,28 @@ fn in_parameter(
         conn,
         address,
         upload,
-        last: kept(seen),
+        last: copy_of(seen),
     })
 }
 
+/// The terms that whole parameters give.
+fn terms(conn: u16, address: u16, upload: &Upload, kit: &Kit) -> Terms
+    requires parameter { IsTrue (is_parameter upload.now.expected) }
+    requires whole { IsTrue (is_whole upload.now) }
+    ensures value { result ≡ terms_of kit.now conn address upload.now }
+    ensures watchdog { 0 < result.watchdog }
+{
+    Terms {
+        conn,
+        address,
+        watchdog: upload.watchdog(),
+        app: upload.app().copy(),
+        profile: kit.profile(),
+    }
+}
+
 /// A copy of the bytes of a frame, to know a repeat by.
-fn kept(seen: &SessionFrame<'_>) -> FrameBuf
+fn copy_of(seen: &SessionFrame<'_>) -> FrameBuf
     ensures { result ≡ bytes_of seen.now.frame }
 {
     let mut last = FrameBuf::new();
