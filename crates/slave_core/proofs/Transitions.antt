@@ -1,5 +1,5 @@
 -- Each transition of a typed state goes on as looking back says.
-use Rattle.std.proofs.Common.{◌≡◌, ℕ, List, Bool, true, false, IsTrue, Result, Ok, Err, IfOk, IfErr, OnOk, OnErr, if◌then◌else◌, refl, sym, ap, subst, ◌∙◌}
+use Rattle.std.proofs.Common.{◌≡◌, ℕ, List, ◌∷◌, Bool, true, false, IsTrue, Result, Ok, Err, IfOk, IfErr, OnOk, OnErr, if◌then◌else◌, refl, sym, ap, subst, ◌∙◌}
 use Rattle.fsoe_base.specs.declared.command.Code.{Code}
 use Rattle.fsoe_base.specs.declared.command.Command.TheVariants as command
 use Rattle.fsoe_base.specs.declared.command.State.{State}
@@ -19,7 +19,7 @@ use Rattle.slave_core.specs.declared.now.Now.{Now}
 use Rattle.slave_core.specs.declared.now.Now.TheVariants as now
 use Rattle.slave_core.specs.declared.states.InReset.{InReset}
 use Rattle.slave_core.specs.After.{after}
-use Rattle.slave_core.specs.GoesOn.{Meets, GoesOn}
+use Rattle.slave_core.specs.GoesOn.{Meets, IsTaken, IsRefused, GoesOn}
 use Rattle.slave_core.specs.Kit.{KitView}
 use Rattle.slave_core.specs.Now.{last_taken}
 use Rattle.slave_core.specs.Slave.{Outcome, settles, refuses, on_session, delivered_by}
@@ -39,6 +39,13 @@ refused-did state.Connection ss e x = refl
 refused-did state.Parameter ss e x = refl
 refused-did state.Data ss e x = refl
 
+refused-state : (p : State) (ss : SlaveSettings) (e : List Deed) (x : Code) (reset : InReset) → now.Reset reset ≡ (refuses (view_in p ss e) true x).slave.state
+refused-state state.Reset ss e x reset = refl
+refused-state state.Session ss e x reset = refl
+refused-state state.Connection ss e x reset = refl
+refused-state state.Parameter ss e x reset = refl
+refused-state state.Data ss e x reset = refl
+
 -- the outcome of a frame that passed the tests
 settled : (ss : SlaveSettings) (e : List Deed) (old : Now) (kit : KitView) (f : SessionFrameView) (bytes : List ℕ) → Meets ss e old kit f bytes → after (view_of ss e) (move.Deliver bytes) ≡ settles (view_of ss e) f (reply kit old f) (next_state kit old f)
 settled ss e old kit f bytes h =
@@ -46,26 +53,42 @@ settled ss e old kit f bytes h =
     ∙ ap (on_session (view_of ss e) f) (sym (ap (λ (n : Now). fault n f) h.state_is) ∙ h.passed)
     ∙ sym (ap (λ (n : Now). settles (view_of ss e) f (reply kit n f) (next_state kit n f)) h.state_is ∙ ap (λ (k : KitView). settles (view_of ss e) f (reply k (view_of ss e).state f) (next_state k (view_of ss e).state f)) h.kit_is)
 
-ok-by : (ss : SlaveSettings) (e : List Deed) (f : SessionFrameView) (answer sent : List ℕ) (r : Result Now (InReset × Code)) (v : SlaveView) (d : List ℕ) (o : Outcome) → OnOk r (sent ≡ answer) → v ≡ o.slave → d ≡ o.sent
-    → o ≡ settles (view_of ss e) f answer r
-    → IfOk r (λ next. (next ≡ v.state) × (sent ≡ d))
-ok-by ss e f answer sent (Ok next) v d o w i j k = (sym (ap (λ (v : SlaveView). v.state) i ∙ ap (λ (o : Outcome). o.slave.state) k), w ∙ sym (j ∙ ap (λ (o : Outcome). o.sent) k))
-ok-by ss e f answer sent (Err x) v d o w i j k = tt
+-- an outcome is what the next deed leaves, does and sends
+record IsOutcome (ss : SlaveSettings) (e : List Deed) (bytes : List ℕ) (o : Outcome) : Type 0 where
+  view : view_of ss (step (OfSlave ss) e (move.Deliver bytes) ∷ e) ≡ o.slave
+  did : (step (OfSlave ss) e (move.Deliver bytes)).did ≡ o.did
+  sent : (step (OfSlave ss) e (move.Deliver bytes)).sent ≡ o.sent
 
-err-by : (ss : SlaveSettings) (e : List Deed) (f : SessionFrameView) (answer before sent : List ℕ) (r : Result Now (InReset × Code)) (d : Did) (o : Outcome) → OnErr r (sent ≡ before) → d ≡ o.did → o ≡ settles (view_of ss e) f answer r
-    → IfErr r (λ refusal. (d ≡ on_fault (state_of (OfSlave ss) e) true refusal.1) × (sent ≡ before))
-err-by ss e f answer before sent (Ok next) d o w i k = tt
-err-by ss e f answer before sent (Err x) d o w i k = (i ∙ ap (λ (o : Outcome). o.did) k ∙ refused-did (state_of (OfSlave ss) e) ss e x.1, w)
+outcome-is : (ss : SlaveSettings) (e : List Deed) (old : Now) (kit : KitView) (f : SessionFrameView) (bytes : List ℕ) → Meets ss e old kit f bytes → IsOutcome ss e bytes (after (view_of ss e) (move.Deliver bytes))
+outcome-is ss e old kit f bytes h =
+    let a : Agrees ss e (move.Deliver bytes) (did_on (OfSlave ss) e (move.Deliver bytes)) (after (view_of ss e) (move.Deliver bytes)) = agrees ss e (move.Deliver bytes) (run-sound ss e h.reached) h.reached tt in
+    record { view = a.view h.bytes_are; did = a.did; sent = a.sent }
+
+ok-by : (ss : SlaveSettings) (e : List Deed) (bytes : List ℕ) (f : SessionFrameView) (answer written : List ℕ) (r : Result Now (InReset × Code)) (o : Outcome) → OnOk r (written ≡ answer)
+    → o ≡ settles (view_of ss e) f answer r → IsOutcome ss e bytes o
+    → IfOk r (λ next. IsTaken ss e bytes f next written)
+ok-by ss e bytes f answer written (Ok next) o w k h = record {
+  did = h.did ∙ ap (λ (o : Outcome). o.did) k;
+  state = sym (ap (λ (v : SlaveView). v.state) h.view ∙ ap (λ (o : Outcome). o.slave.state) k);
+  sent = w ∙ sym (h.sent ∙ ap (λ (o : Outcome). o.sent) k);
+}
+ok-by ss e bytes f answer written (Err x) o w k h = tt
+
+err-by : (ss : SlaveSettings) (e : List Deed) (bytes : List ℕ) (f : SessionFrameView) (answer before written : List ℕ) (r : Result Now (InReset × Code)) (o : Outcome) → OnErr r (written ≡ before)
+    → o ≡ settles (view_of ss e) f answer r → IsOutcome ss e bytes o
+    → IfErr r (λ refusal. IsRefused ss e bytes refusal.0 refusal.1 before written)
+err-by ss e bytes f answer before written (Ok next) o w k h = tt
+err-by ss e bytes f answer before written (Err x) o w k h = record {
+  did = h.did ∙ ap (λ (o : Outcome). o.did) k ∙ refused-did (state_of (OfSlave ss) e) ss e x.1;
+  state = refused-state (state_of (OfSlave ss) e) ss e x.1 x.0 ∙ sym (ap (λ (v : SlaveView). v.state) h.view ∙ ap (λ (o : Outcome). o.slave.state) k);
+  unwritten = w;
+}
 
 -- a state that goes on as the machine's table says goes on as looking back says
-goes : (old : Now) (kit : KitView) (f : SessionFrameView) (before sent : List ℕ) → OnOk (next_state kit old f) (sent ≡ reply kit old f) → OnErr (next_state kit old f) (sent ≡ before) → GoesOn old kit f (next_state kit old f) before sent
-goes old kit f before sent written unwritten = record {
-  ok = λ ss e bytes h.
-      let a : Agrees ss e (move.Deliver bytes) (did_on (OfSlave ss) e (move.Deliver bytes)) (after (view_of ss e) (move.Deliver bytes)) = agrees ss e (move.Deliver bytes) (run-sound ss e h.reached) h.reached tt in
-      ok-by ss e f (reply kit old f) sent (next_state kit old f) _ (step (OfSlave ss) e (move.Deliver bytes)).sent (after (view_of ss e) (move.Deliver bytes)) written (a.view h.bytes_are) a.sent (settled ss e old kit f bytes h);
-  err = λ ss e bytes h.
-      let a : Agrees ss e (move.Deliver bytes) (did_on (OfSlave ss) e (move.Deliver bytes)) (after (view_of ss e) (move.Deliver bytes)) = agrees ss e (move.Deliver bytes) (run-sound ss e h.reached) h.reached tt in
-      err-by ss e f (reply kit old f) before sent (next_state kit old f) _ (after (view_of ss e) (move.Deliver bytes)) unwritten a.did (settled ss e old kit f bytes h);
+goes : (old : Now) (kit : KitView) (f : SessionFrameView) (before written : List ℕ) → OnOk (next_state kit old f) (written ≡ reply kit old f) → OnErr (next_state kit old f) (written ≡ before) → GoesOn old kit f (next_state kit old f) before written
+goes old kit f before written w u = record {
+  ok = λ ss e bytes h. ok-by ss e bytes f (reply kit old f) written (next_state kit old f) (after (view_of ss e) (move.Deliver bytes)) w (settled ss e old kit f bytes h) (outcome-is ss e old kit f bytes h);
+  err = λ ss e bytes h. err-by ss e bytes f (reply kit old f) before written (next_state kit old f) (after (view_of ss e) (move.Deliver bytes)) u (settled ss e old kit f bytes h) (outcome-is ss e old kit f bytes h);
 }
 
 -- what a transition wrote: this answer where it went on, and nothing else
