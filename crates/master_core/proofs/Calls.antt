@@ -10,7 +10,8 @@ use Rattle.end_model.specs.Deed.{Deed}
 use Rattle.end_model.specs.Standing.{Stands, events_of}
 use Rattle.end_model.specs.Step.{begun, step, run, IsRun}
 use Rattle.end_model.proofs.Calls.{run_of_events}
-use Rattle.end_model.proofs.DeedKinds.{Kind, Drops, Turns, Rests, Ages, Resets, Again, Rejoins, Starts, Takes, kind}
+use Rattle.end_model.specs.Reactions.{Reaction, Puts, Holds, SetsNonce, Rests, Ages, Expires, SendsAgain, ResetsItself, DropsLength, DropsRepeat, DropsInReset, DropsReset, Refuses, PeerResets, Answers}
+use Rattle.end_model.proofs.SoundRuns.{reacts}
 use Rattle.master_core.specs.MasterView.{MasterView}
 use Rattle.master_core.specs.Now.{is_due}
 use Rattle.master_core.specs.ViewOf.{view_of}
@@ -41,23 +42,29 @@ abbrev IsDelivery : Move → Type 0
 IsDelivery (move.Deliver bytes) = Unit {0}
 IsDelivery _ = ⊥
 
-quiet : (s : Setup) (e : List Deed) (m : Move) (d : Did) (f : List ℕ) → IsDelivery m → tells_due d ≡ false → Kind s e m d f → deed m (record d { sent = false }) [] ≡ deed m d f
-quiet s e m d f k h (Drops bytes passed because) = refl
-quiet s e m d f k h (Turns what sets) = refl
-quiet s e m d f k h (Rests slave now) = refl
-quiet s e m d f k h (Ages young) = refl
-quiet s e m d f k h (Resets what passed because) = absurd (cc h)
-quiet s e m d f k h (Again master now) = absurd k
-quiet s e m d f k h (Rejoins bytes load slave now) = absurd (cc h)
-quiet s e m d f k h (Starts bytes load master now) = absurd (cc h)
-quiet s e m d f k h (Takes bytes load c session passed) = absurd (cc h)
+quiet : (s : Setup) (e : List Deed) (m : Move) (d : Did) (f : List ℕ) → IsDelivery m → tells_due d ≡ false → Reaction s e m d f → deed m (record d { sent = false }) [] ≡ deed m d f
+quiet s e m d f k h (Puts load right) = absurd k
+quiet s e m d f k h (Holds failsafe) = absurd k
+quiet s e m d f k h (SetsNonce id right) = absurd k
+quiet s e m d f k h (Rests slave now) = absurd k
+quiet s e m d f k h (Ages counts young) = absurd k
+quiet s e m d f k h (Expires now old) = absurd k
+quiet s e m d f k h (SendsAgain master now old) = absurd k
+quiet s e m d f k h ResetsItself = absurd k
+quiet s e m d f k h (DropsLength bytes other) = refl
+quiet s e m d f k h (DropsRepeat bytes right same now) = refl
+quiet s e m d f k h (DropsInReset bytes passed found now told fails) = refl
+quiet s e m d f k h (DropsReset bytes load master now frame other) = refl
+quiet s e m d f k h (Refuses bytes passed found now told fails) = absurd (cc h)
+quiet s e m d f k h (PeerResets bytes load now frame) = absurd (cc h)
+quiet s e m d f k h (Answers bytes load c answer taking) = absurd (cc h)
 
-quiet-delivery : (s : Setup) (e : List Deed) (bytes : List ℕ) (did : Did) → did ≡ record (step s e (move.Deliver bytes)).did { sent = false } → tells_due did ≡ false
+quiet-delivery : (s : Setup) (e : List Deed) (bytes : List ℕ) (did : Did) → IsRun s e → did ≡ record (step s e (move.Deliver bytes)).did { sent = false } → tells_due did ≡ false
     → begun (move.Deliver bytes) did ≡ step s e (move.Deliver bytes)
-quiet-delivery s e bytes did h i =
+quiet-delivery s e bytes did run h i =
     let x : Deed = step s e (move.Deliver bytes) in
     ap (λ (d : Did). begun (move.Deliver bytes) d) h
-    ∙ quiet s e (move.Deliver bytes) x.did x.sent tt (sym (ap (λ (d : Did). tells_due d) h) ∙ i) (kind s e (move.Deliver bytes))
+    ∙ quiet s e (move.Deliver bytes) x.did x.sent tt (sym (ap (λ (d : Did). tells_due d) h) ∙ i) (reacts s e (move.Deliver bytes) run tt)
 
 -- a setting does nothing else
 set-deed : (s : Setup) (e : List Deed) (m : Move) → IsSetting m → begun m nothing ≡ step s e m
@@ -95,7 +102,7 @@ accepted-so ms old new bytes did e true b h made = record { waits = made.accepts
 accepted-so ms old new bytes did e false b h made = record {
   stands =
       subst (λ (y : Deed). Stands OfMaster view_of ms new (y ∷ e))
-      (sym (quiet-delivery (OfMaster ms) e bytes did (made.accepts.did ms e h) b))
+      (sym (quiet-delivery (OfMaster ms) e bytes did h.reached (made.accepts.did ms e h) b))
       (made.accepts.stands ms e h (made.due ∙ b));
   rest = made.due ∙ b;
 }
