@@ -1,7 +1,7 @@
 -- The law of the pair: in a world without another entry, data taken in Data are those that the peer put into the awaited answer,
 -- under equal terms. It rests on what both ends' items say of one another (Joint), on the pieces that a master sends (Pieces), on what
 -- a slave tests (Uploads) and on what data frames carry (Loads); Told and this file join them.
-use Rattle.std.proofs.Common.{◌≡◌, ◌≢◌, ℕ, List, [], ◌∷◌, length, Bool, true, false, Option, Some, None, is_some, ◌==◌, suc, if◌then◌else◌, refl, sym, ap, subst, ◌∙◌, All}
+use Rattle.std.proofs.Common.{◌≡◌, ℕ, List, [], ◌∷◌, length, Bool, true, false, Option, Some, None, is_some, ◌==◌, suc, if◌then◌else◌, refl, sym, ap, subst, ◌∙◌, All}
 use Rattle.std.specs.List.{AllByRecursion}
 use Rattle.fsoe_base.specs.declared.command.End.{End}
 use Rattle.fsoe_base.specs.declared.command.End.TheVariants as end_name
@@ -18,7 +18,7 @@ use Rattle.param_load.specs.declared.terms.Terms.{Terms}
 use Rattle.param_load.specs.declared.master_settings.MasterSettings.{MasterSettings}
 use Rattle.param_load.specs.declared.slave_settings.SlaveSettings.{SlaveSettings}
 use Rattle.schedule_file.specs.declared.event.Event.{Event}
-use Rattle.end_model.specs.Setup.{Setup, OfMaster, OfSlave, sends, receives}
+use Rattle.end_model.specs.Setup.{Setup, OfSlave, sends, receives}
 use Rattle.end_model.specs.Phases.{phase_of_frame}
 use Rattle.end_model.specs.Deed.{Deed, is_empty}
 use Rattle.end_model.specs.Readiness.{state_of}

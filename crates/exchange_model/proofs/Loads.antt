@@ -24,7 +24,7 @@ use Rattle.fsoe_base.specs.Data.{is_data}
 use Rattle.end_model.specs.Phases.{is_data_if, is_data_frame}
 use Rattle.exchange_model.specs.Fair.{frame_with, frame_if}
 use Rattle.exchange_model.proofs.Projection.{same, deeds_are_run, entry_reacted}
-use Rattle.exchange_model.proofs.Framed.{command_in, IsFrame, command_framed, IsData, Zeros, Offers, offer_long, SlaveSends, Echoes, Gives, slave_sends, MasterSends, Begins, GoesOn, Connects, MoreConnection, Sets, MoreParameter, Opens, Exchanges, master_sends}
+use Rattle.exchange_model.proofs.Framed.{command_in, IsFrame, command_framed, IsData, Zeros, Offers, SlaveSends, Echoes, Gives, slave_sends, MasterSends, Begins, GoesOn, Connects, MoreConnection, Sets, MoreParameter, Opens, Exchanges, master_sends}
 
 -- an item of data is of the frame that its load makes
 pub record Carries (l : ℕ) (i : Item) : Type 0 where

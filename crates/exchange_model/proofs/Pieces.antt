@@ -1,6 +1,6 @@
 -- What a master has sent in its session, by its own frames alone: the pieces of its payloads, in order. Lists of frames are newest
 -- first.
-use Rattle.std.proofs.Common.{◌≡◌, ◌≢◌, ℕ, suc, zero, ◌+◌, ◌-◌, ◌*◌, ◌≤◌, List, [], ◌∷◌, ◌++◌, length, take, drop, replicate, Bool, true, false, if◌then◌else◌, refl, sym, ap, subst, ◌∙◌, arith, inl, inr}
+use Rattle.std.proofs.Common.{◌≡◌, ℕ, suc, zero, ◌+◌, ◌-◌, ◌*◌, ◌≤◌, List, [], ◌∷◌, ◌++◌, length, take, drop, replicate, Bool, true, false, if◌then◌else◌, refl, sym, ap, subst, ◌∙◌, arith, inl, inr}
 use Rattle.std.proofs.lemmas.List.{length-take, take-replicate}
 use Rattle.std.proofs.lemmas.Bool.Decides.{eqb_tells}
 use Rattle.std.proofs.Math.Seq.{take-append-add}
@@ -26,9 +26,8 @@ use Rattle.end_model.proofs.Heads.{IsInSession}
 use Rattle.end_model.proofs.Reactions.{phase_of_data}
 use Rattle.end_model.proofs.SoundRuns.{reacted}
 use Rattle.end_model.proofs.Taken.{master_answers, master_phase}
-use Rattle.fsoe_base.specs.Data.{is_data}
 use Rattle.exchange_model.proofs.Joint.{is_guarded_in, session, carried_by}
-use Rattle.exchange_model.proofs.Framed.{IsFrame, IsData, Zeros, Offers, phase_framed, piece_fits, offer_long, connection_of, parameters_of, IsPiece, pieces_of, MasterSends, Begins, GoesOn, Connects, MoreConnection, Sets, MoreParameter, Opens, Exchanges, master_sends}
+use Rattle.exchange_model.proofs.Framed.{IsFrame, IsData, Zeros, Offers, phase_framed, piece_fits, connection_of, parameters_of, IsPiece, pieces_of, MasterSends, Begins, GoesOn, Connects, MoreConnection, Sets, MoreParameter, Opens, Exchanges, master_sends}
 
 -- the first k pieces of a payload, each filled up with zeros
 abbrev pub front : List ℕ → ℕ → ℕ → List ℕ

@@ -7,7 +7,6 @@ use Rattle.fsoe_base.specs.declared.command.State.TheVariants as state
 use Rattle.fsoe_base.specs.declared.command.Command.{Command}
 use Rattle.fsoe_base.specs.declared.command.Command.TheVariants as command
 use Rattle.fsoe_base.specs.declared.did.Did.{Did}
-use Rattle.fsoe_frame.specs.Parts.{frame_of}
 use Rattle.seq_chain.specs.Reset.{reset_frame}
 use Rattle.param_load.specs.declared.entry.Move.{Move}
 use Rattle.param_load.specs.declared.entry.Move.TheVariants as move
@@ -37,7 +36,7 @@ use Rattle.exchange_model.proofs.Numbered.{numbered}
 use Rattle.exchange_model.proofs.Awaited.{IsNewest, newest_is}
 use Rattle.exchange_model.proofs.Joint.{is_guarded_in, is_loading, session, carried, with_part, Placed, Joint, Before, Uploads}
 use Rattle.exchange_model.proofs.JointSteps.{master_adds, unguarded_placed, next_placed, first_placed, slave_before, slave_past, none_uploaded}
-use Rattle.exchange_model.proofs.Framed.{command_in, head_is, phase_by, phase_framed, IsFrame, offer_long, connection_of, parameters_of, SlaveSends, Echoes, Gives, slave_sends, MasterSends, Begins, GoesOn, Connects, MoreConnection, Sets, MoreParameter, Opens, Exchanges, master_sends}
+use Rattle.exchange_model.proofs.Framed.{command_in, head_is, phase_by, phase_framed, IsFrame, connection_of, parameters_of, SlaveSends, Echoes, Gives, slave_sends, MasterSends, Begins, GoesOn, Connects, MoreConnection, Sets, MoreParameter, Opens, Exchanges, master_sends}
 use Rattle.exchange_model.proofs.Pieces.{front, order_at, Sent, pieces_sent, session_own, deed, data_phase}
 use Rattle.exchange_model.proofs.Uploads.{uploads_next, state_next}
 use Rattle.exchange_model.proofs.Taking.{TakesItem, takes_item, answers_newest, data_guarded, NoneOther, none_other}

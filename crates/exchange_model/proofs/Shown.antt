@@ -1,5 +1,5 @@
 -- In each world the outputs are those that looking back over the entries gives.
-use Rattle.std.proofs.Common.{◌≡◌, ℕ, List, [], ◌∷◌, Bool, true, false, ◌&&◌, nat_lt, Option, Some, None, is_some, if◌then◌else◌, refl, ap, subst, sym, ◌∙◌}
+use Rattle.std.proofs.Common.{◌≡◌, ℕ, List, [], ◌∷◌, ◌&&◌, nat_lt, Option, Some, None, is_some, if◌then◌else◌, refl, ap, subst, sym, ◌∙◌}
 use Rattle.fsoe_base.specs.declared.command.End.{End}
 use Rattle.fsoe_base.specs.declared.command.End.TheVariants as end_name
 use Rattle.fsoe_base.specs.declared.command.State.{State}
@@ -11,11 +11,10 @@ use Rattle.fsoe_base.specs.declared.did.Took.{Took}
 use Rattle.fsoe_base.specs.Data.{is_data}
 use Rattle.param_load.specs.declared.terms.Terms.{Terms}
 use Rattle.param_load.specs.declared.entry.Move.{Move}
-use Rattle.param_load.specs.declared.entry.Move.TheVariants as move
 use Rattle.param_load.specs.declared.entry.Entry.{Entry}
 use Rattle.param_load.specs.declared.master_settings.MasterSettings.{MasterSettings}
 use Rattle.param_load.specs.declared.slave_settings.SlaveSettings.{SlaveSettings}
-use Rattle.end_model.specs.Setup.{Setup, OfMaster, OfSlave, receives}
+use Rattle.end_model.specs.Setup.{Setup, receives}
 use Rattle.end_model.specs.Deed.{Deed, ticked}
 use Rattle.end_model.specs.Payloads.{terms}
 use Rattle.end_model.specs.Readiness.{state_of, told_in}
