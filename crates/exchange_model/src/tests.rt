@@ -3,6 +3,7 @@ ghost use Rattle.std.specs.Prelude.{◌≡◌, ◌<◌, ◌≤◌, ◌+◌, ◌^
 use super::*;
 use fsoe_base::{Cause, Code, Command, Did, End, FrameBuf, Image, State, Took};
 use param_load::{Entry, Move};
+use std::alloc::Global;
 use std::test::Fail;
 
 type Frame = [u8; 7];
@@ -77,6 +78,125 @@ const UNTIL_DATA: [Step; 19] = [
     Step::Takes(End::Master, NONE_ANSWER, FIRST),
     Step::Takes(End::Slave, FIRST, FIRST_ANSWER),
     Step::Takes(End::Master, FIRST_ANSWER, SECOND),
+];
+
+const HELD: Frame = [0x08, 0x00, 0x00, 0xF6, 0x5B, 0x01, 0x00];
+
+const AFTER_HELD: Frame = [0x36, 0x01, 0x00, 0xC0, 0xA4, 0x01, 0x00];
+
+const FORGED: Frame = [0x36, 0xFF, 0x00, 0x4E, 0xE9, 0x01, 0x00];
+
+const FORGED_ANSWER: Frame = [0x36, 0x80, 0x00, 0x9F, 0xEC, 0x01, 0x00];
+
+const NO_WATCHDOG: Frame = [0x52, 0x00, 0x00, 0xBD, 0xA7, 0x01, 0x00];
+
+const RESET_BY_01: Frame = [0x2A, 0x01, 0x00, 0x47, 0xB7, 0x00, 0x00];
+
+const RESET_BY_04: Frame = [0x2A, 0x04, 0x00, 0xA6, 0x34, 0x00, 0x00];
+
+const RESET_BY_09: Frame = [0x2A, 0x09, 0x00, 0x83, 0x85, 0x00, 0x00];
+
+const QUIET: Step = Step::Quiet(End::Slave);
+
+const OWN_RESET: Step = Step::Sends(End::Slave, RESET);
+
+const SECOND_TAKEN: Step = Step::Takes(End::Slave, SECOND, SECOND_ANSWER);
+
+const THIRD_SENT: Step = Step::Takes(End::Master, SECOND_ANSWER, THIRD);
+
+const OLD_SESSION: Step = Step::Takes(End::Slave, SESSION, SESSION_ANSWER);
+
+const OLD_CONNECTION: Step = Step::Takes(End::Slave, CONNECTION, CONNECTION_ANSWER);
+
+/// A run that begins with so many steps of `UNTIL_DATA`.
+#[derive(Clone, Copy)]
+struct Run {
+    name: &'static str,
+    begun: usize,
+    then: [Step; 4],
+    /// The number of the first other entry.
+    other: Option<u64>,
+}
+
+const RUNS: [Run; 8] = [
+    Run {
+        name: "first data",
+        begun: 19,
+        then: [QUIET, QUIET, QUIET, QUIET],
+        other: None,
+    },
+    Run {
+        name: "old data",
+        begun: 19,
+        then: [
+            SECOND_TAKEN,
+            THIRD_SENT,
+            Step::Refuses(End::Slave, FIRST, false, RESET_BY_04),
+            QUIET,
+        ],
+        other: None,
+    },
+    Run {
+        name: "an answer under way",
+        begun: 19,
+        then: [
+            SECOND_TAKEN,
+            OWN_RESET,
+            THIRD_SENT,
+            Step::Refuses(End::Master, RESET, false, RESET),
+        ],
+        other: None,
+    },
+    Run {
+        name: "an old session",
+        begun: 19,
+        then: [
+            OWN_RESET,
+            OLD_SESSION,
+            Step::Refuses(End::Slave, SECOND, false, RESET_BY_01),
+            QUIET,
+        ],
+        other: None,
+    },
+    Run {
+        name: "a held slave",
+        begun: 19,
+        then: [
+            QUIET,
+            Step::Takes(End::Slave, SECOND, HELD),
+            Step::Takes(End::Master, HELD, AFTER_HELD),
+            QUIET,
+        ],
+        other: None,
+    },
+    Run {
+        name: "forged data",
+        begun: 19,
+        then: [
+            Step::Takes(End::Slave, FORGED, FORGED_ANSWER),
+            OLD_CONNECTION,
+            QUIET,
+            QUIET,
+        ],
+        other: Some(20),
+    },
+    Run {
+        name: "an old connection",
+        begun: 19,
+        then: [OWN_RESET, OLD_SESSION, OLD_CONNECTION, QUIET],
+        other: Some(22),
+    },
+    Run {
+        name: "a forged watchdog",
+        begun: 13,
+        then: [
+            Step::Refuses(End::Slave, NO_WATCHDOG, true, RESET_BY_09),
+            QUIET,
+            QUIET,
+            QUIET,
+        ],
+        other: Some(14),
+    },
 ];
 
 fn frame(bytes: &Frame) -> FrameBuf {
@@ -160,123 +280,25 @@ fn note_all(monitor: &mut Monitor, plain: &mut ListMonitor, steps: &[Step]) -> b
     agree
 }
 
+/// The first other entry of a run that begins with so many steps of `UNTIL_DATA`. None where the monitors differ, or
+/// where memory ran out.
+fn judged(alloc: Global, begun: usize, then: &[Step; 4]) -> Option<Option<u64>> {
+    let mut monitor = Monitor::new();
+    let mut plain = ListMonitor::new(alloc);
+    let agree = note_all(&mut monitor, &mut plain, &UNTIL_DATA[..begun.min(19)])
+        && note_all(&mut monitor, &mut plain, then);
+    if agree { Some(monitor.other()) } else { None }
+}
+
 #[test]
 fn monitors_find_the_first_other_entry(rt: HostRuntime) -> Result<(), Fail> {
-    let quiet = Step::Quiet(End::Slave);
-    let second = Step::Takes(End::Slave, SECOND, SECOND_ANSWER);
-    let third = Step::Takes(End::Master, SECOND_ANSWER, THIRD);
-    let own_reset = Step::Sends(End::Slave, RESET);
-    let old_session = Step::Takes(End::Slave, SESSION, SESSION_ANSWER);
-    let old_connection = Step::Takes(End::Slave, CONNECTION, CONNECTION_ANSWER);
-    let held = [0x08, 0x00, 0x00, 0xF6, 0x5B, 0x01, 0x00];
-    let forged = [0x36, 0xFF, 0x00, 0x4E, 0xE9, 0x01, 0x00];
-    let no_watchdog = [0x52, 0x00, 0x00, 0xBD, 0xA7, 0x01, 0x00];
-    for (name, count, steps, other) in [
-        ("first data", 19, [quiet, quiet, quiet, quiet], None),
-        (
-            "old data",
-            19,
-            [
-                second,
-                third,
-                Step::Refuses(
-                    End::Slave,
-                    FIRST,
-                    false,
-                    [0x2A, 0x04, 0x00, 0xA6, 0x34, 0x00, 0x00],
-                ),
-                quiet,
-            ],
-            None,
-        ),
-        (
-            "an answer under way",
-            19,
-            [
-                second,
-                own_reset,
-                third,
-                Step::Refuses(End::Master, RESET, false, RESET),
-            ],
-            None,
-        ),
-        (
-            "an old session",
-            19,
-            [
-                own_reset,
-                old_session,
-                Step::Refuses(
-                    End::Slave,
-                    SECOND,
-                    false,
-                    [0x2A, 0x01, 0x00, 0x47, 0xB7, 0x00, 0x00],
-                ),
-                quiet,
-            ],
-            None,
-        ),
-        (
-            "a held slave",
-            19,
-            [
-                quiet,
-                Step::Takes(End::Slave, SECOND, held),
-                Step::Takes(
-                    End::Master,
-                    held,
-                    [0x36, 0x01, 0x00, 0xC0, 0xA4, 0x01, 0x00],
-                ),
-                quiet,
-            ],
-            None,
-        ),
-        (
-            "forged data",
-            19,
-            [
-                Step::Takes(
-                    End::Slave,
-                    forged,
-                    [0x36, 0x80, 0x00, 0x9F, 0xEC, 0x01, 0x00],
-                ),
-                old_connection,
-                quiet,
-                quiet,
-            ],
-            Some(20),
-        ),
-        (
-            "an old connection",
-            19,
-            [own_reset, old_session, old_connection, quiet],
-            Some(22),
-        ),
-        (
-            "a forged watchdog",
-            13,
-            [
-                Step::Refuses(
-                    End::Slave,
-                    no_watchdog,
-                    true,
-                    [0x2A, 0x09, 0x00, 0x83, 0x85, 0x00, 0x00],
-                ),
-                quiet,
-                quiet,
-                quiet,
-            ],
-            Some(14),
-        ),
-    ] {
-        let mut monitor = Monitor::new();
-        let mut plain = ListMonitor::new(rt.alloc());
-        assert!(rt;
-            note_all(&mut monitor, &mut plain, &UNTIL_DATA[..count.min(19)]),
-            "{name}"
-        );
-        assert!(rt; note_all(&mut monitor, &mut plain, &steps), "{name}");
-        assert_eq!(rt; monitor.other(), other, "{name}");
+    for Run {
+        name,
+        begun,
+        then,
+        other,
+    } in RUNS {
+        assert_eq!(rt; judged(rt.alloc(), begun, &then), Some(other), "{name}");
     }
     Ok(())
 }
@@ -286,11 +308,7 @@ fn an_answer_stays_awaited_when_its_sender_resets(rt: HostRuntime) -> Result<(),
     let mut monitor = Monitor::new();
     let mut plain = ListMonitor::new(rt.alloc());
     assert!(rt; note_all(&mut monitor, &mut plain, &UNTIL_DATA));
-    let reset = [
-        Step::Takes(End::Slave, SECOND, SECOND_ANSWER),
-        Step::Sends(End::Slave, RESET),
-    ];
-    assert!(rt; note_all(&mut monitor, &mut plain, &reset));
+    assert!(rt; note_all(&mut monitor, &mut plain, &[SECOND_TAKEN, OWN_RESET]));
     assert_eq!(rt; monitor.awaited(End::Master), Some(9));
     assert_eq!(rt; monitor.awaited(End::Slave), None);
     Ok(())
