@@ -6,7 +6,7 @@ ghost use Rattle.param_load.specs.declared.entry.Move.{Move};
 ghost use Rattle.fsoe_base.specs.declared.command.Command.{Command};
 ghost use Rattle.fsoe_base.specs.Command.{command_byte};
 ghost use Rattle.fsoe_frame.specs.Parts.{frame_of};
-ghost use Rattle.seq_chain.specs.Numbers.{next, last_crc};
+ghost use Rattle.seq_chain.specs.Numbers.{last_crc};
 ghost use Rattle.seq_chain.specs.Sealing.{sealed};
 ghost use Rattle.end_model.specs.Chain.{own, taken, newest_crc, own_link, taken_link, seal};
 ghost use Rattle.end_model.specs.Setup.{Setup, OfSlave, sends, receives};
@@ -116,9 +116,4 @@ pub fn outputs()
 #[tactic(auto, using(crate::proofs::WholeUploads::whole_parameters))]
 pub fn uploads()
     ensures whole { (ss : SlaveSettings) (e : List Deed) → IsRun (OfSlave ss) e → whole ss.profile state.Parameter (uploaded ss state.Parameter e) ≡ nat_le (expected_len (expected.Parameter ss.most ss.rule ss.profile)) (length (uploaded ss state.Parameter e)) }
-{}
-
-/// Sequence numbers go around: after 65,535 comes 1.
-pub fn numbers()
-    ensures { next 65535 ≡ 1 }
 {}

@@ -23,9 +23,10 @@ pub fn covers()
 {}
 
 /// One step of the number always suffices: under two numbers that follow each other a frame has different CRC_0. A
-/// number after one of 16 bits is from 1 to 65,535.
+/// number after one of 16 bits is from 1 to 65,535, and after 65,535 comes 1.
 #[tactic(auto, using(crate::proofs::Steps::one_step, crate::proofs::Steps::number_within))]
 pub fn numbers()
+    ensures goes_around { next 65535 ≡ 1 }
     ensures one_step { (last conn number cmd : ℕ) (load : List ℕ) → number < 65536 → 0 < length load → crc_0 last conn number cmd load ≢ crc_0 last conn (next number) cmd load }
     ensures within { (last conn cmd : ℕ) (before : Option Link) (load : List ℕ) → IfSome before (λ link. link.number < 65536) → (0 < number_of last before conn cmd load) × (number_of last before conn cmd load < 65536) }
 {}
