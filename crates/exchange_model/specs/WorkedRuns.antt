@@ -50,6 +50,7 @@ first_data_lines =
     ∷ codes "m took ProcessData Data 8000 > 360100cfa90100"
     ∷ []
 
+-- the run has these lines, and no other entry
 unfoldable pub FirstData : Type 0
 FirstData = told_from 0 first_data_run ≡ (first_data_lines, None)
 
@@ -65,6 +66,7 @@ bytewise_master = record master_values { lengths = one_and_one; app = 0x0A ∷ 0
 abbrev pub bytewise_slave : SlaveSettings
 bytewise_slave = record slave_values { lengths = one_and_one; rule = rule.Any 3; acceptable = refl }
 
+-- the first line of such a run, and its first data after sixteen exchanges
 unfoldable pub ByteByByte : Type 0
 ByteByByte =
     (take 1 (lines (world bytewise_master bytewise_slave (tm ∷ []))) ≡ codes "m again Reset 00 > 2a0086f80000" ∷ [])
@@ -276,6 +278,7 @@ slave_of_two word = record slave_values { profile = profile.Two word; allowed = 
 abbrev pub profile_two_run : List Entry
 profile_two_run = world master_of_two (slave_of_two 7) (tm ∷ rounds 9 ++ ds 1 ∷ [])
 
+-- the second frames of both session ids, the first data after nine exchanges, and no other entry
 unfoldable pub ProfileTwo : Type 0
 ProfileTwo =
     (take 2 (drop 4 (lines profile_two_run))
@@ -319,15 +322,19 @@ OtherProfileLater =
 unfoldable pub FirstDataFair : Type 0
 FirstDataFair = Fair two_and_two first_data_run
 
+-- the run with an answer under way when its sender resets is fair
 unfoldable pub AnswerUnderWayFair : Type 0
 AnswerUnderWayFair = Fair two_and_two answer_under_way_run
 
+-- the run with an old Session frame is fair
 unfoldable pub OldSessionFair : Type 0
 OldSessionFair = Fair two_and_two old_session_run
 
+-- the run with a held slave is fair
 unfoldable pub HeldSlaveFair : Type 0
 HeldSlaveFair = Fair two_and_two held_slave_run
 
+-- the run in profile Two is fair
 unfoldable pub ProfileTwoFair : Type 0
 ProfileTwoFair = Fair two_and_two profile_two_run
 
