@@ -12,7 +12,7 @@ use Rattle.end_model.specs.Chain.{since, own}
 use Rattle.end_model.specs.Payloads.{pay, pieces, count_in, session_id}
 use Rattle.end_model.specs.Readiness.{offer, held}
 pub use Rattle.end_model.specs.Reactions.{IsInSession}
-use Rattle.end_model.specs.Step.{sealed, with_data, after_phase, after_pieces, download, master_answer, slave_answer}
+use Rattle.end_model.specs.Step.{sealed, with_data, after_phase, after_pieces, download_frame, master_answer, slave_answer}
 
 in_session-if : (b : Bool) (f g : List ℕ) → IsInSession f → IsInSession g → IsInSession (if b then f else g)
 in_session-if true f g h k = h
@@ -29,9 +29,9 @@ first_frame ms e command.Parameter = data_frame (OfMaster ms) e
 first_frame ms e command.FailSafeData = data_frame (OfMaster ms) e
 first_frame ms e command.ProcessData = data_frame (OfMaster ms) e
 
-next_frame : (ms : MasterSettings) (e : List Deed) (c : Command) (k : ℕ) → IsInSession (download ms e c (suc k)) → IsInSession (after_pieces ms e c k)
+next_frame : (ms : MasterSettings) (e : List Deed) (c : Command) (k : ℕ) → IsInSession (download_frame ms e c (suc k)) → IsInSession (after_pieces ms e c k)
 next_frame ms e c k h =
-    in_session-if (nat_lt k (pieces (pay ms (session_id (OfMaster ms) e) (phase_of c)) (piece_len (OfMaster ms)))) (download ms e c (suc k)) (after_phase ms e c) h (first_frame ms e c)
+    in_session-if (nat_lt k (pieces (pay ms (session_id (OfMaster ms) e) (phase_of c)) (piece_len (OfMaster ms)))) (download_frame ms e c (suc k)) (after_phase ms e c) h (first_frame ms e c)
 
 pub master_frame : (ms : MasterSettings) (e : List Deed) (c : Command) → IsInSession (master_answer ms e c)
 master_frame ms e command.Reset = first_frame ms e command.Reset

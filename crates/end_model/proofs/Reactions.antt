@@ -20,7 +20,7 @@ use Rattle.end_model.specs.Deed.{Deed}
 use Rattle.end_model.specs.Chain.{since, kept}
 use Rattle.end_model.specs.Readiness.{state_of, age, limit, is_done}
 use Rattle.end_model.specs.Verdict.{Verdict, verdict}
-use Rattle.end_model.specs.Step.{takes, on_fault, on_reset_frame, on_verdict, on_expiry, with_data, slave_answer, download, after_phase, deed_of, step, IsProper}
+use Rattle.end_model.specs.Step.{takes, on_fault, on_reset_frame, on_verdict, on_expiry, with_data, slave_answer, download_frame, after_phase, deed_of, step, IsProper}
 use Rattle.end_model.specs.Reactions.{HasNoSession, IsHandshake, OfSession, OfConnection, OfParameter, AfterSession, AfterConnection, IsResetFrame, IsValid, Fails, fault, received, answered, pieces_sent, all_pieces, IsExchange, Taking, SlaveRejoins, SlaveStarts, SlaveGoesOn, SlaveNextPhase, SlaveFirstData, SlaveMoreData, MasterStarts, MasterGoesOn, MasterNextPhase, MasterFirstData, MasterMoreData, Puts, Holds, SetsNonce, Rests, Ages, Expires, SendsAgain, ResetsItself, DropsLength, DropsRepeat, DropsInReset, DropsReset, Refuses, PeerResets, Answers, IsReaction}
 use Rattle.end_model.proofs.Heads.{IsInSession, master_frame, slave_frame, data_phase}
 use Rattle.end_model.proofs.Judged.{Judged, HasOtherLength, IsKept, FailsTest, FailsContents, ResetsFrame, IsNext, is_judged}
@@ -101,25 +101,25 @@ slave-takes ss e bytes load c n sound valid (First is now whole) = SlaveFirstDat
 slave-takes ss e bytes load c n sound valid (Data is now) = SlaveMoreData ss c _ is now (sound.is_loaded now) (slave-data-exchange ss e bytes load c n valid is)
 
 -- a piece is a frame of its phase
-piece-in : (ms : MasterSettings) (e : List Deed) (c : Command) (k : ℕ) → IsHandshake c → IsInSession (download ms e c k)
+piece-in : (ms : MasterSettings) (e : List Deed) (c : Command) (k : ℕ) → IsHandshake c → IsInSession (download_frame ms e c k)
 piece-in ms e c k OfSession = record { in_session = refl; sent = refl }
 piece-in ms e c k OfConnection = record { in_session = refl; sent = refl }
 piece-in ms e c k OfParameter = record { in_session = refl; sent = refl }
 
-piece-phase : (ms : MasterSettings) (e : List Deed) (c : Command) (k : ℕ) → IsHandshake c → phase_of_frame (download ms e c k) ≡ phase_of c
+piece-phase : (ms : MasterSettings) (e : List Deed) (c : Command) (k : ℕ) → IsHandshake c → phase_of_frame (download_frame ms e c k) ≡ phase_of c
 piece-phase ms e c k OfSession = refl
 piece-phase ms e c k OfConnection = refl
 piece-phase ms e c k OfParameter = refl
 
 -- the state after a master sent a piece
 piece-after : (ms : MasterSettings) (e : List Deed) (bytes load : List ℕ) (c next : Command) (k : ℕ) → IsHandshake next
-    → state_of (OfMaster ms) (answered bytes c load (download ms (received bytes c load e) next k) e) ≡ phase_of next
+    → state_of (OfMaster ms) (answered bytes c load (download_frame ms (received bytes c load e) next k) e) ≡ phase_of next
 piece-after ms e bytes load c next k is =
-    master-after ms e bytes load c (download ms (received bytes c load e) next k) (phase_of next) (piece-in ms (received bytes c load e) next k is) (piece-phase ms (received bytes c load e) next k is)
+    master-after ms e bytes load c (download_frame ms (received bytes c load e) next k) (phase_of next) (piece-in ms (received bytes c load e) next k is) (piece-phase ms (received bytes c load e) next k is)
 
 -- a master takes a frame of a session, and answers it with a piece
 piece-exchange : (ms : MasterSettings) (e : List Deed) (bytes load : List ℕ) (c next : Command) (k : ℕ) → IsHandshake next → IsValid (OfMaster ms) e bytes c load
-    → IsExchange (OfMaster ms) e bytes load c (download ms (received bytes c load e) next k) (download ms (received bytes c load e) next k) (phase_of next)
+    → IsExchange (OfMaster ms) e bytes load c (download_frame ms (received bytes c load e) next k) (download_frame ms (received bytes c load e) next k) (phase_of next)
 piece-exchange ms e bytes load c next k is valid =
     record { valid = valid; is_made = refl; in_session = piece-in ms (received bytes c load e) next k is; after = piece-after ms e bytes load c next k is }
 
@@ -138,7 +138,7 @@ data-exchange ms e bytes load c valid =
 -- a master goes on with the next piece, or with what comes after the phase
 master-next : (ms : MasterSettings) (e : List Deed) (bytes load : List ℕ) (c : Command) (b : Bool) → IsHandshake c → state_of (OfMaster ms) e ≡ phase_of c → IsValid (OfMaster ms) e bytes c load
     → nat_lt (pieces_sent e (phase_of c)) (all_pieces ms e (phase_of c)) ≡ b
-    → Taking e bytes load (OfMaster ms) c (if b then download ms (received bytes c load e) c (suc (pieces_sent e (phase_of c))) else after_phase ms (received bytes c load e) c)
+    → Taking e bytes load (OfMaster ms) c (if b then download_frame ms (received bytes c load e) c (suc (pieces_sent e (phase_of c))) else after_phase ms (received bytes c load e) c)
 master-next ms e bytes load c true is now valid h =
     MasterGoesOn ms c _ is now (ltb-true (pieces_sent e (phase_of c)) (all_pieces ms e (phase_of c)) h) (piece-exchange ms e bytes load c c (suc (pieces_sent e (phase_of c))) is valid)
 master-next ms e bytes load c false OfSession now valid h =

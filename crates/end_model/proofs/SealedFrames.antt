@@ -14,7 +14,7 @@ use Rattle.end_model.specs.Deed.{Deed}
 use Rattle.end_model.specs.Chain.{since, own, seal}
 use Rattle.end_model.specs.Payloads.{pay, pieces, count_in, session_id, conn_id}
 use Rattle.end_model.specs.Readiness.{offer, offer_after, held}
-use Rattle.end_model.specs.Step.{sealed, with_piece, with_data, after_phase, after_pieces, download, master_answer, slave_answer, IsProper, IsRun}
+use Rattle.end_model.specs.Step.{sealed, with_piece, with_data, after_phase, after_pieces, download_frame, master_answer, slave_answer, IsProper, IsRun}
 
 -- a frame that is sealed over the deeds so far
 pub record IsSealed (s : Setup) (e : List Deed) (f : List ℕ) : Type 0 where
@@ -58,7 +58,7 @@ data_sealed s e h =
     sealed-if s e (held e) (sealed s e command.FailSafeData (replicate (sends s) 0)) (sealed s e command.ProcessData (offer s e))
     (seals s e command.FailSafeData (replicate (sends s) 0) (length-replicate (sends s) 0)) (seals s e command.ProcessData (offer s e) h)
 
-download_sealed : (ms : MasterSettings) (e : List Deed) (c : Command) (k : ℕ) → IsSealed (OfMaster ms) e (download ms e c k)
+download_sealed : (ms : MasterSettings) (e : List Deed) (c : Command) (k : ℕ) → IsSealed (OfMaster ms) e (download_frame ms e c k)
 download_sealed ms e c k = piece_sealed (OfMaster ms) e c (drop ((k - 1) * piece_len (OfMaster ms)) (pay ms (session_id (OfMaster ms) e) (phase_of c)))
 
 first_sealed : (ms : MasterSettings) (e : List Deed) (c : Command) → length (offer (OfMaster ms) e) ≡ sends (OfMaster ms) → IsSealed (OfMaster ms) e (after_phase ms e c)
@@ -71,7 +71,7 @@ first_sealed ms e command.ProcessData h = data_sealed (OfMaster ms) e h
 
 next_sealed : (ms : MasterSettings) (e : List Deed) (c : Command) (k : ℕ) → length (offer (OfMaster ms) e) ≡ sends (OfMaster ms) → IsSealed (OfMaster ms) e (after_pieces ms e c k)
 next_sealed ms e c k h =
-    sealed-if (OfMaster ms) e (nat_lt k (pieces (pay ms (session_id (OfMaster ms) e) (phase_of c)) (piece_len (OfMaster ms)))) (download ms e c (suc k)) (after_phase ms e c)
+    sealed-if (OfMaster ms) e (nat_lt k (pieces (pay ms (session_id (OfMaster ms) e) (phase_of c)) (piece_len (OfMaster ms)))) (download_frame ms e c (suc k)) (after_phase ms e c)
     (download_sealed ms e c (suc k)) (first_sealed ms e c h)
 
 pub master_sealed : (ms : MasterSettings) (e : List Deed) (c : Command) → length (offer (OfMaster ms) e) ≡ sends (OfMaster ms) → IsSealed (OfMaster ms) e (master_answer ms e c)

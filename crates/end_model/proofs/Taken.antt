@@ -11,7 +11,7 @@ use Rattle.end_model.specs.Setup.{Setup, OfMaster}
 use Rattle.end_model.specs.Phases.{phase_of}
 use Rattle.end_model.specs.Deed.{Deed}
 use Rattle.end_model.specs.Readiness.{state_of}
-use Rattle.end_model.specs.Step.{with_data, download, after_phase, master_answer, answer}
+use Rattle.end_model.specs.Step.{with_data, download_frame, after_phase, master_answer, answer}
 use Rattle.end_model.specs.Reactions.{IsHandshake, OfSession, OfConnection, OfParameter, IsNextPhase, AfterSession, AfterConnection, received, answered, pieces_sent, all_pieces, IsExchange, Taking, SlaveRejoins, SlaveStarts, SlaveGoesOn, SlaveNextPhase, SlaveFirstData, SlaveMoreData, MasterStarts, MasterGoesOn, MasterNextPhase, MasterFirstData, MasterMoreData}
 use Rattle.end_model.proofs.Heads.{IsInSession, master_frame}
 use Rattle.end_model.proofs.Reactions.{phase_of_data, slave_data}
@@ -44,7 +44,7 @@ if-reached k n f g h = let b : nat_lt k n ≡ false = grind (arith, nat_tests) i
 
 -- a master's answer before the last piece of a phase, after it, and in Data
 next-piece : (ms : MasterSettings) (e : List Deed) (bytes load : List ℕ) (c : Command) → IsHandshake c → pieces_sent e (phase_of c) < all_pieces ms e (phase_of c)
-    → answer_to (OfMaster ms) e bytes c load ≡ download ms (received bytes c load e) c (suc (pieces_sent e (phase_of c)))
+    → answer_to (OfMaster ms) e bytes c load ≡ download_frame ms (received bytes c load e) c (suc (pieces_sent e (phase_of c)))
 next-piece ms e bytes load c OfSession h = if-below (pieces_sent e state.Session) (all_pieces ms e state.Session) _ _ h
 next-piece ms e bytes load c OfConnection h = if-below (pieces_sent e state.Connection) (all_pieces ms e state.Connection) _ _ h
 next-piece ms e bytes load c OfParameter h = if-below (pieces_sent e state.Parameter) (all_pieces ms e state.Parameter) _ _ h

@@ -28,7 +28,7 @@ use Rattle.end_model.specs.Chain.{since, own, taken, kept, fits}
 use Rattle.end_model.specs.Payloads.{pay, pieces, count_in, session_id}
 use Rattle.end_model.specs.Readiness.{state_of, age, limit, allowed, is_done}
 use Rattle.end_model.specs.Verdict.{Verdict, Refused, Wrong, has_conn, contents, verdict}
-use Rattle.end_model.specs.Step.{takes, begun, with_data, slave_answer, download}
+use Rattle.end_model.specs.Step.{takes, begun, with_data, slave_answer, download_frame}
 
 -- the setup is a master's
 abbrev pub IsMaster : Setup → Type 0
@@ -173,18 +173,18 @@ pub data Taking (e : List Deed) (bytes load : List ℕ) : Setup → Command → 
   -- a master in state Reset takes the answer to its Reset frame, and sends its first Session frame
   MasterStarts : (ms : MasterSettings) (answer : List ℕ) → state_of (OfMaster ms) e ≡ state.Reset → HasNoSession e
       → IsResetFrame (OfMaster ms) e bytes load → first_of load ≡ 0
-      → answer ≡ download ms (received bytes command.Reset load e) command.Session 1 → IsInSession answer
+      → answer ≡ download_frame ms (received bytes command.Reset load e) command.Session 1 → IsInSession answer
       → state_of (OfMaster ms) (answered bytes command.Reset load answer e) ≡ state.Session
       → Taking e bytes load (OfMaster ms) command.Reset answer
   -- a master takes an answer of a phase, and sends the next piece of its payload
   MasterGoesOn : (ms : MasterSettings) (c : Command) (answer : List ℕ) → IsHandshake c → state_of (OfMaster ms) e ≡ phase_of c
       → pieces_sent e (phase_of c) < all_pieces ms e (phase_of c)
-      → IsExchange (OfMaster ms) e bytes load c answer (download ms (received bytes c load e) c (suc (pieces_sent e (phase_of c)))) (phase_of c)
+      → IsExchange (OfMaster ms) e bytes load c answer (download_frame ms (received bytes c load e) c (suc (pieces_sent e (phase_of c)))) (phase_of c)
       → Taking e bytes load (OfMaster ms) c answer
   -- a master takes the answer to the last piece of a phase, and sends the first of the next
   MasterNextPhase : (ms : MasterSettings) (c next : Command) (answer : List ℕ) → IsNextPhase c next
       → state_of (OfMaster ms) e ≡ phase_of c → all_pieces ms e (phase_of c) ≤ pieces_sent e (phase_of c)
-      → IsExchange (OfMaster ms) e bytes load c answer (download ms (received bytes c load e) next 1) (phase_of next)
+      → IsExchange (OfMaster ms) e bytes load c answer (download_frame ms (received bytes c load e) next 1) (phase_of next)
       → Taking e bytes load (OfMaster ms) c answer
   -- a master takes the answer to the last piece of the parameters, and sends its first data
   MasterFirstData : (ms : MasterSettings) (answer : List ℕ) → state_of (OfMaster ms) e ≡ state.Parameter

@@ -101,21 +101,21 @@ slave_answer ss e command.Parameter load = with_piece (OfSlave ss) e command.Par
 slave_answer ss e _ load = with_data (OfSlave ss) e
 
 -- the k-th frame of a master in the phase of a command
-abbrev pub download : MasterSettings → List Deed → Command → ℕ → List ℕ
-download ms e c k = with_piece (OfMaster ms) e c (piece (pay ms (session_id (OfMaster ms) e) (phase_of c)) (piece_len (OfMaster ms)) k)
+abbrev pub download_frame : MasterSettings → List Deed → Command → ℕ → List ℕ
+download_frame ms e c k = with_piece (OfMaster ms) e c (piece (pay ms (session_id (OfMaster ms) e) (phase_of c)) (piece_len (OfMaster ms)) k)
 
 -- a master's first frame after a phase
 abbrev pub after_phase : MasterSettings → List Deed → Command → List ℕ
-after_phase ms e command.Reset = download ms e command.Session 1
-after_phase ms e command.Session = download ms e command.Connection 1
-after_phase ms e command.Connection = download ms e command.Parameter 1
+after_phase ms e command.Reset = download_frame ms e command.Session 1
+after_phase ms e command.Session = download_frame ms e command.Connection 1
+after_phase ms e command.Connection = download_frame ms e command.Parameter 1
 after_phase ms e _ = with_data (OfMaster ms) e
 
 -- a master's frame after k pieces of a payload: the next piece, else the first frame after the phase
 abbrev pub after_pieces : MasterSettings → List Deed → Command → ℕ → List ℕ
 after_pieces ms e c k =
     if nat_lt k (pieces (pay ms (session_id (OfMaster ms) e) (phase_of c)) (piece_len (OfMaster ms)))
-    then download ms e c (suc k) else after_phase ms e c
+    then download_frame ms e c (suc k) else after_phase ms e c
 
 -- a master's next frame in a handshake, by the pieces that it sent
 abbrev pub goes_on : MasterSettings → List Deed → Command → List ℕ

@@ -13,7 +13,7 @@ use Rattle.param_load.specs.declared.terms.Terms.{Terms}
 use Rattle.param_load.specs.declared.entry.Entry.{Entry}
 use Rattle.exchange_model.specs.Ends.{of_end}
 use Rattle.exchange_model.specs.Items.{Item, items, awaited}
-use Rattle.exchange_model.specs.Fair.{received, data_taken, frame_if, IsTakenFrom, TakesAwaited, numbers_taken, outputs_due, ShowsDue, Fair}
+use Rattle.exchange_model.specs.Fair.{received_len, data_taken, frame_if, IsTakenFrom, TakesAwaited, numbers_taken, outputs_due, ShowsDue, Fair}
 
 left : (a b : Bool) → (a && b) ≡ true → a ≡ true
 left true b h = refl
@@ -106,22 +106,22 @@ taken_from l (Some t) told_after (Some i) h =
 
 abbrev takes_awaited : Lengths → List Entry → Bool
 takes_awaited lengths [] = true
-takes_awaited lengths (x ∷ w) = is_taken_from (received lengths x.end) (data_taken x.did.took) x.terms (awaited (items w) x.end) && takes_awaited lengths w
+takes_awaited lengths (x ∷ w) = is_taken_from (received_len lengths x.end) (data_taken x.did.took) x.terms (awaited (items w) x.end) && takes_awaited lengths w
 
 takes : (lengths : Lengths) (w : List Entry) → takes_awaited lengths w ≡ true → TakesAwaited lengths w
 takes lengths [] h = tt
 takes lengths (x ∷ w) h =
-    let here = is_taken_from (received lengths x.end) (data_taken x.did.took) x.terms (awaited (items w) x.end) in
-    (taken_from (received lengths x.end) (data_taken x.did.took) x.terms (awaited (items w) x.end) (left _ _ h), takes lengths w (right here _ h))
+    let here = is_taken_from (received_len lengths x.end) (data_taken x.did.took) x.terms (awaited (items w) x.end) in
+    (taken_from (received_len lengths x.end) (data_taken x.did.took) x.terms (awaited (items w) x.end) (left _ _ h), takes lengths w (right here _ h))
 
 abbrev shows_due : Lengths → List Entry → Bool
 shows_due lengths [] = true
-shows_due lengths (x ∷ w) = pointwise nat_eq x.outputs (outputs_due (received lengths x.end) (x ∷ of_end x.end w)) && shows_due lengths w
+shows_due lengths (x ∷ w) = pointwise nat_eq x.outputs (outputs_due (received_len lengths x.end) (x ∷ of_end x.end w)) && shows_due lengths w
 
 shows : (lengths : Lengths) (w : List Entry) → shows_due lengths w ≡ true → ShowsDue lengths w
 shows lengths [] h = tt
 shows lengths (x ∷ w) h =
-    let due : List ℕ = outputs_due (received lengths x.end) (x ∷ of_end x.end w) in
+    let due : List ℕ = outputs_due (received_len lengths x.end) (x ∷ of_end x.end w) in
     (same_text x.outputs due (sym (left _ _ h)), shows lengths w (right (pointwise nat_eq x.outputs due) _ h))
 
 abbrev no_number : ℕ → List ℕ → Bool
@@ -181,8 +181,8 @@ not_from l None told_after i h from = cc
 -- whether the newest entry takes a data frame with another load
 abbrev pub takes_other_load : Lengths → List Entry → Bool
 takes_other_load lengths [] = false
-takes_other_load lengths (x ∷ w) = has_other_load (received lengths x.end) (data_taken x.did.took) (awaited (items w) x.end)
+takes_other_load lengths (x ∷ w) = has_other_load (received_len lengths x.end) (data_taken x.did.took) (awaited (items w) x.end)
 
 pub unfair : (lengths : Lengths) (w : List Entry) → takes_other_load lengths w ≡ true → Fair lengths w → ⊥
 unfair lengths [] h is_fair = cc
-unfair lengths (x ∷ w) h is_fair = not_from (received lengths x.end) (data_taken x.did.took) x.terms (awaited (items w) x.end) h is_fair.from_awaited.0
+unfair lengths (x ∷ w) h is_fair = not_from (received_len lengths x.end) (data_taken x.did.took) x.terms (awaited (items w) x.end) h is_fair.from_awaited.0

@@ -19,9 +19,10 @@ use Rattle.end_model.specs.Deed.{Deed}
 use Rattle.end_model.specs.Chain.{since, own}
 use Rattle.end_model.specs.Payloads.{piece, pieces, count_in, conn_id, session_id, pay}
 use Rattle.end_model.specs.Readiness.{offer, offer_after, held}
-use Rattle.end_model.specs.Step.{sealed, with_piece, with_data, download, after_phase, master_answer, slave_answer, IsProper, IsRun}
+use Rattle.end_model.specs.Step.{sealed, with_piece, with_data, download_frame, after_phase, master_answer, slave_answer, IsProper, IsRun}
 use Rattle.end_model.specs.Reactions.{received, Taking}
 use Rattle.end_model.proofs.ReadBack.{read_back}
+use Rattle.end_model.proofs.SealedFrames.{offer_len}
 use Rattle.end_model.proofs.Taken.{answer_is}
 use Rattle.fsoe_base.specs.Data.{is_data}
 use Rattle.exchange_model.proofs.Joint.{is_guarded_in}
@@ -124,19 +125,6 @@ data-head s e false k h = Offers h (sealed_frame s e command.ProcessData (offer 
 data_framed : (s : Setup) (e : List Deed) → length (offer s e) ≡ sends s → IsData s e (with_data s e)
 data_framed s e k = data-head s e (held e) k refl
 
--- each put has its end's length
-offer-next : (s : Setup) (m : Move) (before : List ℕ) → IsProper s m → length before ≡ sends s → length (offer_after m before) ≡ sends s
-offer-next s (move.Put load) before h k = h
-offer-next s (move.Deliver bytes) before h k = k
-offer-next s move.Tick before h k = k
-offer-next s (move.Hold failsafe) before h k = k
-offer-next s (move.Nonce id) before h k = k
-offer-next s move.Local before h k = k
-
-pub offer_long : (s : Setup) (e : List Deed) → IsRun s e → length (offer s e) ≡ sends s
-offer_long s [] r = length-replicate (sends s) 0
-offer_long s (x ∷ e) r = offer-next s x.what (offer s e) r.0.proper (offer_long s e r.1)
-
 -- what a slave sends on a frame of a session
 pub data SlaveSends (ss : SlaveSettings) (e : List Deed) (c : Command) (f : List ℕ) : Type 0 where
   Echoes : (load : List ℕ) → is_data c ≡ false → IsFrame (sends (OfSlave ss)) c load f → SlaveSends ss e c f
@@ -151,7 +139,7 @@ slave-gives ss e command.FailSafeData load k n = Gives refl (data_framed (OfSlav
 slave-gives ss e command.ProcessData load k n = Gives refl (data_framed (OfSlave ss) e k)
 
 pub slave_sends : (ss : SlaveSettings) (e : List Deed) (bytes load : List ℕ) (c : Command) (f : List ℕ) → IsRun (OfSlave ss) e → Taking e bytes load (OfSlave ss) c f → c ≢ command.Reset → SlaveSends ss (received bytes c load e) c f
-slave_sends ss e bytes load c f r taking n = subst (SlaveSends ss (received bytes c load e) c) (sym (answer_is e bytes load (OfSlave ss) c f taking)) (slave-gives ss (received bytes c load e) c load (offer_long (OfSlave ss) e r) n)
+slave_sends ss e bytes load c f r taking n = subst (SlaveSends ss (received bytes c load e) c) (sym (answer_is e bytes load (OfSlave ss) c f taking)) (slave-gives ss (received bytes c load e) c load (offer_len (OfSlave ss) e r) n)
 
 -- what a master downloads
 abbrev pub connection_of : MasterSettings → List ℕ
@@ -182,20 +170,20 @@ pub data MasterSends (ms : MasterSettings) (e : List Deed) : Command → List �
   Opens : (f : List ℕ) → pieces_of ms (parameters_of ms) ≤ sent_in state.Parameter e → IsData (OfMaster ms) e f → MasterSends ms e command.Parameter f
   Exchanges : (c : Command) (f : List ℕ) → is_data c ≡ true → IsData (OfMaster ms) e f → MasterSends ms e c f
 
-download-frame : (ms : MasterSettings) (e : List Deed) (c : Command) (k : ℕ) → IsPiece ms c (pay ms (session_id (OfMaster ms) e) (phase_of c)) k (download ms e c k)
+download-frame : (ms : MasterSettings) (e : List Deed) (c : Command) (k : ℕ) → IsPiece ms c (pay ms (session_id (OfMaster ms) e) (phase_of c)) k (download_frame ms e c k)
 download-frame ms e c k = piece_frame (OfMaster ms) e c _ (front_fits (OfMaster ms) _)
 
-after-session : (ms : MasterSettings) (e : List Deed) (k : ℕ) (b : Bool) → MasterSends ms e command.Session (if b then download ms e command.Session (suc k) else after_phase ms e command.Session)
+after-session : (ms : MasterSettings) (e : List Deed) (k : ℕ) (b : Bool) → MasterSends ms e command.Session (if b then download_frame ms e command.Session (suc k) else after_phase ms e command.Session)
 after-session ms e k true = GoesOn _ _ (download-frame ms e command.Session (suc k))
 after-session ms e k false = Connects _ (download-frame ms e command.Connection 1)
 
 after-connection : (ms : MasterSettings) (e : List Deed) (b : Bool) → nat_lt (sent_in state.Connection e) (pieces_of ms (connection_of ms)) ≡ b
-    → MasterSends ms e command.Connection (if b then download ms e command.Connection (suc (sent_in state.Connection e)) else after_phase ms e command.Connection)
+    → MasterSends ms e command.Connection (if b then download_frame ms e command.Connection (suc (sent_in state.Connection e)) else after_phase ms e command.Connection)
 after-connection ms e true h = MoreConnection _ (download-frame ms e command.Connection (suc (sent_in state.Connection e)))
 after-connection ms e false h = Sets _ (grind (arith, nat_tests)) (download-frame ms e command.Parameter 1)
 
 after-parameter : (ms : MasterSettings) (e : List Deed) (b : Bool) → length (offer (OfMaster ms) e) ≡ sends (OfMaster ms) → nat_lt (sent_in state.Parameter e) (pieces_of ms (parameters_of ms)) ≡ b
-    → MasterSends ms e command.Parameter (if b then download ms e command.Parameter (suc (sent_in state.Parameter e)) else after_phase ms e command.Parameter)
+    → MasterSends ms e command.Parameter (if b then download_frame ms e command.Parameter (suc (sent_in state.Parameter e)) else after_phase ms e command.Parameter)
 after-parameter ms e true k h = MoreParameter _ (download-frame ms e command.Parameter (suc (sent_in state.Parameter e)))
 after-parameter ms e false k h = Opens _ (grind (arith, nat_tests)) (data_framed (OfMaster ms) e k)
 
@@ -208,4 +196,4 @@ master-gives ms e command.FailSafeData k = Exchanges command.FailSafeData _ refl
 master-gives ms e command.ProcessData k = Exchanges command.ProcessData _ refl (data_framed (OfMaster ms) e k)
 
 pub master_sends : (ms : MasterSettings) (e : List Deed) (bytes load : List ℕ) (c : Command) (f : List ℕ) → IsRun (OfMaster ms) e → Taking e bytes load (OfMaster ms) c f → MasterSends ms (received bytes c load e) c f
-master_sends ms e bytes load c f r taking = subst (MasterSends ms (received bytes c load e) c) (sym (answer_is e bytes load (OfMaster ms) c f taking)) (master-gives ms (received bytes c load e) c (offer_long (OfMaster ms) e r))
+master_sends ms e bytes load c f r taking = subst (MasterSends ms (received bytes c load e) c) (sym (answer_is e bytes load (OfMaster ms) c f taking)) (master-gives ms (received bytes c load e) c (offer_len (OfMaster ms) e r))

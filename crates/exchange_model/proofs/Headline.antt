@@ -31,9 +31,9 @@ use Rattle.exchange_model.specs.World.{setup_of, deed_in, deeds, world, SameLeng
 use Rattle.exchange_model.specs.Items.{Item, items_of, items, item_of, awaited}
 use Rattle.exchange_model.specs.Other.{NoOther, before_other}
 use Rattle.fsoe_base.specs.Data.{is_data}
-use Rattle.exchange_model.specs.Fair.{received, data_taken, frame_if, IsTakenFrom, TakesAwaited, Fair}
+use Rattle.exchange_model.specs.Fair.{received_len, data_taken, frame_if, IsTakenFrom, TakesAwaited, Fair}
 use Rattle.exchange_model.proofs.Projection.{same, entry_reacted, world_is_world}
-use Rattle.exchange_model.proofs.Shown.{shows_due}
+use Rattle.exchange_model.proofs.Shown.{receives_is, shows_due}
 use Rattle.exchange_model.proofs.Once.{at_most_once}
 use Rattle.exchange_model.proofs.Others.{before_is_clean, before_is_world}
 use Rattle.exchange_model.proofs.Awaited.{up_to, newest_phase}
@@ -117,13 +117,9 @@ told-in-data ms ss end_name.Slave x w lens h k is now =
     slave_told ms ss x w lens h k is (subst (λ (it : End). IsNextEntry (setup_of ms ss it) x (deeds it w)) is h.0) (ap (state_of (OfSlave ss)) e ∙ now)
 
 -- what an end receives is what its peer sends
-received-sent : (ms : MasterSettings) (ss : SlaveSettings) (which : End) → SameLengths ms ss → received ms.lengths which ≡ sends (setup_of ms ss (peer which))
+received-sent : (ms : MasterSettings) (ss : SlaveSettings) (which : End) → SameLengths ms ss → received_len ms.lengths which ≡ sends (setup_of ms ss (peer which))
 received-sent ms ss end_name.Master lens = lens.slave
 received-sent ms ss end_name.Slave lens = refl
-
-received-is : (ms : MasterSettings) (ss : SlaveSettings) (which : End) → SameLengths ms ss → received ms.lengths which ≡ receives (setup_of ms ss which)
-received-is ms ss end_name.Master lens = refl
-received-is ms ss end_name.Slave lens = lens.master
 
 -- data that an entry takes are from the awaited item
 taken-from : (l : ℕ) (c : Command) (bytes load : List ℕ) (told : Option Terms) (t : Terms) (o : Option Item) (j : Item) → is_data c ≡ true → o ≡ Some j → j.bytes ≡ bytes → command_in bytes ≡ Some c → (frame_of l bytes).load ≡ load
@@ -139,18 +135,18 @@ taken-from l c bytes load told t o j d is same_bytes head load_is carry tell now
     (record { same_load = load_too; some_terms = ap is_some terms_are; equal_terms = terms_are ∙ sym now }))
 
 taken-head : (ms : MasterSettings) (ss : SlaveSettings) (x : Entry) (w : List Entry) → SameLengths ms ss → IsWorld ms ss (x ∷ w) → NoOther (x ∷ w) → Takings (setup_of ms ss x.end) (deeds x.end w) (deed_in x)
-    → IsTakenFrom (received ms.lengths x.end) (data_taken x.did.took) x.terms (awaited (items w) x.end)
-taken-head ms ss x w lens h n (NoData e) = subst (λ (took : Option Took). IsTakenFrom (received ms.lengths x.end) took x.terms (awaited (items w) x.end)) (sym e) tt
+    → IsTakenFrom (received_len ms.lengths x.end) (data_taken x.did.took) x.terms (awaited (items w) x.end)
+taken-head ms ss x w lens h n (NoData e) = subst (λ (took : Option Took). IsTakenFrom (received_len ms.lengths x.end) took x.terms (awaited (items w) x.end)) (sym e) tt
 taken-head ms ss x w lens h n (SomeData bytes load c a b d head load_is now) =
     let o : NoneOther x w = none_other x w n in
     let it : TakesItem w x bytes = takes_item w x bytes c load (record { what_is = a; did_is = b }) head (data_guarded c d) o.here in
     let others : List Item = items_of (peer x.end) (items w) in
     let carry : Carries (sends (setup_of ms ss (peer x.end))) it.item = at-item (Carries (sends (setup_of ms ss (peer x.end)))) it.item.number others it.found.rest it.item (all_carry ms ss (peer x.end) w h.1) it.found.is in
     let tell : Tells (terms_of ms) it.item = at-item (Tells (terms_of ms)) it.item.number others it.found.rest it.item (all-tell ms ss (peer x.end) w lens h.1 o.before) it.found.is in
-    let l : ℕ = received ms.lengths x.end in
-    subst (λ (did : Did). IsTakenFrom (received ms.lengths x.end) (data_taken did.took) x.terms (awaited (items w) x.end)) (sym b)
-    (taken-from (received ms.lengths x.end) c bytes load x.terms (terms_of ms) (awaited (items w) x.end) it.item d it.is it.bytes_are head
-    (ap (λ (l : ℕ). (frame_of l bytes).load) (received-is ms ss x.end lens) ∙ load_is)
+    let l : ℕ = received_len ms.lengths x.end in
+    subst (λ (did : Did). IsTakenFrom (received_len ms.lengths x.end) (data_taken did.took) x.terms (awaited (items w) x.end)) (sym b)
+    (taken-from (received_len ms.lengths x.end) c bytes load x.terms (terms_of ms) (awaited (items w) x.end) it.item d it.is it.bytes_are head
+    (ap (λ (l : ℕ). (frame_of l bytes).load) (receives_is ms ss x.end lens) ∙ load_is)
     (subst (λ (l : ℕ). Carries l it.item) (sym (received-sent ms ss x.end lens)) carry) tell
     (told-in-data ms ss x.end x w lens h (related ms ss (x ∷ w) lens h n) refl now))
 

@@ -15,7 +15,7 @@ use Rattle.exchange_model.specs.declared.side.Side.{Side}
 use Rattle.exchange_model.specs.Ends.{same_end, peer}
 use Rattle.exchange_model.specs.Items.{Item, newest, items_of, items, item_of, item_taken, awaited, answers_to, newest_answer, answer_among, has_bytes, number_if}
 use Rattle.exchange_model.specs.Other.{is_other, first_of_both, first_other}
-use Rattle.exchange_model.specs.Noting.{sent_of, kept, MonitorView, view_of, Notes, number, item_number, has, number_of, next_number, is_answer, is_other_to, answered, sent_next, heard_next, own_after, peer_after, side_of, master_after, slave_after, noted_next}
+use Rattle.exchange_model.specs.Noting.{sent_of, kept_of, MonitorView, view_of, Notes, sent_number, item_number, has, number_of, next_number, is_answer, is_other_to, answered, sent_next, heard_next, own_after, peer_after, side_of, master_after, slave_after, noted_next}
 use Rattle.exchange_model.proofs.Projection.{same}
 use Rattle.exchange_model.proofs.Numbered.{Numbered, Grown, Same, More, grown, numbered}
 use Rattle.exchange_model.proofs.Awaited.{awaited_found}
@@ -99,17 +99,17 @@ newest_next [] num = refl
 newest_next (i ∷ found) num = ap suc num.0
 
 -- an end that sends an item
-own-items : (which : End) (i : Item) (found : List Item) → i.end ≡ which → kept which (i ∷ found) ≡ side (sent_of (Some i)) (sent_of (newest_answer i.number (items_of (peer which) found)))
+own-items : (which : End) (i : Item) (found : List Item) → i.end ≡ which → kept_of which (i ∷ found) ≡ side (sent_of (Some i)) (sent_of (newest_answer i.number (items_of (peer which) found)))
 own-items end_name.Master i found h = simp h
 own-items end_name.Slave i found h = simp h
 
 own-kept-by : (which : End) (x : Entry) (w : List Entry) (none : Bool) → x.end ≡ which → is_empty x.sent ≡ none
-    → (if none then kept which (items w) else sent_next (kept which (items w)) x.sent) ≡ kept which (if none then items w else item_of x w (items w) ∷ items w)
+    → (if none then kept_of which (items w) else sent_next (kept_of which (items w)) x.sent) ≡ kept_of which (if none then items w else item_of x w (items w) ∷ items w)
 own-kept-by which x w true h k = refl
 own-kept-by which x w false h k =
     let i : Item = item_of x w (items w) in
     let n : suc (length (items_of x.end (items w))) ≡ suc (length (items_of which (items w))) = ap (λ (it : End). suc (length (items_of it (items w)))) h in
-    let a : next_number (kept which (items w)).newest ≡ suc (length (items_of x.end (items w))) = newest_next (items_of which (items w)) (numbered which w) ∙ sym n in
+    let a : next_number (kept_of which (items w)).newest ≡ suc (length (items_of x.end (items w))) = newest_next (items_of which (items w)) (numbered which w) ∙ sym n in
     let b : newest_answer (suc (length (items_of x.end (items w)))) (items_of (peer which) (items w)) ≡ None = ap (λ n. newest_answer n (items_of (peer which) (items w))) n ∙ none-answers (length (items_of which (items w))) (items_of (peer which) (items w)) (back which) in
     ap₂ (λ (n : ℕ) (o : Option Item). side (Some (record { number = n; bytes = x.sent })) (sent_of o)) a (sym b) ∙ sym (own-items which i (items w) h)
   where
@@ -117,7 +117,7 @@ own-kept-by which x w false h k =
     back end_name.Master = answers-within end_name.Slave w
     back end_name.Slave = answers-within end_name.Master w
 
-own-kept : (which : End) (x : Entry) (w : List Entry) → x.end ≡ which → own_after (kept which (items w)) x ≡ kept which (items (x ∷ w))
+own-kept : (which : End) (x : Entry) (w : List Entry) → x.end ≡ which → own_after (kept_of which (items w)) x ≡ kept_of which (items (x ∷ w))
 own-kept which x w h = own-kept-by which x w (is_empty x.sent) h refl
 
 -- its peer
@@ -135,9 +135,9 @@ peer-awaits i found None = unanswered (not (has_command command.Reset i.bytes)) 
 peer-awaits i found (Some mine) = chosen (not (has_command command.Reset i.bytes)) (answers_to mine.number i.answers) i (newest_answer mine.number found)
 
 peer-items : (which : End) (i : Item) (found : List Item) → i.end ≡ which
-    → kept (peer which) (i ∷ found) ≡ side (kept (peer which) found).newest (if not (has_command command.Reset i.bytes) && is_answer (kept (peer which) found).newest i.answers then sent_of (Some i) else (kept (peer which) found).awaited)
-peer-items end_name.Master i found h = simp h (ap (side (kept end_name.Slave found).newest) (peer-awaits i (items_of end_name.Master found) (newest (items_of end_name.Slave found))))
-peer-items end_name.Slave i found h = simp h (ap (side (kept end_name.Master found).newest) (peer-awaits i (items_of end_name.Slave found) (newest (items_of end_name.Master found))))
+    → kept_of (peer which) (i ∷ found) ≡ side (kept_of (peer which) found).newest (if not (has_command command.Reset i.bytes) && is_answer (kept_of (peer which) found).newest i.answers then sent_of (Some i) else (kept_of (peer which) found).awaited)
+peer-items end_name.Master i found h = simp h (ap (side (kept_of end_name.Slave found).newest) (peer-awaits i (items_of end_name.Master found) (newest (items_of end_name.Slave found))))
+peer-items end_name.Slave i found h = simp h (ap (side (kept_of end_name.Master found).newest) (peer-awaits i (items_of end_name.Slave found) (newest (items_of end_name.Master found))))
 
 number-is : (bytes : List ℕ) (o : Option Item) → number_of bytes (sent_of o) ≡ number_if bytes o
 number-is bytes None = refl
@@ -147,32 +147,32 @@ if-sent : (b : Bool) (o p : Option Item) → (if b then sent_of o else sent_of p
 if-sent true o p = refl
 if-sent false o p = refl
 
-pub answered_is : (which : End) (found : List Item) (bytes : List ℕ) (took : Option Took) → answered (kept which found) (kept (peer which) found) bytes took ≡ item_taken found which bytes took
+pub answered_is : (which : End) (found : List Item) (bytes : List ℕ) (took : Option Took) → answered (kept_of which found) (kept_of (peer which) found) bytes took ≡ item_taken found which bytes took
 answered_is which found bytes None = refl
 answered_is which found bytes (Some t) =
     ap (number_of bytes) (if-sent (is_guarded t.command) (awaited found which) (newest (items_of (peer which) found)))
     ∙ number-is bytes (if is_guarded t.command then awaited found which else newest (items_of (peer which) found))
 
 peer-kept-by : (which : End) (x : Entry) (w : List Entry) (none : Bool) → x.end ≡ which → is_empty x.sent ≡ none
-    → (if none then kept (peer which) (items w) else heard_next (kept which (items w)) (kept (peer which) (items w)) x.sent (answered (kept which (items w)) (kept (peer which) (items w)) (delivered x.what) x.did.took))
-    ≡ kept (peer which) (if none then items w else item_of x w (items w) ∷ items w)
+    → (if none then kept_of (peer which) (items w) else heard_next (kept_of which (items w)) (kept_of (peer which) (items w)) x.sent (answered (kept_of which (items w)) (kept_of (peer which) (items w)) (delivered x.what) x.did.took))
+    ≡ kept_of (peer which) (if none then items w else item_of x w (items w) ∷ items w)
 peer-kept-by which x w true h k = refl
 peer-kept-by which x w false h k =
     let i : Item = item_of x w (items w) in
     let its : List Item = items w in
-    let n : next_number (kept which (items w)).newest ≡ suc (length (items_of x.end (items w))) = newest_next (items_of which (items w)) (numbered which w) ∙ ap (λ (it : End). suc (length (items_of it (items w)))) (sym h) in
-    let a : answered (kept which (items w)) (kept (peer which) (items w)) (delivered x.what) x.did.took ≡ item_taken (items w) x.end (delivered x.what) x.did.took = answered_is which (items w) (delivered x.what) x.did.took ∙ ap (λ (it : End). item_taken (items w) it (delivered x.what) x.did.took) (sym h) in
-    ap₂ (λ (n : ℕ) (answer : Option ℕ). side (kept (peer which) (items w)).newest (if not (has_command command.Reset x.sent) && is_answer (kept (peer which) (items w)).newest answer then Some (record { number = n; bytes = x.sent }) else (kept (peer which) (items w)).awaited)) n a
+    let n : next_number (kept_of which (items w)).newest ≡ suc (length (items_of x.end (items w))) = newest_next (items_of which (items w)) (numbered which w) ∙ ap (λ (it : End). suc (length (items_of it (items w)))) (sym h) in
+    let a : answered (kept_of which (items w)) (kept_of (peer which) (items w)) (delivered x.what) x.did.took ≡ item_taken (items w) x.end (delivered x.what) x.did.took = answered_is which (items w) (delivered x.what) x.did.took ∙ ap (λ (it : End). item_taken (items w) it (delivered x.what) x.did.took) (sym h) in
+    ap₂ (λ (n : ℕ) (answer : Option ℕ). side (kept_of (peer which) (items w)).newest (if not (has_command command.Reset x.sent) && is_answer (kept_of (peer which) (items w)).newest answer then Some (record { number = n; bytes = x.sent }) else (kept_of (peer which) (items w)).awaited)) n a
     ∙ sym (peer-items which i (items w) h)
 
-peer-kept : (which : End) (x : Entry) (w : List Entry) → x.end ≡ which → peer_after (kept which (items w)) (kept (peer which) (items w)) x ≡ kept (peer which) (items (x ∷ w))
+peer-kept : (which : End) (x : Entry) (w : List Entry) → x.end ≡ which → peer_after (kept_of which (items w)) (kept_of (peer which) (items w)) x ≡ kept_of (peer which) (items (x ∷ w))
 peer-kept which x w h = peer-kept-by which x w (is_empty x.sent) h refl
 
 has-is : (bytes : List ℕ) (o : Option Item) → has bytes (sent_of o) ≡ has_bytes bytes o
 has-is bytes None = refl
 has-is bytes (Some i) = refl
 
-pub other_is : (which : End) (x : Entry) (w : List Entry) → x.end ≡ which → is_other_to (kept which (items w)) x ≡ is_other (items w) x
+pub other_is : (which : End) (x : Entry) (w : List Entry) → x.end ≡ which → is_other_to (kept_of which (items w)) x ≡ is_other (items w) x
 other_is which x w h =
     ap (λ (b : Bool). x.did.passed && is_guarded_frame (delivered x.what) && not b) (has-is (delivered x.what) (awaited (items w) which) ∙ ap (λ (it : End). has_bytes (delivered x.what) (awaited (items w) it)) (sym h))
 
@@ -191,11 +191,11 @@ next-is end_name.Slave x w h =
 pub notes_by : {old new : MonitorView} {x : Entry} → new ≡ noted_next old x → Notes old x new
 notes_by {old} {new} {x} h = record { notes = λ w is. h ∙ (ap (λ (v : MonitorView). noted_next v x) is ∙ next-is x.end x w refl) }
 
-number-of-item : (o : Option Item) → number (sent_of o) ≡ item_number o
+number-of-item : (o : Option Item) → sent_number (sent_of o) ≡ item_number o
 number-of-item None = refl
 number-of-item (Some i) = refl
 
 -- the number of the item that an end awaits
-pub awaited_number : (v : MonitorView) (by : End) (w : List Entry) → v ≡ view_of w → number (side_of by v).awaited ≡ item_number (awaited (items w) by)
-awaited_number v end_name.Master w h = ap (λ (v : MonitorView). number v.master.awaited) h ∙ number-of-item (awaited (items w) end_name.Master)
-awaited_number v end_name.Slave w h = ap (λ (v : MonitorView). number v.slave.awaited) h ∙ number-of-item (awaited (items w) end_name.Slave)
+pub awaited_number : (v : MonitorView) (by : End) (w : List Entry) → v ≡ view_of w → sent_number (side_of by v).awaited ≡ item_number (awaited (items w) by)
+awaited_number v end_name.Master w h = ap (λ (v : MonitorView). sent_number v.master.awaited) h ∙ number-of-item (awaited (items w) end_name.Master)
+awaited_number v end_name.Slave w h = ap (λ (v : MonitorView). sent_number v.slave.awaited) h ∙ number-of-item (awaited (items w) end_name.Slave)

@@ -27,7 +27,7 @@ use Rattle.end_model.proofs.Taken.{data_after}
 use Rattle.end_model.proofs.Shown.{looking_back}
 use Rattle.exchange_model.specs.Ends.{of_end}
 use Rattle.exchange_model.specs.World.{setup_of, deed_in, deeds, SameLengths, IsWorld}
-use Rattle.exchange_model.specs.Fair.{received, outputs_by, outputs_at, outputs_after, outputs_due, ShowsDue}
+use Rattle.exchange_model.specs.Fair.{received_len, outputs_by, outputs_at, outputs_after, outputs_due, ShowsDue}
 use Rattle.exchange_model.proofs.Projection.{next_told, next_run, told}
 
 -- where ProcessData was taken, the state is Data
@@ -63,9 +63,9 @@ due-after s (x ∷ e) n h =
 pub due_is_out : (s : Setup) (e : List Deed) → IsRun s e → outputs_due (receives s) (entries s e) ≡ out s e
 due_is_out s e h = due-after s e 0 h
 
-receives-is : (ms : MasterSettings) (ss : SlaveSettings) (which : End) → SameLengths ms ss → received ms.lengths which ≡ receives (setup_of ms ss which)
-receives-is ms ss end_name.Master h = refl
-receives-is ms ss end_name.Slave h = h.master
+pub receives_is : (ms : MasterSettings) (ss : SlaveSettings) (which : End) → SameLengths ms ss → received_len ms.lengths which ≡ receives (setup_of ms ss which)
+receives_is ms ss end_name.Master h = refl
+receives_is ms ss end_name.Slave h = h.master
 
 -- after each entry of a world the outputs are those that looking back gives
 pub shows_due : (ms : MasterSettings) (ss : SlaveSettings) (w : List Entry) → SameLengths ms ss → IsWorld ms ss w → ShowsDue ms.lengths w
@@ -81,6 +81,6 @@ shows_due ms ss (x ∷ w) h so_far =
           ∙ (looking_back s (deed_in x ∷ e) run
           ∙ (sym (due_is_out s (deed_in x ∷ e) run)
           ∙ (ap (outputs_due (receives s)) (sym whole)
-          ∙ ap (λ (l : ℕ). outputs_due l (x ∷ of_end x.end w)) (sym (receives-is ms ss x.end h))))),
+          ∙ ap (λ (l : ℕ). outputs_due l (x ∷ of_end x.end w)) (sym (receives_is ms ss x.end h))))),
       shows_due ms ss w h so_far.1,
     )

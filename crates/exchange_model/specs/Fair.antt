@@ -17,8 +17,8 @@ use Rattle.exchange_model.specs.Ends.{same_end, peer, of_end}
 use Rattle.exchange_model.specs.Items.{Load, FailSafe, Values, Unset, Item, items, awaited}
 
 -- the number of safe data bytes that an end receives
-abbrev pub received : Lengths → End → ℕ
-received lengths which = length_of lengths (peer which)
+abbrev pub received_len : Lengths → End → ℕ
+received_len lengths which = length_of lengths (peer which)
 
 -- the data frame that was taken, if one was
 abbrev pub data_taken : Option Took → Option Took
@@ -53,7 +53,7 @@ IsTakenFrom l (Some t) told (Some i) = IsFromItem l t told i
 abbrev pub TakesAwaited : Lengths → List Entry → Type 0
 TakesAwaited lengths [] = Unit {0}
 TakesAwaited lengths (x ∷ w) =
-    IsTakenFrom (received lengths x.end) (data_taken x.did.took) x.terms (awaited (items w) x.end) × TakesAwaited lengths w
+    IsTakenFrom (received_len lengths x.end) (data_taken x.did.took) x.terms (awaited (items w) x.end) × TakesAwaited lengths w
 
 -- the number of an item, if there is one, before others
 abbrev pub with_number : Option Item → List ℕ → List ℕ
@@ -99,7 +99,7 @@ outputs_due l e = outputs_after (replicate l 0) 0 e
 -- after each entry the outputs are those that looking back gives
 abbrev pub ShowsDue : Lengths → List Entry → Type 0
 ShowsDue lengths [] = Unit {0}
-ShowsDue lengths (x ∷ w) = (x.outputs ≡ outputs_due (received lengths x.end) (x ∷ of_end x.end w)) × ShowsDue lengths w
+ShowsDue lengths (x ∷ w) = (x.outputs ≡ outputs_due (received_len lengths x.end) (x ∷ of_end x.end w)) × ShowsDue lengths w
 
 -- a run is fair, where both ends have these lengths
 pub record Fair (lengths : Lengths) (w : List Entry) : Type 0 where

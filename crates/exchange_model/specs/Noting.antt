@@ -19,8 +19,8 @@ sent_of None = None
 sent_of (Some i) = Some (record { number = i.number; bytes = i.bytes })
 
 -- what is kept of an end: its newest item, and the item that it awaits
-abbrev pub kept : End → List Item → Side
-kept which found = record { newest = sent_of (newest (items_of which found)); awaited = sent_of (awaited found which) }
+abbrev pub kept_of : End → List Item → Side
+kept_of which found = record { newest = sent_of (newest (items_of which found)); awaited = sent_of (awaited found which) }
 
 -- what contracts see of a monitor: the entries that it noted, the number of the first other one, and what it keeps of each end
 pub record MonitorView : Type 0 where
@@ -31,7 +31,7 @@ pub record MonitorView : Type 0 where
 
 -- a monitor that noted these entries
 abbrev pub view_of : List Entry → MonitorView
-view_of w = record { noted = length w; other = first_other w; master = kept end_name.Master (items w); slave = kept end_name.Slave (items w) }
+view_of w = record { noted = length w; other = first_other w; master = kept_of end_name.Master (items w); slave = kept_of end_name.Slave (items w) }
 
 -- a monitor that had noted some entries has noted this one too
 pub record Notes (old : MonitorView) (x : Entry) (new : MonitorView) : Type 0 where
@@ -41,10 +41,10 @@ pub record Notes (old : MonitorView) (x : Entry) (new : MonitorView) : Type 0 wh
 abbrev pub first_side : Side
 first_side = record { newest = None; awaited = None }
 
--- the number of the item that an end awaits, if it awaits one
-abbrev pub number : Option Sent → Option ℕ
-number None = None
-number (Some s) = Some s.number
+-- the number of a frame that is kept, if one is
+abbrev pub sent_number : Option Sent → Option ℕ
+sent_number None = None
+sent_number (Some s) = Some s.number
 
 -- the number of an item, if there is one
 abbrev pub item_number : Option Item → Option ℕ

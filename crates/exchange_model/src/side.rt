@@ -1,6 +1,6 @@
 //! What a monitor keeps of one end.
 ghost use Rattle.std.specs.Prelude.{◌≡◌, ◌<◌, ◌^◌, Some};
-ghost use Rattle.exchange_model.specs.Noting.{first_side, number, has, number_of, next_number, is_answer, is_other_to, answered, sent_next, heard_next, own_after, peer_after};
+ghost use Rattle.exchange_model.specs.Noting.{first_side, sent_number, has, number_of, next_number, is_answer, is_other_to, answered, sent_next, heard_next, own_after, peer_after};
 
 use crate::reading::{delivered, is_guarded, is_guarded_frame, is_reset_frame};
 use fsoe_base::{FrameBuf, Took};
@@ -62,7 +62,7 @@ impl Side {
 
     /// The number of the item that the end awaits, if it awaits one.
     pub(crate) fn awaited(&self) -> Option<u64>
-        ensures { result ≡ number self.now.awaited }
+        ensures { result ≡ sent_number self.now.awaited }
     {
         match &self.awaited {
             Some(sent) => Some(sent.number),
