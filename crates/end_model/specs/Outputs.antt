@@ -42,7 +42,7 @@ abbrev pub out_after : Setup → ℕ → List Deed → List ℕ
 out_after s n [] = zeros s
 out_after s n (x ∷ e) = if is_some x.did.reset then zeros s else held_up s (x ∷ e) n x.did.took (out_after s (ticked x.what n) e)
 
--- the outputs by looking back: the load of the frame that was taken last where it was ProcessData, no reset came after it,
--- and fewer ticks than the watchdog; else zeros. It knows of no age, state or limit
+-- the outputs by looking back, with no word of ages, states or limits: the load of the frame that was taken last where it was
+-- ProcessData, no reset came after it, and fewer ticks than the watchdog; else zeros
 abbrev pub out : Setup → List Deed → List ℕ
 out s e = out_after s 0 e

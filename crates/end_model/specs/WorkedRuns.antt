@@ -172,9 +172,9 @@ SlaveGoesOn =
     ∷ codes "took ProcessData Data 0100 > 080000f65b0100"
     ∷ []
 
--- frames of which each fails several tests: a frame too short with an unknown command; an unknown command with a wrong connection
--- id; a Reset frame with a connection id, and one with a byte after its code; a command that isn't allowed in Data with a wrong
--- connection id; data with a wrong connection id, and fail-safe data that aren't zeros. All of their CRCs are wrong
+-- frames of which each fails several tests, all with wrong CRCs: a frame too short with an unknown command; an unknown command
+-- with a wrong connection id; a Reset frame with a connection id, and one with a byte after its code; a command that isn't
+-- allowed in Data with a wrong connection id; data with a wrong connection id, and fail-safe data that aren't zeros
 abbrev pub faulty : List (List ℕ)
 faulty =
     codes "ff0000000000"

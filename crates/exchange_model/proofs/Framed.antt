@@ -8,8 +8,6 @@ use Rattle.fsoe_base.specs.declared.command.Command.{Command}
 use Rattle.fsoe_base.specs.declared.command.Command.TheVariants as command
 use Rattle.fsoe_base.specs.Command.{command_byte, command_of}
 use Rattle.fsoe_frame.specs.Parts.{frame_of, pairs, one_byte}
-use Rattle.param_load.specs.declared.entry.Move.{Move}
-use Rattle.param_load.specs.declared.entry.Move.TheVariants as move
 use Rattle.param_load.specs.declared.master_settings.MasterSettings.{MasterSettings}
 use Rattle.param_load.specs.declared.slave_settings.SlaveSettings.{SlaveSettings}
 use Rattle.param_load.specs.Payload.{connection_payload, parameter_payload, padded}
@@ -18,8 +16,8 @@ use Rattle.end_model.specs.Phases.{is_guarded, is_guarded_if, is_guarded_frame, 
 use Rattle.end_model.specs.Deed.{Deed}
 use Rattle.end_model.specs.Chain.{since, own}
 use Rattle.end_model.specs.Payloads.{piece, pieces, count_in, conn_id, session_id, pay}
-use Rattle.end_model.specs.Readiness.{offer, offer_after, held}
-use Rattle.end_model.specs.Step.{sealed, with_piece, with_data, download_frame, after_phase, master_answer, slave_answer, IsProper, IsRun}
+use Rattle.end_model.specs.Readiness.{offer, held}
+use Rattle.end_model.specs.Step.{sealed, with_piece, with_data, download_frame, after_phase, master_answer, slave_answer, IsRun}
 use Rattle.end_model.specs.Reactions.{received, Taking}
 use Rattle.end_model.proofs.ReadBack.{read_back}
 use Rattle.end_model.proofs.SealedFrames.{offer_len}
