@@ -1,6 +1,6 @@
 -- What both ends do over a schedule: the list of their entries, newest first. What an end does looks back over its own deeds,
 -- and a frame that comes from its peer is found among those that the peer sent. Schedules are this profile's own.
-use Rattle.std.specs.Prelude.{ℕ, zero, suc, ◌≡◌, List, [], ◌∷◌, ◌++◌, slice_get, slice_set, slice_index, bit_xor, Option, Some, None, if◌then◌else◌}
+use Rattle.std.specs.Prelude.{ℕ, ◌≡◌, List, [], ◌∷◌, ◌++◌, Option, Some, None, if◌then◌else◌}
 use Rattle.fsoe_base.specs.declared.command.End.{End}
 use Rattle.fsoe_base.specs.declared.command.End.TheVariants as end_name
 use Rattle.param_load.specs.declared.entry.Move.{Move}
@@ -8,6 +8,8 @@ use Rattle.param_load.specs.declared.entry.Move.TheVariants as move
 use Rattle.param_load.specs.declared.entry.Entry.{Entry}
 use Rattle.param_load.specs.declared.master_settings.MasterSettings.{MasterSettings}
 use Rattle.param_load.specs.declared.slave_settings.SlaveSettings.{SlaveSettings}
+use Rattle.black_channel.specs.Altered.{altered}
+use Rattle.black_channel.specs.Window.{back_th}
 use Rattle.schedule_file.specs.declared.event.Event.{Event}
 use Rattle.schedule_file.specs.declared.event.Event.TheVariants as event
 use Rattle.end_model.specs.Setup.{Setup, OfMaster, OfSlave}
@@ -50,15 +52,6 @@ end_of_event (event.Put at load) = at
 end_of_event (event.Hold at failsafe) = at
 end_of_event (event.Nonce at id) = at
 end_of_event (event.Local at) = at
-
--- the frame so many back, 1 for the newest; 0 names none
-abbrev pub back_th : ℕ → List (List ℕ) → Option (List ℕ)
-back_th zero frames = None
-back_th (suc k) frames = slice_get frames k
-
--- a frame with one byte altered by a mask
-abbrev pub altered : ℕ → ℕ → List ℕ → List ℕ
-altered pos mask frame = slice_set frame pos (bit_xor (slice_index frame pos) mask)
 
 -- a frame comes as it was sent, if it was
 abbrev pub delivery : Option (List ℕ) → Option Move

@@ -1,0 +1,17 @@
+//! Frames that a channel alters.
+ghost use Rattle.std.specs.Prelude.{◌≡◌, ◌<◌, length};
+ghost use Rattle.black_channel.specs.Altered.{altered};
+
+use fsoe_base::FrameBuf;
+
+/// Turns the bits of the mask in the byte at place `pos`, from 0, of a frame that has this place.
+pub fn altered(frame: &mut FrameBuf, pos: u8, mask: u8)
+    requires { pos < length frame.old }
+    ensures { frame.new ≡ altered pos mask frame.old }
+{
+    let len = frame.len();
+    let mut bytes = [0; 255];
+    bytes[..len].copy_from_slice(frame.bytes());
+    bytes[pos as usize] ^= mask;
+    frame.set(&bytes[..len]);
+}

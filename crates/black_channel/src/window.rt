@@ -1,0 +1,111 @@
+//! The frames that an end sent last.
+ghost use Rattle.std.specs.Prelude.{◌≡◌, ◌≤◌, ◌↔◌, ◌+◌, ◌-◌, ◌^◌, true, false, min, [], ◌∷◌, length, take};
+ghost use Rattle.black_channel.specs.Window.{back_th, found, window_of, Pushes, Tells};
+
+use arrayvec::ArrayVec;
+use fsoe_base::FrameBuf;
+use std::marker::Model;
+
+/// The last 64 frames of one end, of which a channel may bring any again. It takes no memory.
+#[derive(Debug, Drop)]
+pub struct Window {
+    ring: ArrayVec<FrameBuf, 64>,
+    /// The place of the oldest frame, where the next one goes once all 64 places are taken.
+    next: usize,
+    sent: u64,
+}
+
+impl Model for Window {
+    ghost use Rattle.std.specs.Prelude.{length};
+    ghost use Rattle.black_channel.specs.Window.{WindowView, newest_first, IsRing};
+
+    ghost Value = { WindowView };
+
+    ghost view = { λ w. record { frames = newest_first w.next w.ring.items; sent = w.sent } };
+
+    ghost invariant = { λ w. IsRing w.next w.sent (length w.ring.items) };
+}
+
+impl Window {
+    /// A window of an end that sent nothing.
+    pub fn new() -> Window
+        ensures { result ≡ window_of [] }
+    {
+        Window {
+            ring: ArrayVec::new(),
+            next: 0,
+            sent: 0,
+        }
+    }
+
+    /// Takes the next frame, of at most 255 bytes, and forgets the oldest one where it has 64.
+    #[tactic(auto, using(crate::proofs::Pushed::pushes_by))]
+    pub fn push(&mut self, frame: &[u8])
+        requires { length frame.now ≤ 255 }
+        ensures { Pushes self.old frame.now self.new }
+    {
+        self.note(frame);
+    }
+
+    #[tactic(auto, using(crate::proofs::Pushed::turned, crate::proofs::Pushed::grown))]
+    fn note(&mut self, frame: &[u8])
+        requires { length frame.now ≤ 255 }
+        ensures frames { self.new.frames ≡ take 64 (frame.now ∷ self.old.frames) }
+        ensures sent { self.new.sent ≡ min (self.old.sent + 1) (2 ^ 64 - 1) }
+    {
+        self.sent = self.sent.saturating_add(1);
+        if self.ring.is_full() {
+            let oldest = &mut self.ring[self.next];
+            oldest.set(frame);
+            self.next = (self.next + 1) % 64;
+        } else {
+            let mut copy = FrameBuf::new();
+            copy.set(frame);
+            self.ring.push(copy);
+        }
+    }
+
+    /// The number of frames that were pushed, 2^64 - 1 for all greater numbers.
+    pub fn sent(&self) -> u64
+        ensures { result ≡ self.now.sent }
+    {
+        self.sent
+    }
+
+    /// Writes the `j`-th frame back to `out`, in place of what it held: the newest for 1, the oldest that may be asked for 64.
+    /// False exactly where fewer than `j` were pushed; then `out` is as it was.
+    #[tactic(auto, using(crate::proofs::Pushed::tells_by))]
+    pub fn back(&self, j: u8, out: &mut FrameBuf) -> bool
+        requires some { 1 ≤ j }
+        requires within { j ≤ 64 }
+        ensures there { result ≡ true ↔ (j ≤ self.now.sent) }
+        ensures tells { Tells self.now j (found result out.new) }
+        ensures frame { found result out.new ≡ back_th j self.now.frames }
+        ensures kept { result ≡ false → out.new ≡ out.old }
+    {
+        self.find(j, out)
+    }
+
+    #[tactic(auto, using(crate::proofs::Pushed::found_at, crate::proofs::Pushed::not_found))]
+    fn find(&self, j: u8, out: &mut FrameBuf) -> bool
+        requires some { 1 ≤ j }
+        requires within { j ≤ 64 }
+        ensures there { result ≡ true ↔ (j ≤ self.now.sent) }
+        ensures frame { found result out.new ≡ back_th j self.now.frames }
+        ensures kept { result ≡ false → out.new ≡ out.old }
+    {
+        let j = j as usize;
+        let len = self.ring.len();
+        if j > len {
+            return false;
+        }
+        let place = if j <= self.next {
+            self.next - j
+        } else {
+            self.next + len - j
+        };
+        let frame = &self.ring[place];
+        out.set(frame.bytes());
+        true
+    }
+}
