@@ -8,3 +8,5 @@ pub mod Space
 pub mod HexDigits
 pub mod ReadBack
 pub mod FewEvents
+pub mod AfterEnd
+pub mod Sound

@@ -64,7 +64,8 @@ rule_place (rule.Any n) = place.RuleAny
 rule_place rule.Exact = place.RuleExact
 rule_place rule.Ranges = place.RuleRanges
 
--- a `profile` line is that of the end whose line stands before it
+-- a `profile` line is that of the end whose line stands before it; after a master's the same may follow as after an `app`,
+-- so it is the same place
 abbrev pub profile_taken : Heading → ℕ → Heading
 profile_taken h word =
     if is_at_slave h.place then record h { place = place.SlaveProfile; slave = record h.slave { profile = profile.Two word } }

@@ -18,12 +18,12 @@ use Rattle.schedule_file.specs.declared.place.Word.{Word}
 use Rattle.schedule_file.specs.declared.place.Word.TheVariants as word
 
 -- a number field of 16 bits
-abbrev pub word_field : List ℕ → Result ℕ LineCause
-word_field text = value_or cause.Number (number_of 65535 text)
+abbrev pub number_16 : List ℕ → Result ℕ LineCause
+number_16 text = value_or cause.Number (number_of 65535 text)
 
 -- a number field of 32 bits
-abbrev pub double_word_field : List ℕ → Result ℕ LineCause
-double_word_field text = value_or cause.Number (number_of 4294967295 text)
+abbrev pub number_32 : List ℕ → Result ℕ LineCause
+number_32 text = value_or cause.Number (number_of 4294967295 text)
 
 -- an only field of hexadecimal digits, for 1 to 256 bytes
 abbrev pub hex_field : List (List ℕ) → Result (List ℕ) LineCause
@@ -36,8 +36,8 @@ abbrev pub lengths_line : List (List ℕ) → Result LengthsLine LineCause
 lengths_line fields = do
   first ← next_field fields
   second ← one_field first.1
-  master ← word_field first.0
-  slave ← word_field second
+  master ← number_16 first.0
+  slave ← number_16 second
   if is_length master && is_length slave then Ok (record { master = master; slave = slave }) else Err cause.Length
 
 -- the connection id and the watchdog of a master aren't 0
@@ -47,10 +47,10 @@ master_line fields = do
   second ← next_field first.1
   third ← next_field second.1
   fourth ← one_field third.1
-  conn ← word_field first.0
-  address ← word_field second.0
-  watchdog ← word_field third.0
-  nonce ← double_word_field fourth
+  conn ← number_16 first.0
+  address ← number_16 second.0
+  watchdog ← number_16 third.0
+  nonce ← number_32 fourth
   if conn == 0 || watchdog == 0 then Err cause.Range
       else Ok (record { conn = conn; address = address; watchdog = watchdog; nonce = nonce })
 
@@ -61,10 +61,10 @@ slave_line fields = do
   second ← next_field first.1
   third ← next_field second.1
   fourth ← one_field third.1
-  address ← word_field first.0
-  hand ← word_field second.0
-  most ← word_field third.0
-  nonce ← double_word_field fourth
+  address ← number_16 first.0
+  hand ← number_16 second.0
+  most ← number_16 third.0
+  nonce ← number_32 fourth
   if hand == 0 || most == 0 then Err cause.Range
       else Ok (record { address = address; hand = hand; most = most; nonce = nonce })
 
@@ -72,13 +72,13 @@ slave_line fields = do
 abbrev pub profile_line : List (List ℕ) → Result ℕ LineCause
 profile_line fields = do
   field ← one_field fields
-  word_field field
+  number_16 field
 
 -- a rule for any bytes says how many, at most 512
 abbrev pub any_line : List (List ℕ) → Result RuleLine LineCause
 any_line fields = do
   field ← one_field fields
-  n ← word_field field
+  n ← number_16 field
   if nat_le n 512 then Ok (rule.Any n) else Err cause.Range
 
 -- any other rule is `exact` or `ranges`, and its bytes come in lines of their own

@@ -14,7 +14,7 @@ use Rattle.schedule_file.specs.declared.header_kind.HeaderKind.TheVariants.{Node
 use Rattle.schedule_file.specs.declared.line_cause.LineCause.{LineCause}
 
 -- why an input goes no further: its next line is too long, has no newline, doesn't come, or comes after all events that
--- there may be; or the line itself is refused
+-- there may be; or the line itself is refused. `NoLine` is the cause that reports name `End`
 pub data InputCause : Type 0 where
   Long : InputCause
   NoNewline : InputCause
@@ -47,26 +47,26 @@ abbrev pub lines_of : List ℕ → List (Result (List ℕ) InputCause)
 lines_of bytes = lines_in (slice_split (λ b. b == 10) bytes)
 
 -- a header that is done, the number of its lines, and the lines after it
-pub record Headed : Type 0 where
+pub record WholeHeader : Type 0 where
   pub heading : Heading
   pub lines : ℕ
   pub rest : List (Result (List ℕ) InputCause)
 
 -- a header after the line of this number: it is done, or goes on, or the line is refused
-abbrev pub header_step : ℕ → List (Result (List ℕ) InputCause) → (Heading → Result Headed Stop) → Result Heading LineCause → Result Headed Stop
+abbrev pub header_step : ℕ → List (Result (List ℕ) InputCause) → (Heading → Result WholeHeader Stop) → Result Heading LineCause → Result WholeHeader Stop
 header_step number rest go_on (Ok h) = if is_done h then Ok (record { heading = h; lines = number; rest = rest }) else go_on h
 header_step number rest go_on (Err cause) = Err (Refused number (Line cause))
 
 -- the header of lines of which the first has this number
-abbrev pub header_in : ℕ → Heading → List (Result (List ℕ) InputCause) → Result Headed Stop
+abbrev pub header_in : ℕ → Heading → List (Result (List ℕ) InputCause) → Result WholeHeader Stop
 header_in number h [] = Err (Refused number NoLine)
 header_in number h (Err why ∷ rest) = Err (Refused number why)
 header_in number h (Ok text ∷ rest) = header_step number rest (λ next. header_in (number + 1) next rest) (heading_after h text)
 
 -- the number of safe data bytes that an end sends, as a header says it
-abbrev pub count_of : Heading → End → ℕ
-count_of h side.Master = h.lengths.master
-count_of h side.Slave = h.lengths.slave
+abbrev pub own_length : Heading → End → ℕ
+own_length h side.Master = h.lengths.master
+own_length h side.Slave = h.lengths.slave
 
 -- the profile of an end, as a header says it
 abbrev pub heading_profile : Heading → End → Profile
@@ -75,7 +75,7 @@ heading_profile h side.Slave = h.slave.profile
 
 -- what a line after a header says
 abbrev pub said_after : End → Heading → List ℕ → Result ScheduleLine LineCause
-said_after end h text = node_line end (count_of h end) (heading_profile h end) text
+said_after end h text = node_line end (own_length h end) (heading_profile h end) text
 
 -- the events that stand before the first line that says none
 abbrev pub steps : List (Result ScheduleLine LineCause) → List Event
@@ -94,7 +94,8 @@ texts (Err why ∷ rest) = []
 abbrev pub events_after : End → Heading → List (Result (List ℕ) InputCause) → List Event
 events_after end h rest = take 200000 (steps (map (said_after end h) (texts rest)))
 
--- how an input stops at a line by what it says; a further event is one too many
+-- how an input stops at a line by what it says; an event stands here only after 200,000, where `stop_at` has refused it
+-- before
 abbrev pub stop_by : ℕ → Result ScheduleLine LineCause → Stop
 stop_by number (Ok line.End) = AtEnd
 stop_by number (Ok (line.Step event)) = Refused number TooMany
@@ -116,7 +117,7 @@ pub record NodeInput : Type 0 where
   pub stop : Stop
 
 -- the events stand in the lines after the header, and the line after them stops the input
-abbrev pub input_after : End → Headed → NodeInput
+abbrev pub input_after : End → WholeHeader → NodeInput
 input_after end headed =
     let events = events_after end headed.heading headed.rest in
     record {
@@ -126,7 +127,7 @@ input_after end headed =
     }
 
 -- the input whose header ends so
-abbrev pub input_by : End → Result Headed Stop → NodeInput
+abbrev pub input_by : End → Result WholeHeader Stop → NodeInput
 input_by end (Ok headed) = input_after end headed
 input_by end (Err stop) = record { heading = None; events = []; stop = stop }
 

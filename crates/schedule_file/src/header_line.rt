@@ -1,7 +1,7 @@
 ghost use Rattle.std.specs.Prelude.{◌≡◌, ◌≤◌, ◌<◌, IsTrue, IfOk, length};
 ghost use Rattle.fsoe_base.specs.Lengths.{is_length};
 ghost use Rattle.schedule_file.specs.Field.{fields_after};
-ghost use Rattle.schedule_file.specs.HeaderLine.{InRange, RuleInRange, word_field, double_word_field, hex_field, lengths_line, master_line, slave_line, profile_line, any_line, listed_line, rule_line, range_line, header_line, word_of_line};
+ghost use Rattle.schedule_file.specs.HeaderLine.{InRange, RuleInRange, number_16, number_32, hex_field, lengths_line, master_line, slave_line, profile_line, any_line, listed_line, rule_line, range_line, header_line, word_of_line};
 
 use crate::field::{HexBytes, next_field, no_field, number, one_field};
 use crate::line_cause::LineCause;
@@ -56,16 +56,16 @@ pub enum HeaderLine {
 }
 
 /// A number field of 16 bits.
-fn word_field(text: &[u8]) -> Result<u16, LineCause>
-    ensures { result ≡ word_field text.now }
+fn number_16(text: &[u8]) -> Result<u16, LineCause>
+    ensures { result ≡ number_16 text.now }
 {
     let n = number(text, 65_535).ok_or(LineCause::Number)?;
     Ok(n as u16)
 }
 
 /// A number field of 32 bits.
-fn double_word_field(text: &[u8]) -> Result<u32, LineCause>
-    ensures { result ≡ double_word_field text.now }
+fn number_32(text: &[u8]) -> Result<u32, LineCause>
+    ensures { result ≡ number_32 text.now }
 {
     number(text, u32::MAX).ok_or(LineCause::Number)
 }
@@ -85,8 +85,8 @@ fn read_lengths(fields: Option<&[u8]>) -> Result<LengthsLine, LineCause>
 {
     let (master, rest) = next_field(fields)?;
     let slave = one_field(rest)?;
-    let master = word_field(master)?;
-    let slave = word_field(slave)?;
+    let master = number_16(master)?;
+    let slave = number_16(slave)?;
     match Lengths::new(usize::from(master), usize::from(slave)) {
         Ok(_) => Ok(LengthsLine { master, slave }),
         Err(_) => Err(LineCause::Length),
@@ -101,10 +101,10 @@ fn read_master(fields: Option<&[u8]>) -> Result<MasterLine, LineCause>
     let (address, rest) = next_field(rest)?;
     let (watchdog, rest) = next_field(rest)?;
     let nonce = one_field(rest)?;
-    let conn = word_field(conn)?;
-    let address = word_field(address)?;
-    let watchdog = word_field(watchdog)?;
-    let nonce = double_word_field(nonce)?;
+    let conn = number_16(conn)?;
+    let address = number_16(address)?;
+    let watchdog = number_16(watchdog)?;
+    let nonce = number_32(nonce)?;
     if conn == 0 || watchdog == 0 {
         return Err(LineCause::Range);
     }
@@ -124,10 +124,10 @@ fn read_slave(fields: Option<&[u8]>) -> Result<SlaveLine, LineCause>
     let (hand, rest) = next_field(rest)?;
     let (most, rest) = next_field(rest)?;
     let nonce = one_field(rest)?;
-    let address = word_field(address)?;
-    let hand = word_field(hand)?;
-    let most = word_field(most)?;
-    let nonce = double_word_field(nonce)?;
+    let address = number_16(address)?;
+    let hand = number_16(hand)?;
+    let most = number_16(most)?;
+    let nonce = number_32(nonce)?;
     if hand == 0 || most == 0 {
         return Err(LineCause::Range);
     }
@@ -143,7 +143,7 @@ fn read_profile(fields: Option<&[u8]>) -> Result<u16, LineCause>
     ensures { result ≡ profile_line (fields_after fields.entry) }
 {
     let field = one_field(fields)?;
-    word_field(field)
+    number_16(field)
 }
 
 /// What stands after `rule any`.
@@ -152,7 +152,7 @@ fn read_any(fields: Option<&[u8]>) -> Result<RuleLine, LineCause>
     ensures range { IfOk result RuleInRange }
 {
     let field = one_field(fields)?;
-    let n = word_field(field)?;
+    let n = number_16(field)?;
     if n <= 512 {
         Ok(RuleLine::Any(n))
     } else {

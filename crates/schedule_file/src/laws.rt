@@ -1,13 +1,16 @@
 //! What is written is read again, and what inputs say.
-ghost use Rattle.std.specs.Prelude.{◌≡◌, ◌≤◌, ℕ, List, [], ◌∷◌, None, codes, length, true};
+ghost use Rattle.std.specs.Prelude.{◌≡◌, ◌≤◌, ℕ, List, [], ◌∷◌, ◌++◌, None, IfSome, codes, length, true};
 ghost use Rattle.std.specs.declared.result.Result.TheVariants.{Ok};
 ghost use Rattle.fsoe_base.specs.declared.command.End.{End};
 ghost use Rattle.fsoe_base.specs.declared.lengths.Lengths.{Lengths};
+ghost use Rattle.param_load.specs.declared.master_settings.MasterSettings.{MasterSettings};
 ghost use Rattle.param_load.specs.declared.profile.Profiles.{Profiles};
+ghost use Rattle.param_load.specs.declared.slave_settings.SlaveSettings.{SlaveSettings};
 ghost use Rattle.schedule_file.specs.declared.event.Event.{Event};
 ghost use Rattle.schedule_file.specs.declared.event.ScheduleLine.TheVariants.{Step};
 ghost use Rattle.schedule_file.specs.Event.{Fits};
 ghost use Rattle.schedule_file.specs.EventText.{IsOfTypes, event_text};
+ghost use Rattle.schedule_file.specs.Header.{IsMasterOf, IsSlaveOf};
 ghost use Rattle.schedule_file.specs.Input.{AtEnd, NoLine, NoNewline, Line, Refused, node_input};
 ghost use Rattle.schedule_file.specs.WorkedInputs.{input_with};
 ghost use Rattle.schedule_file.specs.declared.event.Event.TheVariants as event;
@@ -29,6 +32,17 @@ pub fn no_bytes_are_refused()
 /// An input has at most 200,000 events.
 pub fn inputs_have_few_events()
     ensures { (end : End) (bytes : List ℕ) → length (node_input end bytes).events ≤ 200000 }
+{}
+
+/// The header of an input, where it is whole, gives settings of the end whose node it describes.
+pub fn whole_headers_give_settings()
+    ensures master { (bytes : List ℕ) → IfSome (node_input side.Master bytes).heading (λ h. (settings : MasterSettings) × IsMasterOf h settings) }
+    ensures slave { (bytes : List ℕ) → IfSome (node_input side.Slave bytes).heading (λ h. (settings : SlaveSettings) × IsSlaveOf h settings) }
+{}
+
+/// What comes after the line `end` changes nothing of what an input says.
+pub fn nothing_after_the_end_counts()
+    ensures { (end : End) (bytes more : List ℕ) → (node_input end bytes).stop ≡ AtEnd → node_input end (bytes ++ more) ≡ node_input end bytes }
 {}
 
 /// What inputs of a slave's node say that have a header of five lines: two events and the end; an id with a leading

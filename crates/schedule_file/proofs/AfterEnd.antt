@@ -1,0 +1,168 @@
+-- What comes after the line `end` changes nothing.
+use Rattle.std.proofs.Common.{◌≡◌, ℕ, zero, suc, ◌+◌, Bool, true, false, List, [], ◌∷◌, ◌++◌, length, take, map, refl, arith, ap, ◌∙◌, sym}
+use Rattle.std.specs.Prelude.{◌==◌, Result, Ok, Err, Option, Some, None, slice_get, if◌then◌else◌}
+use Rattle.std.specs.List.{slice_split, onto_first}
+use Rattle.std.proofs.lemmas.List.Splits.{slice_split-cons_yes, slice_split-cons_no, length-slice_split}
+use Rattle.fsoe_base.specs.declared.command.End.{End}
+use Rattle.schedule_file.specs.Header.{Heading, heading_new, heading_after, is_done}
+use Rattle.schedule_file.specs.Input.{InputCause, NoLine, Stop, AtEnd, Refused, NodeInput, WholeHeader, whole_line, open_line, lines_in, lines_of, header_step, header_in, said_after, steps, texts, events_after, stop_at, input_after, input_by, node_input}
+use Rattle.schedule_file.specs.declared.event.Event.{Event}
+use Rattle.schedule_file.specs.declared.event.ScheduleLine.{ScheduleLine}
+use Rattle.schedule_file.specs.declared.event.ScheduleLine.TheVariants as line
+use Rattle.schedule_file.specs.declared.header_kind.HeaderKind.TheVariants.{Node}
+use Rattle.schedule_file.specs.declared.line_cause.LineCause.{LineCause}
+
+-- the lines of an input
+abbrev Lines : Type 0
+Lines = List (Result (List ℕ) InputCause)
+
+abbrev is_newline : ℕ → Bool
+is_newline b = b == 10
+
+-- bytes cut at their newlines, and the same with more bytes: the last part goes on
+record Cut (bytes more : List ℕ) : Type 0 where
+  front : List (List ℕ)
+  last : List ℕ
+  next : List ℕ
+  tail : List (List ℕ)
+  parts : slice_split is_newline bytes ≡ front ++ last ∷ []
+  longer : slice_split is_newline (bytes ++ more) ≡ front ++ next ∷ tail
+
+some_part : (parts : List (List ℕ)) (n : ℕ) → length parts ≡ n + 1 → (head : List ℕ) × (tail : List (List ℕ)) × (parts ≡ head ∷ tail)
+some_part [] n e = absurd (omega arith)
+some_part (head ∷ tail) n e = (head, tail, refl)
+
+cut_within : (x : ℕ) (xs more : List ℕ) (front : List (List ℕ)) (last next : List ℕ) (tail : List (List ℕ)) → is_newline x ≡ false → slice_split is_newline xs ≡ front ++ last ∷ []
+    → slice_split is_newline (xs ++ more) ≡ front ++ next ∷ tail → Cut (x ∷ xs) more
+cut_within x xs more [] last next tail within parts longer = record {
+  front = [];
+  last = x ∷ last;
+  next = x ∷ next;
+  tail = tail;
+  parts = slice_split-cons_no is_newline x xs within ∙ ap (onto_first x) parts;
+  longer = slice_split-cons_no is_newline x (xs ++ more) within ∙ ap (onto_first x) longer;
+}
+cut_within x xs more (part ∷ front) last next tail within parts longer = record {
+  front = (x ∷ part) ∷ front;
+  last = last;
+  next = next;
+  tail = tail;
+  parts = slice_split-cons_no is_newline x xs within ∙ ap (onto_first x) parts;
+  longer = slice_split-cons_no is_newline x (xs ++ more) within ∙ ap (onto_first x) longer;
+}
+
+cut_at : (b : Bool) (x : ℕ) (xs more : List ℕ) → is_newline x ≡ b → Cut xs more → Cut (x ∷ xs) more
+cut_at true x xs more ends c = record {
+  front = [] ∷ c.front;
+  last = c.last;
+  next = c.next;
+  tail = c.tail;
+  parts = slice_split-cons_yes is_newline x xs ends ∙ ap (λ (z : List (List ℕ)). [] ∷ z) c.parts;
+  longer = slice_split-cons_yes is_newline x (xs ++ more) ends ∙ ap (λ (z : List (List ℕ)). [] ∷ z) c.longer;
+}
+cut_at false x xs more within c = cut_within x xs more c.front c.last c.next c.tail within c.parts c.longer
+
+cut : (bytes more : List ℕ) → Cut bytes more
+cut [] more =
+    let p = some_part (slice_split is_newline more) _ (length-slice_split is_newline more) in
+    record { front = []; last = []; next = p.0; tail = p.1; parts = refl; longer = p.2 }
+cut (x ∷ xs) more = cut_at (is_newline x) x xs more refl (cut xs more)
+
+-- the parts before others are whole lines
+whole_lines : (front : List (List ℕ)) (next : List ℕ) (tail : List (List ℕ)) → lines_in (front ++ next ∷ tail) ≡ map whole_line front ++ lines_in (next ∷ tail)
+whole_lines [] next tail = refl
+whole_lines (text ∷ []) next tail = refl
+whole_lines (text ∷ other ∷ front) next tail = ap (λ (z : Lines). whole_line text ∷ z) (whole_lines (other ∷ front) next tail)
+
+-- nothing, or what is no line
+abbrev IsOpen : Lines → Type 0
+IsOpen [] = Unit {0}
+IsOpen (Ok text ∷ rest) = ⊥
+IsOpen (Err why ∷ rest) = Unit {0}
+
+open_is : (text : List ℕ) → IsOpen (open_line text)
+open_is [] = tt
+open_is (b ∷ text) = tt
+
+-- the first so many events in lines
+abbrev events_in : (List ℕ → Result ScheduleLine LineCause) → ℕ → Lines → List Event
+events_in said most rest = take most (steps (map said (texts rest)))
+
+-- where the line after the events is a line, it and the events are the same with other lines after the first
+abbrev IsSame : (List ℕ → Result ScheduleLine LineCause) → ℕ → Lines → Lines → List ℕ → Type 0
+IsSame said most lines others text = (events_in said most others ≡ events_in said most lines) × (slice_get others (length (events_in said most lines)) ≡ Some (Ok text))
+
+same_after : (r : Result ScheduleLine LineCause) (said : List ℕ → Result ScheduleLine LineCause) (most : ℕ) (first : List ℕ) (lines others : Lines) (text : List ℕ)
+    → (slice_get lines (length (events_in said most lines)) ≡ Some (Ok text) → IsSame said most lines others text)
+    → slice_get (Ok first ∷ lines) (length (take (suc most) (steps (r ∷ map said (texts lines))))) ≡ Some (Ok text)
+    → (take (suc most) (steps (r ∷ map said (texts others))) ≡ take (suc most) (steps (r ∷ map said (texts lines))))
+    × (slice_get (Ok first ∷ others) (length (take (suc most) (steps (r ∷ map said (texts lines))))) ≡ Some (Ok text))
+same_after (Ok (line.Step event)) said most first lines others text rest at =
+    let same = rest at in
+    (ap (λ (events : List Event). event ∷ events) same.0, same.1)
+same_after (Ok line.End) said most first lines others text rest at = (refl, at)
+same_after (Err cause) said most first lines others text rest at = (refl, at)
+
+same_events : (said : List ℕ → Result ScheduleLine LineCause) (most : ℕ) (w t u : Lines) (text : List ℕ) → IsOpen t → slice_get (w ++ t) (length (events_in said most (w ++ t))) ≡ Some (Ok text)
+    → IsSame said most (w ++ t) (w ++ u) text
+same_events said zero [] [] u text is at = cc
+same_events said zero [] (Ok first ∷ t) u text is at = absurd is
+same_events said zero [] (Err why ∷ t) u text is at = cc
+same_events said zero (first ∷ w) t u text is at = (refl, at)
+same_events said (suc most) [] [] u text is at = cc
+same_events said (suc most) [] (Ok first ∷ t) u text is at = absurd is
+same_events said (suc most) [] (Err why ∷ t) u text is at = cc
+same_events said (suc most) (Err why ∷ w) t u text is at = cc
+same_events said (suc most) (Ok first ∷ w) t u text is at =
+    same_after (said first) said most first (w ++ t) (w ++ u) text (λ later. same_events said most w t u text is later) at
+
+-- an input stops by `end` at a line
+at_line : (end : End) (h : Heading) (number events : ℕ) (next : Option (Result (List ℕ) InputCause)) → stop_at end h number events next ≡ AtEnd → (text : List ℕ) × (next ≡ Some (Ok text))
+at_line end h number events None e = cc
+at_line end h number events (Some (Err why)) e = cc
+at_line end h number events (Some (Ok text)) e = (text, refl)
+
+after_same : (end : End) (h : Heading) (n : ℕ) (w t u : Lines) → IsOpen t → (input_after end (record { heading = h; lines = n; rest = w ++ t })).stop ≡ AtEnd
+    → input_after end (record { heading = h; lines = n; rest = w ++ u }) ≡ input_after end (record { heading = h; lines = n; rest = w ++ t })
+after_same end h n w t u is e =
+    let events : List Event = events_after end h (w ++ t) in
+    let stops = at_line end h (n + length events + 1) (length events) (slice_get (w ++ t) (length events)) e in
+    let same = same_events (said_after end h) 200000 w t u stops.0 is stops.1 in
+    ap (λ (es : List Event). record { heading = Some h; events = es; stop = stop_at end h (n + length es + 1) (length es) (slice_get (w ++ u) (length es)) }) same.0
+    ∙ ap (λ (next : Option (Result (List ℕ) InputCause)). record { heading = Some h; events = events; stop = stop_at end h (n + length events + 1) (length events) next }) (same.1 ∙ sym stops.1)
+
+-- the input after a header that has no more lines before these
+abbrev Goes : End → Result WholeHeader Stop → Result WholeHeader Stop → Type 0
+Goes end this other = (input_by end this).stop ≡ AtEnd → input_by end other ≡ input_by end this
+
+step_done : (done : Bool) (end : End) (n : ℕ) (next : Heading) (w t u : Lines) → IsOpen t → Goes end (header_in (n + 1) next (w ++ t)) (header_in (n + 1) next (w ++ u))
+    → Goes end (if done then Ok (record { heading = next; lines = n; rest = w ++ t }) else header_in (n + 1) next (w ++ t))
+    (if done then Ok (record { heading = next; lines = n; rest = w ++ u }) else header_in (n + 1) next (w ++ u))
+step_done true end n next w t u is later = λ e. after_same end next n w t u is e
+step_done false end n next w t u is later = later
+
+step_same : (r : Result Heading LineCause) (end : End) (n : ℕ) (w t u : Lines) → IsOpen t → ((next : Heading) → Goes end (header_in (n + 1) next (w ++ t)) (header_in (n + 1) next (w ++ u)))
+    → Goes end (header_step n (w ++ t) (λ next. header_in (n + 1) next (w ++ t)) r) (header_step n (w ++ u) (λ next. header_in (n + 1) next (w ++ u)) r)
+step_same (Ok next) end n w t u is later = step_done (is_done next) end n next w t u is (later next)
+step_same (Err cause) end n w t u is later = λ e. refl
+
+header_same : (end : End) (n : ℕ) (h : Heading) (w t u : Lines) → IsOpen t → Goes end (header_in n h (w ++ t)) (header_in n h (w ++ u))
+header_same end n h [] [] u is = λ e. let never : Refused n NoLine ≡ AtEnd = e in cc
+header_same end n h [] (Ok first ∷ t) u is = absurd is
+header_same end n h [] (Err why ∷ t) u is = λ e. let never : Refused n why ≡ AtEnd = e in cc
+header_same end n h (Err why ∷ w) t u is = λ e. refl
+header_same end n h (Ok text ∷ w) t u is = step_same (heading_after h text) end n w t u is (λ next. header_same end (n + 1) next w t u is)
+
+pub after_end : (end : End) (bytes more : List ℕ) → (node_input end bytes).stop ≡ AtEnd → node_input end (bytes ++ more) ≡ node_input end bytes
+after_end end bytes more e =
+    let c = cut bytes more in
+    let w : Lines = map whole_line c.front in
+    let t : Lines = open_line c.last in
+    let u : Lines = lines_in (c.next ∷ c.tail) in
+    let this : lines_of bytes ≡ w ++ t = ap lines_in c.parts ∙ whole_lines c.front c.last [] in
+    let other : lines_of (bytes ++ more) ≡ w ++ u = ap lines_in c.longer ∙ whole_lines c.front c.next c.tail in
+    let stops : (input_by end (header_in 1 (heading_new (Node end)) (w ++ t))).stop ≡ AtEnd =
+    ap (λ (z : Lines). (input_by end (header_in 1 (heading_new (Node end)) z)).stop) (sym this) ∙ e in
+    ap (λ (z : Lines). input_by end (header_in 1 (heading_new (Node end)) z)) other
+    ∙ header_same end 1 (heading_new (Node end)) w t u (open_is c.last) stops
+    ∙ sym (ap (λ (z : Lines). input_by end (header_in 1 (heading_new (Node end)) z)) this)

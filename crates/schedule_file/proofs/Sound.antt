@@ -1,0 +1,325 @@
+-- What a header says once it is done is such as settings may have.
+use Rattle.std.proofs.Common.{◌≡◌, ℕ, ◌+◌, ◌/◌, ◌%◌, ◌≤◌, ◌<◌, Bool, true, false, List, [], ◌∷◌, ◌++◌, length, arith, refl}
+use Rattle.std.specs.Prelude.{IsTrue, Result, Ok, Err, Option, Some, None, IfOk, IfSome, ◌&&◌, ◌||◌, ◌==◌, nat_le, nat_lt, codes, if◌then◌else◌}
+use Rattle.std.specs.Str.{bytes_eq}
+use Rattle.std.specs.Cmp.Lexicographic.{pointwise}
+use Rattle.std.proofs.lemmas.Bool.{and_parts, or_parts, leb-true, ltb-true}
+use Rattle.std.proofs.lemmas.Bool.Decides.{nat_tests}
+use Rattle.std.proofs.lemmas.Option.{IfSome_then}
+use Rattle.std.proofs.lemmas.Result.{IfOk-weaker}
+use Rattle.hex.specs.declared.error.FromHexError.{FromHexError}
+use Rattle.hex.specs.Hex.{decode_of}
+use Rattle.fsoe_base.specs.Lengths.{is_length}
+use Rattle.fsoe_base.specs.declared.command.End.{End}
+use Rattle.fsoe_base.specs.declared.lengths.Lengths.{Lengths}
+use Rattle.param_load.specs.AppRule.{is_acceptable}
+use Rattle.param_load.specs.Profile.{allows_id}
+use Rattle.param_load.specs.declared.app_rule.AppRule.{AppRule}
+use Rattle.param_load.specs.declared.app_rule.AppRule.TheVariants as app_rule
+use Rattle.param_load.specs.declared.master_settings.MasterSettings.{MasterSettings}
+use Rattle.param_load.specs.declared.profile.Profile.TheVariants as profile
+use Rattle.param_load.specs.declared.slave_settings.SlaveSettings.{SlaveSettings}
+use Rattle.schedule_file.specs.Field.{fields_of, some_bytes}
+use Rattle.schedule_file.specs.Fields.{◌>>=◌, value_or, next_field, no_field, one_field}
+use Rattle.schedule_file.specs.Header.{Heading, heading_new, heading_after, is_done, taken, title_taken, fields_taken, rule_place, IsMasterOf, IsSlaveOf}
+use Rattle.schedule_file.specs.HeaderKind.{title_of}
+use Rattle.schedule_file.specs.HeaderLine.{InRange, RuleInRange, number_16, number_32, profile_line, hex_field, lengths_line, master_line, slave_line, any_line, listed_line, rule_line, range_line, header_line}
+use Rattle.schedule_file.specs.HeaderPart.{MasterValues, SlaveValues, lows_of, highs_of, list_with, ranges_with, rule_begun, rule_with_bytes, rule_with_pairs, master_begun, slave_begun, master_with_app, slave_with_bytes, slave_with_pairs, profile_for}
+use Rattle.schedule_file.specs.Input.{InputCause, Stop, WholeHeader, header_step, header_in, lines_of, input_by, node_input}
+use Rattle.schedule_file.specs.Place.{is_start, is_at_slave, admitted, header_word_of, profile_given}
+use Rattle.schedule_file.specs.declared.header_kind.HeaderKind.TheVariants.{Node}
+use Rattle.schedule_file.specs.declared.header_line.HeaderLine.{HeaderLine}
+use Rattle.schedule_file.specs.declared.header_line.HeaderLine.TheVariants as says
+use Rattle.schedule_file.specs.declared.header_line.MasterLine.{MasterLine}
+use Rattle.schedule_file.specs.declared.header_line.RuleLine.{RuleLine}
+use Rattle.schedule_file.specs.declared.header_line.RuleLine.TheVariants as rule
+use Rattle.schedule_file.specs.declared.header_line.SlaveLine.{SlaveLine}
+use Rattle.schedule_file.specs.declared.line_cause.LineCause.{LineCause}
+use Rattle.schedule_file.specs.declared.line_cause.LineCause.TheVariants as cause
+use Rattle.schedule_file.specs.declared.place.Place.{Place}
+use Rattle.schedule_file.specs.declared.place.Place.TheVariants as place
+use Rattle.schedule_file.specs.declared.place.Word.{Word}
+use Rattle.schedule_file.specs.declared.place.Word.TheVariants as word
+use Rattle.schedule_file.proofs.LinesLeft.{IfOk-bind}
+
+-- values that settings of a master may have
+record SoundMaster (m : MasterValues) : Type 0 where
+  conn : 0 < m.line.conn
+  watchdog : 0 < m.line.watchdog
+  allowed : IsTrue (allows_id m.profile m.line.nonce)
+
+-- values that settings of a slave may have
+record SoundSlave (s : SlaveValues) : Type 0 where
+  hand : 0 < s.line.hand
+  most : 0 < s.line.most
+  acceptable : IsTrue (is_acceptable s.rule)
+  allowed : IsTrue (allows_id s.profile s.line.nonce)
+
+-- a header whose values are such
+record Sound (h : Heading) : Type 0 where
+  master_length : IsTrue (is_length h.lengths.master)
+  slave_length : IsTrue (is_length h.lengths.slave)
+  master : SoundMaster h.master
+  slave : SoundSlave h.slave
+
+-- the next step gives such a value, whatever this one gave
+each : {A B : Type 0} (r : Result A LineCause) (f : A → Result B LineCause) (P : B → Type 0) → ((x : A) → IfOk (f x) P) → IfOk (r >>= f) P
+each (Ok x) f P h = h x
+each (Err e) f P h = tt
+
+ok_if : {A : Type 0} (b : Bool) (x : A) (e : LineCause) (P : A → Type 0) → (b ≡ true → P x) → IfOk (if b then Ok x else Err e) P
+ok_if true x e P h = h refl
+ok_if false x e P h = tt
+
+ok_unless : {A : Type 0} (b : Bool) (x : A) (e : LineCause) (P : A → Type 0) → (b ≡ false → P x) → IfOk (if b then Err e else Ok x) P
+ok_unless true x e P h = tt
+ok_unless false x e P h = h refl
+
+-- a number that isn't 0
+not_zero : (n : ℕ) → (n == 0) ≡ false → 0 < n
+not_zero n e = grind (arith, nat_tests)
+
+lengths_sound : (fields : List (List ℕ)) → IfOk (lengths_line fields) (λ line. IsTrue (is_length line.master) × IsTrue (is_length line.slave))
+lengths_sound fields =
+    each (next_field fields) _ _ (λ first. each (one_field first.1) _ _ (λ second. each (number_16 first.0) _ _ (λ master. each (number_16 second) _ _ (λ slave. ok_if (is_length master && is_length slave) _ cause.Length _ (λ e. and_parts (is_length master) (is_length slave) e)))))
+
+master_sound : (fields : List (List ℕ)) → IfOk (master_line fields) (λ line. (0 < line.conn) × (0 < line.watchdog))
+master_sound fields =
+    each (next_field fields) _ _ (λ first. each (next_field first.1) _ _ (λ second. each (next_field second.1) _ _ (λ third. each (one_field third.1) _ _ (λ fourth.
+    each (number_16 first.0) _ _ (λ conn. each (number_16 second.0) _ _ (λ address. each (number_16 third.0) _ _ (λ watchdog. each (number_32 fourth) _ _ (λ nonce.
+    ok_unless (conn == 0 || watchdog == 0) _ cause.Range _ (λ e. let some = or_parts (conn == 0) (watchdog == 0) e in (not_zero conn some.0, not_zero watchdog some.1))))))))))
+
+slave_sound : (fields : List (List ℕ)) → IfOk (slave_line fields) (λ line. (0 < line.hand) × (0 < line.most))
+slave_sound fields =
+    each (next_field fields) _ _ (λ first. each (next_field first.1) _ _ (λ second. each (next_field second.1) _ _ (λ third. each (one_field third.1) _ _ (λ fourth.
+    each (number_16 first.0) _ _ (λ address. each (number_16 second.0) _ _ (λ hand. each (number_16 third.0) _ _ (λ most. each (number_32 fourth) _ _ (λ nonce.
+    ok_unless (hand == 0 || most == 0) _ cause.Range _ (λ e. let some = or_parts (hand == 0) (most == 0) e in (not_zero hand some.0, not_zero most some.1))))))))))
+
+any_sound : (fields : List (List ℕ)) → IfOk (any_line fields) RuleInRange
+any_sound fields = each (one_field fields) _ _ (λ field. each (number_16 field) _ _ (λ n. ok_if (nat_le n 512) (rule.Any n) cause.Range _ (λ e. leb-true n 512 e)))
+
+listed_by : (exact ranges : Bool) → IfOk (if exact then Ok rule.Exact else if ranges then Ok rule.Ranges else Err cause.Range) RuleInRange
+listed_by true ranges = tt
+listed_by false true = tt
+listed_by false false = tt
+
+listed_sound : (form : List ℕ) (fields : List (List ℕ)) → IfOk (listed_line form fields) RuleInRange
+listed_sound form fields = each (no_field fields) _ _ (λ none. listed_by (bytes_eq form (codes "exact")) (bytes_eq form (codes "ranges")))
+
+rule_by : (any : Bool) (form : List ℕ) (fields : List (List ℕ)) → IfOk (if any then any_line fields else listed_line form fields) RuleInRange
+rule_by true form fields = any_sound fields
+rule_by false form fields = listed_sound form fields
+
+rule_sound : (fields : List (List ℕ)) → IfOk (rule_line fields) RuleInRange
+rule_sound fields = each (next_field fields) _ _ (λ form. rule_by (bytes_eq form.0 (codes "any")) form.0 form.1)
+
+some_if : (b : Bool) (bytes : List ℕ) → (b ≡ true → 0 < length bytes) → IfOk (value_or cause.Hex (if b then Some bytes else None)) (λ bytes. 0 < length bytes)
+some_if true bytes h = h refl
+some_if false bytes h = tt
+
+some_sound : (most : ℕ) (r : Result (List ℕ) FromHexError) → IfOk (value_or cause.Hex (some_bytes most r)) (λ bytes. 0 < length bytes)
+some_sound most (Ok bytes) =
+    some_if (nat_lt 0 (length bytes) && nat_le (length bytes) most) bytes (λ e. ltb-true 0 (length bytes) (and_parts (nat_lt 0 (length bytes)) (nat_le (length bytes) most) e).0)
+some_sound most (Err e) = tt
+
+hex_sound : (fields : List (List ℕ)) → IfOk (hex_field fields) (λ bytes. 0 < length bytes)
+hex_sound fields = each (one_field fields) _ _ (λ field. some_sound 256 (decode_of field))
+
+not_one : (n : ℕ) → 0 < n → (n == 1) ≡ false → 2 ≤ n
+not_one n some e = grind (arith, nat_tests)
+
+range_sound : (fields : List (List ℕ)) → IfOk (range_line fields) (λ pairs. 2 ≤ length pairs)
+range_sound fields =
+    IfOk-bind (hex_field fields) _ _ (IfOk-weaker (hex_field fields) _ _ (λ pairs some. ok_unless (length pairs == 1) pairs cause.Hex _ (λ e. not_one (length pairs) some e)) (hex_sound fields))
+
+-- a line that is read is in range
+line_sound : (word : Word) (fields : List (List ℕ)) → IfOk (header_line word fields) InRange
+line_sound word.Lengths fields = IfOk-bind (lengths_line fields) _ _ (lengths_sound fields)
+line_sound word.Master fields = IfOk-bind (master_line fields) _ _ (master_sound fields)
+line_sound word.Profile fields = each (profile_line fields) _ _ (λ word. tt)
+line_sound word.App fields = IfOk-bind (hex_field fields) _ _ (hex_sound fields)
+line_sound word.Slave fields = IfOk-bind (slave_line fields) _ _ (slave_sound fields)
+line_sound word.Rule fields = IfOk-bind (rule_line fields) _ _ (rule_sound fields)
+line_sound word.Bytes fields = IfOk-bind (hex_field fields) _ _ (hex_sound fields)
+line_sound word.Range fields = IfOk-bind (range_line fields) _ _ (range_sound fields)
+line_sound word.Go fields = each (no_field fields) _ _ (λ none. tt)
+
+-- the profile for a nonce allows it
+allows_by : (b : Bool) (nonce : ℕ) → allows_id profile.One nonce ≡ b → IsTrue (allows_id (if b then profile.One else profile.Two 0) nonce)
+allows_by true nonce e = e
+allows_by false nonce e = refl
+
+profile_allows : (nonce : ℕ) → IsTrue (allows_id (profile_for nonce) nonce)
+profile_allows nonce = allows_by (allows_id profile.One nonce) nonce refl
+
+begun_acceptable : (line : RuleLine) → RuleInRange line → IsTrue (is_acceptable (rule_begun line))
+begun_acceptable (rule.Any n) range = grind (arith, nat_tests)
+begun_acceptable rule.Exact range = refl
+begun_acceptable rule.Ranges range = refl
+
+pointwise_append : (low high lows highs : List ℕ) → IsTrue (pointwise nat_le low high) → IsTrue (pointwise nat_le lows highs) → IsTrue (pointwise nat_le (low ++ lows) (high ++ highs))
+pointwise_append [] [] lows highs a b = b
+pointwise_append [] (y ∷ high) lows highs a b = grind (arith, nat_tests)
+pointwise_append (x ∷ low) [] lows highs a b = grind (arith, nat_tests)
+pointwise_append (x ∷ low) (y ∷ high) lows highs a b = grind (arith, nat_tests, pointwise_append low high lows highs)
+
+-- a rule with one more line of its own
+bytes_acceptable : (r : AppRule) (bytes : List ℕ) → IfOk (rule_with_bytes r bytes) (λ all. IsTrue (is_acceptable all))
+bytes_acceptable (app_rule.Any n) bytes = tt
+bytes_acceptable (app_rule.Exact want) bytes = each (list_with want bytes) _ _ (λ all. refl)
+bytes_acceptable (app_rule.Ranges low high) bytes = tt
+
+pairs_acceptable : (r : AppRule) (pairs : List ℕ) → IsTrue (is_acceptable r) → IfOk (rule_with_pairs r pairs) (λ all. IsTrue (is_acceptable all))
+pairs_acceptable (app_rule.Any n) pairs is = tt
+pairs_acceptable (app_rule.Exact want) pairs is = tt
+pairs_acceptable (app_rule.Ranges low high) pairs is =
+    ok_if (length pairs % 2 == 0 && pointwise nat_le (lows_of pairs) (highs_of pairs) && nat_le (length low + length pairs / 2) 512) (app_rule.Ranges (low ++ lows_of pairs) (high ++ highs_of pairs)) cause.Range _ (λ e. pointwise_append low high (lows_of pairs) (highs_of pairs) is (and_parts _ _ (and_parts _ _ e).0).1)
+
+-- a header after one more line
+profile_sound : (b : Bool) (h : Heading) (n : ℕ) → Sound h
+    → Sound (if b then record h { place = place.SlaveProfile; slave = record h.slave { profile = profile.Two n } } else record h { place = place.App; master = record h.master { profile = profile.Two n } })
+profile_sound true h n s = record {
+  master_length = s.master_length;
+  slave_length = s.slave_length;
+  master = s.master;
+  slave = record { hand = s.slave.hand; most = s.slave.most; acceptable = s.slave.acceptable; allowed = refl };
+}
+profile_sound false h n s = record {
+  master_length = s.master_length;
+  slave_length = s.slave_length;
+  master = record { conn = s.master.conn; watchdog = s.master.watchdog; allowed = refl };
+  slave = s.slave;
+}
+
+with_app : (h : Heading) (app : List ℕ) → Sound h → Sound (record h { place = place.App; master = record h.master { app = app } })
+with_app h app s = record {
+  master_length = s.master_length;
+  slave_length = s.slave_length;
+  master = record { conn = s.master.conn; watchdog = s.master.watchdog; allowed = s.master.allowed };
+  slave = s.slave;
+}
+
+with_rule : (h : Heading) (p : Place) (r : AppRule) → Sound h → IsTrue (is_acceptable r) → Sound (record h { place = p; slave = record h.slave { rule = r } })
+with_rule h p r s is = record {
+  master_length = s.master_length;
+  slave_length = s.slave_length;
+  master = s.master;
+  slave = record { hand = s.slave.hand; most = s.slave.most; acceptable = is; allowed = s.slave.allowed };
+}
+
+taken_sound : (h : Heading) (line : HeaderLine) → InRange line → Sound h → IfOk (taken h line) Sound
+taken_sound h (says.Lengths line) range s = record { master_length = range.0; slave_length = range.1; master = s.master; slave = s.slave }
+taken_sound h (says.Master line) range s = record {
+  master_length = s.master_length;
+  slave_length = s.slave_length;
+  master = record { conn = range.0; watchdog = range.1; allowed = profile_allows line.nonce };
+  slave = s.slave;
+}
+taken_sound h (says.Profile n) range s = profile_sound (is_at_slave h.place) h n s
+taken_sound h (says.App bytes) range s =
+    IfOk-bind (master_with_app h.master bytes) _ _ (each (list_with h.master.app bytes) _ _ (λ app. with_app h app s))
+taken_sound h (says.Slave line) range s = record {
+  master_length = s.master_length;
+  slave_length = s.slave_length;
+  master = s.master;
+  slave = record { hand = range.0; most = range.1; acceptable = refl; allowed = profile_allows line.nonce };
+}
+taken_sound h (says.Rule line) range s = with_rule h (rule_place line) (rule_begun line) s (begun_acceptable line range)
+taken_sound h (says.Bytes bytes) range s =
+    IfOk-bind (slave_with_bytes h.slave bytes) _ _ (IfOk-bind (rule_with_bytes h.slave.rule bytes) _ _ (IfOk-weaker (rule_with_bytes h.slave.rule bytes) _ _ (λ r is. with_rule h place.RuleExact r s is) (bytes_acceptable h.slave.rule bytes)))
+taken_sound h (says.Range pairs) range s =
+    IfOk-bind (slave_with_pairs h.slave pairs) _ _ (IfOk-bind (rule_with_pairs h.slave.rule pairs) _ _ (IfOk-weaker (rule_with_pairs h.slave.rule pairs) _ _ (λ r is. with_rule h place.RuleRanges r s is) (pairs_acceptable h.slave.rule pairs s.slave.acceptable)))
+taken_sound h says.Go range s = record { master_length = s.master_length; slave_length = s.slave_length; master = s.master; slave = s.slave }
+
+title_sound : (b : Bool) (h : Heading) → Sound h → IfOk (if b then Ok (record h { place = place.Title }) else Err cause.Header) Sound
+title_sound b h s = ok_if b (record h { place = place.Title }) cause.Header _ (λ e. record { master_length = s.master_length; slave_length = s.slave_length; master = s.master; slave = s.slave })
+
+fields_sound : (h : Heading) (fields : List (List ℕ)) → Sound h → IfOk (fields_taken h fields) Sound
+fields_sound h [] s = tt
+fields_sound h (first ∷ fields) s =
+    each (admitted h.kind h.place (header_word_of first)) _ _ (λ word. IfOk-bind (header_line word fields) _ _ (IfOk-weaker (header_line word fields) _ _ (λ line range. each (profile_given h.place word) _ _ (λ given. taken_sound h line range s)) (line_sound word fields)))
+
+after_by : (b : Bool) (h : Heading) (text : List ℕ) → Sound h → IfOk (if b then title_taken h text else fields_taken h (fields_of text)) Sound
+after_by true h text s = title_sound (bytes_eq text (title_of h.kind)) h s
+after_by false h text s = fields_sound h (fields_of text) s
+
+after_sound : (h : Heading) (text : List ℕ) → Sound h → IfOk (heading_after h text) Sound
+after_sound h text s = after_by (is_start h.place) h text s
+
+-- a whole header says such values
+step_by : (done : Bool) (h : Heading) (number : ℕ) (rest : List (Result (List ℕ) InputCause)) (later : Result WholeHeader Stop) → Sound h → IfOk later (λ whole. Sound whole.heading)
+    → IfOk (if done then Ok (record { heading = h; lines = number; rest = rest }) else later) (λ whole. Sound whole.heading)
+step_by true h number rest later s next = s
+step_by false h number rest later s next = next
+
+step_sound : (r : Result Heading LineCause) (number : ℕ) (rest : List (Result (List ℕ) InputCause)) (go_on : Heading → Result WholeHeader Stop) → IfOk r Sound
+    → ((h : Heading) → Sound h → IfOk (go_on h) (λ whole. Sound whole.heading)) → IfOk (header_step number rest go_on r) (λ whole. Sound whole.heading)
+step_sound (Ok h) number rest go_on s next = step_by (is_done h) h number rest (go_on h) s (next h s)
+step_sound (Err cause) number rest go_on s next = tt
+
+lines_sound : (number : ℕ) (h : Heading) (lines : List (Result (List ℕ) InputCause)) → Sound h → IfOk (header_in number h lines) (λ whole. Sound whole.heading)
+lines_sound number h [] s = tt
+lines_sound number h (Err why ∷ rest) s = tt
+lines_sound number h (Ok text ∷ rest) s =
+    step_sound (heading_after h text) number rest (λ next. header_in (number + 1) next rest) (after_sound h text s) (λ next sound. lines_sound (number + 1) next rest sound)
+
+new_sound : (end : End) → Sound (heading_new (Node end))
+new_sound end = record {
+  master_length = refl;
+  slave_length = refl;
+  master = record { conn = omega arith; watchdog = omega arith; allowed = profile_allows 0 };
+  slave = record { hand = omega arith; most = omega arith; acceptable = refl; allowed = profile_allows 0 };
+}
+
+header_sound : (end : End) (lines : List (Result (List ℕ) InputCause)) → IfOk (header_in 1 (heading_new (Node end)) lines) (λ whole. Sound whole.heading)
+header_sound end lines = lines_sound 1 (heading_new (Node end)) lines (new_sound end)
+
+-- there are settings with these values
+master_settings : (h : Heading) → Sound h → (ms : MasterSettings) × IsMasterOf h ms
+master_settings h s =
+    let lengths : Lengths = record { master = h.lengths.master; slave = h.lengths.slave; valid_master = s.master_length; valid_slave = s.slave_length } in
+    let ms : MasterSettings = record {
+      lengths = lengths;
+      conn = h.master.line.conn;
+      address = h.master.line.address;
+      watchdog = h.master.line.watchdog;
+      app = h.master.app;
+      nonce = h.master.line.nonce;
+      profile = h.master.profile;
+      some_conn = s.master.conn;
+      some_watchdog = s.master.watchdog;
+      allowed = s.master.allowed;
+    } in
+    (ms, (refl, refl, record { lengths_are = refl; conn_is = refl; address_is = refl; watchdog_is = refl; app_is = refl; nonce_is = refl; profile_is = refl }))
+
+slave_settings : (h : Heading) → Sound h → (ss : SlaveSettings) × IsSlaveOf h ss
+slave_settings h s =
+    let lengths : Lengths = record { master = h.lengths.master; slave = h.lengths.slave; valid_master = s.master_length; valid_slave = s.slave_length } in
+    let ss : SlaveSettings = record {
+      lengths = lengths;
+      address = h.slave.line.address;
+      hand = h.slave.line.hand;
+      most = h.slave.line.most;
+      rule = h.slave.rule;
+      nonce = h.slave.line.nonce;
+      profile = h.slave.profile;
+      some_hand = s.slave.hand;
+      some_most = s.slave.most;
+      acceptable = s.slave.acceptable;
+      allowed = s.slave.allowed;
+    } in
+    (ss, (refl, refl, record { lengths_are = refl; address_is = refl; hand_is = refl; most_is = refl; rule_is = refl; nonce_is = refl; profile_is = refl }))
+
+-- the header of an input, where it is whole, gives settings of both ends
+heading_sound : (end : End) (r : Result WholeHeader Stop) → IfOk r (λ whole. Sound whole.heading) → IfSome (input_by end r).heading Sound
+heading_sound end (Ok whole) s = s
+heading_sound end (Err stop) s = tt
+
+input_sound : (end : End) (bytes : List ℕ) → IfSome (node_input end bytes).heading Sound
+input_sound end bytes = heading_sound end (header_in 1 (heading_new (Node end)) (lines_of bytes)) (header_sound end (lines_of bytes))
+
+pub gives_master : (end : End) (bytes : List ℕ) → IfSome (node_input end bytes).heading (λ h. (ms : MasterSettings) × IsMasterOf h ms)
+gives_master end bytes = IfSome_then (node_input end bytes).heading (input_sound end bytes) (λ h s. master_settings h s)
+
+pub gives_slave : (end : End) (bytes : List ℕ) → IfSome (node_input end bytes).heading (λ h. (ss : SlaveSettings) × IsSlaveOf h ss)
+gives_slave end bytes = IfSome_then (node_input end bytes).heading (input_sound end bytes) (λ h s. slave_settings h s)
