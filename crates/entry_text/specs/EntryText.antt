@@ -35,6 +35,7 @@ step_text None None (Some took) sent = codes "took " ++ command_name took.comman
 step_text None None None true = codes "again"
 step_text None None None false = codes "quiet"
 
+-- what an entry did, as its line says it
 abbrev pub did_text : Did → List ℕ
 did_text did = step_text did.dropped did.reset did.took did.sent
 

@@ -2,8 +2,7 @@
 #![tactic(auto)]
 
 ghost use Rattle.std.specs.Prelude.{◌≡◌, ◌+◌, ◌*◌, ◌≤◌, ◌++◌, length, codes};
-ghost use Rattle.fsoe_base.specs.Command.{state_name, command_name};
-ghost use Rattle.hex.specs.Hex.{encode_lower};
+ghost use Rattle.fsoe_base.specs.Command.{command_name};
 ghost use Rattle.entry_text.specs.EntryText.{code_text, cause_text, dropped_text, did_text, sent_text, entry_text};
 
 use fsoe_base::{Cause, Code, Command, Did, Dropped, State};
