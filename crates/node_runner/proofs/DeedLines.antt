@@ -9,7 +9,7 @@ use Rattle.end_model.specs.Setup.{Setup}
 use Rattle.end_model.specs.Step.{step, run, continued}
 use Rattle.node_runner.specs.Ending.{IsPrefix}
 use Rattle.node_runner.specs.Report.{deed_line, deed_lines, deeds}
-use Rattle.node_runner.specs.Step.{move_of}
+use Rattle.node_runner.specs.Move.{move_of}
 
 -- there is a deed for each event
 count_continued : (s : Setup) (moves : List Move) (e : List Deed) → length (continued s e moves) ≡ length e + length moves

@@ -7,9 +7,9 @@ use Rattle.fsoe_io.specs.declared.status.Ended.{Ended}
 use Rattle.fsoe_io.specs.declared.status.Status.{Status}
 use Rattle.fsoe_io.specs.declared.status.Status.TheVariants as status
 use Rattle.schedule_file.specs.Input.{node_input}
-use Rattle.node_runner.specs.Ran.{Outcome, Ran, ended_at}
+use Rattle.node_runner.specs.Ran.{StatusSays, Ran, ended_at}
 
-exact : (s : Status) (end : End) (place : ℕ) (input : List ℕ) (left : Option (List ℕ)) (text : List ℕ) → Outcome s end place input left text → (s ≡ status.Read → ⊥) → (s ≡ status.Write → ⊥)
+exact : (s : Status) (end : End) (place : ℕ) (input : List ℕ) (left : Option (List ℕ)) (text : List ℕ) → StatusSays s end place input left text → (s ≡ status.Read → ⊥) → (s ≡ status.Write → ⊥)
     → record { status = s; place = place } ≡ ended_at (node_input end input).stop
 exact status.Ok end place input left text o read write =
     ap (λ (p : ℕ). record { status = status.Ok; place = p }) o.1 ∙ ap ended_at (sym o.0)

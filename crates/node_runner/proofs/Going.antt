@@ -13,7 +13,7 @@ use Rattle.fsoe_io.specs.Output.{Waiting, Passes}
 use Rattle.fsoe_io.specs.declared.status.Ended.{Ended}
 use Rattle.fsoe_io.specs.declared.status.Status.TheVariants as status
 use Rattle.node_runner.specs.Ending.{Appended, Ends, Closes, Halts}
-use Rattle.node_runner.specs.Input.{TookLines}
+use Rattle.node_runner.specs.WholeLines.{TookLines}
 use Rattle.node_runner.specs.Halt.{Goes, Stalls}
 use Rattle.node_runner.specs.Stop.{ended_by}
 use Rattle.node_runner.specs.declared.halt.Halt.{Halt}

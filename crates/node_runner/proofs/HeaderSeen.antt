@@ -8,12 +8,12 @@ use Rattle.fsoe_base.specs.declared.command.End.{End}
 use Rattle.fsoe_io.proofs.Taken.{consumes_then}
 use Rattle.fsoe_io.specs.Line.{IsLine}
 use Rattle.schedule_file.specs.Header.{Heading, heading_new, heading_after, is_done}
-use Rattle.schedule_file.specs.Input.{InputCause, NoLine, Line, Stop, Refused, Headed, lines_of, header_in, header_step}
+use Rattle.schedule_file.specs.Input.{InputCause, NoLine, Line, Stop, Refused, WholeHeader, lines_of, header_in, header_step}
 use Rattle.schedule_file.specs.declared.header_kind.HeaderKind.TheVariants as kind
 use Rattle.schedule_file.specs.declared.line_cause.LineCause.{LineCause}
 use Rattle.node_runner.specs.Cause.{input_cause}
 use Rattle.node_runner.specs.Halt.{Goes}
-use Rattle.node_runner.specs.Header.{FindsHeading, Heads, Headers, Breaks, heading_first, heading_by_itself, header_of}
+use Rattle.node_runner.specs.Header.{FindsHeading, Heads, Headers, HeaderCutOff, heading_first, heading_by_itself, header_of}
 use Rattle.node_runner.specs.declared.halt.Halt.{Halt}
 use Rattle.node_runner.specs.declared.halt.Halt.TheVariants as halt
 use Rattle.node_runner.proofs.Lines.{lines_whole}
@@ -36,10 +36,10 @@ said end h lines taken text more says is =
     ∙ says (text ++ 10 ∷ more)
     ∙ ap (header_in (lines + 1) h) (lines_whole text more is)
 
-step_on : (number : ℕ) (rest : List (Result (List ℕ) InputCause)) (go_on : Heading → Result Headed Stop) (next : Heading) → is_done next ≡ false → header_step number rest go_on (Ok next) ≡ go_on next
+step_on : (number : ℕ) (rest : List (Result (List ℕ) InputCause)) (go_on : Heading → Result WholeHeader Stop) (next : Heading) → is_done next ≡ false → header_step number rest go_on (Ok next) ≡ go_on next
 step_on number rest go_on next e = rw e refl
 
-step_done : (number : ℕ) (rest : List (Result (List ℕ) InputCause)) (go_on : Heading → Result Headed Stop) (next : Heading) → is_done next ≡ true
+step_done : (number : ℕ) (rest : List (Result (List ℕ) InputCause)) (go_on : Heading → Result WholeHeader Stop) (next : Heading) → is_done next ≡ true
     → header_step number rest go_on (Ok next) ≡ Ok (record { heading = next; lines = number; rest = rest })
 step_done number rest go_on next e = rw e refl
 
@@ -50,7 +50,7 @@ header_line end h next lines now a b c text seen is goes e open_ count = record 
   taken = seen.taken ++ (text ++ 10 ∷ []);
   goes = consumes_then a b c seen.taken (text ++ 10 ∷ []) seen.goes goes;
   says = λ more.
-      let go_on : Heading → Result Headed Stop = λ x. header_in (lines + 1 + 1) x (lines_of more) in
+      let go_on : Heading → Result WholeHeader Stop = λ x. header_in (lines + 1 + 1) x (lines_of more) in
       said end h lines seen.taken text more seen.says is
       ∙ ap (header_step (lines + 1) (lines_of more) go_on) e
       ∙ step_on (lines + 1) (lines_of more) go_on next open_
@@ -64,14 +64,14 @@ header_done end h next lines now a b c text seen is goes e done count = record {
   taken = seen.taken ++ (text ++ 10 ∷ []);
   goes = consumes_then a b c seen.taken (text ++ 10 ∷ []) seen.goes goes;
   says = λ more.
-      let go_on : Heading → Result Headed Stop = λ x. header_in (lines + 1 + 1) x (lines_of more) in
+      let go_on : Heading → Result WholeHeader Stop = λ x. header_in (lines + 1 + 1) x (lines_of more) in
       said end h lines seen.taken text more seen.says is
       ∙ ap (header_step (lines + 1) (lines_of more) go_on) e
       ∙ step_done (lines + 1) (lines_of more) go_on next done
       ∙ ap (λ (k : ℕ). Ok (record { heading = next; lines = k; rest = lines_of more })) (sym count);
 }
 
-step_refused : (number : ℕ) (rest : List (Result (List ℕ) InputCause)) (go_on : Heading → Result Headed Stop) (r : Result Heading LineCause) (why : InputCause)
+step_refused : (number : ℕ) (rest : List (Result (List ℕ) InputCause)) (go_on : Heading → Result WholeHeader Stop) (r : Result Heading LineCause) (why : InputCause)
     → heading_by_itself r ≡ Err why → header_step number rest go_on r ≡ Err (Refused number why)
 step_refused number rest go_on (Ok next) why e = cc
 step_refused number rest go_on (Err cause) why e =
@@ -97,8 +97,8 @@ header_refused end h lines number (Some xs) (Some ys) why seen first count =
     ∙ ap (λ (k : ℕ). Err (Refused k why)) (sym count)
 
 -- a read failed in the header
-header_breaks : (end : End) (h : Heading) (lines count : ℕ) (a b c : Option (List ℕ)) → HeaderSeen end h lines a b → Consumes b c [] → count ≡ lines → Breaks end count a c
-header_breaks end h lines count a b c seen same is = record {
+header_cut_off : (end : End) (h : Heading) (lines count : ℕ) (a b c : Option (List ℕ)) → HeaderSeen end h lines a b → Consumes b c [] → count ≡ lines → HeaderCutOff end count a c
+header_cut_off end h lines count a b c seen same is = record {
   taken = seen.taken;
   goes = subst (Consumes a c) (append-nil seen.taken) (consumes_then a b c seen.taken [] seen.goes same);
   says =
@@ -109,5 +109,5 @@ header_breaks end h lines count a b c seen same is = record {
 -- why the header goes no further
 pub header_halts : (end : End) (h next : Heading) (lines now after : ℕ) (a b c : Option (List ℕ)) (why : Halt) → HeaderSeen end h lines a b → FindsHeading h (Err why) next b c
     → Goes {T = Bool} (Err why) lines now b c → Heads end (Err why) after a c
-header_halts end h next lines now after a b c (halt.Read count) seen finds goes = header_breaks end h lines count a b c seen goes.1 goes.0
+header_halts end h next lines now after a b c (halt.Read count) seen finds goes = header_cut_off end h lines count a b c seen goes.1 goes.0
 header_halts end h next lines now after a b c (halt.Refused number why) seen finds goes = header_refused end h lines number a b (input_cause why) seen finds goes

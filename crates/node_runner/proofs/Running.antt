@@ -1,5 +1,5 @@
 -- A run over the events of an input, and the report.
-use Rattle.std.proofs.Common.{◌≡◌, ℕ, ◌+◌, ◌≤◌, ◌<◌, List, [], ◌∷◌, ◌++◌, length, refl, arith, ap, ◌∙◌, sym, subst, append_assoc, inl, inr}
+use Rattle.std.proofs.Common.{◌≡◌, ℕ, ◌+◌, ◌≤◌, ◌<◌, List, [], ◌∷◌, ◌++◌, length, refl, arith, ap, ◌∙◌, sym, subst, append_assoc}
 use Rattle.std.specs.Prelude.{Ok, Err, IfSome, Some, None}
 use Rattle.std.specs.declared.option.Option.{Option}
 use Rattle.std.specs.Io.KnownBytes.{Consumes, prepend_known}
@@ -24,17 +24,18 @@ use Rattle.node_runner.specs.Cause.{input_cause}
 use Rattle.node_runner.specs.Ending.{Closes, IsPrefix}
 use Rattle.node_runner.specs.Event.{Finds, says_after, first_says}
 use Rattle.node_runner.specs.Halt.{Goes, Stalls}
-use Rattle.node_runner.specs.Header.{Heads, Breaks, header_of}
+use Rattle.node_runner.specs.Header.{Heads, HeaderCutOff, header_of}
 use Rattle.node_runner.specs.Node.{NodeStands, NodeFollows, NodeAnswers, NodeShows, IsSetTo}
-use Rattle.node_runner.specs.Ran.{BeginsReport, Broken, Outcome, Ran}
+use Rattle.node_runner.specs.Ran.{BeginsReport, ReportsReadLines, StatusSays, Ran}
 use Rattle.node_runner.specs.Report.{entry_line, deed_line, deed_lines, deeds, events_line, refused_line, last_line, IsReport}
-use Rattle.node_runner.specs.Step.{move_of}
+use Rattle.node_runner.specs.Move.{move_of}
 use Rattle.node_runner.specs.Stop.{ended_by, last_of}
 use Rattle.node_runner.specs.declared.halt.Halt.{Halt}
 use Rattle.node_runner.specs.declared.halt.Halt.TheVariants as halt
 use Rattle.node_runner.specs.declared.node.Node.{Node}
 use Rattle.node_runner.proofs.DeedLines.{count_deeds, deeds_more, lines_begin}
 use Rattle.node_runner.proofs.Lines.{by_line}
+use Rattle.node_runner.proofs.OneReport.{some_report}
 use Rattle.node_runner.proofs.Seen.{Seen, seen_none, seen_more, seen_same, same_line, says_event, input_on, input_refused, input_ended, events_begin}
 use Rattle.node_runner.proofs.Sending.{Sent, Part, sent_none, sent_part, sent_piece, sent_flushed, ran_write, ran_closed}
 
@@ -160,7 +161,7 @@ lines_reported end h n (Some xs) (Some ys) log s set seen few =
       ap (λ (events : List Event). deed_lines s (deeds s events) ++ last) more.1 ∙ ap (λ (z : List ℕ). z ++ last) begun.1
           ∙ append_assoc (deed_lines s (deeds s log)) begun.0 last,
     ) in
-    subst (λ (i : NodeInput). BeginsReport end i (deed_lines s (deeds s log))) (sym is) (inr (lines ++ last, report, prefix))
+    subst (λ (i : NodeInput). BeginsReport end i (deed_lines s (deeds s log))) (sym is) (lines ++ last, report, prefix)
 
 -- a write failed before a line
 pub running_unsent : (end : End) (left0 left new w0 w1 w2 : Option (List ℕ)) (waiting now : Waiting) (v : Node) (events lines : ℕ) (rest : List ℕ) (ended : Ended)
@@ -190,13 +191,13 @@ stopped_report end h s log stop input set is =
     subst (λ (i : NodeInput). IsReport end i (deed_lines s (deeds s log) ++ last_line (length log) stop)) (sym is) (deed_lines s (deeds s log), (s, set, refl), refl)
 
 begins_whole : (end : End) (input : NodeInput) (text : List ℕ) → IsReport end input text → BeginsReport end input text
-begins_whole end input text report = inr (text, report, ([], sym (append-nil text)))
+begins_whole end input text report = (text, report, ([], sym (append-nil text)))
 
 -- the input stops, and the last line is written
 stopped : (end : End) (left0 left new w0 w1 w2 : Option (List ℕ)) (waiting : Waiting) (v : Node) (events lines : ℕ) (stop : Stop) (result ended : Ended) (last : List ℕ)
     → (r : Running end left0 left w0 w1 waiting v events lines) → IfSome left (λ rest. input_on end r.heading r.header r.log (lines_of rest) ≡ record { heading = Some r.heading; events = r.log; stop = stop })
     → last ≡ last_line events stop → Closes result ended waiting w1 w2 last
-    → ((input text : List ℕ) → (node_input end input).stop ≡ stop → IsReport end (node_input end input) text → Outcome ended.status end ended.place input new text) → Ran end result left0 new w0 w2
+    → ((input text : List ℕ) → (node_input end input).stop ≡ stop → IsReport end (node_input end input) text → StatusSays ended.status end ended.place input new text) → Ran end result left0 new w0 w2
 stopped end None left new w0 w1 w2 waiting v events lines stop result ended last r stops is closes says = tt
 stopped end (Some xs) None new w0 w1 w2 waiting v events lines stop result ended last r stops is closes says = absurd r.seen.goes
 stopped end (Some xs) (Some ys) new w0 w1 w2 waiting v events lines stop result ended last r stops is closes says =
@@ -237,7 +238,7 @@ refused_input end left0 b c w0 w waiting v events lines number why r finds count
 -- a read failed
 broken : (end : End) (left0 left new : Option (List ℕ)) (held : List ℕ) (w0 w : Option (List ℕ)) (waiting : Waiting) (v : Node) (events lines count : ℕ) → (r : Running end left0 left w0 w waiting v events lines)
     → Consumes left (prepend_known held new) [] → HasNoNewline held → count ≡ lines
-    → IfSome left0 (λ input. Broken end count input new (deed_lines r.setup (deeds r.setup r.log)))
+    → IfSome left0 (λ input. ReportsReadLines end count input new (deed_lines r.setup (deeds r.setup r.log)))
 broken end None left new held w0 w waiting v events lines count r same none is = tt
 broken end (Some xs) left new held w0 w waiting v events lines count r same none is =
     let seen = seen_same end r.heading r.header (Some xs) left (prepend_known held new) r.log r.seen same in
@@ -255,15 +256,15 @@ broken end (Some xs) left new held w0 w waiting v events lines count r same none
       writes = stopped_report end r.heading r.setup r.log (Refused (count + 1) NoLine) (node_input end seen.taken) r.set whole;
     }
 
-broken_outcome : (end : End) (left0 left new : Option (List ℕ)) (held : List ℕ) (w0 w : Option (List ℕ)) (waiting : Waiting) (v : Node) (events lines count : ℕ) → (r : Running end left0 left w0 w waiting v events lines)
+broken_says : (end : End) (left0 left new : Option (List ℕ)) (held : List ℕ) (w0 w : Option (List ℕ)) (waiting : Waiting) (v : Node) (events lines count : ℕ) → (r : Running end left0 left w0 w waiting v events lines)
     → Consumes left (prepend_known held new) [] → HasNoNewline held → count ≡ lines
-    → IfSome left0 (λ input. Outcome status.Read end count input new (deed_lines r.setup (deeds r.setup r.log) ++ []) × BeginsReport end (node_input end input) (deed_lines r.setup (deeds r.setup r.log) ++ []))
-broken_outcome end None left new held w0 w waiting v events lines count r same none is = tt
-broken_outcome end (Some xs) left new held w0 w waiting v events lines count r same none is =
+    → IfSome left0 (λ input. StatusSays status.Read end count input new (deed_lines r.setup (deeds r.setup r.log) ++ []) × BeginsReport end (node_input end input) (deed_lines r.setup (deeds r.setup r.log) ++ []))
+broken_says end None left new held w0 w waiting v events lines count r same none is = tt
+broken_says end (Some xs) left new held w0 w waiting v events lines count r same none is =
     let text : List ℕ = deed_lines r.setup (deeds r.setup r.log) in
     let begins = lines_reported end r.heading r.header (Some xs) left r.log r.setup r.set r.seen (omega (arith, r.count, r.few)) in
     let reads = broken end (Some xs) left new held w0 w waiting v events lines count r same none is in
-    subst (λ (z : List ℕ). (Broken end count xs new z × BeginsReport end (node_input end xs) z) × BeginsReport end (node_input end xs) z) (sym (append-nil text)) ((reads, begins), begins)
+    subst (λ (z : List ℕ). (ReportsReadLines end count xs new z × BeginsReport end (node_input end xs) z) × BeginsReport end (node_input end xs) z) (sym (append-nil text)) ((reads, begins), begins)
 
 -- the input goes no further
 pub running_halted : (end : End) (left0 b new : Option (List ℕ)) (held : List ℕ) (w0 w1 w2 : Option (List ℕ)) (waiting : Waiting) (v : Node) (events lines now : ℕ) (why : Halt) (result : Ended)
@@ -271,7 +272,7 @@ pub running_halted : (end : End) (left0 b new : Option (List ℕ)) (held : List 
     → Stalls {T = ScheduleLine} (Err why) held → Closes result (ended_by why) waiting w1 w2 (last_of why) → Ran end result left0 new w0 w2
 running_halted end left0 b new held w0 w1 w2 waiting v events lines now (halt.Read count) result r finds goes stalls closes =
     ran_closed end left0 new w0 w1 w2 result (ended_by (halt.Read count)) waiting (deed_lines r.setup (deeds r.setup r.log)) [] r.sent closes
-    (broken_outcome end left0 b new held w0 w1 waiting v events lines count r goes.1 stalls goes.0)
+    (broken_says end left0 b new held w0 w1 waiting v events lines count r goes.1 stalls goes.0)
 running_halted end left0 b new held w0 w1 w2 waiting v events lines now (halt.Refused number why) result r finds goes stalls closes =
     stopped end left0 b new w0 w1 w2 waiting v events lines (Refused number (input_cause why)) result (ended_by (halt.Refused number why)) (refused_line number (input_cause why)) r
     (refused_input end left0 b (prepend_known held new) w0 w1 waiting v events lines number (input_cause why) r finds goes) refl closes
@@ -284,25 +285,27 @@ headless end bytes stop e = ap (input_by end) e
 headless_report : (end : End) (stop : Stop) (input : NodeInput) → input ≡ record { heading = None; events = []; stop = stop } → IsReport end input (last_line 0 stop)
 headless_report end stop input is = subst (λ (i : NodeInput). IsReport end i (last_line 0 stop)) (sym is) ([], refl, refl)
 
-headless_outcome : (end : End) (left0 new : Option (List ℕ)) (held : List ℕ) (count : ℕ) → Breaks end count left0 (prepend_known held new) → HasNoNewline held
-    → IfSome left0 (λ input. Outcome status.Read end count input new [] × BeginsReport end (node_input end input) [])
-headless_outcome end None new held count breaks none = tt
-headless_outcome end (Some xs) new held count breaks none =
+headless_says : (end : End) (left0 new : Option (List ℕ)) (held : List ℕ) (count : ℕ) → HeaderCutOff end count left0 (prepend_known held new) → HasNoNewline held
+    → IfSome left0 (λ input. StatusSays status.Read end count input new [] × BeginsReport end (node_input end input) [])
+headless_says end None new held count cut none = tt
+headless_says end (Some xs) new held count cut none =
     let stop : Stop = Refused (count + 1) NoLine in
-    let whole = headless end breaks.taken stop breaks.says in
-    let broken : Broken end count xs new [] = record {
-      taken = breaks.taken;
+    let whole = headless end cut.taken stop cut.says in
+    let broken : ReportsReadLines end count xs new [] = record {
+      taken = cut.taken;
       held = held;
-      goes = breaks.goes;
+      goes = cut.goes;
       open_line = none;
       stops = ap (λ (i : NodeInput). i.stop) whole;
-      writes = headless_report end stop (node_input end breaks.taken) whole;
+      writes = headless_report end stop (node_input end cut.taken) whole;
     } in
-    ((broken, inl refl), inl refl)
+    let report = some_report end xs in
+    let begins : BeginsReport end (node_input end xs) [] = (report.0, report.1, (report.0, refl)) in
+    ((broken, begins), begins)
 
-refused_outcome : (end : End) (left0 new : Option (List ℕ)) (number : ℕ) (why : InputCause) → IfSome left0 (λ input. header_of end input ≡ Err (Refused number why))
-    → IfSome left0 (λ input. Outcome status.Line end number input new (refused_line number why) × BeginsReport end (node_input end input) (refused_line number why))
-refused_outcome end left0 new number why says =
+refused_says : (end : End) (left0 new : Option (List ℕ)) (number : ℕ) (why : InputCause) → IfSome left0 (λ input. header_of end input ≡ Err (Refused number why))
+    → IfSome left0 (λ input. StatusSays status.Line end number input new (refused_line number why) × BeginsReport end (node_input end input) (refused_line number why))
+refused_says end left0 new number why says =
     IfSome_then left0 says (λ input e.
     let whole = headless end input (Refused number why) e in
     let report = headless_report end (Refused number why) (node_input end input) whole in
@@ -312,7 +315,7 @@ refused_outcome end left0 new number why says =
 pub header_halted : (end : End) (left0 new : Option (List ℕ)) (held : List ℕ) (w0 w2 : Option (List ℕ)) (waiting : Waiting) (lines : ℕ) (why : Halt) (result : Ended) → Heads end (Err why) lines left0 (prepend_known held new)
     → Stalls {T = Node} (Err why) held → waiting.bytes ≡ [] → waiting.sent ≡ 0 → Closes result (ended_by why) waiting w0 w2 (last_of why) → Ran end result left0 new w0 w2
 header_halted end left0 new held w0 w2 waiting lines (halt.Read count) result heads stalls none sent closes =
-    ran_closed end left0 new w0 w0 w2 result (ended_by (halt.Read count)) waiting [] [] (sent_none w0 waiting none sent) closes (headless_outcome end left0 new held count heads stalls)
+    ran_closed end left0 new w0 w0 w2 result (ended_by (halt.Read count)) waiting [] [] (sent_none w0 waiting none sent) closes (headless_says end left0 new held count heads stalls)
 header_halted end left0 new held w0 w2 waiting lines (halt.Refused number why) result heads stalls none sent closes =
     ran_closed end left0 new w0 w0 w2 result (ended_by (halt.Refused number why)) waiting [] (refused_line number (input_cause why)) (sent_none w0 waiting none sent) closes
-    (refused_outcome end left0 new number (input_cause why) heads)
+    (refused_says end left0 new number (input_cause why) heads)

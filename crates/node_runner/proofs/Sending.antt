@@ -12,7 +12,7 @@ use Rattle.fsoe_io.specs.declared.status.Ended.{Ended}
 use Rattle.fsoe_io.specs.declared.status.Status.TheVariants as status
 use Rattle.schedule_file.specs.Input.{NodeInput, node_input}
 use Rattle.node_runner.specs.Ending.{IsPrefix, Closes}
-use Rattle.node_runner.specs.Ran.{BeginsReport, Outcome, Ran}
+use Rattle.node_runner.specs.Ran.{BeginsReport, StatusSays, Ran}
 
 -- what went to the sink and what waits are the text so far
 pub record Sent (written0 written : Option (List ℕ)) (waiting : Waiting) (text : List ℕ) : Type 0 where
@@ -52,10 +52,8 @@ sent_flushed w0 w1 w2 waiting now text s p = subst (Sent w0 w2 now) (append-nil 
 
 -- a first part of what begins a report begins it
 pub begins_part : (end : End) (input : NodeInput) (part text : List ℕ) → IsPrefix part text → BeginsReport end input text → BeginsReport end input part
-begins_part end input [] text p (inl none) = inl refl
-begins_part end input (b ∷ part) text p (inl none) = let never : [] ≡ b ∷ (part ++ p.0) = sym none ∙ p.1 in cc
-begins_part end input part text p (inr begun) =
-    inr (begun.0, begun.1, (p.0 ++ begun.2.0, begun.2.1 ∙ ap (λ (z : List ℕ). z ++ begun.2.0) p.1 ∙ append_assoc part p.0 begun.2.0))
+begins_part end input part text p begun =
+    (begun.0, begun.1, (p.0 ++ begun.2.0, begun.2.1 ∙ ap (λ (z : List ℕ). z ++ begun.2.0) p.1 ∙ append_assoc part p.0 begun.2.0))
 
 -- a run that a failed write ends
 pub ran_write : (end : End) (left new w0 w2 : Option (List ℕ)) (ended : Ended) (whole : List ℕ) → ended.status ≡ status.Write → Part w0 w2 ended.place whole
@@ -65,7 +63,7 @@ ran_write end (Some input) new w0 w2 ended whole e p h = (p.sent, p.sink, rw e (
 
 -- a run that ends as it is to
 pub ran_closed : (end : End) (left new w0 w1 w2 : Option (List ℕ)) (result ended : Ended) (waiting : Waiting) (text last : List ℕ) → Sent w0 w1 waiting text → Closes result ended waiting w1 w2 last
-    → IfSome left (λ input. Outcome ended.status end ended.place input new (text ++ last) × BeginsReport end (node_input end input) (text ++ last)) → Ran end result left new w0 w2
+    → IfSome left (λ input. StatusSays ended.status end ended.place input new (text ++ last) × BeginsReport end (node_input end input) (text ++ last)) → Ran end result left new w0 w2
 ran_closed end None new w0 w1 w2 result ended waiting text last s c h = tt
 ran_closed end (Some input) new w0 w1 w2 result ended waiting text last s c h =
     elim c.2 [

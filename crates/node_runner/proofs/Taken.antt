@@ -7,7 +7,7 @@ use Rattle.std.proofs.lemmas.List.{append-nil, length_push}
 use Rattle.std.proofs.lemmas.List.Elements.{All-nil, All-push}
 use Rattle.fsoe_io.proofs.Taken.{consumes_then}
 use Rattle.fsoe_io.specs.Line.{IsLine}
-use Rattle.node_runner.specs.Input.{joined, TookLines}
+use Rattle.node_runner.specs.WholeLines.{joined, TookLines}
 
 pub joined-append : (xs ys : List (List ℕ)) → joined (xs ++ ys) ≡ joined xs ++ joined ys
 joined-append [] ys = refl

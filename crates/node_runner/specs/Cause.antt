@@ -14,9 +14,9 @@ input_cause cause.TooMany = input.TooMany
 input_cause (cause.Line why) = input.Line why
 
 -- the name of a cause in a report
-abbrev pub cause_text : input.InputCause → List ℕ
-cause_text input.Long = codes "Long"
-cause_text input.NoNewline = codes "NoNewline"
-cause_text input.NoLine = codes "End"
-cause_text input.TooMany = codes "TooMany"
-cause_text (input.Line why) = cause_name why
+abbrev pub refusal_name : input.InputCause → List ℕ
+refusal_name input.Long = codes "Long"
+refusal_name input.NoNewline = codes "NoNewline"
+refusal_name input.NoLine = codes "End"
+refusal_name input.TooMany = codes "TooMany"
+refusal_name (input.Line why) = cause_name why

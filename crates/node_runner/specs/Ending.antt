@@ -10,17 +10,17 @@ use Rattle.fsoe_io.specs.Sink.{Grew}
 use Rattle.fsoe_io.specs.declared.status.Ended.{Ended}
 use Rattle.fsoe_io.specs.declared.status.Status.{Status}
 use Rattle.fsoe_io.specs.declared.status.Status.TheVariants as status
-use Rattle.node_runner.specs.Input.{TookLines}
+use Rattle.node_runner.specs.WholeLines.{TookLines}
 use Rattle.node_runner.specs.declared.halt.Halt.{Halt}
 use Rattle.node_runner.specs.declared.halt.Halt.TheVariants as halt
 
 -- so many whole lines were taken from the source, and of the line after them only a part that was read
-abbrev pub Broke : ℕ → Option (List ℕ) → Option (List ℕ) → Type 0
-Broke lines old left = (held : List ℕ) × HasNoNewline held × TookLines lines old (prepend_known held left)
+abbrev pub ReadLines : ℕ → Option (List ℕ) → Option (List ℕ) → Type 0
+ReadLines lines old left = (held : List ℕ) × HasNoNewline held × TookLines lines old (prepend_known held left)
 
 -- so many whole lines stand before the refused line
-abbrev pub Follows : ℕ → Option (List ℕ) → Type 0
-Follows line old = (before : ℕ) × (rest : Option (List ℕ)) × (line ≡ before + 1) × TookLines before old rest
+abbrev pub LinesBefore : ℕ → Option (List ℕ) → Type 0
+LinesBefore line old = (before : ℕ) × (rest : Option (List ℕ)) × (line ≡ before + 1) × TookLines before old rest
 
 -- so many bytes were appended
 abbrev pub Appended : ℕ → Option (List ℕ) → Option (List ℕ) → Type 0
@@ -29,8 +29,8 @@ Appended count before now = (text : List ℕ) × Grew before now text × (count 
 -- what a status and its place say
 abbrev pub Ending : Status → ℕ → Option (List ℕ) → Option (List ℕ) → Option (List ℕ) → Option (List ℕ) → Type 0
 Ending status.Ok place old new before now = place ≡ 0
-Ending status.Line place old new before now = Follows place old
-Ending status.Read place old new before now = Broke place old new
+Ending status.Line place old new before now = LinesBefore place old
+Ending status.Read place old new before now = ReadLines place old new
 Ending status.Write place old new before now = Appended place before now
 Ending status.Other place old new before now = ⊥
 Ending status.Usage place old new before now = ⊥
@@ -38,16 +38,16 @@ Ending status.Config place old new before now = ⊥
 Ending status.Desk place old new before now = ⊥
 Ending status.Memory place old new before now = ⊥
 
--- a run ends with its last line written, at a refused line, or where the source or the sink failed; its place is the
--- refused line, the whole lines read or the bytes written
+-- which statuses a run may end with, and what the place says where the bytes are told: 0, one more than the whole lines
+-- before the refused one, the whole lines taken, or the bytes appended
 abbrev pub Ends : Ended → Option (List ℕ) → Option (List ℕ) → Option (List ℕ) → Option (List ℕ) → Type 0
 Ends ended old new before now = Ending ended.status ended.place old new before now
 
 -- why the input goes no further, and after which lines
 abbrev pub Halts : {T : Type 0} → Result T Halt → Option (List ℕ) → Option (List ℕ) → Type 0
 Halts (Ok x) old left = Unit {0}
-Halts (Err (halt.Read lines)) old left = Broke lines old left
-Halts (Err (halt.Refused line cause)) old left = Follows line old
+Halts (Err (halt.Read lines)) old left = ReadLines lines old left
+Halts (Err (halt.Refused line cause)) old left = LinesBefore line old
 
 -- the second list begins with the first
 abbrev pub IsPrefix : List ℕ → List ℕ → Type 0

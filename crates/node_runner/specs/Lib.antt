@@ -4,9 +4,9 @@ pub mod Event
 pub mod Halt
 pub mod HaltOf
 pub mod Header
-pub mod Input
+pub mod WholeLines
 pub mod Node
 pub mod Ran
 pub mod Report
-pub mod Step
+pub mod Move
 pub mod Stop

@@ -1,4 +1,4 @@
--- What an event of a node is to its slave.
+-- What an event of a node is to its end.
 use Rattle.std.specs.Prelude.{[]}
 use Rattle.param_load.specs.declared.entry.Move.{Move}
 use Rattle.param_load.specs.declared.entry.Move.TheVariants as move

@@ -12,9 +12,9 @@ use Rattle.end_model.specs.Deed.{Deed}
 use Rattle.end_model.specs.Outputs.{out}
 use Rattle.end_model.specs.Readiness.{state_of}
 use Rattle.end_model.specs.Step.{run}
-use Rattle.node_runner.specs.Cause.{cause_text}
+use Rattle.node_runner.specs.Cause.{refusal_name}
 use Rattle.node_runner.specs.Node.{IsSetTo}
-use Rattle.node_runner.specs.Step.{move_of}
+use Rattle.node_runner.specs.Move.{move_of}
 
 -- what an event did, with its number from 1, the state and the outputs after it, and the frame that was sent
 abbrev pub entry_line : ℕ → Did → State → List ℕ → List ℕ → List ℕ
@@ -24,7 +24,7 @@ entry_line n did state outputs sent = decimal n ++ codes " " ++ entry_text did s
 abbrev pub deed_line : Setup → List Deed → Deed → List ℕ
 deed_line s e x = entry_line (length e + 1) x.did (state_of s (x ∷ e)) (out s (x ∷ e)) x.sent
 
--- the lines of these deeds, the first of which comes first; the outputs are those by looking back
+-- the lines of these deeds, oldest first (the list has the newest first); the outputs are those by looking back
 abbrev pub deed_lines : Setup → List Deed → List ℕ
 deed_lines s [] = []
 deed_lines s (x ∷ e) = deed_lines s e ++ deed_line s e x
@@ -35,7 +35,7 @@ events_line events = codes "events " ++ decimal events ++ codes "\n"
 
 -- the last line where a line is refused
 abbrev pub refused_line : ℕ → InputCause → List ℕ
-refused_line line why = codes "refused " ++ decimal line ++ codes " " ++ cause_text why ++ codes "\n"
+refused_line line why = codes "refused " ++ decimal line ++ codes " " ++ refusal_name why ++ codes "\n"
 
 -- the last line of an input with so many events
 abbrev pub last_line : ℕ → Stop → List ℕ

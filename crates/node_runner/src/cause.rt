@@ -1,8 +1,7 @@
 //! Why a line of a node file is refused.
 ghost use Rattle.std.specs.Prelude.{◌≡◌, ◌≤◌, length};
-ghost use Rattle.node_runner.specs.Cause.{cause_text, input_cause};
+ghost use Rattle.node_runner.specs.Cause.{refusal_name, input_cause};
 
-use fsoe_io::LineFault;
 use schedule_file::LineCause;
 
 /// Why a line is refused: by itself, or by where it stands in the input.
@@ -23,7 +22,7 @@ pub enum Cause {
 impl Cause {
     /// The name as reports write it.
     pub fn name(self) -> &'static str
-        ensures text { result.now ≡ cause_text (input_cause self) }
+        ensures text { result.now ≡ refusal_name (input_cause self) }
         ensures most { length result.now ≤ 10 }
     {
         match self {

@@ -6,7 +6,7 @@ ghost use Rattle.schedule_file.specs.LinesLeft.{lines_left};
 ghost use Rattle.node_runner.specs.Ending.{Halts};
 ghost use Rattle.node_runner.specs.Halt.{Blames, Goes, Stalls};
 ghost use Rattle.node_runner.specs.Header.{FindsHeading, Heads};
-ghost use Rattle.node_runner.specs.Input.{TookLines};
+ghost use Rattle.node_runner.specs.WholeLines.{TookLines};
 ghost use Rattle.node_runner.specs.Node.{IsReady};
 
 use crate::cause::Cause;

@@ -1,11 +1,12 @@
 //! What holds of reports.
 ghost use Rattle.std.specs.Prelude.{◌≡◌, ℕ, List};
 ghost use Rattle.fsoe_base.specs.declared.command.End.{End};
-ghost use Rattle.schedule_file.specs.Input.{NodeInput};
+ghost use Rattle.schedule_file.specs.Input.{NodeInput, node_input};
 ghost use Rattle.node_runner.specs.Report.{IsReport};
 
-/// An input has one report at an end, since its header says all that the end is set to. The call does nothing: the law is its
-/// contract.
+/// An input has one report at an end: its header, where it is whole, says all that the end is set to, and no more than it may be
+/// set to. The call does nothing: the laws are its contract.
 pub fn one_report()
-    ensures { (end : End) (input : NodeInput) (a b : List ℕ) → IsReport end input a → IsReport end input b → a ≡ b }
+    ensures some { (end : End) (bytes : List ℕ) → (report : List ℕ) × IsReport end (node_input end bytes) report }
+    ensures only { (end : End) (input : NodeInput) (a b : List ℕ) → IsReport end input a → IsReport end input b → a ≡ b }
 {}

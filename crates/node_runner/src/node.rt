@@ -5,7 +5,7 @@ ghost use Rattle.schedule_file.specs.Event.{FitsNode};
 ghost use Rattle.schedule_file.specs.Header.{is_done, kind_of};
 ghost use Rattle.schedule_file.specs.declared.header_kind.HeaderKind.TheVariants as kind;
 ghost use Rattle.node_runner.specs.Report.{entry_line};
-ghost use Rattle.node_runner.specs.Step.{move_of};
+ghost use Rattle.node_runner.specs.Move.{move_of};
 ghost use Rattle.end_model.specs.Outputs.{out};
 ghost use Rattle.end_model.specs.Readiness.{state_of};
 ghost use Rattle.end_model.specs.Setup.{OfMaster, OfSlave};

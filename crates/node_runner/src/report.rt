@@ -1,5 +1,5 @@
 //! The closing lines of a report.
-ghost use Rattle.std.specs.Prelude.{◌≡◌, ◌≤◌, length};
+ghost use Rattle.std.specs.Prelude.{◌≡◌};
 ghost use Rattle.node_runner.specs.Cause.{input_cause};
 ghost use Rattle.node_runner.specs.Report.{events_line, refused_line};
 

@@ -102,64 +102,68 @@ fn both_ends_do_their_part_of_a_handshake(rt: HostRuntime) -> Result<(), Fail> {
     Ok(())
 }
 
+/// 641 bytes.
+const LONG: [u8; 641] = [b'x'; 641];
+
+/// The end, an input, the line that is refused, and what is written.
+const REFUSED: [(End, [&[u8]; 3], u64, &[u8]); 13] = [
+    (End::Slave, [b"", b"", b""], 1, b"refused 1 End\n"),
+    (
+        End::Slave,
+        [b"fsoe 1 pair\n", b"", b""],
+        1,
+        b"refused 1 Header\n",
+    ),
+    (End::Slave, [MASTER, b"", b""], 1, b"refused 1 Header\n"),
+    (End::Master, [HEADER, b"", b""], 1, b"refused 1 Header\n"),
+    (
+        End::Slave,
+        [b"fsoe 1 node slave\n", b"lengths 3 2\n", b""],
+        2,
+        b"refused 2 Length\n",
+    ),
+    (
+        End::Slave,
+        [b"fsoe 1 node slave\n", &LONG, b"\n"],
+        2,
+        b"refused 2 Long\n",
+    ),
+    (
+        End::Master,
+        [
+            b"fsoe 1 node master\n",
+            b"lengths 2 2\n",
+            b"master 1 2 100 65536\ngo\n",
+        ],
+        4,
+        b"refused 4 Range\n",
+    ),
+    (End::Slave, [HEADER, b"", b""], 6, b"refused 6 End\n"),
+    (End::Slave, [HEADER, b"t", b""], 6, b"refused 6 NoNewline\n"),
+    (End::Slave, [HEADER, &LONG, b""], 6, b"refused 6 Long\n"),
+    (
+        End::Slave,
+        [HEADER, b"t\nh 1\n", b"q\n"],
+        8,
+        b"1 quiet Reset 0000\n2 quiet Reset 0000\nrefused 8 Word\n",
+    ),
+    (
+        End::Slave,
+        [HEADER, b"t\n", b"p 80\n"],
+        7,
+        b"1 quiet Reset 0000\nrefused 7 Length\n",
+    ),
+    (
+        End::Master,
+        [MASTER, b"t\n", b"t"],
+        6,
+        b"1 again Reset 0000 > 2a0000c42d0000\nrefused 6 NoNewline\n",
+    ),
+];
+
 #[test]
 fn refused_lines_are_named(rt: HostRuntime) -> Result<(), Fail> {
-    let long = [b'x'; 641];
-    let rows: [(End, [&[u8]; 3], u64, &[u8]); 13] = [
-        (End::Slave, [b"", b"", b""], 1, b"refused 1 End\n"),
-        (
-            End::Slave,
-            [b"fsoe 1 pair\n", b"", b""],
-            1,
-            b"refused 1 Header\n",
-        ),
-        (End::Slave, [MASTER, b"", b""], 1, b"refused 1 Header\n"),
-        (End::Master, [HEADER, b"", b""], 1, b"refused 1 Header\n"),
-        (
-            End::Slave,
-            [b"fsoe 1 node slave\n", b"lengths 3 2\n", b""],
-            2,
-            b"refused 2 Length\n",
-        ),
-        (
-            End::Slave,
-            [b"fsoe 1 node slave\n", &long, b"\n"],
-            2,
-            b"refused 2 Long\n",
-        ),
-        (
-            End::Master,
-            [
-                b"fsoe 1 node master\n",
-                b"lengths 2 2\n",
-                b"master 1 2 100 65536\ngo\n",
-            ],
-            4,
-            b"refused 4 Range\n",
-        ),
-        (End::Slave, [HEADER, b"", b""], 6, b"refused 6 End\n"),
-        (End::Slave, [HEADER, b"t", b""], 6, b"refused 6 NoNewline\n"),
-        (End::Slave, [HEADER, &long, b""], 6, b"refused 6 Long\n"),
-        (
-            End::Slave,
-            [HEADER, b"t\nh 1\n", b"q\n"],
-            8,
-            b"1 quiet Reset 0000\n2 quiet Reset 0000\nrefused 8 Word\n",
-        ),
-        (
-            End::Slave,
-            [HEADER, b"t\n", b"p 80\n"],
-            7,
-            b"1 quiet Reset 0000\nrefused 7 Length\n",
-        ),
-        (
-            End::Master,
-            [MASTER, b"t\n", b"t"],
-            6,
-            b"1 again Reset 0000 > 2a0000c42d0000\nrefused 6 NoNewline\n",
-        ),
-    ];
-    for (end, parts, place, written) in rows {
+    for (end, parts, place, written) in REFUSED {
         let (ended, sink) = run_over(&rt, end, parts, 1000, 0, 0)?;
         assert_eq!(rt;
             ended,
@@ -184,50 +188,77 @@ fn whole_lines(bytes: &[u8]) -> u64 {
     lines
 }
 
-/// Two events after a header, with its 63 bytes, and what is written of them.
-const SHORT: &[u8] =
-    b"fsoe 1 node slave\nlengths 2 2\nslave 2 200 1000 2\nrule any 0\ngo\nt\nh 1\nend\n";
+/// An input of two events, the lines of its header, what is written of none, one and both of its events, and its whole
+/// report.
+type Short = (
+    End,
+    &'static [u8],
+    u64,
+    [&'static [u8]; 3],
+    &'static [u8],
+);
 
-const REPORTS: [&[u8]; 3] = [
-    b"",
-    b"1 quiet Reset 0000\n",
-    b"1 quiet Reset 0000\n2 quiet Reset 0000\n",
+const SHORTS: [Short; 2] = [
+    (
+        End::Slave,
+        b"fsoe 1 node slave\nlengths 2 2\nslave 2 200 1000 2\nrule any 0\ngo\nt\nh 1\nend\n",
+        5,
+        [
+            b"",
+            b"1 quiet Reset 0000\n",
+            b"1 quiet Reset 0000\n2 quiet Reset 0000\n",
+        ],
+        b"1 quiet Reset 0000\n2 quiet Reset 0000\nevents 2\n",
+    ),
+    (
+        End::Master,
+        b"fsoe 1 node master\nlengths 2 2\nmaster 1 2 100 1\ngo\nt\nh 1\nend\n",
+        4,
+        [
+            b"",
+            b"1 again Reset 0000 > 2a0000c42d0000\n",
+            b"1 again Reset 0000 > 2a0000c42d0000\n2 quiet Reset 0000\n",
+        ],
+        b"1 again Reset 0000 > 2a0000c42d0000\n2 quiet Reset 0000\nevents 2\n",
+    ),
 ];
-
-const WHOLE: &[u8] = b"1 quiet Reset 0000\n2 quiet Reset 0000\nevents 2\n";
 
 #[test]
 fn each_read_that_fails_ends_a_run_after_the_whole_lines(rt: HostRuntime) -> Result<(), Fail> {
-    for read in 0..SHORT.len() {
-        let fails = read as u64 + 1;
-        let (ended, sink) = run_over(&rt, End::Slave, [SHORT, b"", b""], 1, fails, 0)?;
-        let place = whole_lines(&SHORT[..read]);
-        assert_eq!(rt;
-            ended,
-            Ended {
-                status: Status::Read,
-                place
-            }
-        );
-        let events = place.saturating_sub(5).min(2) as usize;
-        assert_eq!(rt; sink.bytes(), REPORTS[events]);
+    for (end, input, header, reports, _) in SHORTS {
+        for read in 0..input.len() {
+            let fails = read as u64 + 1;
+            let (ended, sink) = run_over(&rt, end, [input, b"", b""], 1, fails, 0)?;
+            let place = whole_lines(&input[..read]);
+            assert_eq!(rt;
+                ended,
+                Ended {
+                    status: Status::Read,
+                    place
+                }
+            );
+            let events = place.saturating_sub(header).min(2) as usize;
+            assert_eq!(rt; sink.bytes(), reports[events]);
+        }
     }
     Ok(())
 }
 
 #[test]
 fn each_write_that_fails_ends_a_run_after_the_bytes_written(rt: HostRuntime) -> Result<(), Fail> {
-    for written in 0..WHOLE.len() {
-        let fails = written as u64 + 1;
-        let (ended, sink) = run_over(&rt, End::Slave, [SHORT, b"", b""], 1, 0, fails)?;
-        assert_eq!(rt;
-            ended,
-            Ended {
-                status: Status::Write,
-                place: written as u64
-            }
-        );
-        assert_eq!(rt; sink.bytes(), &WHOLE[..written]);
+    for (end, input, _, _, report) in SHORTS {
+        for written in 0..report.len() {
+            let fails = written as u64 + 1;
+            let (ended, sink) = run_over(&rt, end, [input, b"", b""], 1, 0, fails)?;
+            assert_eq!(rt;
+                ended,
+                Ended {
+                    status: Status::Write,
+                    place: written as u64
+                }
+            );
+            assert_eq!(rt; sink.bytes(), &report[..written]);
+        }
     }
     Ok(())
 }

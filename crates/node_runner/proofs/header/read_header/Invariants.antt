@@ -3,7 +3,7 @@ use Rattle.std.specs.Io.KnownBytes.{prepend_known}
 use Rattle.schedule_file.specs.Header.{kind_of}
 use Rattle.schedule_file.specs.LinesLeft.{lines_left}
 use Rattle.schedule_file.specs.declared.header_kind.HeaderKind.TheVariants as kind
-use Rattle.node_runner.specs.Input.{TookLines}
+use Rattle.node_runner.specs.WholeLines.{TookLines}
 use Rattle.node_runner.proofs.HeaderSeen.{HeaderSeen}
 use Rattle.node_runner.proofs.header.read_header.Given as goal
 
