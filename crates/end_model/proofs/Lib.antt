@@ -6,6 +6,7 @@ pub mod Ways
 pub mod Reactions
 pub mod SoundRuns
 pub mod Taken
+pub mod Told
 pub mod MasterShown
 pub mod Counted
 pub mod SlaveShown

@@ -1,16 +1,17 @@
 //! What holds of the definitions. The calls do nothing: each law is a contract.
 
-ghost use Rattle.std.specs.Prelude.{◌≡◌, ◌≢◌, ◌<◌, ℕ, nat_le, Bool, true, List, ◌∷◌, ◌++◌, length, All};
+ghost use Rattle.std.specs.Prelude.{◌≡◌, ◌≢◌, ◌<◌, ℕ, nat_le, Bool, true, not, List, ◌∷◌, ◌++◌, length, All};
 ghost use Rattle.fsoe_base.specs.declared.command.State.TheVariants as state;
 ghost use Rattle.param_load.specs.declared.entry.Move.{Move};
 ghost use Rattle.fsoe_base.specs.declared.command.Command.{Command};
+ghost use Rattle.fsoe_base.specs.Did.{at_most_one};
 ghost use Rattle.fsoe_base.specs.Command.{command_byte};
 ghost use Rattle.fsoe_frame.specs.Parts.{frame_of};
 ghost use Rattle.seq_chain.specs.Numbers.{last_crc};
 ghost use Rattle.seq_chain.specs.Sealing.{sealed};
 ghost use Rattle.end_model.specs.Chain.{own, taken, newest_crc, own_link, taken_link, seal};
 ghost use Rattle.end_model.specs.Setup.{Setup, OfSlave, sends, receives};
-ghost use Rattle.end_model.specs.Deed.{Deed};
+ghost use Rattle.end_model.specs.Deed.{Deed, is_empty};
 ghost use Rattle.param_load.specs.declared.contents.Expected.TheVariants as expected;
 ghost use Rattle.param_load.specs.declared.slave_settings.SlaveSettings.{SlaveSettings};
 ghost use Rattle.param_load.specs.Contents.{expected_len};
@@ -83,6 +84,14 @@ pub fn reactions()
     ensures each { (s : Setup) (x : Deed) (e : List Deed) → IsRun s (x ∷ e) → IsReaction s e x }
     ensures outside_session { (s : Setup) (e : List Deed) → IsRun s e → state_of s e ≡ state.Reset → HasNoSession e }
     ensures loaded { (ss : SlaveSettings) (e : List Deed) → IsRun (OfSlave ss) e → state_of (OfSlave ss) e ≡ state.Data → is_done ss state.Parameter e ≡ true }
+{}
+
+/// In every run of an end a deed tells of a sent frame exactly where one was sent, and of at most one of these: a frame
+/// that was taken, a reset and a drop.
+#[tactic(auto, using(crate::proofs::Told::told_sent, crate::proofs::Told::told_one))]
+pub fn told()
+    ensures sent { (s : Setup) (e : List Deed) (event : Move) → IsRun s e → IsProper s event → (step s e event).did.sent ≡ not (is_empty (step s e event).sent) }
+    ensures one { (s : Setup) (e : List Deed) (event : Move) → IsRun s e → IsProper s event → at_most_one (step s e event).did ≡ true }
 {}
 
 /// In every run the age of an end is below its limit, so that a watchdog expires exactly in the tick that reaches the

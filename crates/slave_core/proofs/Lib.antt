@@ -1,5 +1,4 @@
 pub mod Passed
-pub mod Shown
 pub mod Sound
 pub mod SameVerdict
 pub mod Agrees

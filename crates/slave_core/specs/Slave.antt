@@ -1,5 +1,5 @@
 -- What each event at a slave leaves, does and sends.
-use Rattle.std.specs.Prelude.{ℕ, ◌+◌, ◌==◌, Bool, true, false, not, ◌&&◌, ◌≡◌, List, [], ◌∷◌, Option, Some, None, is_some, Result, Ok, Err, if◌then◌else◌}
+use Rattle.std.specs.Prelude.{ℕ, ◌+◌, ◌==◌, Bool, true, false, List, [], Option, Some, None, Result, Ok, Err, if◌then◌else◌}
 use Rattle.fsoe_base.specs.declared.command.Code.{Code}
 use Rattle.fsoe_base.specs.declared.command.Command.TheVariants as command
 use Rattle.fsoe_base.specs.declared.did.Cause.{Cause}
@@ -109,17 +109,3 @@ tick_of v = if is_reset v.state then quiet v else tick_in_session v
 -- a reset of the slave's own: the session ends, and Reset with code 0 is sent
 abbrev pub reset_of : SlaveView → Outcome
 reset_of v = falls v false cause.Local (code 0)
-
--- a frame was sent where it has bytes
-abbrev pub is_sent : List ℕ → Bool
-is_sent [] = false
-is_sent (byte ∷ bytes) = true
-
--- at most one of what was taken, a reset and a drop is there
-abbrev pub at_most_one : Did → Bool
-at_most_one d = not (is_some d.took && is_some d.reset) && not (is_some d.took && is_some d.dropped) && not (is_some d.reset && is_some d.dropped)
-
--- a step tells what it did: whether it sent a frame, and at most one of three things
-pub record Tells (d : Did) (frame : List ℕ) : Type 0 where
-  pub sent : d.sent ≡ is_sent frame
-  pub one : at_most_one d ≡ true

@@ -37,7 +37,7 @@ impl Slave {
     ghost use Rattle.param_load.specs.Profile.{allows_id};
     ghost use Rattle.slave_core.specs.Kit.{own_len, peer_len};
     ghost use Rattle.slave_core.specs.Now.{allows, chain_of, outputs_in};
-    ghost use Rattle.slave_core.specs.Slave.{fallen, falls, refuses, reset_by_peer, settles, delivered, tick_of, Tells};
+    ghost use Rattle.slave_core.specs.Slave.{fallen, falls, refuses, reset_by_peer, settles, delivered, tick_of};
     ghost use Rattle.slave_core.specs.Taken.{next_state, reply};
     ghost use Rattle.slave_core.specs.Views.{HasPassed};
     ghost use Rattle.slave_core.specs.ViewOf.{view_of};
@@ -67,7 +67,6 @@ impl Slave {
         ensures slave { self.new ≡ (falls self.old passed why code).slave }
         ensures did { result ≡ (falls self.old passed why code).did }
         ensures sent { out.new ≡ (falls self.old passed why code).sent }
-        ensures tells { Tells result out.new }
     {
         self.forget();
         reset_frame(code, self.kit.own_len(), out);
@@ -90,7 +89,6 @@ impl Slave {
         ensures slave { self.new ≡ (refuses self.old passed code).slave }
         ensures did { result ≡ (refuses self.old passed code).did }
         ensures sent { out.new ≡ (refuses self.old passed code).sent }
-        ensures tells { Tells result out.new }
     {
         if self.state.is_reset() {
             return Did {
@@ -108,7 +106,6 @@ impl Slave {
         ensures slave { self.new ≡ (reset_by_peer self.old code view.now.load).slave }
         ensures did { result ≡ (reset_by_peer self.old code view.now.load).did }
         ensures sent { out.new ≡ (reset_by_peer self.old code view.now.load).sent }
-        ensures tells { Tells result out.new }
     {
         if self.state.is_reset() {
             let mut load = Image::zeros(0);
@@ -129,7 +126,6 @@ impl Slave {
         ensures did { result ≡ (settles self.old seen.now (reply self.old.kit self.old.state seen.now) (next_state self.old.kit self.old.state seen.now)).did }
         ensures sent { out.new ≡ (settles self.old seen.now (reply self.old.kit self.old.state seen.now) (next_state self.old.kit self.old.state seen.now)).sent }
         ensures kit { self.new.kit ≡ self.old.kit }
-        ensures tells { Tells result out.new }
     {
         match &mut self.state {
             Now::Data(state) => match state.go_on(seen.frame(), &self.kit, out) {
@@ -156,7 +152,6 @@ impl Slave {
         ensures did { result ≡ (settles self.old seen.now (reply self.old.kit self.old.state seen.now) (next_state self.old.kit self.old.state seen.now)).did }
         ensures sent { out.new ≡ (settles self.old seen.now (reply self.old.kit self.old.state seen.now) (next_state self.old.kit self.old.state seen.now)).sent }
         ensures kit { self.new.kit ≡ self.old.kit }
-        ensures tells { Tells result out.new }
     {
         let was_reset = self.state.is_reset();
         let old = mem::replace(&mut self.state, Now::Reset(InReset::new()));
@@ -190,7 +185,6 @@ impl Slave {
         ensures did { result ≡ (delivered self.old frame.now).did }
         ensures sent { out.new ≡ (delivered self.old frame.now).sent }
         ensures kit { self.new.kit ≡ self.old.kit }
-        ensures tells { Tells result out.new }
     {
         out.clear();
         let repeats = self.state.is_repeat(frame);
@@ -214,7 +208,6 @@ impl Slave {
         ensures follows { Follows OfSlave view_of self.old (event.Deliver frame.now) self.new }
         ensures answers { Answers OfSlave view_of self.old (event.Deliver frame.now) result out.new }
         ensures kit { self.new.kit ≡ self.old.kit }
-        ensures tells { Tells result out.new }
     {
         self.receive(frame, out)
     }
@@ -225,7 +218,6 @@ impl Slave {
         ensures did { result ≡ (tick_of self.old).did }
         ensures sent { out.new ≡ (tick_of self.old).sent }
         ensures kit { self.new.kit ≡ self.old.kit }
-        ensures tells { Tells result out.new }
     {
         out.clear();
         if self.state.is_reset() || !self.watchdog.tick() {
@@ -241,7 +233,6 @@ impl Slave {
         ensures follows { Follows OfSlave view_of self.old event.Tick self.new }
         ensures answers { Answers OfSlave view_of self.old event.Tick result out.new }
         ensures kit { self.new.kit ≡ self.old.kit }
-        ensures tells { Tells result out.new }
     {
         self.count(out)
     }
@@ -252,7 +243,6 @@ impl Slave {
         ensures follows { Follows OfSlave view_of self.old event.Local self.new }
         ensures answers { Answers OfSlave view_of self.old event.Local result out.new }
         ensures kit { self.new.kit ≡ self.old.kit }
-        ensures tells { Tells result out.new }
     {
         self.fall(false, Cause::Local, Code(0x00), out)
     }
