@@ -7,6 +7,7 @@ pub mod Reactions
 pub mod SoundRuns
 pub mod Taken
 pub mod Told
+pub mod Codes
 pub mod MasterShown
 pub mod Counted
 pub mod SlaveShown

@@ -7,6 +7,7 @@ pub mod Readiness
 pub mod Verdict
 pub mod Step
 pub mod Reactions
+pub mod Codes
 pub mod Outputs
 pub mod Standing
 pub mod Entries

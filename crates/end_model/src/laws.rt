@@ -1,9 +1,12 @@
 //! What holds of the definitions. The calls do nothing: each law is a contract.
 
-ghost use Rattle.std.specs.Prelude.{◌≡◌, ◌≢◌, ◌<◌, ℕ, nat_le, Bool, true, not, List, ◌∷◌, ◌++◌, length, All};
+ghost use Rattle.std.specs.Prelude.{◌≡◌, ◌≢◌, ◌<◌, ◌≤◌, ℕ, nat_le, Bool, true, not, List, ◌∷◌, ◌++◌, length, All, Some};
 ghost use Rattle.fsoe_base.specs.declared.command.State.TheVariants as state;
 ghost use Rattle.param_load.specs.declared.entry.Move.{Move};
+ghost use Rattle.fsoe_base.specs.declared.command.Code.{Code};
 ghost use Rattle.fsoe_base.specs.declared.command.Command.{Command};
+ghost use Rattle.fsoe_base.specs.declared.command.Command.TheVariants as command;
+ghost use Rattle.fsoe_base.specs.declared.did.Cause.TheVariants as cause;
 ghost use Rattle.fsoe_base.specs.Did.{at_most_one};
 ghost use Rattle.fsoe_base.specs.Command.{command_byte};
 ghost use Rattle.fsoe_frame.specs.Parts.{frame_of};
@@ -11,6 +14,7 @@ ghost use Rattle.seq_chain.specs.Numbers.{last_crc};
 ghost use Rattle.seq_chain.specs.Sealing.{sealed};
 ghost use Rattle.end_model.specs.Chain.{own, taken, newest_crc, own_link, taken_link, seal};
 ghost use Rattle.end_model.specs.Setup.{Setup, OfSlave, sends, receives};
+ghost use Rattle.end_model.specs.Phases.{has_command};
 ghost use Rattle.end_model.specs.Deed.{Deed, is_empty};
 ghost use Rattle.param_load.specs.declared.contents.Expected.TheVariants as expected;
 ghost use Rattle.param_load.specs.declared.slave_settings.SlaveSettings.{SlaveSettings};
@@ -20,6 +24,7 @@ ghost use Rattle.end_model.specs.Readiness.{state_of, age, limit, is_done};
 ghost use Rattle.end_model.specs.Outputs.{zeros, outputs, out};
 ghost use Rattle.end_model.specs.Step.{step, run, continued, IsProper, IsRun};
 ghost use Rattle.end_model.specs.Reactions.{HasNoSession, IsReaction};
+ghost use Rattle.end_model.specs.Codes.{IsOwnReset};
 ghost use Rattle.end_model.specs.WorkedRuns.{FirstTick, MasterHandshake, MasterStepsNumber, MasterIsReset, SlaveHandshake, SlaveExpires, SlaveGoesOn, SlaveRefusesOldFrame, SlaveResetItself, WrongAddress, WrongWatchdog, WrongParameters, LongSessionIds, OtherProfile, QuietInReset, QuietAtItsLimit, SlaveTestsInOrder, MasterTestsInOrder, IdSetLater, OutlastsReset, SlaveExpiresInParameter, SlaveExpiresInSession, SlaveTestsConnection, MasterContents};
 
 /// Worked runs of a master: each line of its report, with its state, its outputs and the frame that it sent.
@@ -92,6 +97,14 @@ pub fn reactions()
 pub fn told()
     ensures sent { (s : Setup) (e : List Deed) (event : Move) → IsRun s e → IsProper s event → (step s e event).did.sent ≡ not (is_empty (step s e event).sent) }
     ensures one { (s : Setup) (e : List Deed) (event : Move) → IsRun s e → IsProper s event → at_most_one (step s e event).did ≡ true }
+{}
+
+/// In every run of an end what it finds has a code of at most 0Bh, and each Reset frame that it sends has such a code,
+/// with zeros after it.
+#[tactic(auto, using(crate::proofs::Codes::sent_low))]
+pub fn codes()
+    ensures found { (s : Setup) (e : List Deed) (event : Move) (found : Code) → IsRun s e → IsProper s event → (step s e event).did.reset ≡ Some (cause.Found found) → found.0 ≤ 0x0B }
+    ensures sent { (s : Setup) (e : List Deed) (event : Move) → IsRun s e → IsProper s event → has_command command.Reset (step s e event).sent ≡ true → IsOwnReset s (step s e event).sent }
 {}
 
 /// In every run the age of an end is below its limit, so that a watchdog expires exactly in the tick that reaches the

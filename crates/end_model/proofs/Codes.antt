@@ -1,0 +1,176 @@
+-- The codes that an end finds and sends are at most 0Bh.
+use Rattle.std.proofs.Common.{◌≡◌, ◌==◌, ◌≤◌, ◌+◌, ℕ, nat_eq, nat_le, nat_lt, Bool, true, false, ◌&&◌, not, List, ◌++◌, length, take, Option, Some, None, IfSome, IfErr, Result, Ok, Err, if◌then◌else◌, refl, subst, arith}
+use Rattle.std.specs.Cmp.Lexicographic.{pointwise}
+use Rattle.fsoe_base.specs.declared.command.Code.{Code}
+use Rattle.fsoe_base.specs.declared.command.State.{State}
+use Rattle.fsoe_base.specs.declared.command.State.TheVariants as state
+use Rattle.fsoe_base.specs.declared.command.Command.{Command}
+use Rattle.fsoe_base.specs.declared.command.Command.TheVariants as command
+use Rattle.fsoe_base.specs.declared.did.Cause.{Cause}
+use Rattle.fsoe_base.specs.declared.did.Cause.TheVariants as cause
+use Rattle.fsoe_base.specs.declared.did.Did.{Did}
+use Rattle.fsoe_base.specs.Command.{code}
+use Rattle.fsoe_frame.specs.Parts.{Frame}
+use Rattle.seq_chain.specs.Cover.{first_of}
+use Rattle.seq_chain.specs.Reset.{reset_crcs, zeros_follow, reset_view}
+use Rattle.param_load.specs.declared.app_rule.AppRule.{AppRule}
+use Rattle.param_load.specs.declared.contents.Expected.{Expected}
+use Rattle.param_load.specs.declared.contents.Expected.TheVariants as expected
+use Rattle.param_load.specs.declared.entry.Move.{Move}
+use Rattle.param_load.specs.declared.master_settings.MasterSettings.{MasterSettings}
+use Rattle.param_load.specs.declared.slave_settings.SlaveSettings.{SlaveSettings}
+use Rattle.param_load.specs.declared.profile.Profile.{Profile}
+use Rattle.param_load.specs.AppRule.{rule_len}
+use Rattle.param_load.specs.Contents.{or_else, fails, word_is, communication_fault, field_fault}
+use Rattle.param_load.specs.Payload.{number_at}
+use Rattle.param_load.specs.Profile.{id_len}
+use Rattle.end_model.specs.Setup.{Setup, OfMaster, OfSlave, piece_len}
+use Rattle.end_model.specs.Phases.{has_command}
+use Rattle.end_model.specs.Deed.{Deed}
+use Rattle.end_model.specs.Payloads.{uploaded}
+use Rattle.end_model.specs.Verdict.{upload_fault, data_fault, slave_fault, master_fault, contents}
+use Rattle.end_model.specs.Step.{step, IsProper, IsRun}
+use Rattle.end_model.specs.Codes.{IsOwnReset}
+use Rattle.end_model.specs.Reactions.{parts, Fails, UnknownCommand, WrongReset, NotAllowed, WrongConnection, WrongCrc, WrongContents, Taking, SlaveRejoins, SlaveStarts, SlaveGoesOn, SlaveNextPhase, SlaveFirstData, SlaveMoreData, MasterStarts, MasterGoesOn, MasterNextPhase, MasterFirstData, MasterMoreData, Reaction, Puts, Holds, SetsNonce, Rests, Ages, Expires, SendsAgain, ResetsItself, DropsLength, DropsRepeat, DropsInReset, DropsReset, Refuses, PeerResets, Answers}
+use Rattle.end_model.proofs.SoundRuns.{reacts}
+
+-- a code, if a test fails with one, is at most 0Bh
+record IsLow (o : Option Code) : Type 0 where
+  low : IfSome o (λ found. found.0 ≤ 0x0B)
+
+-- the same of a Reset frame that is read
+record IsLowErr (r : Result Code Code) : Type 0 where
+  low : IfErr r (λ found. found.0 ≤ 0x0B)
+
+-- the same of a reset
+abbrev IsLowCause : Option Cause → Type 0
+IsLowCause (Some (cause.Found found)) = found.0 ≤ 0x0B
+IsLowCause _ = Unit {0}
+
+none-low : IsLow None
+none-low = record { low = tt }
+
+fails-with : (b : Bool) (n : ℕ) (next : Option Code) → n ≤ 0x0B → IsLow next → IsLow (if b then Some (code n) else next)
+fails-with true n next h k = record { low = h }
+fails-with false n next h k = k
+
+unless-with : (b : Bool) (n : ℕ) → n ≤ 0x0B → IsLow (if b then None else Some (code n))
+unless-with true n h = none-low
+unless-with false n h = record { low = h }
+
+first-low : (first second : Option Code) → IsLow first → IsLow second → IsLow (or_else first second)
+first-low None second h k = k
+first-low (Some found) second h k = h
+
+low-communication : (most : ℕ) (rule : AppRule) (profile : Profile) (before : ℕ) (u : List ℕ) → IsLow (communication_fault most rule profile before u)
+low-communication most rule profile before u =
+    fails-with (fails before u 1 (number_at 0 u == id_len profile)) 0x08 _ (omega arith)
+    (fails-with (fails before u 3 (nat_lt 0 (number_at 2 u) && nat_le (number_at 2 u) most)) 0x09 _ (omega arith)
+    (fails-with (fails before u (id_len profile + 1) (word_is profile u)) 0x09 _ (omega arith)
+    (fails-with (fails before u (id_len profile + 3) (number_at (id_len profile + 2) u == rule_len rule)) 0x0A _ (omega arith) none-low)))
+
+low-field : (e : Expected) (before : ℕ) (u : List ℕ) → IsLow (field_fault e before u)
+low-field (expected.Session profile) before u = none-low
+low-field (expected.Connection conn address) before u = fails-with _ 0x03 _ (omega arith) (fails-with _ 0x06 _ (omega arith) none-low)
+low-field (expected.Parameter most rule profile) before u = first-low _ _ (low-communication most rule profile before u) (fails-with _ 0x0B None (omega arith) none-low)
+
+low-upload : (ss : SlaveSettings) (e : List Deed) (phase : State) (expects : Expected) (load : List ℕ) → IsLow (upload_fault ss e phase expects load)
+low-upload ss e phase expects load =
+    first-low (field_fault expects (length (uploaded ss phase e)) (uploaded ss phase e ++ take (piece_len (OfSlave ss)) load)) _ (low-field expects _ _) (unless-with _ 0x07 (omega arith))
+
+low-data : (c : Command) (load : List ℕ) → IsLow (data_fault c load)
+low-data c load = unless-with _ 0x07 (omega arith)
+
+low-slave : (ss : SlaveSettings) (e : List Deed) (c : Command) (f : Frame) → IsLow (slave_fault ss e c f)
+low-slave ss e command.Reset f = low-data command.Reset f.load
+low-slave ss e command.Session f = low-upload ss e state.Session (expected.Session ss.profile) f.load
+low-slave ss e command.Connection f = low-upload ss e state.Connection (expected.Connection f.conn ss.address) f.load
+low-slave ss e command.Parameter f = low-upload ss e state.Parameter (expected.Parameter ss.most ss.rule ss.profile) f.load
+low-slave ss e command.FailSafeData f = low-data command.FailSafeData f.load
+low-slave ss e command.ProcessData f = low-data command.ProcessData f.load
+
+low-master : (ms : MasterSettings) (e : List Deed) (c : Command) (f : Frame) → IsLow (master_fault ms e c f)
+low-master ms e command.Reset f = low-data command.Reset f.load
+low-master ms e command.Session f = unless-with _ 0x07 (omega arith)
+low-master ms e command.Connection f = unless-with _ 0x07 (omega arith)
+low-master ms e command.Parameter f = unless-with _ 0x07 (omega arith)
+low-master ms e command.FailSafeData f = low-data command.FailSafeData f.load
+low-master ms e command.ProcessData f = low-data command.ProcessData f.load
+
+low-contents : (s : Setup) (e : List Deed) (c : Command) (f : Frame) → IsLow (contents s e c f)
+low-contents (OfMaster ms) e c f = low-master ms e c f
+low-contents (OfSlave ss) e c f = low-slave ss e c f
+
+-- the tests of a Reset frame
+low-tests : (a b k : Bool) (said : Code) → IsLowErr (if not a then Err (code 0x03) else if not b then Err (code 0x04) else if not k then Err (code 0x07) else Ok said)
+low-tests true true true said = record { low = tt }
+low-tests true true false said = record { low = omega arith }
+low-tests true false k said = record { low = omega arith }
+low-tests false b k said = record { low = omega arith }
+
+low-view : (f : Frame) → IsLowErr (reset_view f)
+low-view f = low-tests (f.conn == 0) (pointwise nat_eq f.crcs (reset_crcs f.load)) (zeros_follow f.load) (code (first_of f.load))
+
+low-test : (s : Setup) (e : List Deed) (bytes : List ℕ) (passed : Bool) (found : Code) → Fails s e bytes passed found → found.0 ≤ 0x0B
+low-test s e bytes passed found (UnknownCommand is) = omega arith
+low-test s e bytes passed found (WrongReset _ is h) = (subst IsLowErr h (low-view (parts s bytes))).low
+low-test s e bytes passed found (NotAllowed c n is h) = omega arith
+low-test s e bytes passed found (WrongConnection c n is h i) = omega arith
+low-test s e bytes passed found (WrongCrc c n is h i j) = omega arith
+low-test s e bytes passed found (WrongContents c _ n is h i j k) = (subst IsLow k (low-contents s e c (parts s bytes))).low
+
+low-cause : (s : Setup) (e : List Deed) (m : Move) (d : Did) (f : List ℕ) → Reaction s e m d f → IsLowCause d.reset
+low-cause s e m d f (Puts load long) = tt
+low-cause s e m d f (Holds failsafe) = tt
+low-cause s e m d f (SetsNonce id allowed) = tt
+low-cause s e m d f (Rests slave now) = tt
+low-cause s e m d f (Ages counts young) = tt
+low-cause s e m d f (Expires now old) = omega arith
+low-cause s e m d f (SendsAgain master now old) = tt
+low-cause s e m d f ResetsItself = tt
+low-cause s e m d f (DropsLength bytes long) = tt
+low-cause s e m d f (DropsRepeat bytes long again now) = tt
+low-cause s e m d f (DropsInReset bytes passed found now fails test) = tt
+low-cause s e m d f (DropsReset bytes load master now frame other) = tt
+low-cause s e m d f (Refuses bytes passed found now fails test) = low-test s e bytes passed found test
+low-cause s e m d f (PeerResets bytes load now frame) = tt
+low-cause s e m d f (Answers bytes load c answer taken) = tt
+
+-- an answer is of a session, or the slave's Reset frame with code 0
+resets-answer : (e : List Deed) (bytes load : List ℕ) (s : Setup) (c : Command) (f : List ℕ) → Taking e bytes load s c f → has_command command.Reset f ≡ true → IsOwnReset s f
+resets-answer e bytes load s c f (SlaveRejoins _ now none frame) h = record { said = 0; most = omega arith; is = refl }
+resets-answer e bytes load s c f (SlaveStarts _ _ now none x) h = let i = x.in_session.in_session in cc
+resets-answer e bytes load s c f (SlaveGoesOn _ _ _ is now part x) h = let i = x.in_session.in_session in cc
+resets-answer e bytes load s c f (SlaveNextPhase _ before _ _ is now whole x) h = let i = x.in_session.in_session in cc
+resets-answer e bytes load s c f (SlaveFirstData _ _ _ is now whole x) h = let i = x.in_session.in_session in cc
+resets-answer e bytes load s c f (SlaveMoreData _ _ _ is now whole x) h = let i = x.in_session.in_session in cc
+resets-answer e bytes load s c f (MasterStarts _ _ now none frame zero made sent after) h = let i = sent.in_session in cc
+resets-answer e bytes load s c f (MasterGoesOn _ _ _ is now part x) h = let i = x.in_session.in_session in cc
+resets-answer e bytes load s c f (MasterNextPhase _ _ next _ is now whole x) h = let i = x.in_session.in_session in cc
+resets-answer e bytes load s c f (MasterFirstData _ _ now whole x) h = let i = x.in_session.in_session in cc
+resets-answer e bytes load s c f (MasterMoreData _ _ _ is now x) h = let i = x.in_session.in_session in cc
+
+resets-low : (s : Setup) (e : List Deed) (m : Move) (d : Did) (f : List ℕ) → Reaction s e m d f → has_command command.Reset f ≡ true → IsOwnReset s f
+resets-low s e m d f (Puts load long) h = cc
+resets-low s e m d f (Holds failsafe) h = cc
+resets-low s e m d f (SetsNonce id allowed) h = cc
+resets-low s e m d f (Rests slave now) h = cc
+resets-low s e m d f (Ages counts young) h = cc
+resets-low s e m d f (Expires now old) h = record { said = 0x05; most = omega arith; is = refl }
+resets-low s e m d f (SendsAgain master now old) h = record { said = 0; most = omega arith; is = refl }
+resets-low s e m d f ResetsItself h = record { said = 0; most = omega arith; is = refl }
+resets-low s e m d f (DropsLength bytes long) h = cc
+resets-low s e m d f (DropsRepeat bytes long again now) h = cc
+resets-low s e m d f (DropsInReset bytes passed found now fails test) h = cc
+resets-low s e m d f (DropsReset bytes load master now frame other) h = cc
+resets-low s e m d f (Refuses bytes passed found now fails test) h = record { said = found.0; most = low-test s e bytes passed found test; is = refl }
+resets-low s e m d f (PeerResets bytes load now frame) h = record { said = 0; most = omega arith; is = refl }
+resets-low s e m d f (Answers bytes load c answer taken) h = resets-answer e bytes load s c answer taken h
+
+-- a code that an end found
+pub found_low : (s : Setup) (e : List Deed) (event : Move) (found : Code) → IsRun s e → IsProper s event → (step s e event).did.reset ≡ Some (cause.Found found) → found.0 ≤ 0x0B
+found_low s e event found r proper h = subst IsLowCause h (low-cause s e event (step s e event).did (step s e event).sent (reacts s e event r proper))
+
+-- the code of a Reset frame that an end sends
+pub sent_low : (s : Setup) (e : List Deed) (event : Move) → IsRun s e → IsProper s event → has_command command.Reset (step s e event).sent ≡ true → IsOwnReset s (step s e event).sent
+sent_low s e event r proper h = resets-low s e event (step s e event).did (step s e event).sent (reacts s e event r proper) h
