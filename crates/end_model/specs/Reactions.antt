@@ -21,7 +21,7 @@ use Rattle.param_load.specs.declared.entry.Move.TheVariants as move
 use Rattle.param_load.specs.declared.master_settings.MasterSettings.{MasterSettings}
 use Rattle.param_load.specs.declared.slave_settings.SlaveSettings.{SlaveSettings}
 use Rattle.param_load.specs.Profile.{allows_id}
-use Rattle.end_model.specs.Setup.{Setup, OfMaster, OfSlave, sends, receives, piece_len, profile_of}
+use Rattle.end_model.specs.Setup.{Setup, OfMaster, OfSlave, IsMaster, IsSlave, sends, receives, piece_len, profile_of}
 use Rattle.end_model.specs.Phases.{phase_of, has_command}
 use Rattle.end_model.specs.Deed.{Deed, is_empty}
 use Rattle.end_model.specs.Chain.{since, own, taken, kept, fits}
@@ -29,16 +29,6 @@ use Rattle.end_model.specs.Payloads.{pay, pieces, count_in, session_id}
 use Rattle.end_model.specs.Readiness.{state_of, age, limit, allowed, is_done}
 use Rattle.end_model.specs.Verdict.{Verdict, Refused, Wrong, has_conn, contents, verdict}
 use Rattle.end_model.specs.Step.{takes, begun, with_data, slave_answer, download_frame}
-
--- the setup is a master's
-abbrev pub IsMaster : Setup → Type 0
-IsMaster (OfMaster ms) = Unit {0}
-IsMaster (OfSlave ss) = ⊥
-
--- the setup is a slave's
-abbrev pub IsSlave : Setup → Type 0
-IsSlave (OfMaster ms) = ⊥
-IsSlave (OfSlave ss) = Unit {0}
 
 -- an end counts ticks: a master in each state, a slave outside state Reset
 abbrev pub CountsTicks : Setup → List Deed → Type 0

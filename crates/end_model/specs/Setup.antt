@@ -12,6 +12,16 @@ pub data Setup : Type 0 where
   OfMaster : MasterSettings → Setup
   OfSlave : SlaveSettings → Setup
 
+-- the setup is a master's
+abbrev pub IsMaster : Setup → Type 0
+IsMaster (OfMaster ms) = Unit {0}
+IsMaster (OfSlave ss) = ⊥
+
+-- the setup is a slave's
+abbrev pub IsSlave : Setup → Type 0
+IsSlave (OfMaster ms) = ⊥
+IsSlave (OfSlave ss) = Unit {0}
+
 -- which end is set so
 abbrev pub end_of : Setup → End
 end_of (OfMaster ms) = end_name.Master

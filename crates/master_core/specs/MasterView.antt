@@ -12,6 +12,6 @@ pub record MasterView : Type 0 where
   pub timer : Timer
 
 -- the state was made under the settings, whose watchdog is the limit in every state
-pub record IsMaster (v : MasterView) : Type 0 where
+pub record IsSoundMaster (v : MasterView) : Type 0 where
   pub under : IsUnder v.kit.settings v.state
   pub limit_is : v.timer.limit ≡ v.kit.settings.watchdog

@@ -23,13 +23,13 @@ pub struct Master {
 }
 
 impl Model for Master {
-    ghost use Rattle.master_core.specs.MasterView.{MasterView, IsMaster};
+    ghost use Rattle.master_core.specs.MasterView.{MasterView, IsSoundMaster};
 
     ghost Value = { MasterView };
 
     ghost view = { λ m. record { kit = m.kit; state = m.state; timer = m.watchdog } };
 
-    ghost invariant = { λ m. IsMaster (record { kit = m.kit; state = m.state; timer = m.watchdog }) };
+    ghost invariant = { λ m. IsSoundMaster (record { kit = m.kit; state = m.state; timer = m.watchdog }) };
 }
 
 impl Master {

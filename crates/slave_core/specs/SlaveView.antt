@@ -16,6 +16,6 @@ abbrev pub started : ℕ → Timer
 started limit = record { limit = limit; age = 0 }
 
 -- the state was made under the settings, and in state Reset no tick is counted
-pub record IsSlave (v : SlaveView) : Type 0 where
+pub record IsSoundSlave (v : SlaveView) : Type 0 where
   pub under : IsUnder v.kit.settings v.state
   pub at_rest : IsTrue (is_reset v.state) → v.timer ≡ started v.kit.settings.hand

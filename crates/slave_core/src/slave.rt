@@ -23,13 +23,13 @@ pub struct Slave {
 }
 
 impl Model for Slave {
-    ghost use Rattle.slave_core.specs.SlaveView.{SlaveView, IsSlave};
+    ghost use Rattle.slave_core.specs.SlaveView.{SlaveView, IsSoundSlave};
 
     ghost Value = { SlaveView };
 
     ghost view = { λ s. record { kit = s.kit; state = s.state; timer = s.watchdog } };
 
-    ghost invariant = { λ s. IsSlave (record { kit = s.kit; state = s.state; timer = s.watchdog }) };
+    ghost invariant = { λ s. IsSoundSlave (record { kit = s.kit; state = s.state; timer = s.watchdog }) };
 }
 
 impl Slave {
