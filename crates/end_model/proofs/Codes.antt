@@ -1,5 +1,6 @@
 -- The codes that an end finds and sends are at most 0Bh.
 use Rattle.std.proofs.Common.{◌≡◌, ◌==◌, ◌≤◌, ◌+◌, ℕ, nat_eq, nat_le, nat_lt, Bool, true, false, ◌&&◌, not, List, ◌++◌, length, take, Option, Some, None, IfSome, IfErr, Result, Ok, Err, if◌then◌else◌, refl, subst, arith}
+use Rattle.std.specs.Option.{option_or}
 use Rattle.std.specs.Cmp.Lexicographic.{pointwise}
 use Rattle.fsoe_base.specs.declared.command.Code.{Code}
 use Rattle.fsoe_base.specs.declared.command.State.{State}
@@ -21,7 +22,7 @@ use Rattle.param_load.specs.declared.master_settings.MasterSettings.{MasterSetti
 use Rattle.param_load.specs.declared.slave_settings.SlaveSettings.{SlaveSettings}
 use Rattle.param_load.specs.declared.profile.Profile.{Profile}
 use Rattle.param_load.specs.AppRule.{rule_len}
-use Rattle.param_load.specs.Contents.{or_else, fails, word_is, communication_fault, field_fault}
+use Rattle.param_load.specs.Contents.{fails, word_is, communication_fault, field_fault}
 use Rattle.param_load.specs.Payload.{number_at}
 use Rattle.param_load.specs.Profile.{id_len}
 use Rattle.end_model.specs.Setup.{Setup, OfMaster, OfSlave, piece_len}
@@ -58,7 +59,7 @@ unless-with : (b : Bool) (n : ℕ) → n ≤ 0x0B → IsLow (if b then None else
 unless-with true n h = none-low
 unless-with false n h = record { low = h }
 
-first-low : (first second : Option Code) → IsLow first → IsLow second → IsLow (or_else first second)
+first-low : (first second : Option Code) → IsLow first → IsLow second → IsLow (option_or first second)
 first-low None second h k = k
 first-low (Some found) second h k = h
 

@@ -1,5 +1,6 @@
 -- The payloads of a handshake and the terms of a connection, by looking back. Widths, order, pieces and padding are this profile's own.
-use Rattle.std.specs.Prelude.{ℕ, suc, ◌+◌, ◌-◌, ◌*◌, ◌/◌, nat_le, List, [], ◌∷◌, ◌++◌, length, take, drop, Bool, false, Option, Some, None, if◌then◌else◌}
+use Rattle.std.specs.Prelude.{ℕ, suc, ◌+◌, ◌-◌, ◌*◌, ◌/◌, nat_le, List, [], ◌∷◌, ◌++◌, length, take, drop, Bool, false, Option, Some, None, unwrap_or, if◌then◌else◌}
+use Rattle.std.specs.Option.{option_or}
 use Rattle.fsoe_base.specs.declared.command.State.{State}
 use Rattle.fsoe_base.specs.declared.command.State.TheVariants as state
 use Rattle.fsoe_base.specs.declared.command.Command.TheVariants as command
@@ -18,16 +19,6 @@ use Rattle.end_model.specs.Phases.{phase_of, phase_of_frame, same_phase, has_com
 use Rattle.end_model.specs.Deed.{Deed, of_session}
 use Rattle.end_model.specs.Chain.{since, taken}
 
--- the first where it is there, else the second
-abbrev pub or_else : Option ℕ → ℕ → ℕ
-or_else None n = n
-or_else (Some first) n = first
-
--- the same, where the second may be missing too
-abbrev pub first_some : Option ℕ → Option ℕ → Option ℕ
-first_some None second = second
-first_some (Some first) second = Some first
-
 -- the nonce after an event
 abbrev pub nonce_after : Move → ℕ → ℕ
 nonce_after (move.Nonce id) before = id
@@ -43,12 +34,12 @@ abbrev pub id_sent : Setup → List Deed → Option ℕ
 id_sent s [] = None
 id_sent s (x ∷ e) =
     if has_command command.Reset x.sent then None
-    else if has_command command.Session x.sent then first_some (id_sent s e) (Some (nonce s e))
+    else if has_command command.Session x.sent then option_or (id_sent s e) (Some (nonce s e))
     else id_sent s e
 
 -- the session id: the nonce before the session's first Session frame was sent, and the present nonce until then
 abbrev pub session_id : Setup → List Deed → ℕ
-session_id s e = or_else (id_sent s e) (nonce s e)
+session_id s e = unwrap_or (id_sent s e) (nonce s e)
 
 -- what a master downloads in a phase
 abbrev pub pay : MasterSettings → ℕ → State → List ℕ
@@ -116,7 +107,7 @@ conn_in l f = if has_command command.Connection f then Some (frame_of l f).conn 
 -- the connection id of the first Connection frame
 abbrev pub first_conn : ℕ → List (List ℕ) → Option ℕ
 first_conn l [] = None
-first_conn l (f ∷ frames) = first_some (first_conn l frames) (conn_in l f)
+first_conn l (f ∷ frames) = option_or (first_conn l frames) (conn_in l f)
 
 -- the connection id of a slave's session, if a Connection frame brought it
 abbrev pub slave_conn : SlaveSettings → List Deed → Option ℕ
@@ -125,7 +116,7 @@ slave_conn ss e = first_conn ss.lengths.master (taken (since e))
 -- the connection id of the session: a master's is set, a slave's came with the first Connection frame
 abbrev pub conn_id : Setup → List Deed → ℕ
 conn_id (OfMaster ms) e = ms.conn
-conn_id (OfSlave ss) e = or_else (slave_conn ss e) 0
+conn_id (OfSlave ss) e = unwrap_or (slave_conn ss e) 0
 
 -- the terms that the joined bytes of the phases Connection and Parameter say
 abbrev pub terms_in : Profile → List ℕ → List ℕ → Terms

@@ -56,7 +56,7 @@ pub data IsNextPhase : Command → Command → Type 0 where
 abbrev pub parts : Setup → List ℕ → Frame
 parts s bytes = frame_of (receives s) bytes
 
--- a frame that comes as far as the tests of its command: it has the length of the peer's frames, isn't the one that was taken
+-- a frame that comes as far as the tests of its command: it has the length of the peer's frames, isn't the one that is kept as taken
 -- last, and its first byte stands for this command, or for none
 pub record IsRead (s : Setup) (e : List Deed) (bytes : List ℕ) (c : Option Command) : Type 0 where
   pub has_length : length bytes ≡ frame_len (receives s)
@@ -208,7 +208,7 @@ pub data Reaction (s : Setup) (e : List Deed) : Move → Did → List ℕ → Ty
   ResetsItself : Reaction s e move.Local (resets false cause.Local) (reset_frame 0 (sends s))
   -- a frame hasn't the length of the peer's frames
   DropsLength : (bytes : List ℕ) → length bytes ≢ frame_len (receives s) → Reaction s e (move.Deliver bytes) (dropped why.Length) []
-  -- a frame is the one that was taken last: outside state Reset alone, as nothing is kept there
+  -- a frame is the one that is kept as taken last: outside state Reset alone, as nothing is kept there
   DropsRepeat : (bytes : List ℕ) → length bytes ≡ frame_len (receives s) → kept (since e) ≡ Some bytes
       → state_of s e ≢ state.Reset → Reaction s e (move.Deliver bytes) (dropped why.Repeat) []
   -- a frame fails a test in state Reset

@@ -30,7 +30,7 @@ pub data Verdict : Type 0 where
   Valid : Command → List ℕ → Verdict
   -- the frame hasn't the length of the peer's frames
   WrongLength : Verdict
-  -- the frame is the one that was taken last
+  -- the frame is the one that is kept as taken last
   Repeated : Verdict
   -- a test up to that of the CRCs fails with this code
   Refused : Code → Verdict
@@ -117,7 +117,7 @@ judged s e f None = Refused (code 0x02)
 judged s e f (Some command.Reset) = judged_reset f.load (reset_view f)
 judged s e f (Some c) = judged_session s e c f
 
--- whether these are the bytes of the frame that was taken last
+-- whether these are the bytes of the frame that is kept as taken last
 abbrev pub is_repeat : Option (List ℕ) → List ℕ → Bool
 is_repeat None bytes = false
 is_repeat (Some last) bytes = pointwise nat_eq last bytes

@@ -1,5 +1,6 @@
 -- What a slave uploads with the frames that it takes, and what it has tested of it.
 use Rattle.std.proofs.Common.{◌≡◌, ◌≢◌, ◌==◌, ℕ, ◌+◌, ◌<◌, ◌≤◌, nat_le, nat_lt, List, [], ◌∷◌, ◌++◌, length, take, drop, Bool, true, false, ◌&&◌, Option, Some, None, if◌then◌else◌, refl, sym, ap, subst, ◌∙◌, arith, inl, inr}
+use Rattle.std.specs.Option.{option_or}
 use Rattle.std.proofs.lemmas.Bool.{eqb-true, cases_lt}
 use Rattle.std.proofs.lemmas.Bool.Decides.{nat_tests}
 use Rattle.std.proofs.lemmas.List.{get_or_append_left}
@@ -18,7 +19,7 @@ use Rattle.param_load.specs.declared.profile.Profile.{Profile}
 use Rattle.param_load.specs.declared.profile.Profile.TheVariants as profile
 use Rattle.param_load.specs.declared.slave_settings.SlaveSettings.{SlaveSettings}
 use Rattle.param_load.specs.AppRule.{rule_len}
-use Rattle.param_load.specs.Contents.{or_else, fails, word_is, communication_fault, app_fault, app_part, field_fault, padding_fault, contents_fault}
+use Rattle.param_load.specs.Contents.{fails, word_is, communication_fault, app_fault, app_part, field_fault, padding_fault, contents_fault}
 use Rattle.param_load.specs.Payload.{number_at}
 use Rattle.param_load.specs.Profile.{id_len}
 use Rattle.end_model.specs.Setup.{OfSlave, piece_len, receives}
@@ -92,7 +93,7 @@ passed false true b x y z w h = absurd (cc h)
 passed false false true x y z w h = absurd (cc h)
 passed false false false x y z w h = record { version = refl; word = refl }
 
-first : (a b : Option Code) → or_else a b ≡ None → a ≡ None
+first : (a b : Option Code) → option_or a b ≡ None → a ≡ None
 first None b h = refl
 first (Some x) b h = absurd (cc h)
 

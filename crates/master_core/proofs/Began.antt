@@ -1,5 +1,6 @@
 -- A Reset frame that is taken: in state Reset it begins a session.
-use Rattle.std.proofs.Common.{◌≡◌, ℕ, ◌-◌, ◌*◌, ◌==◌, Bool, true, false, List, ◌∷◌, length, Option, Some, None, if◌then◌else◌, refl, sym, ap, subst, ◌∙◌}
+use Rattle.std.proofs.Common.{◌≡◌, ℕ, ◌-◌, ◌*◌, ◌==◌, Bool, true, false, List, ◌∷◌, length, Option, Some, None, unwrap_or, if◌then◌else◌, refl, sym, ap, subst, ◌∙◌}
+use Rattle.std.specs.Option.{option_or}
 use Rattle.fsoe_base.specs.declared.command.Code.{Code}
 use Rattle.fsoe_base.specs.declared.command.Command.{Command}
 use Rattle.fsoe_base.specs.declared.command.Command.TheVariants as command
@@ -18,7 +19,7 @@ use Rattle.param_load.specs.Payload.{session_payload, piece_from, padded}
 use Rattle.end_model.specs.Setup.{Setup, OfMaster, sends, receives, piece_len}
 use Rattle.end_model.specs.Deed.{Deed, is_empty}
 use Rattle.end_model.specs.Chain.{since, taken, newest_crc, own_link, seal}
-use Rattle.end_model.specs.Payloads.{or_else, first_some, nonce}
+use Rattle.end_model.specs.Payloads.{nonce}
 use Rattle.end_model.specs.Readiness.{state_of}
 use Rattle.end_model.specs.Step.{takes, on_reset_frame, begun, deed_of}
 use Rattle.end_model.proofs.Links.{taken_crc}
@@ -56,15 +57,15 @@ first_load ms e = padded (piece_from (session_payload (nonce (OfMaster ms) e) ms
 abbrev begun_outcome : MasterSettings → List Deed → List ℕ → Outcome
 begun_outcome ms e bytes = answered_by (begins (view_in state.Reset ms e) (code 0) (came ms bytes))
 
-first-id : (o : Option ℕ) (n : ℕ) → o ≡ None → first_some o (Some n) ≡ Some n
-first-id o n h = ap (λ (o : Option ℕ). first_some o (Some n)) h
+first-id : (o : Option ℕ) (n : ℕ) → o ≡ None → option_or o (Some n) ≡ Some n
+first-id o n h = ap (λ (o : Option ℕ). option_or o (Some n)) h
 
 begins-after : (ms : MasterSettings) (e : List Deed) (bytes : List ℕ) → notes_of ms e ≡ no_notes ms → Arrived ms bytes → Sound ms e → After ms e bytes command.Reset (begun_outcome ms e bytes).sent (begun_outcome ms e bytes).master
 begins-after ms e bytes h a s =
     let c : ℕ = piece_len (OfMaster ms) in
     let full : length (first_load ms e) ≡ ms.lengths.master = filled_piece (session_payload (nonce (OfMaster ms) e) ms.profile) 0 c ms.lengths.master (piece_own ms) in
     let none : (notes_of ms e).chain ≡ fresh = ap (λ (n : Notes). n.chain) h in
-    let id_is : first_some (notes_of ms e).id (Some (nonce (OfMaster ms) e)) ≡ Some (nonce (OfMaster ms) e) = first-id _ _ (ap (λ (n : Notes). n.id) h) in
+    let id_is : option_or (notes_of ms e).id (Some (nonce (OfMaster ms) e)) ≡ Some (nonce (OfMaster ms) e) = first-id _ _ (ap (λ (n : Notes). n.id) h) in
     let sent_is : frame_sent fresh 0 command.Session (first_load ms e) ≡ seal (OfMaster ms) (since e) 0 command.Session (first_load ms e) = sym (sealed-fresh (OfMaster ms) (since e) 0 command.Session (first_load ms e) none) in
     record {
       view = λ r. same_master _ _ _ _ _ _ _ refl
@@ -84,7 +85,7 @@ begins-sent : (ms : MasterSettings) (e : List Deed) (bytes : List ℕ) → notes
     → (deed_of (OfMaster ms) e (move.Deliver bytes) (takes command.Reset (came ms bytes).load)).sent ≡ (begun_outcome ms e bytes).sent
 begins-sent ms e bytes h =
     let before : List Deed = begun (move.Deliver bytes) (takes command.Reset (came ms bytes).load) ∷ e in
-    let id_is : or_else (notes_of ms e).id (nonce (OfMaster ms) e) ≡ nonce (OfMaster ms) e = ap (λ (n : Notes). or_else n.id (nonce (OfMaster ms) e)) h in
+    let id_is : unwrap_or (notes_of ms e).id (nonce (OfMaster ms) e) ≡ nonce (OfMaster ms) e = ap (λ (n : Notes). unwrap_or n.id (nonce (OfMaster ms) e)) h in
     ap (λ (i : ℕ). seal (OfMaster ms) (since before) 0 command.Session (padded (piece_from (session_payload i ms.profile) ((1 - 1) * piece_len (OfMaster ms)) (piece_len (OfMaster ms))) ms.lengths.master)) id_is
     ∙ (ap (λ (n : ℕ). seal (OfMaster ms) (since before) 0 command.Session (padded (piece_from (session_payload (nonce (OfMaster ms) e) ms.profile) n (piece_len (OfMaster ms))) ms.lengths.master)) (none_before 0 (piece_len (OfMaster ms)) refl)
     ∙ sealed-fresh (OfMaster ms) (since before) 0 command.Session (first_load ms e) (ap (λ (n : Notes). n.chain) h))

@@ -1,32 +1,31 @@
 -- What holds of a master in each state, after every run.
-use Rattle.std.proofs.Common.{◌≡◌, ◌<◌, List, length, replicate, Some, None}
+use Rattle.std.proofs.Common.{◌≡◌, ◌<◌, List, [], length, replicate, Some, None, unwrap_or}
 use Rattle.fsoe_base.specs.declared.command.State.{State}
 use Rattle.fsoe_base.specs.declared.command.State.TheVariants as state
 use Rattle.param_load.specs.declared.master_settings.MasterSettings.{MasterSettings}
 use Rattle.end_model.specs.Setup.{OfMaster}
 use Rattle.end_model.specs.Deed.{Deed}
-use Rattle.end_model.specs.Payloads.{or_else}
 use Rattle.end_model.specs.Readiness.{state_of, offer, ticks}
 use Rattle.master_core.specs.States.{fresh}
-use Rattle.master_core.specs.ViewOf.{Notes, notes_of, bytes_kept}
+use Rattle.master_core.specs.ViewOf.{Notes, notes_of}
 
 abbrev pub no_notes : MasterSettings → Notes
 no_notes ms = record { chain = fresh; kept = None; id = None; session = 0; connection = 0; parameter = 0; outputs = replicate ms.lengths.slave 0 }
 
 pub record OfSession (ms : MasterSettings) (n : Notes) : Type 0 where
-  pub kept_is : n.kept ≡ Some (bytes_kept n.kept)
-  pub id_is : n.id ≡ Some (or_else n.id 0)
+  pub kept_is : n.kept ≡ Some (unwrap_or n.kept [])
+  pub id_is : n.id ≡ Some (unwrap_or n.id 0)
   pub some : 0 < n.session
   pub no_connection : n.connection ≡ 0
   pub no_parameter : n.parameter ≡ 0
 
 pub record OfConnection (ms : MasterSettings) (n : Notes) : Type 0 where
-  pub kept_is : n.kept ≡ Some (bytes_kept n.kept)
+  pub kept_is : n.kept ≡ Some (unwrap_or n.kept [])
   pub some : 0 < n.connection
   pub no_parameter : n.parameter ≡ 0
 
 pub record OfParameter (ms : MasterSettings) (n : Notes) : Type 0 where
-  pub kept_is : n.kept ≡ Some (bytes_kept n.kept)
+  pub kept_is : n.kept ≡ Some (unwrap_or n.kept [])
   pub some : 0 < n.parameter
 
 -- what a session left in each state: nothing in Reset
@@ -35,7 +34,7 @@ SoundIn state.Reset ms n = n ≡ no_notes ms
 SoundIn state.Session ms n = OfSession ms n
 SoundIn state.Connection ms n = OfConnection ms n
 SoundIn state.Parameter ms n = OfParameter ms n
-SoundIn state.Data ms n = n.kept ≡ Some (bytes_kept n.kept)
+SoundIn state.Data ms n = n.kept ≡ Some (unwrap_or n.kept [])
 
 abbrev pub SoundAt : State → MasterSettings → List Deed → Type 0
 SoundAt p ms e = SoundIn p ms (notes_of ms e)

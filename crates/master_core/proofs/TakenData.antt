@@ -1,5 +1,5 @@
 -- A data frame that passed the tests of a master: what the machine does is what looking back gives.
-use Rattle.std.proofs.Common.{◌≡◌, ℕ, Bool, true, false, List, ◌∷◌, length, replicate, Ok, Err, if◌then◌else◌, refl, sym, ap, subst}
+use Rattle.std.proofs.Common.{◌≡◌, ℕ, Bool, true, false, List, [], ◌∷◌, length, replicate, Ok, Err, if◌then◌else◌, refl, sym, ap, subst, unwrap_or}
 use Rattle.fsoe_base.specs.declared.command.Command.{Command}
 use Rattle.fsoe_base.specs.declared.command.Command.TheVariants as command
 use Rattle.fsoe_base.specs.declared.command.State.TheVariants as state
@@ -22,7 +22,7 @@ use Rattle.master_core.specs.Master.{Outcome, settles, answered_by}
 use Rattle.master_core.specs.MasterView.{MasterView}
 use Rattle.master_core.specs.States.{data_answered}
 use Rattle.master_core.specs.Views.{DataView}
-use Rattle.master_core.specs.ViewOf.{notes_of, kit_of, bytes_kept, view_in}
+use Rattle.master_core.specs.ViewOf.{notes_of, kit_of, view_in}
 use Rattle.master_core.proofs.Sound.{Sound}
 use Rattle.master_core.proofs.SameVerdict.{came}
 use Rattle.master_core.proofs.Agrees.{Agrees, master_at, same_master, resets-agree}
@@ -95,7 +95,7 @@ seen ms bytes c = record { command = c; frame = came ms bytes }
 
 -- state Data before the frame
 abbrev before : MasterSettings → List Deed → DataView
-before ms e = record { chain = (notes_of ms e).chain; terms = terms_of ms; outputs = (notes_of ms e).outputs; last = bytes_kept (notes_of ms e).kept }
+before ms e = record { chain = (notes_of ms e).chain; terms = terms_of ms; outputs = (notes_of ms e).outputs; last = unwrap_or (notes_of ms e).kept [] }
 
 abbrev data_outcome : MasterSettings → List Deed → List ℕ → Command → Bool → Outcome
 data_outcome ms e bytes c b = answered_by (settles (view_in state.Data ms e) (seen ms bytes c) (if b then Ok (next.Data (data_answered (before ms e) (seen ms bytes c))) else Err (code 0x07)))

@@ -1,5 +1,5 @@
 -- A Parameter frame that passed the tests of a master: what the machine does is what looking back gives.
-use Rattle.std.proofs.Common.{◌≡◌, ℕ, suc, ◌+◌, ◌-◌, ◌*◌, nat_lt, Bool, true, false, not, List, length, replicate, Ok, Err, if◌then◌else◌, refl, sym, ap, subst, ◌∙◌}
+use Rattle.std.proofs.Common.{◌≡◌, ℕ, suc, ◌+◌, ◌-◌, ◌*◌, nat_lt, Bool, true, false, not, List, length, replicate, Ok, Err, if◌then◌else◌, refl, sym, ap, subst, ◌∙◌, unwrap_or}
 use Rattle.fsoe_base.specs.declared.command.Command.TheVariants as command
 use Rattle.fsoe_base.specs.declared.command.State.TheVariants as state
 use Rattle.fsoe_base.specs.declared.did.Cause.TheVariants as cause
@@ -14,7 +14,7 @@ use Rattle.param_load.specs.Payload.{piece_from, padded}
 use Rattle.end_model.specs.Setup.{OfMaster, piece_len}
 use Rattle.end_model.specs.Deed.{Deed}
 use Rattle.end_model.specs.Chain.{since}
-use Rattle.end_model.specs.Payloads.{or_else, nonce, pay, pieces}
+use Rattle.end_model.specs.Payloads.{nonce, pay, pieces}
 use Rattle.end_model.specs.Readiness.{offer, held}
 use Rattle.end_model.specs.Step.{takes, on_verdict, deed_of}
 use Rattle.end_model.specs.Verdict.{judged_contents, contents, unless}
@@ -87,7 +87,7 @@ more-sent : (ms : MasterSettings) (e : List Deed) (bytes : List ℕ) → OfParam
     → nat_lt (notes_of ms e).parameter (pieces (payload ms (id_of ms e)) (piece_len (OfMaster ms))) ≡ true
     → (deed_of (OfMaster ms) e (move.Deliver bytes) (takes command.Parameter (came ms bytes).load)).sent ≡ (more_outcome ms e bytes).sent
 more-sent ms e bytes h m =
-    let id_is : or_else (notes_of ms e).id (nonce (OfMaster ms) e) ≡ or_else (notes_of ms e).id (nonce (OfMaster ms) e) = refl in
+    let id_is : unwrap_or (notes_of ms e).id (nonce (OfMaster ms) e) ≡ unwrap_or (notes_of ms e).id (nonce (OfMaster ms) e) = refl in
     choose_first _ _ _ (m)
     ∙ (ap (λ (n : ℕ). next_frame ms e bytes ms.conn command.Parameter (piece_at ms (id_of ms e) n)) (sym (next_place (notes_of ms e).parameter (piece_len (OfMaster ms)) h.some)))
 

@@ -1,5 +1,5 @@
 -- A Session frame that passed the tests of a master: what the machine does is what looking back gives.
-use Rattle.std.proofs.Common.{◌≡◌, ℕ, suc, ◌+◌, ◌-◌, ◌*◌, nat_lt, Bool, true, false, not, List, length, Some, Ok, Err, if◌then◌else◌, refl, sym, ap, subst, ◌∙◌}
+use Rattle.std.proofs.Common.{◌≡◌, ℕ, suc, ◌+◌, ◌-◌, ◌*◌, nat_lt, Bool, true, false, not, List, length, Some, unwrap_or, Ok, Err, if◌then◌else◌, refl, sym, ap, subst, ◌∙◌}
 use Rattle.fsoe_base.specs.declared.command.Command.TheVariants as command
 use Rattle.fsoe_base.specs.declared.command.State.TheVariants as state
 use Rattle.fsoe_base.specs.declared.did.Cause.TheVariants as cause
@@ -13,7 +13,7 @@ use Rattle.param_load.specs.Payload.{piece_from, padded}
 use Rattle.end_model.specs.Setup.{OfMaster, piece_len}
 use Rattle.end_model.specs.Deed.{Deed}
 use Rattle.end_model.specs.Chain.{since}
-use Rattle.end_model.specs.Payloads.{or_else, nonce, pay, pieces}
+use Rattle.end_model.specs.Payloads.{nonce, pay, pieces}
 use Rattle.end_model.specs.Step.{takes, on_verdict, deed_of}
 use Rattle.end_model.specs.Verdict.{judged_contents, contents, unless}
 use Rattle.master_core.specs.declared.now.Now.TheVariants as now
@@ -38,7 +38,7 @@ payload ms id = pay ms id state.Session
 
 -- the id that is noted
 abbrev id_of : MasterSettings → List Deed → ℕ
-id_of ms e = or_else (notes_of ms e).id 0
+id_of ms e = unwrap_or (notes_of ms e).id 0
 
 -- the phase before the frame, and after its answer
 abbrev before : MasterSettings → List Deed → ExchangeView
@@ -81,7 +81,7 @@ more-sent : (ms : MasterSettings) (e : List Deed) (bytes : List ℕ) → OfSessi
     → nat_lt (notes_of ms e).session (pieces (payload ms (id_of ms e)) (piece_len (OfMaster ms))) ≡ true
     → (deed_of (OfMaster ms) e (move.Deliver bytes) (takes command.Session (came ms bytes).load)).sent ≡ (more_outcome ms e bytes).sent
 more-sent ms e bytes h m =
-    let id_is : or_else (notes_of ms e).id (nonce (OfMaster ms) e) ≡ id_of ms e = there _ _ (nonce (OfMaster ms) e) h.id_is in
+    let id_is : unwrap_or (notes_of ms e).id (nonce (OfMaster ms) e) ≡ id_of ms e = there _ _ (nonce (OfMaster ms) e) h.id_is in
     choose_first _ _ _ (ap (λ (i : ℕ). nat_lt (notes_of ms e).session (pieces (payload ms i) (piece_len (OfMaster ms)))) id_is ∙ m)
     ∙ (ap (λ (i : ℕ). next_frame ms e bytes 0 command.Session (piece_at ms i ((suc (notes_of ms e).session - 1) * piece_len (OfMaster ms)))) id_is ∙ ap (λ (n : ℕ). next_frame ms e bytes 0 command.Session (piece_at ms (id_of ms e) n)) (sym (next_place (notes_of ms e).session (piece_len (OfMaster ms)) h.some)))
 

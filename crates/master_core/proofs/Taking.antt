@@ -1,5 +1,6 @@
 -- A frame of a session that is taken, and the frame that follows it.
-use Rattle.std.proofs.Common.{◌≡◌, ℕ, suc, ◌+◌, ◌-◌, ◌*◌, ◌<◌, ◌/◌, nat_le, nat_lt, Bool, true, false, not, List, ◌∷◌, Option, Some, if◌then◌else◌, refl, sym, ap, subst, ◌∙◌, suc-mul, arith}
+use Rattle.std.proofs.Common.{◌≡◌, ℕ, suc, ◌+◌, ◌-◌, ◌*◌, ◌<◌, ◌/◌, nat_le, nat_lt, Bool, true, false, not, List, ◌∷◌, Option, Some, unwrap_or, if◌then◌else◌, refl, sym, ap, subst, ◌∙◌, suc-mul, arith}
+use Rattle.std.specs.Option.{option_or}
 use Rattle.std.proofs.Math.Nat.{zero-mul}
 use Rattle.fsoe_base.specs.declared.command.Command.{Command}
 use Rattle.fsoe_frame.specs.Parts.{AreBytes}
@@ -8,7 +9,6 @@ use Rattle.param_load.specs.declared.entry.Move.TheVariants as move
 use Rattle.param_load.specs.declared.master_settings.MasterSettings.{MasterSettings}
 use Rattle.end_model.specs.Setup.{OfMaster}
 use Rattle.end_model.specs.Deed.{Deed}
-use Rattle.end_model.specs.Payloads.{or_else, first_some}
 use Rattle.end_model.specs.Step.{takes, deed_of}
 use Rattle.master_core.specs.Master.{Outcome}
 use Rattle.master_core.specs.MasterView.{MasterView}
@@ -52,14 +52,14 @@ choose_second true x y h = absurd (cc h)
 choose_second false x y h = refl
 
 -- an id that is there
-pub there : (o : Option ℕ) (k d : ℕ) → o ≡ Some k → or_else o d ≡ k
+pub there : (o : Option ℕ) (k d : ℕ) → o ≡ Some k → unwrap_or o d ≡ k
 there o k d h = rw h refl
 
-pub is-there : (o : Option ℕ) (k : ℕ) → o ≡ Some k → o ≡ Some (or_else o 0)
+pub is-there : (o : Option ℕ) (k : ℕ) → o ≡ Some k → o ≡ Some (unwrap_or o 0)
 is-there o k h = rw h refl
 
-pub keeps : (o next : Option ℕ) (k : ℕ) → o ≡ Some k → first_some o next ≡ Some k
-keeps o next k h = ap (λ (o : Option ℕ). first_some o next) h
+pub keeps : (o next : Option ℕ) (k : ℕ) → o ≡ Some k → option_or o next ≡ Some k
+keeps o next k h = ap (λ (o : Option ℕ). option_or o next) h
 
 pub positive : (k : ℕ) → 0 < suc k
 positive k = omega arith

@@ -1,5 +1,5 @@
 -- What contracts see of a master after these deeds, by looking back over them.
-use Rattle.std.specs.Prelude.{ℕ, ◌-◌, ◌*◌, Bool, true, false, List, [], Option, Some, None}
+use Rattle.std.specs.Prelude.{ℕ, ◌-◌, ◌*◌, Bool, true, false, List, [], Option, Some, None, unwrap_or}
 use Rattle.fsoe_base.specs.declared.command.State.{State}
 use Rattle.fsoe_base.specs.declared.command.State.TheVariants as state
 use Rattle.seq_chain.specs.declared.chain.Chain.{Chain}
@@ -7,7 +7,7 @@ use Rattle.param_load.specs.declared.master_settings.MasterSettings.{MasterSetti
 use Rattle.end_model.specs.Setup.{OfMaster, piece_len}
 use Rattle.end_model.specs.Deed.{Deed}
 use Rattle.end_model.specs.Chain.{since, own, kept, own_link, taken_link}
-use Rattle.end_model.specs.Payloads.{or_else, nonce, id_sent, pay, count_in, terms}
+use Rattle.end_model.specs.Payloads.{nonce, id_sent, pay, count_in, terms}
 use Rattle.end_model.specs.Readiness.{state_of, offer, held, ticks}
 use Rattle.end_model.specs.Outputs.{outputs}
 use Rattle.master_core.specs.declared.now.Now.{Now}
@@ -43,26 +43,21 @@ notes_of ms e = record {
   outputs = outputs (OfMaster ms) e;
 }
 
--- the bytes of the frame that was taken last, if one is kept
-abbrev pub bytes_kept : Option (List ℕ) → List ℕ
-bytes_kept None = []
-bytes_kept (Some bytes) = bytes
-
 -- a phase with this payload of which so many frames were sent: the piece of the last one is in turn
 abbrev pub exchange_of : MasterSettings → Notes → List ℕ → Bool → ℕ → ExchangeView
 exchange_of ms n payload echo count = record {
   chain = n.chain;
   download = record { payload = payload; piece = piece_len (OfMaster ms); echo = echo; from = (count - 1) * piece_len (OfMaster ms) };
-  last = bytes_kept n.kept;
+  last = unwrap_or n.kept [];
 }
 
 -- the machine's state in each state, by what is noted
 abbrev pub now_in : State → MasterSettings → Notes → Now
 now_in state.Reset ms n = now.Reset no_session
-now_in state.Session ms n = now.Session (exchange_of ms n (pay ms (or_else n.id 0) state.Session) false n.session)
+now_in state.Session ms n = now.Session (exchange_of ms n (pay ms (unwrap_or n.id 0) state.Session) false n.session)
 now_in state.Connection ms n = now.Connection (exchange_of ms n (pay ms 0 state.Connection) true n.connection)
 now_in state.Parameter ms n = now.Parameter (exchange_of ms n (pay ms 0 state.Parameter) true n.parameter)
-now_in state.Data ms n = now.Data (record { chain = n.chain; terms = terms (OfMaster ms) []; outputs = n.outputs; last = bytes_kept n.kept })
+now_in state.Data ms n = now.Data (record { chain = n.chain; terms = terms (OfMaster ms) []; outputs = n.outputs; last = unwrap_or n.kept [] })
 
 -- a master in this state after these deeds
 abbrev pub view_in : State → MasterSettings → List Deed → MasterView

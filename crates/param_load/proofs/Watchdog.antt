@@ -1,5 +1,6 @@
 -- The watchdog of an upload stays as it came.
 use Rattle.std.proofs.Common.{◌≡◌, ◌==◌, ℕ, ◌+◌, ◌≤◌, ◌<◌, nat_le, nat_lt, Bool, true, false, ◌&&◌, not, List, ◌++◌, length, Option, Some, None, if◌then◌else◌, refl, inl, inr, arith}
+use Rattle.std.specs.Option.{option_or}
 use Rattle.std.proofs.lemmas.List.{get_or_append_left}
 use Rattle.std.proofs.lemmas.Bool.Decides.{leb_tells}
 use Rattle.fsoe_base.specs.declared.command.Code.{Code}
@@ -9,12 +10,12 @@ use Rattle.param_load.specs.declared.app_rule.AppRule.{AppRule}
 use Rattle.param_load.specs.declared.profile.Profile.{Profile}
 use Rattle.param_load.specs.AppRule.{rule_len}
 use Rattle.fsoe_base.specs.Command.{code}
-use Rattle.param_load.specs.Contents.{or_else, fails, word_is, communication_fault, app_fault, app_part, field_fault, padding_fault, contents_fault}
+use Rattle.param_load.specs.Contents.{fails, word_is, communication_fault, app_fault, app_part, field_fault, padding_fault, contents_fault}
 use Rattle.param_load.specs.Profile.{id_len}
 use Rattle.param_load.specs.Payload.{number_at}
 use Rattle.param_load.specs.UploadView.{HasWatchdog}
 
-first : (a b : Option Code) → or_else a b ≡ None → a ≡ None
+first : (a b : Option Code) → option_or a b ≡ None → a ≡ None
 first None b e = refl
 first (Some x) b e = absurd (cc e)
 

@@ -2,6 +2,7 @@
 -- that were joined before the frame, and `u` all joined bytes, the frame's among them. The codes are those of the public
 -- standard; the tests and their order are this profile's own.
 use Rattle.std.specs.Prelude.{ℕ, ◌+◌, ◌==◌, nat_le, nat_lt, Bool, true, false, ◌&&◌, not, List, [], length, take, drop, Option, Some, None, if◌then◌else◌}
+use Rattle.std.specs.Option.{option_or}
 use Rattle.fsoe_base.specs.declared.command.Code.{Code}
 use Rattle.fsoe_base.specs.Bytes.{all_zero}
 use Rattle.fsoe_base.specs.Command.{code}
@@ -69,16 +70,12 @@ communication_fault most rule profile before u =
 abbrev pub app_fault : AppRule → ℕ → ℕ → List ℕ → List ℕ → Option Code
 app_fault rule last before u app = if fails before u last (allows rule app) then Some (code 0x0B) else None
 
-abbrev pub or_else : Option Code → Option Code → Option Code
-or_else None second = second
-or_else (Some first) second = Some first
-
 -- the first field that fails its test
 abbrev pub field_fault : Expected → ℕ → List ℕ → Option Code
 field_fault (expected.Session profile) before u = None
 field_fault (expected.Connection conn address) before u = connection_fault conn address before u
 field_fault (expected.Parameter most rule profile) before u =
-    or_else (communication_fault most rule profile before u)
+    option_or (communication_fault most rule profile before u)
     (app_fault rule (id_len profile + 3 + rule_len rule) before u (app_part (expected.Parameter most rule profile) u))
 
 -- the padding: the joined bytes past the payload's end, and the data of the frame past its piece
@@ -87,4 +84,4 @@ padding_fault e u rest = if all_zero (drop (expected_len e) u) && all_zero rest 
 
 -- the first test of the contents that fails: of the fields, then of the padding
 abbrev pub contents_fault : Expected → ℕ → List ℕ → List ℕ → Option Code
-contents_fault e before u rest = or_else (field_fault e before u) (padding_fault e u rest)
+contents_fault e before u rest = option_or (field_fault e before u) (padding_fault e u rest)

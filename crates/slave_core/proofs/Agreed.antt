@@ -1,5 +1,6 @@
 -- What each event leaves at the machine is what looking back gives.
-use Rattle.std.proofs.Common.{◌≡◌, ℕ, ◌+◌, ◌<◌, ◌≤◌, List, [], ◌∷◌, length, take, Bool, true, false, not, Option, Some, Result, if◌then◌else◌, refl, sym, ap, subst, ◌∙◌, arith}
+use Rattle.std.proofs.Common.{◌≡◌, ℕ, ◌+◌, ◌<◌, ◌≤◌, List, [], ◌∷◌, length, take, Bool, true, false, not, Option, Some, unwrap_or, Result, if◌then◌else◌, refl, sym, ap, subst, ◌∙◌, arith}
+use Rattle.std.specs.Option.{option_or}
 use Rattle.std.proofs.lemmas.Bool.{leb-true, eqb-true}
 use Rattle.std.proofs.lemmas.List.{length-replicate}
 use Rattle.fsoe_base.specs.declared.command.Code.{Code}
@@ -22,7 +23,7 @@ use Rattle.param_load.specs.Profile.{id_len}
 use Rattle.param_load.specs.Upload.{is_whole, upload_fault}
 use Rattle.end_model.specs.Setup.{OfSlave}
 use Rattle.end_model.specs.Deed.{Deed}
-use Rattle.end_model.specs.Payloads.{or_else, first_some, nonce, slave_conn, terms, whole}
+use Rattle.end_model.specs.Payloads.{nonce, slave_conn, terms, whole}
 use Rattle.end_model.specs.Readiness.{state_of}
 use Rattle.end_model.specs.Step.{on_verdict, did_on, deed_of, IsProper, IsRun}
 use Rattle.end_model.specs.Verdict as model
@@ -92,7 +93,7 @@ session-passed : (ss : SlaveSettings) (e : List Deed) (bytes : List ℕ) → sta
     → Came state.Session ss e bytes command.Session → Arrived ss bytes command.Session → Passed state.Session ss e bytes command.Session
 session-passed ss e bytes at s h k a =
     more-branch state.Session ss e bytes command.Session _ _ _ _ _ (is_whole (upload_of ss (expected.Session ss.profile) (notes_of ss e).session)) k.is_allowed
-    (session-agrees (model.contents (OfSlave ss) e command.Session (came ss bytes)) state.Session ss e bytes (or_else (notes_of ss e).id 0) at s (opening-session ss (count_of e) (notes_of ss e) (nonce (OfSlave ss) e) h) a)
+    (session-agrees (model.contents (OfSlave ss) e command.Session (came ss bytes)) state.Session ss e bytes (unwrap_or (notes_of ss e).id 0) at s (opening-session ss (count_of e) (notes_of ss e) (nonce (OfSlave ss) e) h) a)
 
 connects-passed : (ss : SlaveSettings) (e : List Deed) (bytes : List ℕ) → state_of (OfSlave ss) e ≡ state.Session → Sound ss e → OfSession ss (count_of e) (notes_of ss e)
     → Came state.Session ss e bytes command.Connection → Arrived ss bytes command.Connection → Passed state.Session ss e bytes command.Connection
@@ -104,7 +105,7 @@ connects-passed ss e bytes at s h k a =
     h.no_connection
     (connection-agrees (model.contents (OfSlave ss) e command.Connection (came ss bytes)) state.Session ss e bytes refl at s
     (record {
-      conn_next = ap (λ (o : Option ℕ). first_some o (Some conn)) h.no_conn;
+      conn_next = ap (λ (o : Option ℕ). option_or o (Some conn)) h.no_conn;
       conn_said = λ m. absurd (nothing-joined (notes_of ss e).connection 2 h.no_connection (omega arith) m);
       address_said = λ m. absurd (nothing-joined (notes_of ss e).connection 4 h.no_connection (omega arith) m);
       no_parameter = h.no_parameter;
@@ -116,8 +117,8 @@ connection-passed : (ss : SlaveSettings) (e : List Deed) (bytes : List ℕ) → 
     → Came state.Connection ss e bytes command.Connection → Arrived ss bytes command.Connection → Passed state.Connection ss e bytes command.Connection
 connection-passed ss e bytes at s h k a =
     let conn : ℕ = (came ss bytes).conn in
-    let is : conn ≡ or_else (slave_conn ss e) 0 = same-conn (slave_conn ss e) _ conn h.conn_is k.has_conn in
-    more-branch state.Connection ss e bytes command.Connection _ _ _ _ _ (is_whole (upload_of ss (expected.Connection (or_else (slave_conn ss e) 0) ss.address) (notes_of ss e).connection)) k.is_allowed
+    let is : conn ≡ unwrap_or (slave_conn ss e) 0 = same-conn (slave_conn ss e) _ conn h.conn_is k.has_conn in
+    more-branch state.Connection ss e bytes command.Connection _ _ _ _ _ (is_whole (upload_of ss (expected.Connection (unwrap_or (slave_conn ss e) 0) ss.address) (notes_of ss e).connection)) k.is_allowed
     (subst (λ (n : ℕ). Agrees ss e (move.Deliver bytes) (on_verdict state.Connection (OfSlave ss) (model.judged_contents command.Connection (came ss bytes).load (model.contents (OfSlave ss) e command.Connection (came ss bytes))))
     (connection_settles (upload_fault (upload_of ss (expected.Connection n ss.address) (notes_of ss e).connection) (came ss bytes).load) state.Connection ss e bytes (notes_of ss e).chain n (notes_of ss e).connection))
     is
@@ -134,7 +135,7 @@ loads-passed : (ss : SlaveSettings) (e : List Deed) (bytes : List ℕ) → state
     → Came state.Connection ss e bytes command.Parameter → Arrived ss bytes command.Parameter → RunOn state.Connection ss e bytes command.Parameter → Passed state.Connection ss e bytes command.Parameter
 loads-passed ss e bytes at s h k a run =
     let all : 4 ≤ length (notes_of ss e).connection = leb-true 4 (length (notes_of ss e).connection) k.is_allowed in
-    whole-branch state.Connection ss e bytes command.Parameter _ _ _ _ _ (is_whole (upload_of ss (expected.Connection (or_else (slave_conn ss e) 0) ss.address) (notes_of ss e).connection)) k.is_allowed
+    whole-branch state.Connection ss e bytes command.Parameter _ _ _ _ _ (is_whole (upload_of ss (expected.Connection (unwrap_or (slave_conn ss e) 0) ss.address) (notes_of ss e).connection)) k.is_allowed
     (subst (λ (u : List ℕ). Agrees ss e (move.Deliver bytes) (on_verdict state.Connection (OfSlave ss) (model.judged_contents command.Parameter (came ss bytes).load (model.contents (OfSlave ss) e command.Parameter (came ss bytes))))
     (parameter_settles (upload_fault (upload_of ss (expected.Parameter ss.most ss.rule ss.profile) u) (came ss bytes).load) state.Connection ss e bytes u))
     h.no_parameter
@@ -158,7 +159,7 @@ same_terms : (c c' a a' w n n' : ℕ) (app : List ℕ) (ss : SlaveSettings) → 
 same_terms c c' a a' w n n' app ss h i j = rw (h, i, j) refl
 
 terms-are : (ss : SlaveSettings) (e : List Deed) → IsRun (OfSlave ss) e → OfParameters ss (notes_of ss e) → whole ss.profile state.Parameter (parameters ss e) ≡ true
-    → terms_of (kit_of ss e) (or_else (slave_conn ss e) 0) ss.address (upload_of ss (expected.Parameter ss.most ss.rule ss.profile) (notes_of ss e).parameter) ≡ terms (OfSlave ss) e
+    → terms_of (kit_of ss e) (unwrap_or (slave_conn ss e) 0) ss.address (upload_of ss (expected.Parameter ss.most ss.rule ss.profile) (notes_of ss e).parameter) ≡ terms (OfSlave ss) e
 terms-are ss e run h w =
     let shows : SlaveShows ss e = slave-run ss e run in
     let all : id_len ss.profile + 4 + rule_len ss.rule ≤ length (parameters ss e) = leb-true _ _ (sym (whole_parameters ss e run) ∙ w) in

@@ -1,5 +1,6 @@
 -- What is known of a frame of a session that came, and how the chain goes on by it.
-use Rattle.std.proofs.Common.{◌≡◌, ℕ, suc, ◌+◌, ◌-◌, ◌*◌, ◌≤◌, ◌==◌, List, [], ◌∷◌, ◌++◌, length, take, drop, slice_index, Bool, true, false, Option, Some, None, if◌then◌else◌, refl, sym, ap, ◌∙◌, arith}
+use Rattle.std.proofs.Common.{◌≡◌, ℕ, suc, ◌+◌, ◌-◌, ◌*◌, ◌≤◌, ◌==◌, List, [], ◌∷◌, ◌++◌, length, take, drop, slice_index, Bool, true, false, Option, Some, None, unwrap_or, if◌then◌else◌, refl, sym, ap, ◌∙◌, arith}
+use Rattle.std.specs.Option.{option_or}
 use Rattle.std.proofs.lemmas.Grind.{common_steps}
 use Rattle.std.proofs.Common.{length-append, suc-mul}
 use Rattle.fsoe_base.specs.declared.command.Command.{Command}
@@ -21,7 +22,6 @@ use Rattle.end_model.specs.Setup.{Setup, OfSlave, sends, receives, piece_len}
 use Rattle.end_model.specs.Phases.{phase_of, phase_of_known, phase_of_frame, same_phase, has_command, is_reset}
 use Rattle.end_model.specs.Deed.{Deed, is_empty}
 use Rattle.end_model.specs.Chain.{own_link, taken_link}
-use Rattle.end_model.specs.Payloads.{or_else, first_some}
 use Rattle.end_model.specs.Step.{takes}
 use Rattle.end_model.proofs.Links.{own_crc}
 use Rattle.slave_core.specs.States.{answered}
@@ -88,10 +88,10 @@ piece-peer ss = omega arith
 from-is : (ph : State) (k c len : ℕ) → ph ≡ state.Session → len ≡ k * c → ((if same_phase state.Session ph then suc k else k) - 1) * c ≡ len
 from-is ph k c len h g = rw h (let z : suc k - 1 ≡ k = omega arith in ap (λ (j : ℕ). j * c) z ∙ sym g)
 
-pub id-piece : (p : Profile) (c : ℕ) (o : Option ℕ) (nonce i k len : ℕ) (ph : State) → ph ≡ state.Session → or_else o nonce ≡ i → len ≡ k * c
-    → piece_from (session_payload (or_else o nonce) p) (((if same_phase state.Session ph then suc k else k) - 1) * c) c ≡ piece_from (session_payload i p) len c
+pub id-piece : (p : Profile) (c : ℕ) (o : Option ℕ) (nonce i k len : ℕ) (ph : State) → ph ≡ state.Session → unwrap_or o nonce ≡ i → len ≡ k * c
+    → piece_from (session_payload (unwrap_or o nonce) p) (((if same_phase state.Session ph then suc k else k) - 1) * c) c ≡ piece_from (session_payload i p) len c
 id-piece p c o nonce i k len ph h g j =
-    ap (λ (n : ℕ). piece_from (session_payload (or_else o nonce) p) n c) (from-is ph k c len h j)
+    ap (λ (n : ℕ). piece_from (session_payload (unwrap_or o nonce) p) n c) (from-is ph k c len h j)
     ∙ ap (λ (n : ℕ). piece_from (session_payload n p) len c) g
 
 -- the count of frames, each with a piece
@@ -102,18 +102,18 @@ count-next u p k c ph h g j =
     rw h (omega arith)
 
 -- the first of these where it is there
-pub keeps : (o next : Option ℕ) (k : ℕ) → o ≡ Some k → first_some o next ≡ Some k
-keeps o next k h = ap (λ (o : Option ℕ). first_some o next) h
+pub keeps : (o next : Option ℕ) (k : ℕ) → o ≡ Some k → option_or o next ≡ Some k
+keeps o next k h = ap (λ (o : Option ℕ). option_or o next) h
 
-pub connects-first : (o : Option ℕ) (b : Bool) (k : ℕ) → b ≡ true → first_some o (Some k) ≡ Some k → first_some o (if b then Some k else None) ≡ Some k
+pub connects-first : (o : Option ℕ) (b : Bool) (k : ℕ) → b ≡ true → option_or o (Some k) ≡ Some k → option_or o (if b then Some k else None) ≡ Some k
 connects-first o b k h g = rw h g
 
-pub connects-none : (o : Option ℕ) (b : Bool) (k : ℕ) → b ≡ false → o ≡ None → first_some o (if b then Some k else None) ≡ None
+pub connects-none : (o : Option ℕ) (b : Bool) (k : ℕ) → b ≡ false → o ≡ None → option_or o (if b then Some k else None) ≡ None
 connects-none o b k h g = rw (h, g) refl
 
 -- an id that is there
-pub is-there : (o : Option ℕ) (k : ℕ) → o ≡ Some k → o ≡ Some (or_else o 0)
+pub is-there : (o : Option ℕ) (k : ℕ) → o ≡ Some k → o ≡ Some (unwrap_or o 0)
 is-there o k h = rw h refl
 
-pub there : (o : Option ℕ) (k : ℕ) → o ≡ Some k → or_else o 0 ≡ k
+pub there : (o : Option ℕ) (k : ℕ) → o ≡ Some k → unwrap_or o 0 ≡ k
 there o k h = rw h refl

@@ -1,5 +1,5 @@
 -- What holds of a slave in each state, after every run.
-use Rattle.std.proofs.Common.{◌≡◌, ◌≢◌, ℕ, ◌*◌, ◌<◌, ◌≤◌, List, [], length, replicate, Some, None}
+use Rattle.std.proofs.Common.{◌≡◌, ◌≢◌, ℕ, ◌*◌, ◌<◌, ◌≤◌, List, [], length, replicate, Some, None, unwrap_or}
 use Rattle.fsoe_base.specs.declared.command.State.{State}
 use Rattle.fsoe_base.specs.declared.command.State.TheVariants as state
 use Rattle.param_load.specs.declared.slave_settings.SlaveSettings.{SlaveSettings}
@@ -7,10 +7,10 @@ use Rattle.param_load.specs.Payload.{number_at}
 use Rattle.end_model.specs.Setup.{OfSlave, piece_len}
 use Rattle.end_model.specs.Deed.{Deed}
 use Rattle.end_model.specs.Chain.{since, taken}
-use Rattle.end_model.specs.Payloads.{or_else, count_in, terms_in}
+use Rattle.end_model.specs.Payloads.{count_in, terms_in}
 use Rattle.end_model.specs.Readiness.{state_of, offer, ticks, limit}
 use Rattle.slave_core.specs.States.{fresh}
-use Rattle.slave_core.specs.ViewOf.{Notes, notes_of, bytes_kept}
+use Rattle.slave_core.specs.ViewOf.{Notes, notes_of}
 
 -- the Session frames that were taken in this session
 abbrev pub count_of : List Deed → ℕ
@@ -30,24 +30,24 @@ no_notes ss = record {
 }
 
 pub record OfSession (ss : SlaveSettings) (count : ℕ) (n : Notes) : Type 0 where
-  pub kept_is : n.kept ≡ Some (bytes_kept n.kept)
-  pub id_is : n.id ≡ Some (or_else n.id 0)
+  pub kept_is : n.kept ≡ Some (unwrap_or n.kept [])
+  pub id_is : n.id ≡ Some (unwrap_or n.id 0)
   pub no_conn : n.conn ≡ None
   pub count_is : length n.session ≡ count * piece_len (OfSlave ss)
   pub no_connection : n.connection ≡ []
   pub no_parameter : n.parameter ≡ []
 
 pub record OfConnection (ss : SlaveSettings) (n : Notes) : Type 0 where
-  pub kept_is : n.kept ≡ Some (bytes_kept n.kept)
-  pub conn_is : n.conn ≡ Some (or_else n.conn 0)
-  pub conn_said : 2 ≤ length n.connection → number_at 0 n.connection ≡ or_else n.conn 0
+  pub kept_is : n.kept ≡ Some (unwrap_or n.kept [])
+  pub conn_is : n.conn ≡ Some (unwrap_or n.conn 0)
+  pub conn_said : 2 ≤ length n.connection → number_at 0 n.connection ≡ unwrap_or n.conn 0
   pub address_said : 4 ≤ length n.connection → number_at 2 n.connection ≡ ss.address
   pub no_parameter : n.parameter ≡ []
 
 pub record OfParameters (ss : SlaveSettings) (n : Notes) : Type 0 where
-  pub kept_is : n.kept ≡ Some (bytes_kept n.kept)
-  pub conn_is : n.conn ≡ Some (or_else n.conn 0)
-  pub conn_said : number_at 0 n.connection ≡ or_else n.conn 0
+  pub kept_is : n.kept ≡ Some (unwrap_or n.kept [])
+  pub conn_is : n.conn ≡ Some (unwrap_or n.conn 0)
+  pub conn_said : number_at 0 n.connection ≡ unwrap_or n.conn 0
   pub address_said : number_at 2 n.connection ≡ ss.address
 
 -- what a session left in each state: nothing in Reset

@@ -1,5 +1,6 @@
 -- A Connection frame that passed the tests: what the machine does is what looking back gives.
 use Rattle.std.proofs.Common.{◌≡◌, ◌==◌, ℕ, ◌+◌, ◌-◌, ◌<◌, ◌≤◌, nat_le, nat_lt, Bool, true, false, ◌&&◌, not, List, [], ◌∷◌, ◌++◌, length, take, drop, Option, Some, None, if◌then◌else◌, refl, sym, ap, subst, ◌∙◌, inl, inr, arith}
+use Rattle.std.specs.Option.{option_or}
 use Rattle.std.proofs.lemmas.List.{get_or_append_left}
 use Rattle.std.proofs.lemmas.Bool.{eqb-true}
 use Rattle.std.proofs.lemmas.Bool.Decides.{leb_tells}
@@ -11,7 +12,7 @@ use Rattle.seq_chain.specs.declared.chain.Chain.{Chain}
 use Rattle.param_load.specs.declared.contents.Expected.TheVariants as expected
 use Rattle.param_load.specs.declared.entry.Move.TheVariants as move
 use Rattle.param_load.specs.declared.slave_settings.SlaveSettings.{SlaveSettings}
-use Rattle.param_load.specs.Contents.{or_else as first_fault, fails, connection_fault, padding_fault, contents_fault}
+use Rattle.param_load.specs.Contents.{fails, connection_fault, padding_fault, contents_fault}
 use Rattle.param_load.specs.Payload.{number_at, padded}
 use Rattle.param_load.specs.Upload.{advanced, outcome_by}
 use Rattle.param_load.specs.UploadView.{UploadView}
@@ -19,7 +20,7 @@ use Rattle.end_model.specs.Setup.{OfSlave, piece_len}
 use Rattle.end_model.specs.Phases.{has_command}
 use Rattle.end_model.specs.Deed.{Deed}
 use Rattle.end_model.specs.Chain.{since, seal}
-use Rattle.end_model.specs.Payloads.{first_some, slave_conn, conn_id}
+use Rattle.end_model.specs.Payloads.{slave_conn, conn_id}
 use Rattle.end_model.specs.Readiness.{state_of, slave_limit}
 use Rattle.end_model.specs.Step.{takes, on_verdict, begun}
 use Rattle.end_model.specs.Verdict.{judged_contents, contents}
@@ -52,7 +53,7 @@ said u p k n before tested long =
       | inr t ↦ stays u p k (let l : k + 1 < length u = t.1 in omega arith) ∙ before (let l : k + 1 < length u = t.1 in omega arith)
     ]
 
-fields : (a b : Option Code) → first_fault a b ≡ None → a ≡ None
+fields : (a b : Option Code) → option_or a b ≡ None → a ≡ None
 fields None b e = refl
 fields (Some x) b e = absurd (cc e)
 
@@ -85,7 +86,7 @@ connection_settles w p ss e bytes chain conn joined =
 
 -- what is noted before a Connection frame with this connection id
 pub record Joining (ss : SlaveSettings) (e : List Deed) (conn : ℕ) : Type 0 where
-  pub conn_next : first_some (slave_conn ss e) (Some conn) ≡ Some conn
+  pub conn_next : option_or (slave_conn ss e) (Some conn) ≡ Some conn
   pub conn_said : 2 ≤ length (notes_of ss e).connection → number_at 0 (notes_of ss e).connection ≡ conn
   pub address_said : 4 ≤ length (notes_of ss e).connection → number_at 2 (notes_of ss e).connection ≡ ss.address
   pub no_parameter : (notes_of ss e).parameter ≡ []

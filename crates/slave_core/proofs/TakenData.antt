@@ -1,5 +1,6 @@
 -- A data frame that passed the tests: what the machine does is what looking back gives.
-use Rattle.std.proofs.Common.{◌≡◌, ℕ, ◌<◌, List, ◌∷◌, length, replicate, Bool, true, false, Option, Some, None, Ok, Err, if◌then◌else◌, refl, sym, ap, subst, ◌∙◌}
+use Rattle.std.proofs.Common.{◌≡◌, ℕ, ◌<◌, List, ◌∷◌, length, replicate, Bool, true, false, Option, Some, None, unwrap_or, Ok, Err, if◌then◌else◌, refl, sym, ap, subst, ◌∙◌}
+use Rattle.std.specs.Option.{option_or}
 use Rattle.std.proofs.lemmas.List.{length-replicate}
 use Rattle.fsoe_base.specs.declared.command.Command.{Command}
 use Rattle.fsoe_base.specs.declared.command.Command.TheVariants as command
@@ -19,7 +20,7 @@ use Rattle.end_model.specs.Setup.{OfSlave}
 use Rattle.end_model.specs.Phases.{is_reset}
 use Rattle.end_model.specs.Deed.{Deed}
 use Rattle.end_model.specs.Chain.{since, seal}
-use Rattle.end_model.specs.Payloads.{or_else, first_some, slave_conn, conn_id, whole}
+use Rattle.end_model.specs.Payloads.{slave_conn, conn_id, whole}
 use Rattle.end_model.specs.Readiness.{state_of, offer, held, slave_limit}
 use Rattle.end_model.specs.Step.{takes, on_verdict, begun, deed_of, IsRun}
 use Rattle.end_model.specs.Verdict.{judged_contents}
@@ -205,7 +206,7 @@ ready ss e bytes c s j a w run = record {
 }
 
 -- the connection id of the answer is that of the terms
-answer-conn : (ss : SlaveSettings) (e : List Deed) (next : Option ℕ) → Connected ss e → or_else (first_some (slave_conn ss e) next) 0 ≡ conn_of ss e
+answer-conn : (ss : SlaveSettings) (e : List Deed) (next : Option ℕ) → Connected ss e → unwrap_or (option_or (slave_conn ss e) next) 0 ≡ conn_of ss e
 answer-conn ss e next j = there _ _ (keeps (slave_conn ss e) next _ j.conn_is) ∙ sym j.conn_said
 
 pub process-agrees : (p : State) (ss : SlaveSettings) (e : List Deed) (bytes : List ℕ) → Sound ss e → Connected ss e → Arrived ss bytes command.ProcessData → whole ss.profile state.Parameter (notes_of ss e).parameter ≡ true → IsRun (OfSlave ss) e

@@ -1,5 +1,5 @@
 -- A Parameter frame that passed the tests: what the machine does is what looking back gives.
-use Rattle.std.proofs.Common.{◌≡◌, ℕ, ◌+◌, ◌-◌, ◌<◌, ◌≤◌, nat_le, Bool, true, false, List, ◌∷◌, ◌++◌, length, take, drop, Option, Some, None, if◌then◌else◌, refl, sym, ap, ◌∙◌, arith}
+use Rattle.std.proofs.Common.{◌≡◌, ℕ, ◌+◌, ◌-◌, ◌<◌, ◌≤◌, nat_le, Bool, true, false, List, ◌∷◌, ◌++◌, length, take, drop, Option, Some, None, unwrap_or, if◌then◌else◌, refl, sym, ap, ◌∙◌, arith}
 use Rattle.std.proofs.lemmas.Bool.{leb-true}
 use Rattle.fsoe_base.specs.declared.command.Code.{Code}
 use Rattle.fsoe_base.specs.declared.command.Command.TheVariants as command
@@ -18,7 +18,7 @@ use Rattle.param_load.specs.UploadView.{UploadView}
 use Rattle.end_model.specs.Setup.{OfSlave, piece_len}
 use Rattle.end_model.specs.Deed.{Deed}
 use Rattle.end_model.specs.Chain.{since, seal}
-use Rattle.end_model.specs.Payloads.{or_else, slave_conn, conn_id, whole}
+use Rattle.end_model.specs.Payloads.{slave_conn, conn_id, whole}
 use Rattle.end_model.specs.Readiness.{state_of, slave_limit}
 use Rattle.end_model.specs.Step.{takes, on_verdict, begun, deed_of, IsRun}
 use Rattle.end_model.specs.Verdict.{judged_contents}
@@ -61,13 +61,13 @@ upload_at ss joined = upload_of ss (expected.Parameter ss.most ss.rule ss.profil
 abbrev pub parameter_settles : Option Code → State → SlaveSettings → List Deed → List ℕ → List ℕ → Outcome
 parameter_settles w p ss e bytes joined =
     settles (view_in p ss e) (seen ss bytes)
-    (echo_reply command.Parameter (kit_of ss e) (notes_of ss e).chain (or_else (notes_of ss e).conn 0) (upload_at ss joined) (seen ss bytes))
-    (as_parameter (parameter_by (outcome_by w (advanced (upload_at ss joined) (came ss bytes).load)) (kit_of ss e) (notes_of ss e).chain (or_else (notes_of ss e).conn 0) ss.address (upload_at ss joined) (seen ss bytes)))
+    (echo_reply command.Parameter (kit_of ss e) (notes_of ss e).chain (unwrap_or (notes_of ss e).conn 0) (upload_at ss joined) (seen ss bytes))
+    (as_parameter (parameter_by (outcome_by w (advanced (upload_at ss joined) (came ss bytes).load)) (kit_of ss e) (notes_of ss e).chain (unwrap_or (notes_of ss e).conn 0) ss.address (upload_at ss joined) (seen ss bytes)))
 
 -- what is noted before a frame that comes once the connection id and the address are whole
 pub record Connected (ss : SlaveSettings) (e : List Deed) : Type 0 where
-  pub conn_is : slave_conn ss e ≡ Some (or_else (slave_conn ss e) 0)
-  pub conn_said : number_at 0 (notes_of ss e).connection ≡ or_else (slave_conn ss e) 0
+  pub conn_is : slave_conn ss e ≡ Some (unwrap_or (slave_conn ss e) 0)
+  pub conn_said : number_at 0 (notes_of ss e).connection ≡ unwrap_or (slave_conn ss e) 0
   pub address_said : number_at 2 (notes_of ss e).connection ≡ ss.address
 
 same_parameter : (x : Expected) (k address : ℕ) (c c' : Chain) (i i' : ℕ) (u : List ℕ) (l l' : List ℕ) → c ≡ c' → i ≡ i' → l ≡ l'
@@ -81,7 +81,7 @@ pub parameter-agrees : (w : Option Code) (p : State) (ss : SlaveSettings) (e : L
 parameter-agrees (Some x) p ss e bytes at s j a run = fault-agrees p ss e bytes true x at s
 parameter-agrees None p ss e bytes at s j a run =
     let load : List ℕ = (came ss bytes).load in
-    let conn : ℕ = or_else (slave_conn ss e) 0 in
+    let conn : ℕ = unwrap_or (slave_conn ss e) 0 in
     let c : ℕ = piece_len (OfSlave ss) in
     let u : List ℕ = (notes_of ss e).parameter ++ take c load in
     let before : List Deed = begun (move.Deliver bytes) (takes command.Parameter load) ∷ e in

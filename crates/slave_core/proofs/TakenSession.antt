@@ -1,5 +1,6 @@
 -- A Session frame that passed the tests: what the machine does is what looking back gives.
-use Rattle.std.proofs.Common.{◌≡◌, ℕ, ◌*◌, ◌<◌, List, [], ◌∷◌, length, take, true, Option, Some, None, refl, sym, ap, subst, ◌∙◌, zero-mul}
+use Rattle.std.proofs.Common.{◌≡◌, ℕ, ◌*◌, ◌<◌, List, [], ◌∷◌, length, take, true, Option, Some, None, unwrap_or, refl, sym, ap, subst, ◌∙◌, zero-mul}
+use Rattle.std.specs.Option.{option_or}
 use Rattle.fsoe_base.specs.declared.command.Code.{Code}
 use Rattle.fsoe_base.specs.declared.command.Command.TheVariants as command
 use Rattle.fsoe_base.specs.declared.command.State.{State}
@@ -15,7 +16,7 @@ use Rattle.param_load.specs.UploadView.{UploadView}
 use Rattle.end_model.specs.Setup.{OfSlave, piece_len}
 use Rattle.end_model.specs.Deed.{Deed}
 use Rattle.end_model.specs.Chain.{since, seal}
-use Rattle.end_model.specs.Payloads.{or_else, first_some, nonce}
+use Rattle.end_model.specs.Payloads.{nonce}
 use Rattle.end_model.specs.Readiness.{state_of, slave_limit}
 use Rattle.end_model.specs.Step.{takes, on_verdict, begun, id_piece}
 use Rattle.end_model.specs.Verdict.{judged_contents}
@@ -33,8 +34,8 @@ use Rattle.slave_core.proofs.Arrived.{Arrived, chain-next, piece-len, filled, pi
 
 -- what is noted before a Session frame: the id that is sent is i, and nothing came of the later phases
 pub record Opening (ss : SlaveSettings) (count : ℕ) (n : Notes) (nonce i : ℕ) : Type 0 where
-  pub id_now : or_else n.id nonce ≡ i
-  pub id_next : first_some n.id (Some nonce) ≡ Some i
+  pub id_now : unwrap_or n.id nonce ≡ i
+  pub id_next : option_or n.id (Some nonce) ≡ Some i
   pub no_conn : n.conn ≡ None
   pub count_is : length n.session ≡ count * piece_len (OfSlave ss)
   pub no_connection : n.connection ≡ []
@@ -44,10 +45,10 @@ pub opening-fresh : (ss : SlaveSettings) (count : ℕ) (n : Notes) (nonce : ℕ)
 opening-fresh ss count n nonce h =
     rw (h.0, h.1) (record { id_now = refl; id_next = refl; no_conn = refl; count_is = sym (zero-mul (piece_len (OfSlave ss))); no_connection = refl; no_parameter = refl })
 
-pub opening-session : (ss : SlaveSettings) (count : ℕ) (n : Notes) (nonce : ℕ) → OfSession ss count n → Opening ss count n nonce (or_else n.id 0)
+pub opening-session : (ss : SlaveSettings) (count : ℕ) (n : Notes) (nonce : ℕ) → OfSession ss count n → Opening ss count n nonce (unwrap_or n.id 0)
 opening-session ss count n nonce h = record {
-  id_now = ap (λ (o : Option ℕ). or_else o nonce) h.id_is;
-  id_next = ap (λ (o : Option ℕ). first_some o (Some nonce)) h.id_is;
+  id_now = ap (λ (o : Option ℕ). unwrap_or o nonce) h.id_is;
+  id_next = ap (λ (o : Option ℕ). option_or o (Some nonce)) h.id_is;
   no_conn = h.no_conn;
   count_is = h.count_is;
   no_connection = h.no_connection;
@@ -88,7 +89,7 @@ session-agrees None p ss e bytes i at s o a =
           (same_session _ _ _ _ _ _ _ _ _
           (chain-next (OfSlave ss) (since e) bytes load (seal (OfSlave ss) (since before) 0 command.Session (padded piece ss.lengths.slave)) command.Session 0 command.Session (padded piece ss.lengths.slave) refl refl (read_back (OfSlave ss) (since before) 0 command.Session (padded piece ss.lengths.slave) full)
           ∙ ap (λ (piece : List ℕ). answered (notes_of ss e).chain (seen ss bytes) 0 command.Session (padded piece ss.lengths.slave)) piece_is)
-          (ap (λ (o : Option ℕ). or_else o 0) o.id_next)
+          (ap (λ (o : Option ℕ). unwrap_or o 0) o.id_next)
           (sym (a.back r)))
           limit_is refl;
       did = refl;

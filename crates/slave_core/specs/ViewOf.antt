@@ -1,5 +1,5 @@
 -- What contracts see of a slave after these deeds, by looking back over them.
-use Rattle.std.specs.Prelude.{ℕ, List, [], Option, Some, None}
+use Rattle.std.specs.Prelude.{ℕ, List, [], Option, Some, None, unwrap_or}
 use Rattle.fsoe_base.specs.declared.command.State.{State}
 use Rattle.fsoe_base.specs.declared.command.State.TheVariants as state
 use Rattle.seq_chain.specs.declared.chain.Chain.{Chain}
@@ -11,7 +11,7 @@ use Rattle.param_load.specs.UploadView.{UploadView}
 use Rattle.end_model.specs.Setup.{OfSlave, piece_len}
 use Rattle.end_model.specs.Deed.{Deed}
 use Rattle.end_model.specs.Chain.{since, kept, own_link, taken_link}
-use Rattle.end_model.specs.Payloads.{or_else, nonce, id_sent, slave_conn, uploaded, terms}
+use Rattle.end_model.specs.Payloads.{nonce, id_sent, slave_conn, uploaded, terms}
 use Rattle.end_model.specs.Readiness.{state_of, offer, held, ticks, slave_age, limit}
 use Rattle.end_model.specs.Outputs.{outputs}
 use Rattle.slave_core.specs.declared.now.Now.{Now}
@@ -50,11 +50,6 @@ notes_of ss e = record {
   outputs = outputs (OfSlave ss) e;
 }
 
--- the bytes of the frame that was taken last, if one is kept
-abbrev pub bytes_kept : Option (List ℕ) → List ℕ
-bytes_kept None = []
-bytes_kept (Some bytes) = bytes
-
 -- an upload of which these bytes were joined
 abbrev pub upload_of : SlaveSettings → Expected → List ℕ → UploadView
 upload_of ss expects joined = record { expected = expects; piece = piece_len (OfSlave ss); joined = joined }
@@ -64,24 +59,24 @@ abbrev pub now_in : State → SlaveSettings → Notes → Now
 now_in state.Reset ss n = now.Reset no_session
 now_in state.Session ss n = now.Session (record {
   chain = n.chain;
-  id = or_else n.id 0;
+  id = unwrap_or n.id 0;
   upload = upload_of ss (expected.Session ss.profile) n.session;
-  last = bytes_kept n.kept;
+  last = unwrap_or n.kept [];
 })
 now_in state.Connection ss n = now.Connection (record {
   chain = n.chain;
-  conn = or_else n.conn 0;
-  upload = upload_of ss (expected.Connection (or_else n.conn 0) ss.address) n.connection;
-  last = bytes_kept n.kept;
+  conn = unwrap_or n.conn 0;
+  upload = upload_of ss (expected.Connection (unwrap_or n.conn 0) ss.address) n.connection;
+  last = unwrap_or n.kept [];
 })
 now_in state.Parameter ss n = now.Parameter (record {
   chain = n.chain;
-  conn = or_else n.conn 0;
+  conn = unwrap_or n.conn 0;
   address = ss.address;
   upload = upload_of ss (expected.Parameter ss.most ss.rule ss.profile) n.parameter;
-  last = bytes_kept n.kept;
+  last = unwrap_or n.kept [];
 })
-now_in state.Data ss n = now.Data (record { chain = n.chain; terms = n.terms; outputs = n.outputs; last = bytes_kept n.kept })
+now_in state.Data ss n = now.Data (record { chain = n.chain; terms = n.terms; outputs = n.outputs; last = unwrap_or n.kept [] })
 
 -- a slave in this state after these deeds
 abbrev pub view_in : State → SlaveSettings → List Deed → SlaveView
