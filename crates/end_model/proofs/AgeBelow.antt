@@ -12,7 +12,7 @@ use Rattle.end_model.specs.Deed.{Deed, is_empty}
 use Rattle.end_model.specs.Payloads.{whole}
 use Rattle.end_model.specs.Readiness.{state_of, ticks, slave_age, age, slave_limit, limit}
 use Rattle.end_model.specs.Step.{IsRun}
-use Rattle.end_model.specs.Reactions.{answered, Reaction, Puts, Holds, SetsNonce, Rests, Ages, Expires, SendsAgain, ResetsItself, DropsLength, DropsRepeat, DropsInReset, DropsReset, Refuses, PeerResets, Answers}
+use Rattle.end_model.specs.Reactions.{with_answer, Reaction, Puts, Holds, SetsNonce, Rests, Ages, Expires, SendsAgain, ResetsItself, DropsLength, DropsRepeat, DropsInReset, DropsReset, Refuses, PeerResets, Answers}
 use Rattle.end_model.proofs.Shown.{slave-run}
 use Rattle.end_model.proofs.SlaveShown.{SlaveShows, IsTested, Limits, limits, parameters}
 use Rattle.end_model.proofs.SoundRuns.{reacted, answer_sent}
@@ -33,7 +33,7 @@ has_limit (OfMaster ms) e r = ms.some_watchdog
 has_limit (OfSlave ss) e r = let h : SlaveShows ss e = slave-run ss e r in some-limit ss (parameters ss e) (whole ss.profile state.Parameter (parameters ss e)) h.tested refl
 
 -- a frame that was sent begins the count of ticks
-no-ticks : (s : Setup) (e : List Deed) (bytes load : List ℕ) (c : Command) (answer : List ℕ) → is_empty answer ≡ false → ticks s (answered bytes c load answer e) ≡ 0
+no-ticks : (s : Setup) (e : List Deed) (bytes load : List ℕ) (c : Command) (answer : List ℕ) → is_empty answer ≡ false → ticks s (with_answer bytes c load answer e) ≡ 0
 no-ticks s e bytes load c answer h = simp h
 
 master-below : (ms : MasterSettings) (e : List Deed) (m : Move) (d : Did) (f : List ℕ) → ticks (OfMaster ms) e < ms.watchdog → Reaction (OfMaster ms) e m d f → ticks (OfMaster ms) (deed m d f ∷ e) < ms.watchdog
@@ -52,7 +52,7 @@ master-below ms e m d f h (DropsReset bytes load master now frame other) = h
 master-below ms e m d f h (Refuses bytes passed found now fails test) = ms.some_watchdog
 master-below ms e m d f h (PeerResets bytes load now frame) = ms.some_watchdog
 master-below ms e m d f h (Answers bytes load c answer taken) =
-    let none : ticks (OfMaster ms) (answered bytes c load answer e) ≡ 0 = no-ticks (OfMaster ms) e bytes load c answer (answer_sent e bytes load (OfMaster ms) c answer taken) in
+    let none : ticks (OfMaster ms) (with_answer bytes c load answer e) ≡ 0 = no-ticks (OfMaster ms) e bytes load c answer (answer_sent e bytes load (OfMaster ms) c answer taken) in
     let p : 0 < ms.watchdog = ms.some_watchdog in
     omega arith
 
@@ -95,7 +95,7 @@ slave-below ss e m d f h p (DropsReset bytes load master now frame other) = absu
 slave-below ss e m d f h p (Refuses bytes passed found now fails test) = p
 slave-below ss e m d f h p (PeerResets bytes load now frame) = p
 slave-below ss e m d f h p (Answers bytes load c answer taken) =
-    fresh (state_of (OfSlave ss) (answered bytes c load answer e)) (ticks (OfSlave ss) (answered bytes c load answer e)) (limit (OfSlave ss) (answered bytes c load answer e))
+    fresh (state_of (OfSlave ss) (with_answer bytes c load answer e)) (ticks (OfSlave ss) (with_answer bytes c load answer e)) (limit (OfSlave ss) (with_answer bytes c load answer e))
     (no-ticks (OfSlave ss) e bytes load c answer (answer_sent e bytes load (OfSlave ss) c answer taken)) p
 
 -- the age doesn't reach the limit

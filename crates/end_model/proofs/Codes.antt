@@ -29,7 +29,7 @@ use Rattle.end_model.specs.Setup.{Setup, OfMaster, OfSlave, piece_len}
 use Rattle.end_model.specs.Phases.{has_command}
 use Rattle.end_model.specs.Deed.{Deed}
 use Rattle.end_model.specs.Payloads.{uploaded}
-use Rattle.end_model.specs.Verdict.{upload_fault, data_fault, slave_fault, master_fault, contents}
+use Rattle.end_model.specs.Verdict.{slave_upload_fault, data_fault, slave_fault, master_fault, contents}
 use Rattle.end_model.specs.Step.{step, IsProper, IsRun}
 use Rattle.end_model.specs.Codes.{IsOwnReset}
 use Rattle.end_model.specs.Reactions.{parts, Fails, UnknownCommand, WrongReset, NotAllowed, WrongConnection, WrongCrc, WrongContents, Taking, SlaveRejoins, SlaveStarts, SlaveGoesOn, SlaveNextPhase, SlaveFirstData, SlaveMoreData, MasterStarts, MasterGoesOn, MasterNextPhase, MasterFirstData, MasterMoreData, Reaction, Puts, Holds, SetsNonce, Rests, Ages, Expires, SendsAgain, ResetsItself, DropsLength, DropsRepeat, DropsInReset, DropsReset, Refuses, PeerResets, Answers}
@@ -75,7 +75,7 @@ low-field (expected.Session profile) before u = none-low
 low-field (expected.Connection conn address) before u = fails-with _ 0x03 _ (omega arith) (fails-with _ 0x06 _ (omega arith) none-low)
 low-field (expected.Parameter most rule profile) before u = first-low _ _ (low-communication most rule profile before u) (fails-with _ 0x0B None (omega arith) none-low)
 
-low-upload : (ss : SlaveSettings) (e : List Deed) (phase : State) (expects : Expected) (load : List ℕ) → IsLow (upload_fault ss e phase expects load)
+low-upload : (ss : SlaveSettings) (e : List Deed) (phase : State) (expects : Expected) (load : List ℕ) → IsLow (slave_upload_fault ss e phase expects load)
 low-upload ss e phase expects load =
     first-low (field_fault expects (length (uploaded ss phase e)) (uploaded ss phase e ++ take (piece_len (OfSlave ss)) load)) _ (low-field expects _ _) (unless-with _ 0x07 (omega arith))
 

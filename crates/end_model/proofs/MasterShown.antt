@@ -12,7 +12,7 @@ use Rattle.end_model.specs.Setup.{Setup, OfMaster}
 use Rattle.end_model.specs.Phases.{phase_of, phase_of_frame}
 use Rattle.end_model.specs.Deed.{Deed}
 use Rattle.end_model.specs.Readiness.{state_of, ticks}
-use Rattle.end_model.specs.Step.{takes, with_data}
+use Rattle.end_model.specs.Step.{takes_frame, with_data}
 use Rattle.end_model.specs.Outputs.{zeros, outputs, out_after}
 use Rattle.end_model.specs.Reactions.{IsInSession, IsNextPhase, AfterSession, AfterConnection, received, Taking, MasterStarts, MasterGoesOn, MasterNextPhase, MasterFirstData, MasterMoreData, Reaction, Puts, Holds, SetsNonce, Rests, Ages, Expires, SendsAgain, ResetsItself, DropsLength, DropsRepeat, DropsInReset, DropsReset, Refuses, PeerResets, Answers}
 use Rattle.end_model.proofs.Heads.{data_phase}
@@ -45,7 +45,7 @@ abbrev deed : Move → Did → List ℕ → Deed
 deed m d f = record { what = m; did = d; sent = f }
 
 -- a master takes a frame, and is in Data then where it took ProcessData
-master-taken : (ms : MasterSettings) (e : List Deed) (bytes load : List ℕ) (c : Command) (f : List ℕ) → IsInSession f → (phase_of c ≡ state.Data → phase_of_frame f ≡ state.Data) → MasterShows ms (deed (move.Deliver bytes) (takes c load) f ∷ e)
+master-taken : (ms : MasterSettings) (e : List Deed) (bytes load : List ℕ) (c : Command) (f : List ℕ) → IsInSession f → (phase_of c ≡ state.Data → phase_of_frame f ≡ state.Data) → MasterShows ms (deed (move.Deliver bytes) (takes_frame c load) f ∷ e)
 master-taken ms e bytes load command.Reset f h k = let a = h.in_session in let b = h.sent in let p : 0 < ms.watchdog = ms.some_watchdog in record { outs = λ n. simp (a, b) (sym (shown-zeros (OfMaster ms) (phase_of_frame f) _)); young = λ k. simp b p; none = λ k. simp a }
 master-taken ms e bytes load command.Session f h k = let a = h.in_session in let b = h.sent in let p : 0 < ms.watchdog = ms.some_watchdog in record { outs = λ n. simp (a, b) (sym (shown-zeros (OfMaster ms) (phase_of_frame f) _)); young = λ k. simp b p; none = λ k. simp a }
 master-taken ms e bytes load command.Connection f h k = let a = h.in_session in let b = h.sent in let p : 0 < ms.watchdog = ms.some_watchdog in record { outs = λ n. simp (a, b) (sym (shown-zeros (OfMaster ms) (phase_of_frame f) _)); young = λ k. simp b p; none = λ k. simp a }
@@ -70,7 +70,7 @@ no-data-yet : (c next : Command) → IsNextPhase c next → phase_of c ≢ state
 no-data-yet c next AfterSession = λ k. cc
 no-data-yet c next AfterConnection = λ k. cc
 
-master-took : (ms : MasterSettings) (e : List Deed) (bytes load : List ℕ) (c : Command) (f : List ℕ) → Taking e bytes load (OfMaster ms) c f → MasterShows ms (deed (move.Deliver bytes) (takes c load) f ∷ e)
+master-took : (ms : MasterSettings) (e : List Deed) (bytes load : List ℕ) (c : Command) (f : List ℕ) → Taking e bytes load (OfMaster ms) c f → MasterShows ms (deed (move.Deliver bytes) (takes_frame c load) f ∷ e)
 master-took ms e bytes load c f (MasterStarts _ _ now none frame zero made sent after) = master-taken ms e bytes load command.Reset f sent (λ k. cc)
 master-took ms e bytes load c f (MasterGoesOn _ _ _ is now part x) = master-taken ms e bytes load c f x.in_session (λ k. absurd (handshake-data c is k))
 master-took ms e bytes load c f (MasterNextPhase _ _ next _ is now whole x) = master-taken ms e bytes load c f x.in_session (λ k. absurd (no-data-yet c next is k))

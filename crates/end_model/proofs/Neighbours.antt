@@ -17,9 +17,9 @@ use Rattle.end_model.specs.Setup.{Setup, OfMaster, OfSlave, sends, receives}
 use Rattle.end_model.specs.Deed.{Deed, is_empty}
 use Rattle.end_model.specs.Chain.{since, own, taken, newest_crc, own_link}
 use Rattle.end_model.specs.Readiness.{offer}
-use Rattle.end_model.specs.Step.{takes, IsRun}
+use Rattle.end_model.specs.Step.{takes_frame, IsRun}
 use Rattle.end_model.specs.Neighbours.{IsOtherThanNewest, NeighboursDiffer}
-use Rattle.end_model.specs.Reactions.{received, answered, Taking, Reaction, Expires, SendsAgain, ResetsItself, Refuses, PeerResets, Answers}
+use Rattle.end_model.specs.Reactions.{received, with_answer, Taking, Reaction, Expires, SendsAgain, ResetsItself, Refuses, PeerResets, Answers}
 use Rattle.end_model.proofs.Heads.{IsInSession}
 use Rattle.end_model.proofs.SoundRuns.{reacted}
 use Rattle.end_model.proofs.Taken.{exchange_of, answer_is, master_answers}
@@ -78,16 +78,16 @@ goes_on s e m did f here h so_far =
     subst (NeighboursDiffer (sends s)) (sym (newest s e (record { what = m; did = did; sent = f }) here)) (other_sent s m did e f h, so_far)
 
 answers : (s : Setup) (e : List Deed) (bytes load : List ℕ) (c : Command) (f : List ℕ) → Taking e bytes load s c f → length (offer s e) ≡ sends s → NeighboursDiffer (sends s) (own (since e))
-    → NeighboursDiffer (sends s) (own (since (answered bytes c load f e)))
+    → NeighboursDiffer (sends s) (own (since (with_answer bytes c load f e)))
 answers (OfMaster ms) e bytes load c f taking len so_far =
     let draft : List Deed = received bytes c load e in
-    goes_on (OfMaster ms) e (move.Deliver bytes) (takes c load) f (master_answers e bytes load ms c f taking)
+    goes_on (OfMaster ms) e (move.Deliver bytes) (takes_frame c load) f (master_answers e bytes load ms c f taking)
     (subst (IsSealed (OfMaster ms) draft) (sym (answer_is e bytes load (OfMaster ms) c f taking)) (master_sealed ms draft c len)) so_far
 answers (OfSlave ss) e bytes load command.Reset f taking len so_far =
-    subst (λ (f : List ℕ). NeighboursDiffer (sends (OfSlave ss)) (own (since (answered bytes command.Reset load f e)))) (sym (answer_is e bytes load (OfSlave ss) command.Reset f taking)) tt
+    subst (λ (f : List ℕ). NeighboursDiffer (sends (OfSlave ss)) (own (since (with_answer bytes command.Reset load f e)))) (sym (answer_is e bytes load (OfSlave ss) command.Reset f taking)) tt
 answers (OfSlave ss) e bytes load c f taking len so_far =
     let draft : List Deed = received bytes c load e in
-    goes_on (OfSlave ss) e (move.Deliver bytes) (takes c load) f (exchange_of e bytes load (OfSlave ss) c f taking (λ k. cc)).2.in_session
+    goes_on (OfSlave ss) e (move.Deliver bytes) (takes_frame c load) f (exchange_of e bytes load (OfSlave ss) c f taking (λ k. cc)).2.in_session
     (subst (IsSealed (OfSlave ss) draft) (sym (answer_is e bytes load (OfSlave ss) c f taking)) (slave_sealed ss draft c load refl len)) so_far
 
 -- one more deed: an answer is another frame, a Reset frame begins a session, and else none is sent

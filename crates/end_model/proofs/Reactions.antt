@@ -20,8 +20,8 @@ use Rattle.end_model.specs.Deed.{Deed}
 use Rattle.end_model.specs.Chain.{since, kept}
 use Rattle.end_model.specs.Readiness.{state_of, age, limit, is_done}
 use Rattle.end_model.specs.Verdict.{Verdict, verdict}
-use Rattle.end_model.specs.Step.{takes, on_fault, on_reset_frame, on_verdict, on_expiry, with_data, slave_answer, download_frame, after_phase, deed_of, step, IsProper}
-use Rattle.end_model.specs.Reactions.{HasNoSession, IsHandshake, OfSession, OfConnection, OfParameter, AfterSession, AfterConnection, IsResetFrame, IsValid, Fails, fault, received, answered, pieces_sent, all_pieces, IsExchange, Taking, SlaveRejoins, SlaveStarts, SlaveGoesOn, SlaveNextPhase, SlaveFirstData, SlaveMoreData, MasterStarts, MasterGoesOn, MasterNextPhase, MasterFirstData, MasterMoreData, Puts, Holds, SetsNonce, Rests, Ages, Expires, SendsAgain, ResetsItself, DropsLength, DropsRepeat, DropsInReset, DropsReset, Refuses, PeerResets, Answers, IsReaction}
+use Rattle.end_model.specs.Step.{takes_frame, on_fault, on_reset_frame, on_verdict, on_expiry, with_data, slave_answer, download_frame, after_phase, deed_of, step, IsProper}
+use Rattle.end_model.specs.Reactions.{HasNoSession, IsHandshake, OfSession, OfConnection, OfParameter, AfterSession, AfterConnection, IsResetFrame, IsValid, Fails, failed_with, received, with_answer, pieces_sent, all_pieces, IsExchange, Taking, SlaveRejoins, SlaveStarts, SlaveGoesOn, SlaveNextPhase, SlaveFirstData, SlaveMoreData, MasterStarts, MasterGoesOn, MasterNextPhase, MasterFirstData, MasterMoreData, Puts, Holds, SetsNonce, Rests, Ages, Expires, SendsAgain, ResetsItself, DropsLength, DropsRepeat, DropsInReset, DropsReset, Refuses, PeerResets, Answers, IsReaction}
 use Rattle.end_model.proofs.Heads.{IsInSession, master_frame, slave_frame, data_phase}
 use Rattle.end_model.proofs.Judged.{Judged, HasOtherLength, IsKept, FailsTest, FailsContents, ResetsFrame, IsNext, is_judged}
 use Rattle.end_model.proofs.Ways.{SlaveWay, Start, More, Next, First, Data, slave_way, MasterWay, Echo, Reply, master_way}
@@ -40,7 +40,7 @@ elsewhere : (now p : State) → now ≡ p → p ≢ state.Reset → now ≢ stat
 elsewhere now p h n = λ k. n (sym h ∙ k)
 
 -- a slave is in the phase of the frame that it took
-slave-after : (ss : SlaveSettings) (e : List Deed) (bytes load : List ℕ) (c : Command) (answer : List ℕ) → is_reset c ≡ false → IsInSession answer → state_of (OfSlave ss) (answered bytes c load answer e) ≡ phase_of c
+slave-after : (ss : SlaveSettings) (e : List Deed) (bytes load : List ℕ) (c : Command) (answer : List ℕ) → is_reset c ≡ false → IsInSession answer → state_of (OfSlave ss) (with_answer bytes c load answer e) ≡ phase_of c
 slave-after ss e bytes load command.Reset answer n f = cc
 slave-after ss e bytes load command.Session answer n f = let a = f.in_session in simp a
 slave-after ss e bytes load command.Connection answer n f = let a = f.in_session in simp a
@@ -49,7 +49,7 @@ slave-after ss e bytes load command.FailSafeData answer n f = let a = f.in_sessi
 slave-after ss e bytes load command.ProcessData answer n f = let a = f.in_session in simp a
 
 -- a master is in the phase of the frame that it sent
-master-after : (ms : MasterSettings) (e : List Deed) (bytes load : List ℕ) (c : Command) (answer : List ℕ) (p : State) → IsInSession answer → phase_of_frame answer ≡ p → state_of (OfMaster ms) (answered bytes c load answer e) ≡ p
+master-after : (ms : MasterSettings) (e : List Deed) (bytes load : List ℕ) (c : Command) (answer : List ℕ) (p : State) → IsInSession answer → phase_of_frame answer ≡ p → state_of (OfMaster ms) (with_answer bytes c load answer e) ≡ p
 master-after ms e bytes load c answer p f h = let a = f.in_session in let b = f.sent in simp (a, b) h
 
 no-reset : (c : Command) → c ≢ command.Reset → is_reset c ≡ false
@@ -113,7 +113,7 @@ piece-phase ms e c k OfParameter = refl
 
 -- the state after a master sent a piece
 piece-after : (ms : MasterSettings) (e : List Deed) (bytes load : List ℕ) (c next : Command) (k : ℕ) → IsHandshake next
-    → state_of (OfMaster ms) (answered bytes c load (download_frame ms (received bytes c load e) next k) e) ≡ phase_of next
+    → state_of (OfMaster ms) (with_answer bytes c load (download_frame ms (received bytes c load e) next k) e) ≡ phase_of next
 piece-after ms e bytes load c next k is =
     master-after ms e bytes load c (download_frame ms (received bytes c load e) next k) (phase_of next) (piece-in ms (received bytes c load e) next k is) (piece-phase ms (received bytes c load e) next k is)
 
@@ -151,7 +151,7 @@ master-next ms e bytes load c false OfParameter now valid h =
     MasterFirstData ms _ now (ltb-false (pieces_sent e state.Parameter) (all_pieces ms e state.Parameter) h) (data-exchange ms e bytes load command.Parameter valid)
 
 abbrev is_next : Setup → List Deed → List ℕ → List ℕ → Command → Type 0
-is_next s e bytes load c = IsReaction s e (deed_of s e (move.Deliver bytes) (takes c load))
+is_next s e bytes load c = IsReaction s e (deed_of s e (move.Deliver bytes) (takes_frame c load))
 
 master-echo : (ms : MasterSettings) (e : List Deed) (bytes load : List ℕ) (c : Command) → IsHandshake c → state_of (OfMaster ms) e ≡ phase_of c → IsValid (OfMaster ms) e bytes c load → is_next (OfMaster ms) e bytes load c
 master-echo ms e bytes load c OfSession now valid = Answers bytes load command.Session _ (master-next ms e bytes load command.Session (nat_lt (pieces_sent e state.Session) (all_pieces ms e state.Session)) OfSession now valid refl)
@@ -177,7 +177,7 @@ by-valid (OfMaster ms) e bytes load c sound n valid = master-takes ms e bytes lo
 by-valid (OfSlave ss) e bytes load c sound n valid =
     Answers bytes load c _ (slave-takes ss e bytes load c n sound valid (slave_way (λ phase. is_done ss phase e) (state_of (OfSlave ss) e) c n valid.is_allowed))
 
-by-fault : (s : Setup) (e : List Deed) (bytes : List ℕ) (now : State) (passed : Bool) (found : Code) → state_of s e ≡ now → verdict s e bytes ≡ fault passed found → Fails s e bytes passed found → IsReaction s e (deed_of s e (move.Deliver bytes) (on_fault now passed found))
+by-fault : (s : Setup) (e : List Deed) (bytes : List ℕ) (now : State) (passed : Bool) (found : Code) → state_of s e ≡ now → verdict s e bytes ≡ failed_with passed found → Fails s e bytes passed found → IsReaction s e (deed_of s e (move.Deliver bytes) (on_fault now passed found))
 by-fault s e bytes state.Reset passed found h v t = DropsInReset bytes passed found h v t
 by-fault s e bytes state.Session passed found h v t = Refuses bytes passed found (elsewhere _ _ h (λ k. cc)) v t
 by-fault s e bytes state.Connection passed found h v t = Refuses bytes passed found (elsewhere _ _ h (λ k. cc)) v t
@@ -185,7 +185,7 @@ by-fault s e bytes state.Parameter passed found h v t = Refuses bytes passed fou
 by-fault s e bytes state.Data passed found h v t = Refuses bytes passed found (elsewhere _ _ h (λ k. cc)) v t
 
 master-starts : (ms : MasterSettings) (e : List Deed) (bytes load : List ℕ) (b : Bool) → Sound (OfMaster ms) e → IsResetFrame (OfMaster ms) e bytes load → state_of (OfMaster ms) e ≡ state.Reset → (first_of load == 0) ≡ b
-    → IsReaction (OfMaster ms) e (deed_of (OfMaster ms) e (move.Deliver bytes) (if b then takes command.Reset load else dropped why.InReset))
+    → IsReaction (OfMaster ms) e (deed_of (OfMaster ms) e (move.Deliver bytes) (if b then takes_frame command.Reset load else dropped why.InReset))
 master-starts ms e bytes load true sound frame now h =
     Answers bytes load command.Reset _ (MasterStarts ms _ now (sound.no_session now) frame (eqb-true (first_of load) 0 h) refl (piece-in ms (received bytes command.Reset load e) command.Session 1 OfSession) (piece-after ms e bytes load command.Reset command.Session 1 OfSession))
 master-starts ms e bytes load false sound frame now h = DropsReset bytes load tt now frame (eqb-false (first_of load) 0 h)

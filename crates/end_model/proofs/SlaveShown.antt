@@ -19,7 +19,7 @@ use Rattle.end_model.specs.Phases.{phase_of}
 use Rattle.end_model.specs.Deed.{Deed}
 use Rattle.end_model.specs.Payloads.{uploaded, whole, has_all}
 use Rattle.end_model.specs.Readiness.{state_of, ticks, slave_limit, is_done}
-use Rattle.end_model.specs.Step.{takes}
+use Rattle.end_model.specs.Step.{takes_frame}
 use Rattle.end_model.specs.Outputs.{zeros, outputs, out_after}
 use Rattle.end_model.specs.Reactions.{parts, IsValid, IsInSession, Taking, SlaveRejoins, SlaveStarts, SlaveGoesOn, SlaveNextPhase, SlaveFirstData, SlaveMoreData, Reaction, Puts, Holds, SetsNonce, Rests, Ages, Expires, SendsAgain, ResetsItself, DropsLength, DropsRepeat, DropsInReset, DropsReset, Refuses, PeerResets, Answers}
 use Rattle.end_model.proofs.Counted.{joined_count}
@@ -75,7 +75,7 @@ tested-more ss e bytes load t a =
 
 -- a slave takes a frame of a session; data after the whole parameters
 slave-taken : (ss : SlaveSettings) (e : List Deed) (bytes load : List ℕ) (c : Command) (f : List ℕ) → SlaveShows ss e → IsValid (OfSlave ss) e bytes c load → IsInSession f → (phase_of c ≡ state.Data → is_done ss state.Parameter e ≡ true) → phase_of c ≢ state.Reset
-    → SlaveShows ss (deed (move.Deliver bytes) (takes c load) f ∷ e)
+    → SlaveShows ss (deed (move.Deliver bytes) (takes_frame c load) f ∷ e)
 slave-taken ss e bytes load command.Reset f h a k w n = absurd (n refl)
 slave-taken ss e bytes load command.Session f h a k w n = let b = k.in_session in record { outs = λ i. simp b; young = simp b (λ k. cc); none = λ k. simp b; tested = simp b h.tested }
 slave-taken ss e bytes load command.Connection f h a k w n = let b = k.in_session in record { outs = λ i. simp b; young = simp b (λ k. cc); none = λ k. simp b; tested = simp b h.tested }
@@ -98,7 +98,7 @@ slave-taken ss e bytes load command.ProcessData f h a k w n =
       tested = simp b h.tested;
     }
 
-pub slave-took : (ss : SlaveSettings) (e : List Deed) (bytes load : List ℕ) (c : Command) (f : List ℕ) → SlaveShows ss e → Taking e bytes load (OfSlave ss) c f → SlaveShows ss (deed (move.Deliver bytes) (takes c load) f ∷ e)
+pub slave-took : (ss : SlaveSettings) (e : List Deed) (bytes load : List ℕ) (c : Command) (f : List ℕ) → SlaveShows ss e → Taking e bytes load (OfSlave ss) c f → SlaveShows ss (deed (move.Deliver bytes) (takes_frame c load) f ∷ e)
 slave-took ss e bytes load c f h (SlaveRejoins _ now none frame) = record { outs = λ n. refl; young = λ k. cc; none = λ k. refl; tested = none_tested ss }
 slave-took ss e bytes load c f h (SlaveStarts _ _ now none x) = slave-taken ss e bytes load command.Session f h x.valid x.in_session (λ d. cc) (λ k. cc)
 slave-took ss e bytes load c f h (SlaveGoesOn _ _ _ is now part x) = slave-taken ss e bytes load c f h x.valid x.in_session (λ d. absurd (handshake-data c is d)) (handshake-on c is)

@@ -17,8 +17,8 @@ use Rattle.end_model.specs.Setup.{Setup, OfMaster, OfSlave}
 use Rattle.end_model.specs.Phases.{phase_of}
 use Rattle.end_model.specs.Deed.{Deed, is_empty}
 use Rattle.end_model.specs.Readiness.{state_of, is_done}
-use Rattle.end_model.specs.Step.{takes, step, IsProper, IsRun}
-use Rattle.end_model.specs.Reactions.{HasNoSession, IsHandshake, OfSession, OfConnection, OfParameter, IsNextPhase, AfterSession, AfterConnection, answered, IsExchange, Taking, SlaveRejoins, SlaveStarts, SlaveGoesOn, SlaveNextPhase, SlaveFirstData, SlaveMoreData, MasterStarts, MasterGoesOn, MasterNextPhase, MasterFirstData, MasterMoreData, Reaction, Puts, Holds, SetsNonce, Rests, Ages, Expires, SendsAgain, ResetsItself, DropsLength, DropsRepeat, DropsInReset, DropsReset, Refuses, PeerResets, Answers, IsReaction}
+use Rattle.end_model.specs.Step.{takes_frame, step, IsProper, IsRun}
+use Rattle.end_model.specs.Reactions.{HasNoSession, IsHandshake, OfSession, OfConnection, OfParameter, IsNextPhase, AfterSession, AfterConnection, with_answer, IsExchange, Taking, SlaveRejoins, SlaveStarts, SlaveGoesOn, SlaveNextPhase, SlaveFirstData, SlaveMoreData, MasterStarts, MasterGoesOn, MasterNextPhase, MasterFirstData, MasterMoreData, Reaction, Puts, Holds, SetsNonce, Rests, Ages, Expires, SendsAgain, ResetsItself, DropsLength, DropsRepeat, DropsInReset, DropsReset, Refuses, PeerResets, Answers, IsReaction}
 use Rattle.end_model.proofs.Heads.{IsInSession}
 use Rattle.end_model.proofs.Reactions.{Sound, next_reaction}
 
@@ -60,12 +60,12 @@ other s e p q h n = λ k. n (sym h ∙ k)
 master-on : (ms : MasterSettings) (e : List Deed) (p : State) → state_of (OfMaster ms) e ≡ p → p ≢ state.Reset → Sound (OfMaster ms) e
 master-on ms e p h n = record { no_session = λ k. absurd (other (OfMaster ms) e p state.Reset h n k); is_loaded = tt }
 
-master-took : (ms : MasterSettings) (e : List Deed) (bytes load answer : List ℕ) (c : Command) → Taking e bytes load (OfMaster ms) c answer → Sound (OfMaster ms) (deed (move.Deliver bytes) (takes c load) answer ∷ e)
-master-took ms e bytes load answer c (MasterStarts _ _ now none frame zero made sent after) = master-on ms (answered bytes command.Reset load answer e) state.Session after (λ k. cc)
-master-took ms e bytes load answer c (MasterGoesOn _ _ _ is now part x) = master-on ms (answered bytes c load answer e) (phase_of c) x.after (handshake-on c is)
-master-took ms e bytes load answer c (MasterNextPhase _ _ next _ is now whole x) = master-on ms (answered bytes c load answer e) (phase_of next) x.after (next-on c next is)
-master-took ms e bytes load answer c (MasterFirstData _ _ now whole x) = master-on ms (answered bytes command.Parameter load answer e) state.Data x.after (λ k. cc)
-master-took ms e bytes load answer c (MasterMoreData _ _ _ is now x) = master-on ms (answered bytes c load answer e) state.Data x.after (λ k. cc)
+master-took : (ms : MasterSettings) (e : List Deed) (bytes load answer : List ℕ) (c : Command) → Taking e bytes load (OfMaster ms) c answer → Sound (OfMaster ms) (deed (move.Deliver bytes) (takes_frame c load) answer ∷ e)
+master-took ms e bytes load answer c (MasterStarts _ _ now none frame zero made sent after) = master-on ms (with_answer bytes command.Reset load answer e) state.Session after (λ k. cc)
+master-took ms e bytes load answer c (MasterGoesOn _ _ _ is now part x) = master-on ms (with_answer bytes c load answer e) (phase_of c) x.after (handshake-on c is)
+master-took ms e bytes load answer c (MasterNextPhase _ _ next _ is now whole x) = master-on ms (with_answer bytes c load answer e) (phase_of next) x.after (next-on c next is)
+master-took ms e bytes load answer c (MasterFirstData _ _ now whole x) = master-on ms (with_answer bytes command.Parameter load answer e) state.Data x.after (λ k. cc)
+master-took ms e bytes load answer c (MasterMoreData _ _ _ is now x) = master-on ms (with_answer bytes c load answer e) state.Data x.after (λ k. cc)
 
 -- nothing is taken and nothing is sent
 quiet : (m : Move) (passed sent : Bool) (reset : Option Cause) (because : Option Dropped) (e : List Deed) → HasNoSession e
@@ -94,7 +94,7 @@ slave-on : (ss : SlaveSettings) (e : List Deed) (p : State) → state_of (OfSlav
 slave-on ss e p h n k = record { no_session = λ r. absurd (other (OfSlave ss) e p state.Reset h n r); is_loaded = λ d. absurd (other (OfSlave ss) e p state.Data h k d) }
 
 -- data leave the parameters
-stays-loaded : (ss : SlaveSettings) (e : List Deed) (bytes load answer : List ℕ) (c : Command) → is_data c ≡ true → IsInSession answer → is_done ss state.Parameter e ≡ true → is_done ss state.Parameter (answered bytes c load answer e) ≡ true
+stays-loaded : (ss : SlaveSettings) (e : List Deed) (bytes load answer : List ℕ) (c : Command) → is_data c ≡ true → IsInSession answer → is_done ss state.Parameter e ≡ true → is_done ss state.Parameter (with_answer bytes c load answer e) ≡ true
 stays-loaded ss e bytes load answer command.Reset d f h = absurd (cc d)
 stays-loaded ss e bytes load answer command.Session d f h = absurd (cc d)
 stays-loaded ss e bytes load answer command.Connection d f h = absurd (cc d)
@@ -103,18 +103,18 @@ stays-loaded ss e bytes load answer command.FailSafeData d f h = let a = f.in_se
 stays-loaded ss e bytes load answer command.ProcessData d f h = let a = f.in_session in simp a h
 
 slave-in-data : (ss : SlaveSettings) (e : List Deed) (bytes load answer made : List ℕ) (c : Command) → is_data c ≡ true → is_done ss state.Parameter e ≡ true
-    → IsExchange (OfSlave ss) e bytes load c answer made state.Data → Sound (OfSlave ss) (answered bytes c load answer e)
+    → IsExchange (OfSlave ss) e bytes load c answer made state.Data → Sound (OfSlave ss) (with_answer bytes c load answer e)
 slave-in-data ss e bytes load answer made c is whole x =
     record {
-      no_session = λ k. absurd (other (OfSlave ss) (answered bytes c load answer e) state.Data state.Reset x.after (λ k. cc) k);
+      no_session = λ k. absurd (other (OfSlave ss) (with_answer bytes c load answer e) state.Data state.Reset x.after (λ k. cc) k);
       is_loaded = λ k. stays-loaded ss e bytes load answer c is x.in_session whole;
     }
 
-slave-took : (ss : SlaveSettings) (e : List Deed) (bytes load answer : List ℕ) (c : Command) → Taking e bytes load (OfSlave ss) c answer → Sound (OfSlave ss) (deed (move.Deliver bytes) (takes c load) answer ∷ e)
+slave-took : (ss : SlaveSettings) (e : List Deed) (bytes load answer : List ℕ) (c : Command) → Taking e bytes load (OfSlave ss) c answer → Sound (OfSlave ss) (deed (move.Deliver bytes) (takes_frame c load) answer ∷ e)
 slave-took ss e bytes load answer c (SlaveRejoins _ now none frame) = record { no_session = λ k. record { none_sent = refl; none_taken = refl; none_kept = refl }; is_loaded = λ k. cc }
-slave-took ss e bytes load answer c (SlaveStarts _ _ now none x) = slave-on ss (answered bytes command.Session load answer e) state.Session x.after (λ k. cc) (λ k. cc)
-slave-took ss e bytes load answer c (SlaveGoesOn _ _ _ is now part x) = slave-on ss (answered bytes c load answer e) (phase_of c) x.after (handshake-on c is) (handshake-data c is)
-slave-took ss e bytes load answer c (SlaveNextPhase _ before _ _ is now whole x) = slave-on ss (answered bytes c load answer e) (phase_of c) x.after (next-on before c is) (next-data before c is)
+slave-took ss e bytes load answer c (SlaveStarts _ _ now none x) = slave-on ss (with_answer bytes command.Session load answer e) state.Session x.after (λ k. cc) (λ k. cc)
+slave-took ss e bytes load answer c (SlaveGoesOn _ _ _ is now part x) = slave-on ss (with_answer bytes c load answer e) (phase_of c) x.after (handshake-on c is) (handshake-data c is)
+slave-took ss e bytes load answer c (SlaveNextPhase _ before _ _ is now whole x) = slave-on ss (with_answer bytes c load answer e) (phase_of c) x.after (next-on before c is) (next-data before c is)
 slave-took ss e bytes load answer c (SlaveFirstData _ _ _ is now whole x) = slave-in-data ss e bytes load answer _ c is whole x
 slave-took ss e bytes load answer c (SlaveMoreData _ _ _ is now whole x) = slave-in-data ss e bytes load answer _ c is whole x
 

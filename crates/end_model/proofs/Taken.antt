@@ -12,7 +12,7 @@ use Rattle.end_model.specs.Phases.{phase_of}
 use Rattle.end_model.specs.Deed.{Deed}
 use Rattle.end_model.specs.Readiness.{state_of}
 use Rattle.end_model.specs.Step.{with_data, download_frame, after_phase, master_answer, answer}
-use Rattle.end_model.specs.Reactions.{IsHandshake, OfSession, OfConnection, OfParameter, IsNextPhase, AfterSession, AfterConnection, received, answered, pieces_sent, all_pieces, IsExchange, Taking, SlaveRejoins, SlaveStarts, SlaveGoesOn, SlaveNextPhase, SlaveFirstData, SlaveMoreData, MasterStarts, MasterGoesOn, MasterNextPhase, MasterFirstData, MasterMoreData}
+use Rattle.end_model.specs.Reactions.{IsHandshake, OfSession, OfConnection, OfParameter, IsNextPhase, AfterSession, AfterConnection, received, with_answer, pieces_sent, all_pieces, IsExchange, Taking, SlaveRejoins, SlaveStarts, SlaveGoesOn, SlaveNextPhase, SlaveFirstData, SlaveMoreData, MasterStarts, MasterGoesOn, MasterNextPhase, MasterFirstData, MasterMoreData}
 use Rattle.end_model.proofs.Heads.{IsInSession, master_frame}
 use Rattle.end_model.proofs.Reactions.{phase_of_data, slave_data}
 use Rattle.end_model.proofs.SoundRuns.{handshake-data, next-data}
@@ -95,7 +95,7 @@ next-no-data c next AfterSession = λ k. cc
 next-no-data c next AfterConnection = λ k. cc
 
 -- an end that took data is in Data
-pub data_after : (e : List Deed) (bytes load : List ℕ) (s : Setup) (c : Command) (f : List ℕ) → Taking e bytes load s c f → is_data c ≡ true → state_of s (answered bytes c load f e) ≡ state.Data
+pub data_after : (e : List Deed) (bytes load : List ℕ) (s : Setup) (c : Command) (f : List ℕ) → Taking e bytes load s c f → is_data c ≡ true → state_of s (with_answer bytes c load f e) ≡ state.Data
 data_after e bytes load s c f (SlaveRejoins _ now none frame) d = absurd (cc d)
 data_after e bytes load s c f (SlaveStarts _ _ now none x) d = absurd (cc d)
 data_after e bytes load s c f (SlaveGoesOn _ _ _ is now part x) d = absurd (handshake-data c is (phase_of_data c d))

@@ -28,7 +28,7 @@ use Rattle.end_model.specs.Chain.{since, own, taken, kept, fits}
 use Rattle.end_model.specs.Payloads.{pay, pieces, count_in, session_id}
 use Rattle.end_model.specs.Readiness.{state_of, age, limit, allowed, is_done}
 use Rattle.end_model.specs.Verdict.{Verdict, Refused, Wrong, has_conn, contents, verdict}
-use Rattle.end_model.specs.Step.{takes, begun, with_data, slave_answer, download_frame}
+use Rattle.end_model.specs.Step.{takes_frame, begun, with_data, slave_answer, download_frame}
 
 -- an end counts ticks: a master in each state, a slave outside state Reset
 abbrev pub CountsTicks : Setup → List Deed → Type 0
@@ -98,17 +98,17 @@ pub data Fails (s : Setup) (e : List Deed) (bytes : List ℕ) : Bool → Code �
       → Fails s e bytes true found
 
 -- the verdict on a frame that fails a test: on its contents where it passed that of its CRCs
-abbrev pub fault : Bool → Code → Verdict
-fault false found = Refused found
-fault true found = Wrong found
+abbrev pub failed_with : Bool → Code → Verdict
+failed_with false found = Refused found
+failed_with true found = Wrong found
 
 -- the deeds with one that took a frame and has sent nothing yet
 abbrev pub received : List ℕ → Command → List ℕ → List Deed → List Deed
-received bytes c load e = begun (move.Deliver bytes) (takes c load) ∷ e
+received bytes c load e = begun (move.Deliver bytes) (takes_frame c load) ∷ e
 
 -- the deeds with one that took a frame and answered it
-abbrev pub answered : List ℕ → Command → List ℕ → List ℕ → List Deed → List Deed
-answered bytes c load answer e = record { what = move.Deliver bytes; did = takes c load; sent = answer } ∷ e
+abbrev pub with_answer : List ℕ → Command → List ℕ → List ℕ → List Deed → List Deed
+with_answer bytes c load answer e = record { what = move.Deliver bytes; did = takes_frame c load; sent = answer } ∷ e
 
 -- the pieces that a master sent of the payload of a phase
 abbrev pub pieces_sent : List Deed → State → ℕ
@@ -128,7 +128,7 @@ pub record IsExchange (s : Setup) (e : List Deed) (bytes load : List ℕ) (c : C
   pub valid : IsValid s e bytes c load
   pub is_made : answer ≡ made
   pub in_session : IsInSession answer
-  pub after : state_of s (answered bytes c load answer e) ≡ next
+  pub after : state_of s (with_answer bytes c load answer e) ≡ next
 
 -- an end takes a frame with this command and load, and answers it
 pub data Taking (e : List Deed) (bytes load : List ℕ) : Setup → Command → List ℕ → Type 0 where
@@ -164,7 +164,7 @@ pub data Taking (e : List Deed) (bytes load : List ℕ) : Setup → Command → 
   MasterStarts : (ms : MasterSettings) (answer : List ℕ) → state_of (OfMaster ms) e ≡ state.Reset → HasNoSession e
       → IsResetFrame (OfMaster ms) e bytes load → first_of load ≡ 0
       → answer ≡ download_frame ms (received bytes command.Reset load e) command.Session 1 → IsInSession answer
-      → state_of (OfMaster ms) (answered bytes command.Reset load answer e) ≡ state.Session
+      → state_of (OfMaster ms) (with_answer bytes command.Reset load answer e) ≡ state.Session
       → Taking e bytes load (OfMaster ms) command.Reset answer
   -- a master takes an answer of a phase, and sends the next piece of its payload
   MasterGoesOn : (ms : MasterSettings) (c : Command) (answer : List ℕ) → IsHandshake c → state_of (OfMaster ms) e ≡ phase_of c
@@ -213,13 +213,13 @@ pub data Reaction (s : Setup) (e : List Deed) : Move → Did → List ℕ → Ty
       → state_of s e ≢ state.Reset → Reaction s e (move.Deliver bytes) (dropped why.Repeat) []
   -- a frame fails a test in state Reset
   DropsInReset : (bytes : List ℕ) (passed : Bool) (found : Code) → state_of s e ≡ state.Reset
-      → verdict s e bytes ≡ fault passed found → Fails s e bytes passed found
+      → verdict s e bytes ≡ failed_with passed found → Fails s e bytes passed found
       → Reaction s e (move.Deliver bytes) (record (dropped why.InReset) { passed = passed }) []
   -- a Reset frame with another code than 0 comes to a master in state Reset
   DropsReset : (bytes load : List ℕ) → IsMaster s → state_of s e ≡ state.Reset → IsResetFrame s e bytes load → first_of load ≢ 0
       → Reaction s e (move.Deliver bytes) (dropped why.InReset) []
   -- a frame fails a test outside state Reset: the session ends
-  Refuses : (bytes : List ℕ) (passed : Bool) (found : Code) → state_of s e ≢ state.Reset → verdict s e bytes ≡ fault passed found
+  Refuses : (bytes : List ℕ) (passed : Bool) (found : Code) → state_of s e ≢ state.Reset → verdict s e bytes ≡ failed_with passed found
       → Fails s e bytes passed found
       → Reaction s e (move.Deliver bytes) (resets passed (cause.Found found)) (reset_frame found.0 (sends s))
   -- the peer ends the session
@@ -227,7 +227,7 @@ pub data Reaction (s : Setup) (e : List Deed) : Move → Did → List ℕ → Ty
       → Reaction s e (move.Deliver bytes) (resets false (cause.Peer (code (first_of load)))) (reset_frame 0 (sends s))
   -- a frame is taken and answered
   Answers : (bytes load : List ℕ) (c : Command) (answer : List ℕ) → Taking e bytes load s c answer
-      → Reaction s e (move.Deliver bytes) (takes c load) answer
+      → Reaction s e (move.Deliver bytes) (takes_frame c load) answer
 
 -- a deed is of one of these kinds
 abbrev pub IsReaction : Setup → List Deed → Deed → Type 0

@@ -30,8 +30,8 @@ use Rattle.end_model.specs.Readiness.{state_of, offer, held, reaches_limit}
 use Rattle.end_model.specs.Verdict.{Verdict, Valid, WrongLength, Repeated, Refused, Wrong, verdict}
 
 -- a frame is taken, and one is sent: a frame of a session passed the test of its CRCs
-abbrev pub takes : Command → List ℕ → Did
-takes c load = did.takes c load (not (is_reset c))
+abbrev pub takes_frame : Command → List ℕ → Did
+takes_frame c load = did.takes c load (not (is_reset c))
 
 -- a test failed with this code: in state Reset the frame is dropped, else the session ends
 abbrev pub on_fault : State → Bool → Code → Did
@@ -40,12 +40,12 @@ on_fault _ passed found = resets passed (cause.Found found)
 
 -- a master in state Reset takes the Reset frame with code 0 alone, which answers its own
 abbrev pub on_answered_reset : List ℕ → Did
-on_answered_reset load = if first_of load == 0 then takes command.Reset load else dropped why.InReset
+on_answered_reset load = if first_of load == 0 then takes_frame command.Reset load else dropped why.InReset
 
 -- a Reset frame: a slave in state Reset takes each, elsewhere it ends the session
 abbrev pub on_reset_frame : State → Setup → List ℕ → Did
 on_reset_frame state.Reset (OfMaster ms) load = on_answered_reset load
-on_reset_frame state.Reset (OfSlave ss) load = takes command.Reset load
+on_reset_frame state.Reset (OfSlave ss) load = takes_frame command.Reset load
 on_reset_frame _ s load = resets false (cause.Peer (code (first_of load)))
 
 -- a frame that came, by the verdict on it
@@ -55,7 +55,7 @@ on_verdict now s Repeated = dropped why.Repeat
 on_verdict now s (Refused found) = on_fault now false found
 on_verdict now s (Wrong found) = on_fault now true found
 on_verdict now s (Valid command.Reset load) = on_reset_frame now s load
-on_verdict now s (Valid c load) = takes c load
+on_verdict now s (Valid c load) = takes_frame c load
 
 -- the age reaches the limit: in state Reset a master sends Reset again and a slave does nothing, elsewhere the session ends
 abbrev pub on_expiry : State → Setup → Did

@@ -56,8 +56,8 @@ abbrev pub has_conn : Setup → List Deed → Command → ℕ → Bool
 has_conn s e c field = if is_guarded c then is_conn s e field else field == 0
 
 -- the contents of a frame of an upload: the fields that it ends, in order, then the padding
-abbrev pub upload_fault : SlaveSettings → List Deed → State → Expected → List ℕ → Option Code
-upload_fault ss e phase expects load =
+abbrev pub slave_upload_fault : SlaveSettings → List Deed → State → Expected → List ℕ → Option Code
+slave_upload_fault ss e phase expects load =
     let c : ℕ = piece_len (OfSlave ss) in
     let before : List ℕ = uploaded ss phase e in
     contents_fault expects (length before) (before ++ take c load) (drop c load)
@@ -68,14 +68,14 @@ data_fault c load = unless (data_holds c load) 0x07
 
 -- the contents of a frame at a slave
 abbrev pub slave_fault : SlaveSettings → List Deed → Command → Frame → Option Code
-slave_fault ss e command.Session f = upload_fault ss e state.Session (expected.Session ss.profile) f.load
-slave_fault ss e command.Connection f = upload_fault ss e state.Connection (expected.Connection f.conn ss.address) f.load
-slave_fault ss e command.Parameter f = upload_fault ss e state.Parameter (expected.Parameter ss.most ss.rule ss.profile) f.load
+slave_fault ss e command.Session f = slave_upload_fault ss e state.Session (expected.Session ss.profile) f.load
+slave_fault ss e command.Connection f = slave_upload_fault ss e state.Connection (expected.Connection f.conn ss.address) f.load
+slave_fault ss e command.Parameter f = slave_upload_fault ss e state.Parameter (expected.Parameter ss.most ss.rule ss.profile) f.load
 slave_fault ss e c f = data_fault c f.load
 
 -- the piece that a master sent last, in the phase that it is in
-abbrev pub last_piece : MasterSettings → List Deed → State → List ℕ
-last_piece ms e phase = piece (pay ms (session_id (OfMaster ms) e) phase) (piece_len (OfMaster ms)) (count_in phase (own (since e)))
+abbrev pub piece_sent_last : MasterSettings → List Deed → State → List ℕ
+piece_sent_last ms e phase = piece (pay ms (session_id (OfMaster ms) e) phase) (piece_len (OfMaster ms)) (count_in phase (own (since e)))
 
 -- an answer of the slave in a handshake repeats the master's last piece, with zeros after it
 abbrev pub echo_fault : List ℕ → List ℕ → Option Code
@@ -83,9 +83,9 @@ echo_fault sent load = unless (is_echo sent load) 0x07
 
 -- the contents of a frame at a master; a slave's session id is its own, so that the padding alone is tested
 abbrev pub master_fault : MasterSettings → List Deed → Command → Frame → Option Code
-master_fault ms e command.Session f = unless (is_padded (last_piece ms e state.Session) f.load) 0x07
-master_fault ms e command.Connection f = echo_fault (last_piece ms e state.Connection) f.load
-master_fault ms e command.Parameter f = echo_fault (last_piece ms e state.Parameter) f.load
+master_fault ms e command.Session f = unless (is_padded (piece_sent_last ms e state.Session) f.load) 0x07
+master_fault ms e command.Connection f = echo_fault (piece_sent_last ms e state.Connection) f.load
+master_fault ms e command.Parameter f = echo_fault (piece_sent_last ms e state.Parameter) f.load
 master_fault ms e c f = data_fault c f.load
 
 -- the code of the first test of a frame's contents that fails

@@ -22,7 +22,7 @@ use Rattle.end_model.specs.Setup.{Setup, OfSlave, sends, receives}
 use Rattle.end_model.specs.Phases.{phase_of_frame}
 use Rattle.end_model.specs.Deed.{Deed, is_empty}
 use Rattle.end_model.specs.Readiness.{state_of}
-use Rattle.end_model.specs.Step.{takes}
+use Rattle.end_model.specs.Step.{takes_frame}
 use Rattle.end_model.specs.Reactions.{Taking, Reaction, Answers}
 use Rattle.end_model.proofs.Reactions.{phase_of_data}
 use Rattle.end_model.proofs.Taken.{exchange_of, data_after}
@@ -95,10 +95,10 @@ at-item P n (i ∷ found) rest j all h = at-head (n == suc (length found)) (at-i
 -- what an entry takes: no data, or a data frame that brings its end into Data or leaves it there
 data Takings (s : Setup) (e : List Deed) (x : Deed) : Type 0 where
   NoData : data_taken x.did.took ≡ None → Takings s e x
-  SomeData : (bytes load : List ℕ) (c : Command) → x.what ≡ move.Deliver bytes → x.did ≡ takes c load → is_data c ≡ true → command_in bytes ≡ Some c → (frame_of (receives s) bytes).load ≡ load
+  SomeData : (bytes load : List ℕ) (c : Command) → x.what ≡ move.Deliver bytes → x.did ≡ takes_frame c load → is_data c ≡ true → command_in bytes ≡ Some c → (frame_of (receives s) bytes).load ≡ load
       → state_of s (x ∷ e) ≡ state.Data → Takings s e x
 
-takings-by : (s : Setup) (e : List Deed) (bytes load : List ℕ) (c : Command) (f : List ℕ) (some : Bool) → Taking e bytes load s c f → is_data c ≡ some → Takings s e (deed (move.Deliver bytes) (takes c load) f)
+takings-by : (s : Setup) (e : List Deed) (bytes load : List ℕ) (c : Command) (f : List ℕ) (some : Bool) → Taking e bytes load s c f → is_data c ≡ some → Takings s e (deed (move.Deliver bytes) (takes_frame c load) f)
 takings-by s e bytes load c f true taking d =
     let x = (exchange_of e bytes load s c f taking (λ k. let q : is_data command.Reset ≡ true = ap is_data (sym k) ∙ d in cc)).2 in
     SomeData bytes load c refl refl d (head_is (receives s) bytes c x.valid.is_read.command_is) x.valid.load_is (data_after e bytes load s c f taking d)

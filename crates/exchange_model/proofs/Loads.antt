@@ -14,7 +14,7 @@ use Rattle.param_load.specs.declared.slave_settings.SlaveSettings.{SlaveSettings
 use Rattle.end_model.specs.Setup.{Setup, OfMaster, OfSlave, sends}
 use Rattle.end_model.specs.Deed.{Deed, is_empty}
 use Rattle.end_model.specs.Readiness.{offer, offer_after, held, held_after}
-use Rattle.end_model.specs.Step.{takes, begun, IsRun}
+use Rattle.end_model.specs.Step.{takes_frame, begun, IsRun}
 use Rattle.end_model.specs.Reactions.{Taking, Reaction, Answers}
 use Rattle.end_model.proofs.Taken.{answer_is}
 use Rattle.exchange_model.specs.Ends.{same_end, of_end}
@@ -113,9 +113,9 @@ slave-sending ss e bytes d c f (Echoes load x g) = plain _ e _ c load f x g
 slave-sending ss e bytes d c f (Gives x g) = OfData (before-it (OfSlave ss) e bytes f d g)
 
 answering : (s : Setup) (e : List Deed) (bytes load : List ℕ) (c : Command) (f : List ℕ) → IsRun s e → Taking e bytes load s c f → Sending s e f
-answering (OfMaster ms) e bytes load c f r taking = master-sending ms e bytes (takes c load) c f (master_sends ms e bytes load c f r taking)
+answering (OfMaster ms) e bytes load c f r taking = master-sending ms e bytes (takes_frame c load) c f (master_sends ms e bytes load c f r taking)
 answering (OfSlave ss) e bytes load command.Reset f r taking = Plain (ap (λ (f : List ℕ). is_data_if (command_in f)) (answer_is e bytes load (OfSlave ss) command.Reset f taking))
-answering (OfSlave ss) e bytes load c f r taking = slave-sending ss e bytes (takes c load) c f (slave_sends ss e bytes load c f r taking (λ k. cc))
+answering (OfSlave ss) e bytes load c f r taking = slave-sending ss e bytes (takes_frame c load) c f (slave_sends ss e bytes load c f r taking (λ k. cc))
 
 sending : (s : Setup) (e : List Deed) (m : Move) (d : Did) (f : List ℕ) → IsRun s e → Reaction s e m d f → Sending s e f
 sending s e m d f r (Answers bytes load c answer taking) = answering s e bytes load c answer r taking

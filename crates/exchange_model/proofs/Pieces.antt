@@ -20,8 +20,8 @@ use Rattle.end_model.specs.Deed.{Deed, is_empty}
 use Rattle.end_model.specs.Chain.{since, own}
 use Rattle.end_model.specs.Payloads.{piece, count_in}
 use Rattle.end_model.specs.Readiness.{phase_sent}
-use Rattle.end_model.specs.Step.{takes, IsRun}
-use Rattle.end_model.specs.Reactions.{received, answered, Taking, Reaction, Expires, SendsAgain, ResetsItself, Refuses, PeerResets, Answers}
+use Rattle.end_model.specs.Step.{takes_frame, IsRun}
+use Rattle.end_model.specs.Reactions.{received, with_answer, Taking, Reaction, Expires, SendsAgain, ResetsItself, Refuses, PeerResets, Answers}
 use Rattle.end_model.proofs.Heads.{IsInSession}
 use Rattle.end_model.proofs.Reactions.{phase_of_data}
 use Rattle.end_model.proofs.SoundRuns.{reacted}
@@ -139,9 +139,9 @@ pub sent_more : (x : Deed) (e : List Deed) → IsInSession x.sent → own (since
 sent_more x e h = let a = h.in_session in let b = h.sent in simp (a, b)
 
 sent-taken : (ms : MasterSettings) (e : List Deed) (bytes load : List ℕ) (c : Command) (f : List ℕ) → IsRun (OfMaster ms) e → Taking e bytes load (OfMaster ms) c f → Sent ms (own (since e))
-    → Sent ms (own (since (answered bytes c load f e)))
+    → Sent ms (own (since (with_answer bytes c load f e)))
 sent-taken ms e bytes load c f r taking h =
-    subst (Sent ms) (sym (sent_more (deed (move.Deliver bytes) (takes c load) f) e (master_answers e bytes load ms c f taking)))
+    subst (Sent ms) (sym (sent_more (deed (move.Deliver bytes) (takes_frame c load) f) e (master_answers e bytes load ms c f taking)))
     (sent-next ms (received bytes c load e) c f (master_sends ms e bytes load c f r taking) (master_phase e bytes load ms c f taking) h)
 
 sent-kept : (ms : MasterSettings) (e : List Deed) (m : Move) (d : Did) (f : List ℕ) → IsRun (OfMaster ms) e → Sent ms (own (since e)) → Reaction (OfMaster ms) e m d f → Sent ms (own (since (deed m d f ∷ e)))

@@ -19,7 +19,7 @@ use Rattle.end_model.specs.Deed.{Deed, is_empty}
 use Rattle.end_model.specs.Chain.{since, own}
 use Rattle.end_model.specs.Payloads.{uploaded}
 use Rattle.end_model.specs.Readiness.{state_of, phase_sent, slave_allows}
-use Rattle.end_model.specs.Step.{takes, IsRun}
+use Rattle.end_model.specs.Step.{takes_frame, IsRun}
 use Rattle.end_model.specs.Entries.{entry_of}
 use Rattle.end_model.specs.Reactions.{received, IsValid, IsReaction, Taking, Reaction, Expires, SendsAgain, ResetsItself, Refuses, PeerResets, Answers}
 use Rattle.end_model.proofs.Reactions.{phase_of_data}
@@ -70,9 +70,9 @@ newest-answered w bytes n o h e = newest_is n bytes (items_of end_name.Slave (it
 
 -- a frame of the session id has no place to keep
 session-placed : (ms : MasterSettings) (ss : SlaveSettings) (w : List Entry) (bytes load : List ℕ) (c : Command) (f given : List ℕ) → IsFrame (sends (OfMaster ms)) command.Session given f → is_guarded c ≡ false
-    → PlacedIn ss w (item_of (of_master ms w (move.Deliver bytes) (takes c load) f) w (items w))
+    → PlacedIn ss w (item_of (of_master ms w (move.Deliver bytes) (takes_frame c load) f) w (items w))
 session-placed ms ss w bytes load c f given g u =
-    let x : Entry = of_master ms w (move.Deliver bytes) (takes c load) f in
+    let x : Entry = of_master ms w (move.Deliver bytes) (takes_frame c load) f in
     unguarded_placed _ _ (items_of end_name.Slave (items w)) (items_of end_name.Master (items w)) (item_of x w (items w))
     (λ n e. let k : IsNewest n bytes (items_of end_name.Slave (items w)) = newest-answered w bytes n _ (answers_newest w x bytes c load (record { what_is = refl; did_is = refl }) u) e in let q : n ≡ length (items_of end_name.Slave (items w)) = k.number_is in omega arith)
     (ap is_guarded_in (phase_framed _ command.Session _ f g))
@@ -112,9 +112,9 @@ session-frames w = ap session (frames end_name.Master w) ∙ sym (session_own (d
 
 -- the first frame after the session id
 connection-placed : (ms : MasterSettings) (ss : SlaveSettings) (w : List Entry) (bytes load f : List ℕ) → SameLengths ms ss → IsRun (OfMaster ms) (deeds end_name.Master w) → state_of (OfMaster ms) (deeds end_name.Master w) ≡ state.Session
-    → command_in bytes ≡ Some command.Session → PlacedIn ss w (item_of (of_master ms w (move.Deliver bytes) (takes command.Session load) f) w (items w))
+    → command_in bytes ≡ Some command.Session → PlacedIn ss w (item_of (of_master ms w (move.Deliver bytes) (takes_frame command.Session load) f) w (items w))
 connection-placed ms ss w bytes load f same r now head =
-    let x : Entry = of_master ms w (move.Deliver bytes) (takes command.Session load) f in
+    let x : Entry = of_master ms w (move.Deliver bytes) (takes_frame command.Session load) f in
     let m : List Item = items_of end_name.Master (items w) in
     let sent : Sent ms (session (bytes_in m)) = subst (Sent ms) (sym (session-frames w)) (pieces_sent ms (deeds end_name.Master w) r) in
     let phase : phase_sent (session (bytes_in m)) ≡ state.Session = ap phase_sent (session-frames w) ∙ now in
@@ -123,10 +123,10 @@ connection-placed ms ss w bytes load f same r now head =
     (λ phase_in k. none-sent ms ss m phase_in same k sent phase)
 
 -- the item of a master that takes the awaited frame
-answer-placed : (ms : MasterSettings) (ss : SlaveSettings) (w : List Entry) (bytes load f : List ℕ) (c : Command) → is_guarded c ≡ true → is_other (items w) (of_master ms w (move.Deliver bytes) (takes c load) f) ≡ false
-    → command_in bytes ≡ Some c → PlacedIn ss w (item_of (of_master ms w (move.Deliver bytes) (takes c load) f) w (items w))
+answer-placed : (ms : MasterSettings) (ss : SlaveSettings) (w : List Entry) (bytes load f : List ℕ) (c : Command) → is_guarded c ≡ true → is_other (items w) (of_master ms w (move.Deliver bytes) (takes_frame c load) f) ≡ false
+    → command_in bytes ≡ Some c → PlacedIn ss w (item_of (of_master ms w (move.Deliver bytes) (takes_frame c load) f) w (items w))
 answer-placed ms ss w bytes load f c g o head =
-    let x : Entry = of_master ms w (move.Deliver bytes) (takes c load) f in
+    let x : Entry = of_master ms w (move.Deliver bytes) (takes_frame c load) f in
     let it : TakesItem w x bytes = takes_item w x bytes c load (record { what_is = refl; did_is = refl }) head g o in
     next_placed _ _ (items_of end_name.Slave (items w)) (items_of end_name.Master (items w)) (item_of x w (items w)) it.item it.guarded it.found it.answers
 
@@ -135,8 +135,8 @@ head-in s e bytes load c v = head_is (receives s) bytes c v.is_read.command_is
 
 -- each item of a master that takes a frame has its place
 master-placed : (ms : MasterSettings) (ss : SlaveSettings) (w : List Entry) (bytes load : List ℕ) (c : Command) (f : List ℕ) (e : List Deed) → SameLengths ms ss → IsRun (OfMaster ms) (deeds end_name.Master w)
-    → state_of (OfMaster ms) (deeds end_name.Master w) ≡ phase_of c → (c ≢ command.Reset → command_in bytes ≡ Some c) → is_other (items w) (of_master ms w (move.Deliver bytes) (takes c load) f) ≡ false
-    → MasterSends ms e c f → PlacedIn ss w (item_of (of_master ms w (move.Deliver bytes) (takes c load) f) w (items w))
+    → state_of (OfMaster ms) (deeds end_name.Master w) ≡ phase_of c → (c ≢ command.Reset → command_in bytes ≡ Some c) → is_other (items w) (of_master ms w (move.Deliver bytes) (takes_frame c load) f) ≡ false
+    → MasterSends ms e c f → PlacedIn ss w (item_of (of_master ms w (move.Deliver bytes) (takes_frame c load) f) w (items w))
 master-placed ms ss w bytes load command.Reset f e same r now head o (Begins given _ g) = session-placed ms ss w bytes load command.Reset f given g refl
 master-placed ms ss w bytes load command.Session f e same r now head o (GoesOn given _ g) = session-placed ms ss w bytes load command.Session f given g refl
 master-placed ms ss w bytes load command.Session f e same r now head o (Connects _ g) = connection-placed ms ss w bytes load f same r now (head (λ x. cc))
@@ -148,10 +148,10 @@ master-placed ms ss w bytes load c f e same r now head o (Exchanges _ _ d g) =
     answer-placed ms ss w bytes load f c (data_guarded c d) o (head (λ x. let q : is_data command.Reset ≡ true = ap is_data (sym x) ∙ d in cc))
 
 master-takes : (ms : MasterSettings) (ss : SlaveSettings) (w : List Entry) (bytes load : List ℕ) (c : Command) (f : List ℕ) → SameLengths ms ss → IsRun (OfMaster ms) (deeds end_name.Master w) → Related ms ss w
-    → Taking (deeds end_name.Master w) bytes load (OfMaster ms) c f → is_other (items w) (of_master ms w (move.Deliver bytes) (takes c load) f) ≡ false → Related ms ss (of_master ms w (move.Deliver bytes) (takes c load) f ∷ w)
+    → Taking (deeds end_name.Master w) bytes load (OfMaster ms) c f → is_other (items w) (of_master ms w (move.Deliver bytes) (takes_frame c load) f) ≡ false → Related ms ss (of_master ms w (move.Deliver bytes) (takes_frame c load) f ∷ w)
 master-takes ms ss w bytes load c f same r h taking o =
     let e : List Deed = deeds end_name.Master w in
-    master-grows ms ss w (move.Deliver bytes) (takes c load) f (answer_sent e bytes load (OfMaster ms) c f taking)
+    master-grows ms ss w (move.Deliver bytes) (takes_frame c load) f (answer_sent e bytes load (OfMaster ms) c f taking)
     (master-placed ms ss w bytes load c f (received bytes c load e) same r (master_phase e bytes load ms c f taking)
     (λ n. head-in (OfMaster ms) e bytes load c (exchange_of e bytes load (OfMaster ms) c f taking n).2.valid) o (master_sends ms e bytes load c f r taking)) h
 
@@ -212,24 +212,24 @@ record SlaveTakes (ms : MasterSettings) (ss : SlaveSettings) (w : List Entry) (b
   pub in_session : c ≢ command.Reset
   pub valid : IsValid (OfSlave ss) (deeds end_name.Slave w) bytes c load
   pub answer_is : phase_of_frame f ≡ phase_of c
-  pub state_is : state_of (OfSlave ss) (deed (move.Deliver bytes) (takes c load) f ∷ deeds end_name.Slave w) ≡ phase_of c
-  pub uploads : Uploads (receives (OfSlave ss)) (piece_len (OfSlave ss)) bytes (λ phase. uploaded ss phase (deeds end_name.Slave w)) (λ phase. uploaded ss phase (deed (move.Deliver bytes) (takes c load) f ∷ deeds end_name.Slave w))
-  pub no_other : is_other (items w) (of_slave ss w (move.Deliver bytes) (takes c load) f) ≡ false
+  pub state_is : state_of (OfSlave ss) (deed (move.Deliver bytes) (takes_frame c load) f ∷ deeds end_name.Slave w) ≡ phase_of c
+  pub uploads : Uploads (receives (OfSlave ss)) (piece_len (OfSlave ss)) bytes (λ phase. uploaded ss phase (deeds end_name.Slave w)) (λ phase. uploaded ss phase (deed (move.Deliver bytes) (takes_frame c load) f ∷ deeds end_name.Slave w))
+  pub no_other : is_other (items w) (of_slave ss w (move.Deliver bytes) (takes_frame c load) f) ≡ false
 
 -- the joint words after a slave took a frame
 abbrev JointAfter : SlaveSettings → List Entry → List ℕ → List ℕ → Command → List ℕ → Type 0
 JointAfter ss w bytes load c f =
-    Joint (receives (OfSlave ss)) (piece_len (OfSlave ss)) (state_of (OfSlave ss) (deed (move.Deliver bytes) (takes c load) f ∷ deeds end_name.Slave w)) (λ phase. uploaded ss phase (deed (move.Deliver bytes) (takes c load) f ∷ deeds end_name.Slave w))
-    (item_of (of_slave ss w (move.Deliver bytes) (takes c load) f) w (items w) ∷ items_of end_name.Slave (items w)) (items_of end_name.Master (items w))
+    Joint (receives (OfSlave ss)) (piece_len (OfSlave ss)) (state_of (OfSlave ss) (deed (move.Deliver bytes) (takes_frame c load) f ∷ deeds end_name.Slave w)) (λ phase. uploaded ss phase (deed (move.Deliver bytes) (takes_frame c load) f ∷ deeds end_name.Slave w))
+    (item_of (of_slave ss w (move.Deliver bytes) (takes_frame c load) f) w (items w) ∷ items_of end_name.Slave (items w)) (items_of end_name.Master (items w))
 
 slave-guarded : (ms : MasterSettings) (ss : SlaveSettings) (w : List Entry) (bytes load : List ℕ) (c : Command) (f : List ℕ) → SlaveTakes ms ss w bytes load c f → is_guarded c ≡ true → JointAfter ss w bytes load c f
 slave-guarded ms ss w bytes load c f t g =
-    let x : Entry = of_slave ss w (move.Deliver bytes) (takes c load) f in
+    let x : Entry = of_slave ss w (move.Deliver bytes) (takes_frame c load) f in
     let head : command_in bytes ≡ Some c = head-in (OfSlave ss) (deeds end_name.Slave w) bytes load c t.valid in
     let it : TakesItem w x bytes = takes_item w x bytes c load (record { what_is = refl; did_is = refl }) head g t.no_other in
     let phase : phase_of_frame it.item.bytes ≡ phase_of c = ap phase_of_frame it.bytes_are ∙ phase_by bytes c head in
     let before : State → List ℕ = λ phase. uploaded ss phase (deeds end_name.Slave w) in
-    let after : State → List ℕ = λ phase. uploaded ss phase (deed (move.Deliver bytes) (takes c load) f ∷ deeds end_name.Slave w) in
+    let after : State → List ℕ = λ phase. uploaded ss phase (deed (move.Deliver bytes) (takes_frame c load) f ∷ deeds end_name.Slave w) in
     let s : List Item = items_of end_name.Slave (items w) in
     let m : List Item = items_of end_name.Master (items w) in
     let u : Uploads (receives (OfSlave ss)) (piece_len (OfSlave ss)) it.item.bytes before after = subst (λ (b : List ℕ). Uploads (receives (OfSlave ss)) (piece_len (OfSlave ss)) b before after) (sym it.bytes_are) t.uploads in
@@ -238,12 +238,12 @@ slave-guarded ms ss w bytes load c f t g =
 
 slave-unguarded : (ms : MasterSettings) (ss : SlaveSettings) (w : List Entry) (bytes load : List ℕ) (c : Command) (f : List ℕ) → SlaveTakes ms ss w bytes load c f → c ≡ command.Session → JointAfter ss w bytes load c f
 slave-unguarded ms ss w bytes load c f t k =
-    let x : Entry = of_slave ss w (move.Deliver bytes) (takes c load) f in
+    let x : Entry = of_slave ss w (move.Deliver bytes) (takes_frame c load) f in
     let head : command_in bytes ≡ Some c = head-in (OfSlave ss) (deeds end_name.Slave w) bytes load c t.valid in
     let phase : phase_of_frame bytes ≡ state.Session = phase_by bytes c head ∙ ap phase_of k in
     let now : State = state_of (OfSlave ss) (deeds end_name.Slave w) in
     let before : State → List ℕ = λ phase. uploaded ss phase (deeds end_name.Slave w) in
-    let after : State → List ℕ = λ phase. uploaded ss phase (deed (move.Deliver bytes) (takes c load) f ∷ deeds end_name.Slave w) in
+    let after : State → List ℕ = λ phase. uploaded ss phase (deed (move.Deliver bytes) (takes_frame c load) f ∷ deeds end_name.Slave w) in
     let s : List Item = items_of end_name.Slave (items w) in
     let m : List Item = items_of end_name.Master (items w) in
     let unguarded : is_guarded_in (state_of (OfSlave ss) (deeds end_name.Slave w)) ≡ false = session-allowed _ _ (ap (slave_allows (state_of (OfSlave ss) (deeds end_name.Slave w)) _) (sym k) ∙ t.valid.is_allowed) in
@@ -255,13 +255,13 @@ slave-joint ms ss w bytes load c f true t g = slave-guarded ms ss w bytes load c
 slave-joint ms ss w bytes load c f false t g = slave-unguarded ms ss w bytes load c f t (unguarded-is c t.in_session g)
 
 slave-takes : (ms : MasterSettings) (ss : SlaveSettings) (w : List Entry) (bytes load : List ℕ) (c : Command) (f : List ℕ) → IsRun (OfSlave ss) (deeds end_name.Slave w) → Related ms ss w → c ≢ command.Reset
-    → Taking (deeds end_name.Slave w) bytes load (OfSlave ss) c f → is_other (items w) (of_slave ss w (move.Deliver bytes) (takes c load) f) ≡ false → Related ms ss (of_slave ss w (move.Deliver bytes) (takes c load) f ∷ w)
+    → Taking (deeds end_name.Slave w) bytes load (OfSlave ss) c f → is_other (items w) (of_slave ss w (move.Deliver bytes) (takes_frame c load) f) ≡ false → Related ms ss (of_slave ss w (move.Deliver bytes) (takes_frame c load) f ∷ w)
 slave-takes ms ss w bytes load c f r h n taking o =
     let e : List Deed = deeds end_name.Slave w in
     let x = (exchange_of e bytes load (OfSlave ss) c f taking n).2 in
     let sent : IsInSession f = x.in_session in
     let valid : IsValid (OfSlave ss) e bytes c load = x.valid in
-    slave-grows ms ss w (move.Deliver bytes) (takes c load) f sent.sent
+    slave-grows ms ss w (move.Deliver bytes) (takes_frame c load) f sent.sent
     (slave-joint ms ss w bytes load c f (is_guarded c) (record {
       related = h;
       in_session = n;
@@ -273,9 +273,9 @@ slave-takes ms ss w bytes load c f r h n taking o =
     }) refl)
 
 slave-took : (ms : MasterSettings) (ss : SlaveSettings) (w : List Entry) (bytes load : List ℕ) (c : Command) (f : List ℕ) → IsRun (OfSlave ss) (deeds end_name.Slave w) → Related ms ss w
-    → Taking (deeds end_name.Slave w) bytes load (OfSlave ss) c f → is_other (items w) (of_slave ss w (move.Deliver bytes) (takes c load) f) ≡ false → Related ms ss (of_slave ss w (move.Deliver bytes) (takes c load) f ∷ w)
+    → Taking (deeds end_name.Slave w) bytes load (OfSlave ss) c f → is_other (items w) (of_slave ss w (move.Deliver bytes) (takes_frame c load) f) ≡ false → Related ms ss (of_slave ss w (move.Deliver bytes) (takes_frame c load) f ∷ w)
 slave-took ms ss w bytes load command.Reset f r h taking o =
-    subst (λ (f : List ℕ). Related ms ss (of_slave ss w (move.Deliver bytes) (takes command.Reset load) f ∷ w)) (sym (answer_is (deeds end_name.Slave w) bytes load (OfSlave ss) command.Reset f taking)) (slave-resets ms ss w (move.Deliver bytes) (takes command.Reset load) 0 h)
+    subst (λ (f : List ℕ). Related ms ss (of_slave ss w (move.Deliver bytes) (takes_frame command.Reset load) f ∷ w)) (sym (answer_is (deeds end_name.Slave w) bytes load (OfSlave ss) command.Reset f taking)) (slave-resets ms ss w (move.Deliver bytes) (takes_frame command.Reset load) 0 h)
 slave-took ms ss w bytes load c f r h taking o = slave-takes ms ss w bytes load c f r h (λ k. cc) taking o
 
 -- each entry of a slave keeps it

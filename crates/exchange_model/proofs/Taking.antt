@@ -7,7 +7,7 @@ use Rattle.param_load.specs.declared.entry.Entry.{Entry}
 use Rattle.param_load.specs.declared.entry.Move.TheVariants as move
 use Rattle.end_model.specs.Phases.{is_reset, is_guarded, is_guarded_frame, phase_of_frame}
 use Rattle.end_model.specs.Deed.{delivered}
-use Rattle.end_model.specs.Step.{takes}
+use Rattle.end_model.specs.Step.{takes_frame}
 use Rattle.exchange_model.specs.Ends.{peer}
 use Rattle.exchange_model.specs.Items.{Item, newest, items_of, items, item_of, awaited, has_bytes, number_if}
 use Rattle.exchange_model.specs.Other.{is_other, first_of_both, first_other, NoOther}
@@ -20,7 +20,7 @@ use Rattle.exchange_model.proofs.Framed.{command_in, phase_by, guarded_by, guard
 -- an entry takes these bytes as a frame with this command and load
 pub record Taken (x : Entry) (bytes : List ℕ) (c : Command) (load : List ℕ) : Type 0 where
   pub what_is : x.what ≡ move.Deliver bytes
-  pub did_is : x.did ≡ takes c load
+  pub did_is : x.did ≡ takes_frame c load
 
 not-other : (p a b : Bool) → (p && a && not b) ≡ false → p ≡ true → a ≡ true → b ≡ true
 not-other true true true h x y = refl

@@ -28,8 +28,8 @@ use Rattle.end_model.specs.Deed.{Deed, of_session}
 use Rattle.end_model.specs.Chain.{since}
 use Rattle.end_model.specs.Payloads.{joined, joined_with, uploaded}
 use Rattle.end_model.specs.Readiness.{state_of, phase_taken}
-use Rattle.end_model.specs.Step.{takes, IsRun}
-use Rattle.end_model.specs.Reactions.{answered, Taking, Reaction, Expires, SendsAgain, ResetsItself, Refuses, PeerResets, Answers}
+use Rattle.end_model.specs.Step.{takes_frame, IsRun}
+use Rattle.end_model.specs.Reactions.{with_answer, Taking, Reaction, Expires, SendsAgain, ResetsItself, Refuses, PeerResets, Answers}
 use Rattle.end_model.proofs.SoundRuns.{reacted}
 use Rattle.end_model.proofs.Taken.{exchange_of, answer_is}
 use Rattle.exchange_model.proofs.Joint.{with_part, Uploads}
@@ -63,16 +63,16 @@ since-more x e h = simp h
 
 -- a slave that takes a frame of a session uploads its part, and is in the frame's phase
 pub uploads_next : (ss : SlaveSettings) (e : List Deed) (bytes load f : List ℕ) (c : Command) → c ≢ command.Reset → has_command command.Reset f ≡ false → command_in bytes ≡ Some c → (frame_of (receives (OfSlave ss)) bytes).load ≡ load
-    → Uploads (receives (OfSlave ss)) (piece_len (OfSlave ss)) bytes (λ phase. uploaded ss phase e) (λ phase. uploaded ss phase (deed (move.Deliver bytes) (takes c load) f ∷ e))
+    → Uploads (receives (OfSlave ss)) (piece_len (OfSlave ss)) bytes (λ phase. uploaded ss phase e) (λ phase. uploaded ss phase (deed (move.Deliver bytes) (takes_frame c load) f ∷ e))
 uploads_next ss e bytes load f c n b head is =
     λ phase k.
-    ap (joined phase (piece_len (OfSlave ss))) (since-more (deed (move.Deliver bytes) (takes c load) f) e b)
+    ap (joined phase (piece_len (OfSlave ss))) (since-more (deed (move.Deliver bytes) (takes_frame c load) f) e b)
     ∙ (joined-taken phase (piece_len (OfSlave ss)) c load (uploaded ss phase e) n
     ∙ part-taken phase (receives (OfSlave ss)) (piece_len (OfSlave ss)) bytes load (uploaded ss phase e) c (phase_by bytes c head) is)
 
-pub state_next : (ss : SlaveSettings) (e : List Deed) (bytes load f : List ℕ) (c : Command) → c ≢ command.Reset → has_command command.Reset f ≡ false → state_of (OfSlave ss) (deed (move.Deliver bytes) (takes c load) f ∷ e) ≡ phase_of c
+pub state_next : (ss : SlaveSettings) (e : List Deed) (bytes load f : List ℕ) (c : Command) → c ≢ command.Reset → has_command command.Reset f ≡ false → state_of (OfSlave ss) (deed (move.Deliver bytes) (takes_frame c load) f ∷ e) ≡ phase_of c
 state_next ss e bytes load f c n b =
-    ap phase_taken (since-more (deed (move.Deliver bytes) (takes c load) f) e b) ∙ state-taken (deed (move.Deliver bytes) (takes c load) f) (since e) c load refl n
+    ap phase_taken (since-more (deed (move.Deliver bytes) (takes_frame c load) f) e b) ∙ state-taken (deed (move.Deliver bytes) (takes_frame c load) f) (since e) c load refl n
 
 -- what the tests tell of uploaded parameters: they begin with the length of the slave's profile, and have its word
 pub record Tested (ss : SlaveSettings) (u : List ℕ) : Type 0 where
@@ -148,9 +148,9 @@ tested-next ss u p rest t h =
     }
 
 tested-taken : (ss : SlaveSettings) (e : List Deed) (bytes load : List ℕ) (c : Command) (f : List ℕ) → Tested ss (uploaded ss state.Parameter e) → Taking e bytes load (OfSlave ss) c f
-    → Tested ss (uploaded ss state.Parameter (answered bytes c load f e))
+    → Tested ss (uploaded ss state.Parameter (with_answer bytes c load f e))
 tested-taken ss e bytes load command.Reset f t taking =
-    subst (λ (f : List ℕ). Tested ss (uploaded ss state.Parameter (answered bytes command.Reset load f e))) (sym (answer_is e bytes load (OfSlave ss) command.Reset f taking)) (none-tested ss)
+    subst (λ (f : List ℕ). Tested ss (uploaded ss state.Parameter (with_answer bytes command.Reset load f e))) (sym (answer_is e bytes load (OfSlave ss) command.Reset f taking)) (none-tested ss)
 tested-taken ss e bytes load command.Parameter f t taking =
     let x = (exchange_of e bytes load (OfSlave ss) command.Parameter f taking (λ k. cc)).2 in
     let b = x.in_session.in_session in

@@ -18,7 +18,7 @@ use Rattle.end_model.specs.Setup.{Setup, OfMaster, sends, receives}
 use Rattle.end_model.specs.Phases.{is_reset}
 use Rattle.end_model.specs.Deed.{Deed, is_empty}
 use Rattle.end_model.specs.Chain.{own_link, taken_link}
-use Rattle.end_model.specs.Step.{takes, begun}
+use Rattle.end_model.specs.Step.{takes_frame, begun}
 use Rattle.end_model.proofs.Links.{own_crc}
 use Rattle.end_model.proofs.ReadBack.{read_back}
 use Rattle.master_core.specs.States.{chain_sent, frame_sent}
@@ -41,7 +41,7 @@ chain_at s e = record { own = own_link s e; taken = taken_link s e }
 
 chain-next : (s : Setup) (e : List Deed) (bytes load sent : List ℕ) (c : Command) (conn : ℕ) (c2 : Command) (answer : List ℕ) → is_reset c ≡ false → is_empty sent ≡ false
     → frame_of (sends s) sent ≡ sealing.sealed (first_of (frame_of (receives s) bytes).crcs) (own_link s e) conn (command_byte c2) answer
-    → chain_at s (record { what = move.Deliver bytes; did = takes c load; sent = sent } ∷ e) ≡ chain_sent (after_taken (chain_at s e) (frame_of (receives s) bytes)) conn c2 answer
+    → chain_at s (record { what = move.Deliver bytes; did = takes_frame c load; sent = sent } ∷ e) ≡ chain_sent (after_taken (chain_at s e) (frame_of (receives s) bytes)) conn c2 answer
 chain-next s e bytes load sent c conn c2 answer r some back = simp (r, some, back, own_crc)
 
 -- the frame that follows a frame that was taken, and the deed
@@ -52,7 +52,7 @@ abbrev pub next_chain : MasterSettings → List Deed → List ℕ → ℕ → Co
 next_chain ms e bytes conn c2 load = chain_sent (after_taken (notes_of ms e).chain (came ms bytes)) conn c2 load
 
 abbrev pub taking : MasterSettings → List ℕ → Command → List ℕ → Deed
-taking ms bytes c sent = record { what = move.Deliver bytes; did = takes c (came ms bytes).load; sent = sent }
+taking ms bytes c sent = record { what = move.Deliver bytes; did = takes_frame c (came ms bytes).load; sent = sent }
 
 -- the chain after a deed that took a frame and sent the next one, where e are the deeds of the session
 pub chain_after : (ms : MasterSettings) (e : List Deed) (bytes : List ℕ) (c : Command) (conn : ℕ) (c2 : Command) (load : List ℕ) → is_reset c ≡ false → length load ≡ ms.lengths.master
@@ -60,7 +60,7 @@ pub chain_after : (ms : MasterSettings) (e : List Deed) (bytes : List ℕ) (c : 
     ≡ chain_sent (after_taken (chain_at (OfMaster ms) e) (came ms bytes)) conn c2 load
 chain_after ms e bytes c conn c2 load r h =
     chain-next (OfMaster ms) e bytes (came ms bytes).load (frame_sent (after_taken (chain_at (OfMaster ms) e) (came ms bytes)) conn c2 load) c conn c2 load r refl
-    (read_back (OfMaster ms) (begun (move.Deliver bytes) (takes command.Session (came ms bytes).load) ∷ e) conn c2 load h)
+    (read_back (OfMaster ms) (begun (move.Deliver bytes) (takes_frame command.Session (came ms bytes).load) ∷ e) conn c2 load h)
 
 -- a piece and zeros fill a frame
 short : (payload : List ℕ) (from c : ℕ) → length (piece_from payload from c) ≤ c

@@ -21,7 +21,7 @@ use Rattle.end_model.specs.Deed.{Deed, is_empty}
 use Rattle.end_model.specs.Chain.{since, taken, newest_crc, own_link, seal}
 use Rattle.end_model.specs.Payloads.{nonce}
 use Rattle.end_model.specs.Readiness.{state_of}
-use Rattle.end_model.specs.Step.{takes, on_reset_frame, begun, deed_of}
+use Rattle.end_model.specs.Step.{takes_frame, on_reset_frame, begun, deed_of}
 use Rattle.end_model.proofs.Links.{taken_crc}
 use Rattle.end_model.proofs.ReadBack.{read_back}
 use Rattle.master_core.specs.declared.due.Next.TheVariants as next
@@ -47,7 +47,7 @@ sealed-fresh s e conn c load h =
 -- the chain after a Reset frame was taken and this frame sent
 chain-begun : (s : Setup) (e : List Deed) (bytes load sent answer : List ℕ) (conn : ℕ) (c2 : Command) → is_empty sent ≡ false
     → frame_of (sends s) sent ≡ sealing.sealed (newest_crc (receives s) (taken e)) (own_link s e) conn (command_byte c2) answer
-    → chain_at s (record { what = move.Deliver bytes; did = takes command.Reset load; sent = sent } ∷ e) ≡ chain_sent (chain_at s e) conn c2 answer
+    → chain_at s (record { what = move.Deliver bytes; did = takes_frame command.Reset load; sent = sent } ∷ e) ≡ chain_sent (chain_at s e) conn c2 answer
 chain-begun s e bytes load sent answer conn c2 some back = simp (some, back, taken_crc)
 
 -- the first piece of the session id
@@ -82,9 +82,9 @@ begins-after ms e bytes h a s =
     }
 
 begins-sent : (ms : MasterSettings) (e : List Deed) (bytes : List ℕ) → notes_of ms e ≡ no_notes ms
-    → (deed_of (OfMaster ms) e (move.Deliver bytes) (takes command.Reset (came ms bytes).load)).sent ≡ (begun_outcome ms e bytes).sent
+    → (deed_of (OfMaster ms) e (move.Deliver bytes) (takes_frame command.Reset (came ms bytes).load)).sent ≡ (begun_outcome ms e bytes).sent
 begins-sent ms e bytes h =
-    let before : List Deed = begun (move.Deliver bytes) (takes command.Reset (came ms bytes).load) ∷ e in
+    let before : List Deed = begun (move.Deliver bytes) (takes_frame command.Reset (came ms bytes).load) ∷ e in
     let id_is : unwrap_or (notes_of ms e).id (nonce (OfMaster ms) e) ≡ nonce (OfMaster ms) e = ap (λ (n : Notes). unwrap_or n.id (nonce (OfMaster ms) e)) h in
     ap (λ (i : ℕ). seal (OfMaster ms) (since before) 0 command.Session (padded (piece_from (session_payload i ms.profile) ((1 - 1) * piece_len (OfMaster ms)) (piece_len (OfMaster ms))) ms.lengths.master)) id_is
     ∙ (ap (λ (n : ℕ). seal (OfMaster ms) (since before) 0 command.Session (padded (piece_from (session_payload (nonce (OfMaster ms) e) ms.profile) n (piece_len (OfMaster ms))) ms.lengths.master)) (none_before 0 (piece_len (OfMaster ms)) refl)
@@ -92,7 +92,7 @@ begins-sent ms e bytes h =
 
 -- in state Reset the Reset frame with code 0 begins a session, another one is dropped
 by-code : (ms : MasterSettings) (e : List Deed) (bytes : List ℕ) (b : Bool) → state_of (OfMaster ms) e ≡ state.Reset → notes_of ms e ≡ no_notes ms → Arrived ms bytes → Sound ms e
-    → Agrees ms e (move.Deliver bytes) (if b then takes command.Reset (came ms bytes).load else dropped why.InReset)
+    → Agrees ms e (move.Deliver bytes) (if b then takes_frame command.Reset (came ms bytes).load else dropped why.InReset)
     (answered_by (if b then leaves (view_in state.Reset ms e) (next.Begin (bytes_of (came ms bytes))) (accepts command.Reset (came ms bytes).load false) else drops (view_in state.Reset ms e) why.InReset))
 by-code ms e bytes true at h a s = takes-agree ms e bytes command.Reset (begun_outcome ms e bytes) (begins-after ms e bytes h a s) refl (begins-sent ms e bytes h)
 by-code ms e bytes false at h a s = drop-agrees state.Reset ms e bytes why.InReset at s

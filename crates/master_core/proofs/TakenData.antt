@@ -15,7 +15,7 @@ use Rattle.end_model.specs.Setup.{OfMaster}
 use Rattle.end_model.specs.Deed.{Deed}
 use Rattle.end_model.specs.Chain.{since}
 use Rattle.end_model.specs.Readiness.{offer, held}
-use Rattle.end_model.specs.Step.{takes, on_verdict, begun, with_data}
+use Rattle.end_model.specs.Step.{takes_frame, on_verdict, begun, with_data}
 use Rattle.end_model.specs.Verdict.{judged_contents, unless}
 use Rattle.master_core.specs.declared.now.Now.TheVariants as now
 use Rattle.master_core.specs.Master.{Outcome, settles, answered_by}
@@ -49,7 +49,7 @@ by-held ms e bytes true n load i = ap (λ (n : ℕ). next_frame ms e bytes ms.co
 by-held ms e bytes false n load i = refl
 
 pub data_sent : (ms : MasterSettings) (e : List Deed) (bytes : List ℕ) (c : Command) → is_reset c ≡ false → Sound ms e
-    → with_data (OfMaster ms) (begun (move.Deliver bytes) (takes c (came ms bytes).load) ∷ e) ≡ next_frame ms e bytes ms.conn (data_command (kit_of ms e).offer) (data_load (kit_of ms e).offer)
+    → with_data (OfMaster ms) (begun (move.Deliver bytes) (takes_frame c (came ms bytes).load) ∷ e) ≡ next_frame ms e bytes ms.conn (data_command (kit_of ms e).offer) (data_load (kit_of ms e).offer)
 data_sent ms e bytes command.Reset r s = absurd (cc r)
 data_sent ms e bytes command.Session r s = by-held ms e bytes (held e) (length (offer (OfMaster ms) e)) (offer (OfMaster ms) e) s.offer_len
 data_sent ms e bytes command.Connection r s = by-held ms e bytes (held e) (length (offer (OfMaster ms) e)) (offer (OfMaster ms) e) s.offer_len
@@ -102,7 +102,7 @@ data_outcome ms e bytes c b = answered_by (settles (view_in state.Data ms e) (se
 
 -- a ProcessData frame that passed the tests
 pub process-passed : (ms : MasterSettings) (e : List Deed) (bytes : List ℕ) → Arrived ms bytes → Sound ms e
-    → Agrees ms e (move.Deliver bytes) (takes command.ProcessData (came ms bytes).load) (data_outcome ms e bytes command.ProcessData true)
+    → Agrees ms e (move.Deliver bytes) (takes_frame command.ProcessData (came ms bytes).load) (data_outcome ms e bytes command.ProcessData true)
 process-passed ms e bytes a s =
     takes-agree ms e bytes command.ProcessData (data_outcome ms e bytes command.ProcessData true)
     (subst (λ (n : ℕ). IsNext ms e bytes command.ProcessData (data_command (kit_of ms e).offer) (if held e then replicate n 0 else offer (OfMaster ms) e)) (sym s.offer_len)

@@ -14,7 +14,7 @@ use Rattle.end_model.specs.Setup.{OfMaster, piece_len}
 use Rattle.end_model.specs.Deed.{Deed}
 use Rattle.end_model.specs.Chain.{since}
 use Rattle.end_model.specs.Payloads.{nonce, pay, pieces}
-use Rattle.end_model.specs.Step.{takes, on_verdict, deed_of}
+use Rattle.end_model.specs.Step.{takes_frame, on_verdict, deed_of}
 use Rattle.end_model.specs.Verdict.{judged_contents, contents, unless}
 use Rattle.master_core.specs.declared.now.Now.TheVariants as now
 use Rattle.master_core.specs.Master.{Outcome, settles, answered_by}
@@ -79,7 +79,7 @@ goes-on ms e bytes h a s =
 -- the frame is the next piece
 more-sent : (ms : MasterSettings) (e : List Deed) (bytes : List ℕ) → OfSession ms (notes_of ms e)
     → nat_lt (notes_of ms e).session (pieces (payload ms (id_of ms e)) (piece_len (OfMaster ms))) ≡ true
-    → (deed_of (OfMaster ms) e (move.Deliver bytes) (takes command.Session (came ms bytes).load)).sent ≡ (more_outcome ms e bytes).sent
+    → (deed_of (OfMaster ms) e (move.Deliver bytes) (takes_frame command.Session (came ms bytes).load)).sent ≡ (more_outcome ms e bytes).sent
 more-sent ms e bytes h m =
     let id_is : unwrap_or (notes_of ms e).id (nonce (OfMaster ms) e) ≡ id_of ms e = there _ _ (nonce (OfMaster ms) e) h.id_is in
     choose_first _ _ _ (ap (λ (i : ℕ). nat_lt (notes_of ms e).session (pieces (payload ms i) (piece_len (OfMaster ms)))) id_is ∙ m)
@@ -105,7 +105,7 @@ begins-next ms e bytes h a s =
 -- the frame is that piece
 whole-sent : (ms : MasterSettings) (e : List Deed) (bytes : List ℕ) → OfSession ms (notes_of ms e)
     → nat_lt (notes_of ms e).session (pieces (payload ms (id_of ms e)) (piece_len (OfMaster ms))) ≡ false
-    → (deed_of (OfMaster ms) e (move.Deliver bytes) (takes command.Session (came ms bytes).load)).sent ≡ (whole_outcome ms e bytes).sent
+    → (deed_of (OfMaster ms) e (move.Deliver bytes) (takes_frame command.Session (came ms bytes).load)).sent ≡ (whole_outcome ms e bytes).sent
 whole-sent ms e bytes h m =
     choose_second _ _ _ (ap (λ (i : ℕ). nat_lt (notes_of ms e).session (pieces (payload ms i) (piece_len (OfMaster ms)))) (there _ _ (nonce (OfMaster ms) e) h.id_is) ∙ m)
     ∙ ap (λ (n : ℕ). next_frame ms e bytes ms.conn command.Connection (padded (piece_from (pay ms 0 state.Connection) n (piece_len (OfMaster ms))) ms.lengths.master)) (none_before 0 (piece_len (OfMaster ms)) refl)

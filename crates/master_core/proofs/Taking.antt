@@ -9,7 +9,7 @@ use Rattle.param_load.specs.declared.entry.Move.TheVariants as move
 use Rattle.param_load.specs.declared.master_settings.MasterSettings.{MasterSettings}
 use Rattle.end_model.specs.Setup.{OfMaster}
 use Rattle.end_model.specs.Deed.{Deed}
-use Rattle.end_model.specs.Step.{takes, deed_of}
+use Rattle.end_model.specs.Step.{takes_frame, deed_of}
 use Rattle.master_core.specs.Master.{Outcome}
 use Rattle.master_core.specs.MasterView.{MasterView}
 use Rattle.master_core.specs.Views.{ExchangeView}
@@ -26,8 +26,8 @@ pub record After (ms : MasterSettings) (e : List Deed) (bytes : List ℕ) (c : C
   pub sound : Sound ms (taking ms bytes c sent ∷ e)
 
 -- such a deed is what the machine did
-pub takes-agree : (ms : MasterSettings) (e : List Deed) (bytes : List ℕ) (c : Command) (o : Outcome) → After ms e bytes c o.sent o.master → takes c (came ms bytes).load ≡ o.did
-    → (deed_of (OfMaster ms) e (move.Deliver bytes) (takes c (came ms bytes).load)).sent ≡ o.sent → Agrees ms e (move.Deliver bytes) (takes c (came ms bytes).load) o
+pub takes-agree : (ms : MasterSettings) (e : List Deed) (bytes : List ℕ) (c : Command) (o : Outcome) → After ms e bytes c o.sent o.master → takes_frame c (came ms bytes).load ≡ o.did
+    → (deed_of (OfMaster ms) e (move.Deliver bytes) (takes_frame c (came ms bytes).load)).sent ≡ o.sent → Agrees ms e (move.Deliver bytes) (takes_frame c (came ms bytes).load) o
 takes-agree ms e bytes c o done d i = record {
   view = λ r. ap (λ (f : List ℕ). view_of ms (taking ms bytes c f ∷ e)) i ∙ done.view r;
   did = d;

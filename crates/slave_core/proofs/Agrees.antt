@@ -25,7 +25,7 @@ use Rattle.end_model.specs.Setup.{OfSlave}
 use Rattle.end_model.specs.Deed.{Deed}
 use Rattle.end_model.specs.Payloads.{whole}
 use Rattle.end_model.specs.Readiness.{state_of, ticks, slave_age, limit, slave_limit}
-use Rattle.end_model.specs.Step.{takes, on_fault, on_reset_frame, on_expiry, code_sent, deed_of}
+use Rattle.end_model.specs.Step.{takes_frame, on_fault, on_reset_frame, on_expiry, code_sent, deed_of}
 use Rattle.slave_core.specs.declared.now.Now.{Now}
 use Rattle.slave_core.specs.Kit.{KitView}
 use Rattle.slave_core.specs.Slave.{Outcome, quiet, drops, falls, refuses, reset_by_peer, tick_in_session, tick_of}
@@ -92,7 +92,7 @@ fault-agrees state.Data ss e bytes passed x now s = resets-agree state.Data ss e
 
 -- a valid Reset frame
 acknowledged : (ss : SlaveSettings) (e : List Deed) (bytes load : List ℕ) (x : Code) → Sound ss e
-    → Agrees ss e (move.Deliver bytes) (takes command.Reset load) (reset_by_peer (view_in state.Reset ss e) x load)
+    → Agrees ss e (move.Deliver bytes) (takes_frame command.Reset load) (reset_by_peer (view_in state.Reset ss e) x load)
 acknowledged ss e bytes load x s = record {
   view = λ r. same_slave _ _ _ _ _ _ _ _ refl refl (fresh_limit ss) refl;
   did = refl;

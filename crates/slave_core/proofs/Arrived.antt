@@ -22,7 +22,7 @@ use Rattle.end_model.specs.Setup.{Setup, OfSlave, sends, receives, piece_len}
 use Rattle.end_model.specs.Phases.{phase_of, phase_of_known, phase_of_frame, same_phase, has_command, is_reset}
 use Rattle.end_model.specs.Deed.{Deed, is_empty}
 use Rattle.end_model.specs.Chain.{own_link, taken_link}
-use Rattle.end_model.specs.Step.{takes}
+use Rattle.end_model.specs.Step.{takes_frame}
 use Rattle.end_model.proofs.Links.{own_crc}
 use Rattle.slave_core.specs.States.{answered}
 use Rattle.slave_core.proofs.SameVerdict.{came}
@@ -55,7 +55,7 @@ chain_at s e = record { own = own_link s e; taken = taken_link s e }
 -- the chain with one deed more, which took a frame and sent an answer
 pub chain-next : (s : Setup) (e : List Deed) (bytes load sent : List ℕ) (c : Command) (conn : ℕ) (c2 : Command) (answer : List ℕ) → is_reset c ≡ false → is_empty sent ≡ false
     → frame_of (sends s) sent ≡ sealing.sealed (first_of (frame_of (receives s) bytes).crcs) (own_link s e) conn (command_byte c2) answer
-    → chain_at s (record { what = move.Deliver bytes; did = takes c load; sent = sent } ∷ e) ≡ answered (chain_at s e) (record { command = c; frame = frame_of (receives s) bytes }) conn c2 answer
+    → chain_at s (record { what = move.Deliver bytes; did = takes_frame c load; sent = sent } ∷ e) ≡ answered (chain_at s e) (record { command = c; frame = frame_of (receives s) bytes }) conn c2 answer
 chain-next s e bytes load sent c conn c2 answer r some back = simp (r, some, back, own_crc)
 
 -- the first bytes of a load

@@ -22,7 +22,7 @@ use Rattle.end_model.specs.Deed.{Deed}
 use Rattle.end_model.specs.Chain.{since, seal}
 use Rattle.end_model.specs.Payloads.{slave_conn, conn_id}
 use Rattle.end_model.specs.Readiness.{state_of, slave_limit}
-use Rattle.end_model.specs.Step.{takes, on_verdict, begun}
+use Rattle.end_model.specs.Step.{takes_frame, on_verdict, begun}
 use Rattle.end_model.specs.Verdict.{judged_contents, contents}
 use Rattle.end_model.proofs.ReadBack.{read_back}
 use Rattle.slave_core.specs.declared.now.Now.TheVariants as now
@@ -104,7 +104,7 @@ connection-agrees None p ss e bytes tested at s j a =
     let load : List ℕ = (came ss bytes).load in
     let conn : ℕ = (came ss bytes).conn in
     let c : ℕ = piece_len (OfSlave ss) in
-    let before : List Deed = begun (move.Deliver bytes) (takes command.Connection load) ∷ e in
+    let before : List Deed = begun (move.Deliver bytes) (takes_frame command.Connection load) ∷ e in
     let long : length (take c load) ≡ c = piece-len load ss.lengths.master c a.load_len (piece-peer ss) in
     let echo : List ℕ = drop (length ((notes_of ss e).connection ++ take c load) - c) ((notes_of ss e).connection ++ take c load) in
     let echo_is : echo ≡ take c load = last-piece (notes_of ss e).connection (take c load) c long in

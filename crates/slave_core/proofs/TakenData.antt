@@ -22,7 +22,7 @@ use Rattle.end_model.specs.Deed.{Deed}
 use Rattle.end_model.specs.Chain.{since, seal}
 use Rattle.end_model.specs.Payloads.{slave_conn, conn_id, whole}
 use Rattle.end_model.specs.Readiness.{state_of, offer, held, slave_limit}
-use Rattle.end_model.specs.Step.{takes, on_verdict, begun, deed_of, IsRun}
+use Rattle.end_model.specs.Step.{takes_frame, on_verdict, begun, deed_of, IsRun}
 use Rattle.end_model.specs.Verdict.{judged_contents}
 use Rattle.end_model.proofs.ReadBack.{read_back}
 use Rattle.slave_core.specs.declared.now.Now.TheVariants as now
@@ -47,7 +47,7 @@ conn_of ss e = number_at 0 (notes_of ss e).connection
 
 -- the deed that takes a data frame and sends this
 abbrev taking : SlaveSettings → List ℕ → Command → List ℕ → Deed
-taking ss bytes c sent = record { what = move.Deliver bytes; did = takes c (came ss bytes).load; sent = sent }
+taking ss bytes c sent = record { what = move.Deliver bytes; did = takes_frame c (came ss bytes).load; sent = sent }
 
 -- the answer with this command and load
 abbrev data_answer : SlaveSettings → List Deed → List ℕ → Command → Command → List ℕ → List ℕ
@@ -78,7 +78,7 @@ data-chain : (ss : SlaveSettings) (e : List Deed) (bytes : List ℕ) (c c2 : Com
     → chain_at (OfSlave ss) (taking ss bytes c (data_answer ss e bytes c c2 load) ∷ since e) ≡ answered (notes_of ss e).chain (seen ss bytes c) (conn_of ss e) c2 load
 data-chain ss e bytes c c2 load r h =
     chain-next (OfSlave ss) (since e) bytes (came ss bytes).load (data_answer ss e bytes c c2 load) c (conn_of ss e) c2 load r refl
-    (read_back (OfSlave ss) (since (begun (move.Deliver bytes) (takes command.Session (came ss bytes).load) ∷ e)) (conn_of ss e) c2 load h)
+    (read_back (OfSlave ss) (since (begun (move.Deliver bytes) (takes_frame command.Session (came ss bytes).load) ∷ e)) (conn_of ss e) c2 load h)
 
 -- what is known before a data frame
 record Ready (ss : SlaveSettings) (e : List Deed) (bytes : List ℕ) : Type 0 where
@@ -172,8 +172,8 @@ data_settles b p ss e bytes c =
 
 -- a data frame is taken
 taken-agrees : (p : State) (ss : SlaveSettings) (e : List Deed) (bytes : List ℕ) (c : Command) → is_data c ≡ true → Ready ss e bytes
-    → (deed_of (OfSlave ss) e (move.Deliver bytes) (takes c (came ss bytes).load)).sent ≡ data_answer ss e bytes c (data_command (kit_of ss e).offer) (data_load (kit_of ss e).offer)
-    → Agrees ss e (move.Deliver bytes) (takes c (came ss bytes).load) (data_settles true p ss e bytes c)
+    → (deed_of (OfSlave ss) e (move.Deliver bytes) (takes_frame c (came ss bytes).load)).sent ≡ data_answer ss e bytes c (data_command (kit_of ss e).offer) (data_load (kit_of ss e).offer)
+    → Agrees ss e (move.Deliver bytes) (takes_frame c (came ss bytes).load) (data_settles true p ss e bytes c)
 taken-agrees p ss e bytes command.ProcessData d y sent =
     let done : After ss e bytes command.ProcessData _ _ = after-held ss e bytes command.ProcessData (held e) (length (offer (OfSlave ss) e)) y.sound.offer_len d y in
     record {
@@ -210,9 +210,9 @@ answer-conn : (ss : SlaveSettings) (e : List Deed) (next : Option ℕ) → Conne
 answer-conn ss e next j = there _ _ (keeps (slave_conn ss e) next _ j.conn_is) ∙ sym j.conn_said
 
 pub process-agrees : (p : State) (ss : SlaveSettings) (e : List Deed) (bytes : List ℕ) → Sound ss e → Connected ss e → Arrived ss bytes command.ProcessData → whole ss.profile state.Parameter (notes_of ss e).parameter ≡ true → IsRun (OfSlave ss) e
-    → Agrees ss e (move.Deliver bytes) (takes command.ProcessData (came ss bytes).load) (data_settles true p ss e bytes command.ProcessData)
+    → Agrees ss e (move.Deliver bytes) (takes_frame command.ProcessData (came ss bytes).load) (data_settles true p ss e bytes command.ProcessData)
 process-agrees p ss e bytes s j a w run =
-    let before : List Deed = begun (move.Deliver bytes) (takes command.ProcessData (came ss bytes).load) ∷ e in
+    let before : List Deed = begun (move.Deliver bytes) (takes_frame command.ProcessData (came ss bytes).load) ∷ e in
     taken-agrees p ss e bytes command.ProcessData refl (ready ss e bytes command.ProcessData s j a w run)
     (sent-held ss e (since before) bytes command.ProcessData (held e) (offer (OfSlave ss) e) (conn_id (OfSlave ss) before) (length (offer (OfSlave ss) e)) (answer-conn ss e _ j) s.offer_len (λ k c2 load. refl))
 
@@ -220,6 +220,6 @@ pub failsafe-agrees : (b : Bool) (p : State) (ss : SlaveSettings) (e : List Deed
     → Agrees ss e (move.Deliver bytes) (on_verdict p (OfSlave ss) (judged_contents command.FailSafeData (came ss bytes).load (if b then None else Some (code 0x07)))) (data_settles b p ss e bytes command.FailSafeData)
 failsafe-agrees false p ss e bytes at s j a w run = fault-agrees p ss e bytes true (code 0x07) at s
 failsafe-agrees true p ss e bytes at s j a w run =
-    let before : List Deed = begun (move.Deliver bytes) (takes command.FailSafeData (came ss bytes).load) ∷ e in
+    let before : List Deed = begun (move.Deliver bytes) (takes_frame command.FailSafeData (came ss bytes).load) ∷ e in
     taken-agrees p ss e bytes command.FailSafeData refl (ready ss e bytes command.FailSafeData s j a w run)
     (sent-held ss e (since before) bytes command.FailSafeData (held e) (offer (OfSlave ss) e) (conn_id (OfSlave ss) before) (length (offer (OfSlave ss) e)) (answer-conn ss e _ j) s.offer_len (λ k c2 load. refl))

@@ -20,7 +20,7 @@ use Rattle.end_model.specs.Deed.{Deed}
 use Rattle.end_model.specs.Chain.{since, seal}
 use Rattle.end_model.specs.Payloads.{slave_conn, conn_id, whole}
 use Rattle.end_model.specs.Readiness.{state_of, slave_limit}
-use Rattle.end_model.specs.Step.{takes, on_verdict, begun, deed_of, IsRun}
+use Rattle.end_model.specs.Step.{takes_frame, on_verdict, begun, deed_of, IsRun}
 use Rattle.end_model.specs.Verdict.{judged_contents}
 use Rattle.end_model.proofs.ReadBack.{read_back}
 use Rattle.end_model.proofs.Shown.{slave-run}
@@ -84,8 +84,8 @@ parameter-agrees None p ss e bytes at s j a run =
     let conn : ℕ = unwrap_or (slave_conn ss e) 0 in
     let c : ℕ = piece_len (OfSlave ss) in
     let u : List ℕ = (notes_of ss e).parameter ++ take c load in
-    let before : List Deed = begun (move.Deliver bytes) (takes command.Parameter load) ∷ e in
-    let after : List Deed = deed_of (OfSlave ss) e (move.Deliver bytes) (takes command.Parameter load) ∷ e in
+    let before : List Deed = begun (move.Deliver bytes) (takes_frame command.Parameter load) ∷ e in
+    let after : List Deed = deed_of (OfSlave ss) e (move.Deliver bytes) (takes_frame command.Parameter load) ∷ e in
     let echo_is : drop (length u - c) u ≡ take c load = last-piece (notes_of ss e).parameter (take c load) c (piece-len load ss.lengths.master c a.load_len (piece-peer ss)) in
     let full : length (padded (take c load) ss.lengths.slave) ≡ ss.lengths.slave = filled load c ss.lengths.slave (piece-own ss) in
     let next : slave_conn ss before ≡ Some conn = keeps (slave_conn ss e) _ conn j.conn_is in

@@ -18,7 +18,7 @@ use Rattle.end_model.specs.Deed.{Deed}
 use Rattle.end_model.specs.Chain.{since, seal}
 use Rattle.end_model.specs.Payloads.{nonce}
 use Rattle.end_model.specs.Readiness.{state_of, slave_limit}
-use Rattle.end_model.specs.Step.{takes, on_verdict, begun, id_piece}
+use Rattle.end_model.specs.Step.{takes_frame, on_verdict, begun, id_piece}
 use Rattle.end_model.specs.Verdict.{judged_contents}
 use Rattle.end_model.proofs.ReadBack.{read_back}
 use Rattle.slave_core.specs.declared.now.Now.TheVariants as now
@@ -78,7 +78,7 @@ pub session-agrees : (w : Option Code) (p : State) (ss : SlaveSettings) (e : Lis
 session-agrees (Some x) p ss e bytes i at s o a = fault-agrees p ss e bytes true x at s
 session-agrees None p ss e bytes i at s o a =
     let load : List ℕ = (came ss bytes).load in
-    let before : List Deed = begun (move.Deliver bytes) (takes command.Session load) ∷ e in
+    let before : List Deed = begun (move.Deliver bytes) (takes_frame command.Session load) ∷ e in
     let piece : List ℕ = id_piece ss before in
     let piece_is : piece ≡ piece_from (session_payload i ss.profile) (length (notes_of ss e).session) (piece_len (OfSlave ss)) =
     the-piece ss.profile (piece_len (OfSlave ss)) (notes_of ss e).id (nonce (OfSlave ss) e) i (count_of e) (length (notes_of ss e).session) _ a.phase_is o.id_now o.count_is in
