@@ -1,7 +1,7 @@
 -- The CRC by a table of what eight zero bits make of a high byte.
-use Rattle.std.proofs.Common.{◌≡◌, ℕ, ◌*◌, ◌/◌, ◌%◌, ◌<◌, List, [], ◌∷◌, ◌++◌, bit_xor, refl, sym, ap, ◌∙◌, arith, lit<, add-zero}
-use Rattle.std.specs.Int.Bits.{xor_zero_r, xor_shifted, xor_lt, xor_comm}
-use Rattle.fsoe_crc.specs.Remainder.{fed_bits, bits_of, fed_bytes, sixteen_zeros, rem, table_entry, eight_zeros}
+use Rattle.std.proofs.Common.{◌≡◌, ℕ, ◌*◌, ◌/◌, ◌%◌, ◌<◌, List, [], ◌∷◌, ◌++◌, bit_xor, refl, sym, ap, ◌∙◌, arith, lit<, add-zero, append_assoc}
+use Rattle.std.specs.Int.Bits.{xor_zero_r, xor_shifted, xor_lt, xor_comm, xor_assoc}
+use Rattle.fsoe_crc.specs.Remainder.{fed_bits, bits_of, fed_bytes, sixteen_zeros, rem, table_entry, pair_entry, eight_zeros}
 use Rattle.fsoe_crc.proofs.Linear.{byte_xor, byte-below, fed_bytes-append, fed_bytes-below}
 use Rattle.fsoe_crc.proofs.Adjacent.{first_byte, second_byte}
 
@@ -78,3 +78,41 @@ pub stepped_by_table : (r b : ℕ) → r < 0x10000 → b < 256 → stepped r b �
 stepped_by_table r b hr hb =
     let e : 256 * b ≡ b * 256 % 0x10000 = omega arith in
     stepped_is r b ∙ ap (λ x. eight (bit_xor r x)) e ∙ eight_by_table (bit_xor r (b * 256 % 0x10000)) (xor_lt 16 r (b * 256 % 0x10000) hr (omega arith))
+
+pair_is : (h : ℕ) → pair_entry h ≡ eight (eight (256 * h))
+unfolding pair_entry
+pair_is h = sixteen_twice (256 * h)
+
+-- sixteen zero bits by both tables
+sixteen_by_tables : (f : ℕ) → f < 0x10000 → eight (eight f) ≡ bit_xor (pair_entry (f / 256)) (table_entry (f % 256))
+sixteen_by_tables f hf =
+    let parts : bit_xor (f / 256 * 256) (f % 256) ≡ f = xor_shifted (f / 256) 8 (f % 256) (omega arith) ∙ (omega arith) in
+    let high : f / 256 * 256 ≡ 256 * (f / 256) = omega arith in
+    let below : f / 256 * 256 < 0x10000 = omega arith in
+    let low_below : f % 256 < 0x10000 = omega arith in
+    sym (ap (λ x. eight (eight x)) parts)
+    ∙ ap eight (eight_xor (f / 256 * 256) (f % 256) below low_below)
+    ∙ eight_xor (eight (f / 256 * 256)) (eight (f % 256)) (eight_below (f / 256 * 256) below) (eight_below (f % 256) low_below)
+    ∙ ap (λ x. bit_xor x (eight (eight (f % 256)))) (ap (λ x. eight (eight x)) high ∙ sym (pair_is (f / 256)))
+    ∙ ap (bit_xor (pair_entry (f / 256))) (ap eight (eight_of_byte (f % 256) (omega arith)) ∙ sym (table_is (f % 256)))
+
+-- two steps at once
+stepped_twice : (r a b : ℕ) → r < 0x10000 → a < 256 → b < 256 → stepped (stepped r a) b ≡ eight (eight (bit_xor (bit_xor r (256 * a)) b))
+stepped_twice r a b hr ha hb =
+    let x : ℕ = bit_xor r (256 * a) in
+    let hx : bit_xor r (256 * a) < 0x10000 = xor_lt 16 r (256 * a) hr (omega arith) in
+    stepped_is (stepped r a) b
+    ∙ ap (λ y. eight (bit_xor y (256 * b))) (stepped_is r a)
+    ∙ ap (λ y. eight (bit_xor (eight x) y)) (sym (eight_of_byte b hb))
+    ∙ sym (ap eight (eight_xor x b hx (omega arith)))
+
+-- what the code computes of two bytes
+pub rem-pair : (bytes : List ℕ) (r a b : ℕ) → r ≡ rem bytes → r < 0x10000 → a < 256 → b < 256
+    → bit_xor (pair_entry (bit_xor (bit_xor r (256 * a)) b / 256)) (table_entry (bit_xor (bit_xor r (256 * a)) b % 256)) ≡ rem (bytes ++ a ∷ b ∷ [])
+rem-pair bytes r a b e hr ha hb =
+    sym (sixteen_by_tables (bit_xor (bit_xor r (256 * a)) b) (xor_lt 16 (bit_xor r (256 * a)) b (xor_lt 16 r (256 * a) hr (omega arith)) (omega arith)))
+    ∙ sym (stepped_twice r a b hr ha hb)
+    ∙ ap (λ x. stepped (stepped x a) b) e
+    ∙ ap (λ x. stepped x b) (sym (rem-step bytes a ha))
+    ∙ sym (rem-step (bytes ++ a ∷ []) b hb)
+    ∙ ap rem (append_assoc bytes (a ∷ []) (b ∷ []))

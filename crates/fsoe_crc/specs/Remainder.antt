@@ -36,6 +36,10 @@ rem bytes = fed_bits (fed_bytes 0 bytes) sixteen_zeros
 unfoldable pub table_entry : ℕ → ℕ
 table_entry high = fed_bits (256 * high) eight_zeros
 
+-- what sixteen zero bits make of a high byte over a low byte 0
+unfoldable pub pair_entry : ℕ → ℕ
+pair_entry high = fed_bits (256 * high) sixteen_zeros
+
 -- opens all that a worked value of the CRC computes with
 unfoldable pub computing : Unit {0}
 unfolding rem fed bits_of sixteen_zeros

@@ -1,6 +1,6 @@
 //! The CRCs of a frame, over what they cover.
 
-ghost use Rattle.std.specs.Prelude.{◌≡◌, ◌<◌, ◌++◌, ℕ, List, length, IsTrue};
+ghost use Rattle.std.specs.Prelude.{◌≡◌, ◌<◌, [], ◌∷◌, ◌++◌, ℕ, List, length, IsTrue};
 ghost use Rattle.fsoe_base.specs.Lengths.{is_length, group_count};
 ghost use Rattle.fsoe_crc.specs.Remainder.{rem};
 ghost use Rattle.fsoe_base.specs.Bytes.{low_high};
@@ -22,10 +22,10 @@ pub(crate) fn crcs_into(last: u16, conn: u16, number: u16, command: u8, load: &[
     out.clear();
     let common = common_part(last, conn, number, command);
     if load.len() == 1 {
-        out.push(group_crc(&common, 0, load));
+        out.push(byte_crc(&common, load[0]));
     } else {
         for group in 0..load.len() / 2 {
-            out.push(group_crc(&common, group, &load[2 * group..2 * group + 2]));
+            out.push(pair_crc(&common, group, load[2 * group], load[2 * group + 1]));
         }
     }
 }
@@ -37,9 +37,9 @@ pub(crate) fn first_crc(last: u16, conn: u16, number: u16, command: u8, load: &[
 {
     let common = common_part(last, conn, number, command);
     if load.len() == 1 {
-        group_crc(&common, 0, load)
+        byte_crc(&common, load[0])
     } else {
-        group_crc(&common, 0, &load[0..2])
+        pair_crc(&common, 0, load[0], load[1])
     }
 }
 
@@ -55,15 +55,25 @@ fn common_part(last: u16, conn: u16, number: u16, command: u8) -> Register
     register
 }
 
-/// The CRC of the group at this place, after the common part.
-fn group_crc(common: &Register, index: usize, group: &[u8]) -> u16
+/// The CRC of a group of two bytes at this place, after the common part.
+fn pair_crc(common: &Register, index: usize, first: u8, second: u8) -> u16
     requires { index < 65536 }
-    ensures { (first : List ℕ) → common.now ≡ rem first → result ≡ rem (covered first index group.now) }
+    ensures { (begun : List ℕ) → common.now ≡ rem begun → result ≡ rem (covered begun index (first ∷ second ∷ [])) }
 {
     let mut register = common.copy();
     feed_place(&mut register, index);
-    feed_all(&mut register, group);
-    feed_all(&mut register, &[0, 0, 0]);
+    register.feed_pair(first, second);
+    feed_end(&mut register);
+    register.value()
+}
+
+/// The CRC of a load of one byte, after the common part.
+fn byte_crc(common: &Register, byte: u8) -> u16
+    ensures { (begun : List ℕ) → common.now ≡ rem begun → result ≡ rem (covered begun 0 (byte ∷ [])) }
+{
+    let mut register = common.copy();
+    register.feed(byte);
+    feed_end(&mut register);
     register.value()
 }
 
@@ -77,13 +87,12 @@ fn feed_place(register: &mut Register, index: usize)
     }
 }
 
-/// Feeds these bytes.
-fn feed_all(register: &mut Register, bytes: &[u8])
-    ensures { (fed : List ℕ) → register.old ≡ rem fed → register.new ≡ rem (fed ++ bytes.now) }
+/// Feeds the three zeros that every group ends with.
+fn feed_end(register: &mut Register)
+    ensures { (fed : List ℕ) → register.old ≡ rem fed → register.new ≡ rem (fed ++ 0 ∷ 0 ∷ 0 ∷ []) }
 {
-    for byte in bytes {
-        register.feed(*byte);
-    }
+    register.feed_pair(0, 0);
+    register.feed(0);
 }
 
 /// Feeds a number of 16 bits, low byte first.
@@ -91,6 +100,5 @@ fn feed_number(register: &mut Register, n: u16)
     ensures { (fed : List ℕ) → register.old ≡ rem fed → register.new ≡ rem (fed ++ low_high n) }
 {
     let [low, high] = n.to_le_bytes();
-    register.feed(low);
-    register.feed(high);
+    register.feed_pair(low, high);
 }
