@@ -1,21 +1,23 @@
 //! The bytes of one frame.
-ghost use Rattle.std.specs.Prelude.{◌≡◌, ◌≤◌, ◌<◌, ◌==◌, [], ◌∷◌, ◌++◌, length};
+ghost use Rattle.std.specs.Prelude.{◌≡◌, ◌+◌, ◌≤◌, ◌<◌, ◌==◌, [], ◌∷◌, ◌++◌, length};
 
-use arrayvec::ArrayVec;
 use std::marker::Model;
 
 /// The bytes of one frame, at most 255, or of none where it is empty. Contracts see it as a list.
 #[derive(Debug, Drop)]
 pub struct FrameBuf {
-    inner: ArrayVec<u8, 255>,
+    bytes: [u8; 255],
+    len: usize,
 }
 
 impl Model for FrameBuf {
-    ghost use Rattle.std.specs.Prelude.{ℕ, List};
+    ghost use Rattle.std.specs.Prelude.{◌≤◌, ℕ, List, take};
 
     ghost Value = { List ℕ };
 
-    ghost view = { λ f. f.inner.items };
+    ghost view = { λ f. take f.len f.bytes };
+
+    ghost invariant = { λ f. f.len ≤ 255 };
 }
 
 impl FrameBuf {
@@ -24,7 +26,8 @@ impl FrameBuf {
         ensures { result ≡ [] }
     {
         FrameBuf {
-            inner: ArrayVec::new(),
+            bytes: [0; 255],
+            len: 0,
         }
     }
 
@@ -33,14 +36,14 @@ impl FrameBuf {
         ensures value { result ≡ length self.now }
         ensures most { result ≤ 255 }
     {
-        self.inner.len()
+        self.len
     }
 
     /// Whether there are no bytes.
     pub fn is_empty(&self) -> bool
         ensures { result ≡ (length self.now == 0) }
     {
-        self.inner.is_empty()
+        self.len == 0
     }
 
     /// The bytes.
@@ -48,14 +51,14 @@ impl FrameBuf {
         ensures value { result.now ≡ self.now }
         ensures most { length result.now ≤ 255 }
     {
-        self.inner.as_slice()
+        &self.bytes[..self.len]
     }
 
     /// Forgets all bytes.
     pub fn clear(&mut self)
         ensures { self.new ≡ [] }
     {
-        self.inner.clear();
+        self.len = 0;
     }
 
     /// Appends a byte where fewer than 255 stand.
@@ -63,7 +66,16 @@ impl FrameBuf {
         requires { length self.old < 255 }
         ensures { self.new ≡ self.old ++ b ∷ [] }
     {
-        self.inner.push(b);
+        self.push_all(&[b]);
+    }
+
+    /// Appends bytes where there is room for them among 255.
+    pub fn push_all(&mut self, piece: &[u8])
+        requires { length self.old + length piece.now ≤ 255 }
+        ensures { self.new ≡ self.old ++ piece.now }
+    {
+        self.bytes[self.len..self.len + piece.len()].copy_from_slice(piece);
+        self.len += piece.len();
     }
 
     /// Takes these bytes, at most 255, in place of its own.
@@ -71,17 +83,18 @@ impl FrameBuf {
         requires { length from.now ≤ 255 }
         ensures { self.new ≡ from.now }
     {
-        self.inner.clear();
-        let _fits = self.inner.try_extend_from_slice(from);
+        self.bytes[..from.len()].copy_from_slice(from);
+        self.len = from.len();
     }
 
     /// The same bytes again.
     pub fn copy(&self) -> FrameBuf
         ensures { result ≡ self.now }
     {
-        let mut frame = FrameBuf::new();
-        frame.set(self.bytes());
-        frame
+        FrameBuf {
+            bytes: self.bytes,
+            len: self.len,
+        }
     }
 }
 

@@ -1,22 +1,24 @@
 //! The safe data of one direction.
-ghost use Rattle.std.specs.Prelude.{◌≡◌, ◌≤◌, ◌<◌, ◌*◌, ◌==◌, ◌^◌, ◌%◌, [], ◌∷◌, ◌++◌, length, replicate};
+ghost use Rattle.std.specs.Prelude.{◌≡◌, ◌≤◌, ◌<◌, ◌*◌, ◌==◌, ◌^◌, ◌%◌, ◌+◌, [], ◌∷◌, ◌++◌, length, replicate};
 ghost use Rattle.fsoe_base.specs.Image.{bit_of, byte_with, with_bit};
 
-use arrayvec::ArrayVec;
 use std::marker::Model;
 
 /// The safe data bytes of one direction, at most 126. Contracts see it as a list.
 #[derive(Debug, Drop)]
 pub struct Image {
-    inner: ArrayVec<u8, 126>,
+    bytes: [u8; 126],
+    len: usize,
 }
 
 impl Model for Image {
-    ghost use Rattle.std.specs.Prelude.{ℕ, List};
+    ghost use Rattle.std.specs.Prelude.{◌≤◌, ℕ, List, take};
 
     ghost Value = { List ℕ };
 
-    ghost view = { λ i. i.inner.items };
+    ghost view = { λ i. take i.len i.bytes };
+
+    ghost invariant = { λ i. i.len ≤ 126 };
 }
 
 /// The mask of a bit of a byte.
@@ -42,11 +44,10 @@ impl Image {
         requires { l ≤ 126 }
         ensures { result ≡ replicate l 0 }
     {
-        let mut inner = ArrayVec::new();
-        for _ in 0..l {
-            inner.push(0);
+        Image {
+            bytes: [0; 126],
+            len: l,
         }
-        Image { inner }
     }
 
     /// The number of bytes.
@@ -54,14 +55,14 @@ impl Image {
         ensures value { result ≡ length self.now }
         ensures most { result ≤ 126 }
     {
-        self.inner.len()
+        self.len
     }
 
     /// Whether there are no bytes.
     pub fn is_empty(&self) -> bool
         ensures { result ≡ (length self.now == 0) }
     {
-        self.inner.is_empty()
+        self.len == 0
     }
 
     /// The bytes.
@@ -69,14 +70,14 @@ impl Image {
         ensures value { result.now ≡ self.now }
         ensures most { length result.now ≤ 126 }
     {
-        self.inner.as_slice()
+        &self.bytes[..self.len]
     }
 
     /// Forgets all bytes.
     pub fn clear(&mut self)
         ensures { self.new ≡ [] }
     {
-        self.inner.clear();
+        self.len = 0;
     }
 
     /// Appends a byte where fewer than 126 stand.
@@ -84,7 +85,16 @@ impl Image {
         requires { length self.old < 126 }
         ensures { self.new ≡ self.old ++ b ∷ [] }
     {
-        self.inner.push(b);
+        self.push_all(&[b]);
+    }
+
+    /// Appends bytes where there is room for them among 126.
+    pub fn push_all(&mut self, piece: &[u8])
+        requires { length self.old + length piece.now ≤ 126 }
+        ensures { self.new ≡ self.old ++ piece.now }
+    {
+        self.bytes[self.len..self.len + piece.len()].copy_from_slice(piece);
+        self.len += piece.len();
     }
 
     /// Takes these bytes, at most 126, in place of its own.
@@ -92,19 +102,18 @@ impl Image {
         requires { length from.now ≤ 126 }
         ensures { self.new ≡ from.now }
     {
-        self.inner.clear();
-        let _fits = self.inner.try_extend_from_slice(from);
+        self.bytes[..from.len()].copy_from_slice(from);
+        self.len = from.len();
     }
 
     /// The same bytes again.
     pub fn copy(&self) -> Image
         ensures { result ≡ self.now }
     {
-        let mut image = Image {
-            inner: ArrayVec::new(),
-        };
-        image.set(self.bytes());
-        image
+        Image {
+            bytes: self.bytes,
+            len: self.len,
+        }
     }
 
     /// The value of a bit that exists: bit `b % 8`, lowest first, of byte `b / 8`.
@@ -122,7 +131,7 @@ impl Image {
     {
         let place = usize::from(b / 8);
         let mask = mask_of(b % 8);
-        let byte = self.inner[place];
-        self.inner[place] = if v { byte | mask } else { byte & (mask ^ 255) };
+        let byte = self.bytes[place];
+        self.bytes[place] = if v { byte | mask } else { byte & (mask ^ 255) };
     }
 }

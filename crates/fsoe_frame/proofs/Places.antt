@@ -186,18 +186,16 @@ pub frame_len_other : (l : ℕ) → IsTrue (is_length l) → l ≢ 1 → (l % 2 
 frame_len_other l valid other = ((even_length l valid other).0, len_other l other)
 
 -- one more pair is read
-pub reads_pair : (l : ℕ) (bytes out one two whole : List ℕ) (i : ℕ) → IsTrue (is_length l) → l ≢ 1 → length bytes ≡ frame_len l → i < l / 2
+pub reads_pair : (l : ℕ) (bytes out new whole : List ℕ) (i : ℕ) → IsTrue (is_length l) → l ≢ 1 → length bytes ≡ frame_len l → i < l / 2
     → out ++ (pairs (slice_index bytes 0) (drop (1 + 4 * i) bytes)).load ≡ whole
-    → one ≡ out ++ get_or bytes (1 + 4 * i) 0 ∷ []
-    → two ≡ one ++ get_or bytes (2 + 4 * i) 0 ∷ []
-    → two ++ (pairs (slice_index bytes 0) (drop (1 + 4 * (i + 1)) bytes)).load ≡ whole
-reads_pair l bytes out one two whole i valid other right lt e f g =
+    → new ≡ out ++ get_or bytes (1 + 4 * i) 0 ∷ get_or bytes (2 + 4 * i) 0 ∷ []
+    → new ++ (pairs (slice_index bytes 0) (drop (1 + 4 * (i + 1)) bytes)).load ≡ whole
+reads_pair l bytes out new whole i valid other right lt e f =
     let len = frame_len_other l valid other in
     let room : 1 + 4 * i + 3 < length bytes = omega arith in
     let rest : List ℕ = (pairs (slice_index bytes 0) (drop (1 + 4 * (i + 1)) bytes)).load in
-    ap (λ xs. xs ++ rest) (g ∙ ap (λ xs. xs ++ get_or bytes (2 + 4 * i) 0 ∷ []) f)
-    ∙ append_assoc (out ++ get_or bytes (1 + 4 * i) 0 ∷ []) (get_or bytes (2 + 4 * i) 0 ∷ []) rest
-    ∙ append_assoc out (get_or bytes (1 + 4 * i) 0 ∷ []) (get_or bytes (2 + 4 * i) 0 ∷ rest)
+    ap (λ xs. xs ++ rest) f
+    ∙ append_assoc out (get_or bytes (1 + 4 * i) 0 ∷ get_or bytes (2 + 4 * i) 0 ∷ []) rest
     ∙ sym (ap (λ xs. out ++ xs) (next_pair (slice_index bytes 0) bytes i room))
     ∙ e
 
@@ -314,3 +312,36 @@ loaded l bytes out f valid right e o =
     let w : Whole l bytes (frame_of l bytes) = whole l bytes valid right in
     let len : l ≡ length out = sym w.load ∙ ap (λ g. length g.load) e ∙ sym (ap length o) in
     (subst (λ n. IsTrue (is_length n)) len valid, sym (ap (λ g. length g.crcs) e) ∙ w.crcs ∙ ap group_count len)
+
+-- the next pair of a load
+pair_left : (load : List ℕ) (i : ℕ) → 2 * i + 1 < length load → drop (2 * i) load ≡ get_or load (2 * i) 0 ∷ get_or load (2 * i + 1) 0 ∷ drop (2 * (i + 1)) load
+pair_left load i h =
+    let more : suc (2 * i + 1) ≡ 2 * (i + 1) = omega arith in
+    drop-cons load (2 * i) 0 (omega arith)
+    ∙ ap (λ n. get_or load (2 * i) 0 ∷ drop n load) (sym (add-one (2 * i)))
+    ∙ ap (λ xs. get_or load (2 * i) 0 ∷ xs) (drop-cons load (2 * i + 1) 0 h ∙ ap (λ n. get_or load (2 * i + 1) 0 ∷ drop n load) more)
+
+-- one more pair is written, with its CRC
+pub writes_pair : (load crcs out new whole bytes : List ℕ) (i : ℕ) → 2 * i + 1 < length load → i < length crcs
+    → out ++ with_crcs (groups (drop (2 * i) load)) (drop i crcs) ≡ whole
+    → get_or crcs i 0 < 65536
+    → bytes ≡ get_or crcs i 0 % 256 ∷ get_or crcs i 0 / 256 % 256 ∷ []
+    → new ≡ out ++ get_or load (2 * i) 0 ∷ get_or load (2 * i + 1) 0 ∷ get_or bytes 0 0 ∷ get_or bytes 1 0 ∷ []
+    → new ++ with_crcs (groups (drop (2 * (i + 1)) load)) (drop (i + 1) crcs) ≡ whole
+writes_pair load crcs out new whole bytes i h k e fits b f =
+    let rest : List ℕ = with_crcs (groups (drop (2 * (i + 1)) load)) (drop (i + 1) crcs) in
+    let high : get_or crcs i 0 / 256 % 256 ≡ get_or crcs i 0 / 256 = omega arith in
+    let d : ℕ = get_or load (2 * i) 0 in
+    let d' : ℕ = get_or load (2 * i + 1) 0 in
+    let crc : drop i crcs ≡ get_or crcs i 0 ∷ drop (i + 1) crcs = drop-cons crcs i 0 k ∙ ap (λ n. get_or crcs i 0 ∷ drop n crcs) (sym (add-one i)) in
+    let here : with_crcs (groups (drop (2 * i) load)) (drop i crcs) ≡ d ∷ d' ∷ low_high (get_or crcs i 0) ++ rest =
+    ap (λ xs. with_crcs (groups xs) (drop i crcs)) (pair_left load i h)
+    ∙ ap (λ xs. with_crcs (groups (d ∷ d' ∷ drop (2 * (i + 1)) load)) xs) crc in
+    ap (λ xs. xs ++ rest) (f ∙ ap (λ xs. out ++ d ∷ d' ∷ get_or xs 0 0 ∷ get_or xs 1 0 ∷ []) (b ∙ ap (λ n. get_or crcs i 0 % 256 ∷ n ∷ []) high))
+    ∙ append_assoc out (d ∷ d' ∷ low_high (get_or crcs i 0)) rest
+    ∙ sym (ap (λ xs. out ++ xs) here)
+    ∙ e
+
+-- a pair has a CRC
+pub crc_of_pair : (load crcs : List ℕ) (i : ℕ) → IsTrue (is_length (length load)) → length load ≢ 1 → length crcs ≡ group_count (length load) → i < length load / 2 → (2 * i + 1 < length load) × (i < length crcs)
+crc_of_pair load crcs i valid other count lt = (omega (arith, even_length (length load) valid other), omega (arith, count, count_even (length load) other))

@@ -62,8 +62,7 @@ impl<'a> FrameView<'a> {
             out.push(self.bytes[1]);
         } else {
             for group in 0..self.l / 2 {
-                out.push(self.bytes[1 + 4 * group]);
-                out.push(self.bytes[2 + 4 * group]);
+                out.push_all(&[self.bytes[1 + 4 * group], self.bytes[2 + 4 * group]]);
             }
         }
     }

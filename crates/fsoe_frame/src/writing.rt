@@ -23,9 +23,8 @@ pub fn write(command: Command, load: &[u8], crcs: &[u16], conn: u16, out: &mut F
         push_number(out, crcs[0]);
     } else {
         for group in 0..load.len() / 2 {
-            out.push(load[2 * group]);
-            out.push(load[2 * group + 1]);
-            push_number(out, crcs[group]);
+            let [low, high] = crcs[group].to_le_bytes();
+            out.push_all(&[load[2 * group], load[2 * group + 1], low, high]);
         }
     }
     push_number(out, conn);
@@ -36,7 +35,5 @@ fn push_number(out: &mut FrameBuf, n: u16)
     requires { length out.old + 2 ≤ 255 }
     ensures { out.new ≡ out.old ++ low_high n }
 {
-    let [low, high] = n.to_le_bytes();
-    out.push(low);
-    out.push(high);
+    out.push_all(&n.to_le_bytes());
 }

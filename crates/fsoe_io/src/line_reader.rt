@@ -49,17 +49,20 @@ pub struct LineReader {
     start: usize,
     end: usize,
     lines: u64,
+    /// How what is held begins: a newline is sought once.
+    front: Front,
 }
 
 impl Model for LineReader {
     ghost use Rattle.std.specs.Prelude.{◌-◌, ◌≤◌, take, drop};
     ghost use Rattle.fsoe_io.specs.Line.{Held};
+    ghost use Rattle.fsoe_io.specs.LineReader.{BeginsAs};
 
     ghost Value = { Held };
 
     ghost view = { λ r. record { bytes = take (r.end - r.start) (drop r.start r.buffer); lines = r.lines } };
 
-    ghost invariant = { λ r. (r.start ≤ r.end) × (r.end ≤ 4096) };
+    ghost invariant = { λ r. (r.start ≤ r.end) × (r.end ≤ 4096) × BeginsAs r.front (take (r.end - r.start) (drop r.start r.buffer)) };
 }
 
 impl LineReader {
@@ -73,6 +76,7 @@ impl LineReader {
             start: 0,
             end: 0,
             lines: 0,
+            front: Front::Open,
         }
     }
 
@@ -89,13 +93,19 @@ impl LineReader {
         &self.buffer[self.start..self.end]
     }
 
+    fn front(&self) -> Front
+        ensures { BeginsAs result self.now.bytes }
+    {
+        self.front
+    }
+
     /// Whether the next line, or that it is too long, stands in the bytes that are held, so that `next` answers
     /// without a read of the source.
     pub fn holds_line(&self) -> bool
         ensures whole { IsTrue result → ¬ IsLine self.now.bytes }
         ensures open_line { result ≡ false → IsLine self.now.bytes }
     {
-        match begins(self.held()) {
+        match self.front() {
             Front::Line(_) | Front::Long => true,
             Front::Open => false,
         }
@@ -114,6 +124,7 @@ impl LineReader {
         line.set(self.lines + 1, &self.buffer[self.start..self.start + len]);
         self.start += len + 1;
         self.lines += 1;
+        self.front = begins(&self.buffer[self.start..self.end]);
     }
 
     /// Takes more bytes from the source, none only at its end.
@@ -129,6 +140,7 @@ impl LineReader {
         self.end = held;
         let count = source.read(&mut self.buffer[held..])?;
         self.end += count;
+        self.front = begins(&self.buffer[..self.end]);
         Ok(count)
     }
 
@@ -151,7 +163,7 @@ impl LineReader {
         ensures cause { Blames (given result line.new) (S.faults source.old) (S.faults source.new) }
     {
         loop {
-            match begins(self.held()) {
+            match self.front() {
                 Front::Line(len) => {
                     self.take_line(len, line);
                     return Ok(true);

@@ -6,10 +6,10 @@ use Rattle.fsoe_frame.proofs.reading.FrameView.load_into.Goals as goal
 pub loop-group-preserved : goal.loop-group-preserved
 loop-group-preserved c = record {
   whole =
-      reads_pair c.self.inside.l c.self.inside.bytes.now c.loop-group.out c.push-in-loop-group.new.self c.push-in-loop-group-2.new.self
+      reads_pair c.self.inside.l c.self.inside.bytes.now c.loop-group.out c.push_all.new.self
       (pairs (slice_index c.self.inside.bytes.now 0) (drop 1 c.self.inside.bytes.now)).load
-      c.loop-group.group c.self.invariant.0 c.if-self-eq1.false c.self.invariant.1 c.loop-group-test.true c.loop-group.invariant.whole c.push-in-loop-group.ensures c.push-in-loop-group-2.ensures;
-  len = rw (c.push-in-loop-group-2.ensures, c.push-in-loop-group.ensures, length-append, length-append, c.loop-group.invariant.len) (omega arith);
+      c.loop-group.group c.self.invariant.0 c.if-self-eq1.false c.self.invariant.1 c.loop-group-test.true c.loop-group.invariant.whole c.push_all.ensures;
+  len = rw (c.push_all.ensures, length-append, c.loop-group.invariant.len) (omega arith);
 }
 
 pub returns-after-loop-group : goal.returns-after-loop-group

@@ -1,7 +1,5 @@
-use Rattle.std.proofs.Common.{subst}
-use Rattle.fsoe_io.specs.LineReader.{IsTooLong}
 use Rattle.fsoe_io.proofs.Taken.{too_long}
 use Rattle.fsoe_io.proofs.line_reader.LineReader.next_into.Goals as goal
 
 pub returns-in-Long-clause-bytes : goal.returns-in-Long-clause-bytes
-returns-in-Long-clause-bytes g c = too_long _ _ _ c.loop-len.invariant.3 (subst IsTooLong c.held.ensures c.in-Long.ensures)
+returns-in-Long-clause-bytes g c = too_long _ _ _ c.loop-len.invariant.3 c.in-Long.ensures
