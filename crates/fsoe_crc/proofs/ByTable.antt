@@ -1,7 +1,7 @@
 -- The CRC by a table of what eight zero bits make of a high byte.
-use Rattle.std.proofs.Common.{◌≡◌, ℕ, ◌*◌, ◌/◌, ◌%◌, ◌<◌, List, [], ◌∷◌, ◌++◌, bit_xor, refl, sym, ap, ◌∙◌, arith, lit<, add-zero, append_assoc}
-use Rattle.std.specs.Int.Bits.{xor_zero_r, xor_shifted, xor_lt, xor_comm, xor_assoc}
-use Rattle.fsoe_crc.specs.Remainder.{fed_bits, bits_of, fed_bytes, sixteen_zeros, rem, table_entry, pair_entry, eight_zeros}
+use Rattle.std.proofs.Common.{◌≡◌, ℕ, zero, suc, ◌*◌, ◌/◌, ◌%◌, ◌<◌, List, [], ◌∷◌, ◌++◌, bit_xor, refl, sym, ap, ◌∙◌, arith, lit<, add-zero, append_assoc, append-nil, subst, replicate}
+use Rattle.std.specs.Int.Bits.{xor_zero_r, xor_shifted, xor_lt, xor_comm}
+use Rattle.fsoe_crc.specs.Remainder.{fed_bits, bits_of, fed_bytes, sixteen_zeros, rem, table_entry, zeros_entry, eight_zeros}
 use Rattle.fsoe_crc.proofs.Linear.{byte_xor, byte-below, fed_bytes-append, fed_bytes-below}
 use Rattle.fsoe_crc.proofs.Adjacent.{first_byte, second_byte}
 
@@ -79,40 +79,81 @@ stepped_by_table r b hr hb =
     let e : 256 * b ≡ b * 256 % 0x10000 = omega arith in
     stepped_is r b ∙ ap (λ x. eight (bit_xor r x)) e ∙ eight_by_table (bit_xor r (b * 256 % 0x10000)) (xor_lt 16 r (b * 256 % 0x10000) hr (omega arith))
 
-pair_is : (h : ℕ) → pair_entry h ≡ eight (eight (256 * h))
-unfolding pair_entry
-pair_is h = sixteen_twice (256 * h)
+-- n zero bytes more
+pub eights : ℕ → ℕ → ℕ
+eights zero v = v
+eights (suc n) v = eights n (eight v)
 
--- sixteen zero bits by both tables
-sixteen_by_tables : (f : ℕ) → f < 0x10000 → eight (eight f) ≡ bit_xor (pair_entry (f / 256)) (table_entry (f % 256))
-sixteen_by_tables f hf =
+eights_are : (n v : ℕ) → fed_bytes v (replicate n 0) ≡ eights n v
+unfolding eights eight
+eights_are zero v = refl
+eights_are (suc n) v = eights_are n (fed_bits v (bits_of 0))
+
+eights_xor : (n v w : ℕ) → v < 0x10000 → w < 0x10000 → eights n (bit_xor v w) ≡ bit_xor (eights n v) (eights n w)
+unfolding eights
+eights_xor zero v w hv hw = refl
+eights_xor (suc n) v w hv hw = ap (eights n) (eight_xor v w hv hw) ∙ eights_xor n (eight v) (eight w) (eight_below v hv) (eight_below w hw)
+
+entry_is : (n h : ℕ) → zeros_entry n h ≡ eights n (256 * h)
+unfolding zeros_entry
+entry_is n h = eights_are n (256 * h)
+
+-- the table of eight zero bits is that of one zero byte
+pub one_zero : (h : ℕ) → table_entry h ≡ zeros_entry 1 h
+unfolding table_entry zeros_entry eight_zeros bits_of
+one_zero h = refl
+
+-- zero bytes by two tables
+eights_by_tables : (n f : ℕ) → f < 0x10000 → eights (suc n) f ≡ bit_xor (zeros_entry (suc n) (f / 256)) (zeros_entry n (f % 256))
+unfolding eights
+eights_by_tables n f hf =
     let parts : bit_xor (f / 256 * 256) (f % 256) ≡ f = xor_shifted (f / 256) 8 (f % 256) (omega arith) ∙ (omega arith) in
     let high : f / 256 * 256 ≡ 256 * (f / 256) = omega arith in
-    let below : f / 256 * 256 < 0x10000 = omega arith in
-    let low_below : f % 256 < 0x10000 = omega arith in
-    sym (ap (λ x. eight (eight x)) parts)
-    ∙ ap eight (eight_xor (f / 256 * 256) (f % 256) below low_below)
-    ∙ eight_xor (eight (f / 256 * 256)) (eight (f % 256)) (eight_below (f / 256 * 256) below) (eight_below (f % 256) low_below)
-    ∙ ap (λ x. bit_xor x (eight (eight (f % 256)))) (ap (λ x. eight (eight x)) high ∙ sym (pair_is (f / 256)))
-    ∙ ap (bit_xor (pair_entry (f / 256))) (ap eight (eight_of_byte (f % 256) (omega arith)) ∙ sym (table_is (f % 256)))
+    sym (ap (eights (suc n)) parts)
+    ∙ eights_xor (suc n) (f / 256 * 256) (f % 256) (omega arith) (omega arith)
+    ∙ ap (λ x. bit_xor x (eights (suc n) (f % 256))) (ap (eights (suc n)) high ∙ sym (entry_is (suc n) (f / 256)))
+    ∙ ap (bit_xor (zeros_entry (suc n) (f / 256))) (low (f % 256) (omega arith))
+  where
+    low : (l : ℕ) → l < 256 → eights (suc n) l ≡ zeros_entry n l
+    low l hl = ap (eights n) (eight_of_byte l hl) ∙ sym (entry_is n l)
 
--- two steps at once
-stepped_twice : (r a b : ℕ) → r < 0x10000 → a < 256 → b < 256 → stepped (stepped r a) b ≡ eight (eight (bit_xor (bit_xor r (256 * a)) b))
-stepped_twice r a b hr ha hb =
+-- a zero byte more
+rem-zero : (bytes : List ℕ) → rem (bytes ++ 0 ∷ []) ≡ eight (rem bytes)
+rem-zero bytes = rem-step bytes 0 (lit< tt) ∙ stepped_is (rem bytes) 0 ∙ ap eight (xor_zero_r (rem bytes))
+
+rem-zeros : (n : ℕ) (bytes : List ℕ) → rem (bytes ++ replicate n 0) ≡ eights n (rem bytes)
+unfolding eights
+rem-zeros zero bytes = ap rem (append-nil bytes)
+rem-zeros (suc n) bytes = ap rem (sym (append_assoc bytes (0 ∷ []) (replicate n 0))) ∙ rem-zeros n (bytes ++ 0 ∷ []) ∙ ap (eights n) (rem-zero bytes)
+
+-- two bytes more are two zero bytes more of a value to which they are added
+rem-two : (bytes : List ℕ) (a b : ℕ) → rem bytes < 0x10000 → a < 256 → b < 256 → rem (bytes ++ a ∷ b ∷ []) ≡ eights 2 (bit_xor (bit_xor (rem bytes) (256 * a)) b)
+unfolding eights
+rem-two bytes a b hr ha hb =
+    let r : ℕ = rem bytes in
     let x : ℕ = bit_xor r (256 * a) in
-    let hx : bit_xor r (256 * a) < 0x10000 = xor_lt 16 r (256 * a) hr (omega arith) in
-    stepped_is (stepped r a) b
+    let hx : bit_xor (rem bytes) (256 * a) < 0x10000 = xor_lt 16 r (256 * a) hr (omega arith) in
+    ap rem (sym (append_assoc bytes (a ∷ []) (b ∷ [])))
+    ∙ rem-step (bytes ++ a ∷ []) b hb
+    ∙ ap (λ y. stepped y b) (rem-step bytes a ha)
+    ∙ stepped_is (stepped r a) b
     ∙ ap (λ y. eight (bit_xor y (256 * b))) (stepped_is r a)
     ∙ ap (λ y. eight (bit_xor (eight x) y)) (sym (eight_of_byte b hb))
     ∙ sym (ap eight (eight_xor x b hx (omega arith)))
 
--- what the code computes of two bytes
-pub rem-pair : (bytes : List ℕ) (r a b : ℕ) → r ≡ rem bytes → r < 0x10000 → a < 256 → b < 256
-    → bit_xor (pair_entry (bit_xor (bit_xor r (256 * a)) b / 256)) (table_entry (bit_xor (bit_xor r (256 * a)) b % 256)) ≡ rem (bytes ++ a ∷ b ∷ [])
-rem-pair bytes r a b e hr ha hb =
-    sym (sixteen_by_tables (bit_xor (bit_xor r (256 * a)) b) (xor_lt 16 (bit_xor r (256 * a)) b (xor_lt 16 r (256 * a) hr (omega arith)) (omega arith)))
-    ∙ sym (stepped_twice r a b hr ha hb)
-    ∙ ap (λ x. stepped (stepped x a) b) e
-    ∙ ap (λ x. stepped x b) (sym (rem-step bytes a ha))
-    ∙ sym (rem-step (bytes ++ a ∷ []) b hb)
-    ∙ ap rem (append_assoc bytes (a ∷ []) (b ∷ []))
+two_then : (n v : ℕ) → eights n (eights 2 v) ≡ eights (suc (suc n)) v
+unfolding eights
+two_then n v = refl
+
+-- what the code computes of two bytes and n zero bytes
+pub rem-pair : (n : ℕ) (bytes : List ℕ) (r a b : ℕ) → r ≡ rem bytes → r < 0x10000 → a < 256 → b < 256
+    → bit_xor (zeros_entry (suc (suc n)) (bit_xor (bit_xor r (256 * a)) b / 256)) (zeros_entry (suc n) (bit_xor (bit_xor r (256 * a)) b % 256)) ≡ rem (bytes ++ a ∷ b ∷ replicate n 0)
+rem-pair n bytes r a b e hr ha hb =
+    let f : ℕ = bit_xor (bit_xor r (256 * a)) b in
+    let below : rem bytes < 0x10000 = subst (λ (x : ℕ). x < 0x10000) e hr in
+    sym (eights_by_tables (suc n) f (xor_lt 16 (bit_xor r (256 * a)) b (xor_lt 16 r (256 * a) hr (omega arith)) (omega arith)))
+    ∙ sym (two_then n f)
+    ∙ ap (λ x. eights n (eights 2 (bit_xor (bit_xor x (256 * a)) b))) e
+    ∙ ap (eights n) (sym (rem-two bytes a b below ha hb))
+    ∙ sym (rem-zeros n (bytes ++ a ∷ b ∷ []))
+    ∙ ap rem (append_assoc bytes (a ∷ b ∷ []) (replicate n 0))

@@ -1,6 +1,6 @@
 -- The CRC of a list of bytes: its remainder by the polynomial 139B7h. The polynomial, the start value 0 and the order of the
 -- bits are this profile's own.
-use Rattle.std.specs.Prelude.{ℕ, ◌+◌, ◌*◌, ◌/◌, ◌%◌, List, [], ◌∷◌, if◌then◌else◌, nat_lt, bit_xor}
+use Rattle.std.specs.Prelude.{ℕ, ◌+◌, ◌*◌, ◌/◌, ◌%◌, List, [], ◌∷◌, if◌then◌else◌, nat_lt, bit_xor, replicate}
 
 -- one bit more: twice the value and the bit, less the polynomial (by exclusive-or) where that has 17 bits
 unfoldable pub fed : ℕ → ℕ → ℕ
@@ -36,9 +36,9 @@ rem bytes = fed_bits (fed_bytes 0 bytes) sixteen_zeros
 unfoldable pub table_entry : ℕ → ℕ
 table_entry high = fed_bits (256 * high) eight_zeros
 
--- what sixteen zero bits make of a high byte over a low byte 0
-unfoldable pub pair_entry : ℕ → ℕ
-pair_entry high = fed_bits (256 * high) sixteen_zeros
+-- what n zero bytes make of a high byte over a low byte 0
+unfoldable pub zeros_entry : ℕ → ℕ → ℕ
+zeros_entry n high = fed_bytes (256 * high) (replicate n 0)
 
 -- opens all that a worked value of the CRC computes with
 unfoldable pub computing : Unit {0}

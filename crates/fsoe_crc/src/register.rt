@@ -3,7 +3,7 @@
 ghost use Rattle.std.specs.Prelude.{◌≡◌, ℕ, List, [], ◌∷◌, ◌++◌};
 ghost use Rattle.fsoe_crc.specs.Remainder.{rem};
 
-use crate::table::{step, step_pair};
+use crate::table::{step, step_pair, step_pair_and_zeros};
 use std::marker::Model;
 
 /// The CRC of the bytes that were fed so far. Contracts see it as that number.
@@ -42,6 +42,13 @@ impl Register {
         ensures { (bytes : List ℕ) → self.old ≡ rem bytes → self.new ≡ rem (bytes ++ first ∷ second ∷ []) }
     {
         self.value = step_pair(self.value, first, second);
+    }
+
+    /// Feeds two bytes and three zero bytes more at once, at the cost of two bytes.
+    pub fn feed_pair_and_zeros(&mut self, first: u8, second: u8)
+        ensures { (bytes : List ℕ) → self.old ≡ rem bytes → self.new ≡ rem (bytes ++ first ∷ second ∷ 0 ∷ 0 ∷ 0 ∷ []) }
+    {
+        self.value = step_pair_and_zeros(self.value, first, second);
     }
 
     /// The CRC of the bytes that were fed.

@@ -62,8 +62,7 @@ fn pair_crc(common: &Register, index: usize, first: u8, second: u8) -> u16
 {
     let mut register = common.copy();
     feed_place(&mut register, index);
-    register.feed_pair(first, second);
-    feed_end(&mut register);
+    register.feed_pair_and_zeros(first, second);
     register.value()
 }
 
@@ -73,7 +72,8 @@ fn byte_crc(common: &Register, byte: u8) -> u16
 {
     let mut register = common.copy();
     register.feed(byte);
-    feed_end(&mut register);
+    register.feed_pair(0, 0);
+    register.feed(0);
     register.value()
 }
 
@@ -85,14 +85,6 @@ fn feed_place(register: &mut Register, index: usize)
     if index > 0 {
         feed_number(register, index as u16);
     }
-}
-
-/// Feeds the three zeros that every group ends with.
-fn feed_end(register: &mut Register)
-    ensures { (fed : List ℕ) → register.old ≡ rem fed → register.new ≡ rem (fed ++ 0 ∷ 0 ∷ 0 ∷ []) }
-{
-    register.feed_pair(0, 0);
-    register.feed(0);
 }
 
 /// Feeds a number of 16 bits, low byte first.
