@@ -1,23 +1,21 @@
 //! The bytes of one frame.
 ghost use Rattle.std.specs.Prelude.{◌≡◌, ◌+◌, ◌≤◌, ◌<◌, ◌==◌, [], ◌∷◌, ◌++◌, length};
 
+use arrayvec::ArrayVec;
 use std::marker::Model;
 
 /// The bytes of one frame, at most 255, or of none where it is empty. Contracts see it as a list.
 #[derive(Debug, Drop)]
 pub struct FrameBuf {
-    bytes: [u8; 255],
-    len: usize,
+    inner: ArrayVec<u8, 255>,
 }
 
 impl Model for FrameBuf {
-    ghost use Rattle.std.specs.Prelude.{◌≤◌, ℕ, List, take};
+    ghost use Rattle.std.specs.Prelude.{ℕ, List};
 
     ghost Value = { List ℕ };
 
-    ghost view = { λ f. take f.len f.bytes };
-
-    ghost invariant = { λ f. f.len ≤ 255 };
+    ghost view = { λ f. f.inner.items };
 }
 
 impl FrameBuf {
@@ -26,8 +24,7 @@ impl FrameBuf {
         ensures { result ≡ [] }
     {
         FrameBuf {
-            bytes: [0; 255],
-            len: 0,
+            inner: ArrayVec::new(),
         }
     }
 
@@ -36,14 +33,14 @@ impl FrameBuf {
         ensures value { result ≡ length self.now }
         ensures most { result ≤ 255 }
     {
-        self.len
+        self.inner.len()
     }
 
     /// Whether there are no bytes.
     pub fn is_empty(&self) -> bool
         ensures { result ≡ (length self.now == 0) }
     {
-        self.len == 0
+        self.inner.is_empty()
     }
 
     /// The bytes.
@@ -51,14 +48,15 @@ impl FrameBuf {
         ensures value { result.now ≡ self.now }
         ensures most { length result.now ≤ 255 }
     {
-        &self.bytes[..self.len]
+        self.inner.as_slice()
     }
 
     /// Forgets all bytes.
     pub fn clear(&mut self)
         ensures { self.new ≡ [] }
     {
-        self.len = 0;
+        // A new one costs less than to blank the bytes one by one.
+        self.inner = ArrayVec::new();
     }
 
     /// Appends a byte where fewer than 255 stand.
@@ -66,7 +64,7 @@ impl FrameBuf {
         requires { length self.old < 255 }
         ensures { self.new ≡ self.old ++ b ∷ [] }
     {
-        self.push_all(&[b]);
+        self.inner.push(b);
     }
 
     /// Appends bytes where there is room for them among 255.
@@ -74,8 +72,7 @@ impl FrameBuf {
         requires { length self.old + length piece.now ≤ 255 }
         ensures { self.new ≡ self.old ++ piece.now }
     {
-        self.bytes[self.len..self.len + piece.len()].copy_from_slice(piece);
-        self.len += piece.len();
+        let _fits = self.inner.try_extend_from_slice(piece);
     }
 
     /// Takes these bytes, at most 255, in place of its own.
@@ -83,18 +80,17 @@ impl FrameBuf {
         requires { length from.now ≤ 255 }
         ensures { self.new ≡ from.now }
     {
-        self.bytes[..from.len()].copy_from_slice(from);
-        self.len = from.len();
+        self.clear();
+        let _fits = self.inner.try_extend_from_slice(from);
     }
 
     /// The same bytes again.
     pub fn copy(&self) -> FrameBuf
         ensures { result ≡ self.now }
     {
-        FrameBuf {
-            bytes: self.bytes,
-            len: self.len,
-        }
+        let mut frame = FrameBuf::new();
+        frame.set(self.bytes());
+        frame
     }
 }
 

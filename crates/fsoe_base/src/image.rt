@@ -2,23 +2,21 @@
 ghost use Rattle.std.specs.Prelude.{◌≡◌, ◌≤◌, ◌<◌, ◌*◌, ◌==◌, ◌^◌, ◌%◌, ◌+◌, [], ◌∷◌, ◌++◌, length, replicate};
 ghost use Rattle.fsoe_base.specs.Image.{bit_of, byte_with, with_bit};
 
+use arrayvec::ArrayVec;
 use std::marker::Model;
 
 /// The safe data bytes of one direction, at most 126. Contracts see it as a list.
 #[derive(Debug, Drop)]
 pub struct Image {
-    bytes: [u8; 126],
-    len: usize,
+    inner: ArrayVec<u8, 126>,
 }
 
 impl Model for Image {
-    ghost use Rattle.std.specs.Prelude.{◌≤◌, ℕ, List, take};
+    ghost use Rattle.std.specs.Prelude.{ℕ, List};
 
     ghost Value = { List ℕ };
 
-    ghost view = { λ i. take i.len i.bytes };
-
-    ghost invariant = { λ i. i.len ≤ 126 };
+    ghost view = { λ i. i.inner.items };
 }
 
 /// The mask of a bit of a byte.
@@ -44,10 +42,11 @@ impl Image {
         requires { l ≤ 126 }
         ensures { result ≡ replicate l 0 }
     {
-        Image {
-            bytes: [0; 126],
-            len: l,
+        let mut inner = ArrayVec::new();
+        for _ in 0..l {
+            inner.push(0);
         }
+        Image { inner }
     }
 
     /// The number of bytes.
@@ -55,14 +54,14 @@ impl Image {
         ensures value { result ≡ length self.now }
         ensures most { result ≤ 126 }
     {
-        self.len
+        self.inner.len()
     }
 
     /// Whether there are no bytes.
     pub fn is_empty(&self) -> bool
         ensures { result ≡ (length self.now == 0) }
     {
-        self.len == 0
+        self.inner.is_empty()
     }
 
     /// The bytes.
@@ -70,14 +69,15 @@ impl Image {
         ensures value { result.now ≡ self.now }
         ensures most { length result.now ≤ 126 }
     {
-        &self.bytes[..self.len]
+        self.inner.as_slice()
     }
 
     /// Forgets all bytes.
     pub fn clear(&mut self)
         ensures { self.new ≡ [] }
     {
-        self.len = 0;
+        // A new one costs less than to blank the bytes one by one.
+        self.inner = ArrayVec::new();
     }
 
     /// Appends a byte where fewer than 126 stand.
@@ -85,7 +85,7 @@ impl Image {
         requires { length self.old < 126 }
         ensures { self.new ≡ self.old ++ b ∷ [] }
     {
-        self.push_all(&[b]);
+        self.inner.push(b);
     }
 
     /// Appends bytes where there is room for them among 126.
@@ -93,8 +93,7 @@ impl Image {
         requires { length self.old + length piece.now ≤ 126 }
         ensures { self.new ≡ self.old ++ piece.now }
     {
-        self.bytes[self.len..self.len + piece.len()].copy_from_slice(piece);
-        self.len += piece.len();
+        let _fits = self.inner.try_extend_from_slice(piece);
     }
 
     /// Takes these bytes, at most 126, in place of its own.
@@ -102,18 +101,19 @@ impl Image {
         requires { length from.now ≤ 126 }
         ensures { self.new ≡ from.now }
     {
-        self.bytes[..from.len()].copy_from_slice(from);
-        self.len = from.len();
+        self.clear();
+        let _fits = self.inner.try_extend_from_slice(from);
     }
 
     /// The same bytes again.
     pub fn copy(&self) -> Image
         ensures { result ≡ self.now }
     {
-        Image {
-            bytes: self.bytes,
-            len: self.len,
-        }
+        let mut image = Image {
+            inner: ArrayVec::new(),
+        };
+        image.set(self.bytes());
+        image
     }
 
     /// The value of a bit that exists: bit `b % 8`, lowest first, of byte `b / 8`.
@@ -131,7 +131,7 @@ impl Image {
     {
         let place = usize::from(b / 8);
         let mask = mask_of(b % 8);
-        let byte = self.bytes[place];
-        self.bytes[place] = if v { byte | mask } else { byte & (mask ^ 255) };
+        let byte = self.inner[place];
+        self.inner[place] = if v { byte | mask } else { byte & (mask ^ 255) };
     }
 }
