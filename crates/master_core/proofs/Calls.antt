@@ -113,7 +113,7 @@ at-accept ms old new bytes did e None r made = accepted-so ms old new bytes did 
 at-accept ms old new bytes did e (Some p) r made = absurd (cc (r.due, made.rest))
 
 at-reply : (ms : MasterSettings) (old new : MasterView) (frame : List ℕ) (e : List Deed) (p : Option Pending) → Reached ms old e p → MadeReply old frame new → Reached ms new (ended_by frame p e) None
-at-reply ms old new frame e None r made = absurd (cc (r.rest, made.waits))
+at-reply ms old new frame e None r made = absurd (cc (r.rest, made.due))
 at-reply ms old new frame e (Some p) r made =
     let done = made.replies.did ms e p.bytes p.did r.waits ∙ ap (λ (b : Bool). record p.did { sent = b }) r.due in
     record {

@@ -54,7 +54,7 @@ pub record MadeAccept (old : MasterView) (bytes : List ℕ) (did : Did) (new : M
 
 -- what `reply` ensures: the frame that is due is written, and none is due then
 pub record MadeReply (old : MasterView) (frame : List ℕ) (new : MasterView) : Type 0 where
-  pub waits : is_due old.state ≡ true
+  pub due : is_due old.state ≡ true
   pub replies : Replies old new frame
   pub done : is_due new.state ≡ false
 

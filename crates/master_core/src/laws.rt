@@ -11,9 +11,9 @@ ghost use Rattle.master_core.specs.ViewOf.{view_of};
 ghost use Rattle.master_core.specs.Waiting.{Waits};
 
 /// A master that is new and then called, in any order of calls and with deliveries in one call or in two, did and sent
-/// what the run of these events does and sends. Where no frame is due it stands for that run, and where one is due it
-/// waits after it with the delivery: its readers show the state, the outputs, the terms, the age, the offer and the
-/// hold of that run, and of that run and the delivery.
+/// what the run of these events does and sends. Where no frame is due it stands for that run, of which its readers show
+/// the state, the outputs, the terms, the age, the offer and the hold. Where one is due it waits after that run with the
+/// delivery, and its readers show those of the run and the delivery.
 #[tactic(auto, using(crate::proofs::Calls::calls_run))]
 pub fn calls()
     ensures run { (settings : MasterSettings) (first last : MasterView) (calls : List Call) → Stands OfMaster view_of settings first [] → Calls first calls last → deeds_of calls ≡ run (OfMaster settings) (events_of (deeds_of calls)) }
