@@ -1,0 +1,43 @@
+-- A pair over a whole list of events.
+use Rattle.std.proofs.Common.{◌≡◌, List, [], ◌∷◌, Option, sym, ap, subst, ◌∙◌, inl, inr}
+use Rattle.fsoe_base.specs.declared.command.End.{End}
+use Rattle.param_load.specs.declared.entry.Entry.{Entry}
+use Rattle.param_load.specs.declared.master_settings.MasterSettings.{MasterSettings}
+use Rattle.param_load.specs.declared.slave_settings.SlaveSettings.{SlaveSettings}
+use Rattle.schedule_file.specs.declared.event.Event.{Event}
+use Rattle.end_model.specs.Entries.{entries}
+use Rattle.end_model.specs.Step.{run}
+use Rattle.exchange_model.specs.Ends.{of_end}
+use Rattle.exchange_model.specs.Fair.{Fair}
+use Rattle.exchange_model.specs.Other.{before_other}
+use Rattle.exchange_model.specs.World.{setup_of, moves, going_on, world_after, world, SameLengths}
+use Rattle.exchange_model.proofs.Headline.{fair_world}
+use Rattle.exchange_model.proofs.Others.{before_is_clean, before_is_world}
+use Rattle.exchange_model.proofs.Projection as alone
+use Rattle.duo_run.specs.Duo.{DuoView, DuoStands}
+use Rattle.duo_run.specs.Ran.{Ran}
+
+entries_after : (ms : MasterSettings) (ss : SlaveSettings) (first last : DuoView) (events : List Event) (w whole : List Entry) → DuoStands ms ss first w → Ran first events w last whole → whole ≡ world_after ms ss events w
+entries_after ms ss first last [] w whole h r = sym r.1
+entries_after ms ss first last (event ∷ events) w whole h (inl r) =
+    entries_after ms ss r.1 last events (r.0 ∷ w) whole (r.2.stands ms ss w h) r.3
+    ∙ ap (λ (next : Option Entry). going_on w next (world_after ms ss events)) (sym (r.2.entry ms ss w h))
+entries_after ms ss first last (event ∷ events) w whole h (inr r) =
+    sym r.2 ∙ ap (λ (next : Option Entry). going_on w next (world_after ms ss events)) (sym (r.0.misses ms ss w h))
+
+stands_after : (ms : MasterSettings) (ss : SlaveSettings) (first last : DuoView) (events : List Event) (w whole : List Entry) → DuoStands ms ss first w → Ran first events w last whole → DuoStands ms ss last whole
+stands_after ms ss first last [] w whole h r = subst (λ (v : DuoView). DuoStands ms ss v whole) r.0 (subst (λ (w : List Entry). DuoStands ms ss first w) r.1 h)
+stands_after ms ss first last (event ∷ events) w whole h (inl r) = stands_after ms ss r.1 last events (r.0 ∷ w) whole (r.2.stands ms ss w h) r.3
+stands_after ms ss first last (event ∷ events) w whole h (inr r) = subst (λ (v : DuoView). DuoStands ms ss v whole) r.1 (subst (λ (w : List Entry). DuoStands ms ss first w) r.2 h)
+
+pub entries_are_world : (ms : MasterSettings) (ss : SlaveSettings) (first last : DuoView) (events : List Event) (w : List Entry) → DuoStands ms ss first [] → Ran first events [] last w → w ≡ world ms ss events
+entries_are_world ms ss first last events w h r = entries_after ms ss first last events [] w h r
+
+pub stands_for_entries : (ms : MasterSettings) (ss : SlaveSettings) (first last : DuoView) (events : List Event) (w : List Entry) → DuoStands ms ss first [] → Ran first events [] last w → DuoStands ms ss last w
+stands_for_entries ms ss first last events w h r = stands_after ms ss first last events [] w h r
+
+pub fair_before_other : (ms : MasterSettings) (ss : SlaveSettings) (v : DuoView) (w : List Entry) → SameLengths ms ss → DuoStands ms ss v w → Fair ms.lengths (before_other w)
+fair_before_other ms ss v w same h = fair_world ms ss (before_other w) same (before_is_world ms ss w h.world) (before_is_clean w)
+
+pub runs_alone : (ms : MasterSettings) (ss : SlaveSettings) (which : End) (v : DuoView) (w : List Entry) → DuoStands ms ss v w → of_end which w ≡ entries (setup_of ms ss which) (run (setup_of ms ss which) (moves which w))
+runs_alone ms ss which v w h = alone.projection ms ss which w h.world

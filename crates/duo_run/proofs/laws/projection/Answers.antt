@@ -1,0 +1,5 @@
+use Rattle.duo_run.proofs.Ran.{runs_alone}
+use Rattle.duo_run.proofs.laws.projection.Goals as goal
+
+pub returns : goal.returns
+returns c = runs_alone

@@ -1,0 +1,70 @@
+-- What it means that a pair of ends does over a schedule what the definitions of a world say. Lists are newest first.
+use Rattle.std.specs.Prelude.{◌≡◌, ℕ, false, List, ◌∷◌, Some, None}
+use Rattle.fsoe_base.specs.declared.command.End.{End}
+use Rattle.fsoe_base.specs.declared.command.End.TheVariants as end_name
+use Rattle.fsoe_base.specs.declared.lengths.Lengths.{Lengths}
+use Rattle.param_load.specs.declared.entry.Entry.{Entry}
+use Rattle.param_load.specs.declared.master_settings.MasterSettings.{MasterSettings}
+use Rattle.param_load.specs.declared.profile.Profiles.{Profiles}
+use Rattle.param_load.specs.declared.slave_settings.SlaveSettings.{SlaveSettings}
+use Rattle.black_channel.specs.Window.{WindowView, window_of}
+use Rattle.schedule_file.specs.declared.event.Event.{Event}
+use Rattle.end_model.specs.Setup.{OfMaster, OfSlave}
+use Rattle.end_model.specs.Standing.{Stands}
+use Rattle.exchange_model.specs.World.{deeds, frames_of, entry_at, SameLengths, IsWorld}
+use Rattle.exchange_model.specs.Noting as monitor
+use Rattle.exchange_model.specs.Noting.{MonitorView}
+use Rattle.master_core.specs.MasterView.{MasterView}
+use Rattle.master_core.specs.Now.{is_due}
+use Rattle.master_core.specs.ViewOf as master_core
+use Rattle.slave_core.specs.SlaveView.{SlaveView}
+use Rattle.slave_core.specs.ViewOf as slave_core
+
+-- what contracts see of a pair: both ends, the last frames that each sent, and the monitor
+pub record DuoView : Type 0 where
+  pub master : MasterView
+  pub slave : SlaveView
+  pub master_sent : WindowView
+  pub slave_sent : WindowView
+  pub monitor : MonitorView
+
+-- the last frames that an end sent
+abbrev pub sent_by : End → DuoView → WindowView
+sent_by end_name.Master v = v.master_sent
+sent_by end_name.Slave v = v.slave_sent
+
+-- the lengths of the connection, which both ends have
+abbrev pub lengths_of : DuoView → Lengths
+lengths_of v = v.master.kit.settings.lengths
+
+-- the profiles of both ends
+abbrev pub profiles_of : DuoView → Profiles
+profiles_of v = record { master = v.master.kit.settings.profile; slave = v.slave.kit.settings.profile }
+
+-- the steps that were done
+abbrev pub steps_done : DuoView → ℕ
+steps_done v = v.monitor.noted
+
+-- between steps no frame of the master is due, and both ends always have the same lengths
+pub record IsDuo (v : DuoView) : Type 0 where
+  pub rest : is_due v.master.state ≡ false
+  pub same : SameLengths v.master.kit.settings v.slave.kit.settings
+
+-- a pair stands for these entries: they are a world, each end is where its own deeds among them leave it, each window has the last
+-- of the frames that its end sent, and the monitor has noted them all
+pub record DuoStands (ms : MasterSettings) (ss : SlaveSettings) (v : DuoView) (w : List Entry) : Type 0 where
+  pub master : Stands OfMaster master_core.view_of ms v.master (deeds end_name.Master w)
+  pub slave : Stands OfSlave slave_core.view_of ss v.slave (deeds end_name.Slave w)
+  pub master_sent : v.master_sent ≡ window_of (frames_of end_name.Master w)
+  pub slave_sent : v.slave_sent ≡ window_of (frames_of end_name.Slave w)
+  pub monitor : v.monitor ≡ monitor.view_of w
+  pub world : IsWorld ms ss w
+
+-- at this event a pair does the next entry of the world, which is this one, and stands then for it and those before
+pub record Steps (old : DuoView) (event : Event) (x : Entry) (new : DuoView) : Type 0 where
+  pub entry : (ms : MasterSettings) (ss : SlaveSettings) (w : List Entry) → DuoStands ms ss old w → entry_at ms ss w event ≡ Some x
+  pub stands : (ms : MasterSettings) (ss : SlaveSettings) (w : List Entry) → DuoStands ms ss old w → DuoStands ms ss new (x ∷ w)
+
+-- the world has no entry of this event: it names a frame that wasn't sent
+pub record Misses (v : DuoView) (event : Event) : Type 0 where
+  pub misses : (ms : MasterSettings) (ss : SlaveSettings) (w : List Entry) → DuoStands ms ss v w → entry_at ms ss w event ≡ None

@@ -1,0 +1,3 @@
+pub mod Duo
+pub mod Acts
+pub mod Ran

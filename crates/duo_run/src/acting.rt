@@ -1,0 +1,163 @@
+//! One step of either end, and the entry that tells it.
+ghost use Rattle.std.specs.Prelude.{◌≡◌, ◌≤◌, false, length, option_copied};
+ghost use Rattle.end_model.specs.Setup.{OfMaster, OfSlave};
+ghost use Rattle.end_model.specs.Standing.{Follows, Answers};
+ghost use Rattle.end_model.specs.Step.{IsProper};
+ghost use Rattle.exchange_model.specs.World.{end_of_event};
+ghost use Rattle.master_core.specs.Now.{is_due};
+ghost use Rattle.master_core.specs.ViewOf as master_core;
+ghost use Rattle.slave_core.specs.ViewOf as slave_core;
+ghost use Rattle.duo_run.specs.Acts.{Tells, Hears};
+
+use black_channel::Window;
+use fsoe_base::{Did, End, FrameBuf, Image};
+use master_core::Master;
+use param_load::{Entry, Move, Terms};
+use schedule_file::Event;
+use slave_core::Slave;
+
+/// The end at which an event happens.
+pub(crate) fn end_of(event: &Event) -> End
+    ensures { result ≡ end_of_event event.now }
+{
+    match event {
+        Event::Deliver { to, .. } | Event::Altered { to, .. } | Event::Raw { to, .. } => *to,
+        Event::Tick { at }
+        | Event::Put { at, .. }
+        | Event::Hold { at, .. }
+        | Event::Nonce { at, .. }
+        | Event::Local { at } => *at,
+    }
+}
+
+/// A move at a master. The frame that it sends is written to `sent`, which is empty where it sends none.
+#[tactic(auto, using(crate::proofs::Settings::put_answers, crate::proofs::Settings::hold_answers, crate::proofs::Settings::nonce_answers))]
+fn move_master(master: &mut Master, what: &Move, sent: &mut FrameBuf) -> Did
+    requires proper { IsProper (OfMaster master.old.kit.settings) what.now }
+    requires rest { is_due master.old.state ≡ false }
+    ensures follows { Follows OfMaster master_core.view_of master.old what.now master.new }
+    ensures answers { Answers OfMaster master_core.view_of master.old what.now result sent.new }
+    ensures rest { is_due master.new.state ≡ false }
+    ensures settings { master.new.kit.settings ≡ master.old.kit.settings }
+{
+    match what {
+        Move::Deliver(frame) => master.deliver(frame.bytes(), sent),
+        Move::Tick => master.tick(sent),
+        Move::Local => master.reset(sent),
+        Move::Put(load) => {
+            master.put(load.bytes());
+            sent.clear();
+            Did::nothing()
+        }
+        Move::Hold(failsafe) => {
+            master.hold(*failsafe);
+            sent.clear();
+            Did::nothing()
+        }
+        Move::Nonce(id) => {
+            master.nonce(*id);
+            sent.clear();
+            Did::nothing()
+        }
+    }
+}
+
+/// The same at a slave.
+#[tactic(auto, using(crate::proofs::Settings::put_answers, crate::proofs::Settings::hold_answers, crate::proofs::Settings::nonce_answers))]
+fn move_slave(slave: &mut Slave, what: &Move, sent: &mut FrameBuf) -> Did
+    requires { IsProper (OfSlave slave.old.kit.settings) what.now }
+    ensures follows { Follows OfSlave slave_core.view_of slave.old what.now slave.new }
+    ensures answers { Answers OfSlave slave_core.view_of slave.old what.now result sent.new }
+    ensures settings { slave.new.kit.settings ≡ slave.old.kit.settings }
+{
+    match what {
+        Move::Deliver(frame) => slave.deliver(frame.bytes(), sent),
+        Move::Tick => slave.tick(sent),
+        Move::Local => slave.reset(sent),
+        Move::Put(load) => {
+            slave.put(load.bytes());
+            sent.clear();
+            Did::nothing()
+        }
+        Move::Hold(failsafe) => {
+            slave.hold(*failsafe);
+            sent.clear();
+            Did::nothing()
+        }
+        Move::Nonce(id) => {
+            slave.nonce(*id);
+            sent.clear();
+            Did::nothing()
+        }
+    }
+}
+
+fn image_of(bytes: &[u8]) -> Image
+    requires { length bytes.now ≤ 126 }
+    ensures { result ≡ bytes.now }
+{
+    let mut image = Image::zeros(0);
+    image.set(bytes);
+    image
+}
+
+fn copied(terms: Option<&Terms>) -> Option<Terms>
+    ensures { result ≡ option_copied terms.entry }
+{
+    match terms {
+        Some(terms) => Some(terms.copy()),
+        None => None,
+    }
+}
+
+/// A move at a master, and the entry that tells it.
+pub(crate) fn act_master(master: &mut Master, what: Move) -> Entry
+    requires proper { IsProper (OfMaster master.old.kit.settings) what }
+    requires rest { is_due master.old.state ≡ false }
+    ensures follows { Follows OfMaster master_core.view_of master.old what master.new }
+    ensures tells { Tells OfMaster master_core.view_of master.old what result }
+    ensures rest { is_due master.new.state ≡ false }
+    ensures settings { master.new.kit.settings ≡ master.old.kit.settings }
+{
+    let mut sent = FrameBuf::new();
+    let did = move_master(master, &what, &mut sent);
+    Entry {
+        end: End::Master,
+        what,
+        did,
+        sent,
+        state: master.state(),
+        outputs: image_of(master.outputs()),
+        terms: copied(master.terms()),
+    }
+}
+
+/// The same at a slave.
+pub(crate) fn act_slave(slave: &mut Slave, what: Move) -> Entry
+    requires { IsProper (OfSlave slave.old.kit.settings) what }
+    ensures follows { Follows OfSlave slave_core.view_of slave.old what slave.new }
+    ensures tells { Tells OfSlave slave_core.view_of slave.old what result }
+    ensures settings { slave.new.kit.settings ≡ slave.old.kit.settings }
+{
+    let mut sent = FrameBuf::new();
+    let did = move_slave(slave, &what, &mut sent);
+    Entry {
+        end: End::Slave,
+        what,
+        did,
+        sent,
+        state: slave.state(),
+        outputs: image_of(slave.outputs()),
+        terms: copied(slave.terms()),
+    }
+}
+
+/// Takes the frame of a step into the window of its end, if one was sent.
+#[tactic(auto, using(crate::proofs::Heard::hears_frame, crate::proofs::Heard::hears_none))]
+pub(crate) fn hear(window: &mut Window, sent: &FrameBuf)
+    ensures { Hears window.old sent.now window.new }
+{
+    if !sent.is_empty() {
+        window.push(sent.bytes());
+    }
+}

@@ -1,0 +1,32 @@
+//! What holds of a pair over all its steps. The calls do nothing: each law is a contract.
+
+ghost use Rattle.std.specs.Prelude.{◌≡◌, List, []};
+ghost use Rattle.fsoe_base.specs.declared.command.End.{End};
+ghost use Rattle.param_load.specs.declared.entry.Entry.{Entry};
+ghost use Rattle.param_load.specs.declared.master_settings.MasterSettings.{MasterSettings};
+ghost use Rattle.param_load.specs.declared.slave_settings.SlaveSettings.{SlaveSettings};
+ghost use Rattle.schedule_file.specs.declared.event.Event.{Event};
+ghost use Rattle.end_model.specs.Entries.{entries};
+ghost use Rattle.end_model.specs.Step.{run};
+ghost use Rattle.exchange_model.specs.Ends.{of_end};
+ghost use Rattle.exchange_model.specs.Fair.{Fair};
+ghost use Rattle.exchange_model.specs.Other.{before_other};
+ghost use Rattle.exchange_model.specs.World.{setup_of, moves, world, SameLengths};
+ghost use Rattle.duo_run.specs.Duo.{DuoView, DuoStands};
+ghost use Rattle.duo_run.specs.Ran.{Ran};
+
+/// The entries of a new pair over any list of events are the world of that schedule, for which it stands then.
+pub fn steps()
+    ensures world { (ms : MasterSettings) (ss : SlaveSettings) (first last : DuoView) (events : List Event) (w : List Entry) → DuoStands ms ss first [] → Ran first events [] last w → w ≡ world ms ss events }
+    ensures stands { (ms : MasterSettings) (ss : SlaveSettings) (first last : DuoView) (events : List Event) (w : List Entry) → DuoStands ms ss first [] → Ran first events [] last w → DuoStands ms ss last w }
+{}
+
+/// The entries of a pair before the first other one, all where there is none, are fair.
+pub fn fair()
+    ensures { (ms : MasterSettings) (ss : SlaveSettings) (v : DuoView) (w : List Entry) → SameLengths ms ss → DuoStands ms ss v w → Fair ms.lengths (before_other w) }
+{}
+
+/// The entries of one end of a pair are those of the run of that end's own events alone.
+pub fn projection()
+    ensures { (ms : MasterSettings) (ss : SlaveSettings) (which : End) (v : DuoView) (w : List Entry) → DuoStands ms ss v w → of_end which w ≡ entries (setup_of ms ss which) (run (setup_of ms ss which) (moves which w)) }
+{}
