@@ -8,11 +8,18 @@ use run::run;
 use std::process::ExitCode;
 use std::{env, io};
 
-/// The words after the program's name.
+/// The words after the program's name. A word that isn't UTF-8 is no command's, so there are none then, and the usage
+/// line is shown.
 fn words_of(rt: &HostRuntime) -> io::Result<Vec<String>> {
     let mut words = Vec::new(rt.alloc());
-    for word in env::args(rt)?.skip(1) {
-        words.push(word)?;
+    match env::args(rt) {
+        Ok(args) => {
+            for word in args.skip(1) {
+                words.push(word)?;
+            }
+        }
+        Err(e) if e.kind() == io::ErrorKind::InvalidData => {}
+        Err(e) => return Err(e),
     }
     Ok(words)
 }

@@ -1,5 +1,5 @@
 //! The commands of the program.
-ghost use Rattle.std.specs.Prelude.{◌≡◌, ◌≢◌, ◌⊎◌, IfSome, None, Some, map, string_bytes};
+ghost use Rattle.std.specs.Prelude.{◌≡◌, ◌≢◌, ◌≤◌, ◌⊎◌, IfSome, None, Some, map, string_bytes};
 ghost use Rattle.fsoe_io.specs.Faults.{Rose};
 ghost use Rattle.node_runner.specs.Ending.{Ends};
 ghost use Rattle.node_runner.specs.Ran.{Ran, ended_at};
@@ -14,6 +14,7 @@ use node_runner::run_node;
 fn show_usage<K: Sink>(sink: &mut K) -> Ended
     ensures ran { RanUsage result (K.written sink.old) (K.written sink.new) }
     ensures write { result.status ≡ Status.Write → Rose (K.faults sink.old) (K.faults sink.new) }
+    ensures later { K.faults sink.old ≤ K.faults sink.new }
     ensures status { (result.status ≡ Status.Usage) ⊎ (result.status ≡ Status.Write) }
 {
     match put_all(
@@ -66,23 +67,27 @@ fn node_of(words: &[String]) -> Option<End>
 /// `node master` and `node slave` run this end over a node file. All other words write the usage line, with status
 /// `Usage`.
 pub fn run<S: Source, K: Sink>(words: &[String], source: &mut S, sink: &mut K) -> Ended
-    // The words are no command: the usage line is written, or a first part of it where a write fails.
+    // The words are no command: the usage line is written, or a first part of it where a write fails, and nothing is read.
     ensures usage { node_of (map string_bytes words.now) ≡ None → RanUsage result (K.written sink.old) (K.written sink.new) }
-    // They run a node, and the source tells its bytes: the status says how these stop, and appended is the report, or a
-    // first part of it where a read or a write failed.
+    ensures unread { node_of (map string_bytes words.now) ≡ None → source.new ≡ source.old }
+    // They run a node, and the source tells its bytes: the status says how these stop, and appended, where the sink tells
+    // it, is the report, or a first part of it where a read or a write failed.
     ensures ran { (end : End) → node_of (map string_bytes words.now) ≡ Some end
         → Ran end result (S.left source.old) (S.left source.new) (K.written sink.old) (K.written sink.new) }
-    // Where neither a read nor a write failed besides, the status and the place are those of how the input stops.
+    // Where neither count of faults rose besides, the status and the place are those of how the input stops.
     ensures stops { ¬ Rose (S.faults source.old) (S.faults source.new) → ¬ Rose (K.faults sink.old) (K.faults sink.new)
         → (end : End) → node_of (map string_bytes words.now) ≡ Some end
         → IfSome (S.left source.old) (λ input. result ≡ ended_at (node_input end input).stop) }
-    // Also where the source doesn't tell them: the place is the refused line, the whole lines read, or the bytes written.
+    // Also where the source doesn't tell them: which statuses come, place 0 with `Ok`, and with `Write` the bytes written,
+    // where the sink tells these.
     ensures ends { (end : End) → node_of (map string_bytes words.now) ≡ Some end
         → Ends result (S.left source.old) (S.left source.new) (K.written sink.old) (K.written sink.new) }
     ensures command { (end : End) → node_of (map string_bytes words.now) ≡ Some end → result.status ≢ Status.Usage }
     // A failure is blamed on an end only where its count of faults rose.
     ensures read { result.status ≡ Status.Read → Rose (S.faults source.old) (S.faults source.new) }
     ensures write { result.status ≡ Status.Write → Rose (K.faults sink.old) (K.faults sink.new) }
+    ensures later_source { S.faults source.old ≤ S.faults source.new }
+    ensures later_sink { K.faults sink.old ≤ K.faults sink.new }
     // Nothing on this way takes memory.
     ensures memory { result.status ≢ Status.Memory }
 {

@@ -520,12 +520,14 @@ fn there_may_be_200_000_events(rt: HostRuntime) -> Result<(), Fail> {
         parts.push("t\n")?;
     }
     parts.push("t\n")?;
-    let (ended, _) = run_over(&rt, &PLAIN, parts.as_slice())?;
+    let (ended, sink) = run_over(&rt, &PLAIN, parts.as_slice())?;
     assert_eq!(rt; (ended.status, ended.place), (Status::Line, 200_006));
+    assert!(rt; sink.bytes().ends_with(b"\nrefused 200006 TooMany\n"));
     parts.pop();
     parts.push("end\n")?;
-    let (ended, _) = run_over(&rt, &PLAIN, parts.as_slice())?;
+    let (ended, sink) = run_over(&rt, &PLAIN, parts.as_slice())?;
     assert_eq!(rt; (ended.status, ended.place), (Status::Ok, 0));
+    assert!(rt; sink.bytes().ends_with(b"\nevents 200000\n"));
     Ok(())
 }
 

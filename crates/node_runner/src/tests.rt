@@ -190,13 +190,7 @@ fn whole_lines(bytes: &[u8]) -> u64 {
 
 /// An input of two events, the lines of its header, what is written of none, one and both of its events, and its whole
 /// report.
-type Short = (
-    End,
-    &'static [u8],
-    u64,
-    [&'static [u8]; 3],
-    &'static [u8],
-);
+type Short = (End, &'static [u8], u64, [&'static [u8]; 3], &'static [u8]);
 
 const SHORTS: [Short; 2] = [
     (

@@ -91,43 +91,46 @@ fn pair_cause(line: &str) -> Option<LineCause> {
     read_event(line.as_bytes(), &lengths, &PROFILES).err()
 }
 
+/// Lines of pairs, and why they are refused, if they are.
+const PAIR_LINES: [(&str, Option<LineCause>); 33] = [
+    ("", Some(LineCause::Word)),
+    ("t", Some(LineCause::Word)),
+    ("tx", Some(LineCause::Word)),
+    ("d -1", Some(LineCause::Word)),
+    ("tm ", Some(LineCause::Fields)),
+    ("end x", Some(LineCause::Fields)),
+    ("am -1 5", Some(LineCause::Fields)),
+    ("am -1 5 01 0", Some(LineCause::Fields)),
+    ("am -99 65536 zz", Some(LineCause::Number)),
+    ("am -1 05 01", Some(LineCause::Number)),
+    ("nm ", Some(LineCause::Number)),
+    ("nm 65536", Some(LineCause::Number)),
+    ("ns 4294967296", Some(LineCause::Number)),
+    ("hs 2", Some(LineCause::Number)),
+    ("am -99 9 zz", Some(LineCause::Reference)),
+    ("dm 1", Some(LineCause::Reference)),
+    ("dm -0", Some(LineCause::Reference)),
+    ("dm -01", Some(LineCause::Reference)),
+    ("ds -65", Some(LineCause::Reference)),
+    ("am -1 9 zz", Some(LineCause::Hex)),
+    ("am -1 5 0", Some(LineCause::Hex)),
+    ("am -1 5 0102", Some(LineCause::Hex)),
+    ("pm ", Some(LineCause::Hex)),
+    ("pm 01", Some(LineCause::Length)),
+    ("ps 0102", Some(LineCause::Length)),
+    ("am -1 9 01", Some(LineCause::Position)),
+    ("am -1 6 01", Some(LineCause::Position)),
+    ("as -1 7 01", Some(LineCause::Position)),
+    ("am -1 5 00", None),
+    ("as -64 6 fF", None),
+    ("pm 0102", None),
+    ("ns 4294967295", None),
+    ("end", None),
+];
+
 #[test]
 fn refuses_lines_of_pairs(rt: HostRuntime) -> Result<(), Fail> {
-    for (line, cause) in [
-        ("", Some(LineCause::Word)),
-        ("t", Some(LineCause::Word)),
-        ("tx", Some(LineCause::Word)),
-        ("d -1", Some(LineCause::Word)),
-        ("tm ", Some(LineCause::Fields)),
-        ("end x", Some(LineCause::Fields)),
-        ("am -1 5", Some(LineCause::Fields)),
-        ("am -1 5 01 0", Some(LineCause::Fields)),
-        ("am -99 65536 zz", Some(LineCause::Number)),
-        ("am -1 05 01", Some(LineCause::Number)),
-        ("nm ", Some(LineCause::Number)),
-        ("nm 65536", Some(LineCause::Number)),
-        ("ns 4294967296", Some(LineCause::Number)),
-        ("hs 2", Some(LineCause::Number)),
-        ("am -99 9 zz", Some(LineCause::Reference)),
-        ("dm 1", Some(LineCause::Reference)),
-        ("dm -0", Some(LineCause::Reference)),
-        ("dm -01", Some(LineCause::Reference)),
-        ("ds -65", Some(LineCause::Reference)),
-        ("am -1 9 zz", Some(LineCause::Hex)),
-        ("am -1 5 0", Some(LineCause::Hex)),
-        ("am -1 5 0102", Some(LineCause::Hex)),
-        ("pm ", Some(LineCause::Hex)),
-        ("pm 01", Some(LineCause::Length)),
-        ("ps 0102", Some(LineCause::Length)),
-        ("am -1 9 01", Some(LineCause::Position)),
-        ("am -1 6 01", Some(LineCause::Position)),
-        ("as -1 7 01", Some(LineCause::Position)),
-        ("am -1 5 00", None),
-        ("as -64 6 fF", None),
-        ("pm 0102", None),
-        ("ns 4294967295", None),
-        ("end", None),
-    ] {
+    for (line, cause) in PAIR_LINES {
         assert_eq!(rt; pair_cause(line), cause, "{line}");
     }
     Ok(())
@@ -190,73 +193,76 @@ const SLAVE: HeaderKind = HeaderKind::Node(End::Slave);
 
 const MASTER: HeaderKind = HeaderKind::Node(End::Master);
 
+/// Headers, the line that is refused, and why.
+const HEADERS: [(&str, usize, LineCause); 19] = [
+    ("", 1, LineCause::Header),
+    ("fsoe 1 node master", 1, LineCause::Header),
+    ("fsoe 1 node slave/go", 2, LineCause::Header),
+    ("fsoe 1 node slave/ lengths 2 2", 2, LineCause::Header),
+    ("fsoe 1 node slave/lengths 2", 2, LineCause::Fields),
+    ("fsoe 1 node slave/lengths 65536 2", 2, LineCause::Number),
+    ("fsoe 1 node slave/lengths 0 2", 2, LineCause::Length),
+    ("fsoe 1 node slave/lengths 3 2", 2, LineCause::Length),
+    (
+        "fsoe 1 node slave/lengths 2 2/master 1 2 100 1",
+        3,
+        LineCause::Header,
+    ),
+    (
+        "fsoe 1 node slave/lengths 2 2/slave 2 100 1000",
+        3,
+        LineCause::Fields,
+    ),
+    (
+        "fsoe 1 node slave/lengths 2 2/slave 2 0 1000 2",
+        3,
+        LineCause::Range,
+    ),
+    (
+        "fsoe 1 node slave/lengths 2 2/slave 2 100 0 2",
+        3,
+        LineCause::Range,
+    ),
+    (
+        "fsoe 1 node slave/lengths 2 2/slave 2 0 65536 2",
+        3,
+        LineCause::Number,
+    ),
+    (
+        "fsoe 1 node slave/lengths 2 2/slave 2 100 1000 4294967296",
+        3,
+        LineCause::Number,
+    ),
+    (
+        "fsoe 1 node slave/lengths 2 2/slave 2 100 1000 65536/go",
+        4,
+        LineCause::Header,
+    ),
+    (
+        "fsoe 1 node slave/lengths 2 2/slave 2 100 1000 65536/rule any",
+        4,
+        LineCause::Fields,
+    ),
+    (
+        "fsoe 1 node slave/lengths 2 2/slave 2 100 1000 65536/rule any 0",
+        4,
+        LineCause::Range,
+    ),
+    (
+        "fsoe 1 node slave/lengths 2 2/slave 2 100 1000 65536/profile 65536",
+        4,
+        LineCause::Number,
+    ),
+    (
+        "fsoe 1 node slave/lengths 2 2/slave 2 100 1000 2/profile 7/profile 7",
+        5,
+        LineCause::Header,
+    ),
+];
+
 #[test]
 fn refuses_lines_of_headers(rt: HostRuntime) -> Result<(), Fail> {
-    for (text, place, cause) in [
-        ("", 1, LineCause::Header),
-        ("fsoe 1 node master", 1, LineCause::Header),
-        ("fsoe 1 node slave/go", 2, LineCause::Header),
-        ("fsoe 1 node slave/ lengths 2 2", 2, LineCause::Header),
-        ("fsoe 1 node slave/lengths 2", 2, LineCause::Fields),
-        ("fsoe 1 node slave/lengths 65536 2", 2, LineCause::Number),
-        ("fsoe 1 node slave/lengths 0 2", 2, LineCause::Length),
-        ("fsoe 1 node slave/lengths 3 2", 2, LineCause::Length),
-        (
-            "fsoe 1 node slave/lengths 2 2/master 1 2 100 1",
-            3,
-            LineCause::Header,
-        ),
-        (
-            "fsoe 1 node slave/lengths 2 2/slave 2 100 1000",
-            3,
-            LineCause::Fields,
-        ),
-        (
-            "fsoe 1 node slave/lengths 2 2/slave 2 0 1000 2",
-            3,
-            LineCause::Range,
-        ),
-        (
-            "fsoe 1 node slave/lengths 2 2/slave 2 100 0 2",
-            3,
-            LineCause::Range,
-        ),
-        (
-            "fsoe 1 node slave/lengths 2 2/slave 2 0 65536 2",
-            3,
-            LineCause::Number,
-        ),
-        (
-            "fsoe 1 node slave/lengths 2 2/slave 2 100 1000 4294967296",
-            3,
-            LineCause::Number,
-        ),
-        (
-            "fsoe 1 node slave/lengths 2 2/slave 2 100 1000 65536/go",
-            4,
-            LineCause::Header,
-        ),
-        (
-            "fsoe 1 node slave/lengths 2 2/slave 2 100 1000 65536/rule any",
-            4,
-            LineCause::Fields,
-        ),
-        (
-            "fsoe 1 node slave/lengths 2 2/slave 2 100 1000 65536/rule any 0",
-            4,
-            LineCause::Range,
-        ),
-        (
-            "fsoe 1 node slave/lengths 2 2/slave 2 100 1000 65536/profile 65536",
-            4,
-            LineCause::Number,
-        ),
-        (
-            "fsoe 1 node slave/lengths 2 2/slave 2 100 1000 2/profile 7/profile 7",
-            5,
-            LineCause::Header,
-        ),
-    ] {
+    for (text, place, cause) in HEADERS {
         assert_eq!(rt; refusal(SLAVE, text), Some((place, cause)), "{text}");
     }
     Ok(())
