@@ -1,11 +1,12 @@
 """A plain model of both ends' frames, written from docs/protocol.md: it makes the inputs that bench/run measures.
 
-`python3 frames.py ticks N` and `python3 frames.py frames LENGTH N` print a node file for `fsoe_tool node slave`.
+`python3 frames.py END ticks N` and `python3 frames.py END frames LENGTH N` print a node file for `fsoe_tool node END`, where
+END is `master` or `slave`: N ticks, or the peer's frames of a session with N data frames.
 """
 import sys
 
 RESET, SESSION, CONNECTION, PARAMETER, PROCESS_DATA = 0x2A, 0x4E, 0x64, 0x52, 0x36
-CONN, ADDRESS, WATCHDOG, MASTER_ID, SLAVE_ID = 1, 2, 100, 1, 2
+CONN, ADDRESS, WATCHDOG, MASTER_ID, SLAVE_ID = 1, 2, 1000, 1, 2
 
 
 def _table():
@@ -88,39 +89,55 @@ def handshake(length):
             yield command, conn, pad(payload), pad(answer if answer else payload)
 
 
-def session(length, data_frames):
-    """The master's frames of a session, and the loads of its data frames: a count in two bytes."""
+def data_loads(length, data_frames, end):
+    """The loads of a session's data frames when the node at `end` is measured: its peer counts in two bytes, and it offers zeros."""
+    zeros = [0] * length
+    for n in range(data_frames):
+        count = (low_high(n % 65536) + zeros)[:length]
+        yield (zeros, count) if end == "master" else (count, zeros)
+
+
+def session(length, data_frames, end):
+    """The frames of a session, each of the master with the slave's answer."""
     master, slave = Sender(), Sender()
     taken = 0
-    yield reset_frame(0, length)
-
-    def exchange(command, conn, load, answer):
-        nonlocal taken
+    yield reset_frame(0, length), reset_frame(0, length)
+    exchanges = list(handshake(length))
+    exchanges += [(PROCESS_DATA, CONN, *loads) for loads in data_loads(length, data_frames, end)]
+    for command, conn, load, answer in exchanges:
         frame, sent = master.seal(taken, conn, command, load)
-        _, taken = slave.seal(sent, conn, command, answer)
-        return frame
-
-    for command, conn, load, answer in handshake(length):
-        yield exchange(command, conn, load, answer)
-    for n in range(data_frames):
-        load = (low_high(n % 65536) + [0] * length)[:length]
-        yield exchange(PROCESS_DATA, CONN, load, [0] * length)
+        answered, taken = slave.seal(sent, conn, command, answer)
+        yield frame, answered
 
 
-def header(length):
-    return f"fsoe 1 node slave\nlengths {length} {length}\nslave {ADDRESS} 200 1000 {SLAVE_ID}\nrule any 0\ngo\n"
+HEADERS = {
+    "master": f"master {CONN} {ADDRESS} {WATCHDOG} {MASTER_ID}\n",
+    "slave": f"slave {ADDRESS} 200 {WATCHDOG} {SLAVE_ID}\nrule any 0\n",
+}
 
 
-def main(words):
-    if words[0] == "ticks":
-        sys.stdout.write(header(2) + "t\n" * int(words[1]))
+def header(end, length):
+    return f"fsoe 1 node {end}\nlengths {length} {length}\n{HEADERS[end]}go\n"
+
+
+def frame_lines(end, length, data_frames):
+    """The peer's frames. A master's first tick sends the Reset frame that the first of them answers."""
+    if end == "master":
+        yield "t\n"
+    for sent_by_master, sent_by_slave in session(length, data_frames, end):
+        frame = sent_by_slave if end == "master" else sent_by_master
+        yield f"d {frame.hex()}\n"
+
+
+def main(end, what, *numbers):
+    if what == "ticks":
+        sys.stdout.write(header(end, 2) + "t\n" * int(numbers[0]))
     else:
-        length, count = int(words[1]), int(words[2])
-        sys.stdout.write(header(length))
-        for frame in session(length, count):
-            sys.stdout.write(f"d {frame.hex()}\n")
+        length, data_frames = map(int, numbers)
+        sys.stdout.write(header(end, length))
+        sys.stdout.writelines(frame_lines(end, length, data_frames))
     sys.stdout.write("end\n")
 
 
 if __name__ == "__main__":
-    main(sys.argv[1:])
+    main(*sys.argv[1:])
