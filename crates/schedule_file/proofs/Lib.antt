@@ -10,3 +10,4 @@ pub mod ReadBack
 pub mod FewEvents
 pub mod AfterEnd
 pub mod Sound
+pub mod HexAlone

@@ -1,6 +1,6 @@
 -- The steps by which a line is read: each gives a value, or the cause for which the line is refused.
 use Rattle.std.specs.Prelude.{◌≡◌, List, [], ◌∷◌, ℕ, Option, Some, None, Result, Ok, Err, MatchResult}
-use Rattle.schedule_file.specs.Field.{fields_after}
+use Rattle.schedule_file.specs.Field.{fields_after, bytes_of}
 use Rattle.schedule_file.specs.declared.line_cause.LineCause.{LineCause}
 use Rattle.schedule_file.specs.declared.line_cause.LineCause.TheVariants as cause
 use denote.Ref.{Bor}
@@ -43,3 +43,13 @@ IsField result said = MatchResult result (λ field. said ≡ Ok field.now) (λ c
 -- parts of a line that are the field and those after it that are said
 abbrev pub AreFields : Result (Bor (List ℕ) × Option (Bor (List ℕ))) LineCause → Result (List ℕ × List (List ℕ)) LineCause → Type 0
 AreFields result said = MatchResult result (λ it. said ≡ Ok (it.0.now, fields_after it.1)) (λ cause. said ≡ Err cause)
+
+-- the bytes that the only field says in hexadecimal
+abbrev pub one_hex_field : ℕ → List (List ℕ) → Result (List ℕ) LineCause
+one_hex_field most fields = one_field fields >>= λ field. value_or cause.Hex (bytes_of most field)
+
+-- why fields aren't one in hexadecimal: there isn't one, or it isn't
+abbrev pub not_hex : List (List ℕ) → LineCause
+not_hex (field ∷ []) = cause.Hex
+not_hex [] = cause.Fields
+not_hex (field ∷ next ∷ more) = cause.Fields

@@ -6,7 +6,7 @@ ghost use Rattle.schedule_file.specs.EventLine.{switch_of, reference_of, deliver
 ghost use Rattle.schedule_file.specs.Field.{fields_after};
 
 use crate::event::{Event, ScheduleLine};
-use crate::field::{HexBytes, next_field, no_field, number, one_field};
+use crate::field::{HexBytes, next_field, no_field, number, one_field, one_hex_field};
 use crate::line_cause::LineCause;
 use fsoe_base::{End, FrameBuf, Image, Lengths};
 use param_load::Profile;
@@ -94,8 +94,7 @@ pub fn read_tick(at: End, fields: Option<&[u8]>) -> Result<ScheduleLine, LineCau
 pub fn read_raw(to: End, fields: Option<&[u8]>) -> Result<ScheduleLine, LineCause>
     ensures { result ≡ raw_line to (fields_after fields.entry) }
 {
-    let field = one_field(fields)?;
-    let bytes = HexBytes::read(field, 255).ok_or(LineCause::Hex)?;
+    let bytes = one_hex_field(fields, 255)?;
     let mut frame = FrameBuf::new();
     frame.set(bytes.bytes());
     Ok(ScheduleLine::Step(Event::Raw { to, frame }))
@@ -104,8 +103,7 @@ pub fn read_raw(to: End, fields: Option<&[u8]>) -> Result<ScheduleLine, LineCaus
 pub fn read_put(at: End, count: usize, fields: Option<&[u8]>) -> Result<ScheduleLine, LineCause>
     ensures { result ≡ put_line at count (fields_after fields.entry) }
 {
-    let field = one_field(fields)?;
-    let bytes = HexBytes::read(field, 126).ok_or(LineCause::Hex)?;
+    let bytes = one_hex_field(fields, 126)?;
     if bytes.bytes().len() != count {
         return Err(LineCause::Length);
     }

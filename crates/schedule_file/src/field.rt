@@ -1,5 +1,5 @@
-ghost use Rattle.std.specs.Prelude.{◌≡◌, ◌≤◌, ◌<◌, ◌∷◌, length, IfSome};
-ghost use Rattle.schedule_file.specs.Fields.{next_field, no_field, one_field, IsField, AreFields};
+ghost use Rattle.std.specs.Prelude.{◌≡◌, ◌≤◌, ◌<◌, ◌∷◌, length, IfSome, IfOk};
+ghost use Rattle.schedule_file.specs.Fields.{next_field, no_field, one_field, one_hex_field, not_hex, IsField, AreFields};
 ghost use Rattle.schedule_file.specs.Field.{FindsSpace, fields_of, fields_after, number_of, bytes_of};
 
 use crate::hex_digits::{are_digits, decode};
@@ -118,5 +118,34 @@ pub fn one_field(fields: Option<&[u8]>) -> Result<&[u8], LineCause>
             (field, None) => Ok(field),
             (_, Some(_)) => Err(LineCause::Fields),
         },
+    }
+}
+
+/// The bytes of the only field, from one to `most`. `Fields` where there is no field or more than one, else `Hex`. Digits
+/// have no space among them, so one is sought only where they aren't digits.
+#[tactic(auto, using(crate::proofs::HexAlone::hex_said, crate::proofs::HexAlone::hex_unsaid))]
+pub fn one_hex_field(fields: Option<&[u8]>, most: usize) -> Result<HexBytes, LineCause>
+    requires { most ≤ 256 }
+    ensures value { result ≡ one_hex_field most (fields_after fields.entry) }
+    ensures count { IfOk result (λ bytes. (0 < length bytes) × (length bytes ≤ most)) }
+{
+    let Some(text) = fields else {
+        return Err(LineCause::Fields);
+    };
+    match HexBytes::read(text, most) {
+        Some(bytes) => Ok(bytes),
+        None => Err(not_hex(text)),
+    }
+}
+
+/// Why a text isn't one field of digits.
+#[cold]
+#[inline(never)]
+fn not_hex(text: &[u8]) -> LineCause
+    ensures { result ≡ not_hex (fields_of text.now) }
+{
+    match one_field(Some(text)) {
+        Ok(_) => LineCause::Hex,
+        Err(cause) => cause,
     }
 }

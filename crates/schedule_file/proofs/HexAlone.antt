@@ -1,0 +1,38 @@
+-- Hexadecimal digits are one field.
+use Rattle.std.proofs.Common.{◌≡◌, ℕ, List, [], ◌∷◌, refl, sym, ap, ◌∙◌, arith, false, true}
+use Rattle.std.specs.Prelude.{Result, Ok, Err, Some, None}
+use Rattle.std.proofs.lemmas.Bool.Decides.{nat_tests}
+use Rattle.std.proofs.lemmas.List.Splits.{slice_split_none, join_with_byte-slice_split}
+use Rattle.std.specs.List.{join_with_byte}
+use Rattle.hex.specs.Hex.{decode_of, is_hex_digit}
+use Rattle.hex.specs.declared.error.FromHexError.{FromHexError}
+use Rattle.hex.proofs.HexLemmas.{decode_of-ok}
+use Rattle.schedule_file.specs.Field.{is_space, fields_of, some_bytes, bytes_of}
+use Rattle.schedule_file.specs.Fields.{one_hex_field, not_hex, value_or}
+use Rattle.schedule_file.specs.declared.line_cause.LineCause.TheVariants as cause
+
+-- a space is no digit
+no_space : (c : ℕ) → is_hex_digit c ≡ true → is_space c ≡ false
+no_space c h = grind (arith, nat_tests)
+
+decoded : (most : ℕ) (r : Result (List ℕ) FromHexError) (bytes : List ℕ) → some_bytes most r ≡ Some bytes → (all : List ℕ) × (r ≡ Ok all)
+decoded most (Ok all) bytes e = (all, refl)
+decoded most (Err why) bytes e = cc
+
+-- digits are one field
+alone : (most : ℕ) (text bytes : List ℕ) → bytes_of most text ≡ Some bytes → fields_of text ≡ text ∷ []
+alone most text bytes e =
+    let all = decoded most (decode_of text) bytes e in
+    let ok = decode_of-ok text all.0 all.1 in
+    slice_split_none is_space text (λ i d lt. no_space _ (ok.1 i d lt))
+
+pub hex_said : (most : ℕ) (text bytes : List ℕ) → bytes_of most text ≡ Some bytes → one_hex_field most (fields_of text) ≡ Ok bytes
+hex_said most text bytes e = ap (one_hex_field most) (alone most text bytes e) ∙ ap (value_or cause.Hex) e
+
+unsaid : (most : ℕ) (text : List ℕ) (fields : List (List ℕ)) → bytes_of most text ≡ None → ((field : List ℕ) → fields ≡ field ∷ [] → field ≡ text) → one_hex_field most fields ≡ Err (not_hex fields)
+unsaid most text [] e same = refl
+unsaid most text (field ∷ []) e same = ap (λ t. value_or cause.Hex (bytes_of most t)) (same field refl) ∙ ap (value_or cause.Hex) e
+unsaid most text (field ∷ next ∷ more) e same = refl
+
+pub hex_unsaid : (most : ℕ) (text : List ℕ) → bytes_of most text ≡ None → one_hex_field most (fields_of text) ≡ Err (not_hex (fields_of text))
+hex_unsaid most text e = unsaid most text (fields_of text) e (λ field is. ap (join_with_byte 32) (sym is) ∙ join_with_byte-slice_split 32 text)
