@@ -10,9 +10,9 @@ use Rattle.seq_chain.specs.Chain.{fits_next}
 use Rattle.seq_chain.specs.Opened.{opened}
 use Rattle.seq_chain.specs.SessionFrame.{SessionFrameView}
 use Rattle.seq_chain.proofs.OpenedFrame.{opened_load}
+use Rattle.end_model.specs.Setup.{OfMaster, receives}
 use Rattle.master_core.specs.declared.now.Now.{Now}
 use Rattle.master_core.specs.declared.now.Now.TheVariants as now
-use Rattle.master_core.specs.Kit.{peer_len}
 use Rattle.master_core.specs.Now.{chain_of, allows, has_conn, fault}
 use Rattle.master_core.specs.Views.{DataView, HasPassed}
 
@@ -23,7 +23,7 @@ by-tests true false t x y z e = absurd (cc e)
 by-tests false h t x y z e = absurd (cc e)
 
 -- it has the slave's length, and fits
-pub has_passed : (settings : MasterSettings) (now : Now) (l : ℕ) (repeats : Bool) (bytes : List ℕ) (f : SessionFrameView) → IsTrue (is_length l) → l ≡ peer_len settings
+pub has_passed : (settings : MasterSettings) (now : Now) (l : ℕ) (repeats : Bool) (bytes : List ℕ) (f : SessionFrameView) → IsTrue (is_length l) → l ≡ receives (OfMaster settings)
     → opened l repeats bytes ≡ opened_as.OfSession f → fault settings now f ≡ None → HasPassed settings (chain_of now) f
 has_passed settings now l repeats bytes f valid at o e = record {
   len_is = opened_load l repeats bytes f valid o ∙ at;
@@ -35,7 +35,7 @@ none-found None h = refl
 none-found (Some x) h = absurd (cc h)
 
 -- the same in state Data
-pub data_passed : (settings : MasterSettings) (n : Now) (s : DataView) (l : ℕ) (repeats : Bool) (bytes : List ℕ) (f : SessionFrameView) (found : Option Code) → n ≡ now.Data s → IsTrue (is_length l) → l ≡ peer_len settings
+pub data_passed : (settings : MasterSettings) (n : Now) (s : DataView) (l : ℕ) (repeats : Bool) (bytes : List ℕ) (f : SessionFrameView) (found : Option Code) → n ≡ now.Data s → IsTrue (is_length l) → l ≡ receives (OfMaster settings)
     → opened l repeats bytes ≡ opened_as.OfSession f → found ≡ fault settings n f → is_some found ≡ false → HasPassed settings s.chain f
 data_passed settings n s l repeats bytes f found here valid at o i e =
     subst (λ (chain : Chain). HasPassed settings chain f) (ap chain_of here) (has_passed settings n l repeats bytes f valid at o (sym i ∙ none-found found e))

@@ -18,7 +18,7 @@ use Rattle.seq_chain.specs.SessionFrame.{SessionFrameView}
 use Rattle.param_load.specs.declared.entry.Move.TheVariants as move
 use Rattle.param_load.specs.declared.master_settings.MasterSettings.{MasterSettings}
 use Rattle.param_load.specs.declared.terms.Terms.{Terms}
-use Rattle.end_model.specs.Setup.{Setup, OfMaster}
+use Rattle.end_model.specs.Setup.{Setup, OfMaster, receives}
 use Rattle.end_model.specs.Deed.{Deed}
 use Rattle.end_model.specs.Outputs.{out}
 use Rattle.end_model.specs.Readiness.{state_of, age, told_terms, offer, held}
@@ -29,7 +29,7 @@ use Rattle.master_core.specs.declared.due.Next.{Next}
 use Rattle.master_core.specs.declared.due.Next.TheVariants as next
 use Rattle.master_core.specs.declared.now.Now.{Now}
 use Rattle.master_core.specs.declared.now.Now.TheVariants as now
-use Rattle.master_core.specs.Kit.{KitView, peer_len}
+use Rattle.master_core.specs.Kit.{KitView}
 use Rattle.master_core.specs.Master.{Accepted, drops, leaves, ends, begins, settles, refuses, on_session, accepted_by, replies}
 use Rattle.master_core.specs.MasterView.{MasterView}
 use Rattle.master_core.specs.Now as machine
@@ -156,5 +156,5 @@ none-due state.Data ms n = refl
 pub age_zero : (v : MasterView) (shown : ℕ) → shown ≡ v.timer.age → (ms : MasterSettings) (e : List Deed) (bytes : List ℕ) (done : Did) → Waits ms v e bytes done → IsTrue (is_due v.state) → shown ≡ 0
 age_zero v shown i ms e bytes done w k =
     let rest = none-due (state_of (OfMaster ms) e) ms (notes_of ms e) in
-    let start = opened-starts (opened (peer_len ms) (is_repeat (kept (view_of ms e).state) bytes) bytes) (view_of ms e) rest in
+    let start = opened-starts (opened (receives (OfMaster ms)) (is_repeat (kept (view_of ms e).state) bytes) bytes) (view_of ms e) rest in
     i ∙ ap (λ (v : MasterView). v.timer.age) w.is ∙ start (sym (ap (λ (v : MasterView). is_due v.state) w.is) ∙ k)

@@ -22,7 +22,7 @@ use Rattle.seq_chain.specs.declared.opened.Opened.{Opened}
 use Rattle.seq_chain.specs.declared.opened.Opened.TheVariants as opened_as
 use Rattle.seq_chain.specs.Opened.{opened}
 use Rattle.seq_chain.specs.SessionFrame.{SessionFrameView}
-use Rattle.end_model.specs.Setup.{OfMaster}
+use Rattle.end_model.specs.Setup.{OfMaster, receives}
 use Rattle.end_model.specs.Deed.{Deed}
 use Rattle.end_model.specs.Standing.{Stands}
 use Rattle.end_model.specs.Step.{did_on, IsProper}
@@ -31,7 +31,7 @@ use Rattle.master_core.specs.declared.due.Next.TheVariants as next
 use Rattle.master_core.specs.declared.now.Now.{Now}
 use Rattle.master_core.specs.declared.now.Now.TheVariants as now
 use Rattle.master_core.specs.After.{after}
-use Rattle.master_core.specs.Kit.{KitView, peer_len}
+use Rattle.master_core.specs.Kit.{KitView}
 use Rattle.fsoe_base.specs.Did.{takes}
 use Rattle.end_model.specs.Verdict.{is_repeat}
 use Rattle.master_core.specs.Master.{Accepted, drops, leaves, ends, begins, settles, refuses, on_session, accepted_by, accepted, replies}
@@ -106,7 +106,7 @@ by-opened (opened_as.ResetFrame x f) v o n = refuses-with (is_reset v.state) (be
 by-opened (opened_as.OfSession f) v o n = session-frame-with (fault v.kit.settings v.state f) v o n f
 
 with-kit : (v : MasterView) (o : OfferView) (n : ℕ) (bytes : List ℕ) → accepted (view_with v o n) bytes ≡ accepted_with (accepted v bytes) o n
-with-kit v o n bytes = by-opened (opened (peer_len v.kit.settings) (is_repeat (kept v.state) bytes) bytes) v o n
+with-kit v o n bytes = by-opened (opened (receives (OfMaster v.kit.settings)) (is_repeat (kept v.state) bytes) bytes) v o n
 
 -- a master at rest sends nothing
 at-rest : (k : KitView) (s : Now) → is_due s ≡ false → replied k s ≡ s
@@ -171,7 +171,7 @@ opened-kit (opened_as.ResetFrame x f) v = either-kit (is_reset v.state) (begins 
 opened-kit (opened_as.OfSession f) v = session-kit (fault v.kit.settings v.state f) v f
 
 kit-kept : (v : MasterView) (bytes : List ℕ) → (accepted v bytes).master.kit ≡ v.kit
-kit-kept v bytes = opened-kit (opened (peer_len v.kit.settings) (is_repeat (kept v.state) bytes) bytes) v
+kit-kept v bytes = opened-kit (opened (receives (OfMaster v.kit.settings)) (is_repeat (kept v.state) bytes) bytes) v
 
 -- an event that sets the offer, the hold or the nonce may come before the frame as well as after it
 pub record Commutes (m : Move) : Type 0 where
@@ -269,4 +269,4 @@ opened-due (opened_as.ResetFrame x f) v h = either-due (is_reset v.state) (begin
 opened-due (opened_as.OfSession f) v h = session-due (fault v.kit.settings v.state f) v f h
 
 pub due_told : (v : MasterView) (bytes : List ℕ) → is_due v.state ≡ false → is_due (accepted v bytes).master.state ≡ (is_some (accepted v bytes).did.took || is_some (accepted v bytes).did.reset)
-due_told v bytes h = opened-due (opened (peer_len v.kit.settings) (is_repeat (kept v.state) bytes) bytes) v h
+due_told v bytes h = opened-due (opened (receives (OfMaster v.kit.settings)) (is_repeat (kept v.state) bytes) bytes) v h

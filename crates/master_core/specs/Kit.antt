@@ -1,5 +1,5 @@
 -- What a master has in every state: its settings, its offer, and its nonce.
-use Rattle.std.specs.Prelude.{◌≡◌, ℕ, min, true, false, IsTrue, length}
+use Rattle.std.specs.Prelude.{◌≡◌, ℕ, true, false, IsTrue, length}
 use Rattle.param_load.specs.declared.master_settings.MasterSettings.{MasterSettings}
 use Rattle.param_load.specs.declared.terms.Terms.{Terms}
 use Rattle.param_load.specs.Download.{download}
@@ -7,18 +7,7 @@ use Rattle.param_load.specs.DownloadView.{DownloadView}
 use Rattle.param_load.specs.Payload.{session_payload, connection_payload, parameter_payload}
 use Rattle.param_load.specs.Profile.{allows_id}
 use Rattle.failsafe_io.specs.Offer.{OfferView, first_offer}
-
--- the safe data bytes of a frame of the master
-abbrev pub own_len : MasterSettings → ℕ
-own_len settings = settings.lengths.master
-
--- the safe data bytes of a frame of its slave
-abbrev pub peer_len : MasterSettings → ℕ
-peer_len settings = settings.lengths.slave
-
--- the most bytes of a payload that one frame carries
-abbrev pub piece_of : MasterSettings → ℕ
-piece_of settings = min settings.lengths.master settings.lengths.slave
+use Rattle.end_model.specs.Setup.{OfMaster, sends, piece_len}
 
 -- what a master has in every state
 pub record KitView : Type 0 where
@@ -28,24 +17,24 @@ pub record KitView : Type 0 where
 
 -- a new master offers zeros, isn't held, and has the nonce of its settings
 abbrev pub first_kit : MasterSettings → KitView
-first_kit settings = record { settings = settings; offer = first_offer (own_len settings); nonce = settings.nonce }
+first_kit settings = record { settings = settings; offer = first_offer (sends (OfMaster settings)); nonce = settings.nonce }
 
 -- the offer has the length of the master's frames, and the profile allows the nonce
 pub record IsKit (k : KitView) : Type 0 where
-  pub offer_len : length k.offer.load ≡ own_len k.settings
+  pub offer_len : length k.offer.load ≡ sends (OfMaster k.settings)
   pub nonce_allowed : IsTrue (allows_id k.settings.profile k.nonce)
 
 -- what a master downloads first is its session id, which no answer repeats
 abbrev pub session_download : KitView → DownloadView
-session_download k = download (session_payload k.nonce k.settings.profile) (piece_of k.settings) false
+session_download k = download (session_payload k.nonce k.settings.profile) (piece_len (OfMaster k.settings)) false
 
 -- what it downloads then are the connection id and the address, which each answer repeats
 abbrev pub connection_download : MasterSettings → DownloadView
-connection_download settings = download (connection_payload settings.conn settings.address) (piece_of settings) true
+connection_download settings = download (connection_payload settings.conn settings.address) (piece_len (OfMaster settings)) true
 
 -- what it downloads last are the parameters, which each answer repeats
 abbrev pub parameter_download : MasterSettings → DownloadView
-parameter_download settings = download (parameter_payload settings.watchdog settings.profile settings.app) (piece_of settings) true
+parameter_download settings = download (parameter_payload settings.watchdog settings.profile settings.app) (piece_len (OfMaster settings)) true
 
 -- the terms of a master are its settings
 abbrev pub terms_of : MasterSettings → Terms

@@ -18,11 +18,12 @@ use Rattle.seq_chain.specs.declared.opened.Opened.TheVariants as opened_as
 use Rattle.seq_chain.specs.Opened.{opened}
 use Rattle.seq_chain.specs.Reset.{reset_frame}
 use Rattle.seq_chain.specs.SessionFrame.{SessionFrameView}
+use Rattle.end_model.specs.Setup.{OfMaster, sends, receives}
 use Rattle.end_model.specs.Verdict.{is_repeat}
 use Rattle.master_core.specs.declared.due.Next.{Next}
 use Rattle.master_core.specs.declared.due.Next.TheVariants as next
 use Rattle.master_core.specs.declared.now.Now.TheVariants as now
-use Rattle.master_core.specs.Kit.{own_len, peer_len, first_kit}
+use Rattle.master_core.specs.Kit.{first_kit}
 use Rattle.master_core.specs.Now.{is_reset, is_due, kept, fault, taken, replied, reply}
 use Rattle.master_core.specs.MasterView.{MasterView}
 use Rattle.master_core.specs.States.{no_session}
@@ -89,7 +90,7 @@ accepted_by v (opened_as.OfSession f) = on_session v f (fault v.kit.settings v.s
 
 -- a frame is accepted: it is tested for its length, and against the frame that was taken last
 abbrev pub accepted : MasterView → List ℕ → Accepted
-accepted v bytes = accepted_by v (opened (peer_len v.kit.settings) (is_repeat (kept v.state) bytes) bytes)
+accepted v bytes = accepted_by v (opened (receives (OfMaster v.kit.settings)) (is_repeat (kept v.state) bytes) bytes)
 
 -- the frame that is due is sent, and the master is in the state that it leads to
 abbrev pub replies : MasterView → MasterView
@@ -112,14 +113,14 @@ abbrev pub falls : MasterView → Cause → Code → Outcome
 falls v why x = record {
   master = record v { state = now.Reset no_session; timer = started v.kit.settings };
   did = resets false why;
-  sent = reset_frame x.0 (own_len v.kit.settings);
+  sent = reset_frame x.0 (sends (OfMaster v.kit.settings));
 }
 
 -- the limit is reached: in state Reset the Reset frame with code 0 is sent again
 abbrev pub expires : MasterView → Outcome
 expires v =
     if is_reset v.state
-    then record { master = record v { timer = started v.kit.settings }; did = record did.nothing { sent = true }; sent = reset_frame 0 (own_len v.kit.settings) }
+    then record { master = record v { timer = started v.kit.settings }; did = record did.nothing { sent = true }; sent = reset_frame 0 (sends (OfMaster v.kit.settings)) }
     else falls v (cause.Found (code 0x05)) (code 0x05)
 
 -- a tick makes the age one more, and expires where that reaches the limit

@@ -12,11 +12,12 @@ use Rattle.seq_chain.specs.Reset.{reset_frame}
 use Rattle.seq_chain.specs.SessionFrame.{SessionFrameView}
 use Rattle.param_load.specs.declared.master_settings.MasterSettings.{MasterSettings}
 use Rattle.param_load.specs.declared.terms.Terms.{Terms}
+use Rattle.end_model.specs.Setup.{OfMaster, sends, receives}
 use Rattle.master_core.specs.declared.due.Next.{Next}
 use Rattle.master_core.specs.declared.due.Next.TheVariants as next
 use Rattle.master_core.specs.declared.now.Now.{Now}
 use Rattle.master_core.specs.declared.now.Now.TheVariants as now
-use Rattle.master_core.specs.Kit.{KitView, own_len, peer_len}
+use Rattle.master_core.specs.Kit.{KitView}
 use Rattle.master_core.specs.States.{no_session, fresh, first_exchange, piece_sent, piece_frame, session_next, connection_next, parameter_next, data_next, data_sent, data_frame}
 use Rattle.master_core.specs.Views.{ExchangeUnder, DataUnder}
 
@@ -122,7 +123,7 @@ sent_state kit (next.Data s) = now.Data (data_sent kit s)
 
 -- the frame that is due, with the kit of the moment when it is sent
 abbrev pub due_frame : KitView → Next → List ℕ
-due_frame kit (next.Reset x) = reset_frame x.0 (own_len kit.settings)
+due_frame kit (next.Reset x) = reset_frame x.0 (sends (OfMaster kit.settings))
 due_frame kit (next.Begin last) = piece_frame command.Session 0 kit (first_exchange kit last)
 due_frame kit (next.Session s) = piece_frame command.Session 0 kit s
 due_frame kit (next.Connection s) = piece_frame command.Connection kit.settings.conn kit s
@@ -142,13 +143,13 @@ reply kit _ = []
 -- the outputs after the frame that is due is sent: zeros in every state but Data
 abbrev pub outputs_in_next : MasterSettings → Next → List ℕ
 outputs_in_next settings (next.Data s) = s.outputs
-outputs_in_next settings _ = replicate (peer_len settings) 0
+outputs_in_next settings _ = replicate (receives (OfMaster settings)) 0
 
 -- the outputs: zeros in every state but Data
 abbrev pub outputs_in : MasterSettings → Now → List ℕ
 outputs_in settings (now.Data s) = s.outputs
 outputs_in settings (now.Due due) = outputs_in_next settings due.next
-outputs_in settings _ = replicate (peer_len settings) 0
+outputs_in settings _ = replicate (receives (OfMaster settings)) 0
 
 -- the terms after the frame that is due is sent, exactly in state Data
 abbrev pub terms_in_next : Next → Option Terms

@@ -15,10 +15,11 @@ use Rattle.param_load.specs.Payload.{padded}
 use Rattle.fsoe_base.specs.Data.{data_holds}
 use Rattle.failsafe_io.specs.Offer.{data_command, data_load}
 use Rattle.failsafe_io.specs.Outputs.{outputs_of}
+use Rattle.end_model.specs.Setup.{OfMaster, sends, receives}
 use Rattle.master_core.specs.declared.states.InReset.{InReset}
 use Rattle.master_core.specs.declared.due.Next.{Next}
 use Rattle.master_core.specs.declared.due.Next.TheVariants as next
-use Rattle.master_core.specs.Kit.{KitView, own_len, peer_len, session_download, connection_download, parameter_download, terms_of}
+use Rattle.master_core.specs.Kit.{KitView, session_download, connection_download, parameter_download, terms_of}
 use Rattle.master_core.specs.Views.{ExchangeView, DataView}
 
 -- state Reset keeps nothing
@@ -39,7 +40,7 @@ frame_sent chain conn cmd load = bytes_of (sealed_by chain conn (command_byte cm
 
 -- the safe data of the frame with the piece in turn
 abbrev pub piece_load : KitView → ExchangeView → List ℕ
-piece_load kit x = padded (piece_in_turn x.download) (own_len kit.settings)
+piece_load kit x = padded (piece_in_turn x.download) (sends (OfMaster kit.settings))
 
 -- a phase after the frame with the piece in turn is sent
 abbrev pub piece_sent : Command → ℕ → KitView → ExchangeView → ExchangeView
@@ -63,7 +64,7 @@ with_download x d = record x { download = d }
 
 -- state Data as it is entered
 abbrev pub first_data : KitView → ExchangeView → DataView
-first_data kit x = record { chain = x.chain; terms = terms_of kit.settings; outputs = replicate (peer_len kit.settings) 0; last = x.last }
+first_data kit x = record { chain = x.chain; terms = terms_of kit.settings; outputs = replicate (receives (OfMaster kit.settings)) 0; last = x.last }
 
 -- by what the download said of an answer, Session goes on, or Connection begins where the session id is whole
 abbrev pub session_by : Result Progress Code → KitView → ExchangeView → Result Next Code

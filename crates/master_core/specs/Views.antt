@@ -7,7 +7,7 @@ use Rattle.param_load.specs.declared.master_settings.MasterSettings.{MasterSetti
 use Rattle.param_load.specs.declared.terms.Terms.{Terms}
 use Rattle.param_load.specs.Download.{is_whole}
 use Rattle.param_load.specs.DownloadView.{DownloadView}
-use Rattle.master_core.specs.Kit.{peer_len, piece_of}
+use Rattle.end_model.specs.Setup.{OfMaster, receives, piece_len}
 
 -- a phase of a handshake: the chain, the download of the phase, and the frame taken last
 pub record ExchangeView : Type 0 where
@@ -24,14 +24,14 @@ pub record DataView : Type 0 where
 
 -- a state was made under these settings: of a download there is more to come
 pub record ExchangeUnder (settings : MasterSettings) (x : ExchangeView) : Type 0 where
-  pub piece_is : x.download.piece ≡ piece_of settings
+  pub piece_is : x.download.piece ≡ piece_len (OfMaster settings)
   pub more : is_whole x.download ≡ false
 
 -- state Data was made under these settings: the outputs have the length of the slave's frames
 pub record DataUnder (settings : MasterSettings) (s : DataView) : Type 0 where
-  pub outputs_len : length s.outputs ≡ peer_len settings
+  pub outputs_len : length s.outputs ≡ receives (OfMaster settings)
 
 -- a frame that came past the tests in a state with this chain: it has the slave's length, and its CRCs fit
 pub record HasPassed (settings : MasterSettings) (chain : Chain) (f : SessionFrameView) : Type 0 where
-  pub len_is : length f.frame.load ≡ peer_len settings
+  pub len_is : length f.frame.load ≡ receives (OfMaster settings)
   pub fits : IsTrue (fits_next chain f.frame)

@@ -1,6 +1,6 @@
 //! A step whose frame is still to be sent.
 ghost use Rattle.std.specs.Prelude.{◌≡◌, ◌≤◌, length, option_copied};
-ghost use Rattle.master_core.specs.Kit.{peer_len};
+ghost use Rattle.end_model.specs.Setup.{OfMaster, receives};
 ghost use Rattle.master_core.specs.Now.{NextUnder, IsUnder, state_of_next, terms_in_next, outputs_in_next, sent_state, due_frame};
 
 use crate::kit::Kit;
@@ -67,12 +67,12 @@ impl Due {
     pub(crate) fn outputs(&self, kit: &Kit) -> &[u8]
         requires under { NextUnder kit.now.settings self.now.next }
         ensures value { result.now ≡ outputs_in_next kit.now.settings self.now.next }
-        ensures len { length result.now ≡ peer_len kit.now.settings }
+        ensures len { length result.now ≡ receives (OfMaster kit.now.settings) }
         ensures most { length result.now ≤ 126 }
     {
         match &self.next {
             Next::Data(state) => state.outputs(),
-            _ => zeros(kit.peer_len()),
+            _ => zeros(kit.settings().peer_len()),
         }
     }
 
@@ -86,7 +86,7 @@ impl Due {
         let Due { next } = self;
         match next {
             Next::Reset(code) => {
-                reset_frame(code, kit.own_len(), out);
+                reset_frame(code, kit.settings().own_len(), out);
                 Now::Reset(InReset::new())
             }
             Next::Begin(last) => Now::Session(InSession::begin(last, kit, out)),

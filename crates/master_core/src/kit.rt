@@ -2,7 +2,6 @@
 ghost use Rattle.std.specs.Prelude.{◌≡◌, ◌≤◌};
 
 use failsafe_io::Offer;
-use fsoe_base::End;
 use param_load::{Download, MasterSettings, Payload, Profile, Terms};
 use std::marker::Model;
 
@@ -26,16 +25,16 @@ impl Model for Kit {
 }
 
 impl Kit {
-    ghost use Rattle.std.specs.Prelude.{◌≡◌, ◌≤◌, false, IsTrue, length};
-    ghost use Rattle.fsoe_base.specs.Lengths.{is_length};
+    ghost use Rattle.std.specs.Prelude.{◌≡◌, false, IsTrue, length};
     ghost use Rattle.param_load.specs.Download.{is_whole};
     ghost use Rattle.param_load.specs.Profile.{allows_id};
-    ghost use Rattle.master_core.specs.Kit.{own_len, peer_len, piece_of, first_kit, session_download, connection_download, parameter_download, terms_of};
+    ghost use Rattle.end_model.specs.Setup.{OfMaster, sends};
+    ghost use Rattle.master_core.specs.Kit.{first_kit, session_download, connection_download, parameter_download, terms_of};
 
     pub(crate) fn new(settings: MasterSettings) -> Kit
         ensures { result ≡ first_kit settings }
     {
-        let offer = Offer::new(settings.lengths().of(End::Master));
+        let offer = Offer::new(settings.own_len());
         let nonce = settings.nonce();
         Kit {
             settings,
@@ -56,41 +55,13 @@ impl Kit {
         self.settings.profile()
     }
 
-    /// The number of safe data bytes of the master's frames.
-    pub(crate) fn own_len(&self) -> usize
-        ensures value { result ≡ own_len self.now.settings }
-        ensures valid { IsTrue (is_length result) }
-        ensures most { result ≤ 126 }
-    {
-        self.settings.lengths().of(End::Master)
-    }
-
-    /// The number of safe data bytes of the slave's frames.
-    pub(crate) fn peer_len(&self) -> usize
-        ensures value { result ≡ peer_len self.now.settings }
-        ensures valid { IsTrue (is_length result) }
-        ensures most { result ≤ 126 }
-    {
-        self.settings.lengths().of(End::Slave)
-    }
-
-    /// The most bytes of a payload that one frame carries.
-    pub(crate) fn piece(&self) -> usize
-        ensures value { result ≡ piece_of self.now.settings }
-        ensures own { result ≤ own_len self.now.settings }
-        ensures peer { result ≤ peer_len self.now.settings }
-        ensures most { result ≤ 126 }
-    {
-        self.own_len().min(self.peer_len())
-    }
-
     /// The download of the session id, which is the nonce at this moment.
     pub(crate) fn session_download(&self) -> Download
         ensures value { result ≡ session_download self.now }
         ensures more { is_whole result ≡ false }
     {
         let payload = Payload::session(self.nonce, self.profile());
-        Download::new(payload, self.piece(), false)
+        Download::new(payload, self.settings.piece_len(), false)
     }
 
     /// The download of the connection id and the slave's address.
@@ -99,7 +70,7 @@ impl Kit {
         ensures more { is_whole result ≡ false }
     {
         let payload = Payload::connection(self.settings.conn(), self.settings.address());
-        Download::new(payload, self.piece(), true)
+        Download::new(payload, self.settings.piece_len(), true)
     }
 
     /// The download of the parameters.
@@ -113,7 +84,7 @@ impl Kit {
             settings.profile(),
             settings.app(),
         );
-        Download::new(parameters, self.piece(), true)
+        Download::new(parameters, self.settings.piece_len(), true)
     }
 
     /// The terms of the connection.
@@ -132,13 +103,13 @@ impl Kit {
     /// What the master sends in state Data.
     pub(crate) fn offer(&self) -> &Offer
         ensures value { result.now ≡ self.now.offer }
-        ensures len { length result.now.load ≡ own_len self.now.settings }
+        ensures len { length result.now.load ≡ sends (OfMaster self.now.settings) }
     {
         &self.offer
     }
 
     pub(crate) fn put(&mut self, load: &[u8])
-        requires { length load.now ≡ own_len self.old.settings }
+        requires { length load.now ≡ sends (OfMaster self.old.settings) }
         ensures { self.new ≡ record self.old { offer = record self.old.offer { load = load.now } } }
     {
         self.offer.put(load);

@@ -35,7 +35,6 @@ impl Model for Master {
 impl Master {
     ghost use Rattle.std.specs.Prelude.{◌≡◌, ◌≤◌, ◌||◌, ℕ, List, false, IsTrue, IfSome, OnSome, IfNone, is_some, length, [], option_copied};
     ghost use Rattle.param_load.specs.Profile.{allows_id};
-    ghost use Rattle.master_core.specs.Kit.{own_len, peer_len};
     ghost use Rattle.master_core.specs.Master.{leaves, ends, refuses, on_reset_frame, settles, accepted, replies, delivered, falls, tick_of};
     ghost use Rattle.master_core.specs.Now.{NextUnder, chain_of, is_due, taken, reply};
     ghost use Rattle.master_core.specs.ViewOf.{view_of};
@@ -44,7 +43,7 @@ impl Master {
     ghost use Rattle.fsoe_base.specs.declared.did.Did.{Did};
     ghost use Rattle.param_load.specs.declared.master_settings.MasterSettings.{MasterSettings};
     ghost use Rattle.end_model.specs.Deed.{Deed};
-    ghost use Rattle.end_model.specs.Setup.{OfMaster};
+    ghost use Rattle.end_model.specs.Setup.{OfMaster, sends, receives};
     ghost use Rattle.end_model.specs.Readiness as model;
     ghost use Rattle.end_model.specs.Outputs.{out};
     ghost use Rattle.end_model.specs.Standing.{Stands, Follows, Answers, Shows};
@@ -159,7 +158,7 @@ impl Master {
     {
         let repeats = self.state.is_repeat(frame);
         let mut load = Image::zeros(0);
-        match open(frame, self.kit.peer_len(), repeats, &mut load) {
+        match open(frame, self.kit.settings().peer_len(), repeats, &mut load) {
             Opened::Drop(why) => Did::dropped(why),
             Opened::Refuse(code) => self.refuse(code),
             Opened::ResetFrame(code, view) => self.acknowledge(code, &view),
@@ -231,7 +230,7 @@ impl Master {
         }
         let repeats = self.state.is_repeat(frame);
         let mut load = Image::zeros(0);
-        let Opened::OfSession(seen) = open(frame, self.kit.peer_len(), repeats, &mut load) else {
+        let Opened::OfSession(seen) = open(frame, self.kit.settings().peer_len(), repeats, &mut load) else {
             return None;
         };
         if self.state.fault(self.kit.settings(), &seen).is_some() {
@@ -308,7 +307,7 @@ impl Master {
         self.state = Now::Reset(InReset::new());
         let limit = self.kit.settings().watchdog();
         self.watchdog.restart(limit);
-        reset_frame(code, self.kit.own_len(), out);
+        reset_frame(code, self.kit.settings().own_len(), out);
         Did::reset(false, why)
     }
 
@@ -326,7 +325,7 @@ impl Master {
             return Did::nothing();
         }
         if self.state.is_reset() {
-            reset_frame(Code(0x00), self.kit.own_len(), out);
+            reset_frame(Code(0x00), self.kit.settings().own_len(), out);
             return Did {
                 sent: true,
                 ..Did::nothing()
@@ -365,7 +364,7 @@ impl Master {
     /// offer outlasts resets.
     #[tactic(auto, using(crate::proofs::Law::follows_by, crate::proofs::Waiting::put_keeps))]
     pub fn put(&mut self, load: &[u8])
-        requires { length load.now ≡ own_len self.old.kit.settings }
+        requires { length load.now ≡ sends (OfMaster self.old.kit.settings) }
         ensures follows { Follows OfMaster view_of self.old (event.Put load.now) self.new }
         ensures keeps { Keeps self.old (event.Put load.now) self.new }
         ensures settings { self.new.kit.settings ≡ self.old.kit.settings }
@@ -421,7 +420,7 @@ impl Master {
     pub fn outputs(&self) -> &[u8]
         ensures shown { Shows OfMaster view_of self.now result.now out }
         ensures shown_due { ShowsDue self.now result.now out }
-        ensures len { length result.now ≡ peer_len self.now.kit.settings }
+        ensures len { length result.now ≡ receives (OfMaster self.now.kit.settings) }
         ensures most { length result.now ≤ 126 }
     {
         self.state.outputs(&self.kit)
@@ -451,7 +450,7 @@ impl Master {
     pub fn offer(&self) -> &[u8]
         ensures shown { Shows OfMaster view_of self.now result.now model.offer }
         ensures shown_due { ShowsDue self.now result.now model.offer }
-        ensures len { length result.now ≡ own_len self.now.kit.settings }
+        ensures len { length result.now ≡ sends (OfMaster self.now.kit.settings) }
     {
         self.kit.offer().bytes()
     }

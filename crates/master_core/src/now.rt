@@ -33,8 +33,8 @@ fn has_conn(settings: &MasterSettings, command: Command, field: u16) -> bool
 
 impl Now {
     ghost use Rattle.std.specs.Prelude.{◌≡◌, ◌≤◌, length, IsTrue, IfOk, option_copied};
+    ghost use Rattle.end_model.specs.Setup.{OfMaster, receives};
     ghost use Rattle.end_model.specs.Verdict.{is_repeat};
-    ghost use Rattle.master_core.specs.Kit.{peer_len};
     ghost use Rattle.master_core.specs.Now.{IsUnder, NextUnder, state_of, is_reset, is_due, chain_of, kept, allows, fault, taken, replied, reply, outputs_in, terms_in};
     ghost use Rattle.master_core.specs.Views.{HasPassed};
 
@@ -172,13 +172,13 @@ impl Now {
     pub(crate) fn outputs(&self, kit: &Kit) -> &[u8]
         requires under { IsUnder kit.now.settings self.now }
         ensures value { result.now ≡ outputs_in kit.now.settings self.now }
-        ensures len { length result.now ≡ peer_len kit.now.settings }
+        ensures len { length result.now ≡ receives (OfMaster kit.now.settings) }
         ensures most { length result.now ≤ 126 }
     {
         match self {
             Now::Data(state) => state.outputs(),
             Now::Due(due) => due.outputs(kit),
-            _ => zeros(kit.peer_len()),
+            _ => zeros(kit.settings().peer_len()),
         }
     }
 }

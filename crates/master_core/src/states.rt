@@ -8,7 +8,6 @@ ghost use Rattle.fsoe_frame.specs.Parts.{bytes_of};
 ghost use Rattle.param_load.specs.Download.{is_whole, outcome, piece_in_turn};
 ghost use Rattle.param_load.specs.Payload.{padded};
 ghost use Rattle.seq_chain.specs.Chain.{fits_next};
-ghost use Rattle.master_core.specs.Kit.{own_len, peer_len, piece_of};
 ghost use Rattle.master_core.specs.Now.{NextUnder};
 ghost use Rattle.master_core.specs.States.{no_session, chain_sent, frame_sent, piece_sent, piece_frame, first_exchange, answered, with_download, first_data, session_next, connection_next, parameter_next, data_next, in_place, data_sent, data_frame};
 ghost use Rattle.master_core.specs.Views.{ExchangeUnder, DataUnder, HasPassed};
@@ -110,7 +109,7 @@ impl Exchange {
         ensures outcome { result ≡ outcome self.old.download seen.now.frame.load }
         ensures taken { OnOk result (self.new ≡ answered self.old seen.now) }
     {
-        let _piece = kit.piece();
+        let _piece = kit.settings().piece_len();
         let progress = self.download.check(seen.load())?;
         self.chain.take_load(seen.view(), seen.conn(), seen.load());
         self.last.set(seen.bytes());
@@ -123,8 +122,8 @@ impl Exchange {
         ensures exchange { self.new ≡ piece_sent command conn kit.now self.old }
         ensures sent { out.new ≡ piece_frame command conn kit.now self.old }
     {
-        let _piece = kit.piece();
-        let load = self.download.load(kit.own_len());
+        let _piece = kit.settings().piece_len();
+        let load = self.download.load(kit.settings().own_len());
         self.chain.seal(command, conn, load.bytes(), out);
     }
 
@@ -315,7 +314,7 @@ impl InData {
         InData {
             chain,
             terms: kit.terms(),
-            outputs: Outputs::new(kit.peer_len()),
+            outputs: Outputs::new(kit.settings().peer_len()),
             last,
         }
     }
@@ -332,7 +331,7 @@ impl InData {
         if !data_holds(seen.command(), seen.load()) {
             return Err(Code(0x07));
         }
-        let _len = kit.peer_len();
+        let _len = kit.settings().peer_len();
         self.chain.take_load(seen.view(), seen.conn(), seen.load());
         self.outputs.take(seen.command(), seen.load());
         self.last.set(seen.bytes());

@@ -5,7 +5,7 @@ ghost use Rattle.param_load.specs.Profile.{allows_id};
 use crate::app_bytes::AppBytes;
 use crate::bad_setting::BadSetting;
 use crate::profile::Profile;
-use fsoe_base::Lengths;
+use fsoe_base::{End, Lengths};
 
 /// What a master is set to. The connection id and the watchdog aren't 0, and the nonce is one that the profile
 /// allows.
@@ -24,6 +24,8 @@ pub struct MasterSettings {
 }
 
 impl MasterSettings {
+    ghost use Rattle.std.specs.Prelude.{◌≡◌, ◌≤◌, IsTrue, min};
+    ghost use Rattle.fsoe_base.specs.Lengths.{is_length};
     ghost use Rattle.param_load.specs.declared.profile.Profile.TheVariants as profile;
     ghost use Rattle.param_load.specs.MasterSettings.{IsMasterSetTo};
 
@@ -87,6 +89,34 @@ impl MasterSettings {
         ensures { result.now ≡ self.now.lengths }
     {
         &self.lengths
+    }
+
+    /// The number of safe data bytes of the master's frames.
+    pub fn own_len(&self) -> usize
+        ensures value { result ≡ self.now.lengths.master }
+        ensures valid { IsTrue (is_length result) }
+        ensures most { result ≤ 126 }
+    {
+        self.lengths.of(End::Master)
+    }
+
+    /// The number of safe data bytes of the slave's frames.
+    pub fn peer_len(&self) -> usize
+        ensures value { result ≡ self.now.lengths.slave }
+        ensures valid { IsTrue (is_length result) }
+        ensures most { result ≤ 126 }
+    {
+        self.lengths.of(End::Slave)
+    }
+
+    /// The most bytes of a payload that one frame carries.
+    pub fn piece_len(&self) -> usize
+        ensures value { result ≡ min self.now.lengths.master self.now.lengths.slave }
+        ensures own { result ≤ self.now.lengths.master }
+        ensures peer { result ≤ self.now.lengths.slave }
+        ensures most { result ≤ 126 }
+    {
+        self.own_len().min(self.peer_len())
     }
 
     /// The connection id.

@@ -6,7 +6,7 @@ ghost use Rattle.param_load.specs.Profile.{allows_id};
 use crate::app_rule::AppRule;
 use crate::bad_setting::BadSetting;
 use crate::profile::Profile;
-use fsoe_base::Lengths;
+use fsoe_base::{End, Lengths};
 
 /// What a slave is set to. The limits `hand` and `most` aren't 0, the rule is acceptable, and the nonce is one
 /// that the profile allows.
@@ -26,6 +26,8 @@ pub struct SlaveSettings {
 }
 
 impl SlaveSettings {
+    ghost use Rattle.std.specs.Prelude.{◌≡◌, ◌≤◌, IsTrue, min};
+    ghost use Rattle.fsoe_base.specs.Lengths.{is_length};
     ghost use Rattle.param_load.specs.declared.profile.Profile.TheVariants as profile;
     ghost use Rattle.param_load.specs.SlaveSettings.{IsSlaveSetTo};
 
@@ -91,6 +93,34 @@ impl SlaveSettings {
         ensures { result.now ≡ self.now.lengths }
     {
         &self.lengths
+    }
+
+    /// The number of safe data bytes of the slave's frames.
+    pub fn own_len(&self) -> usize
+        ensures value { result ≡ self.now.lengths.slave }
+        ensures valid { IsTrue (is_length result) }
+        ensures most { result ≤ 126 }
+    {
+        self.lengths.of(End::Slave)
+    }
+
+    /// The number of safe data bytes of the master's frames.
+    pub fn peer_len(&self) -> usize
+        ensures value { result ≡ self.now.lengths.master }
+        ensures valid { IsTrue (is_length result) }
+        ensures most { result ≤ 126 }
+    {
+        self.lengths.of(End::Master)
+    }
+
+    /// The most bytes of a payload that one frame carries.
+    pub fn piece_len(&self) -> usize
+        ensures value { result ≡ min self.now.lengths.master self.now.lengths.slave }
+        ensures own { result ≤ self.now.lengths.slave }
+        ensures peer { result ≤ self.now.lengths.master }
+        ensures most { result ≤ 126 }
+    {
+        self.own_len().min(self.peer_len())
     }
 
     /// The slave's address.

@@ -9,8 +9,8 @@ use Rattle.seq_chain.specs.Chain.{fits_next}
 use Rattle.seq_chain.specs.Opened.{opened}
 use Rattle.seq_chain.specs.SessionFrame.{SessionFrameView}
 use Rattle.seq_chain.proofs.OpenedFrame.{opened_load}
+use Rattle.end_model.specs.Setup.{OfSlave, receives}
 use Rattle.slave_core.specs.declared.now.Now.{Now}
-use Rattle.slave_core.specs.Kit.{peer_len}
 use Rattle.slave_core.specs.Now.{allows, has_conn, chain_of}
 use Rattle.slave_core.specs.Verdict.{fault}
 use Rattle.slave_core.specs.Views.{HasPassed}
@@ -29,6 +29,6 @@ pub is_allowed : (now : Now) (f : SessionFrameView) → fault now f ≡ None →
 is_allowed now f e = (tested now f e).0
 
 -- it has the master's length, and fits
-pub has_passed : (settings : SlaveSettings) (now : Now) (l : ℕ) (repeats : Bool) (bytes : List ℕ) (f : SessionFrameView) → IsTrue (is_length l) → l ≡ peer_len settings
+pub has_passed : (settings : SlaveSettings) (now : Now) (l : ℕ) (repeats : Bool) (bytes : List ℕ) (f : SessionFrameView) → IsTrue (is_length l) → l ≡ receives (OfSlave settings)
     → opened l repeats bytes ≡ opened_as.OfSession f → fault now f ≡ None → HasPassed settings (chain_of now) f
 has_passed settings now l repeats bytes f valid at o e = record { len_is = opened_load l repeats bytes f valid o ∙ at; fits = (tested now f e).1 }

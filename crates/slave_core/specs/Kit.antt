@@ -1,20 +1,9 @@
 -- What a slave has in every state: its settings, its offer, and its nonce.
-use Rattle.std.specs.Prelude.{◌≡◌, ℕ, min, IsTrue, length}
+use Rattle.std.specs.Prelude.{◌≡◌, ℕ, IsTrue, length}
 use Rattle.param_load.specs.declared.slave_settings.SlaveSettings.{SlaveSettings}
 use Rattle.param_load.specs.Profile.{allows_id}
 use Rattle.failsafe_io.specs.Offer.{OfferView, first_offer}
-
--- the number of safe data bytes of a frame of the slave
-abbrev pub own_len : SlaveSettings → ℕ
-own_len settings = settings.lengths.slave
-
--- the number of safe data bytes of a frame of its master
-abbrev pub peer_len : SlaveSettings → ℕ
-peer_len settings = settings.lengths.master
-
--- the most bytes of a payload that one frame carries
-abbrev pub piece_of : SlaveSettings → ℕ
-piece_of settings = min settings.lengths.master settings.lengths.slave
+use Rattle.end_model.specs.Setup.{OfSlave, sends}
 
 -- what a slave has in every state: its settings, what it offers, and its nonce
 pub record KitView : Type 0 where
@@ -24,9 +13,9 @@ pub record KitView : Type 0 where
 
 -- a new slave offers zeros, isn't held, and has the nonce of its settings
 abbrev pub first_kit : SlaveSettings → KitView
-first_kit settings = record { settings = settings; offer = first_offer (own_len settings); nonce = settings.nonce }
+first_kit settings = record { settings = settings; offer = first_offer (sends (OfSlave settings)); nonce = settings.nonce }
 
 -- the offer has the length of the slave's frames, and the profile allows the nonce
 pub record IsKit (k : KitView) : Type 0 where
-  pub offer_len : length k.offer.load ≡ own_len k.settings
+  pub offer_len : length k.offer.load ≡ sends (OfSlave k.settings)
   pub nonce_allowed : IsTrue (allows_id k.settings.profile k.nonce)

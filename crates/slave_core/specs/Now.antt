@@ -9,9 +9,9 @@ use Rattle.param_load.specs.declared.slave_settings.SlaveSettings.{SlaveSettings
 use Rattle.param_load.specs.declared.terms.Terms.{Terms}
 use Rattle.param_load.specs.Payload.{number_at}
 use Rattle.param_load.specs.Upload.{is_whole}
+use Rattle.end_model.specs.Setup.{OfSlave, receives}
 use Rattle.slave_core.specs.declared.now.Now.{Now}
 use Rattle.slave_core.specs.declared.now.Now.TheVariants as now
-use Rattle.slave_core.specs.Kit.{peer_len}
 use Rattle.slave_core.specs.States.{fresh}
 use Rattle.slave_core.specs.Views.{SessionUnder, ConnectionUnder, ParameterUnder, DataUnder}
 
@@ -86,7 +86,7 @@ limit_of settings (now.Data s) = s.terms.watchdog
 -- the outputs: those of state Data, and zeros in every other state
 abbrev pub outputs_in : SlaveSettings → Now → List ℕ
 outputs_in settings (now.Data s) = s.outputs
-outputs_in settings _ = replicate (peer_len settings) 0
+outputs_in settings _ = replicate (receives (OfSlave settings)) 0
 
 -- the terms, which are there in state Data
 abbrev pub terms_in : Now → Option Terms

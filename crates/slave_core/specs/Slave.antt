@@ -17,11 +17,12 @@ use Rattle.seq_chain.specs.declared.opened.Opened.TheVariants as opened_as
 use Rattle.seq_chain.specs.Opened.{opened}
 use Rattle.seq_chain.specs.Reset.{reset_frame}
 use Rattle.seq_chain.specs.SessionFrame.{SessionFrameView}
+use Rattle.end_model.specs.Setup.{OfSlave, sends, receives}
 use Rattle.end_model.specs.Verdict.{is_repeat}
 use Rattle.slave_core.specs.declared.now.Now.{Now}
 use Rattle.slave_core.specs.declared.now.Now.TheVariants as now
 use Rattle.slave_core.specs.declared.states.InReset.{InReset}
-use Rattle.slave_core.specs.Kit.{own_len, peer_len, first_kit}
+use Rattle.slave_core.specs.Kit.{first_kit}
 use Rattle.slave_core.specs.Now.{is_reset, last_taken, limit_of}
 use Rattle.slave_core.specs.SlaveView.{SlaveView, started}
 use Rattle.slave_core.specs.States.{no_session}
@@ -55,7 +56,7 @@ abbrev pub falls : SlaveView → Bool → Cause → Code → Outcome
 falls v passed why x = record {
   slave = fallen v;
   did = resets passed why;
-  sent = reset_frame x.0 (own_len v.kit.settings);
+  sent = reset_frame x.0 (sends (OfSlave v.kit.settings));
 }
 
 -- a test fails: in state Reset the frame is dropped, and else the session ends
@@ -64,7 +65,7 @@ refuses v passed x = if is_reset v.state then drops v passed dropped.InReset els
 
 -- a valid Reset frame is taken in state Reset, and a Reset frame with code 0 is sent
 abbrev pub acknowledges : SlaveView → List ℕ → Outcome
-acknowledges v load = record { slave = fallen v; did = takes command.Reset load false; sent = reset_frame 0 (own_len v.kit.settings) }
+acknowledges v load = record { slave = fallen v; did = takes command.Reset load false; sent = reset_frame 0 (sends (OfSlave v.kit.settings)) }
 
 -- a valid Reset frame: in state Reset it is taken, and else the session ends with the peer's code, and code 0 is sent
 abbrev pub reset_by_peer : SlaveView → Code → List ℕ → Outcome
@@ -93,7 +94,7 @@ delivered_by v (opened_as.OfSession f) = on_session v f (fault v.state f)
 
 -- a delivered frame of any bytes
 abbrev pub delivered : SlaveView → List ℕ → Outcome
-delivered v bytes = delivered_by v (opened (peer_len v.kit.settings) (is_repeat (last_taken v.state) bytes) bytes)
+delivered v bytes = delivered_by v (opened (receives (OfSlave v.kit.settings)) (is_repeat (last_taken v.state) bytes) bytes)
 
 -- a tick in a session: where the age reaches the limit the session ends with code 5
 abbrev pub tick_in_session : SlaveView → Outcome

@@ -17,8 +17,9 @@ use Rattle.param_load.specs.UploadView.{UploadView}
 use Rattle.fsoe_base.specs.Data.{data_holds}
 use Rattle.failsafe_io.specs.Offer.{data_command, data_load}
 use Rattle.failsafe_io.specs.Outputs.{outputs_of}
+use Rattle.end_model.specs.Setup.{OfSlave, sends, piece_len}
 use Rattle.slave_core.specs.declared.states.InReset.{InReset}
-use Rattle.slave_core.specs.Kit.{KitView, own_len, piece_of}
+use Rattle.slave_core.specs.Kit.{KitView}
 use Rattle.slave_core.specs.Views.{SessionView, ConnectionView, ParameterView, DataView}
 
 -- state Reset, which has nothing of a session
@@ -39,7 +40,7 @@ answer chain f conn cmd load = bytes_of (sealed_by (after_taken chain f.frame) c
 
 -- the load of the answer to a Session frame: the piece of the slave's own session id that has the number of the frame, and zeros
 abbrev pub session_load : KitView → ℕ → UploadView → List ℕ
-session_load kit id upload = padded (piece_from (session_payload id kit.settings.profile) (length upload.joined) (piece_of kit.settings)) (own_len kit.settings)
+session_load kit id upload = padded (piece_from (session_payload id kit.settings.profile) (length upload.joined) (piece_len (OfSlave kit.settings))) (sends (OfSlave kit.settings))
 
 -- the state after a Session frame, by what the test of its contents says: the slave's session id stays
 abbrev pub session_by : Result Progress Code → KitView → Chain → ℕ → UploadView → SessionFrameView → Result SessionView (InReset × Code)
@@ -57,7 +58,7 @@ session_reply kit chain id upload f = answer chain f 0 command.Session (session_
 
 -- the load of the answer to a Connection or a Parameter frame: its own piece, and zeros
 abbrev pub echo : KitView → UploadView → SessionFrameView → List ℕ
-echo kit upload f = padded (last_piece (advanced upload f.frame.load)) (own_len kit.settings)
+echo kit upload f = padded (last_piece (advanced upload f.frame.load)) (sends (OfSlave kit.settings))
 
 -- the answer to a Connection or a Parameter frame
 abbrev pub echo_reply : Command → KitView → Chain → ℕ → UploadView → SessionFrameView → List ℕ
@@ -91,15 +92,15 @@ parameter_next kit chain conn address upload f = parameter_by (outcome upload f.
 
 -- the upload of a session id, of which nothing has come
 abbrev pub first_session : KitView → UploadView
-first_session kit = session_upload (piece_of kit.settings) kit.settings.profile
+first_session kit = session_upload (piece_len (OfSlave kit.settings)) kit.settings.profile
 
 -- the upload of this connection id and the slave's address, of which nothing has come
 abbrev pub first_connection : KitView → ℕ → UploadView
-first_connection kit conn = connection_upload (piece_of kit.settings) conn kit.settings.address
+first_connection kit conn = connection_upload (piece_len (OfSlave kit.settings)) conn kit.settings.address
 
 -- the upload of parameters that the settings accept, of which nothing has come
 abbrev pub first_parameter : KitView → UploadView
-first_parameter kit = parameter_upload (piece_of kit.settings) kit.settings.most kit.settings.rule kit.settings.profile
+first_parameter kit = parameter_upload (piece_len (OfSlave kit.settings)) kit.settings.most kit.settings.rule kit.settings.profile
 
 -- the terms that a whole upload of parameters gives
 abbrev pub terms_of : KitView → ℕ → ℕ → UploadView → Terms

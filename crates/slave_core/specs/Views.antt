@@ -8,7 +8,7 @@ use Rattle.param_load.specs.declared.slave_settings.SlaveSettings.{SlaveSettings
 use Rattle.param_load.specs.declared.terms.Terms.{Terms}
 use Rattle.param_load.specs.Profile.{allows_id}
 use Rattle.param_load.specs.UploadView.{UploadView}
-use Rattle.slave_core.specs.Kit.{peer_len, piece_of}
+use Rattle.end_model.specs.Setup.{OfSlave, receives, piece_len}
 
 -- in Session: the chain, the slave's session id, the upload of the master's, and the frame taken last
 pub record SessionView : Type 0 where
@@ -41,26 +41,26 @@ pub record DataView : Type 0 where
 
 -- a state Session under these settings uploads a session id of the profile, and has one that the profile allows
 pub record SessionUnder (settings : SlaveSettings) (s : SessionView) : Type 0 where
-  pub piece_is : s.upload.piece ≡ piece_of settings
+  pub piece_is : s.upload.piece ≡ piece_len (OfSlave settings)
   pub expected_is : s.upload.expected ≡ expected.Session settings.profile
   pub id_allowed : IsTrue (allows_id settings.profile s.id)
 
 -- a state Connection under these settings uploads its connection id and the slave's address
 pub record ConnectionUnder (settings : SlaveSettings) (s : ConnectionView) : Type 0 where
-  pub piece_is : s.upload.piece ≡ piece_of settings
+  pub piece_is : s.upload.piece ≡ piece_len (OfSlave settings)
   pub expected_is : s.upload.expected ≡ expected.Connection s.conn settings.address
 
 -- a state Parameter under these settings uploads parameters that these accept
 pub record ParameterUnder (settings : SlaveSettings) (s : ParameterView) : Type 0 where
-  pub piece_is : s.upload.piece ≡ piece_of settings
+  pub piece_is : s.upload.piece ≡ piece_len (OfSlave settings)
   pub expected_is : s.upload.expected ≡ expected.Parameter settings.most settings.rule settings.profile
 
 -- a state Data under these settings has outputs of the master's length, and a watchdog that isn't 0
 pub record DataUnder (settings : SlaveSettings) (s : DataView) : Type 0 where
-  pub outputs_len : length s.outputs ≡ peer_len settings
+  pub outputs_len : length s.outputs ≡ receives (OfSlave settings)
   pub some_watchdog : 0 < s.terms.watchdog
 
 -- a frame that came past the tests in a state with this chain: it has the master's length, and its CRCs fit
 pub record HasPassed (settings : SlaveSettings) (chain : Chain) (f : SessionFrameView) : Type 0 where
-  pub len_is : length f.frame.load ≡ peer_len settings
+  pub len_is : length f.frame.load ≡ receives (OfSlave settings)
   pub fits : IsTrue (fits_next chain f.frame)

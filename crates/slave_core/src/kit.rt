@@ -2,7 +2,6 @@
 ghost use Rattle.std.specs.Prelude.{◌≡◌, ◌≤◌};
 
 use failsafe_io::Offer;
-use fsoe_base::End;
 use param_load::{Profile, SlaveSettings};
 use std::marker::Model;
 
@@ -26,15 +25,15 @@ impl Model for Kit {
 }
 
 impl Kit {
-    ghost use Rattle.std.specs.Prelude.{◌≡◌, ◌≤◌, IsTrue, length};
-    ghost use Rattle.fsoe_base.specs.Lengths.{is_length};
+    ghost use Rattle.std.specs.Prelude.{◌≡◌, IsTrue, length};
     ghost use Rattle.param_load.specs.Profile.{allows_id};
-    ghost use Rattle.slave_core.specs.Kit.{own_len, peer_len, piece_of, first_kit};
+    ghost use Rattle.end_model.specs.Setup.{OfSlave, sends};
+    ghost use Rattle.slave_core.specs.Kit.{first_kit};
 
     pub(crate) fn new(settings: SlaveSettings) -> Kit
         ensures { result ≡ first_kit settings }
     {
-        let offer = Offer::new(settings.lengths().of(End::Slave));
+        let offer = Offer::new(settings.own_len());
         let nonce = settings.nonce();
         Kit {
             settings,
@@ -55,34 +54,6 @@ impl Kit {
         self.settings.profile()
     }
 
-    /// The number of safe data bytes of the slave's frames.
-    pub(crate) fn own_len(&self) -> usize
-        ensures value { result ≡ own_len self.now.settings }
-        ensures valid { IsTrue (is_length result) }
-        ensures most { result ≤ 126 }
-    {
-        self.settings.lengths().of(End::Slave)
-    }
-
-    /// The number of safe data bytes of the master's frames.
-    pub(crate) fn peer_len(&self) -> usize
-        ensures value { result ≡ peer_len self.now.settings }
-        ensures valid { IsTrue (is_length result) }
-        ensures most { result ≤ 126 }
-    {
-        self.settings.lengths().of(End::Master)
-    }
-
-    /// The most bytes of a payload that one frame carries.
-    pub(crate) fn piece(&self) -> usize
-        ensures value { result ≡ piece_of self.now.settings }
-        ensures own { result ≤ own_len self.now.settings }
-        ensures peer { result ≤ peer_len self.now.settings }
-        ensures most { result ≤ 126 }
-    {
-        self.peer_len().min(self.own_len())
-    }
-
     pub(crate) fn nonce(&self) -> u32
         ensures value { result ≡ self.now.nonce }
         ensures allowed { IsTrue (allows_id self.now.settings.profile result) }
@@ -93,13 +64,13 @@ impl Kit {
     /// What the slave sends in state Data.
     pub(crate) fn offer(&self) -> &Offer
         ensures value { result.now ≡ self.now.offer }
-        ensures len { length result.now.load ≡ own_len self.now.settings }
+        ensures len { length result.now.load ≡ sends (OfSlave self.now.settings) }
     {
         &self.offer
     }
 
     pub(crate) fn put(&mut self, load: &[u8])
-        requires { length load.now ≡ own_len self.old.settings }
+        requires { length load.now ≡ sends (OfSlave self.old.settings) }
         ensures { self.new ≡ record self.old { offer = record self.old.offer { load = load.now } } }
     {
         self.offer.put(load);

@@ -35,14 +35,13 @@ impl Model for Slave {
 impl Slave {
     ghost use Rattle.std.specs.Prelude.{IsTrue, [], length, option_copied};
     ghost use Rattle.param_load.specs.Profile.{allows_id};
-    ghost use Rattle.slave_core.specs.Kit.{own_len, peer_len};
     ghost use Rattle.slave_core.specs.Now.{allows, chain_of, outputs_in};
     ghost use Rattle.slave_core.specs.Slave.{fallen, falls, refuses, reset_by_peer, settles, delivered, tick_of};
     ghost use Rattle.slave_core.specs.Taken.{next_state, reply};
     ghost use Rattle.slave_core.specs.Views.{HasPassed};
     ghost use Rattle.slave_core.specs.ViewOf.{view_of};
     ghost use Rattle.param_load.specs.declared.entry.Move.TheVariants as event;
-    ghost use Rattle.end_model.specs.Setup.{OfSlave};
+    ghost use Rattle.end_model.specs.Setup.{OfSlave, sends, receives};
     ghost use Rattle.end_model.specs.Readiness as model;
     ghost use Rattle.end_model.specs.Outputs as looking_back;
     ghost use Rattle.end_model.specs.Standing.{Stands, Follows, Answers, Shows};
@@ -69,7 +68,7 @@ impl Slave {
         ensures sent { out.new ≡ (falls self.old passed why code).sent }
     {
         self.forget();
-        reset_frame(code, self.kit.own_len(), out);
+        reset_frame(code, self.kit.settings().own_len(), out);
         Did::reset(passed, why)
     }
 
@@ -111,7 +110,7 @@ impl Slave {
             let mut load = Image::zeros(0);
             view.load_into(&mut load);
             self.forget();
-            reset_frame(Code(0x00), self.kit.own_len(), out);
+            reset_frame(Code(0x00), self.kit.settings().own_len(), out);
             return Did::took(Command::Reset, load.bytes(), false);
         }
         self.fall(false, Cause::Peer(code), Code(0x00), out)
@@ -189,7 +188,7 @@ impl Slave {
         out.clear();
         let repeats = self.state.is_repeat(frame);
         let mut load = Image::zeros(0);
-        match open(frame, self.kit.peer_len(), repeats, &mut load) {
+        match open(frame, self.kit.settings().peer_len(), repeats, &mut load) {
             Opened::Drop(why) => Did::dropped(why),
             Opened::Refuse(code) => self.refuse(false, code, out),
             Opened::ResetFrame(code, view) => self.acknowledge(code, &view, out),
@@ -250,7 +249,7 @@ impl Slave {
     /// Offers these safe data from now on, as many as the slave's frames have. The offer outlasts resets.
     #[tactic(auto, using(crate::proofs::Law::follows_by))]
     pub fn put(&mut self, load: &[u8])
-        requires { length load.now ≡ own_len self.old.kit.settings }
+        requires { length load.now ≡ sends (OfSlave self.old.kit.settings) }
         ensures follows { Follows OfSlave view_of self.old (event.Put load.now) self.new }
         ensures settings { self.new.kit.settings ≡ self.old.kit.settings }
     {
@@ -296,7 +295,7 @@ impl Slave {
     #[tactic(auto, using(crate::proofs::Law::outputs_shown))]
     pub fn outputs(&self) -> &[u8]
         ensures shown { Shows OfSlave view_of self.now result.now looking_back.out }
-        ensures len { length result.now ≡ peer_len self.now.kit.settings }
+        ensures len { length result.now ≡ receives (OfSlave self.now.kit.settings) }
         ensures most { length result.now ≤ 126 }
     {
         self.outputs_now()
@@ -305,10 +304,10 @@ impl Slave {
     /// The outputs in the state that the slave is in.
     fn outputs_now(&self) -> &[u8]
         ensures value { result.now ≡ outputs_in self.now.kit.settings self.now.state }
-        ensures len { length result.now ≡ peer_len self.now.kit.settings }
+        ensures len { length result.now ≡ receives (OfSlave self.now.kit.settings) }
         ensures most { length result.now ≤ 126 }
     {
-        let len = self.kit.peer_len();
+        let len = self.kit.settings().peer_len();
         match &self.state {
             Now::Data(state) => state.outputs(),
             Now::Reset(_) | Now::Session(_) | Now::Connection(_) | Now::Parameter(_) => zeros(len),
@@ -335,7 +334,7 @@ impl Slave {
     #[tactic(auto, using(crate::proofs::Law::offer_shown))]
     pub fn offer(&self) -> &[u8]
         ensures shown { Shows OfSlave view_of self.now result.now model.offer }
-        ensures len { length result.now ≡ own_len self.now.kit.settings }
+        ensures len { length result.now ≡ sends (OfSlave self.now.kit.settings) }
     {
         self.kit.offer().bytes()
     }

@@ -14,8 +14,8 @@ ghost use Rattle.param_load.specs.Upload.{is_whole};
 ghost use Rattle.seq_chain.specs.Chain.{fits_next};
 ghost use Rattle.fsoe_base.specs.Data.{is_data};
 ghost use Rattle.slave_core.specs.declared.now.Now.TheVariants as now;
+ghost use Rattle.end_model.specs.Setup.{OfSlave, piece_len};
 ghost use Rattle.slave_core.specs.GoesOn.{GoesOn};
-ghost use Rattle.slave_core.specs.Kit.{piece_of};
 ghost use Rattle.slave_core.specs.States.{no_session, fresh, answered, answer, first_session, first_connection, first_parameter, terms_of, session_next, session_reply, connection_next, parameter_next, echo_reply, data_next, data_reply, in_place};
 ghost use Rattle.slave_core.specs.Taken.{as_session, as_connection, as_parameter, as_data};
 ghost use Rattle.slave_core.specs.Views.{SessionUnder, ConnectionUnder, ParameterUnder, DataUnder, HasPassed};
@@ -133,7 +133,7 @@ impl InReset {
         ensures under { IfOk result (λ s. SessionUnder kit.now.settings s) }
     {
         let InReset { private: _ } = self;
-        let upload = Upload::session(kit.piece(), kit.profile());
+        let upload = Upload::session(kit.settings().piece_len(), kit.profile());
         in_session(Chain::new(), kit.nonce(), upload, seen.frame(), kit, out)
     }
 
@@ -202,7 +202,7 @@ impl InSession {
             last: _,
         } = self;
         let conn = seen.frame().conn();
-        let upload = Upload::connection(kit.piece(), conn, kit.settings().address());
+        let upload = Upload::connection(kit.settings().piece_len(), conn, kit.settings().address());
         in_connection(chain, conn, upload, seen.frame(), kit, out)
     }
 
@@ -291,7 +291,7 @@ impl InConnection {
         } = self;
         let settings = kit.settings();
         let upload = Upload::parameter(
-            kit.piece(),
+            kit.settings().piece_len(),
             settings.most(),
             settings.rule(),
             settings.profile(),
@@ -399,7 +399,7 @@ impl InParameter {
         let mut next = InData {
             chain,
             terms: terms(conn, address, &upload, kit),
-            outputs: Outputs::new(kit.peer_len()),
+            outputs: Outputs::new(kit.settings().peer_len()),
             last: FrameBuf::new(),
         };
         match next.go_on(seen.frame(), kit, out) {
@@ -570,7 +570,7 @@ fn in_session(
     out: &mut FrameBuf,
 ) -> Result<InSession, (InReset, Code)>
     requires passed { HasPassed kit.now.settings chain seen.now }
-    requires piece { upload.piece ≡ piece_of kit.now.settings }
+    requires piece { upload.piece ≡ piece_len (OfSlave kit.now.settings) }
     requires expected { upload.expected ≡ expected.Session kit.now.settings.profile }
     requires allowed { IsTrue (allows_id kit.now.settings.profile id) }
     requires more { is_whole upload ≡ false }
@@ -580,12 +580,12 @@ fn in_session(
     ensures under { IfOk result (λ s. SessionUnder kit.now.settings s) }
 {
     let from = upload.len();
-    let piece = kit.piece();
+    let piece = kit.settings().piece_len();
     if let Err(code) = upload.take(seen.load()) {
         return Err((InReset::new(), code));
     }
     let own_id = Payload::session(id, kit.profile());
-    let load = padded(own_id.piece_from(from, piece), kit.own_len());
+    let load = padded(own_id.piece_from(from, piece), kit.settings().own_len());
     answer(&mut chain, seen, Command::Session, 0, load.bytes(), out);
     Ok(InSession {
         chain,
@@ -605,7 +605,7 @@ fn in_connection(
     out: &mut FrameBuf,
 ) -> Result<InConnection, (InReset, Code)>
     requires passed { HasPassed kit.now.settings chain seen.now }
-    requires piece { upload.piece ≡ piece_of kit.now.settings }
+    requires piece { upload.piece ≡ piece_len (OfSlave kit.now.settings) }
     requires expected { upload.expected ≡ expected.Connection conn kit.now.settings.address }
     requires more { is_whole upload ≡ false }
     ensures next { result ≡ connection_next kit.now chain conn upload seen.now }
@@ -616,7 +616,7 @@ fn in_connection(
     if let Err(code) = upload.take(seen.load()) {
         return Err((InReset::new(), code));
     }
-    let load = upload.echo(kit.own_len());
+    let load = upload.echo(kit.settings().own_len());
     answer(
         &mut chain,
         seen,
@@ -644,7 +644,7 @@ fn in_parameter(
     out: &mut FrameBuf,
 ) -> Result<InParameter, (InReset, Code)>
     requires passed { HasPassed kit.now.settings chain seen.now }
-    requires piece { upload.piece ≡ piece_of kit.now.settings }
+    requires piece { upload.piece ≡ piece_len (OfSlave kit.now.settings) }
     requires expected { upload.expected ≡ expected.Parameter kit.now.settings.most kit.now.settings.rule kit.now.settings.profile }
     requires more { is_whole upload ≡ false }
     ensures next { result ≡ parameter_next kit.now chain conn address upload seen.now }
@@ -655,7 +655,7 @@ fn in_parameter(
     if let Err(code) = upload.take(seen.load()) {
         return Err((InReset::new(), code));
     }
-    let load = upload.echo(kit.own_len());
+    let load = upload.echo(kit.settings().own_len());
     answer(
         &mut chain,
         seen,
