@@ -32,7 +32,7 @@ use Rattle.master_core.proofs.Arrived.{Arrived, next_frame, next_chain, chain_af
 use Rattle.master_core.proofs.Taking.{After, takes-agree, same_exchange, choose_first, choose_second, positive, more_to_come}
 use Rattle.std.proofs.lemmas.List.{length-replicate}
 use Rattle.failsafe_io.specs.Offer.{data_command}
-use Rattle.master_core.specs.Kit.{terms_of}
+use Rattle.param_load.specs.MasterSettings.{terms_of}
 use Rattle.master_core.proofs.TakenData.{same_data, data_sent}
 
 abbrev seen : MasterSettings → List ℕ → SessionFrameView

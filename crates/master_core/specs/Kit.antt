@@ -1,7 +1,6 @@
 -- What a master has in every state: its settings, its offer, and its nonce.
 use Rattle.std.specs.Prelude.{◌≡◌, ℕ, true, false, IsTrue, length}
 use Rattle.param_load.specs.declared.master_settings.MasterSettings.{MasterSettings}
-use Rattle.param_load.specs.declared.terms.Terms.{Terms}
 use Rattle.param_load.specs.Download.{download}
 use Rattle.param_load.specs.DownloadView.{DownloadView}
 use Rattle.param_load.specs.Payload.{session_payload, connection_payload, parameter_payload}
@@ -35,13 +34,3 @@ connection_download settings = download (connection_payload settings.conn settin
 -- what it downloads last are the parameters, which each answer repeats
 abbrev pub parameter_download : MasterSettings → DownloadView
 parameter_download settings = download (parameter_payload settings.watchdog settings.profile settings.app) (piece_len (OfMaster settings)) true
-
--- the terms of a master are its settings
-abbrev pub terms_of : MasterSettings → Terms
-terms_of settings = record {
-  conn = settings.conn;
-  address = settings.address;
-  watchdog = settings.watchdog;
-  app = settings.app;
-  profile = settings.profile;
-}

@@ -11,6 +11,7 @@ use Rattle.param_load.specs.declared.upload.Progress.{Progress}
 use Rattle.param_load.specs.declared.upload.Progress.TheVariants as progress
 use Rattle.param_load.specs.Download.{advanced, outcome, piece_in_turn}
 use Rattle.param_load.specs.DownloadView.{DownloadView}
+use Rattle.param_load.specs.MasterSettings.{terms_of}
 use Rattle.param_load.specs.Payload.{padded}
 use Rattle.fsoe_base.specs.Data.{data_holds}
 use Rattle.failsafe_io.specs.Offer.{data_command, data_load}
@@ -19,7 +20,7 @@ use Rattle.end_model.specs.Setup.{OfMaster, sends, receives}
 use Rattle.master_core.specs.declared.states.InReset.{InReset}
 use Rattle.master_core.specs.declared.due.Next.{Next}
 use Rattle.master_core.specs.declared.due.Next.TheVariants as next
-use Rattle.master_core.specs.Kit.{KitView, session_download, connection_download, parameter_download, terms_of}
+use Rattle.master_core.specs.Kit.{KitView, session_download, connection_download, parameter_download}
 use Rattle.master_core.specs.Views.{ExchangeView, DataView}
 
 -- state Reset keeps nothing

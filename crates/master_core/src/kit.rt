@@ -2,7 +2,7 @@
 ghost use Rattle.std.specs.Prelude.{◌≡◌, ◌≤◌};
 
 use failsafe_io::Offer;
-use param_load::{Download, MasterSettings, Payload, Profile, Terms};
+use param_load::{Download, MasterSettings, Payload, Profile};
 use std::marker::Model;
 
 /// What a master has in every state: its settings, its offer, and its nonce. It is made and changed by the master
@@ -29,7 +29,7 @@ impl Kit {
     ghost use Rattle.param_load.specs.Download.{is_whole};
     ghost use Rattle.param_load.specs.Profile.{allows_id};
     ghost use Rattle.end_model.specs.Setup.{OfMaster, sends};
-    ghost use Rattle.master_core.specs.Kit.{first_kit, session_download, connection_download, parameter_download, terms_of};
+    ghost use Rattle.master_core.specs.Kit.{first_kit, session_download, connection_download, parameter_download};
 
     pub(crate) fn new(settings: MasterSettings) -> Kit
         ensures { result ≡ first_kit settings }
@@ -85,19 +85,6 @@ impl Kit {
             settings.app(),
         );
         Download::new(parameters, self.settings.piece_len(), true)
-    }
-
-    /// The terms of the connection.
-    pub(crate) fn terms(&self) -> Terms
-        ensures { result ≡ terms_of self.now.settings }
-    {
-        Terms {
-            conn: self.settings.conn(),
-            address: self.settings.address(),
-            watchdog: self.settings.watchdog(),
-            app: self.settings.app().copy(),
-            profile: self.settings.profile(),
-        }
     }
 
     /// What the master sends in state Data.

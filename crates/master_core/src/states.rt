@@ -313,7 +313,7 @@ impl InData {
         } = exchange;
         InData {
             chain,
-            terms: kit.terms(),
+            terms: kit.settings().terms(),
             outputs: Outputs::new(kit.settings().peer_len()),
             last,
         }

@@ -5,6 +5,7 @@ ghost use Rattle.param_load.specs.Profile.{allows_id};
 use crate::app_bytes::AppBytes;
 use crate::bad_setting::BadSetting;
 use crate::profile::Profile;
+use crate::terms::Terms;
 use fsoe_base::{End, Lengths};
 
 /// What a master is set to. The connection id and the watchdog aren't 0, and the nonce is one that the profile
@@ -27,7 +28,7 @@ impl MasterSettings {
     ghost use Rattle.std.specs.Prelude.{◌≡◌, ◌≤◌, IsTrue, min};
     ghost use Rattle.fsoe_base.specs.Lengths.{is_length};
     ghost use Rattle.param_load.specs.declared.profile.Profile.TheVariants as profile;
-    ghost use Rattle.param_load.specs.MasterSettings.{IsMasterSetTo};
+    ghost use Rattle.param_load.specs.MasterSettings.{IsMasterSetTo, terms_of};
 
     /// Settings of profile One: the lengths, the connection id, the slave's address, the watchdog in ticks, the
     /// application parameters, and the session id. `Conn` where the connection id is 0, else `Watchdog` where
@@ -162,6 +163,19 @@ impl MasterSettings {
         ensures { result ≡ self.now.profile }
     {
         self.profile
+    }
+
+    /// The terms of a connection with these settings. It takes no memory.
+    pub fn terms(&self) -> Terms
+        ensures { result ≡ terms_of self.now }
+    {
+        Terms {
+            conn: self.conn,
+            address: self.address,
+            watchdog: self.watchdog,
+            app: self.app.copy(),
+            profile: self.profile,
+        }
     }
 
     /// The same settings again. It takes no memory.
