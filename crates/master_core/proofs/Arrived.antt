@@ -8,7 +8,7 @@ use Rattle.fsoe_base.specs.Lengths.{frame_len}
 use Rattle.fsoe_frame.specs.Parts.{AreBytes, bytes_of, frame_of}
 use Rattle.fsoe_frame.proofs.Places.{Whole, whole}
 use Rattle.seq_chain.specs.declared.chain.Chain.{Chain}
-use Rattle.seq_chain.specs.Chain.{after_taken}
+use Rattle.seq_chain.specs.Chain.{after_taken, chain_sent, frame_sent}
 use Rattle.seq_chain.specs.Cover.{first_of}
 use Rattle.seq_chain.specs.Sealing as sealing
 use Rattle.param_load.specs.declared.entry.Move.TheVariants as move
@@ -21,7 +21,6 @@ use Rattle.end_model.specs.Chain.{own_link, taken_link}
 use Rattle.end_model.specs.Step.{takes_frame, begun}
 use Rattle.end_model.proofs.Links.{own_crc}
 use Rattle.end_model.proofs.ReadBack.{read_back}
-use Rattle.master_core.specs.States.{chain_sent, frame_sent}
 use Rattle.master_core.specs.ViewOf.{notes_of}
 use Rattle.master_core.proofs.SameVerdict.{came}
 

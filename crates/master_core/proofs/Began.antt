@@ -27,9 +27,9 @@ use Rattle.end_model.proofs.ReadBack.{read_back}
 use Rattle.master_core.specs.declared.due.Next.TheVariants as next
 use Rattle.master_core.specs.declared.now.Now.TheVariants as now
 use Rattle.fsoe_base.specs.Did.{takes as accepts}
+use Rattle.seq_chain.specs.Chain.{fresh, chain_sent, frame_sent}
 use Rattle.master_core.specs.Master.{Outcome, drops, leaves, begins, answered_by}
 use Rattle.master_core.specs.Master as machine
-use Rattle.master_core.specs.States.{fresh, chain_sent, frame_sent}
 use Rattle.master_core.specs.ViewOf.{Notes, notes_of, view_in}
 use Rattle.master_core.proofs.Sound.{no_notes, Sound, SoundAt}
 use Rattle.master_core.proofs.Pieces.{piece_own}

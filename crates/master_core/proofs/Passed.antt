@@ -8,13 +8,13 @@ use Rattle.seq_chain.specs.declared.chain.Chain.{Chain}
 use Rattle.seq_chain.specs.declared.opened.Opened.TheVariants as opened_as
 use Rattle.seq_chain.specs.Chain.{fits_next}
 use Rattle.seq_chain.specs.Opened.{opened}
-use Rattle.seq_chain.specs.SessionFrame.{SessionFrameView}
+use Rattle.seq_chain.specs.SessionFrame.{SessionFrameView, HasPassed}
 use Rattle.seq_chain.proofs.OpenedFrame.{opened_load}
 use Rattle.end_model.specs.Setup.{OfMaster, receives}
 use Rattle.master_core.specs.declared.now.Now.{Now}
 use Rattle.master_core.specs.declared.now.Now.TheVariants as now
 use Rattle.master_core.specs.Now.{chain_of, allows, has_conn, fault}
-use Rattle.master_core.specs.Views.{DataView, HasPassed}
+use Rattle.master_core.specs.Views.{DataView}
 
 by-tests : (a h t : Bool) (x y z : Code) → (if a then (if h then (if t then None else Some x) else Some y) else Some z) ≡ None → t ≡ true
 by-tests true true true x y z e = refl
@@ -24,7 +24,7 @@ by-tests false h t x y z e = absurd (cc e)
 
 -- it has the slave's length, and fits
 pub has_passed : (settings : MasterSettings) (now : Now) (l : ℕ) (repeats : Bool) (bytes : List ℕ) (f : SessionFrameView) → IsTrue (is_length l) → l ≡ receives (OfMaster settings)
-    → opened l repeats bytes ≡ opened_as.OfSession f → fault settings now f ≡ None → HasPassed settings (chain_of now) f
+    → opened l repeats bytes ≡ opened_as.OfSession f → fault settings now f ≡ None → HasPassed (receives (OfMaster settings)) (chain_of now) f
 has_passed settings now l repeats bytes f valid at o e = record {
   len_is = opened_load l repeats bytes f valid o ∙ at;
   fits = by-tests (allows now f.command) (has_conn settings f.command f.frame.conn) (fits_next (chain_of now) f.frame) (code 0x04) (code 0x03) (code 0x01) e;
@@ -36,6 +36,6 @@ none-found (Some x) h = absurd (cc h)
 
 -- the same in state Data
 pub data_passed : (settings : MasterSettings) (n : Now) (s : DataView) (l : ℕ) (repeats : Bool) (bytes : List ℕ) (f : SessionFrameView) (found : Option Code) → n ≡ now.Data s → IsTrue (is_length l) → l ≡ receives (OfMaster settings)
-    → opened l repeats bytes ≡ opened_as.OfSession f → found ≡ fault settings n f → is_some found ≡ false → HasPassed settings s.chain f
+    → opened l repeats bytes ≡ opened_as.OfSession f → found ≡ fault settings n f → is_some found ≡ false → HasPassed (receives (OfMaster settings)) s.chain f
 data_passed settings n s l repeats bytes f found here valid at o i e =
-    subst (λ (chain : Chain). HasPassed settings chain f) (ap chain_of here) (has_passed settings n l repeats bytes f valid at o (sym i ∙ none-found found e))
+    subst (λ (chain : Chain). HasPassed (receives (OfMaster settings)) chain f) (ap chain_of here) (has_passed settings n l repeats bytes f valid at o (sym i ∙ none-found found e))

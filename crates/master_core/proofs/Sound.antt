@@ -2,11 +2,11 @@
 use Rattle.std.proofs.Common.{◌≡◌, ◌<◌, List, [], length, replicate, Some, None, unwrap_or}
 use Rattle.fsoe_base.specs.declared.command.State.{State}
 use Rattle.fsoe_base.specs.declared.command.State.TheVariants as state
+use Rattle.seq_chain.specs.Chain.{fresh}
 use Rattle.param_load.specs.declared.master_settings.MasterSettings.{MasterSettings}
 use Rattle.end_model.specs.Setup.{OfMaster}
 use Rattle.end_model.specs.Deed.{Deed}
 use Rattle.end_model.specs.Readiness.{state_of, offer, ticks}
-use Rattle.master_core.specs.States.{fresh}
 use Rattle.master_core.specs.ViewOf.{Notes, notes_of}
 
 abbrev pub no_notes : MasterSettings → Notes

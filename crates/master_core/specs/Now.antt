@@ -7,7 +7,7 @@ use Rattle.fsoe_base.specs.declared.command.State.{State}
 use Rattle.fsoe_base.specs.declared.command.State.TheVariants as state
 use Rattle.fsoe_base.specs.Command.{code}
 use Rattle.seq_chain.specs.declared.chain.Chain.{Chain}
-use Rattle.seq_chain.specs.Chain.{fits_next}
+use Rattle.seq_chain.specs.Chain.{fits_next, fresh}
 use Rattle.seq_chain.specs.Reset.{reset_frame}
 use Rattle.seq_chain.specs.SessionFrame.{SessionFrameView}
 use Rattle.param_load.specs.declared.master_settings.MasterSettings.{MasterSettings}
@@ -18,7 +18,7 @@ use Rattle.master_core.specs.declared.due.Next.TheVariants as next
 use Rattle.master_core.specs.declared.now.Now.{Now}
 use Rattle.master_core.specs.declared.now.Now.TheVariants as now
 use Rattle.master_core.specs.Kit.{KitView}
-use Rattle.master_core.specs.States.{no_session, fresh, first_exchange, piece_sent, piece_frame, session_next, connection_next, parameter_next, data_next, data_sent, data_frame}
+use Rattle.master_core.specs.States.{no_session, first_exchange, piece_sent, piece_frame, session_next, connection_next, parameter_next, data_next, data_sent, data_frame}
 use Rattle.master_core.specs.Views.{ExchangeUnder, DataUnder}
 
 -- what is to be sent was made under these settings

@@ -2,10 +2,10 @@
 use Rattle.std.specs.Prelude.{ℕ, List, Result, Ok, Err, None, replicate, if◌then◌else◌}
 use Rattle.fsoe_base.specs.declared.command.Code.{Code}
 use Rattle.fsoe_base.specs.declared.command.Command.{Command}
-use Rattle.fsoe_base.specs.Command.{command_byte, code}
+use Rattle.fsoe_base.specs.Command.{code}
 use Rattle.fsoe_frame.specs.Parts.{bytes_of}
 use Rattle.seq_chain.specs.declared.chain.Chain.{Chain}
-use Rattle.seq_chain.specs.Chain.{sealed_by, after_sent, after_taken}
+use Rattle.seq_chain.specs.Chain.{after_taken, fresh, chain_sent, frame_sent}
 use Rattle.seq_chain.specs.SessionFrame.{SessionFrameView}
 use Rattle.param_load.specs.declared.upload.Progress.{Progress}
 use Rattle.param_load.specs.declared.upload.Progress.TheVariants as progress
@@ -26,18 +26,6 @@ use Rattle.master_core.specs.Views.{ExchangeView, DataView}
 -- state Reset keeps nothing
 abbrev pub no_session : InReset
 no_session = record { private = tt }
-
--- the chain of a session in which no frame was sent or taken yet
-abbrev pub fresh : Chain
-fresh = record { own = None; taken = None }
-
--- the chain after a frame with this connection id, command and load is sent
-abbrev pub chain_sent : Chain → ℕ → Command → List ℕ → Chain
-chain_sent chain conn cmd load = after_sent chain (sealed_by chain conn (command_byte cmd) load)
-
--- the bytes of that frame
-abbrev pub frame_sent : Chain → ℕ → Command → List ℕ → List ℕ
-frame_sent chain conn cmd load = bytes_of (sealed_by chain conn (command_byte cmd) load)
 
 -- the safe data of the frame with the piece in turn
 abbrev pub piece_load : KitView → ExchangeView → List ℕ

@@ -1,8 +1,6 @@
 -- What contracts see of the states of a master, and how they hang together with its settings.
-use Rattle.std.specs.Prelude.{◌≡◌, ℕ, false, IsTrue, List, length}
+use Rattle.std.specs.Prelude.{◌≡◌, ℕ, false, List, length}
 use Rattle.seq_chain.specs.declared.chain.Chain.{Chain}
-use Rattle.seq_chain.specs.Chain.{fits_next}
-use Rattle.seq_chain.specs.SessionFrame.{SessionFrameView}
 use Rattle.param_load.specs.declared.master_settings.MasterSettings.{MasterSettings}
 use Rattle.param_load.specs.declared.terms.Terms.{Terms}
 use Rattle.param_load.specs.Download.{is_whole}
@@ -30,8 +28,3 @@ pub record ExchangeUnder (settings : MasterSettings) (x : ExchangeView) : Type 0
 -- state Data was made under these settings: the outputs have the length of the slave's frames
 pub record DataUnder (settings : MasterSettings) (s : DataView) : Type 0 where
   pub outputs_len : length s.outputs ≡ receives (OfMaster settings)
-
--- a frame that came past the tests in a state with this chain: it has the slave's length, and its CRCs fit
-pub record HasPassed (settings : MasterSettings) (chain : Chain) (f : SessionFrameView) : Type 0 where
-  pub len_is : length f.frame.load ≡ receives (OfMaster settings)
-  pub fits : IsTrue (fits_next chain f.frame)

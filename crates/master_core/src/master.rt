@@ -38,9 +38,9 @@ impl Master {
     ghost use Rattle.master_core.specs.Master.{leaves, ends, refuses, on_reset_frame, settles, accepted, replies, delivered, falls, tick_of};
     ghost use Rattle.master_core.specs.Now.{NextUnder, chain_of, is_due, taken, reply};
     ghost use Rattle.master_core.specs.ViewOf.{view_of};
-    ghost use Rattle.master_core.specs.Views.{HasPassed};
     ghost use Rattle.param_load.specs.declared.entry.Move.TheVariants as event;
     ghost use Rattle.fsoe_base.specs.declared.did.Did.{Did};
+    ghost use Rattle.seq_chain.specs.SessionFrame.{HasPassed};
     ghost use Rattle.param_load.specs.declared.master_settings.MasterSettings.{MasterSettings};
     ghost use Rattle.end_model.specs.Deed.{Deed};
     ghost use Rattle.end_model.specs.Setup.{OfMaster, sends, receives};
@@ -128,7 +128,7 @@ impl Master {
 
     /// Takes a frame that passed the tests, unless its contents are wrong.
     fn take(&mut self, seen: &SessionFrame<'_>) -> Did
-        requires { HasPassed self.old.kit.settings (chain_of self.old.state) seen.now }
+        requires { HasPassed (receives (OfMaster self.old.kit.settings)) (chain_of self.old.state) seen.now }
         ensures master { self.new ≡ (settles self.old seen.now (taken self.old.kit self.old.state seen.now)).master }
         ensures did { result ≡ (settles self.old seen.now (taken self.old.kit self.old.state seen.now)).did }
         ensures kit { self.new.kit ≡ self.old.kit }

@@ -33,10 +33,10 @@ fn has_conn(settings: &MasterSettings, command: Command, field: u16) -> bool
 
 impl Now {
     ghost use Rattle.std.specs.Prelude.{◌≡◌, ◌≤◌, length, IsTrue, IfOk, option_copied};
+    ghost use Rattle.seq_chain.specs.SessionFrame.{HasPassed};
     ghost use Rattle.end_model.specs.Setup.{OfMaster, receives};
     ghost use Rattle.end_model.specs.Verdict.{is_repeat};
     ghost use Rattle.master_core.specs.Now.{IsUnder, NextUnder, state_of, is_reset, is_due, chain_of, kept, allows, fault, taken, replied, reply, outputs_in, terms_in};
-    ghost use Rattle.master_core.specs.Views.{HasPassed};
 
     /// The state; while a frame is due, that after it is sent.
     pub(crate) fn state(&self) -> State
@@ -125,7 +125,7 @@ impl Now {
     /// Takes a frame that passed the tests in this state, and gives what is to be sent next.
     pub(crate) fn take(self, seen: &SessionFrame<'_>, kit: &Kit) -> Result<Next, Code>
         requires under { IsUnder kit.now.settings self }
-        requires passed { HasPassed kit.now.settings (chain_of self) seen.now }
+        requires passed { HasPassed (receives (OfMaster kit.now.settings)) (chain_of self) seen.now }
         ensures next { result ≡ taken kit.now self seen.now }
         ensures under { IfOk result (λ next. NextUnder kit.now.settings next) }
     {

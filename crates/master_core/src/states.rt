@@ -8,9 +8,11 @@ ghost use Rattle.fsoe_frame.specs.Parts.{bytes_of};
 ghost use Rattle.param_load.specs.Download.{is_whole, outcome, piece_in_turn};
 ghost use Rattle.param_load.specs.Payload.{padded};
 ghost use Rattle.seq_chain.specs.Chain.{fits_next};
+ghost use Rattle.seq_chain.specs.SessionFrame.{HasPassed};
+ghost use Rattle.end_model.specs.Setup.{OfMaster, receives};
 ghost use Rattle.master_core.specs.Now.{NextUnder};
-ghost use Rattle.master_core.specs.States.{no_session, chain_sent, frame_sent, piece_sent, piece_frame, first_exchange, answered, with_download, first_data, session_next, connection_next, parameter_next, data_next, in_place, data_sent, data_frame};
-ghost use Rattle.master_core.specs.Views.{ExchangeUnder, DataUnder, HasPassed};
+ghost use Rattle.master_core.specs.States.{no_session, piece_sent, piece_frame, first_exchange, answered, with_download, first_data, session_next, connection_next, parameter_next, data_next, in_place, data_sent, data_frame};
+ghost use Rattle.master_core.specs.Views.{ExchangeUnder, DataUnder};
 
 use crate::due::Next;
 use crate::kit::Kit;
@@ -105,7 +107,7 @@ impl Exchange {
     /// Takes the answer to the piece in turn. Refused with 07h where it isn't one; then the exchange is only left.
     fn take(&mut self, seen: &SessionFrame<'_>, kit: &Kit) -> Result<Progress, Code>
         requires under { ExchangeUnder kit.now.settings self.old }
-        requires passed { HasPassed kit.now.settings self.old.chain seen.now }
+        requires passed { HasPassed (receives (OfMaster kit.now.settings)) self.old.chain seen.now }
         ensures outcome { result ≡ outcome self.old.download seen.now.frame.load }
         ensures taken { OnOk result (self.new ≡ answered self.old seen.now) }
     {
@@ -183,7 +185,7 @@ impl InSession {
     /// where the padding isn't zeros.
     pub(crate) fn take(mut self, seen: &SessionFrame<'_>, kit: &Kit) -> Result<Next, Code>
         requires under { ExchangeUnder kit.now.settings self }
-        requires passed { HasPassed kit.now.settings self.chain seen.now }
+        requires passed { HasPassed (receives (OfMaster kit.now.settings)) self.chain seen.now }
         ensures next { result ≡ session_next kit.now self seen.now }
         ensures under { IfOk result (λ next. NextUnder kit.now.settings next) }
     {
@@ -228,7 +230,7 @@ impl InConnection {
     /// where the answer isn't the piece sent, followed by zeros.
     pub(crate) fn take(mut self, seen: &SessionFrame<'_>, kit: &Kit) -> Result<Next, Code>
         requires under { ExchangeUnder kit.now.settings self }
-        requires passed { HasPassed kit.now.settings self.chain seen.now }
+        requires passed { HasPassed (receives (OfMaster kit.now.settings)) self.chain seen.now }
         ensures next { result ≡ connection_next kit.now self seen.now }
         ensures under { IfOk result (λ next. NextUnder kit.now.settings next) }
     {
@@ -273,7 +275,7 @@ impl InParameter {
     /// the answer isn't the piece sent, followed by zeros.
     pub(crate) fn take(mut self, seen: &SessionFrame<'_>, kit: &Kit) -> Result<Next, Code>
         requires under { ExchangeUnder kit.now.settings self }
-        requires passed { HasPassed kit.now.settings self.chain seen.now }
+        requires passed { HasPassed (receives (OfMaster kit.now.settings)) self.chain seen.now }
         ensures next { result ≡ parameter_next kit.now self seen.now }
         ensures under { IfOk result (λ next. NextUnder kit.now.settings next) }
     {
@@ -323,7 +325,7 @@ impl InData {
     /// nothing is changed.
     pub(crate) fn take(&mut self, seen: &SessionFrame<'_>, kit: &Kit) -> Result<(), Code>
         requires under { DataUnder kit.now.settings self.old }
-        requires passed { HasPassed kit.now.settings self.old.chain seen.now }
+        requires passed { HasPassed (receives (OfMaster kit.now.settings)) self.old.chain seen.now }
         ensures next { in_place result self.new ≡ data_next self.old seen.now }
         ensures kept { OnErr result (self.new ≡ self.old) }
         ensures under { DataUnder kit.now.settings self.new }

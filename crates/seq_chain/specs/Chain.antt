@@ -1,9 +1,15 @@
 -- How the chain of an end goes on, frame by frame.
-use Rattle.std.specs.Prelude.{ℕ, List, Bool, Some}
+use Rattle.std.specs.Prelude.{ℕ, List, Bool, Some, None}
+use Rattle.fsoe_base.specs.declared.command.Command.{Command}
+use Rattle.fsoe_base.specs.Command.{command_byte}
+use Rattle.fsoe_frame.specs.Parts.{Frame, bytes_of}
 use Rattle.seq_chain.specs.declared.chain.Chain.{Chain}
-use Rattle.fsoe_frame.specs.Parts.{Frame}
 use Rattle.seq_chain.specs.Numbers.{last_crc}
 use Rattle.seq_chain.specs.Sealing as sealing
+
+-- the chain of a session in which no frame was sent or taken yet
+abbrev pub fresh : Chain
+fresh = record { own = None; taken = None }
 
 -- the next frame that this end sends
 abbrev pub sealed_by : Chain → ℕ → ℕ → List ℕ → Frame
@@ -12,6 +18,14 @@ sealed_by chain conn cmd load = sealing.sealed (last_crc chain.taken) chain.own 
 -- the chain after this end sent a frame
 abbrev pub after_sent : Chain → Frame → Chain
 after_sent chain frame = record chain { own = Some (sealing.noted (last_crc chain.taken) chain.own frame) }
+
+-- the chain after this end sent a frame with this connection id, command and load
+abbrev pub chain_sent : Chain → ℕ → Command → List ℕ → Chain
+chain_sent chain conn cmd load = after_sent chain (sealed_by chain conn (command_byte cmd) load)
+
+-- the bytes of that frame
+abbrev pub frame_sent : Chain → ℕ → Command → List ℕ → List ℕ
+frame_sent chain conn cmd load = bytes_of (sealed_by chain conn (command_byte cmd) load)
 
 -- whether a frame that came is the next one of the peer
 abbrev pub fits_next : Chain → Frame → Bool

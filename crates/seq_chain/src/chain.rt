@@ -1,11 +1,9 @@
 //! The chain of a session at one end.
 
 ghost use Rattle.std.specs.Prelude.{◌≡◌, length, IsTrue};
-ghost use Rattle.fsoe_base.specs.Command.{command_byte};
 ghost use Rattle.fsoe_base.specs.Lengths.{is_length, group_count};
-ghost use Rattle.fsoe_frame.specs.Parts.{bytes_of};
 ghost use Rattle.seq_chain.specs.Numbers.{following, crc_noted};
-ghost use Rattle.seq_chain.specs.Chain.{sealed_by, after_sent, fits_next, after_taken};
+ghost use Rattle.seq_chain.specs.Chain.{fresh, chain_sent, frame_sent, fits_next, after_taken};
 
 use crate::compare::crcs_are;
 use crate::link::{Link, crc_of, crc_or_zero, following_number, frame_number, number_with_crcs};
@@ -24,7 +22,7 @@ pub struct Chain {
 impl Chain {
     /// The chain of a session without frames. Both numbers are 1.
     pub fn new() -> Chain
-        ensures { result ≡ record { own = None; taken = None } }
+        ensures { result ≡ fresh }
     {
         Chain {
             own: None,
@@ -66,8 +64,8 @@ impl Chain {
     /// and its first CRC. The load has a valid number of bytes, 1 or an even number from 2 to 126.
     pub fn seal(&mut self, command: Command, conn: u16, load: &[u8], out: &mut FrameBuf)
         requires { IsTrue (is_length (length load.now)) }
-        ensures frame { out.new ≡ bytes_of (sealed_by self.old conn (command_byte command) load.now) }
-        ensures chain { self.new ≡ after_sent self.old (sealed_by self.old conn (command_byte command) load.now) }
+        ensures frame { out.new ≡ frame_sent self.old conn command load.now }
+        ensures chain { self.new ≡ chain_sent self.old conn command load.now }
     {
         let last = crc_or_zero(self.taken);
         let byte = command.byte();

@@ -7,13 +7,12 @@ use Rattle.param_load.specs.declared.slave_settings.SlaveSettings.{SlaveSettings
 use Rattle.seq_chain.specs.declared.opened.Opened.TheVariants as opened_as
 use Rattle.seq_chain.specs.Chain.{fits_next}
 use Rattle.seq_chain.specs.Opened.{opened}
-use Rattle.seq_chain.specs.SessionFrame.{SessionFrameView}
+use Rattle.seq_chain.specs.SessionFrame.{SessionFrameView, HasPassed}
 use Rattle.seq_chain.proofs.OpenedFrame.{opened_load}
 use Rattle.end_model.specs.Setup.{OfSlave, receives}
 use Rattle.slave_core.specs.declared.now.Now.{Now}
 use Rattle.slave_core.specs.Now.{allows, has_conn, chain_of}
 use Rattle.slave_core.specs.Verdict.{fault}
-use Rattle.slave_core.specs.Views.{HasPassed}
 
 by-tests : (a h t : Bool) (x y z : Code) → (if a then (if h then (if t then None else Some x) else Some y) else Some z) ≡ None → (a ≡ true) × (t ≡ true)
 by-tests true true true x y z e = (refl, refl)
@@ -30,5 +29,5 @@ is_allowed now f e = (tested now f e).0
 
 -- it has the master's length, and fits
 pub has_passed : (settings : SlaveSettings) (now : Now) (l : ℕ) (repeats : Bool) (bytes : List ℕ) (f : SessionFrameView) → IsTrue (is_length l) → l ≡ receives (OfSlave settings)
-    → opened l repeats bytes ≡ opened_as.OfSession f → fault now f ≡ None → HasPassed settings (chain_of now) f
+    → opened l repeats bytes ≡ opened_as.OfSession f → fault now f ≡ None → HasPassed (receives (OfSlave settings)) (chain_of now) f
 has_passed settings now l repeats bytes f valid at o e = record { len_is = opened_load l repeats bytes f valid o ∙ at; fits = (tested now f e).1 }

@@ -4,6 +4,7 @@ use Rattle.fsoe_base.specs.declared.command.Code.{Code}
 use Rattle.fsoe_base.specs.declared.command.Command.TheVariants as command
 use Rattle.fsoe_base.specs.declared.command.State.{State}
 use Rattle.fsoe_base.specs.declared.command.State.TheVariants as state
+use Rattle.seq_chain.specs.Chain.{fresh}
 use Rattle.seq_chain.specs.Opened.{opened}
 use Rattle.seq_chain.specs.SessionFrame.{SessionFrameView}
 use Rattle.param_load.specs.declared.entry.Move.TheVariants as move
@@ -123,8 +124,8 @@ parameter-wrote (Ok s) answer before sent w u = record { written = w; unwritten 
 parameter-wrote (Err x) answer before sent w u = record { written = tt; unwritten = u }
 
 pub start_goes : (s : InReset) (kit : KitView) (f : SessionFrameView) (r : Result SessionView (InReset × Code)) (before sent : List ℕ)
-    → r ≡ states.session_next kit states.fresh kit.nonce (states.first_session kit) f
-    → OnOk r (sent ≡ states.session_reply kit states.fresh kit.nonce (states.first_session kit) f) → OnErr r (sent ≡ before)
+    → r ≡ states.session_next kit fresh kit.nonce (states.first_session kit) f
+    → OnOk r (sent ≡ states.session_reply kit fresh kit.nonce (states.first_session kit) f) → OnErr r (sent ≡ before)
     → GoesOn (now.Reset s) kit f (as_session r) before sent
 start_goes s kit f r before sent i w u = goes-by (now.Reset s) kit f (as_session r) _ before sent (ap as_session i) refl (session-wrote r _ before sent w u)
 

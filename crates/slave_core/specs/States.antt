@@ -3,10 +3,10 @@ use Rattle.std.specs.Prelude.{ℕ, List, length, Result, Ok, Err, None, if◌the
 use Rattle.fsoe_base.specs.declared.command.Code.{Code}
 use Rattle.fsoe_base.specs.declared.command.Command.{Command}
 use Rattle.fsoe_base.specs.declared.command.Command.TheVariants as command
-use Rattle.fsoe_base.specs.Command.{command_byte, code}
+use Rattle.fsoe_base.specs.Command.{code}
 use Rattle.fsoe_frame.specs.Parts.{bytes_of}
 use Rattle.seq_chain.specs.declared.chain.Chain.{Chain}
-use Rattle.seq_chain.specs.Chain.{sealed_by, after_sent, after_taken}
+use Rattle.seq_chain.specs.Chain.{after_taken, chain_sent, frame_sent}
 use Rattle.seq_chain.specs.SessionFrame.{SessionFrameView}
 use Rattle.param_load.specs.declared.terms.Terms.{Terms}
 use Rattle.param_load.specs.declared.upload.Progress.{Progress}
@@ -26,17 +26,13 @@ use Rattle.slave_core.specs.Views.{SessionView, ConnectionView, ParameterView, D
 abbrev pub no_session : InReset
 no_session = record { private = tt }
 
--- the chain of a session in which no frame was sent or taken yet
-abbrev pub fresh : Chain
-fresh = record { own = None; taken = None }
-
 -- the chain after a frame is taken and its answer is sent
 abbrev pub answered : Chain → SessionFrameView → ℕ → Command → List ℕ → Chain
-answered chain f conn cmd load = after_sent (after_taken chain f.frame) (sealed_by (after_taken chain f.frame) conn (command_byte cmd) load)
+answered chain f conn cmd load = chain_sent (after_taken chain f.frame) conn cmd load
 
 -- the bytes of the answer to a frame, which covers the frame
 abbrev pub answer : Chain → SessionFrameView → ℕ → Command → List ℕ → List ℕ
-answer chain f conn cmd load = bytes_of (sealed_by (after_taken chain f.frame) conn (command_byte cmd) load)
+answer chain f conn cmd load = frame_sent (after_taken chain f.frame) conn cmd load
 
 -- the load of the answer to a Session frame: the piece of the slave's own session id that has the number of the frame, and zeros
 abbrev pub session_load : KitView → ℕ → UploadView → List ℕ

@@ -1,8 +1,6 @@
 -- What contracts see of the states of a slave, and how they hang together with its settings.
 use Rattle.std.specs.Prelude.{◌≡◌, ℕ, ◌<◌, IsTrue, List, length}
 use Rattle.seq_chain.specs.declared.chain.Chain.{Chain}
-use Rattle.seq_chain.specs.Chain.{fits_next}
-use Rattle.seq_chain.specs.SessionFrame.{SessionFrameView}
 use Rattle.param_load.specs.declared.contents.Expected.TheVariants as expected
 use Rattle.param_load.specs.declared.slave_settings.SlaveSettings.{SlaveSettings}
 use Rattle.param_load.specs.declared.terms.Terms.{Terms}
@@ -59,8 +57,3 @@ pub record ParameterUnder (settings : SlaveSettings) (s : ParameterView) : Type 
 pub record DataUnder (settings : SlaveSettings) (s : DataView) : Type 0 where
   pub outputs_len : length s.outputs ≡ receives (OfSlave settings)
   pub some_watchdog : 0 < s.terms.watchdog
-
--- a frame that came past the tests in a state with this chain: it has the master's length, and its CRCs fit
-pub record HasPassed (settings : SlaveSettings) (chain : Chain) (f : SessionFrameView) : Type 0 where
-  pub len_is : length f.frame.load ≡ receives (OfSlave settings)
-  pub fits : IsTrue (fits_next chain f.frame)

@@ -18,11 +18,12 @@ pub(crate) enum Now {
 
 impl Now {
     ghost use Rattle.std.specs.Prelude.{◌≡◌, ◌<◌, IsTrue, IfOk, OnOk, OnErr, option_copied};
+    ghost use Rattle.seq_chain.specs.SessionFrame.{HasPassed};
     ghost use Rattle.end_model.specs.Verdict.{is_repeat};
+    ghost use Rattle.end_model.specs.Setup.{OfSlave, receives};
     ghost use Rattle.slave_core.specs.Now.{IsUnder, state_of, is_reset, chain_of, last_taken, allows, has_conn, limit_of, terms_in};
     ghost use Rattle.slave_core.specs.Taken.{next_state, reply};
     ghost use Rattle.slave_core.specs.Verdict.{fault};
-    ghost use Rattle.slave_core.specs.Views.{HasPassed};
 
     pub(crate) fn state(&self) -> State
         ensures { result ≡ state_of self.now }
@@ -156,7 +157,7 @@ impl Now {
     ) -> Result<Now, (InReset, Code)>
         requires allowed { IsTrue (allows self seen.now.command) }
         requires under { IsUnder kit.now.settings self }
-        requires passed { HasPassed kit.now.settings (chain_of self) seen.now }
+        requires passed { HasPassed (receives (OfSlave kit.now.settings)) (chain_of self) seen.now }
         ensures next { result ≡ next_state kit.now self seen.now }
         ensures sent { OnOk result (out.new ≡ reply kit.now self seen.now) }
         ensures unwritten { OnErr result (out.new ≡ out.old) }

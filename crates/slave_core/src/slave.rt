@@ -34,11 +34,11 @@ impl Model for Slave {
 
 impl Slave {
     ghost use Rattle.std.specs.Prelude.{IsTrue, [], length, option_copied};
+    ghost use Rattle.seq_chain.specs.SessionFrame.{HasPassed};
     ghost use Rattle.param_load.specs.Profile.{allows_id};
     ghost use Rattle.slave_core.specs.Now.{allows, chain_of, outputs_in};
     ghost use Rattle.slave_core.specs.Slave.{fallen, falls, refuses, reset_by_peer, settles, delivered, tick_of};
     ghost use Rattle.slave_core.specs.Taken.{next_state, reply};
-    ghost use Rattle.slave_core.specs.Views.{HasPassed};
     ghost use Rattle.slave_core.specs.ViewOf.{view_of};
     ghost use Rattle.param_load.specs.declared.entry.Move.TheVariants as event;
     ghost use Rattle.end_model.specs.Setup.{OfSlave, sends, receives};
@@ -119,7 +119,7 @@ impl Slave {
     /// Takes a frame that passed the tests, unless its contents are wrong. A data frame goes on in place.
     fn take(&mut self, seen: &Seen<'_>, out: &mut FrameBuf) -> Did
         requires allowed { IsTrue (allows self.old.state seen.now.command) }
-        requires passed { HasPassed self.old.kit.settings (chain_of self.old.state) seen.now }
+        requires passed { HasPassed (receives (OfSlave self.old.kit.settings)) (chain_of self.old.state) seen.now }
         requires empty { out.old ≡ [] }
         ensures slave { self.new ≡ (settles self.old seen.now (reply self.old.kit self.old.state seen.now) (next_state self.old.kit self.old.state seen.now)).slave }
         ensures did { result ≡ (settles self.old seen.now (reply self.old.kit self.old.state seen.now) (next_state self.old.kit self.old.state seen.now)).did }
@@ -145,7 +145,7 @@ impl Slave {
     #[inline(never)]
     fn take_by_move(&mut self, seen: &Seen<'_>, out: &mut FrameBuf) -> Did
         requires allowed { IsTrue (allows self.old.state seen.now.command) }
-        requires passed { HasPassed self.old.kit.settings (chain_of self.old.state) seen.now }
+        requires passed { HasPassed (receives (OfSlave self.old.kit.settings)) (chain_of self.old.state) seen.now }
         requires empty { out.old ≡ [] }
         ensures slave { self.new ≡ (settles self.old seen.now (reply self.old.kit self.old.state seen.now) (next_state self.old.kit self.old.state seen.now)).slave }
         ensures did { result ≡ (settles self.old seen.now (reply self.old.kit self.old.state seen.now) (next_state self.old.kit self.old.state seen.now)).did }

@@ -11,14 +11,15 @@ ghost use Rattle.param_load.specs.Contents.{is_parameter};
 ghost use Rattle.param_load.specs.Payload.{number_at};
 ghost use Rattle.param_load.specs.Profile.{allows_id};
 ghost use Rattle.param_load.specs.Upload.{is_whole};
-ghost use Rattle.seq_chain.specs.Chain.{fits_next};
+ghost use Rattle.seq_chain.specs.Chain.{fits_next, fresh};
 ghost use Rattle.fsoe_base.specs.Data.{is_data};
+ghost use Rattle.seq_chain.specs.SessionFrame.{HasPassed};
 ghost use Rattle.slave_core.specs.declared.now.Now.TheVariants as now;
-ghost use Rattle.end_model.specs.Setup.{OfSlave, piece_len};
+ghost use Rattle.end_model.specs.Setup.{OfSlave, piece_len, receives};
 ghost use Rattle.slave_core.specs.GoesOn.{GoesOn};
-ghost use Rattle.slave_core.specs.States.{no_session, fresh, answered, answer, first_session, first_connection, first_parameter, terms_of, session_next, session_reply, connection_next, parameter_next, echo_reply, data_next, data_reply, in_place};
+ghost use Rattle.slave_core.specs.States.{no_session, answered, answer, first_session, first_connection, first_parameter, terms_of, session_next, session_reply, connection_next, parameter_next, echo_reply, data_next, data_reply, in_place};
 ghost use Rattle.slave_core.specs.Taken.{as_session, as_connection, as_parameter, as_data};
-ghost use Rattle.slave_core.specs.Views.{SessionUnder, ConnectionUnder, ParameterUnder, DataUnder, HasPassed};
+ghost use Rattle.slave_core.specs.Views.{SessionUnder, ConnectionUnder, ParameterUnder, DataUnder};
 
 use crate::kit::Kit;
 use crate::seen::Seen;
@@ -125,7 +126,7 @@ impl InReset {
         out: &mut FrameBuf,
     ) -> Result<InSession, (InReset, Code)>
         requires command { seen.now.command ≡ Command.Session }
-        requires passed { HasPassed kit.now.settings fresh seen.now }
+        requires passed { HasPassed (receives (OfSlave kit.now.settings)) fresh seen.now }
         ensures next { result ≡ session_next kit.now fresh kit.now.nonce (first_session kit.now) seen.now }
         ensures sent { OnOk result (out.new ≡ session_reply kit.now fresh kit.now.nonce (first_session kit.now) seen.now) }
         ensures unwritten { OnErr result (out.new ≡ out.old) }
@@ -159,7 +160,7 @@ impl InSession {
         requires command { seen.now.command ≡ Command.Session }
         requires more { is_whole self.upload ≡ false }
         requires under { SessionUnder kit.now.settings self }
-        requires passed { HasPassed kit.now.settings self.chain seen.now }
+        requires passed { HasPassed (receives (OfSlave kit.now.settings)) self.chain seen.now }
         ensures next { result ≡ session_next kit.now self.chain self.id self.upload seen.now }
         ensures sent { OnOk result (out.new ≡ session_reply kit.now self.chain self.id self.upload seen.now) }
         ensures unwritten { OnErr result (out.new ≡ out.old) }
@@ -188,7 +189,7 @@ impl InSession {
         requires command { seen.now.command ≡ Command.Connection }
         requires whole { IsTrue (is_whole self.upload) }
         requires under { SessionUnder kit.now.settings self }
-        requires passed { HasPassed kit.now.settings self.chain seen.now }
+        requires passed { HasPassed (receives (OfSlave kit.now.settings)) self.chain seen.now }
         ensures next { result ≡ connection_next kit.now self.chain seen.now.frame.conn (first_connection kit.now seen.now.frame.conn) seen.now }
         ensures sent { OnOk result (out.new ≡ echo_reply command.Connection kit.now self.chain seen.now.frame.conn (first_connection kit.now seen.now.frame.conn) seen.now) }
         ensures unwritten { OnErr result (out.new ≡ out.old) }
@@ -246,7 +247,7 @@ impl InConnection {
         requires command { seen.now.command ≡ Command.Connection }
         requires more { is_whole self.upload ≡ false }
         requires under { ConnectionUnder kit.now.settings self }
-        requires passed { HasPassed kit.now.settings self.chain seen.now }
+        requires passed { HasPassed (receives (OfSlave kit.now.settings)) self.chain seen.now }
         ensures next { result ≡ connection_next kit.now self.chain self.conn self.upload seen.now }
         ensures sent { OnOk result (out.new ≡ echo_reply command.Connection kit.now self.chain self.conn self.upload seen.now) }
         ensures unwritten { OnErr result (out.new ≡ out.old) }
@@ -276,7 +277,7 @@ impl InConnection {
         requires command { seen.now.command ≡ Command.Parameter }
         requires whole { IsTrue (is_whole self.upload) }
         requires under { ConnectionUnder kit.now.settings self }
-        requires passed { HasPassed kit.now.settings self.chain seen.now }
+        requires passed { HasPassed (receives (OfSlave kit.now.settings)) self.chain seen.now }
         ensures next { result ≡ parameter_next kit.now self.chain self.conn kit.now.settings.address (first_parameter kit.now) seen.now }
         ensures sent { OnOk result (out.new ≡ echo_reply command.Parameter kit.now self.chain self.conn (first_parameter kit.now) seen.now) }
         ensures unwritten { OnErr result (out.new ≡ out.old) }
@@ -353,7 +354,7 @@ impl InParameter {
         requires command { seen.now.command ≡ Command.Parameter }
         requires more { is_whole self.upload ≡ false }
         requires under { ParameterUnder kit.now.settings self }
-        requires passed { HasPassed kit.now.settings self.chain seen.now }
+        requires passed { HasPassed (receives (OfSlave kit.now.settings)) self.chain seen.now }
         ensures next { result ≡ parameter_next kit.now self.chain self.conn self.address self.upload seen.now }
         ensures sent { OnOk result (out.new ≡ echo_reply command.Parameter kit.now self.chain self.conn self.upload seen.now) }
         ensures unwritten { OnErr result (out.new ≡ out.old) }
@@ -382,7 +383,7 @@ impl InParameter {
         requires command { IsTrue (is_data seen.now.command) }
         requires whole { IsTrue (is_whole self.upload) }
         requires under { ParameterUnder kit.now.settings self }
-        requires passed { HasPassed kit.now.settings self.chain seen.now }
+        requires passed { HasPassed (receives (OfSlave kit.now.settings)) self.chain seen.now }
         ensures next { result ≡ data_next kit.now self.chain (terms_of kit.now self.conn self.address self.upload) seen.now }
         ensures sent { OnOk result (out.new ≡ data_reply kit.now self.chain (terms_of kit.now self.conn self.address self.upload) seen.now) }
         ensures unwritten { OnErr result (out.new ≡ out.old) }
@@ -462,7 +463,7 @@ impl InData {
     ) -> Result<InData, (InReset, Code)>
         requires command { IsTrue (is_data seen.now.command) }
         requires under { DataUnder kit.now.settings self }
-        requires passed { HasPassed kit.now.settings self.chain seen.now }
+        requires passed { HasPassed (receives (OfSlave kit.now.settings)) self.chain seen.now }
         ensures next { result ≡ data_next kit.now self.chain self.terms seen.now }
         ensures sent { OnOk result (out.new ≡ data_reply kit.now self.chain self.terms seen.now) }
         ensures unwritten { OnErr result (out.new ≡ out.old) }
@@ -484,7 +485,7 @@ impl InData {
     ) -> Result<(), Code>
         requires command { IsTrue (is_data seen.now.command) }
         requires under { DataUnder kit.now.settings self.old }
-        requires passed { HasPassed kit.now.settings self.old.chain seen.now }
+        requires passed { HasPassed (receives (OfSlave kit.now.settings)) self.old.chain seen.now }
         ensures next { in_place result self.new ≡ data_next kit.now self.old.chain self.old.terms seen.now }
         ensures sent { OnOk result (out.new ≡ data_reply kit.now self.old.chain self.old.terms seen.now) }
         ensures unwritten { OnErr result (out.new ≡ out.old) }
@@ -569,7 +570,7 @@ fn in_session(
     kit: &Kit,
     out: &mut FrameBuf,
 ) -> Result<InSession, (InReset, Code)>
-    requires passed { HasPassed kit.now.settings chain seen.now }
+    requires passed { HasPassed (receives (OfSlave kit.now.settings)) chain seen.now }
     requires piece { upload.piece ≡ piece_len (OfSlave kit.now.settings) }
     requires expected { upload.expected ≡ expected.Session kit.now.settings.profile }
     requires allowed { IsTrue (allows_id kit.now.settings.profile id) }
@@ -604,7 +605,7 @@ fn in_connection(
     kit: &Kit,
     out: &mut FrameBuf,
 ) -> Result<InConnection, (InReset, Code)>
-    requires passed { HasPassed kit.now.settings chain seen.now }
+    requires passed { HasPassed (receives (OfSlave kit.now.settings)) chain seen.now }
     requires piece { upload.piece ≡ piece_len (OfSlave kit.now.settings) }
     requires expected { upload.expected ≡ expected.Connection conn kit.now.settings.address }
     requires more { is_whole upload ≡ false }
@@ -643,7 +644,7 @@ fn in_parameter(
     kit: &Kit,
     out: &mut FrameBuf,
 ) -> Result<InParameter, (InReset, Code)>
-    requires passed { HasPassed kit.now.settings chain seen.now }
+    requires passed { HasPassed (receives (OfSlave kit.now.settings)) chain seen.now }
     requires piece { upload.piece ≡ piece_len (OfSlave kit.now.settings) }
     requires expected { upload.expected ≡ expected.Parameter kit.now.settings.most kit.now.settings.rule kit.now.settings.profile }
     requires more { is_whole upload ≡ false }
