@@ -20,8 +20,8 @@ impl Model for Watchdog {
 }
 
 impl Watchdog {
-    ghost use Rattle.std.specs.Prelude.{◌≡◌, ◌<◌, ◌+◌, ◌==◌};
-    ghost use Rattle.failsafe_io.specs.Timer.{Timer, ticked};
+    ghost use Rattle.std.specs.Prelude.{◌≡◌, ◌<◌};
+    ghost use Rattle.failsafe_io.specs.Timer.{started, expires, ticked};
 
     /// A watchdog that expires at this limit, in ticks, and that has counted `age` ticks, fewer than the limit.
     pub fn new(limit: u16, age: u16) -> Watchdog
@@ -35,8 +35,7 @@ impl Watchdog {
     /// Counts from 0 again, up to this limit, in ticks and not 0.
     pub fn restart(&mut self, limit: u16)
         requires { 0 < limit }
-        ensures limit { self.new.limit ≡ limit }
-        ensures age { self.new.age ≡ 0 }
+        ensures { self.new ≡ started limit }
     {
         self.limit = limit;
         self.age = 0;
@@ -44,7 +43,7 @@ impl Watchdog {
 
     /// Counts a tick. True exactly where the age reached the limit with it; the age is then 0.
     pub fn tick(&mut self) -> bool
-        ensures expired { result ≡ (self.old.age + 1 == self.old.limit) }
+        ensures expired { result ≡ expires self.old }
         ensures counted { self.new ≡ ticked self.old }
     {
         if self.age + 1 == self.limit {

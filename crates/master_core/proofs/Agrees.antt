@@ -23,7 +23,7 @@ use Rattle.end_model.specs.Step.{on_fault, on_expiry, code_sent, deed_of}
 use Rattle.master_core.specs.declared.now.Now.{Now}
 use Rattle.master_core.specs.Kit.{KitView}
 use Rattle.master_core.specs.After.{with_kit}
-use Rattle.master_core.specs.Master.{Outcome, drops, ends, refuses, answered_by, falls, expires, tick_of}
+use Rattle.master_core.specs.Master.{Outcome, drops, ends, refuses, answered_by, falls, at_limit, tick_of}
 use Rattle.master_core.specs.MasterView.{MasterView}
 use Rattle.master_core.specs.ViewOf.{notes_of, kit_of, now_in, view_in, view_of}
 use Rattle.master_core.proofs.Sound.{Sound}
@@ -116,7 +116,7 @@ nonce-agrees ms e id s = record { view = λ r. refl; did = refl; sent = refl; so
 -- a tick
 abbrev tick_by : Bool → MasterView → Outcome
 tick_by b v =
-    if b then expires v
+    if b then at_limit v
     else record { master = record v { timer = record { limit = v.timer.limit; age = if b then 0 else v.timer.age + 1 } }; did = nothing; sent = [] }
 
 meets : (t l : ℕ) → t < l → nat_le l (suc t) ≡ (t + 1 == l)
@@ -129,7 +129,7 @@ one-more : (t : ℕ) → suc t ≡ t + 1
 one-more t = omega arith
 
 -- the limit is reached: in state Reset the Reset frame is sent again
-expiry-agrees : (p : State) (ms : MasterSettings) (e : List Deed) → state_of (OfMaster ms) e ≡ p → Sound ms e → Agrees ms e move.Tick (on_expiry p (OfMaster ms)) (expires (view_in p ms e))
+expiry-agrees : (p : State) (ms : MasterSettings) (e : List Deed) → state_of (OfMaster ms) e ≡ p → Sound ms e → Agrees ms e move.Tick (on_expiry p (OfMaster ms)) (at_limit (view_in p ms e))
 expiry-agrees state.Reset ms e now s = record { view = λ r. refl; did = refl; sent = refl; sound = record { in_state = refl; offer_len = s.offer_len; young = ms.some_watchdog } }
 expiry-agrees state.Session ms e now s = falls-agree state.Session ms e move.Tick (cause.Found (code 0x05)) (code 0x05) refl refl s
 expiry-agrees state.Connection ms e now s = falls-agree state.Connection ms e move.Tick (cause.Found (code 0x05)) (code 0x05) refl refl s

@@ -1,5 +1,5 @@
 -- What each event at a master leaves, does and sends.
-use Rattle.std.specs.Prelude.{ℕ, ◌+◌, ◌-◌, ◌==◌, Bool, true, false, List, [], Option, Some, None, Result, Ok, Err, if◌then◌else◌}
+use Rattle.std.specs.Prelude.{ℕ, ◌-◌, ◌==◌, Bool, true, false, List, [], Option, Some, None, Result, Ok, Err, if◌then◌else◌}
 use Rattle.fsoe_base.specs.declared.command.Code.{Code}
 use Rattle.fsoe_base.specs.declared.command.Command.TheVariants as command
 use Rattle.fsoe_base.specs.declared.did.Cause.{Cause}
@@ -11,7 +11,7 @@ use Rattle.fsoe_base.specs.Did as did
 use Rattle.fsoe_base.specs.Did.{takes, resets}
 use Rattle.fsoe_base.specs.Command.{code}
 use Rattle.fsoe_frame.specs.Parts.{Frame, bytes_of}
-use Rattle.failsafe_io.specs.Timer.{Timer, ticked}
+use Rattle.failsafe_io.specs.Timer.{started, expires, ticked}
 use Rattle.param_load.specs.declared.master_settings.MasterSettings.{MasterSettings}
 use Rattle.seq_chain.specs.declared.opened.Opened.{Opened}
 use Rattle.seq_chain.specs.declared.opened.Opened.TheVariants as opened_as
@@ -39,10 +39,6 @@ pub record Outcome : Type 0 where
   pub did : Did
   pub sent : List ℕ
 
--- a watchdog that counts from 0
-abbrev pub started : MasterSettings → Timer
-started settings = record { limit = settings.watchdog; age = 0 }
-
 -- a new master: its first tick reaches the limit
 abbrev pub first_master : MasterSettings → MasterView
 first_master settings = record { kit = first_kit settings; state = now.Reset no_session; timer = record { limit = settings.watchdog; age = settings.watchdog - 1 } }
@@ -53,7 +49,7 @@ drops v why = record { master = v; did = did.dropped why }
 
 -- a step after which a frame is due: none was sent yet
 abbrev pub leaves : MasterView → Next → Did → Accepted
-leaves v n done = record { master = record v { state = now.Due (record { next = n }); timer = started v.kit.settings }; did = record done { sent = false } }
+leaves v n done = record { master = record v { state = now.Due (record { next = n }); timer = started v.kit.settings.watchdog }; did = record done { sent = false } }
 
 -- a session ends, and a Reset frame with the code is due
 abbrev pub ends : MasterView → Bool → Cause → Code → Accepted
@@ -111,23 +107,23 @@ delivered v bytes = answered_by (accepted v bytes)
 -- a session ends, and a Reset frame with the code is sent
 abbrev pub falls : MasterView → Cause → Code → Outcome
 falls v why x = record {
-  master = record v { state = now.Reset no_session; timer = started v.kit.settings };
+  master = record v { state = now.Reset no_session; timer = started v.kit.settings.watchdog };
   did = resets false why;
   sent = reset_frame x.0 (sends (OfMaster v.kit.settings));
 }
 
 -- the limit is reached: in state Reset the Reset frame with code 0 is sent again
-abbrev pub expires : MasterView → Outcome
-expires v =
+abbrev pub at_limit : MasterView → Outcome
+at_limit v =
     if is_reset v.state
-    then record { master = record v { timer = started v.kit.settings }; did = record did.nothing { sent = true }; sent = reset_frame 0 (sends (OfMaster v.kit.settings)) }
+    then record { master = record v { timer = started v.kit.settings.watchdog }; did = record did.nothing { sent = true }; sent = reset_frame 0 (sends (OfMaster v.kit.settings)) }
     else falls v (cause.Found (code 0x05)) (code 0x05)
 
 -- a tick makes the age one more, and expires where that reaches the limit
 abbrev pub tick_of : MasterView → Outcome
 tick_of v =
-    if v.timer.age + 1 == v.timer.limit
-    then expires v
+    if expires v.timer
+    then at_limit v
     else record { master = record v { timer = ticked v.timer }; did = did.nothing; sent = [] }
 
 -- a reset of the master's own

@@ -1,5 +1,5 @@
 -- What each event at a slave leaves, does and sends.
-use Rattle.std.specs.Prelude.{ℕ, ◌+◌, ◌==◌, Bool, true, false, List, [], Option, Some, None, Result, Ok, Err, if◌then◌else◌}
+use Rattle.std.specs.Prelude.{ℕ, Bool, true, false, List, [], Option, Some, None, Result, Ok, Err, if◌then◌else◌}
 use Rattle.fsoe_base.specs.declared.command.Code.{Code}
 use Rattle.fsoe_base.specs.declared.command.Command.TheVariants as command
 use Rattle.fsoe_base.specs.declared.did.Cause.{Cause}
@@ -9,7 +9,7 @@ use Rattle.fsoe_base.specs.declared.did.Dropped.{Dropped}
 use Rattle.fsoe_base.specs.declared.did.Dropped.TheVariants as dropped
 use Rattle.fsoe_base.specs.Did as did
 use Rattle.fsoe_base.specs.Did.{takes, resets}
-use Rattle.failsafe_io.specs.Timer.{ticked}
+use Rattle.failsafe_io.specs.Timer.{started, expires, ticked}
 use Rattle.fsoe_base.specs.Command.{code}
 use Rattle.param_load.specs.declared.slave_settings.SlaveSettings.{SlaveSettings}
 use Rattle.seq_chain.specs.declared.opened.Opened.{Opened}
@@ -24,7 +24,7 @@ use Rattle.slave_core.specs.declared.now.Now.TheVariants as now
 use Rattle.slave_core.specs.declared.states.InReset.{InReset}
 use Rattle.slave_core.specs.Kit.{first_kit}
 use Rattle.slave_core.specs.Now.{is_reset, last_taken, limit_of}
-use Rattle.slave_core.specs.SlaveView.{SlaveView, started}
+use Rattle.slave_core.specs.SlaveView.{SlaveView}
 use Rattle.slave_core.specs.States.{no_session}
 use Rattle.slave_core.specs.Taken.{next_state, reply}
 use Rattle.slave_core.specs.Verdict.{fault}
@@ -99,7 +99,7 @@ delivered v bytes = delivered_by v (opened (receives (OfSlave v.kit.settings)) (
 -- a tick in a session: where the age reaches the limit the session ends with code 5
 abbrev pub tick_in_session : SlaveView → Outcome
 tick_in_session v =
-    if v.timer.age + 1 == v.timer.limit
+    if expires v.timer
     then falls v false (cause.Found (code 0x05)) (code 0x05)
     else quiet (record v { timer = ticked v.timer })
 

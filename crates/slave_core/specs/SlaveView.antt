@@ -1,6 +1,6 @@
 -- What contracts see of a slave.
-use Rattle.std.specs.Prelude.{◌≡◌, ℕ, IsTrue}
-use Rattle.failsafe_io.specs.Timer.{Timer}
+use Rattle.std.specs.Prelude.{◌≡◌, IsTrue}
+use Rattle.failsafe_io.specs.Timer.{Timer, started}
 use Rattle.slave_core.specs.declared.now.Now.{Now}
 use Rattle.slave_core.specs.Kit.{KitView}
 use Rattle.slave_core.specs.Now.{IsUnder, is_reset}
@@ -10,10 +10,6 @@ pub record SlaveView : Type 0 where
   pub kit : KitView
   pub state : Now
   pub timer : Timer
-
--- a watchdog that counts from 0
-abbrev pub started : ℕ → Timer
-started limit = record { limit = limit; age = 0 }
 
 -- the state was made under the settings, and in state Reset no tick is counted
 pub record IsSoundSlave (v : SlaveView) : Type 0 where
