@@ -27,7 +27,7 @@ use Rattle.end_model.specs.Deed.{Deed}
 use Rattle.end_model.specs.Chain.{since, own, taken, seal}
 use Rattle.end_model.specs.Payloads.{pay, piece, pieces, count_in, session_id, conn_id}
 use Rattle.end_model.specs.Readiness.{state_of, offer, held, reaches_limit}
-use Rattle.end_model.specs.Verdict.{Verdict, Valid, WrongLength, Repeated, Refused, Wrong, verdict}
+use Rattle.end_model.specs.Verdict.{Verdict, Valid, Drop, Refused, Wrong, verdict}
 
 -- a frame is taken, and one is sent: a frame of a session passed the test of its CRCs
 abbrev pub takes_frame : Command → List ℕ → Did
@@ -50,8 +50,7 @@ on_reset_frame _ s load = resets false (cause.Peer (code (first_of load)))
 
 -- a frame that came, by the verdict on it
 abbrev pub on_verdict : State → Setup → Verdict → Did
-on_verdict now s WrongLength = dropped why.Length
-on_verdict now s Repeated = dropped why.Repeat
+on_verdict now s (Drop because) = dropped because
 on_verdict now s (Refused found) = on_fault now false found
 on_verdict now s (Wrong found) = on_fault now true found
 on_verdict now s (Valid command.Reset load) = on_reset_frame now s load

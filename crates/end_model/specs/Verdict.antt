@@ -1,15 +1,18 @@
 -- How the tests of a frame that came end. The order of the tests is this profile's own, the codes are those of the public standard.
-use Rattle.std.specs.Prelude.{ℕ, ◌==◌, nat_eq, List, ◌++◌, length, take, drop, Bool, false, not, Option, Some, None, Result, Ok, Err, if◌then◌else◌}
+use Rattle.std.specs.Prelude.{ℕ, ◌==◌, nat_eq, List, ◌++◌, length, take, drop, Bool, false, not, Option, Some, None, if◌then◌else◌}
 use Rattle.std.specs.Cmp.Lexicographic.{pointwise}
 use Rattle.fsoe_base.specs.declared.command.State.{State}
 use Rattle.fsoe_base.specs.declared.command.State.TheVariants as state
 use Rattle.fsoe_base.specs.declared.command.Command.{Command}
 use Rattle.fsoe_base.specs.declared.command.Command.TheVariants as command
 use Rattle.fsoe_base.specs.declared.command.Code.{Code}
-use Rattle.fsoe_base.specs.Command.{command_of, code}
-use Rattle.fsoe_base.specs.Lengths.{frame_len}
-use Rattle.fsoe_frame.specs.Parts.{Frame, frame_of}
-use Rattle.seq_chain.specs.Reset.{reset_view}
+use Rattle.fsoe_base.specs.declared.did.Dropped.{Dropped}
+use Rattle.fsoe_base.specs.Command.{code}
+use Rattle.fsoe_frame.specs.Parts.{Frame}
+use Rattle.seq_chain.specs.declared.opened.Opened.{Opened}
+use Rattle.seq_chain.specs.declared.opened.Opened.TheVariants as opened_as
+use Rattle.seq_chain.specs.Opened.{opened}
+use Rattle.seq_chain.specs.SessionFrame.{SessionFrameView}
 use Rattle.param_load.specs.declared.contents.Expected.{Expected}
 use Rattle.param_load.specs.declared.contents.Expected.TheVariants as expected
 use Rattle.param_load.specs.declared.master_settings.MasterSettings.{MasterSettings}
@@ -28,10 +31,8 @@ use Rattle.end_model.specs.Readiness.{allowed}
 pub data Verdict : Type 0 where
   -- all tests are passed by a frame with this command and load
   Valid : Command → List ℕ → Verdict
-  -- the frame hasn't the length of the peer's frames
-  WrongLength : Verdict
-  -- the frame is the one that is kept as taken last
-  Repeated : Verdict
+  -- the frame is dropped in each state: it hasn't the length of the peer's frames, or is the one that is kept as taken last
+  Drop : Dropped → Verdict
   -- a test up to that of the CRCs fails with this code
   Refused : Code → Verdict
   -- the test of the contents fails with this code
@@ -98,34 +99,37 @@ abbrev pub judged_contents : Command → List ℕ → Option Code → Verdict
 judged_contents c load None = Valid c load
 judged_contents c load (Some found) = Wrong found
 
--- the verdict on a Reset frame, by what it says
-abbrev pub judged_reset : List ℕ → Result Code Code → Verdict
-judged_reset load (Ok said) = Valid command.Reset load
-judged_reset load (Err found) = Refused found
+-- the code of the first of these tests of a session that a frame fails: whether its command is allowed, its connection id is
+-- right, and its CRCs fit
+abbrev pub session_fault : Bool → Bool → Bool → Option Code
+session_fault is_allowed has_conn_id does_fit =
+    if not is_allowed then Some (code 0x01)
+    else if not has_conn_id then Some (code 0x03)
+    else if not does_fit then Some (code 0x04)
+    else None
 
--- a frame of a session: the command in this state, the connection id, the CRCs, the contents
-abbrev pub judged_session : Setup → List Deed → Command → Frame → Verdict
-judged_session s e c f =
-    if not (allowed s e c) then Refused (code 0x01)
-    else if not (has_conn s e c f.conn) then Refused (code 0x03)
-    else if not (fits s (since e) f) then Refused (code 0x04)
-    else judged_contents c f.load (contents s e c f)
+-- the tests of a session, at the end that these deeds leave
+abbrev pub fault_after : Setup → List Deed → SessionFrameView → Option Code
+fault_after s e f = session_fault (allowed s e f.command) (has_conn s e f.command f.frame.conn) (fits s (since e) f.frame)
 
--- the verdict on a frame with this command, if its first byte is one
-abbrev pub judged : Setup → List Deed → Frame → Option Command → Verdict
-judged s e f None = Refused (code 0x02)
-judged s e f (Some command.Reset) = judged_reset f.load (reset_view f)
-judged s e f (Some c) = judged_session s e c f
+-- a frame of a session: refused by the first of the session's tests that fails, else judged by its contents
+abbrev pub judged_session : Setup → List Deed → SessionFrameView → Option Code → Verdict
+judged_session s e f None = judged_contents f.command f.frame.load (contents s e f.command f.frame)
+judged_session s e f (Some found) = Refused found
+
+-- the verdict on a frame, by what the tests that need no session say of it
+abbrev pub judged : Setup → List Deed → Opened → Verdict
+judged s e (opened_as.Drop why) = Drop why
+judged s e (opened_as.Refuse found) = Refused found
+judged s e (opened_as.ResetFrame said f) = Valid command.Reset f.load
+judged s e (opened_as.OfSession f) = judged_session s e f (fault_after s e f)
 
 -- whether these are the bytes of the frame that is kept as taken last
 abbrev pub is_repeat : Option (List ℕ) → List ℕ → Bool
 is_repeat None bytes = false
 is_repeat (Some last) bytes = pointwise nat_eq last bytes
 
--- the first of the tests that these bytes fail: the length, the repeat, the command, then those of the command
+-- the first of the tests that these bytes fail: those that need no session, the length, the repeat, the command and what a
+-- Reset frame says; then those of the session, and the contents
 abbrev pub verdict : Setup → List Deed → List ℕ → Verdict
-verdict s e bytes =
-    let f : Frame = frame_of (receives s) bytes in
-    if not (length bytes == frame_len (receives s)) then WrongLength
-    else if is_repeat (kept (since e)) bytes then Repeated
-    else judged s e f (command_of f.cmd)
+verdict s e bytes = judged s e (opened (receives s) (is_repeat (kept (since e)) bytes) bytes)

@@ -17,8 +17,9 @@ use Rattle.param_load.specs.declared.profile.Profile.TheVariants as profile
 use Rattle.param_load.specs.declared.master_settings.MasterSettings.{MasterSettings}
 use Rattle.param_load.specs.declared.slave_settings.SlaveSettings.{SlaveSettings}
 use Rattle.entry_text.specs.EntryText.{entry_text}
+use Rattle.fsoe_base.specs.declared.did.Dropped.TheVariants as why
 use Rattle.end_model.specs.Setup.{Setup, OfMaster, OfSlave, receives}
-use Rattle.end_model.specs.Verdict.{Verdict, WrongLength, Refused, contents, verdict}
+use Rattle.end_model.specs.Verdict.{Verdict, Drop, Refused, contents, verdict}
 use Rattle.end_model.specs.Step.{run}
 use Rattle.end_model.specs.Entries.{entries}
 
@@ -189,7 +190,7 @@ faulty =
 -- the first test that each of them fails: the length, the command, the parts of a Reset frame, whether it is allowed, the
 -- connection id, the CRCs
 abbrev pub first_faults : List Verdict
-first_faults = WrongLength ∷ Refused (code 0x02) ∷ Refused (code 0x03) ∷ Refused (code 0x04) ∷ Refused (code 0x01) ∷ Refused (code 0x03) ∷ Refused (code 0x04) ∷ []
+first_faults = Drop why.Length ∷ Refused (code 0x02) ∷ Refused (code 0x03) ∷ Refused (code 0x04) ∷ Refused (code 0x01) ∷ Refused (code 0x03) ∷ Refused (code 0x04) ∷ []
 
 -- at a slave in Data the first test that a frame fails decides
 unfoldable pub SlaveTestsInOrder : Type 0

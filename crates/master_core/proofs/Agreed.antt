@@ -6,7 +6,6 @@ use Rattle.fsoe_base.specs.declared.command.Command.TheVariants as command
 use Rattle.fsoe_base.specs.declared.command.State.{State}
 use Rattle.fsoe_base.specs.declared.command.State.TheVariants as state
 use Rattle.fsoe_base.specs.declared.did.Cause.TheVariants as cause
-use Rattle.fsoe_base.specs.declared.did.Dropped.TheVariants as why
 use Rattle.fsoe_base.specs.Command.{code}
 use Rattle.param_load.specs.declared.entry.Move.{Move}
 use Rattle.param_load.specs.declared.entry.Move.TheVariants as move
@@ -21,7 +20,7 @@ use Rattle.master_core.specs.Master.{Accepted, settles, answered_by}
 use Rattle.master_core.specs.Now.{taken}
 use Rattle.master_core.specs.ViewOf.{notes_of, kit_of, now_in, view_in, view_of}
 use Rattle.master_core.proofs.Sound.{Sound, SoundAt}
-use Rattle.master_core.proofs.SameVerdict.{came, Came, Same, Long, Again, Refuses, ByReset, Passes, same}
+use Rattle.master_core.proofs.SameVerdict.{came, Came, Same, Drops, Refuses, ByReset, Passes, same}
 use Rattle.master_core.proofs.Agrees.{Agrees, drop-agrees, refuse-agrees, falls-agree, put-agrees, hold-agrees, nonce-agrees, tick-agrees}
 use Rattle.master_core.proofs.Arrived.{Arrived, arrived}
 use Rattle.master_core.proofs.Began.{reset_frame-agrees}
@@ -59,12 +58,11 @@ passed-agrees state.Parameter ms e bytes command.ProcessData h k a s = absurd (c
 passed-agrees state.Data ms e bytes command.Session h k a s = absurd (cc k.is_allowed)
 passed-agrees state.Data ms e bytes command.Connection h k a s = absurd (cc k.is_allowed)
 passed-agrees state.Data ms e bytes command.Parameter h k a s = absurd (cc k.is_allowed)
-passed-agrees p ms e bytes command.Reset h k a s = absurd (cc k.is_session)
+passed-agrees p ms e bytes command.Reset h k a s = absurd (k.is_session refl)
 
 judged-agrees : (p : State) (ms : MasterSettings) (e : List Deed) (bytes : List ℕ) (v : model.Verdict) (w : Accepted) → Same p ms e bytes v w → state_of (OfMaster ms) e ≡ p → SoundAt p ms e → Sound ms e
     → Agrees ms e (move.Deliver bytes) (on_verdict p (OfMaster ms) v) (answered_by w)
-judged-agrees p ms e bytes v w Long at h s = drop-agrees p ms e bytes why.Length at s
-judged-agrees p ms e bytes v w Again at h s = drop-agrees p ms e bytes why.Repeat at s
+judged-agrees p ms e bytes v w (Drops because) at h s = drop-agrees p ms e bytes because at s
 judged-agrees p ms e bytes v w (Refuses x) at h s = refuse-agrees p ms e bytes x at s
 judged-agrees p ms e bytes v w (ByReset len x said) at h s = reset_frame-agrees p ms e bytes x said at h (arrived ms bytes len) s
 judged-agrees p ms e bytes v w (Passes c k) at h s = passed-agrees p ms e bytes c h k (arrived ms bytes k.len) s

@@ -1,7 +1,6 @@
 -- What a frame that passed the tests tells.
-use Rattle.std.proofs.Common.{◌≡◌, ℕ, Bool, true, false, IsTrue, List, Option, Some, None, is_some, if◌then◌else◌, refl, sym, ap, subst, ◌∙◌}
+use Rattle.std.proofs.Common.{◌≡◌, ℕ, Bool, false, IsTrue, List, Option, Some, None, is_some, refl, sym, ap, subst, ◌∙◌}
 use Rattle.fsoe_base.specs.declared.command.Code.{Code}
-use Rattle.fsoe_base.specs.Command.{code}
 use Rattle.fsoe_base.specs.Lengths.{is_length}
 use Rattle.param_load.specs.declared.master_settings.MasterSettings.{MasterSettings}
 use Rattle.seq_chain.specs.declared.chain.Chain.{Chain}
@@ -11,23 +10,18 @@ use Rattle.seq_chain.specs.Opened.{opened}
 use Rattle.seq_chain.specs.SessionFrame.{SessionFrameView, HasPassed}
 use Rattle.seq_chain.proofs.OpenedFrame.{opened_load}
 use Rattle.end_model.specs.Setup.{OfMaster, receives}
+use Rattle.end_model.proofs.Judged.{session_passed}
 use Rattle.master_core.specs.declared.now.Now.{Now}
 use Rattle.master_core.specs.declared.now.Now.TheVariants as now
 use Rattle.master_core.specs.Now.{chain_of, allows, has_conn, fault}
 use Rattle.master_core.specs.Views.{DataView}
-
-by-tests : (a h t : Bool) (x y z : Code) → (if a then (if h then (if t then None else Some x) else Some y) else Some z) ≡ None → t ≡ true
-by-tests true true true x y z e = refl
-by-tests true true false x y z e = absurd (cc e)
-by-tests true false t x y z e = absurd (cc e)
-by-tests false h t x y z e = absurd (cc e)
 
 -- it has the slave's length, and fits
 pub has_passed : (settings : MasterSettings) (now : Now) (l : ℕ) (repeats : Bool) (bytes : List ℕ) (f : SessionFrameView) → IsTrue (is_length l) → l ≡ receives (OfMaster settings)
     → opened l repeats bytes ≡ opened_as.OfSession f → fault settings now f ≡ None → HasPassed (receives (OfMaster settings)) (chain_of now) f
 has_passed settings now l repeats bytes f valid at o e = record {
   len_is = opened_load l repeats bytes f valid o ∙ at;
-  fits = by-tests (allows now f.command) (has_conn settings f.command f.frame.conn) (fits_next (chain_of now) f.frame) (code 0x04) (code 0x03) (code 0x01) e;
+  fits = (session_passed (allows now f.command) (has_conn settings f.command f.frame.conn) (fits_next (chain_of now) f.frame) e).2;
 }
 
 none-found : (found : Option Code) → is_some found ≡ false → found ≡ None

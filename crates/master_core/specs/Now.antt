@@ -1,5 +1,5 @@
 -- What the tests of a frame and the readers ask of the state of a master, and how it goes on.
-use Rattle.std.specs.Prelude.{ℕ, ◌==◌, Bool, true, false, List, [], replicate, Option, Some, None, Result, Err, if◌then◌else◌}
+use Rattle.std.specs.Prelude.{ℕ, ◌==◌, Bool, true, false, List, [], replicate, Option, Some, None, Result, Err}
 use Rattle.fsoe_base.specs.declared.command.Code.{Code}
 use Rattle.fsoe_base.specs.declared.command.Command.{Command}
 use Rattle.fsoe_base.specs.declared.command.Command.TheVariants as command
@@ -13,6 +13,7 @@ use Rattle.seq_chain.specs.SessionFrame.{SessionFrameView}
 use Rattle.param_load.specs.declared.master_settings.MasterSettings.{MasterSettings}
 use Rattle.param_load.specs.declared.terms.Terms.{Terms}
 use Rattle.end_model.specs.Setup.{OfMaster, sends, receives}
+use Rattle.end_model.specs.Verdict.{session_fault}
 use Rattle.master_core.specs.declared.due.Next.{Next}
 use Rattle.master_core.specs.declared.due.Next.TheVariants as next
 use Rattle.master_core.specs.declared.now.Now.{Now}
@@ -99,10 +100,7 @@ has_conn settings _ field = field == settings.conn
 
 -- the code of the first test that a frame of a session fails: of its command, its connection id, and its CRCs
 abbrev pub fault : MasterSettings → Now → SessionFrameView → Option Code
-fault settings now f =
-    if allows now f.command
-    then (if has_conn settings f.command f.frame.conn then (if fits_next (chain_of now) f.frame then None else Some (code 0x04)) else Some (code 0x03))
-    else Some (code 0x01)
+fault settings now f = session_fault (allows now f.command) (has_conn settings f.command f.frame.conn) (fits_next (chain_of now) f.frame)
 
 -- the state after a frame that passed the tests, before the frame that follows it is sent
 abbrev pub taken : KitView → Now → SessionFrameView → Result Next Code

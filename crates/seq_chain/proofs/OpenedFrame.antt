@@ -1,50 +1,87 @@
--- What a frame of a session that was opened tells.
-use Rattle.std.proofs.Common.{◌≡◌, ◌==◌, ℕ, Bool, true, false, IsTrue, List, length, Option, Some, None, Result, Ok, Err, if◌then◌else◌, refl, sym, ap, ◌∙◌, arith}
+-- What the first tests of a delivered frame tell of it.
+use Rattle.std.proofs.Common.{◌≡◌, ◌≢◌, ◌==◌, nat_eq, ℕ, Bool, true, false, not, IsTrue, List, length, Option, Some, None, Result, Ok, Err, if◌then◌else◌, refl, sym, ap, ◌∙◌}
+use Rattle.std.proofs.lemmas.Bool.{eqb-true, eqb-false}
+use Rattle.std.specs.Cmp.Lexicographic.{pointwise}
 use Rattle.fsoe_base.specs.declared.command.Code.{Code}
 use Rattle.fsoe_base.specs.declared.command.Command.{Command}
 use Rattle.fsoe_base.specs.declared.command.Command.TheVariants as command
 use Rattle.fsoe_base.specs.declared.did.Dropped.TheVariants as dropped
-use Rattle.fsoe_base.specs.Command.{command_of}
+use Rattle.fsoe_base.specs.Command.{command_of, code}
 use Rattle.fsoe_base.specs.Lengths.{is_length, frame_len}
 use Rattle.fsoe_frame.specs.Parts.{Frame, frame_of}
 use Rattle.fsoe_frame.proofs.Places.{whole}
 use Rattle.seq_chain.specs.declared.opened.Opened.{Opened}
 use Rattle.seq_chain.specs.declared.opened.Opened.TheVariants as opened_as
+use Rattle.seq_chain.specs.Cover.{first_of}
 use Rattle.seq_chain.specs.Opened.{reset_opened, command_opened, opened}
-use Rattle.seq_chain.specs.Reset.{reset_view}
+use Rattle.seq_chain.specs.Reset.{reset_crcs, zeros_follow, reset_view}
 use Rattle.seq_chain.specs.SessionFrame.{SessionFrameView}
 
-same_frame : (f g : SessionFrameView) → opened_as.OfSession f ≡ opened_as.OfSession g → f ≡ g
-same_frame f g e = cc e
+-- a frame that comes as far as the tests of its command
+pub record ComesToCommand (l : ℕ) (repeats : Bool) (bytes : List ℕ) (c : Option Command) : Type 0 where
+  pub len : length bytes ≡ frame_len l
+  pub is_new : repeats ≡ false
+  pub named : command_of (frame_of l bytes).cmd ≡ c
 
-of-command : (h : Frame) (c : Command) (f : SessionFrameView) → opened_as.OfSession (record { command = c; frame = h }) ≡ opened_as.OfSession f → f.frame ≡ h
-of-command h c f e = sym (ap (λ (g : SessionFrameView). g.frame) (same_frame (record { command = c; frame = h }) f e))
+-- how the first tests end, and what they said
+pub data Tested (l : ℕ) (repeats : Bool) (bytes : List ℕ) : Opened → Type 0 where
+  HasOtherLength : length bytes ≢ frame_len l → Tested l repeats bytes (opened_as.Drop dropped.Length)
+  IsRepeat : length bytes ≡ frame_len l → repeats ≡ true → Tested l repeats bytes (opened_as.Drop dropped.Repeat)
+  UnknownCommand : ComesToCommand l repeats bytes None → Tested l repeats bytes (opened_as.Refuse (code 0x02))
+  WrongReset : (found : Code) → ComesToCommand l repeats bytes (Some command.Reset) → reset_view (frame_of l bytes) ≡ Err found
+      → Tested l repeats bytes (opened_as.Refuse found)
+  IsReset : (said : Code) → ComesToCommand l repeats bytes (Some command.Reset) → reset_view (frame_of l bytes) ≡ Ok said
+      → said ≡ code (first_of (frame_of l bytes).load) → Tested l repeats bytes (opened_as.ResetFrame said (frame_of l bytes))
+  IsOfSession : (c : Command) → c ≢ command.Reset → ComesToCommand l repeats bytes (Some c)
+      → Tested l repeats bytes (opened_as.OfSession (record { command = c; frame = frame_of l bytes }))
 
-no-session : (h : Frame) (r : Result Code Code) (f : SessionFrameView) → reset_opened h r ≡ opened_as.OfSession f → ⊥
-no-session h (Ok x) f e = cc e
-no-session h (Err x) f e = cc e
+-- what a Reset frame says is its first data byte
+said : (a b k : Bool) (x y z u v : Code) → (if not a then Err x else if not b then Err y else if not k then Err z else Ok u) ≡ Ok v → v ≡ u
+said true true true x y z u v h = cc
+said true true false x y z u v h = absurd (cc h)
+said true false k x y z u v h = absurd (cc h)
+said false b k x y z u v h = absurd (cc h)
 
-by-command : (h : Frame) (o : Option Command) (f : SessionFrameView) → command_opened h o ≡ opened_as.OfSession f → f.frame ≡ h
-by-command h None f e = absurd (cc e)
-by-command h (Some command.Reset) f e = absurd (no-session h (reset_view h) f e)
-by-command h (Some command.Session) f e = of-command h command.Session f e
-by-command h (Some command.Connection) f e = of-command h command.Connection f e
-by-command h (Some command.Parameter) f e = of-command h command.Parameter f e
-by-command h (Some command.FailSafeData) f e = of-command h command.FailSafeData f e
-by-command h (Some command.ProcessData) f e = of-command h command.ProcessData f e
+said-first : (f : Frame) (x : Code) → reset_view f ≡ Ok x → x ≡ code (first_of f.load)
+said-first f x h = said (f.conn == 0) (pointwise nat_eq f.crcs (reset_crcs f.load)) (zeros_follow f.load) (code 0x03) (code 0x04) (code 0x07) (code (first_of f.load)) x h
 
-inner : (b b' : Bool) (v : Opened) (f : SessionFrameView) → (if b then (if b' then opened_as.Drop dropped.Repeat else v) else opened_as.Drop dropped.Length) ≡ opened_as.OfSession f
-    → (b ≡ true) × (v ≡ opened_as.OfSession f)
-inner true false v f e = (refl, e)
-inner true true v f e = absurd (cc e)
-inner false b' v f e = absurd (cc e)
+by-reset : (l : ℕ) (repeats : Bool) (bytes : List ℕ) (r : Result Code Code) → ComesToCommand l repeats bytes (Some command.Reset) → reset_view (frame_of l bytes) ≡ r
+    → Tested l repeats bytes (reset_opened (frame_of l bytes) r)
+by-reset l repeats bytes (Ok x) is h = IsReset x is h (said-first (frame_of l bytes) x h)
+by-reset l repeats bytes (Err found) is h = WrongReset found is h
 
-equal : (m n : ℕ) → (m == n) ≡ true → m ≡ n
-equal m n h = grind arith
+by-command : (l : ℕ) (repeats : Bool) (bytes : List ℕ) (o : Option Command) → ComesToCommand l repeats bytes o → Tested l repeats bytes (command_opened (frame_of l bytes) o)
+by-command l repeats bytes None is = UnknownCommand is
+by-command l repeats bytes (Some command.Reset) is = by-reset l repeats bytes (reset_view (frame_of l bytes)) is refl
+by-command l repeats bytes (Some command.Session) is = IsOfSession command.Session (λ k. cc) is
+by-command l repeats bytes (Some command.Connection) is = IsOfSession command.Connection (λ k. cc) is
+by-command l repeats bytes (Some command.Parameter) is = IsOfSession command.Parameter (λ k. cc) is
+by-command l repeats bytes (Some command.FailSafeData) is = IsOfSession command.FailSafeData (λ k. cc) is
+by-command l repeats bytes (Some command.ProcessData) is = IsOfSession command.ProcessData (λ k. cc) is
 
--- it has the length that was asked for
+by-length : (l : ℕ) (repeats : Bool) (bytes : List ℕ) (long : Bool) → (length bytes == frame_len l) ≡ long
+    → Tested l repeats bytes (if long then (if repeats then opened_as.Drop dropped.Repeat else command_opened (frame_of l bytes) (command_of (frame_of l bytes).cmd)) else opened_as.Drop dropped.Length)
+by-length l true bytes true h = IsRepeat (eqb-true (length bytes) (frame_len l) h) refl
+by-length l false bytes true h = by-command l false bytes (command_of (frame_of l bytes).cmd) (record { len = eqb-true (length bytes) (frame_len l) h; is_new = refl; named = refl })
+by-length l repeats bytes false h = HasOtherLength (eqb-false (length bytes) (frame_len l) h)
+
+-- how they end for each delivered frame
+pub tested : (l : ℕ) (repeats : Bool) (bytes : List ℕ) → Tested l repeats bytes (opened l repeats bytes)
+tested l repeats bytes = by-length l repeats bytes (length bytes == frame_len l) refl
+
+abbrev as_session : Command → Frame → SessionFrameView
+as_session c f = record { command = c; frame = f }
+
+load-of : (l : ℕ) (repeats : Bool) (bytes : List ℕ) (w : Opened) (f : SessionFrameView) → IsTrue (is_length l) → Tested l repeats bytes w → w ≡ opened_as.OfSession f → length f.frame.load ≡ l
+load-of l repeats bytes w f valid (HasOtherLength other) e = absurd (cc e)
+load-of l repeats bytes w f valid (IsRepeat len again) e = absurd (cc e)
+load-of l repeats bytes w f valid (UnknownCommand is) e = absurd (cc e)
+load-of l repeats bytes w f valid (WrongReset found is h) e = absurd (cc e)
+load-of l repeats bytes w f valid (IsReset x is h i) e = absurd (cc e)
+load-of l repeats bytes w f valid (IsOfSession c n is) e =
+    let same : as_session c (frame_of l bytes) ≡ f = cc e in
+    sym (ap (λ (g : SessionFrameView). length g.frame.load) same) ∙ (whole l bytes valid is.len).load
+
+-- a frame of a session has the length that was asked for
 pub opened_load : (l : ℕ) (repeats : Bool) (bytes : List ℕ) (f : SessionFrameView) → IsTrue (is_length l) → opened l repeats bytes ≡ opened_as.OfSession f → length f.frame.load ≡ l
-opened_load l repeats bytes f valid e =
-    let split = inner (length bytes == frame_len l) repeats (command_opened (frame_of l bytes) (command_of (frame_of l bytes).cmd)) f e in
-    ap (λ (h : Frame). length h.load) (by-command (frame_of l bytes) (command_of (frame_of l bytes).cmd) f split.1)
-    ∙ (whole l bytes valid (equal (length bytes) (frame_len l) split.0)).load
+opened_load l repeats bytes f valid e = load-of l repeats bytes (opened l repeats bytes) f valid (tested l repeats bytes) e

@@ -10,7 +10,6 @@ use Rattle.fsoe_base.specs.declared.command.State.{State}
 use Rattle.fsoe_base.specs.declared.command.State.TheVariants as state
 use Rattle.fsoe_base.specs.declared.did.Cause.TheVariants as cause
 use Rattle.fsoe_base.specs.declared.did.Did.{Did}
-use Rattle.fsoe_base.specs.declared.did.Dropped.TheVariants as why
 use Rattle.fsoe_base.specs.Bytes.{all_zero}
 use Rattle.fsoe_base.specs.Command.{code}
 use Rattle.param_load.specs.declared.contents.Expected.TheVariants as expected
@@ -39,7 +38,7 @@ use Rattle.slave_core.specs.States.{terms_of, data_next, data_reply}
 use Rattle.slave_core.specs.Taken.{as_data, next_state, reply}
 use Rattle.slave_core.specs.ViewOf.{Notes, notes_of, kit_of, upload_of, now_in, view_in, view_of}
 use Rattle.slave_core.proofs.Sound.{OfSession, OfConnection, OfParameters, count_of, Sound, SoundAt}
-use Rattle.slave_core.proofs.SameVerdict.{came, Came, Same, Long, Again, Refuses, ByReset, Passes, same}
+use Rattle.slave_core.proofs.SameVerdict.{came, Came, Same, Drops, Refuses, ByReset, Passes, same}
 use Rattle.slave_core.proofs.Agrees.{Agrees, drop-agrees, resets-agree, fault-agrees, reset_frame-agrees, put-agrees, hold-agrees, nonce-agrees, tick-agrees}
 use Rattle.slave_core.proofs.Arrived.{Arrived, arrived, keeps}
 use Rattle.slave_core.proofs.TakenSession.{opening-fresh, opening-session, session_settles, session-agrees}
@@ -222,8 +221,7 @@ passed-agrees state.Data ss e bytes command.Parameter at s h k a run next = absu
 judged-agrees : (p : State) (ss : SlaveSettings) (e : List Deed) (bytes : List ℕ) (v : model.Verdict) (w : Outcome) → Same p ss e bytes v w → state_of (OfSlave ss) e ≡ p → Sound ss e → SoundAt p ss e → IsRun (OfSlave ss) e
     → IsRun (OfSlave ss) (deed_of (OfSlave ss) e (move.Deliver bytes) (on_verdict p (OfSlave ss) v) ∷ e)
     → Agrees ss e (move.Deliver bytes) (on_verdict p (OfSlave ss) v) w
-judged-agrees p ss e bytes v w Long at s h run next = drop-agrees p ss e bytes false why.Length at s
-judged-agrees p ss e bytes v w Again at s h run next = drop-agrees p ss e bytes false why.Repeat at s
+judged-agrees p ss e bytes v w (Drops because) at s h run next = drop-agrees p ss e bytes false because at s
 judged-agrees p ss e bytes v w (Refuses x) at s h run next = fault-agrees p ss e bytes false x at s
 judged-agrees p ss e bytes v w (ByReset x said) at s h run next = reset_frame-agrees p ss e bytes (came ss bytes).load x said s
 judged-agrees p ss e bytes v w (Passes c k) at s h run next = passed-agrees p ss e bytes c at s h k (arrived ss bytes c k.len k.named) run next

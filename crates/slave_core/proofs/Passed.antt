@@ -1,7 +1,5 @@
 -- What a frame that passed the tests tells.
-use Rattle.std.proofs.Common.{◌≡◌, ℕ, Bool, true, false, IsTrue, List, Some, None, if◌then◌else◌, refl, ◌∙◌}
-use Rattle.fsoe_base.specs.declared.command.Code.{Code}
-use Rattle.fsoe_base.specs.Command.{code}
+use Rattle.std.proofs.Common.{◌≡◌, ℕ, Bool, true, IsTrue, List, None, ◌∙◌}
 use Rattle.fsoe_base.specs.Lengths.{is_length}
 use Rattle.param_load.specs.declared.slave_settings.SlaveSettings.{SlaveSettings}
 use Rattle.seq_chain.specs.declared.opened.Opened.TheVariants as opened_as
@@ -10,18 +8,13 @@ use Rattle.seq_chain.specs.Opened.{opened}
 use Rattle.seq_chain.specs.SessionFrame.{SessionFrameView, HasPassed}
 use Rattle.seq_chain.proofs.OpenedFrame.{opened_load}
 use Rattle.end_model.specs.Setup.{OfSlave, receives}
+use Rattle.end_model.proofs.Judged.{session_passed}
 use Rattle.slave_core.specs.declared.now.Now.{Now}
 use Rattle.slave_core.specs.Now.{allows, has_conn, chain_of}
 use Rattle.slave_core.specs.Verdict.{fault}
 
-by-tests : (a h t : Bool) (x y z : Code) → (if a then (if h then (if t then None else Some x) else Some y) else Some z) ≡ None → (a ≡ true) × (t ≡ true)
-by-tests true true true x y z e = (refl, refl)
-by-tests true true false x y z e = absurd (cc e)
-by-tests true false t x y z e = absurd (cc e)
-by-tests false h t x y z e = absurd (cc e)
-
-tested : (now : Now) (f : SessionFrameView) → fault now f ≡ None → (allows now f.command ≡ true) × (fits_next (chain_of now) f.frame ≡ true)
-tested now f e = by-tests (allows now f.command) (has_conn now f.command f.frame.conn) (fits_next (chain_of now) f.frame) (code 0x04) (code 0x03) (code 0x01) e
+tested : (now : Now) (f : SessionFrameView) → fault now f ≡ None → (allows now f.command ≡ true) × (has_conn now f.command f.frame.conn ≡ true) × (fits_next (chain_of now) f.frame ≡ true)
+tested now f e = session_passed (allows now f.command) (has_conn now f.command f.frame.conn) (fits_next (chain_of now) f.frame) e
 
 -- it is allowed
 pub is_allowed : (now : Now) (f : SessionFrameView) → fault now f ≡ None → IsTrue (allows now f.command)
@@ -30,4 +23,4 @@ is_allowed now f e = (tested now f e).0
 -- it has the master's length, and fits
 pub has_passed : (settings : SlaveSettings) (now : Now) (l : ℕ) (repeats : Bool) (bytes : List ℕ) (f : SessionFrameView) → IsTrue (is_length l) → l ≡ receives (OfSlave settings)
     → opened l repeats bytes ≡ opened_as.OfSession f → fault now f ≡ None → HasPassed (receives (OfSlave settings)) (chain_of now) f
-has_passed settings now l repeats bytes f valid at o e = record { len_is = opened_load l repeats bytes f valid o ∙ at; fits = (tested now f e).1 }
+has_passed settings now l repeats bytes f valid at o e = record { len_is = opened_load l repeats bytes f valid o ∙ at; fits = (tested now f e).2 }

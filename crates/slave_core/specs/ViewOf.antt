@@ -1,5 +1,5 @@
 -- What contracts see of a slave after these deeds, by looking back over them.
-use Rattle.std.specs.Prelude.{ℕ, List, [], Option, Some, None, unwrap_or}
+use Rattle.std.specs.Prelude.{ℕ, List, [], Option, unwrap_or}
 use Rattle.fsoe_base.specs.declared.command.State.{State}
 use Rattle.fsoe_base.specs.declared.command.State.TheVariants as state
 use Rattle.seq_chain.specs.declared.chain.Chain.{Chain}
