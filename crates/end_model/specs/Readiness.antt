@@ -90,9 +90,8 @@ limit (OfSlave ss) e = slave_limit ss (uploaded ss state.Parameter e)
 abbrev pub reaches_limit : Setup → List Deed → Bool
 reaches_limit s e = nat_le (limit s e) (suc (age s e))
 
--- whether a slave allows a command in a state, where `done` says that the payload of its phase is whole
+-- whether a slave allows a command of a session in a state, where `done` says that the payload of its phase is whole
 abbrev pub slave_allows : State → Bool → Command → Bool
-slave_allows now done command.Reset = true
 slave_allows state.Reset done command.Session = true
 slave_allows state.Session done command.Session = not done
 slave_allows state.Session done command.Connection = done
@@ -105,9 +104,8 @@ slave_allows state.Data done command.ProcessData = true
 slave_allows state.Data done command.FailSafeData = true
 slave_allows _ done _ = false
 
--- whether a master allows a command in a state
+-- whether a master allows a command of a session in a state
 abbrev pub master_allows : State → Command → Bool
-master_allows now command.Reset = true
 master_allows state.Session command.Session = true
 master_allows state.Connection command.Connection = true
 master_allows state.Parameter command.Parameter = true
@@ -119,7 +117,7 @@ master_allows _ _ = false
 abbrev pub is_done : SlaveSettings → State → List Deed → Bool
 is_done ss now e = whole ss.profile now (uploaded ss now e)
 
--- whether an end allows a command
+-- whether an end allows a command of a session; Reset frames, which stand outside of each session, have tests of their own
 abbrev pub allowed : Setup → List Deed → Command → Bool
 allowed (OfMaster ms) e c = master_allows (state_of (OfMaster ms) e) c
 allowed (OfSlave ss) e c = slave_allows (state_of (OfSlave ss) e) (is_done ss (state_of (OfSlave ss) e) e) c

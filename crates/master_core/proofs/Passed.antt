@@ -1,5 +1,5 @@
 -- What a frame that passed the tests tells.
-use Rattle.std.proofs.Common.{◌≡◌, ℕ, Bool, false, IsTrue, List, Option, Some, None, is_some, refl, sym, ap, subst, ◌∙◌}
+use Rattle.std.proofs.Common.{◌≡◌, ℕ, Bool, false, IsTrue, List, Option, Some, None, is_some, refl, sym, ap, subst, ◌∙◌, []}
 use Rattle.fsoe_base.specs.declared.command.Code.{Code}
 use Rattle.fsoe_base.specs.Lengths.{is_length}
 use Rattle.param_load.specs.declared.master_settings.MasterSettings.{MasterSettings}
@@ -10,10 +10,11 @@ use Rattle.seq_chain.specs.Opened.{opened}
 use Rattle.seq_chain.specs.SessionFrame.{SessionFrameView, HasPassed}
 use Rattle.seq_chain.proofs.OpenedFrame.{opened_load}
 use Rattle.end_model.specs.Setup.{OfMaster, receives}
+use Rattle.end_model.specs.Verdict.{has_conn}
 use Rattle.end_model.proofs.Judged.{session_passed}
 use Rattle.master_core.specs.declared.now.Now.{Now}
 use Rattle.master_core.specs.declared.now.Now.TheVariants as now
-use Rattle.master_core.specs.Now.{chain_of, allows, has_conn, fault}
+use Rattle.master_core.specs.Now.{chain_of, allows, fault}
 use Rattle.master_core.specs.Views.{DataView}
 
 -- it has the slave's length, and fits
@@ -21,7 +22,7 @@ pub has_passed : (settings : MasterSettings) (now : Now) (l : ℕ) (repeats : Bo
     → opened l repeats bytes ≡ opened_as.OfSession f → fault settings now f ≡ None → HasPassed (receives (OfMaster settings)) (chain_of now) f
 has_passed settings now l repeats bytes f valid at o e = record {
   len_is = opened_load l repeats bytes f valid o ∙ at;
-  fits = (session_passed (allows now f.command) (has_conn settings f.command f.frame.conn) (fits_next (chain_of now) f.frame) e).2;
+  fits = (session_passed (allows now f.command) (has_conn (OfMaster settings) [] f.command f.frame.conn) (fits_next (chain_of now) f.frame) e).2;
 }
 
 none-found : (found : Option Code) → is_some found ≡ false → found ≡ None

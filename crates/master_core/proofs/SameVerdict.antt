@@ -69,42 +69,13 @@ fits-same p ms e f h =
     ap (λ chain. fits_next chain f) (chain-same p ms e h)
     ∙ ap (λ (last : ℕ). sealing.fits last (taken_link (OfMaster ms) (since e)) f) (own_crc (OfMaster ms) (since e))
 
--- the tests of the command and of the connection id
-allows-same : (p : State) (ms : MasterSettings) (n : Notes) (c : Command) → c ≢ command.Reset → machine.allows (now_in p ms n) c ≡ master_allows p c
-allows-same p ms n command.Reset r = absurd (r refl)
-allows-same state.Reset ms n command.Session r = refl
-allows-same state.Reset ms n command.Connection r = refl
-allows-same state.Reset ms n command.Parameter r = refl
-allows-same state.Reset ms n command.FailSafeData r = refl
-allows-same state.Reset ms n command.ProcessData r = refl
-allows-same state.Session ms n command.Session r = refl
-allows-same state.Session ms n command.Connection r = refl
-allows-same state.Session ms n command.Parameter r = refl
-allows-same state.Session ms n command.FailSafeData r = refl
-allows-same state.Session ms n command.ProcessData r = refl
-allows-same state.Connection ms n command.Session r = refl
-allows-same state.Connection ms n command.Connection r = refl
-allows-same state.Connection ms n command.Parameter r = refl
-allows-same state.Connection ms n command.FailSafeData r = refl
-allows-same state.Connection ms n command.ProcessData r = refl
-allows-same state.Parameter ms n command.Session r = refl
-allows-same state.Parameter ms n command.Connection r = refl
-allows-same state.Parameter ms n command.Parameter r = refl
-allows-same state.Parameter ms n command.FailSafeData r = refl
-allows-same state.Parameter ms n command.ProcessData r = refl
-allows-same state.Data ms n command.Session r = refl
-allows-same state.Data ms n command.Connection r = refl
-allows-same state.Data ms n command.Parameter r = refl
-allows-same state.Data ms n command.FailSafeData r = refl
-allows-same state.Data ms n command.ProcessData r = refl
-
-conn-same : (ms : MasterSettings) (e : List Deed) (c : Command) (field : ℕ) → c ≢ command.Reset → machine.has_conn ms c field ≡ model.has_conn (OfMaster ms) e c field
-conn-same ms e command.Reset field r = absurd (r refl)
-conn-same ms e command.Session field r = refl
-conn-same ms e command.Connection field r = refl
-conn-same ms e command.Parameter field r = refl
-conn-same ms e command.FailSafeData field r = refl
-conn-same ms e command.ProcessData field r = refl
+-- the test of the command
+allows-same : (p : State) (ms : MasterSettings) (n : Notes) (c : Command) → machine.allows (now_in p ms n) c ≡ master_allows p c
+allows-same state.Reset ms n c = refl
+allows-same state.Session ms n c = refl
+allows-same state.Connection ms n c = refl
+allows-same state.Parameter ms n c = refl
+allows-same state.Data ms n c = refl
 
 -- a frame of a session, by its three tests
 by-tests : (p : State) (ms : MasterSettings) (e : List Deed) (bytes : List ℕ) (c : Command) (a h t a' h' t' : Bool)
@@ -121,7 +92,7 @@ session-same : (p : State) (ms : MasterSettings) (e : List Deed) (bytes : List �
     → Same p ms e bytes (model.judged (OfMaster ms) e (opened_as.OfSession (record { command = c; frame = came ms bytes }))) (accepted_by (view_in p ms e) (opened_as.OfSession (record { command = c; frame = came ms bytes })))
 session-same p ms e bytes c now r len h =
     let at : allowed (OfMaster ms) e c ≡ master_allows p c = ap (λ (p : State). master_allows p c) now in
-    by-tests p ms e bytes c _ _ _ _ _ _ (allows-same p ms (notes_of ms e) c r ∙ sym at) (conn-same ms e c (came ms bytes).conn r) (fits-same p ms e (came ms bytes) h)
+    by-tests p ms e bytes c _ _ _ _ _ _ (allows-same p ms (notes_of ms e) c ∙ sym at) refl (fits-same p ms e (came ms bytes) h)
     (λ k. record { len = len; is_session = r; is_allowed = sym at ∙ k })
 
 by-opened : (p : State) (ms : MasterSettings) (e : List Deed) (bytes : List ℕ) (again : Bool) (w : Opened) → state_of (OfMaster ms) e ≡ p → SoundAt p ms e

@@ -1,5 +1,5 @@
 -- What the tests of a frame and the readers ask of the state of a master, and how it goes on.
-use Rattle.std.specs.Prelude.{ℕ, ◌==◌, Bool, true, false, List, [], replicate, Option, Some, None, Result, Err}
+use Rattle.std.specs.Prelude.{ℕ, Bool, true, false, List, [], replicate, Option, Some, None, Result, Err}
 use Rattle.fsoe_base.specs.declared.command.Code.{Code}
 use Rattle.fsoe_base.specs.declared.command.Command.{Command}
 use Rattle.fsoe_base.specs.declared.command.Command.TheVariants as command
@@ -13,7 +13,8 @@ use Rattle.seq_chain.specs.SessionFrame.{SessionFrameView}
 use Rattle.param_load.specs.declared.master_settings.MasterSettings.{MasterSettings}
 use Rattle.param_load.specs.declared.terms.Terms.{Terms}
 use Rattle.end_model.specs.Setup.{OfMaster, sends, receives}
-use Rattle.end_model.specs.Verdict.{session_fault}
+use Rattle.end_model.specs.Readiness.{master_allows}
+use Rattle.end_model.specs.Verdict.{has_conn, session_fault}
 use Rattle.master_core.specs.declared.due.Next.{Next}
 use Rattle.master_core.specs.declared.due.Next.TheVariants as next
 use Rattle.master_core.specs.declared.now.Now.{Now}
@@ -84,23 +85,15 @@ chain_of (now.Parameter s) = s.chain
 chain_of (now.Data s) = s.chain
 chain_of _ = fresh
 
--- the commands of a session that are allowed: that of the phase
+-- the commands of a session that are allowed: that of the phase, and none while a frame is due
 abbrev pub allows : Now → Command → Bool
-allows (now.Session s) command.Session = true
-allows (now.Connection s) command.Connection = true
-allows (now.Parameter s) command.Parameter = true
-allows (now.Data s) command.ProcessData = true
-allows (now.Data s) command.FailSafeData = true
-allows _ _ = false
+allows (now.Due due) c = false
+allows now c = master_allows (state_of now) c
 
--- the connection id of a frame is 0 for Session, and else the master's
-abbrev pub has_conn : MasterSettings → Command → ℕ → Bool
-has_conn settings command.Session field = field == 0
-has_conn settings _ field = field == settings.conn
-
--- the code of the first test that a frame of a session fails: of its command, its connection id, and its CRCs
+-- the code of the first test that a frame of a session fails: of its command, its connection id (a master's is the same after any
+-- deeds), and its CRCs
 abbrev pub fault : MasterSettings → Now → SessionFrameView → Option Code
-fault settings now f = session_fault (allows now f.command) (has_conn settings f.command f.frame.conn) (fits_next (chain_of now) f.frame)
+fault settings now f = session_fault (allows now f.command) (has_conn (OfMaster settings) [] f.command f.frame.conn) (fits_next (chain_of now) f.frame)
 
 -- the state after a frame that passed the tests, before the frame that follows it is sent
 abbrev pub taken : KitView → Now → SessionFrameView → Result Next Code

@@ -1,6 +1,7 @@
 //! The state that a master is in.
-ghost use Rattle.std.specs.Prelude.{◌≡◌};
-ghost use Rattle.master_core.specs.Now.{has_conn};
+ghost use Rattle.std.specs.Prelude.{◌≡◌, []};
+ghost use Rattle.end_model.specs.Setup.{OfMaster};
+ghost use Rattle.end_model.specs.Verdict.{has_conn};
 
 use crate::due::{Due, Next};
 use crate::kit::Kit;
@@ -23,10 +24,10 @@ pub(crate) enum Now {
 
 /// Whether the connection id of a frame with this command is right.
 fn has_conn(settings: &MasterSettings, command: Command, field: u16) -> bool
-    ensures { result ≡ has_conn settings.now command field }
+    ensures { result ≡ has_conn (OfMaster settings.now) [] command field }
 {
     match command {
-        Command::Session => field == 0,
+        Command::Reset | Command::Session => field == 0,
         _ => field == settings.conn(),
     }
 }

@@ -84,39 +84,45 @@ conn-of o k field h = sym (ap (λ (o : Option ℕ). model.is_slave_conn o field)
 no-conn : (o : Option ℕ) (field : ℕ) → o ≡ None → not (field == 0) ≡ model.is_slave_conn o field
 no-conn o field h = sym (ap (λ (o : Option ℕ). model.is_slave_conn o field) h)
 
--- the tests of the command and of the connection id
-record Tests (p : State) (ss : SlaveSettings) (e : List Deed) (c : Command) (field : ℕ) : Type 0 where
-  allows : machine.allows (now_in p ss (notes_of ss e)) c ≡ slave_allows p (whole ss.profile p (uploaded ss p e)) c
-  conn : machine.allows (now_in p ss (notes_of ss e)) c ≡ true → machine.has_conn (now_in p ss (notes_of ss e)) c field ≡ model.has_conn (OfSlave ss) e c field
+-- the test of the command
+allows-same : (p : State) (ss : SlaveSettings) (e : List Deed) (c : Command)
+    → whole ss.profile state.Parameter (parameters ss e) ≡ nat_le (id_len ss.profile + 4 + rule_len ss.rule) (length (parameters ss e))
+    → machine.allows (now_in p ss (notes_of ss e)) c ≡ slave_allows p (whole ss.profile p (uploaded ss p e)) c
+allows-same state.Reset ss e c w = refl
+allows-same state.Session ss e c w = refl
+allows-same state.Connection ss e c w = refl
+allows-same state.Parameter ss e c w = ap (λ (done : Bool). slave_allows state.Parameter done c) (sym w)
+allows-same state.Data ss e c w = refl
 
-tests : (p : State) (ss : SlaveSettings) (e : List Deed) (c : Command) (field : ℕ) → c ≢ command.Reset → SoundAt p ss e
-    → whole ss.profile state.Parameter (parameters ss e) ≡ nat_le (id_len ss.profile + 4 + rule_len ss.rule) (length (parameters ss e)) → Tests p ss e c field
-tests p ss e command.Reset field n h w = absurd (n refl)
-tests state.Reset ss e command.Session field n h w = record { allows = refl; conn = λ a. refl }
-tests state.Reset ss e command.Connection field n h w = record { allows = refl; conn = λ a. cc }
-tests state.Reset ss e command.Parameter field n h w = record { allows = refl; conn = λ a. cc }
-tests state.Reset ss e command.FailSafeData field n h w = record { allows = refl; conn = λ a. cc }
-tests state.Reset ss e command.ProcessData field n h w = record { allows = refl; conn = λ a. cc }
-tests state.Session ss e command.Session field n h w = record { allows = refl; conn = λ a. refl }
-tests state.Session ss e command.Connection field n h w = record { allows = refl; conn = λ a. no-conn (slave_conn ss e) field h.no_conn }
-tests state.Session ss e command.Parameter field n h w = record { allows = refl; conn = λ a. cc }
-tests state.Session ss e command.FailSafeData field n h w = record { allows = refl; conn = λ a. cc }
-tests state.Session ss e command.ProcessData field n h w = record { allows = refl; conn = λ a. cc }
-tests state.Connection ss e command.Session field n h w = record { allows = refl; conn = λ a. cc }
-tests state.Connection ss e command.Connection field n h w = record { allows = refl; conn = λ a. conn-of (slave_conn ss e) _ field h.conn_is }
-tests state.Connection ss e command.Parameter field n h w = record { allows = refl; conn = λ a. conn-of (slave_conn ss e) _ field h.conn_is }
-tests state.Connection ss e command.FailSafeData field n h w = record { allows = refl; conn = λ a. cc }
-tests state.Connection ss e command.ProcessData field n h w = record { allows = refl; conn = λ a. cc }
-tests state.Parameter ss e command.Session field n h w = record { allows = refl; conn = λ a. cc }
-tests state.Parameter ss e command.Connection field n h w = record { allows = refl; conn = λ a. cc }
-tests state.Parameter ss e command.Parameter field n h w = record { allows = ap not (sym w); conn = λ a. conn-of (slave_conn ss e) _ field h.conn_is }
-tests state.Parameter ss e command.FailSafeData field n h w = record { allows = sym w; conn = λ a. conn-of (slave_conn ss e) _ field h.conn_is }
-tests state.Parameter ss e command.ProcessData field n h w = record { allows = sym w; conn = λ a. conn-of (slave_conn ss e) _ field h.conn_is }
-tests state.Data ss e command.Session field n h w = record { allows = refl; conn = λ a. cc }
-tests state.Data ss e command.Connection field n h w = record { allows = refl; conn = λ a. cc }
-tests state.Data ss e command.Parameter field n h w = record { allows = refl; conn = λ a. cc }
-tests state.Data ss e command.FailSafeData field n h w = record { allows = refl; conn = λ a. ap (λ (k : ℕ). field == k) h.conn_said ∙ conn-of (slave_conn ss e) _ field h.conn_is }
-tests state.Data ss e command.ProcessData field n h w = record { allows = refl; conn = λ a. ap (λ (k : ℕ). field == k) h.conn_said ∙ conn-of (slave_conn ss e) _ field h.conn_is }
+-- the test of the connection id, where the command is allowed
+conn-same : (p : State) (ss : SlaveSettings) (e : List Deed) (c : Command) (field : ℕ) → c ≢ command.Reset → SoundAt p ss e
+    → machine.allows (now_in p ss (notes_of ss e)) c ≡ true → machine.has_conn (now_in p ss (notes_of ss e)) c field ≡ model.has_conn (OfSlave ss) e c field
+conn-same p ss e command.Reset field r h a = absurd (r refl)
+conn-same state.Reset ss e command.Session field r h a = refl
+conn-same state.Reset ss e command.Connection field r h a = cc
+conn-same state.Reset ss e command.Parameter field r h a = cc
+conn-same state.Reset ss e command.FailSafeData field r h a = cc
+conn-same state.Reset ss e command.ProcessData field r h a = cc
+conn-same state.Session ss e command.Session field r h a = refl
+conn-same state.Session ss e command.Connection field r h a = no-conn (slave_conn ss e) field h.no_conn
+conn-same state.Session ss e command.Parameter field r h a = cc
+conn-same state.Session ss e command.FailSafeData field r h a = cc
+conn-same state.Session ss e command.ProcessData field r h a = cc
+conn-same state.Connection ss e command.Session field r h a = cc
+conn-same state.Connection ss e command.Connection field r h a = conn-of (slave_conn ss e) _ field h.conn_is
+conn-same state.Connection ss e command.Parameter field r h a = conn-of (slave_conn ss e) _ field h.conn_is
+conn-same state.Connection ss e command.FailSafeData field r h a = cc
+conn-same state.Connection ss e command.ProcessData field r h a = cc
+conn-same state.Parameter ss e command.Session field r h a = cc
+conn-same state.Parameter ss e command.Connection field r h a = cc
+conn-same state.Parameter ss e command.Parameter field r h a = conn-of (slave_conn ss e) _ field h.conn_is
+conn-same state.Parameter ss e command.FailSafeData field r h a = conn-of (slave_conn ss e) _ field h.conn_is
+conn-same state.Parameter ss e command.ProcessData field r h a = conn-of (slave_conn ss e) _ field h.conn_is
+conn-same state.Data ss e command.Session field r h a = cc
+conn-same state.Data ss e command.Connection field r h a = cc
+conn-same state.Data ss e command.Parameter field r h a = cc
+conn-same state.Data ss e command.FailSafeData field r h a = ap (λ (k : ℕ). field == k) h.conn_said ∙ conn-of (slave_conn ss e) _ field h.conn_is
+conn-same state.Data ss e command.ProcessData field r h a = ap (λ (k : ℕ). field == k) h.conn_said ∙ conn-of (slave_conn ss e) _ field h.conn_is
 
 -- a frame of a session, by its three tests
 by-tests : (p : State) (ss : SlaveSettings) (e : List Deed) (bytes : List ℕ) (c : Command) (a h t a' h' t' : Bool)
@@ -133,9 +139,8 @@ session-same : (p : State) (ss : SlaveSettings) (e : List Deed) (bytes : List �
     → whole ss.profile state.Parameter (parameters ss e) ≡ nat_le (id_len ss.profile + 4 + rule_len ss.rule) (length (parameters ss e))
     → Same p ss e bytes (model.judged (OfSlave ss) e (opened_as.OfSession (record { command = c; frame = came ss bytes }))) (delivered_by (view_in p ss e) (opened_as.OfSession (record { command = c; frame = came ss bytes })))
 session-same p ss e bytes c now n len named h w =
-    let t : Tests p ss e c (came ss bytes).conn = tests p ss e c (came ss bytes).conn n h w in
-    let a : machine.allows (now_in p ss (notes_of ss e)) c ≡ allowed (OfSlave ss) e c = t.allows ∙ sym (ap (λ (p : State). slave_allows p (whole ss.profile p (uploaded ss p e)) c) now) in
-    by-tests p ss e bytes c _ _ _ _ _ _ a t.conn (fits-same p ss e (came ss bytes) h) (λ a k. record { len = len; named = named; is_allowed = a; has_conn = k })
+    let a : machine.allows (now_in p ss (notes_of ss e)) c ≡ allowed (OfSlave ss) e c = allows-same p ss e c w ∙ sym (ap (λ (p : State). slave_allows p (whole ss.profile p (uploaded ss p e)) c) now) in
+    by-tests p ss e bytes c _ _ _ _ _ _ a (conn-same p ss e c (came ss bytes).conn n h) (fits-same p ss e (came ss bytes) h) (λ a k. record { len = len; named = named; is_allowed = a; has_conn = k })
 
 by-opened : (p : State) (ss : SlaveSettings) (e : List Deed) (bytes : List ℕ) (again : Bool) (w : Opened) → state_of (OfSlave ss) e ≡ p → SoundAt p ss e
     → whole ss.profile state.Parameter (parameters ss e) ≡ nat_le (id_len ss.profile + 4 + rule_len ss.rule) (length (parameters ss e))

@@ -11,6 +11,7 @@ use Rattle.param_load.specs.declared.terms.Terms.{Terms}
 use Rattle.param_load.specs.Payload.{number_at}
 use Rattle.param_load.specs.Upload.{is_whole}
 use Rattle.end_model.specs.Setup.{OfSlave, receives}
+use Rattle.end_model.specs.Readiness.{slave_allows}
 use Rattle.slave_core.specs.declared.now.Now.{Now}
 use Rattle.slave_core.specs.declared.now.Now.TheVariants as now
 use Rattle.slave_core.specs.Views.{SessionUnder, ConnectionUnder, ParameterUnder, DataUnder}
@@ -52,19 +53,16 @@ chain_of (now.Connection s) = s.chain
 chain_of (now.Parameter s) = s.chain
 chain_of (now.Data s) = s.chain
 
+-- whether the payload of the phase is whole
+abbrev pub is_done : Now → Bool
+is_done (now.Session s) = is_whole s.upload
+is_done (now.Connection s) = is_whole s.upload
+is_done (now.Parameter s) = is_whole s.upload
+is_done _ = false
+
 -- the commands of a session that are allowed: that of the phase until its payload is whole, then that of the next phase
 abbrev pub allows : Now → Command → Bool
-allows (now.Reset s) command.Session = true
-allows (now.Session s) command.Session = not (is_whole s.upload)
-allows (now.Session s) command.Connection = is_whole s.upload
-allows (now.Connection s) command.Connection = not (is_whole s.upload)
-allows (now.Connection s) command.Parameter = is_whole s.upload
-allows (now.Parameter s) command.Parameter = not (is_whole s.upload)
-allows (now.Parameter s) command.ProcessData = is_whole s.upload
-allows (now.Parameter s) command.FailSafeData = is_whole s.upload
-allows (now.Data s) command.ProcessData = true
-allows (now.Data s) command.FailSafeData = true
-allows _ _ = false
+allows now c = slave_allows (state_of now) (is_done now) c
 
 -- the connection id of a frame is 0 for Session, not 0 for the first Connection frame, and else the session's
 abbrev pub has_conn : Now → Command → ℕ → Bool
