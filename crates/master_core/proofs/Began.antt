@@ -28,7 +28,7 @@ use Rattle.master_core.specs.declared.due.Next.TheVariants as next
 use Rattle.master_core.specs.declared.now.Now.TheVariants as now
 use Rattle.fsoe_base.specs.Did.{takes as accepts}
 use Rattle.seq_chain.specs.Chain.{fresh, chain_sent, frame_sent}
-use Rattle.master_core.specs.Master.{Outcome, drops, leaves, begins, answered_by}
+use Rattle.master_core.specs.Master.{Outcome, drops, makes_due, begins, answered_by}
 use Rattle.master_core.specs.Master as machine
 use Rattle.master_core.specs.ViewOf.{Notes, notes_of, view_in}
 use Rattle.master_core.proofs.Sound.{no_notes, Sound, SoundAt}
@@ -93,13 +93,13 @@ begins-sent ms e bytes h =
 -- in state Reset the Reset frame with code 0 begins a session, another one is dropped
 by-code : (ms : MasterSettings) (e : List Deed) (bytes : List ℕ) (b : Bool) → state_of (OfMaster ms) e ≡ state.Reset → notes_of ms e ≡ no_notes ms → Arrived ms bytes → Sound ms e
     → Agrees ms e (move.Deliver bytes) (if b then takes_frame command.Reset (came ms bytes).load else dropped why.InReset)
-    (answered_by (if b then leaves (view_in state.Reset ms e) (next.Begin (bytes_of (came ms bytes))) (accepts command.Reset (came ms bytes).load false) else drops (view_in state.Reset ms e) why.InReset))
+    (answered_by (if b then makes_due (view_in state.Reset ms e) (next.Begin (bytes_of (came ms bytes))) (accepts command.Reset (came ms bytes).load false) else drops (view_in state.Reset ms e) why.InReset))
 by-code ms e bytes true at h a s = takes-agree ms e bytes command.Reset (begun_outcome ms e bytes) (begins-after ms e bytes h a s) refl (begins-sent ms e bytes h)
 by-code ms e bytes false at h a s = drop-agrees state.Reset ms e bytes why.InReset at s
 
 -- a valid Reset frame with this code
 of-code : (p : State) (ms : MasterSettings) (e : List Deed) (bytes : List ℕ) → state_of (OfMaster ms) e ≡ p → SoundAt p ms e → Arrived ms bytes → Sound ms e
-    → Agrees ms e (move.Deliver bytes) (on_reset_frame p (OfMaster ms) (came ms bytes).load) (answered_by (machine.on_reset_frame (view_in p ms e) (code (first_of (came ms bytes).load)) (came ms bytes)))
+    → Agrees ms e (move.Deliver bytes) (on_reset_frame p (OfMaster ms) (came ms bytes).load) (answered_by (machine.on_reset_view (view_in p ms e) (code (first_of (came ms bytes).load)) (came ms bytes)))
 of-code state.Reset ms e bytes at h a s = by-code ms e bytes (first_of (came ms bytes).load == 0) at h a s
 of-code state.Session ms e bytes at h a s = peer-resets state.Session ms e bytes _ _ refl s
 of-code state.Connection ms e bytes at h a s = peer-resets state.Connection ms e bytes _ _ refl s
@@ -107,7 +107,7 @@ of-code state.Parameter ms e bytes at h a s = peer-resets state.Parameter ms e b
 of-code state.Data ms e bytes at h a s = peer-resets state.Data ms e bytes _ _ refl s
 
 pub reset_frame-agrees : (p : State) (ms : MasterSettings) (e : List Deed) (bytes : List ℕ) (x : Code) → x ≡ code (first_of (came ms bytes).load) → state_of (OfMaster ms) e ≡ p → SoundAt p ms e → Arrived ms bytes → Sound ms e
-    → Agrees ms e (move.Deliver bytes) (on_reset_frame p (OfMaster ms) (came ms bytes).load) (answered_by (machine.on_reset_frame (view_in p ms e) x (came ms bytes)))
+    → Agrees ms e (move.Deliver bytes) (on_reset_frame p (OfMaster ms) (came ms bytes).load) (answered_by (machine.on_reset_view (view_in p ms e) x (came ms bytes)))
 reset_frame-agrees p ms e bytes x said at h a s =
-    subst (λ (x : Code). Agrees ms e (move.Deliver bytes) (on_reset_frame p (OfMaster ms) (came ms bytes).load) (answered_by (machine.on_reset_frame (view_in p ms e) x (came ms bytes)))) (sym said)
+    subst (λ (x : Code). Agrees ms e (move.Deliver bytes) (on_reset_frame p (OfMaster ms) (came ms bytes).load) (answered_by (machine.on_reset_view (view_in p ms e) x (came ms bytes)))) (sym said)
     (of-code p ms e bytes at h a s)

@@ -56,15 +56,15 @@ state-in state.Data ms n = refl
 pub state_shown : (v : MasterView) (shown : State) → shown ≡ machine.state_of v.state → Shows OfMaster view_of v shown state_of
 state_shown v shown i = record { shows = λ ms e h. i ∙ ap (λ (v : MasterView). machine.state_of v.state) h.is ∙ state-in (state_of (OfMaster ms) e) ms (notes_of ms e) }
 
-terms-in : (p : State) (ms : MasterSettings) (e : List Deed) → machine.terms_in (now_in p ms (notes_of ms e)) ≡ told_in p (terms (OfMaster ms) e)
+terms-in : (p : State) (ms : MasterSettings) (e : List Deed) → machine.terms_shown_in (now_in p ms (notes_of ms e)) ≡ told_in p (terms (OfMaster ms) e)
 terms-in state.Reset ms e = refl
 terms-in state.Session ms e = refl
 terms-in state.Connection ms e = refl
 terms-in state.Parameter ms e = refl
 terms-in state.Data ms e = refl
 
-pub terms_shown : (v : MasterView) (shown : Option Terms) → shown ≡ machine.terms_in v.state → Shows OfMaster view_of v shown told_terms
-terms_shown v shown i = record { shows = λ ms e h. i ∙ ap (λ (v : MasterView). machine.terms_in v.state) h.is ∙ terms-in (state_of (OfMaster ms) e) ms e }
+pub terms_shown : (v : MasterView) (shown : Option Terms) → shown ≡ machine.terms_shown_in v.state → Shows OfMaster view_of v shown told_terms
+terms_shown v shown i = record { shows = λ ms e h. i ∙ ap (λ (v : MasterView). machine.terms_shown_in v.state) h.is ∙ terms-in (state_of (OfMaster ms) e) ms e }
 
 outputs-in : (p : State) (ms : MasterSettings) (e : List Deed) → (p ≢ state.Data → outputs (OfMaster ms) e ≡ zeros (OfMaster ms)) → machine.outputs_in ms (now_in p ms (notes_of ms e)) ≡ outputs (OfMaster ms) e
 outputs-in state.Reset ms e h = sym (h (λ k. cc))

@@ -25,7 +25,7 @@ use Rattle.end_model.specs.Verdict as model
 use Rattle.seq_chain.proofs.OpenedFrame as opens
 use Rattle.seq_chain.proofs.OpenedFrame.{Tested, tested}
 use Rattle.end_model.proofs.Links.{own_crc}
-use Rattle.master_core.specs.Master.{Accepted, drops, refuses, on_reset_frame, settles, on_session, accepted_by, accepted}
+use Rattle.master_core.specs.Master.{Accepted, drops, refuses, on_reset_view, settles, on_session, accepted_by, accepted}
 use Rattle.master_core.specs.Now as machine
 use Rattle.master_core.specs.ViewOf.{Notes, notes_of, kit_of, now_in, view_in}
 use Rattle.master_core.proofs.Sound.{SoundAt}
@@ -44,13 +44,13 @@ pub record Came (p : State) (ms : MasterSettings) (bytes : List ℕ) (c : Comman
 pub data Same (p : State) (ms : MasterSettings) (e : List Deed) (bytes : List ℕ) : model.Verdict → Accepted → Type 0 where
   Drops : (because : Dropped) → Same p ms e bytes (model.Drop because) (drops (view_in p ms e) because)
   Refuses : (x : Code) → Same p ms e bytes (model.Refused x) (refuses (view_in p ms e) x)
-  ByReset : length bytes ≡ frame_len ms.lengths.slave → (x : Code) → x ≡ code (first_of (came ms bytes).load) → Same p ms e bytes (model.Valid command.Reset (came ms bytes).load) (on_reset_frame (view_in p ms e) x (came ms bytes))
+  ByReset : length bytes ≡ frame_len ms.lengths.slave → (x : Code) → x ≡ code (first_of (came ms bytes).load) → Same p ms e bytes (model.Valid command.Reset (came ms bytes).load) (on_reset_view (view_in p ms e) x (came ms bytes))
   Passes : (c : Command) → Came p ms bytes c
       → Same p ms e bytes (model.judged_contents c (came ms bytes).load (model.contents (OfMaster ms) e c (came ms bytes)))
-      (settles (view_in p ms e) (record { command = c; frame = came ms bytes }) (machine.taken (kit_of ms e) (now_in p ms (notes_of ms e)) (record { command = c; frame = came ms bytes })))
+      (settles (view_in p ms e) (record { command = c; frame = came ms bytes }) (machine.next_state (kit_of ms e) (now_in p ms (notes_of ms e)) (record { command = c; frame = came ms bytes })))
 
 -- the frame that is kept, and the chain
-kept-same : (p : State) (ms : MasterSettings) (e : List Deed) → SoundAt p ms e → machine.kept (now_in p ms (notes_of ms e)) ≡ kept (since e)
+kept-same : (p : State) (ms : MasterSettings) (e : List Deed) → SoundAt p ms e → machine.kept_in (now_in p ms (notes_of ms e)) ≡ kept (since e)
 kept-same state.Reset ms e h = sym (ap (λ (n : Notes). n.kept) h)
 kept-same state.Session ms e h = sym h.kept_is
 kept-same state.Connection ms e h = sym h.kept_is

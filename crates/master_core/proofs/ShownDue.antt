@@ -30,10 +30,10 @@ use Rattle.master_core.specs.declared.due.Next.TheVariants as next
 use Rattle.master_core.specs.declared.now.Now.{Now}
 use Rattle.master_core.specs.declared.now.Now.TheVariants as now
 use Rattle.master_core.specs.Kit.{KitView}
-use Rattle.master_core.specs.Master.{Accepted, drops, leaves, ends, begins, settles, refuses, on_session, accepted_by, replies}
+use Rattle.master_core.specs.Master.{Accepted, drops, makes_due, ends, begins, settles, refuses, on_session, accepted_by, replies}
 use Rattle.master_core.specs.MasterView.{MasterView}
 use Rattle.master_core.specs.Now as machine
-use Rattle.master_core.specs.Now.{is_reset, is_due, kept, fault, taken}
+use Rattle.master_core.specs.Now.{is_reset, is_due, kept_in, fault, next_state}
 use Rattle.master_core.specs.ViewOf.{Notes, notes_of, now_in, view_of}
 use Rattle.master_core.specs.Waiting.{Waits, ShowsDue}
 use Rattle.master_core.proofs.Law.{state_shown, terms_shown, outputs_shown, age_shown, offer_shown, held_shown}
@@ -62,7 +62,7 @@ state-replied kit (now.Parameter s) = refl
 state-replied kit (now.Data s) = refl
 state-replied kit (now.Due due) = state-sent kit due.next
 
-terms-sent : (kit : KitView) (n : Next) → machine.terms_in (machine.sent_state kit n) ≡ machine.terms_in_next n
+terms-sent : (kit : KitView) (n : Next) → machine.terms_shown_in (machine.sent_state kit n) ≡ machine.terms_shown_in_next n
 terms-sent kit (next.Reset x) = refl
 terms-sent kit (next.Begin last) = refl
 terms-sent kit (next.Session s) = refl
@@ -70,7 +70,7 @@ terms-sent kit (next.Connection s) = refl
 terms-sent kit (next.Parameter s) = refl
 terms-sent kit (next.Data s) = refl
 
-terms-replied : (kit : KitView) (n : Now) → machine.terms_in (machine.replied kit n) ≡ machine.terms_in n
+terms-replied : (kit : KitView) (n : Now) → machine.terms_shown_in (machine.replied kit n) ≡ machine.terms_shown_in n
 terms-replied kit (now.Reset s) = refl
 terms-replied kit (now.Session s) = refl
 terms-replied kit (now.Connection s) = refl
@@ -98,7 +98,7 @@ outputs-replied kit (now.Due due) = outputs-sent kit due.next
 pub state_due : (v : MasterView) (shown : State) → shown ≡ machine.state_of v.state → ShowsDue v shown state_of
 state_due v shown i = shows-due v shown state_of (state_shown (replies v) shown (i ∙ sym (state-replied v.kit v.state)))
 
-pub terms_due : (v : MasterView) (shown : Option Terms) → shown ≡ machine.terms_in v.state → ShowsDue v shown told_terms
+pub terms_due : (v : MasterView) (shown : Option Terms) → shown ≡ machine.terms_shown_in v.state → ShowsDue v shown told_terms
 terms_due v shown i = shows-due v shown told_terms (terms_shown (replies v) shown (i ∙ sym (terms-replied v.kit v.state)))
 
 pub outputs_due : (v : MasterView) (shown : List ℕ) → shown ≡ machine.outputs_in v.kit.settings v.state → ShowsDue v shown out
@@ -128,14 +128,14 @@ refused-starts : (x : Code) (v : MasterView) → is_due v.state ≡ false → St
 refused-starts x v h = either-starts (is_reset v.state) (drops v dropped.InReset) (ends v false (cause.Found x) x) (drops-starts v dropped.InReset h) (λ k. refl)
 
 begins-starts : (x : Code) (f : Frame) (v : MasterView) → is_due v.state ≡ false → StartsAge (begins v x f)
-begins-starts x f v h = either-starts (x.0 == 0) (leaves v (next.Begin (bytes_of f)) (takes command.Reset f.load false)) (drops v dropped.InReset) (λ k. refl) (drops-starts v dropped.InReset h)
+begins-starts x f v h = either-starts (x.0 == 0) (makes_due v (next.Begin (bytes_of f)) (takes command.Reset f.load false)) (drops v dropped.InReset) (λ k. refl) (drops-starts v dropped.InReset h)
 
 settles-starts : (r : Result Next Code) (v : MasterView) (f : SessionFrameView) → StartsAge (settles v f r)
 settles-starts (Ok x) v f = λ k. refl
 settles-starts (Err x) v f = λ k. refl
 
 session-starts : (w : Option Code) (v : MasterView) (f : SessionFrameView) → is_due v.state ≡ false → StartsAge (on_session v f w)
-session-starts None v f h = settles-starts (taken v.kit v.state f) v f
+session-starts None v f h = settles-starts (next_state v.kit v.state f) v f
 session-starts (Some x) v f h = refused-starts x v h
 
 opened-starts : (w : Opened) (v : MasterView) → is_due v.state ≡ false → StartsAge (accepted_by v w)
@@ -156,5 +156,5 @@ none-due state.Data ms n = refl
 pub age_zero : (v : MasterView) (shown : ℕ) → shown ≡ v.timer.age → (ms : MasterSettings) (e : List Deed) (bytes : List ℕ) (done : Did) → Waits ms v e bytes done → IsTrue (is_due v.state) → shown ≡ 0
 age_zero v shown i ms e bytes done w k =
     let rest = none-due (state_of (OfMaster ms) e) ms (notes_of ms e) in
-    let start = opened-starts (opened (receives (OfMaster ms)) (is_repeat (kept (view_of ms e).state) bytes) bytes) (view_of ms e) rest in
+    let start = opened-starts (opened (receives (OfMaster ms)) (is_repeat (kept_in (view_of ms e).state) bytes) bytes) (view_of ms e) rest in
     i ∙ ap (λ (v : MasterView). v.timer.age) w.is ∙ start (sym (ap (λ (v : MasterView). is_due v.state) w.is) ∙ k)

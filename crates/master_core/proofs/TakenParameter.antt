@@ -20,7 +20,7 @@ use Rattle.end_model.specs.Step.{takes_frame, on_verdict, deed_of}
 use Rattle.end_model.specs.Verdict.{judged_contents, contents, unless}
 use Rattle.master_core.specs.declared.now.Now.TheVariants as now
 use Rattle.master_core.specs.Master.{Outcome, settles, answered_by}
-use Rattle.master_core.specs.Now.{taken}
+use Rattle.master_core.specs.Now.{next_state}
 use Rattle.master_core.specs.States.{answered, parameter_by}
 use Rattle.master_core.specs.Views.{ExchangeView}
 use Rattle.master_core.specs.ViewOf.{notes_of, kit_of, exchange_of, now_in, view_in}
@@ -144,7 +144,7 @@ by-answer ms e bytes true true h a s m = takes-agree ms e bytes command.Paramete
 -- a Parameter frame that passed the tests
 pub parameter-passed : (ms : MasterSettings) (e : List Deed) (bytes : List ℕ) → OfParameter ms (notes_of ms e) → Arrived ms bytes → Sound ms e
     → Agrees ms e (move.Deliver bytes) (on_verdict state.Parameter (OfMaster ms) (judged_contents command.Parameter (came ms bytes).load (contents (OfMaster ms) e command.Parameter (came ms bytes))))
-    (answered_by (settles (view_in state.Parameter ms e) (seen ms bytes) (taken (kit_of ms e) (now_in state.Parameter ms (notes_of ms e)) (seen ms bytes))))
+    (answered_by (settles (view_in state.Parameter ms e) (seen ms bytes) (next_state (kit_of ms e) (now_in state.Parameter ms (notes_of ms e)) (seen ms bytes))))
 parameter-passed ms e bytes h a s =
     let b : Bool = is_answer (before ms e).download (came ms bytes).load in
     let w : Bool = is_whole (advanced (before ms e).download) in

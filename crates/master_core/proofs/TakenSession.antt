@@ -18,7 +18,7 @@ use Rattle.end_model.specs.Step.{takes_frame, on_verdict, deed_of}
 use Rattle.end_model.specs.Verdict.{judged_contents, contents, unless}
 use Rattle.master_core.specs.declared.now.Now.TheVariants as now
 use Rattle.master_core.specs.Master.{Outcome, settles, answered_by}
-use Rattle.master_core.specs.Now.{taken}
+use Rattle.master_core.specs.Now.{next_state}
 use Rattle.master_core.specs.States.{answered, session_by}
 use Rattle.master_core.specs.Views.{ExchangeView}
 use Rattle.master_core.specs.ViewOf.{notes_of, kit_of, exchange_of, now_in, view_in}
@@ -123,11 +123,11 @@ by-answer ms e bytes true true h a s m = takes-agree ms e bytes command.Session 
 -- a Session frame that passed the tests
 pub session-passed : (ms : MasterSettings) (e : List Deed) (bytes : List ℕ) → OfSession ms (notes_of ms e) → Arrived ms bytes → Sound ms e
     → Agrees ms e (move.Deliver bytes) (on_verdict state.Session (OfMaster ms) (judged_contents command.Session (came ms bytes).load (contents (OfMaster ms) e command.Session (came ms bytes))))
-    (answered_by (settles (view_in state.Session ms e) (seen ms bytes) (taken (kit_of ms e) (now_in state.Session ms (notes_of ms e)) (seen ms bytes))))
+    (answered_by (settles (view_in state.Session ms e) (seen ms bytes) (next_state (kit_of ms e) (now_in state.Session ms (notes_of ms e)) (seen ms bytes))))
 session-passed ms e bytes h a s =
     let b : Bool = is_answer (before ms e).download (came ms bytes).load in
     let w : Bool = is_whole (advanced (before ms e).download) in
     subst (λ (t : Bool). Agrees ms e (move.Deliver bytes) (on_verdict state.Session (OfMaster ms) (judged_contents command.Session (came ms bytes).load (unless t 0x07)))
-    (answered_by (settles (view_in state.Session ms e) (seen ms bytes) (taken (kit_of ms e) (now_in state.Session ms (notes_of ms e)) (seen ms bytes)))))
+    (answered_by (settles (view_in state.Session ms e) (seen ms bytes) (next_state (kit_of ms e) (now_in state.Session ms (notes_of ms e)) (seen ms bytes)))))
     (sym (ap (λ (i : ℕ). is_padded (piece_from (payload ms i) (((notes_of ms e).session - 1) * piece_len (OfMaster ms)) (piece_len (OfMaster ms))) (came ms bytes).load) (there _ _ (nonce (OfMaster ms) e) h.id_is)))
     (by-answer ms e bytes b w h a s (more_to_come (length (payload ms (id_of ms e))) (piece_len (OfMaster ms)) (notes_of ms e).session w (some_piece ms) h.some refl))

@@ -34,9 +34,9 @@ use Rattle.master_core.specs.After.{after}
 use Rattle.master_core.specs.Kit.{KitView}
 use Rattle.fsoe_base.specs.Did.{takes}
 use Rattle.end_model.specs.Verdict.{is_repeat}
-use Rattle.master_core.specs.Master.{Accepted, drops, leaves, ends, begins, settles, refuses, on_session, accepted_by, accepted, replies}
+use Rattle.master_core.specs.Master.{Accepted, drops, makes_due, ends, begins, settles, refuses, on_session, accepted_by, accepted, replies}
 use Rattle.master_core.specs.MasterView.{MasterView}
-use Rattle.master_core.specs.Now.{is_reset, is_due, kept, fault, taken, replied, reply}
+use Rattle.master_core.specs.Now.{is_reset, is_due, kept_in, fault, next_state, replied, reply}
 use Rattle.master_core.specs.States.{answered, session_by, connection_by, parameter_by}
 use Rattle.master_core.specs.Views.{ExchangeView}
 use Rattle.master_core.specs.ViewOf.{kit_of, view_of}
@@ -64,7 +64,7 @@ parameter-with (Err e) k o n x = refl
 parameter-with (Ok progress.More) k o n x = refl
 parameter-with (Ok progress.Whole) k o n x = refl
 
-taken-with : (now : Now) (k : KitView) (o : OfferView) (n : ℕ) (f : SessionFrameView) → taken (with_both k o n) now f ≡ taken k now f
+taken-with : (now : Now) (k : KitView) (o : OfferView) (n : ℕ) (f : SessionFrameView) → next_state (with_both k o n) now f ≡ next_state k now f
 taken-with (now.Reset s) k o n f = refl
 taken-with (now.Session s) k o n f = session-with (outcome s.download f.frame.load) k o n (answered s f)
 taken-with (now.Connection s) k o n f = connection-with (outcome s.download f.frame.load) k o n (answered s f)
@@ -91,13 +91,13 @@ refused-with x v o n =
     refuses-with (is_reset v.state) (drops v dropped.InReset) (ends v false (cause.Found x) x) (drops (view_with v o n) dropped.InReset) (ends (view_with v o n) false (cause.Found x) x) o n refl refl
 
 session-frame-with : (w : Option Code) (v : MasterView) (o : OfferView) (n : ℕ) (f : SessionFrameView) → on_session (view_with v o n) f w ≡ accepted_with (on_session v f w) o n
-session-frame-with None v o n f = settles-with (taken v.kit v.state f) (taken (with_both v.kit o n) v.state f) v o n f (taken-with v.state v.kit o n f)
+session-frame-with None v o n f = settles-with (next_state v.kit v.state f) (next_state (with_both v.kit o n) v.state f) v o n f (taken-with v.state v.kit o n f)
 session-frame-with (Some x) v o n f = refused-with x v o n
 
 begins-with : (x : Code) (f : Frame) (v : MasterView) (o : OfferView) (n : ℕ) → begins (view_with v o n) x f ≡ accepted_with (begins v x f) o n
 begins-with x f v o n =
-    refuses-with (x.0 == 0) (leaves v (next.Begin (bytes_of f)) (takes command.Reset f.load false)) (drops v dropped.InReset)
-    (leaves (view_with v o n) (next.Begin (bytes_of f)) (takes command.Reset f.load false)) (drops (view_with v o n) dropped.InReset) o n refl refl
+    refuses-with (x.0 == 0) (makes_due v (next.Begin (bytes_of f)) (takes command.Reset f.load false)) (drops v dropped.InReset)
+    (makes_due (view_with v o n) (next.Begin (bytes_of f)) (takes command.Reset f.load false)) (drops (view_with v o n) dropped.InReset) o n refl refl
 
 by-opened : (w : Opened) (v : MasterView) (o : OfferView) (n : ℕ) → accepted_by (view_with v o n) w ≡ accepted_with (accepted_by v w) o n
 by-opened (opened_as.Drop why) v o n = refl
@@ -106,7 +106,7 @@ by-opened (opened_as.ResetFrame x f) v o n = refuses-with (is_reset v.state) (be
 by-opened (opened_as.OfSession f) v o n = session-frame-with (fault v.kit.settings v.state f) v o n f
 
 with-kit : (v : MasterView) (o : OfferView) (n : ℕ) (bytes : List ℕ) → accepted (view_with v o n) bytes ≡ accepted_with (accepted v bytes) o n
-with-kit v o n bytes = by-opened (opened (receives (OfMaster v.kit.settings)) (is_repeat (kept v.state) bytes) bytes) v o n
+with-kit v o n bytes = by-opened (opened (receives (OfMaster v.kit.settings)) (is_repeat (kept_in v.state) bytes) bytes) v o n
 
 -- a master at rest sends nothing
 at-rest : (k : KitView) (s : Now) → is_due s ≡ false → replied k s ≡ s
@@ -161,17 +161,17 @@ settles-kit (Ok x) v f = refl
 settles-kit (Err x) v f = refl
 
 session-kit : (w : Option Code) (v : MasterView) (f : SessionFrameView) → (on_session v f w).master.kit ≡ v.kit
-session-kit None v f = settles-kit (taken v.kit v.state f) v f
+session-kit None v f = settles-kit (next_state v.kit v.state f) v f
 session-kit (Some x) v f = either-kit (is_reset v.state) _ _ v.kit refl refl
 
 opened-kit : (w : Opened) (v : MasterView) → (accepted_by v w).master.kit ≡ v.kit
 opened-kit (opened_as.Drop why) v = refl
 opened-kit (opened_as.Refuse x) v = either-kit (is_reset v.state) _ _ v.kit refl refl
-opened-kit (opened_as.ResetFrame x f) v = either-kit (is_reset v.state) (begins v x f) (ends v false (cause.Peer x) (code 0)) v.kit (either-kit (x.0 == 0) (leaves v (next.Begin (bytes_of f)) (takes command.Reset f.load false)) (drops v dropped.InReset) v.kit refl refl) refl
+opened-kit (opened_as.ResetFrame x f) v = either-kit (is_reset v.state) (begins v x f) (ends v false (cause.Peer x) (code 0)) v.kit (either-kit (x.0 == 0) (makes_due v (next.Begin (bytes_of f)) (takes command.Reset f.load false)) (drops v dropped.InReset) v.kit refl refl) refl
 opened-kit (opened_as.OfSession f) v = session-kit (fault v.kit.settings v.state f) v f
 
 kit-kept : (v : MasterView) (bytes : List ℕ) → (accepted v bytes).master.kit ≡ v.kit
-kit-kept v bytes = opened-kit (opened (receives (OfMaster v.kit.settings)) (is_repeat (kept v.state) bytes) bytes) v
+kit-kept v bytes = opened-kit (opened (receives (OfMaster v.kit.settings)) (is_repeat (kept_in v.state) bytes) bytes) v
 
 -- an event that sets the offer, the hold or the nonce may come before the frame as well as after it
 pub record Commutes (m : Move) : Type 0 where
@@ -256,10 +256,10 @@ refused-due : (x : Code) (v : MasterView) → is_due v.state ≡ false → is_du
 refused-due x v h = either-due (is_reset v.state) (drops v dropped.InReset) (ends v false (cause.Found x) x) h refl
 
 begins-due : (x : Code) (f : Frame) (v : MasterView) → is_due v.state ≡ false → is_due (begins v x f).master.state ≡ (is_some (begins v x f).did.took || is_some (begins v x f).did.reset)
-begins-due x f v h = either-due (x.0 == 0) (leaves v (next.Begin (bytes_of f)) (takes command.Reset f.load false)) (drops v dropped.InReset) refl h
+begins-due x f v h = either-due (x.0 == 0) (makes_due v (next.Begin (bytes_of f)) (takes command.Reset f.load false)) (drops v dropped.InReset) refl h
 
 session-due : (w : Option Code) (v : MasterView) (f : SessionFrameView) → is_due v.state ≡ false → is_due (on_session v f w).master.state ≡ (is_some (on_session v f w).did.took || is_some (on_session v f w).did.reset)
-session-due None v f h = settles-due (taken v.kit v.state f) v f
+session-due None v f h = settles-due (next_state v.kit v.state f) v f
 session-due (Some x) v f h = refused-due x v h
 
 opened-due : (w : Opened) (v : MasterView) → is_due v.state ≡ false → is_due (accepted_by v w).master.state ≡ (is_some (accepted_by v w).did.took || is_some (accepted_by v w).did.reset)
@@ -269,4 +269,4 @@ opened-due (opened_as.ResetFrame x f) v h = either-due (is_reset v.state) (begin
 opened-due (opened_as.OfSession f) v h = session-due (fault v.kit.settings v.state f) v f h
 
 pub due_told : (v : MasterView) (bytes : List ℕ) → is_due v.state ≡ false → is_due (accepted v bytes).master.state ≡ (is_some (accepted v bytes).did.took || is_some (accepted v bytes).did.reset)
-due_told v bytes h = opened-due (opened (receives (OfMaster v.kit.settings)) (is_repeat (kept v.state) bytes) bytes) v h
+due_told v bytes h = opened-due (opened (receives (OfMaster v.kit.settings)) (is_repeat (kept_in v.state) bytes) bytes) v h

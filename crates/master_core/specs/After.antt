@@ -4,7 +4,7 @@ use Rattle.fsoe_base.specs.Did.{nothing}
 use Rattle.param_load.specs.declared.entry.Move.{Move}
 use Rattle.param_load.specs.declared.entry.Move.TheVariants as move
 use Rattle.master_core.specs.Kit.{KitView}
-use Rattle.master_core.specs.Master.{Outcome, delivered, tick_of, reset_of}
+use Rattle.master_core.specs.Master.{Outcome, on_frame, tick_of, reset_of}
 use Rattle.master_core.specs.MasterView.{MasterView}
 
 -- what outlasts sessions is set: an offer, a hold or a nonce
@@ -13,7 +13,7 @@ with_kit v kit = record { master = record v { kit = kit }; did = nothing; sent =
 
 -- the outcome of an event
 abbrev pub after : MasterView → Move → Outcome
-after v (move.Deliver bytes) = delivered v bytes
+after v (move.Deliver bytes) = on_frame v bytes
 after v move.Tick = tick_of v
 after v move.Local = reset_of v
 after v (move.Put load) = with_kit v (record v.kit { offer = record v.kit.offer { load = load } })

@@ -24,7 +24,7 @@ use Rattle.master_core.specs.declared.due.Next.{Next}
 use Rattle.master_core.specs.declared.due.Next.TheVariants as next
 use Rattle.master_core.specs.declared.now.Now.TheVariants as now
 use Rattle.master_core.specs.Kit.{first_kit}
-use Rattle.master_core.specs.Now.{is_reset, is_due, kept, fault, taken, replied, reply}
+use Rattle.master_core.specs.Now.{is_reset, is_due, kept_in, fault, next_state, replied, reply}
 use Rattle.master_core.specs.MasterView.{MasterView}
 use Rattle.master_core.specs.States.{no_session}
 
@@ -48,12 +48,12 @@ abbrev pub drops : MasterView → Dropped → Accepted
 drops v why = record { master = v; did = did.dropped why }
 
 -- a step after which a frame is due: none was sent yet
-abbrev pub leaves : MasterView → Next → Did → Accepted
-leaves v n done = record { master = record v { state = now.Due (record { next = n }); timer = started v.kit.settings.watchdog }; did = record done { sent = false } }
+abbrev pub makes_due : MasterView → Next → Did → Accepted
+makes_due v n done = record { master = record v { state = now.Due (record { next = n }); timer = started v.kit.settings.watchdog }; did = record done { sent = false } }
 
 -- a session ends, and a Reset frame with the code is due
 abbrev pub ends : MasterView → Bool → Cause → Code → Accepted
-ends v passed why x = leaves v (next.Reset x) (resets passed why)
+ends v passed why x = makes_due v (next.Reset x) (resets passed why)
 
 -- a test fails: in state Reset the frame is dropped, and else the session ends
 abbrev pub refuses : MasterView → Code → Accepted
@@ -61,32 +61,32 @@ refuses v x = if is_reset v.state then drops v dropped.InReset else ends v false
 
 -- in state Reset the Reset frame with code 0 begins a session, and one with another code is dropped
 abbrev pub begins : MasterView → Code → Frame → Accepted
-begins v x f = if x.0 == 0 then leaves v (next.Begin (bytes_of f)) (takes command.Reset f.load false) else drops v dropped.InReset
+begins v x f = if x.0 == 0 then makes_due v (next.Begin (bytes_of f)) (takes command.Reset f.load false) else drops v dropped.InReset
 
 -- a valid Reset frame: outside state Reset the session ends
-abbrev pub on_reset_frame : MasterView → Code → Frame → Accepted
-on_reset_frame v x f = if is_reset v.state then begins v x f else ends v false (cause.Peer x) (code 0)
+abbrev pub on_reset_view : MasterView → Code → Frame → Accepted
+on_reset_view v x f = if is_reset v.state then begins v x f else ends v false (cause.Peer x) (code 0)
 
 -- a frame that passed the tests, by its contents
 abbrev pub settles : MasterView → SessionFrameView → Result Next Code → Accepted
-settles v f (Ok n) = leaves v n (takes f.command f.frame.load true)
+settles v f (Ok n) = makes_due v n (takes f.command f.frame.load true)
 settles v f (Err x) = ends v true (cause.Found x) x
 
 -- a frame of a session
 abbrev pub on_session : MasterView → SessionFrameView → Option Code → Accepted
-on_session v f None = settles v f (taken v.kit v.state f)
+on_session v f None = settles v f (next_state v.kit v.state f)
 on_session v f (Some x) = refuses v x
 
 -- a frame is accepted, by what the tests that need no session say of it
 abbrev pub accepted_by : MasterView → Opened → Accepted
 accepted_by v (opened_as.Drop why) = drops v why
 accepted_by v (opened_as.Refuse x) = refuses v x
-accepted_by v (opened_as.ResetFrame x f) = on_reset_frame v x f
+accepted_by v (opened_as.ResetFrame x f) = on_reset_view v x f
 accepted_by v (opened_as.OfSession f) = on_session v f (fault v.kit.settings v.state f)
 
 -- a frame is accepted: it is tested for its length, and against the frame that was taken last
 abbrev pub accepted : MasterView → List ℕ → Accepted
-accepted v bytes = accepted_by v (opened (receives (OfMaster v.kit.settings)) (is_repeat (kept v.state) bytes) bytes)
+accepted v bytes = accepted_by v (opened (receives (OfMaster v.kit.settings)) (is_repeat (kept_in v.state) bytes) bytes)
 
 -- the frame that is due is sent, and the master is in the state that it leads to
 abbrev pub replies : MasterView → MasterView
@@ -101,8 +101,8 @@ answered_by a = record {
 }
 
 -- a frame is accepted, and the frame that is due then is sent at once
-abbrev pub delivered : MasterView → List ℕ → Outcome
-delivered v bytes = answered_by (accepted v bytes)
+abbrev pub on_frame : MasterView → List ℕ → Outcome
+on_frame v bytes = answered_by (accepted v bytes)
 
 -- a session ends, and a Reset frame with the code is sent
 abbrev pub falls : MasterView → Cause → Code → Outcome

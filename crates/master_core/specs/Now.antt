@@ -70,12 +70,12 @@ state_of (now.Data s) = state.Data
 state_of (now.Due due) = state_of_next due.next
 
 -- the frame that is kept as the one taken last: none in state Reset
-abbrev pub kept : Now → Option (List ℕ)
-kept (now.Session s) = Some s.last
-kept (now.Connection s) = Some s.last
-kept (now.Parameter s) = Some s.last
-kept (now.Data s) = Some s.last
-kept _ = None
+abbrev pub kept_in : Now → Option (List ℕ)
+kept_in (now.Session s) = Some s.last
+kept_in (now.Connection s) = Some s.last
+kept_in (now.Parameter s) = Some s.last
+kept_in (now.Data s) = Some s.last
+kept_in _ = None
 
 -- the chain of the session, a new one in state Reset
 abbrev pub chain_of : Now → Chain
@@ -96,12 +96,12 @@ abbrev pub fault : MasterSettings → Now → SessionFrameView → Option Code
 fault settings now f = session_fault (allows now f.command) (has_conn (OfMaster settings) [] f.command f.frame.conn) (fits_next (chain_of now) f.frame)
 
 -- the state after a frame that passed the tests, before the frame that follows it is sent
-abbrev pub taken : KitView → Now → SessionFrameView → Result Next Code
-taken kit (now.Session s) f = session_next kit s f
-taken kit (now.Connection s) f = connection_next kit s f
-taken kit (now.Parameter s) f = parameter_next kit s f
-taken kit (now.Data s) f = data_next s f
-taken kit _ f = Err (code 0x01)
+abbrev pub next_state : KitView → Now → SessionFrameView → Result Next Code
+next_state kit (now.Session s) f = session_next kit s f
+next_state kit (now.Connection s) f = connection_next kit s f
+next_state kit (now.Parameter s) f = parameter_next kit s f
+next_state kit (now.Data s) f = data_next s f
+next_state kit _ f = Err (code 0x01)
 
 -- the machine's state after the frame that is due was sent
 abbrev pub sent_state : KitView → Next → Now
@@ -143,12 +143,12 @@ outputs_in settings (now.Due due) = outputs_in_next settings due.next
 outputs_in settings _ = replicate (receives (OfMaster settings)) 0
 
 -- the terms after the frame that is due is sent, exactly in state Data
-abbrev pub terms_in_next : Next → Option Terms
-terms_in_next (next.Data s) = Some s.terms
-terms_in_next _ = None
+abbrev pub terms_shown_in_next : Next → Option Terms
+terms_shown_in_next (next.Data s) = Some s.terms
+terms_shown_in_next _ = None
 
 -- the terms, exactly in state Data
-abbrev pub terms_in : Now → Option Terms
-terms_in (now.Data s) = Some s.terms
-terms_in (now.Due due) = terms_in_next due.next
-terms_in _ = None
+abbrev pub terms_shown_in : Now → Option Terms
+terms_shown_in (now.Data s) = Some s.terms
+terms_shown_in (now.Due due) = terms_shown_in_next due.next
+terms_shown_in _ = None

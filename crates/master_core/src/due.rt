@@ -1,7 +1,7 @@
 //! A step whose frame is still to be sent.
 ghost use Rattle.std.specs.Prelude.{◌≡◌, ◌≤◌, length, option_copied};
 ghost use Rattle.end_model.specs.Setup.{OfMaster, receives};
-ghost use Rattle.master_core.specs.Now.{NextUnder, IsUnder, state_of_next, terms_in_next, outputs_in_next, sent_state, due_frame};
+ghost use Rattle.master_core.specs.Now.{NextUnder, IsUnder, state_of_next, terms_shown_in_next, outputs_in_next, sent_state, due_frame};
 
 use crate::kit::Kit;
 use crate::now::Now;
@@ -55,7 +55,7 @@ impl Due {
 
     /// The terms in state Data.
     pub(crate) fn terms(&self) -> Option<&Terms>
-        ensures { option_copied result ≡ terms_in_next self.now.next }
+        ensures { option_copied result ≡ terms_shown_in_next self.now.next }
     {
         match &self.next {
             Next::Data(state) => Some(state.terms()),

@@ -35,8 +35,8 @@ impl Model for Master {
 impl Master {
     ghost use Rattle.std.specs.Prelude.{◌≡◌, ◌≤◌, ◌||◌, ℕ, List, false, IsTrue, IfSome, OnSome, IfNone, is_some, length, [], option_copied};
     ghost use Rattle.param_load.specs.Profile.{allows_id};
-    ghost use Rattle.master_core.specs.Master.{leaves, ends, refuses, on_reset_frame, settles, accepted, replies, delivered, falls, tick_of};
-    ghost use Rattle.master_core.specs.Now.{NextUnder, chain_of, is_due, taken, reply};
+    ghost use Rattle.master_core.specs.Master.{makes_due, ends, refuses, on_reset_view, settles, accepted, replies, on_frame, falls, tick_of};
+    ghost use Rattle.master_core.specs.Now.{NextUnder, chain_of, is_due, next_state, reply};
     ghost use Rattle.master_core.specs.ViewOf.{view_of};
     ghost use Rattle.param_load.specs.declared.entry.Move.TheVariants as event;
     ghost use Rattle.fsoe_base.specs.declared.did.Did.{Did};
@@ -68,7 +68,7 @@ impl Master {
     /// From now on this is to be sent, with the state that it leads to. The age is 0.
     fn leave(&mut self, next: Next)
         requires { NextUnder self.old.kit.settings next }
-        ensures { self.new ≡ (leaves self.old next nothing).master }
+        ensures { self.new ≡ (makes_due self.old next nothing).master }
     {
         self.state = Now::Due(Due::new(next));
         let limit = self.kit.settings().watchdog();
@@ -106,8 +106,8 @@ impl Master {
     #[cold]
     #[inline(never)]
     fn acknowledge(&mut self, code: Code, view: &FrameView<'_>) -> Did
-        ensures master { self.new ≡ (on_reset_frame self.old code view.now).master }
-        ensures did { result ≡ (on_reset_frame self.old code view.now).did }
+        ensures master { self.new ≡ (on_reset_view self.old code view.now).master }
+        ensures did { result ≡ (on_reset_view self.old code view.now).did }
     {
         if !self.state.is_reset() {
             return self.end(false, Cause::Peer(code), Code(0x00));
@@ -129,8 +129,8 @@ impl Master {
     /// Takes a frame that passed the tests, unless its contents are wrong.
     fn take(&mut self, seen: &SessionFrame<'_>) -> Did
         requires { HasPassed (receives (OfMaster self.old.kit.settings)) (chain_of self.old.state) seen.now }
-        ensures master { self.new ≡ (settles self.old seen.now (taken self.old.kit self.old.state seen.now)).master }
-        ensures did { result ≡ (settles self.old seen.now (taken self.old.kit self.old.state seen.now)).did }
+        ensures master { self.new ≡ (settles self.old seen.now (next_state self.old.kit self.old.state seen.now)).master }
+        ensures did { result ≡ (settles self.old seen.now (next_state self.old.kit self.old.state seen.now)).did }
         ensures kit { self.new.kit ≡ self.old.kit }
         ensures unsent { result.sent ≡ false }
     {
@@ -218,9 +218,9 @@ impl Master {
     /// the cost of a move of the state. Else nothing is changed.
     #[inline(never)]
     fn go_on(&mut self, frame: &[u8], out: &mut FrameBuf) -> Option<Did>
-        ensures master { OnSome result (self.new ≡ (delivered self.old frame.now).master) }
-        ensures did { IfSome result (λ did. did ≡ (delivered self.old frame.now).did) }
-        ensures sent { OnSome result (out.new ≡ (delivered self.old frame.now).sent) }
+        ensures master { OnSome result (self.new ≡ (on_frame self.old frame.now).master) }
+        ensures did { IfSome result (λ did. did ≡ (on_frame self.old frame.now).did) }
+        ensures sent { OnSome result (out.new ≡ (on_frame self.old frame.now).sent) }
         ensures kept { IfNone result (self.new ≡ self.old) }
         ensures kit { self.new.kit ≡ self.old.kit }
         ensures done { OnSome result (is_due self.new.state ≡ false) }
@@ -253,9 +253,9 @@ impl Master {
     /// Tests a frame, and sends the frame that is due then. A data frame goes on in place.
     fn exchange(&mut self, frame: &[u8], out: &mut FrameBuf) -> Did
         requires { is_due self.old.state ≡ false }
-        ensures master { self.new ≡ (delivered self.old frame.now).master }
-        ensures did { result ≡ (delivered self.old frame.now).did }
-        ensures sent { out.new ≡ (delivered self.old frame.now).sent }
+        ensures master { self.new ≡ (on_frame self.old frame.now).master }
+        ensures did { result ≡ (on_frame self.old frame.now).did }
+        ensures sent { out.new ≡ (on_frame self.old frame.now).sent }
         ensures kit { self.new.kit ≡ self.old.kit }
         ensures done { is_due self.new.state ≡ false }
     {
@@ -269,9 +269,9 @@ impl Master {
     #[inline(never)]
     fn exchange_by_move(&mut self, frame: &[u8], out: &mut FrameBuf) -> Did
         requires { is_due self.old.state ≡ false }
-        ensures master { self.new ≡ (delivered self.old frame.now).master }
-        ensures did { result ≡ (delivered self.old frame.now).did }
-        ensures sent { out.new ≡ (delivered self.old frame.now).sent }
+        ensures master { self.new ≡ (on_frame self.old frame.now).master }
+        ensures did { result ≡ (on_frame self.old frame.now).did }
+        ensures sent { out.new ≡ (on_frame self.old frame.now).sent }
         ensures kit { self.new.kit ≡ self.old.kit }
         ensures done { is_due self.new.state ≡ false }
     {

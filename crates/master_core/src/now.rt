@@ -37,7 +37,7 @@ impl Now {
     ghost use Rattle.seq_chain.specs.SessionFrame.{HasPassed};
     ghost use Rattle.end_model.specs.Setup.{OfMaster, receives};
     ghost use Rattle.end_model.specs.Verdict.{is_repeat};
-    ghost use Rattle.master_core.specs.Now.{IsUnder, NextUnder, state_of, is_reset, is_due, chain_of, kept, allows, fault, taken, replied, reply, outputs_in, terms_in};
+    ghost use Rattle.master_core.specs.Now.{IsUnder, NextUnder, state_of, is_reset, is_due, chain_of, kept_in, allows, fault, next_state, replied, reply, outputs_in, terms_shown_in};
 
     /// The state; while a frame is due, that after it is sent.
     pub(crate) fn state(&self) -> State
@@ -68,7 +68,7 @@ impl Now {
 
     /// Whether these bytes are those of the frame that was taken last. In state Reset none is kept.
     pub(crate) fn is_repeat(&self, frame: &[u8]) -> bool
-        ensures { result ≡ is_repeat (kept self.now) frame.now }
+        ensures { result ≡ is_repeat (kept_in self.now) frame.now }
     {
         match self {
             Now::Reset(_) | Now::Due(_) => false,
@@ -127,7 +127,7 @@ impl Now {
     pub(crate) fn take(self, seen: &SessionFrame<'_>, kit: &Kit) -> Result<Next, Code>
         requires under { IsUnder kit.now.settings self }
         requires passed { HasPassed (receives (OfMaster kit.now.settings)) (chain_of self) seen.now }
-        ensures next { result ≡ taken kit.now self seen.now }
+        ensures next { result ≡ next_state kit.now self seen.now }
         ensures under { IfOk result (λ next. NextUnder kit.now.settings next) }
     {
         match self {
@@ -160,7 +160,7 @@ impl Now {
 
     /// The terms in state Data.
     pub(crate) fn terms(&self) -> Option<&Terms>
-        ensures { option_copied result ≡ terms_in self.now }
+        ensures { option_copied result ≡ terms_shown_in self.now }
     {
         match self {
             Now::Data(state) => Some(state.terms()),

@@ -57,15 +57,15 @@ state-in state.Data ss n = refl
 pub state_shown : (v : SlaveView) (shown : State) → shown ≡ machine.state_of v.state → Shows OfSlave view_of v shown state_of
 state_shown v shown i = record { shows = λ ss e h. i ∙ ap (λ (v : SlaveView). machine.state_of v.state) h.is ∙ state-in (state_of (OfSlave ss) e) ss (notes_of ss e) }
 
-terms-in : (p : State) (ss : SlaveSettings) (e : List Deed) → machine.terms_in (now_in p ss (notes_of ss e)) ≡ told_in p (terms (OfSlave ss) e)
+terms-in : (p : State) (ss : SlaveSettings) (e : List Deed) → machine.terms_shown_in (now_in p ss (notes_of ss e)) ≡ told_in p (terms (OfSlave ss) e)
 terms-in state.Reset ss e = refl
 terms-in state.Session ss e = refl
 terms-in state.Connection ss e = refl
 terms-in state.Parameter ss e = refl
 terms-in state.Data ss e = refl
 
-pub terms_shown : (v : SlaveView) (shown : Option Terms) → shown ≡ machine.terms_in v.state → Shows OfSlave view_of v shown told_terms
-terms_shown v shown i = record { shows = λ ss e h. i ∙ ap (λ (v : SlaveView). machine.terms_in v.state) h.is ∙ terms-in (state_of (OfSlave ss) e) ss e }
+pub terms_shown : (v : SlaveView) (shown : Option Terms) → shown ≡ machine.terms_shown_in v.state → Shows OfSlave view_of v shown told_terms
+terms_shown v shown i = record { shows = λ ss e h. i ∙ ap (λ (v : SlaveView). machine.terms_shown_in v.state) h.is ∙ terms-in (state_of (OfSlave ss) e) ss e }
 
 outputs-in : (p : State) (ss : SlaveSettings) (e : List Deed) → (p ≢ state.Data → outputs (OfSlave ss) e ≡ zeros (OfSlave ss)) → machine.outputs_in ss (now_in p ss (notes_of ss e)) ≡ outputs (OfSlave ss) e
 outputs-in state.Reset ss e h = sym (h (λ k. cc))

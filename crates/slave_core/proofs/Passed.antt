@@ -10,8 +10,7 @@ use Rattle.seq_chain.proofs.OpenedFrame.{opened_load}
 use Rattle.end_model.specs.Setup.{OfSlave, receives}
 use Rattle.end_model.proofs.Judged.{session_passed}
 use Rattle.slave_core.specs.declared.now.Now.{Now}
-use Rattle.slave_core.specs.Now.{allows, has_conn, chain_of}
-use Rattle.slave_core.specs.Verdict.{fault}
+use Rattle.slave_core.specs.Now.{allows, has_conn, chain_of, fault}
 
 tested : (now : Now) (f : SessionFrameView) → fault now f ≡ None → (allows now f.command ≡ true) × (has_conn now f.command f.frame.conn ≡ true) × (fits_next (chain_of now) f.frame ≡ true)
 tested now f e = session_passed (allows now f.command) (has_conn now f.command f.frame.conn) (fits_next (chain_of now) f.frame) e

@@ -30,7 +30,7 @@ use Rattle.seq_chain.proofs.OpenedFrame.{Tested, tested}
 use Rattle.end_model.proofs.Links.{own_crc}
 use Rattle.end_model.proofs.SlaveShown.{parameters}
 use Rattle.slave_core.specs.Now as machine
-use Rattle.slave_core.specs.Slave.{Outcome, drops, refuses, reset_by_peer, settles, on_session, delivered_by, delivered}
+use Rattle.slave_core.specs.Slave.{Outcome, drops, refuses, reset_by_peer, settles, on_session, on_opened, on_frame}
 use Rattle.slave_core.specs.Taken.{next_state, reply}
 use Rattle.slave_core.specs.ViewOf.{Notes, notes_of, kit_of, now_in, view_in}
 use Rattle.slave_core.proofs.Sound.{SoundAt}
@@ -58,7 +58,7 @@ pub data Same (p : State) (ss : SlaveSettings) (e : List Deed) (bytes : List ℕ
       (next_state (kit_of ss e) (now_in p ss (notes_of ss e)) (record { command = c; frame = came ss bytes })))
 
 -- the frame that is kept, and the chain
-kept-same : (p : State) (ss : SlaveSettings) (e : List Deed) → SoundAt p ss e → machine.last_taken (now_in p ss (notes_of ss e)) ≡ kept (since e)
+kept-same : (p : State) (ss : SlaveSettings) (e : List Deed) → SoundAt p ss e → machine.kept_in (now_in p ss (notes_of ss e)) ≡ kept (since e)
 kept-same state.Reset ss e h = sym (ap (λ (n : Notes). n.kept) h.1)
 kept-same state.Session ss e h = sym h.kept_is
 kept-same state.Connection ss e h = sym h.kept_is
@@ -137,14 +137,14 @@ by-tests p ss e bytes c false h t a' h' t' i j k s = rw (← i) (Refuses (code 0
 session-same : (p : State) (ss : SlaveSettings) (e : List Deed) (bytes : List ℕ) (c : Command) → state_of (OfSlave ss) e ≡ p → c ≢ command.Reset
     → length bytes ≡ frame_len ss.lengths.master → command_of (came ss bytes).cmd ≡ Some c → SoundAt p ss e
     → whole ss.profile state.Parameter (parameters ss e) ≡ nat_le (id_len ss.profile + 4 + rule_len ss.rule) (length (parameters ss e))
-    → Same p ss e bytes (model.judged (OfSlave ss) e (opened_as.OfSession (record { command = c; frame = came ss bytes }))) (delivered_by (view_in p ss e) (opened_as.OfSession (record { command = c; frame = came ss bytes })))
+    → Same p ss e bytes (model.judged (OfSlave ss) e (opened_as.OfSession (record { command = c; frame = came ss bytes }))) (on_opened (view_in p ss e) (opened_as.OfSession (record { command = c; frame = came ss bytes })))
 session-same p ss e bytes c now n len named h w =
     let a : machine.allows (now_in p ss (notes_of ss e)) c ≡ allowed (OfSlave ss) e c = allows-same p ss e c w ∙ sym (ap (λ (p : State). slave_allows p (whole ss.profile p (uploaded ss p e)) c) now) in
     by-tests p ss e bytes c _ _ _ _ _ _ a (conn-same p ss e c (came ss bytes).conn n h) (fits-same p ss e (came ss bytes) h) (λ a k. record { len = len; named = named; is_allowed = a; has_conn = k })
 
 by-opened : (p : State) (ss : SlaveSettings) (e : List Deed) (bytes : List ℕ) (again : Bool) (w : Opened) → state_of (OfSlave ss) e ≡ p → SoundAt p ss e
     → whole ss.profile state.Parameter (parameters ss e) ≡ nat_le (id_len ss.profile + 4 + rule_len ss.rule) (length (parameters ss e))
-    → Tested ss.lengths.master again bytes w → Same p ss e bytes (model.judged (OfSlave ss) e w) (delivered_by (view_in p ss e) w)
+    → Tested ss.lengths.master again bytes w → Same p ss e bytes (model.judged (OfSlave ss) e w) (on_opened (view_in p ss e) w)
 by-opened p ss e bytes again w now h i (opens.HasOtherLength other) = Drops dropped.Length
 by-opened p ss e bytes again w now h i (opens.IsRepeat len repeats) = Drops dropped.Repeat
 by-opened p ss e bytes again w now h i (opens.UnknownCommand is) = Refuses (code 0x02)
@@ -155,8 +155,8 @@ by-opened p ss e bytes again w now h i (opens.IsOfSession c n is) = session-same
 -- the tests end in the same way
 pub same : (p : State) (ss : SlaveSettings) (e : List Deed) (bytes : List ℕ) → state_of (OfSlave ss) e ≡ p → SoundAt p ss e
     → whole ss.profile state.Parameter (parameters ss e) ≡ nat_le (id_len ss.profile + 4 + rule_len ss.rule) (length (parameters ss e))
-    → Same p ss e bytes (model.verdict (OfSlave ss) e bytes) (delivered (view_in p ss e) bytes)
+    → Same p ss e bytes (model.verdict (OfSlave ss) e bytes) (on_frame (view_in p ss e) bytes)
 same p ss e bytes now h w =
-    subst (λ (again : Bool). Same p ss e bytes (model.verdict (OfSlave ss) e bytes) (delivered_by (view_in p ss e) (opened ss.lengths.master again bytes)))
+    subst (λ (again : Bool). Same p ss e bytes (model.verdict (OfSlave ss) e bytes) (on_opened (view_in p ss e) (opened ss.lengths.master again bytes)))
     (ap (λ (o : Option (List ℕ)). model.is_repeat o bytes) (sym (kept-same p ss e h)))
     (by-opened p ss e bytes _ _ now h w (tested ss.lengths.master (model.is_repeat (kept (since e)) bytes) bytes))

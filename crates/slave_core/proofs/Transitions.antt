@@ -21,12 +21,11 @@ use Rattle.slave_core.specs.declared.states.InReset.{InReset}
 use Rattle.slave_core.specs.After.{after}
 use Rattle.slave_core.specs.GoesOn.{Meets, IsTaken, IsRefused, GoesOn}
 use Rattle.slave_core.specs.Kit.{KitView}
-use Rattle.slave_core.specs.Now.{last_taken}
-use Rattle.slave_core.specs.Slave.{Outcome, settles, refuses, on_session, delivered_by}
+use Rattle.slave_core.specs.Now.{kept_in, fault}
+use Rattle.slave_core.specs.Slave.{Outcome, settles, refuses, on_session, on_opened}
 use Rattle.slave_core.specs.SlaveView.{SlaveView}
 use Rattle.slave_core.specs.States as states
 use Rattle.slave_core.specs.Taken.{as_session, as_connection, as_parameter, as_data, next_state, reply}
-use Rattle.slave_core.specs.Verdict.{fault}
 use Rattle.slave_core.specs.ViewOf.{view_in, view_of}
 use Rattle.slave_core.specs.Views.{SessionView, ConnectionView, ParameterView, DataView}
 use Rattle.slave_core.proofs.Agrees.{Agrees}
@@ -49,7 +48,7 @@ refused-state state.Data ss e x reset = refl
 -- the outcome of a frame that passed the tests
 settled : (ss : SlaveSettings) (e : List Deed) (old : Now) (kit : KitView) (f : SessionFrameView) (bytes : List ℕ) → Meets ss e old kit f bytes → after (view_of ss e) (move.Deliver bytes) ≡ settles (view_of ss e) f (reply kit old f) (next_state kit old f)
 settled ss e old kit f bytes h =
-    ap (delivered_by (view_of ss e)) (sym (ap (λ (n : Now). opened ss.lengths.master (is_repeat (last_taken n) bytes) bytes) h.state_is) ∙ h.is_opened)
+    ap (on_opened (view_of ss e)) (sym (ap (λ (n : Now). opened ss.lengths.master (is_repeat (kept_in n) bytes) bytes) h.state_is) ∙ h.is_opened)
     ∙ ap (on_session (view_of ss e) f) (sym (ap (λ (n : Now). fault n f) h.state_is) ∙ h.passed)
     ∙ sym (ap (λ (n : Now). settles (view_of ss e) f (reply kit n f) (next_state kit n f)) h.state_is ∙ ap (λ (k : KitView). settles (view_of ss e) f (reply k (view_of ss e).state f) (next_state k (view_of ss e).state f)) h.kit_is)
 

@@ -17,8 +17,7 @@ use Rattle.slave_core.specs.declared.now.Now.{Now}
 use Rattle.slave_core.specs.declared.now.Now.TheVariants as now
 use Rattle.slave_core.specs.declared.states.InReset.{InReset}
 use Rattle.slave_core.specs.Kit.{KitView}
-use Rattle.slave_core.specs.Now.{last_taken}
-use Rattle.slave_core.specs.Verdict.{fault}
+use Rattle.slave_core.specs.Now.{kept_in, fault}
 use Rattle.slave_core.specs.ViewOf.{kit_of, view_of}
 
 -- a state after these deeds of a run, and bytes that pass the tests in it but for those of the contents
@@ -27,7 +26,7 @@ pub record Meets (ss : SlaveSettings) (e : List Deed) (old : Now) (kit : KitView
   pub state_is : old ≡ (view_of ss e).state
   pub kit_is : kit ≡ kit_of ss e
   pub bytes_are : AreBytes bytes
-  pub is_opened : opened ss.lengths.master (is_repeat (last_taken old) bytes) bytes ≡ opened_as.OfSession f
+  pub is_opened : opened ss.lengths.master (is_repeat (kept_in old) bytes) bytes ≡ opened_as.OfSession f
   pub passed : fault old f ≡ None
 
 -- the next deed takes the frame: the next state is the one after it, and what was written is the frame that it sends

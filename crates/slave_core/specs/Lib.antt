@@ -4,7 +4,6 @@ pub mod Slave
 pub mod SlaveView
 pub mod States
 pub mod Taken
-pub mod Verdict
 pub mod Views
 pub mod ViewOf
 pub mod After

@@ -1,17 +1,20 @@
 -- What the tests of a frame, the watchdog and the readers ask of the state of a slave.
-use Rattle.std.specs.Prelude.{ℕ, ◌==◌, Bool, true, false, not, List, replicate, Option, Some, None, if◌then◌else◌}
+use Rattle.std.specs.Prelude.{ℕ, ◌==◌, Bool, true, false, not, List, replicate, Option, Some, None}
 use Rattle.fsoe_base.specs.declared.command.Command.{Command}
 use Rattle.fsoe_base.specs.declared.command.Command.TheVariants as command
 use Rattle.fsoe_base.specs.declared.command.State.{State}
 use Rattle.fsoe_base.specs.declared.command.State.TheVariants as state
+use Rattle.fsoe_base.specs.declared.command.Code.{Code}
 use Rattle.seq_chain.specs.declared.chain.Chain.{Chain}
-use Rattle.seq_chain.specs.Chain.{fresh}
+use Rattle.seq_chain.specs.Chain.{fresh, fits_next}
+use Rattle.seq_chain.specs.SessionFrame.{SessionFrameView}
 use Rattle.param_load.specs.declared.slave_settings.SlaveSettings.{SlaveSettings}
 use Rattle.param_load.specs.declared.terms.Terms.{Terms}
 use Rattle.param_load.specs.Payload.{number_at}
 use Rattle.param_load.specs.Upload.{is_whole}
 use Rattle.end_model.specs.Setup.{OfSlave, receives}
 use Rattle.end_model.specs.Readiness.{slave_allows}
+use Rattle.end_model.specs.Verdict.{session_fault}
 use Rattle.slave_core.specs.declared.now.Now.{Now}
 use Rattle.slave_core.specs.declared.now.Now.TheVariants as now
 use Rattle.slave_core.specs.Views.{SessionUnder, ConnectionUnder, ParameterUnder, DataUnder}
@@ -38,12 +41,12 @@ is_reset (now.Reset s) = true
 is_reset _ = false
 
 -- the bytes of the frame that was taken last in the session: none in state Reset
-abbrev pub last_taken : Now → Option (List ℕ)
-last_taken (now.Reset s) = None
-last_taken (now.Session s) = Some s.last
-last_taken (now.Connection s) = Some s.last
-last_taken (now.Parameter s) = Some s.last
-last_taken (now.Data s) = Some s.last
+abbrev pub kept_in : Now → Option (List ℕ)
+kept_in (now.Reset s) = None
+kept_in (now.Session s) = Some s.last
+kept_in (now.Connection s) = Some s.last
+kept_in (now.Parameter s) = Some s.last
+kept_in (now.Data s) = Some s.last
 
 -- the chain of the session, a new one in state Reset
 abbrev pub chain_of : Now → Chain
@@ -73,6 +76,10 @@ has_conn (now.Connection s) cmd field = field == s.conn
 has_conn (now.Parameter s) cmd field = field == s.conn
 has_conn (now.Data s) cmd field = field == s.terms.conn
 
+-- the code of the first test that a frame of a session fails: of its command, its connection id, and its CRCs
+abbrev pub fault : Now → SessionFrameView → Option Code
+fault now f = session_fault (allows now f.command) (has_conn now f.command f.frame.conn) (fits_next (chain_of now) f.frame)
+
 -- the ticks after which a session expires: those of a handshake, and the downloaded watchdog once the parameters are whole
 abbrev pub limit_of : SlaveSettings → Now → ℕ
 limit_of settings (now.Reset s) = settings.hand
@@ -87,6 +94,6 @@ outputs_in settings (now.Data s) = s.outputs
 outputs_in settings _ = replicate (receives (OfSlave settings)) 0
 
 -- the terms, which are there in state Data
-abbrev pub terms_in : Now → Option Terms
-terms_in (now.Data s) = Some s.terms
-terms_in _ = None
+abbrev pub terms_shown_in : Now → Option Terms
+terms_shown_in (now.Data s) = Some s.terms
+terms_shown_in _ = None

@@ -23,11 +23,10 @@ use Rattle.slave_core.specs.declared.now.Now.{Now}
 use Rattle.slave_core.specs.declared.now.Now.TheVariants as now
 use Rattle.slave_core.specs.declared.states.InReset.{InReset}
 use Rattle.slave_core.specs.Kit.{first_kit}
-use Rattle.slave_core.specs.Now.{is_reset, last_taken, limit_of}
+use Rattle.slave_core.specs.Now.{is_reset, kept_in, limit_of, fault}
 use Rattle.slave_core.specs.SlaveView.{SlaveView}
 use Rattle.slave_core.specs.States.{no_session}
 use Rattle.slave_core.specs.Taken.{next_state, reply}
-use Rattle.slave_core.specs.Verdict.{fault}
 
 -- what an event leaves, does and sends
 pub record Outcome : Type 0 where
@@ -86,15 +85,15 @@ on_session v f None = settles v f (reply v.kit v.state f) (next_state v.kit v.st
 on_session v f (Some x) = refuses v false x
 
 -- a delivered frame, by what the tests that need no session say of it
-abbrev pub delivered_by : SlaveView → Opened → Outcome
-delivered_by v (opened_as.Drop why) = drops v false why
-delivered_by v (opened_as.Refuse x) = refuses v false x
-delivered_by v (opened_as.ResetFrame x f) = reset_by_peer v x f.load
-delivered_by v (opened_as.OfSession f) = on_session v f (fault v.state f)
+abbrev pub on_opened : SlaveView → Opened → Outcome
+on_opened v (opened_as.Drop why) = drops v false why
+on_opened v (opened_as.Refuse x) = refuses v false x
+on_opened v (opened_as.ResetFrame x f) = reset_by_peer v x f.load
+on_opened v (opened_as.OfSession f) = on_session v f (fault v.state f)
 
 -- a delivered frame of any bytes
-abbrev pub delivered : SlaveView → List ℕ → Outcome
-delivered v bytes = delivered_by v (opened (receives (OfSlave v.kit.settings)) (is_repeat (last_taken v.state) bytes) bytes)
+abbrev pub on_frame : SlaveView → List ℕ → Outcome
+on_frame v bytes = on_opened v (opened (receives (OfSlave v.kit.settings)) (is_repeat (kept_in v.state) bytes) bytes)
 
 -- a tick in a session: where the age reaches the limit the session ends with code 5
 abbrev pub tick_in_session : SlaveView → Outcome

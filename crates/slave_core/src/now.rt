@@ -21,9 +21,8 @@ impl Now {
     ghost use Rattle.seq_chain.specs.SessionFrame.{HasPassed};
     ghost use Rattle.end_model.specs.Verdict.{is_repeat};
     ghost use Rattle.end_model.specs.Setup.{OfSlave, receives};
-    ghost use Rattle.slave_core.specs.Now.{IsUnder, state_of, is_reset, chain_of, last_taken, allows, has_conn, limit_of, terms_in};
+    ghost use Rattle.slave_core.specs.Now.{IsUnder, state_of, is_reset, chain_of, kept_in, allows, has_conn, limit_of, terms_shown_in, fault};
     ghost use Rattle.slave_core.specs.Taken.{next_state, reply};
-    ghost use Rattle.slave_core.specs.Verdict.{fault};
 
     pub(crate) fn state(&self) -> State
         ensures { result ≡ state_of self.now }
@@ -45,7 +44,7 @@ impl Now {
 
     /// Whether these bytes are those of the frame that was taken last. In state Reset none is kept.
     pub(crate) fn is_repeat(&self, frame: &[u8]) -> bool
-        ensures { result ≡ is_repeat (last_taken self.now) frame.now }
+        ensures { result ≡ is_repeat (kept_in self.now) frame.now }
     {
         match self {
             Now::Reset(_) => false,
@@ -140,7 +139,7 @@ impl Now {
 
     /// The terms in state Data.
     pub(crate) fn terms(&self) -> Option<&Terms>
-        ensures { option_copied result ≡ terms_in self.now }
+        ensures { option_copied result ≡ terms_shown_in self.now }
     {
         match self {
             Now::Data(state) => Some(state.terms()),

@@ -37,7 +37,7 @@ impl Slave {
     ghost use Rattle.seq_chain.specs.SessionFrame.{HasPassed};
     ghost use Rattle.param_load.specs.Profile.{allows_id};
     ghost use Rattle.slave_core.specs.Now.{allows, chain_of, outputs_in};
-    ghost use Rattle.slave_core.specs.Slave.{fallen, falls, refuses, reset_by_peer, settles, delivered, tick_of};
+    ghost use Rattle.slave_core.specs.Slave.{fallen, falls, refuses, reset_by_peer, settles, on_frame, tick_of};
     ghost use Rattle.slave_core.specs.Taken.{next_state, reply};
     ghost use Rattle.slave_core.specs.ViewOf.{view_of};
     ghost use Rattle.param_load.specs.declared.entry.Move.TheVariants as event;
@@ -180,9 +180,9 @@ impl Slave {
     #[inline(never)]
     #[tactic(auto, using(crate::proofs::Passed::is_allowed))]
     fn receive(&mut self, frame: &[u8], out: &mut FrameBuf) -> Did
-        ensures slave { self.new ≡ (delivered self.old frame.now).slave }
-        ensures did { result ≡ (delivered self.old frame.now).did }
-        ensures sent { out.new ≡ (delivered self.old frame.now).sent }
+        ensures slave { self.new ≡ (on_frame self.old frame.now).slave }
+        ensures did { result ≡ (on_frame self.old frame.now).did }
+        ensures sent { out.new ≡ (on_frame self.old frame.now).sent }
         ensures kit { self.new.kit ≡ self.old.kit }
     {
         out.clear();
