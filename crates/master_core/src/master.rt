@@ -170,9 +170,10 @@ impl Master {
     }
 
     /// Accepts a frame of the slave, of any number of bytes, while no frame is due. A frame of another length, or
-    /// that repeats the frame taken last, is dropped. A valid Reset frame ends the session, and begins one in state
-    /// Reset where its code is 0. A frame that fails a test ends the session with the test's code, and is dropped in
-    /// state Reset. Every other frame is taken. Where a frame was taken or the session ended, a frame is due then.
+    /// that repeats the frame kept as taken last, is dropped. A valid Reset frame ends the session, and begins one in
+    /// state Reset where its code is 0; with another code it is dropped there. A frame that fails a test ends the
+    /// session with the test's code, and is dropped in state Reset. Every other frame is taken. Where a frame was
+    /// taken or the session ended, a frame is due then.
     #[tactic(auto, using(crate::proofs::Waiting::due_told))]
     pub fn accept(&mut self, frame: &[u8]) -> Did
         requires { is_due self.old.state ≡ false }

@@ -1,5 +1,5 @@
 -- What the tests of a frame, the watchdog and the readers ask of the state of a slave.
-use Rattle.std.specs.Prelude.{ℕ, ◌==◌, Bool, true, false, not, List, replicate, Option, Some, None}
+use Rattle.std.specs.Prelude.{ℕ, ◌==◌, Bool, true, false, not, List, replicate, Option, Some, None, if◌then◌else◌}
 use Rattle.fsoe_base.specs.declared.command.Command.{Command}
 use Rattle.fsoe_base.specs.declared.command.Command.TheVariants as command
 use Rattle.fsoe_base.specs.declared.command.State.{State}

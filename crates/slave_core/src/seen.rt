@@ -2,8 +2,8 @@
 use seq_chain::SessionFrame;
 use std::marker::Model;
 
-/// A delivered frame that passed the tests of its length, its command, its connection id and its CRCs in the
-/// state that the slave is in. It is made by the slave alone.
+/// A delivered frame of a session. The slave alone makes it, after the tests up to the CRCs; that its CRCs fit is
+/// a condition of each transition.
 #[derive(Drop)]
 pub struct Seen<'a> {
     frame: SessionFrame<'a>,

@@ -200,9 +200,10 @@ impl Slave {
     }
 
     /// Takes a frame of the master, of any number of bytes, and writes the answer to `out`, in place of what it
-    /// held; `out` is empty where nothing is sent. A frame of another length, or that repeats the frame taken
-    /// last, is dropped. A valid Reset frame ends the session. A frame that fails a test ends it with the test's
-    /// code, and is dropped in state Reset. Every other frame is taken and answered.
+    /// held; `out` is empty where nothing is sent. A frame of another length, or that repeats the frame kept as
+    /// taken last, is dropped. A valid Reset frame ends the session; in state Reset it is taken and answered. A frame
+    /// that fails a test ends the session with the test's code, and is dropped in state Reset. Every other frame is
+    /// taken and answered.
     pub fn deliver(&mut self, frame: &[u8], out: &mut FrameBuf) -> Did
         ensures follows { Follows OfSlave view_of self.old (event.Deliver frame.now) self.new }
         ensures answers { Answers OfSlave view_of self.old (event.Deliver frame.now) result out.new }

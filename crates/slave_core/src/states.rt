@@ -1,4 +1,4 @@
-//! The five states of a slave. A state is made by the transitions of this module alone, and owns what it needs.
+//! The five states of a slave. A state is made by the transitions of this crate alone, and owns what it needs.
 //! A transition takes a frame that passed the tests in this state, and gives the next state with the answer, or
 //! state Reset with the code of the first test of the frame's contents that fails; then nothing is written, and `out`
 //! keeps what it held.
