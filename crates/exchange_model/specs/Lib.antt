@@ -10,3 +10,5 @@ pub mod WorkedItems
 pub mod WorkedSchedules
 pub mod Noting
 pub mod Listing
+pub mod Serving
+pub mod WorkedServing

@@ -19,7 +19,9 @@ ghost use Rattle.exchange_model.specs.World.{setup_of, frames_of, moves, world, 
 ghost use Rattle.exchange_model.specs.Items.{items_of, items};
 ghost use Rattle.exchange_model.specs.Other.{first_other, NoOther, before_other};
 ghost use Rattle.exchange_model.specs.Fair.{TakesAwaited, numbers_taken, outputs_due, ShowsDue, Fair};
-ghost use Rattle.exchange_model.specs.Honest.{exchanges};
+ghost use Rattle.exchange_model.specs.Honest.{Match, exchanges, IsHonest};
+ghost use Rattle.exchange_model.specs.Serving.{Serves};
+ghost use Rattle.exchange_model.specs.WorkedServing.{ReachesData};
 ghost use Rattle.exchange_model.specs.WorkedItems.{Answering, AnsweringLate, Carrying, Awaiting, Taking};
 ghost use Rattle.exchange_model.specs.WorkedSchedules.{Mismatches, NotPlain, OutOfTurn, TickedLate};
 ghost use Rattle.exchange_model.specs.WorkedRuns.{FirstData, ByteByByte, LongestFrames, ProfileTwo, NumberStepped, NoFrame, OtherAddress, LongWatchdog, NoParameters, HighParameter, ForgedWatchdog, OtherWord, OtherProfile, OtherProfileLater, Repeated, AlteredGroup, OldData, FiveTicks, AnswerUnderWay, OldSession, ForgedData, HeldSlave, OldConnection, FirstDataFair, AnswerUnderWayFair, OldSessionFair, HeldSlaveFair, ProfileTwoFair, ForgedDataFair, OldConnectionFair, Honest, HonestTicks, Exchanges};
@@ -83,6 +85,14 @@ pub fn exchanges_before_data()
     ensures { (ms : MasterSettings) (id : ℕ) → exchanges ms ≡ 1 + pieces (pay ms id state.Session) (piece_len (OfMaster ms)) + pieces (pay ms id state.Connection) (piece_len (OfMaster ms)) + pieces (pay ms id state.Parameter) (piece_len (OfMaster ms)) }
 {}
 
+/// An honest schedule brings matching ends into Data and keeps them there: the run is whole, no entry is other, no session
+/// ends and each delivery is taken. The master is in Data from the last of the exchanges before the first data on, the
+/// slave from the next delivery on, and neither is before. By the law of the pair all data that are taken from then on are
+/// those that the peer put.
+pub fn honest_schedules()
+    ensures serves { (ms : MasterSettings) (ss : SlaveSettings) (events : List Event) → Match ms ss → All (IsProperEvent ms ss) events → IsHonest ms ss events → Serves ms events (world ms ss events) }
+{}
+
 /// Worked handshakes of both ends, over frames of several lengths and in both profiles: the lines of the report, and the number
 /// of the first other entry.
 #[tactic(auto, using(crate::proofs::WorkedRuns::first_data, crate::proofs::WorkedRuns::byte_by_byte, crate::proofs::WorkedRuns::longest_frames, crate::proofs::WorkedRuns::profile_two, crate::proofs::WorkedRuns::number_stepped, crate::proofs::WorkedRuns::no_frame))]
@@ -144,12 +154,13 @@ pub fn fair_runs()
     ensures old_connection { OldConnectionFair }
 {}
 
-/// Worked schedules that are honest, and the exchanges before the first data.
-#[tactic(auto, using(crate::proofs::HonestRuns::honest, crate::proofs::HonestRuns::honest_ticks, crate::proofs::HonestRuns::exchanges))]
+/// Worked schedules that are honest, the exchanges before the first data, and when both ends of one are in Data.
+#[tactic(auto, using(crate::proofs::HonestRuns::honest, crate::proofs::HonestRuns::honest_ticks, crate::proofs::HonestRuns::exchanges, crate::proofs::WorkedServing::reaches_data))]
 pub fn honest_runs()
     ensures honest { Honest }
     ensures ticks { HonestTicks }
     ensures exchanges { Exchanges }
+    ensures reaches_data { ReachesData }
 {}
 
 /// Settings that don't match and schedules that aren't honest, each by one thing alone.

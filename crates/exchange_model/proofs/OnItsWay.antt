@@ -1,0 +1,172 @@
+-- A sealed frame on its way from one end to the other, whose chains agree. s sends it, r receives it, and u and v are the deeds of
+-- both in their sessions.
+use Rattle.std.proofs.Common.{◌≡◌, ◌≢◌, ℕ, suc, ◌+◌, ◌*◌, ◌/◌, List, [], ◌∷◌, length, true, false, Option, Some, None, IsTrue, refl, sym, ap, ap₂, subst, ◌∙◌, arith, inl, inr}
+use Rattle.std.proofs.lemmas.Bool.{cases_eq}
+use Rattle.std.proofs.lemmas.Bool.Decides.{nat_tests}
+use Rattle.std.proofs.lemmas.List.{length-append}
+use Rattle.std.specs.Cmp.Lexicographic.{bytes_decides}
+use Rattle.fsoe_base.specs.declared.command.Command.{Command}
+use Rattle.fsoe_base.specs.declared.command.Command.TheVariants as command
+use Rattle.fsoe_base.specs.Command.{command_byte}
+use Rattle.fsoe_base.specs.Bytes.{low_high}
+use Rattle.fsoe_base.specs.Lengths.{is_length, frame_len}
+use Rattle.fsoe_frame.specs.Layout.{groups, with_crcs}
+use Rattle.fsoe_frame.specs.Parts.{Frame, frame_of}
+use Rattle.seq_chain.specs.declared.link.Link.{Link}
+use Rattle.seq_chain.specs.Cover.{first_of, crcs_from}
+use Rattle.seq_chain.specs.Sealing as sealing
+use Rattle.param_load.specs.declared.entry.Move.TheVariants as move
+use Rattle.end_model.specs.Setup.{Setup, sends, receives}
+use Rattle.end_model.specs.Phases.{is_reset, has_command}
+use Rattle.end_model.specs.Deed.{Deed}
+use Rattle.end_model.specs.Chain.{own, taken, kept, newest_crc, own_link, taken_link, fits, seal}
+use Rattle.end_model.specs.Step.{takes}
+use Rattle.end_model.specs.Neighbours.{IsOtherThanNewest, NeighboursDiffer}
+use Rattle.end_model.proofs.ReadBack.{valid_length, read_back}
+
+-- a frame that was taken is the newest of these, or a Reset frame where there is none
+abbrev pub IsNewestOf : List ℕ → List (List ℕ) → Type 0
+IsNewestOf f [] = has_command command.Reset f ≡ true
+IsNewestOf f (g ∷ frames) = f ≡ g
+
+abbrev pub IsNewestIfAny : Option (List ℕ) → List (List ℕ) → Type 0
+IsNewestIfAny None frames = Unit {0}
+IsNewestIfAny (Some f) frames = IsNewestOf f frames
+
+-- the newest frame of s is on its way, and both chains agree but for it
+pub record OnItsWay (s r : Setup) (u v : List Deed) (conn : ℕ) (c : Command) (load f : List ℕ) : Type 0 where
+  pub tail : List ℕ
+  pub head : f ≡ command_byte c ∷ tail
+  pub older : List (List ℕ)
+  pub newest : own u ≡ f ∷ older
+  pub frame : frame_of (sends s) f ≡ sealing.sealed (newest_crc (sends r) (own v)) (taken_link r v) conn (command_byte c) load
+  pub long : length f ≡ frame_len (sends s)
+  pub is_new : kept v ≢ Some f
+  pub sent_link : own_link s u ≡ Some (sealing.noted (newest_crc (sends r) (own v)) (taken_link r v) (frame_of (sends s) f))
+  pub answer_link : own_link r v ≡ taken_link s u
+  pub answer_crc : newest_crc (sends r) (own v) ≡ newest_crc (receives s) (taken u)
+  pub answer_kept : IsNewestIfAny (kept u) (own v)
+
+-- the frame passes the test of its CRCs
+pub fits_on : (s r : Setup) (u v : List Deed) (conn : ℕ) (c : Command) (load f : List ℕ) → sends s ≡ receives r → OnItsWay s r u v conn c load f → fits r v (frame_of (receives r) f) ≡ true
+fits_on s r u v conn c load f k o =
+    let g : Frame = sealing.sealed (newest_crc (sends r) (own v)) (taken_link r v) conn (command_byte c) load in
+    ap (fits r v) (ap (λ l. frame_of l f) (sym k) ∙ o.frame) ∙ (bytes_decides g.crcs g.crcs).1 refl
+
+-- the bytes of a frame
+pub groups_long : (load crcs : List ℕ) → length crcs ≡ length (groups load) → length (with_crcs (groups load) crcs) ≡ length load + 2 * length (groups load)
+groups_long [] crcs h = refl
+groups_long (d ∷ []) [] h = absurd (omega arith)
+groups_long (d ∷ []) (k ∷ []) h = refl
+groups_long (d ∷ []) (k ∷ k' ∷ crcs) h = absurd (omega arith)
+groups_long (d ∷ d' ∷ load) [] h = absurd (omega arith)
+groups_long (d ∷ d' ∷ load) (k ∷ crcs) h = let e = groups_long load crcs (omega arith) in omega arith
+
+pub crcs_count : (last conn number cmd i : ℕ) (gs : List (List ℕ)) → length (crcs_from last conn number cmd i gs) ≡ length gs
+crcs_count last conn number cmd i [] = refl
+crcs_count last conn number cmd i (g ∷ gs) = ap suc (crcs_count last conn number cmd (suc i) gs)
+
+pub groups_count : (load : List ℕ) → length (groups load) ≡ (length load + 1) / 2
+groups_count [] = refl
+groups_count (d ∷ []) = refl
+groups_count (d ∷ d' ∷ load) = let e = groups_count load in omega arith
+
+pub lengths_add : (l n m : ℕ) → IsTrue (is_length l) → n ≡ (l + 1) / 2 → m ≡ l + 2 * n → suc (m + 2) ≡ frame_len l
+lengths_add l n m h i j = elim (cases_eq l 1) [ inl one ↦ grind (arith, nat_tests) | inr other ↦ grind (arith, nat_tests) ]
+
+pub sealed_long : (s : Setup) (e : List Deed) (conn : ℕ) (c : Command) (load : List ℕ) → length load ≡ sends s → length (seal s e conn c load) ≡ frame_len (sends s)
+sealed_long s e conn c load h =
+    let g : Frame = sealing.sealed (newest_crc (receives s) (taken e)) (own_link s e) conn (command_byte c) load in
+    let a : length g.crcs ≡ length (groups load) = crcs_count _ conn _ (command_byte c) 0 (groups load) in
+    let b : length (with_crcs (groups load) g.crcs) ≡ length load + 2 * length (groups load) = groups_long load g.crcs a in
+    ap suc (length-append (with_crcs (groups load) g.crcs) (low_high conn))
+    ∙ lengths_add (sends s) (length (groups load)) (length (with_crcs (groups load) g.crcs)) (valid_length s) (groups_count load ∙ ap (λ n. (n + 1) / 2) h) (b ∙ ap (λ n. n + 2 * length (groups load)) h)
+
+-- nothing is of a session
+pub record Fresh (s : Setup) (u : List Deed) : Type 0 where
+  pub none_sent : own u ≡ []
+  pub none_taken : taken u ≡ []
+  pub none_kept : kept u ≡ None
+  pub no_own : own_link s u ≡ None
+  pub no_taken : taken_link s u ≡ None
+
+-- the deed that takes a frame of a session and answers it
+abbrev pub answering : List ℕ → Command → List ℕ → List ℕ → Deed
+answering f c load g = record { what = move.Deliver f; did = takes c load; sent = g }
+
+taken-more : (f : List ℕ) (c : Command) (load g : List ℕ) (v : List Deed) → is_reset c ≡ false → taken (answering f c load g ∷ v) ≡ f ∷ taken v
+taken-more f command.Reset load g v n = cc
+taken-more f command.Session load g v n = refl
+taken-more f command.Connection load g v n = refl
+taken-more f command.Parameter load g v n = refl
+taken-more f command.FailSafeData load g v n = refl
+taken-more f command.ProcessData load g v n = refl
+
+link-more : (r : Setup) (f : List ℕ) (c : Command) (load g : List ℕ) (v : List Deed) → is_reset c ≡ false
+    → taken_link r (answering f c load g ∷ v) ≡ Some (sealing.noted (newest_crc (sends r) (own v)) (taken_link r v) (frame_of (receives r) f))
+link-more r f command.Reset load g v n = cc
+link-more r f command.Session load g v n = refl
+link-more r f command.Connection load g v n = refl
+link-more r f command.Parameter load g v n = refl
+link-more r f command.FailSafeData load g v n = refl
+link-more r f command.ProcessData load g v n = refl
+
+pub head_on : (c : Command) → is_reset c ≡ false → has_command command.Reset (command_byte c ∷ []) ≡ false
+head_on command.Reset n = cc
+head_on command.Session n = refl
+head_on command.Connection n = refl
+head_on command.Parameter n = refl
+head_on command.FailSafeData n = refl
+head_on command.ProcessData n = refl
+
+-- the next frame isn't the one that was taken last
+newer : (l : ℕ) (o : Option (List ℕ)) (g : List ℕ) (frames : List (List ℕ)) → has_command command.Reset g ≡ false → IsOtherThanNewest l (first_of (frame_of l g).crcs) frames → IsNewestIfAny o frames → o ≢ Some g
+newer l None g frames n h k = λ e. cc
+newer l (Some x) g [] n h k = λ e. let same : x ≡ g = cc in let b : has_command command.Reset g ≡ true = ap (has_command command.Reset) (sym same) ∙ k in cc
+newer l (Some x) g (y ∷ frames) n h k = λ e. let same : g ≡ y = cc in h (ap (λ z. first_of (frame_of l z).crcs) same)
+
+-- the receiver takes the frame and seals its answer, which is then on its way
+pub next_on_its_way : (s r : Setup) (u v : List Deed) (conn : ℕ) (c : Command) (load f : List ℕ) (conn' : ℕ) (c' : Command) (load' load'' : List ℕ) → sends s ≡ receives r → is_reset c ≡ false → is_reset c' ≡ false
+    → length load' ≡ sends r → OnItsWay s r u v conn c load f
+    → NeighboursDiffer (sends r) (own (answering f c load'' (seal r (answering f c load'' [] ∷ v) conn' c' load') ∷ v))
+    → OnItsWay r s (answering f c load'' (seal r (answering f c load'' [] ∷ v) conn' c' load') ∷ v) u conn' c' load' (seal r (answering f c load'' [] ∷ v) conn' c' load')
+next_on_its_way s r u v conn c load f conn' c' load' load'' k n n' h o differ =
+    let g : List ℕ = seal r (answering f c load'' [] ∷ v) conn' c' load' in
+    let same : first_of (frame_of (receives r) f).crcs ≡ newest_crc (sends s) (own u) =
+    ap (λ l. first_of (frame_of l f).crcs) (sym k) ∙ sym (ap (newest_crc (sends s)) o.newest) in
+    let crc : (d : List ℕ) → newest_crc (receives r) (taken (answering f c load'' d ∷ v)) ≡ newest_crc (sends s) (own u) =
+    λ d. ap (newest_crc (receives r)) (taken-more f c load'' d v n) ∙ same in
+    record {
+      tail = _;
+      head = refl;
+      older = own v;
+      newest = refl;
+      frame = read_back r (answering f c load'' [] ∷ v) conn' c' load' h
+          ∙ ap₂ (λ (a : ℕ) (b : Option Link). sealing.sealed a b conn' (command_byte c') load') (crc []) o.answer_link;
+      long = sealed_long r (answering f c load'' [] ∷ v) conn' c' load' h;
+      is_new = newer (sends r) (kept u) g (own v) (head_on c' n') differ.0 o.answer_kept;
+      sent_link = ap₂ (λ (a : ℕ) (b : Option Link). Some (sealing.noted a b (frame_of (sends r) g))) (crc g) o.answer_link;
+      answer_link = o.sent_link ∙ (ap (λ l. Some (sealing.noted (newest_crc (sends r) (own v)) (taken_link r v) (frame_of l f))) k ∙ sym (link-more r f c load'' g v n));
+      answer_crc = sym (crc g);
+      answer_kept = subst (λ (frames : List (List ℕ)). IsNewestOf f frames) (sym o.newest) refl;
+    }
+
+-- an end takes a Reset frame and seals the first frame of a session, which is then on its way
+pub first_on_its_way : (s r : Setup) (u v : List Deed) (f load : List ℕ) (conn' : ℕ) (c' : Command) (load' : List ℕ) → length load' ≡ sends s → has_command command.Reset f ≡ true → Fresh s u → Fresh r v
+    → OnItsWay s r (answering f command.Reset load (seal s (answering f command.Reset load [] ∷ u) conn' c' load') ∷ u) v conn' c' load' (seal s (answering f command.Reset load [] ∷ u) conn' c' load')
+first_on_its_way s r u v f load conn' c' load' h is a b =
+    let crc : newest_crc (receives s) (taken u) ≡ newest_crc (sends r) (own v) = ap (newest_crc (receives s)) a.none_taken ∙ sym (ap (newest_crc (sends r)) b.none_sent) in
+    let link : own_link s u ≡ taken_link r v = a.no_own ∙ sym b.no_taken in
+    record {
+      tail = _;
+      head = refl;
+      older = own u;
+      newest = refl;
+      frame = read_back s (answering f command.Reset load [] ∷ u) conn' c' load' h ∙ ap₂ (λ (a : ℕ) (b : Option Link). sealing.sealed a b conn' (command_byte c') load') crc link;
+      long = sealed_long s (answering f command.Reset load [] ∷ u) conn' c' load' h;
+      is_new = λ e. let none : Some (seal s (answering f command.Reset load [] ∷ u) conn' c' load') ≡ None = sym e ∙ b.none_kept in cc;
+      sent_link = ap₂ (λ (a : ℕ) (b : Option Link). Some (sealing.noted a b (frame_of (sends s) (seal s (answering f command.Reset load [] ∷ u) conn' c' load')))) crc link;
+      answer_link = b.no_own ∙ sym a.no_taken;
+      answer_crc = sym crc;
+      answer_kept = subst (λ (frames : List (List ℕ)). IsNewestOf f frames) (sym b.none_sent) is;
+    }

@@ -1,0 +1,5 @@
+use Rattle.exchange_model.proofs.HonestSchedules.{honest_serves}
+use Rattle.exchange_model.proofs.laws.honest_schedules.Goals as goal
+
+pub returns : goal.returns
+returns c = record { serves = honest_serves }
