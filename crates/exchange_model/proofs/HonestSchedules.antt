@@ -12,8 +12,10 @@ use Rattle.param_load.specs.Profile.{allows_id}
 use Rattle.schedule_file.specs.declared.event.Event.{Event}
 use Rattle.schedule_file.specs.declared.event.Event.TheVariants as event
 use Rattle.exchange_model.specs.World.{world, IsProperEvent}
+use Rattle.exchange_model.specs.Fair.{Fair}
 use Rattle.exchange_model.specs.Honest.{Match, is_plain, in_turn, ticks_first, keeps_time, IsHonest}
 use Rattle.exchange_model.specs.Serving.{HasNoReset, TakesDelivery, Serves}
+use Rattle.exchange_model.proofs.Headline.{fair_run}
 use Rattle.exchange_model.proofs.QuietEvents.{AtIdle, idle_tick, idle_put, idle_hold, idle_nonce, first_tick}
 use Rattle.exchange_model.proofs.ServingRuns.{Served, served_more, ServesOn, goes_on, keeps_on, may_now, stage_opens, idle_opens, serves_on}
 use Rattle.exchange_model.proofs.SlaveTurn.{Accepts}
@@ -70,13 +72,13 @@ at-first ms r =
     }
 
 served-none : (ms : MasterSettings) (r : Partner ms) → Served ms r []
-served-none ms r = record { is_world = tt; no_other = refl; no_reset = All-nil HasNoReset; taken = All-nil TakesDelivery; reaches_data = idle_opens ms r [] tt (at-first ms r) }
+served-none ms r = record { is_world = tt; no_other = refl; no_reset = All-nil HasNoReset; taken = All-nil TakesDelivery; reaches_data = idle_opens ms r [] tt (at-first ms r); takes_data = tt }
 
 -- a partner's run serves
 partner-serves : (ms : MasterSettings) (r : Partner ms) (events : List Event) → Accepts ms r → All (IsProperEvent ms (partner ms r)) events → IsHonest ms (partner ms r) events → Serves ms events (world ms (partner ms r) events)
 partner-serves ms r events accepts proper honest =
     let h : ServesOn ms r events [] = serves-idle ms r events [] accepts (served-none ms r) (at-first ms r) proper honest.plain honest.turns honest.begun honest.time in
-    record { whole = h.whole ∙ omega arith; no_other = h.served.no_other; no_reset = h.served.no_reset; taken = h.served.taken; reaches_data = h.served.reaches_data }
+    record { whole = h.whole ∙ omega arith; no_other = h.served.no_other; no_reset = h.served.no_reset; taken = h.served.taken; reaches_data = h.served.reaches_data; takes_data = h.served.takes_data }
 
 -- what holds of the settings with these lengths, this address and this profile, and the rest of a slave's, holds of the slave's own
 abbrev Given : (SlaveSettings → Type 0) → SlaveSettings → ℕ → ℕ → ℕ → Profile → Type 0
@@ -123,3 +125,7 @@ honest_serves ms ss events m =
       allowed = allowed;
     })
     events (record { watchdog = m.watchdog_accepted; as_many = m.as_many_parameters; allowed = m.parameters_allowed }) proper honest)
+
+-- so that it is fair
+pub honest_fair : (ms : MasterSettings) (ss : SlaveSettings) (events : List Event) → Match ms ss → All (IsProperEvent ms ss) events → IsHonest ms ss events → Fair ms.lengths (world ms ss events)
+honest_fair ms ss events m proper honest = let s : Serves ms events (world ms ss events) = honest_serves ms ss events m proper honest in fair_run ms ss events m.same_lengths proper s.no_other

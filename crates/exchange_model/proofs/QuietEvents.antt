@@ -75,6 +75,7 @@ tick_goes ms r w next end_name.Master h stage =
       not_other = refl;
       no_reset = refl;
       taken = λ k. cc;
+      takes_data = refl;
     }
 tick_goes ms r w next end_name.Slave h stage =
     let es : List Deed = deeds end_name.Slave w in
@@ -87,28 +88,29 @@ tick_goes ms r w next end_name.Slave h stage =
       not_other = refl;
       no_reset = refl;
       taken = λ k. cc;
+      takes_data = refl;
     }
 
 -- a put
 pub put_goes : (ms : MasterSettings) (r : Partner ms) (w : List Entry) (next at : End) (load : List ℕ) → IsProperEvent ms (partner ms r) (event.Put at load) → AtStage ms r w next → Goes ms r w (event.Put at load) next
 put_goes ms r w next end_name.Master load p stage =
-    record { entry = entry_of (master_of ms) (deeds end_name.Master w) (quiet (move.Put load)); is = refl; stage = quiet_at_master ms r _ _ _ _ _ _ next (move.Put load) stage; follows = record { proper = p; stepped = refl }; not_other = refl; no_reset = refl; taken = λ k. cc }
+    record { entry = entry_of (master_of ms) (deeds end_name.Master w) (quiet (move.Put load)); is = refl; stage = quiet_at_master ms r _ _ _ _ _ _ next (move.Put load) stage; follows = record { proper = p; stepped = refl }; not_other = refl; no_reset = refl; taken = λ k. cc; takes_data = refl }
 put_goes ms r w next end_name.Slave load p stage =
-    record { entry = entry_of (slave_of ms r) (deeds end_name.Slave w) (quiet (move.Put load)); is = refl; stage = quiet_at_slave ms r _ _ _ _ _ _ next (move.Put load) stage; follows = record { proper = p; stepped = refl }; not_other = refl; no_reset = refl; taken = λ k. cc }
+    record { entry = entry_of (slave_of ms r) (deeds end_name.Slave w) (quiet (move.Put load)); is = refl; stage = quiet_at_slave ms r _ _ _ _ _ _ next (move.Put load) stage; follows = record { proper = p; stepped = refl }; not_other = refl; no_reset = refl; taken = λ k. cc; takes_data = refl }
 
 -- a hold
 pub hold_goes : (ms : MasterSettings) (r : Partner ms) (w : List Entry) (next at : End) (failsafe : Bool) → AtStage ms r w next → Goes ms r w (event.Hold at failsafe) next
 hold_goes ms r w next end_name.Master failsafe stage =
-    record { entry = entry_of (master_of ms) (deeds end_name.Master w) (quiet (move.Hold failsafe)); is = refl; stage = quiet_at_master ms r _ _ _ _ _ _ next (move.Hold failsafe) stage; follows = record { proper = tt; stepped = refl }; not_other = refl; no_reset = refl; taken = λ k. cc }
+    record { entry = entry_of (master_of ms) (deeds end_name.Master w) (quiet (move.Hold failsafe)); is = refl; stage = quiet_at_master ms r _ _ _ _ _ _ next (move.Hold failsafe) stage; follows = record { proper = tt; stepped = refl }; not_other = refl; no_reset = refl; taken = λ k. cc; takes_data = refl }
 hold_goes ms r w next end_name.Slave failsafe stage =
-    record { entry = entry_of (slave_of ms r) (deeds end_name.Slave w) (quiet (move.Hold failsafe)); is = refl; stage = quiet_at_slave ms r _ _ _ _ _ _ next (move.Hold failsafe) stage; follows = record { proper = tt; stepped = refl }; not_other = refl; no_reset = refl; taken = λ k. cc }
+    record { entry = entry_of (slave_of ms r) (deeds end_name.Slave w) (quiet (move.Hold failsafe)); is = refl; stage = quiet_at_slave ms r _ _ _ _ _ _ next (move.Hold failsafe) stage; follows = record { proper = tt; stepped = refl }; not_other = refl; no_reset = refl; taken = λ k. cc; takes_data = refl }
 
 -- a nonce
 pub nonce_goes : (ms : MasterSettings) (r : Partner ms) (w : List Entry) (next at : End) (id : ℕ) → IsProperEvent ms (partner ms r) (event.Nonce at id) → AtStage ms r w next → Goes ms r w (event.Nonce at id) next
 nonce_goes ms r w next end_name.Master id p stage =
-    record { entry = entry_of (master_of ms) (deeds end_name.Master w) (quiet (move.Nonce id)); is = refl; stage = quiet_at_master ms r _ _ _ _ _ _ next (move.Nonce id) stage; follows = record { proper = p; stepped = refl }; not_other = refl; no_reset = refl; taken = λ k. cc }
+    record { entry = entry_of (master_of ms) (deeds end_name.Master w) (quiet (move.Nonce id)); is = refl; stage = quiet_at_master ms r _ _ _ _ _ _ next (move.Nonce id) stage; follows = record { proper = p; stepped = refl }; not_other = refl; no_reset = refl; taken = λ k. cc; takes_data = refl }
 nonce_goes ms r w next end_name.Slave id p stage =
-    record { entry = entry_of (slave_of ms r) (deeds end_name.Slave w) (quiet (move.Nonce id)); is = refl; stage = quiet_at_slave ms r _ _ _ _ _ _ next (move.Nonce id) stage; follows = record { proper = p; stepped = refl }; not_other = refl; no_reset = refl; taken = λ k. cc }
+    record { entry = entry_of (slave_of ms r) (deeds end_name.Slave w) (quiet (move.Nonce id)); is = refl; stage = quiet_at_slave ms r _ _ _ _ _ _ next (move.Nonce id) stage; follows = record { proper = p; stepped = refl }; not_other = refl; no_reset = refl; taken = λ k. cc; takes_data = refl }
 
 -- the same before the master's first tick
 abbrev pub AtIdle : (ms : MasterSettings) → Partner ms → List Entry → Type 0
@@ -126,25 +128,26 @@ idle_tick ms r w h idle =
       not_other = refl;
       no_reset = refl;
       taken = λ k. cc;
+      takes_data = refl;
     }
 
 pub idle_put : (ms : MasterSettings) (r : Partner ms) (w : List Entry) (at : End) (load : List ℕ) → IsProperEvent ms (partner ms r) (event.Put at load) → AtIdle ms r w → Enters ms r w (event.Put at load) (AtIdle ms r)
 idle_put ms r w end_name.Master load p idle =
-    record { entry = entry_of (master_of ms) (deeds end_name.Master w) (quiet (move.Put load)); is = refl; stage = idle_at_master ms r _ _ _ _ (move.Put load) refl idle; follows = record { proper = p; stepped = refl }; not_other = refl; no_reset = refl; taken = λ k. cc }
+    record { entry = entry_of (master_of ms) (deeds end_name.Master w) (quiet (move.Put load)); is = refl; stage = idle_at_master ms r _ _ _ _ (move.Put load) refl idle; follows = record { proper = p; stepped = refl }; not_other = refl; no_reset = refl; taken = λ k. cc; takes_data = refl }
 idle_put ms r w end_name.Slave load p idle =
-    record { entry = entry_of (slave_of ms r) (deeds end_name.Slave w) (quiet (move.Put load)); is = refl; stage = idle_at_slave ms r _ _ _ _ (move.Put load) idle; follows = record { proper = p; stepped = refl }; not_other = refl; no_reset = refl; taken = λ k. cc }
+    record { entry = entry_of (slave_of ms r) (deeds end_name.Slave w) (quiet (move.Put load)); is = refl; stage = idle_at_slave ms r _ _ _ _ (move.Put load) idle; follows = record { proper = p; stepped = refl }; not_other = refl; no_reset = refl; taken = λ k. cc; takes_data = refl }
 
 pub idle_hold : (ms : MasterSettings) (r : Partner ms) (w : List Entry) (at : End) (failsafe : Bool) → AtIdle ms r w → Enters ms r w (event.Hold at failsafe) (AtIdle ms r)
 idle_hold ms r w end_name.Master failsafe idle =
-    record { entry = entry_of (master_of ms) (deeds end_name.Master w) (quiet (move.Hold failsafe)); is = refl; stage = idle_at_master ms r _ _ _ _ (move.Hold failsafe) refl idle; follows = record { proper = tt; stepped = refl }; not_other = refl; no_reset = refl; taken = λ k. cc }
+    record { entry = entry_of (master_of ms) (deeds end_name.Master w) (quiet (move.Hold failsafe)); is = refl; stage = idle_at_master ms r _ _ _ _ (move.Hold failsafe) refl idle; follows = record { proper = tt; stepped = refl }; not_other = refl; no_reset = refl; taken = λ k. cc; takes_data = refl }
 idle_hold ms r w end_name.Slave failsafe idle =
-    record { entry = entry_of (slave_of ms r) (deeds end_name.Slave w) (quiet (move.Hold failsafe)); is = refl; stage = idle_at_slave ms r _ _ _ _ (move.Hold failsafe) idle; follows = record { proper = tt; stepped = refl }; not_other = refl; no_reset = refl; taken = λ k. cc }
+    record { entry = entry_of (slave_of ms r) (deeds end_name.Slave w) (quiet (move.Hold failsafe)); is = refl; stage = idle_at_slave ms r _ _ _ _ (move.Hold failsafe) idle; follows = record { proper = tt; stepped = refl }; not_other = refl; no_reset = refl; taken = λ k. cc; takes_data = refl }
 
 pub idle_nonce : (ms : MasterSettings) (r : Partner ms) (w : List Entry) (at : End) (id : ℕ) → IsProperEvent ms (partner ms r) (event.Nonce at id) → AtIdle ms r w → Enters ms r w (event.Nonce at id) (AtIdle ms r)
 idle_nonce ms r w end_name.Master id p idle =
-    record { entry = entry_of (master_of ms) (deeds end_name.Master w) (quiet (move.Nonce id)); is = refl; stage = idle_at_master ms r _ _ _ _ (move.Nonce id) refl idle; follows = record { proper = p; stepped = refl }; not_other = refl; no_reset = refl; taken = λ k. cc }
+    record { entry = entry_of (master_of ms) (deeds end_name.Master w) (quiet (move.Nonce id)); is = refl; stage = idle_at_master ms r _ _ _ _ (move.Nonce id) refl idle; follows = record { proper = p; stepped = refl }; not_other = refl; no_reset = refl; taken = λ k. cc; takes_data = refl }
 idle_nonce ms r w end_name.Slave id p idle =
-    record { entry = entry_of (slave_of ms r) (deeds end_name.Slave w) (quiet (move.Nonce id)); is = refl; stage = idle_at_slave ms r _ _ _ _ (move.Nonce id) idle; follows = record { proper = p; stepped = refl }; not_other = refl; no_reset = refl; taken = λ k. cc }
+    record { entry = entry_of (slave_of ms r) (deeds end_name.Slave w) (quiet (move.Nonce id)); is = refl; stage = idle_at_slave ms r _ _ _ _ (move.Nonce id) idle; follows = record { proper = p; stepped = refl }; not_other = refl; no_reset = refl; taken = λ k. cc; takes_data = refl }
 
 -- the master's first tick sends its Reset frame
 pub first_tick : (ms : MasterSettings) (r : Partner ms) (w : List Entry) → may_tick ms (partner ms r) w end_name.Master ≡ true → AtIdle ms r w → Goes ms r w (event.Tick end_name.Master) end_name.Slave
@@ -176,4 +179,5 @@ first_tick ms r w h idle =
       not_other = refl;
       no_reset = refl;
       taken = λ k. cc;
+      takes_data = refl;
     }

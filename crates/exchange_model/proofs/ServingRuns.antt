@@ -19,14 +19,14 @@ use Rattle.exchange_model.specs.Ends.{same_end, peer}
 use Rattle.exchange_model.specs.World.{setup_of, deed_in, deeds, entry_at, going_on, world_after, world, IsProperEvent, IsNextEntry, IsWorld}
 use Rattle.exchange_model.specs.Other.{first_of_both, NoOther}
 use Rattle.exchange_model.specs.Honest.{exchanges, is_plain, in_turn, may_happen, if_on, keeps_time}
-use Rattle.exchange_model.specs.Serving.{deliveries_to, state_told, InDataAfter, InDataThroughout, HasNoReset, TakesDelivery}
+use Rattle.exchange_model.specs.Serving.{deliveries_to, state_told, InDataAfter, InDataThroughout, HasNoReset, TakesDelivery, TakesDataThroughout}
 use Rattle.exchange_model.proofs.Projection.{same, next_told}
 use Rattle.exchange_model.proofs.QuietEvents.{tick_goes, put_goes, hold_goes, nonce_goes, AtIdle}
 use Rattle.exchange_model.proofs.SlaveTurn.{Accepts}
 use Rattle.exchange_model.proofs.StageSteps.{AtStage, Enters, Goes, asked_delivered, replied_delivered}
 use Rattle.exchange_model.proofs.StageTurns.{down_delivered, up_delivered, some_session, some_connection, some_parameter}
 use Rattle.exchange_model.proofs.Stages.{Asked, Replied, Down, Up}
-use Rattle.exchange_model.proofs.Turns.{Partner, partner, session_pieces, connection_pieces, parameter_pieces, spot_after, spot_data, turn_data}
+use Rattle.exchange_model.proofs.Turns.{Partner, partner, session_pieces, connection_pieces, parameter_pieces, spot_after, spot_data, turn_data, at_least, none_yet}
 
 told-head : (ms : MasterSettings) (ss : SlaveSettings) (which : End) (x : Entry) (w : List Entry) (mine : Bool) → IsNextEntry (setup_of ms ss x.end) x (deeds x.end w)
     → state_told which w ≡ state_of (setup_of ms ss which) (deeds which w) → same_end which x.end ≡ mine
@@ -42,14 +42,8 @@ told-state ms ss end_name.Master [] h = refl
 told-state ms ss end_name.Slave [] h = refl
 told-state ms ss which (x ∷ w) h = told-head ms ss which x w (same_end which x.end) h.0 (told-state ms ss which w h.1) refl
 
-at-least : (a b c m : ℕ) → nat_lt (a + b + c) m ≡ nat_le (1 + a + b + c) m
-at-least a b c m = grind (arith, nat_tests)
-
 more-than : (a b c m : ℕ) → nat_lt (a + b + c) m ≡ nat_lt (1 + a + b + c) (suc m)
 more-than a b c m = grind (arith, nat_tests)
-
-none-yet : (a b c : ℕ) → nat_le (1 + a + b + c) 0 ≡ false
-none-yet a b c = grind (arith, nat_tests)
 
 not-more : (a b c m : ℕ) → m ≤ 1 → nat_lt (1 + a + b + c) m ≡ false
 not-more a b c m h = grind (arith, nat_tests)
@@ -62,25 +56,25 @@ opens test told p m k h i j = ap (same_phase state.Data) h ∙ (j ∙ ap test (s
 pub stage_opens : (ms : MasterSettings) (r : Partner ms) (w : List Entry) (next : End) → IsWorld ms (partner ms r) w → AtStage ms r w next → InDataAfter (exchanges ms) w
 stage_opens ms r w next world (Asked h) =
     record {
-      master = opens (nat_le (exchanges ms)) _ state.Reset (deliveries_to end_name.Master w) 0 (told-state ms (partner ms r) end_name.Master w world ∙ ap phase_sent h.outside.master.none_sent) h.master_count (sym (none-yet (session_pieces ms) (connection_pieces ms) (parameter_pieces ms)));
+      master = opens (nat_le (exchanges ms)) _ state.Reset (deliveries_to end_name.Master w) 0 (told-state ms (partner ms r) end_name.Master w world ∙ ap phase_sent h.outside.master.none_sent) h.master_count (sym (none_yet (session_pieces ms) (connection_pieces ms) (parameter_pieces ms)));
       slave = opens (nat_lt (exchanges ms)) _ state.Reset (deliveries_to end_name.Slave w) 0 (told-state ms (partner ms r) end_name.Slave w world ∙ h.outside.phase) h.slave_count (sym (not-more (session_pieces ms) (connection_pieces ms) (parameter_pieces ms) 0 (omega arith)));
     }
 stage_opens ms r w next world (Replied h) =
     record {
-      master = opens (nat_le (exchanges ms)) _ state.Reset (deliveries_to end_name.Master w) 0 (told-state ms (partner ms r) end_name.Master w world ∙ ap phase_sent h.outside.master.none_sent) h.master_count (sym (none-yet (session_pieces ms) (connection_pieces ms) (parameter_pieces ms)));
+      master = opens (nat_le (exchanges ms)) _ state.Reset (deliveries_to end_name.Master w) 0 (told-state ms (partner ms r) end_name.Master w world ∙ ap phase_sent h.outside.master.none_sent) h.master_count (sym (none_yet (session_pieces ms) (connection_pieces ms) (parameter_pieces ms)));
       slave = opens (nat_lt (exchanges ms)) _ state.Reset (deliveries_to end_name.Slave w) 1 (told-state ms (partner ms r) end_name.Slave w world ∙ h.outside.phase) h.slave_count (sym (not-more (session_pieces ms) (connection_pieces ms) (parameter_pieces ms) 1 (omega arith)));
     }
 stage_opens ms r w next world (Down h) =
     record {
       master = opens (nat_le (exchanges ms)) _ (phase_of h.command) (deliveries_to end_name.Master w) (suc h.k) (told-state ms (partner ms r) end_name.Master w world ∙ h.master.phase) h.master_count
-          (spot_data _ _ _ (phase_of h.command) _ _ _ (suc h.k) (spot_after _ _ _ h.command h.p h.a h.b h.d h.k (some_session ms) (some_connection ms) (some_parameter ms) h.turn) ∙ at-least (session_pieces ms) (connection_pieces ms) (parameter_pieces ms) (suc h.k));
+          (spot_data _ _ _ (phase_of h.command) _ _ _ (suc h.k) (spot_after _ _ _ h.command h.p h.a h.b h.d h.k (some_session ms) (some_connection ms) (some_parameter ms) h.turn) ∙ at_least (session_pieces ms) (connection_pieces ms) (parameter_pieces ms) (suc h.k));
       slave = opens (nat_lt (exchanges ms)) _ h.p (deliveries_to end_name.Slave w) (suc h.k) (told-state ms (partner ms r) end_name.Slave w world ∙ h.slave.phase) h.slave_count
           (turn_data _ _ _ h.command h.p h.a h.b h.d h.k h.turn ∙ more-than (session_pieces ms) (connection_pieces ms) (parameter_pieces ms) h.k);
     }
 stage_opens ms r w next world (Up h) =
     record {
       master = opens (nat_le (exchanges ms)) _ (phase_of h.command) (deliveries_to end_name.Master w) h.k (told-state ms (partner ms r) end_name.Master w world ∙ h.master.phase) h.master_count
-          (spot_data _ _ _ (phase_of h.command) _ _ _ h.k h.spot ∙ at-least (session_pieces ms) (connection_pieces ms) (parameter_pieces ms) h.k);
+          (spot_data _ _ _ (phase_of h.command) _ _ _ h.k h.spot ∙ at_least (session_pieces ms) (connection_pieces ms) (parameter_pieces ms) h.k);
       slave = opens (nat_lt (exchanges ms)) _ (phase_of h.command) (deliveries_to end_name.Slave w) (suc h.k) (told-state ms (partner ms r) end_name.Slave w world ∙ h.slave.phase) h.slave_count
           (spot_data _ _ _ (phase_of h.command) _ _ _ h.k h.spot ∙ more-than (session_pieces ms) (connection_pieces ms) (parameter_pieces ms) h.k);
     }
@@ -88,7 +82,7 @@ stage_opens ms r w next world (Up h) =
 pub idle_opens : (ms : MasterSettings) (r : Partner ms) (w : List Entry) → IsWorld ms (partner ms r) w → AtIdle ms r w → InDataAfter (exchanges ms) w
 idle_opens ms r w world h =
     record {
-      master = opens (nat_le (exchanges ms)) _ state.Reset (deliveries_to end_name.Master w) 0 (told-state ms (partner ms r) end_name.Master w world ∙ ap phase_sent h.outside.master.none_sent) h.master_count (sym (none-yet (session_pieces ms) (connection_pieces ms) (parameter_pieces ms)));
+      master = opens (nat_le (exchanges ms)) _ state.Reset (deliveries_to end_name.Master w) 0 (told-state ms (partner ms r) end_name.Master w world ∙ ap phase_sent h.outside.master.none_sent) h.master_count (sym (none_yet (session_pieces ms) (connection_pieces ms) (parameter_pieces ms)));
       slave = opens (nat_lt (exchanges ms)) _ state.Reset (deliveries_to end_name.Slave w) 0 (told-state ms (partner ms r) end_name.Slave w world ∙ h.outside.phase) h.slave_count (sym (not-more (session_pieces ms) (connection_pieces ms) (parameter_pieces ms) 0 (omega arith)));
     }
 
@@ -99,6 +93,7 @@ pub record Served (ms : MasterSettings) (r : Partner ms) (w : List Entry) : Type
   pub no_reset : All HasNoReset w
   pub taken : All TakesDelivery w
   pub reaches_data : InDataThroughout (exchanges ms) w
+  pub takes_data : TakesDataThroughout (exchanges ms) w
 
 pub served_more : (ms : MasterSettings) (r : Partner ms) (w : List Entry) (event : Event) (After : List Entry → Type 0) (x : Enters ms r w event After) → InDataAfter (exchanges ms) (x.entry ∷ w) → Served ms r w → Served ms r (x.entry ∷ w)
 served_more ms r w event After x opened h =
@@ -108,6 +103,7 @@ served_more ms r w event After x opened h =
       no_reset = All-cons HasNoReset x.entry w x.no_reset h.no_reset;
       taken = All-cons TakesDelivery x.entry w x.taken h.taken;
       reaches_data = (opened, h.reaches_data);
+      takes_data = (x.takes_data, h.takes_data);
     }
 
 -- a run that goes on has served at its end, and stopped at no event

@@ -1,5 +1,5 @@
 -- Each delivery of an honest run brings the next stage.
-use Rattle.std.proofs.Common.{◌≡◌, ℕ, suc, ◌≤◌, List, [], ◌∷◌, length, Bool, true, false, not, ◌&&◌, Option, Some, None, if◌then◌else◌, refl, sym, ap, ap₂, ◌∙◌, arith}
+use Rattle.std.proofs.Common.{◌≡◌, ℕ, suc, ◌≤◌, List, [], ◌∷◌, length, Bool, true, false, not, ◌&&◌, Option, Some, None, if◌then◌else◌, refl, sym, ap, ap₂, ◌∙◌, arith, nat_le, is_some}
 use Rattle.std.proofs.lemmas.Bool.{eq-eqb}
 use Rattle.std.specs.Cmp.Lexicographic.{bytes_decides}
 use Rattle.fsoe_base.specs.declared.command.End.{End}
@@ -15,7 +15,7 @@ use Rattle.param_load.specs.Payload.{session_payload, padded}
 use Rattle.schedule_file.specs.declared.event.Event.TheVariants as event
 use Rattle.schedule_file.specs.declared.event.Event.{Event}
 use Rattle.end_model.specs.Setup.{Setup, OfMaster}
-use Rattle.end_model.specs.Phases.{is_guarded, has_command}
+use Rattle.end_model.specs.Phases.{is_guarded, has_command, phase_of, same_phase}
 use Rattle.end_model.specs.Deed.{Deed}
 use Rattle.end_model.specs.Chain.{since, own, seal}
 use Rattle.end_model.specs.Payloads.{or_else, piece, count_in, first_conn, first_some, nonce, session_id}
@@ -26,7 +26,9 @@ use Rattle.end_model.specs.Reactions.{received}
 use Rattle.exchange_model.specs.World.{setup_of, deeds, back_th, delivery, entry_on, entry_at, IsNextEntry}
 use Rattle.exchange_model.specs.Items.{Item, items_of, items, newest, answers_to, answer_among, has_bytes, number_if}
 use Rattle.exchange_model.specs.Other.{is_other}
-use Rattle.exchange_model.specs.Serving.{deliveries_to, TakesDelivery, HasNoReset}
+use Rattle.exchange_model.specs.Serving.{deliveries_to, TakesDelivery, HasNoReset, TakesDataAfter}
+use Rattle.exchange_model.specs.Honest.{exchanges}
+use Rattle.exchange_model.specs.Fair.{data_taken}
 use Rattle.exchange_model.proofs.Fronts.{padded_long, piece_short}
 use Rattle.exchange_model.proofs.Framed.{piece_fits}
 use Rattle.exchange_model.proofs.MasterTurn.{next}
@@ -34,7 +36,7 @@ use Rattle.exchange_model.proofs.OnItsWay.{answering, first_on_its_way}
 use Rattle.exchange_model.proofs.Passing.{slave_rejoins, master_starts}
 use Rattle.exchange_model.proofs.ResetFrames.{zero_load, is_reset_frame}
 use Rattle.exchange_model.proofs.Stages.{NewestAnswers, IsAsked, IsReplied, Stage, Replied, Down}
-use Rattle.exchange_model.proofs.Turns.{Partner, partner, master_of, slave_of, width, Starts}
+use Rattle.exchange_model.proofs.Turns.{Partner, partner, master_of, slave_of, width, Starts, none_yet, session_pieces, connection_pieces, parameter_pieces}
 
 -- the stage of these entries
 abbrev pub AtStage : (ms : MasterSettings) → Partner ms → List Entry → End → Type 0
@@ -50,6 +52,7 @@ pub record Enters (ms : MasterSettings) (r : Partner ms) (w : List Entry) (event
   pub not_other : is_other (items w) entry ≡ false
   pub no_reset : HasNoReset entry
   pub taken : TakesDelivery entry
+  pub takes_data : TakesDataAfter (exchanges ms) entry w
 
 -- an event leads to the next stage
 abbrev pub Goes : (ms : MasterSettings) → Partner ms → List Entry → Event → End → Type 0
@@ -93,6 +96,15 @@ none_other a b mine theirs f h = all-three a b (has_bytes f (answer_among mine (
 pub since_on : (x : Deed) (e : List Deed) → has_command command.Reset x.sent ≡ false → since (x ∷ e) ≡ x ∷ since e
 since_on x e h = simp h
 
+-- a frame that is taken is of data exactly where its phase is Data
+pub data_phase_taken : (c : Command) (load : List ℕ) → is_some (data_taken (Some (record { command = c; load = load }))) ≡ same_phase state.Data (phase_of c)
+data_phase_taken command.Reset load = refl
+data_phase_taken command.Session load = refl
+data_phase_taken command.Connection load = refl
+data_phase_taken command.Parameter load = refl
+data_phase_taken command.FailSafeData load = refl
+data_phase_taken command.ProcessData load = refl
+
 -- the entry of a delivery
 pub delivered_entry : (s : Setup) (e : List Deed) (frames older : List (List ℕ)) (f : List ℕ) (d : Deed) → frames ≡ f ∷ older → step s e (move.Deliver f) ≡ d → entry_on s e (delivery (back_th 1 frames)) ≡ Some (entry_of s e d)
 delivered_entry s e frames older f d h k = ap (λ frames. entry_on s e (delivery (back_th 1 frames))) h ∙ ap (λ d. Some (entry_of s e d)) k
@@ -128,6 +140,7 @@ asked_delivered ms r w h =
       not_other = refl;
       no_reset = refl;
       taken = λ k. refl;
+      takes_data = sym (ap (nat_le (exchanges ms)) h.slave_count ∙ none_yet (session_pieces ms) (connection_pieces ms) (parameter_pieces ms));
     }
 
 -- the slave's Reset frame comes to the master
@@ -196,4 +209,5 @@ replied_delivered ms r w h =
       not_other = refl;
       no_reset = refl;
       taken = λ k. refl;
+      takes_data = sym (ap (nat_le (exchanges ms)) h.master_count ∙ none_yet (session_pieces ms) (connection_pieces ms) (parameter_pieces ms));
     }

@@ -1,5 +1,5 @@
 -- Each delivery of a session's frame brings the next stage: the slave answers the master's frame, and the master the slave's.
-use Rattle.std.proofs.Common.{◌≡◌, ◌≢◌, ℕ, suc, ◌+◌, ◌<◌, List, [], ◌∷◌, length, true, false, not, refl, sym, ap, subst, ◌∙◌, arith}
+use Rattle.std.proofs.Common.{◌≡◌, ◌≢◌, ℕ, suc, ◌+◌, ◌<◌, List, [], ◌∷◌, length, true, false, not, refl, sym, ap, subst, ◌∙◌, arith, nat_le}
 use Rattle.fsoe_base.specs.declared.command.End.TheVariants as end_name
 use Rattle.fsoe_base.specs.declared.command.State.{State}
 use Rattle.fsoe_base.specs.declared.command.State.TheVariants as state
@@ -33,9 +33,10 @@ use Rattle.exchange_model.proofs.OnItsWay.{OnItsWay, answering, next_on_its_way,
 use Rattle.exchange_model.proofs.Passing.{takes_valid}
 use Rattle.exchange_model.proofs.SlaveReplies.{Reply, reply, slave_after, some_conn}
 use Rattle.exchange_model.proofs.SlaveTurn.{Accepts, slave_valid, some_width}
-use Rattle.exchange_model.proofs.StageSteps.{Goes, taken_number, none_other, since_on, delivered_entry}
+use Rattle.exchange_model.proofs.StageSteps.{Goes, taken_number, none_other, since_on, delivered_entry, data_phase_taken}
+use Rattle.exchange_model.specs.Honest.{exchanges}
 use Rattle.exchange_model.proofs.Stages.{IsDown, IsUp, Down, Up}
-use Rattle.exchange_model.proofs.Turns.{Partner, partner, master_of, slave_of, width, session_pieces, connection_pieces, parameter_pieces, more, Spot, spot_after, SlaveAt, MasterAt}
+use Rattle.exchange_model.proofs.Turns.{Partner, partner, master_of, slave_of, width, session_pieces, connection_pieces, parameter_pieces, more, Spot, spot_after, SlaveAt, MasterAt, at_least, spot_data}
 
 other-command : (c : Command) → is_reset c ≡ false → c ≢ command.Reset
 other-command c h = λ k. let b : is_reset c ≡ true = ap is_reset k in cc
@@ -120,6 +121,8 @@ down_delivered ms r w accepts world h =
       not_other = none_other (not (is_reset c)) (is_guarded_frame f) (items_of end_name.Master (items w)) (items_of end_name.Slave (items w)) f h.newest;
       no_reset = refl;
       taken = λ k. refl;
+      takes_data = data_phase_taken c h.load
+          ∙ (spot_data _ _ _ (phase_of c) _ _ _ (suc h.k) spot ∙ (at_least (session_pieces ms) (connection_pieces ms) (parameter_pieces ms) (suc h.k) ∙ ap (nat_le (exchanges ms)) (sym h.slave_count)));
     }
 
 -- the slave's answer comes to the master
@@ -178,4 +181,6 @@ up_delivered ms r w world h =
       not_other = none_other (not (is_reset c)) (is_guarded_frame f) (items_of end_name.Slave (items w)) (items_of end_name.Master (items w)) f h.newest;
       no_reset = refl;
       taken = λ k. refl;
+      takes_data = data_phase_taken c h.load
+          ∙ (spot_data _ _ _ (phase_of c) _ _ _ h.k h.spot ∙ (at_least (session_pieces ms) (connection_pieces ms) (parameter_pieces ms) h.k ∙ ap (nat_le (exchanges ms)) (sym h.master_count)));
     }

@@ -1,5 +1,6 @@
 -- Where a handshake stands: the pieces of each payload that were sent and taken so far, and whose turn it is.
-use Rattle.std.proofs.Common.{◌≡◌, ℕ, zero, suc, ◌+◌, ◌<◌, ◌≤◌, List, length, Bool, true, false, nat_lt, Option, Some, None, IsTrue, if◌then◌else◌, arith}
+use Rattle.std.proofs.Common.{◌≡◌, ℕ, zero, suc, ◌+◌, ◌<◌, ◌≤◌, List, length, Bool, true, false, nat_lt, Option, Some, None, IsTrue, if◌then◌else◌, arith, nat_le}
+use Rattle.std.proofs.lemmas.Bool.Decides.{nat_tests}
 use Rattle.std.proofs.lemmas.Bool.{lt-ltb, le-ltb}
 use Rattle.fsoe_base.specs.declared.command.State.{State}
 use Rattle.fsoe_base.specs.declared.command.State.TheVariants as state
@@ -127,6 +128,13 @@ turn_data n n' n'' c p a b d k (FirstZeros _ e) = let f : nat_lt (n + n' + n'') 
 turn_data n n' n'' c p a b d k (FirstValues _ e) = let f : nat_lt (n + n' + n'') k ≡ false = le-ltb (n + n' + n'') k (omega arith) in cc
 turn_data n n' n'' c p a b d k (MoreZeros _ h) = let f : nat_lt (n + n' + n'') k ≡ true = lt-ltb (n + n' + n'') k h in cc
 turn_data n n' n'' c p a b d k (MoreValues _ h) = let f : nat_lt (n + n' + n'') k ≡ true = lt-ltb (n + n' + n'') k h in cc
+
+-- the numbers of deliveries that bring an end into Data
+pub at_least : (a b c m : ℕ) → nat_lt (a + b + c) m ≡ nat_le (1 + a + b + c) m
+at_least a b c m = grind (arith, nat_tests)
+
+pub none_yet : (a b c : ℕ) → nat_le (1 + a + b + c) 0 ≡ false
+none_yet a b c = grind (arith, nat_tests)
 
 -- the connection id that came with b pieces of its payload, if some came
 abbrev pub conn_after : ℕ → ℕ → Option ℕ

@@ -1,6 +1,6 @@
 -- What comes of an honest schedule, and when both ends are in state Data. The state is the public standard's; the numbers of
 -- deliveries are this profile's own.
-use Rattle.std.specs.Prelude.{ℕ, suc, ◌≡◌, nat_le, nat_lt, IsTrue, IsSome, All, List, [], ◌∷◌, length, Bool, true, false, ◌&&◌, None, if◌then◌else◌}
+use Rattle.std.specs.Prelude.{ℕ, suc, ◌≡◌, nat_le, nat_lt, IsTrue, IsSome, All, List, [], ◌∷◌, length, Bool, true, false, ◌&&◌, None, is_some, if◌then◌else◌}
 use Rattle.fsoe_base.specs.declared.command.End.{End}
 use Rattle.fsoe_base.specs.declared.command.End.TheVariants as end_name
 use Rattle.fsoe_base.specs.declared.command.State.{State}
@@ -13,6 +13,7 @@ use Rattle.schedule_file.specs.declared.event.Event.{Event}
 use Rattle.end_model.specs.Phases.{same_phase}
 use Rattle.exchange_model.specs.Ends.{same_end}
 use Rattle.exchange_model.specs.Other.{NoOther}
+use Rattle.exchange_model.specs.Fair.{data_taken}
 use Rattle.exchange_model.specs.Honest.{exchanges}
 
 -- whether an event is a delivery
@@ -52,11 +53,22 @@ HasNoReset x = x.did.reset ≡ None
 abbrev pub TakesDelivery : Entry → Type 0
 TakesDelivery x = IsTrue (is_delivery x.what) → IsSome x.did.took
 
--- a run over a schedule serves: it is whole, no entry is other, no session ends, each delivery is taken, and the master is in Data
--- from the last of the exchanges before the first data on, the slave from its next delivery on
+-- an entry takes data exactly where it is a delivery and at least n came to its end before
+abbrev pub TakesDataAfter : ℕ → Entry → List Entry → Type 0
+TakesDataAfter n x w = is_some (data_taken x.did.took) ≡ (is_delivery x.what && nat_le n (deliveries_to x.end w))
+
+-- that holds of each entry
+abbrev pub TakesDataThroughout : ℕ → List Entry → Type 0
+TakesDataThroughout n [] = Unit {0}
+TakesDataThroughout n (x ∷ w) = TakesDataAfter n x w × TakesDataThroughout n w
+
+-- a run over a schedule serves: it is whole, no entry is other, no session ends, each delivery is taken, the master is in Data
+-- from the last of the exchanges before the first data on, the slave from its next delivery on, and each delivery to an end takes
+-- data from then on
 pub record Serves (ms : MasterSettings) (events : List Event) (w : List Entry) : Type 0 where
   pub whole : length w ≡ length events
   pub no_other : NoOther w
   pub no_reset : All HasNoReset w
   pub taken : All TakesDelivery w
   pub reaches_data : InDataThroughout (exchanges ms) w
+  pub takes_data : TakesDataThroughout (exchanges ms) w

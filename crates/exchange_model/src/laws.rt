@@ -87,10 +87,11 @@ pub fn exchanges_before_data()
 
 /// An honest schedule brings matching ends into Data and keeps them there: the run is whole, no entry is other, no session
 /// ends and each delivery is taken. The master is in Data from the last of the exchanges before the first data on, the
-/// slave from the next delivery on, and neither is before. By the law of the pair all data that are taken from then on are
-/// those that the peer put.
+/// slave from the next delivery on, and neither is before; from then on each delivery takes data. These are those that the
+/// peer put, as the run is fair.
 pub fn honest_schedules()
     ensures serves { (ms : MasterSettings) (ss : SlaveSettings) (events : List Event) → Match ms ss → All (IsProperEvent ms ss) events → IsHonest ms ss events → Serves ms events (world ms ss events) }
+    ensures fair { (ms : MasterSettings) (ss : SlaveSettings) (events : List Event) → Match ms ss → All (IsProperEvent ms ss) events → IsHonest ms ss events → Fair ms.lengths (world ms ss events) }
 {}
 
 /// Worked handshakes of both ends, over frames of several lengths and in both profiles: the lines of the report, and the number

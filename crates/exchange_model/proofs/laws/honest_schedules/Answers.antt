@@ -1,5 +1,5 @@
-use Rattle.exchange_model.proofs.HonestSchedules.{honest_serves}
+use Rattle.exchange_model.proofs.HonestSchedules.{honest_serves, honest_fair}
 use Rattle.exchange_model.proofs.laws.honest_schedules.Goals as goal
 
 pub returns : goal.returns
-returns c = record { serves = honest_serves }
+returns c = record { serves = honest_serves; fair = honest_fair }
