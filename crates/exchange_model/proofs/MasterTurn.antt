@@ -10,11 +10,8 @@ use Rattle.fsoe_base.specs.declared.command.Command.TheVariants as command
 use Rattle.fsoe_base.specs.Command.{command_of, code}
 use Rattle.fsoe_frame.specs.Parts.{Frame}
 use Rattle.param_load.specs.declared.master_settings.MasterSettings.{MasterSettings}
-use Rattle.param_load.specs.declared.profile.Profile.{Profile}
-use Rattle.param_load.specs.declared.profile.Profile.TheVariants as profile
 use Rattle.param_load.specs.Download.{is_padded, is_echo}
 use Rattle.param_load.specs.Payload.{session_payload, connection_payload, parameter_payload, padded}
-use Rattle.param_load.specs.Profile.{id_len}
 use Rattle.end_model.specs.Setup.{OfMaster}
 use Rattle.end_model.specs.Phases.{phase_of, is_reset}
 use Rattle.end_model.specs.Deed.{Deed}
@@ -29,8 +26,8 @@ use Rattle.exchange_model.proofs.Fronts.{padded_long, piece_short}
 use Rattle.exchange_model.proofs.OnItsWay.{OnItsWay, fits_on, answering}
 use Rattle.exchange_model.proofs.ResetFrames.{zeros_all}
 use Rattle.exchange_model.proofs.SlaveReplies.{Replies}
-use Rattle.exchange_model.proofs.SlaveTurn.{Carries, command_back, frame_with}
-use Rattle.exchange_model.proofs.UploadTests.{lengths_are}
+use Rattle.exchange_model.proofs.SlaveTurn.{Carries, command_back, parts_with}
+use Rattle.exchange_model.proofs.UploadTests.{session_long, parameters_long}
 use Rattle.exchange_model.proofs.Turns.{Partner, master_of, slave_of, width, session_pieces, connection_pieces, parameter_pieces, more, Turn, MoreSession, FirstConnection, MoreConnection, FirstParameter, MoreParameter, FirstZeros, FirstValues, MoreZeros, MoreValues, Spot, InSession, InConnection, InParameter, InData, MasterAt}
 
 answers-allowed : (c : Command) → is_reset c ≡ false → master_allows (phase_of c) c ≡ true
@@ -62,7 +59,7 @@ unless-true true n h = refl
 unless-true false n h = cc
 
 contents-right : (ms : MasterSettings) (r : Partner ms) (id : ℕ) (e : List Deed) (c : Command) (p : State) (a b d conn : ℕ) (load crcs : List ℕ) → MasterAt ms id e p a b d → Replies ms id c a b d conn load
-    → contents (OfMaster ms) e c (frame_with 0 conn c load crcs) ≡ None
+    → contents (OfMaster ms) e c (parts_with conn c load crcs) ≡ None
 contents-right ms r id e command.Reset p a b d conn load crcs h k = absurd k
 contents-right ms r id e command.Session p a b d conn load crcs h k =
     unless-true _ 0x07 (ap₂ (λ (i n : ℕ). is_padded (piece (session_payload i ms.profile) (width ms) n) load) (id_of ms id e h.id_is) h.session ∙ k.1)
@@ -109,14 +106,10 @@ piece-made : (ms : MasterSettings) (p : List ℕ) (k : ℕ) → length (padded (
 piece-made ms p k = padded_long (piece p (width ms) k) ms.lengths.master (let s : length (piece p (width ms) k) ≤ width ms = piece_short p (width ms) k in let w : width ms ≤ ms.lengths.master = piece_fits (OfMaster ms) in omega arith)
 
 session-count : (ms : MasterSettings) (id : ℕ) → pieces (session_payload id ms.profile) (width ms) ≡ session_pieces ms
-session-count ms id = ap (λ n. pieces_for n (width ms)) (long id ms.profile)
-  where
-    long : (id : ℕ) (p : Profile) → length (session_payload id p) ≡ id_len p
-    long id profile.One = refl
-    long id (profile.Two word) = refl
+session-count ms id = ap (λ n. pieces_for n (width ms)) (session_long id ms.profile)
 
 parameter-count : (ms : MasterSettings) → pieces (parameter_payload ms.watchdog ms.profile ms.app) (width ms) ≡ parameter_pieces ms
-parameter-count ms = ap (λ n. pieces_for n (width ms)) (lengths_are ms.watchdog ms.profile ms.app)
+parameter-count ms = ap (λ n. pieces_for n (width ms)) (parameters_long ms.watchdog ms.profile ms.app)
 
 -- the first data frame, or a further one
 data-next : (ms : MasterSettings) (id : ℕ) (e : List Deed) (g : List ℕ) (c : Command) (load : List ℕ) (p : State) (a b d m : ℕ) (hold : Bool) → length (offer (OfMaster ms) e) ≡ ms.lengths.master

@@ -29,8 +29,8 @@ load-is : (l : ℕ) → 0 < l → reset_load 0 l ≡ zero_load l
 load-is zero h = absurd (omega arith)
 load-is (suc n) h = let e : n ≡ suc n - 1 = omega arith in ap (λ n. 0 ∷ replicate n 0) e
 
-some-bytes : (l : ℕ) → IsTrue (is_length l) → 0 < l
-some-bytes l h = grind (arith, nat_tests)
+pub some_bytes : (l : ℕ) → IsTrue (is_length l) → 0 < l
+some_bytes l h = grind (arith, nat_tests)
 
 load-long : (l : ℕ) → 0 < l → length (zero_load l) ≡ l
 load-long l h = ap suc (length-replicate (l - 1) 0) ∙ omega arith
@@ -53,7 +53,7 @@ frame-is l h = ap (λ load. bytes_of (record { cmd = 0x2A; load = load; crcs = r
 
 parts-are : (l : ℕ) → IsTrue (is_length l) → frame_of l (reset_frame 0 l) ≡ zero_frame l
 parts-are l h =
-    let n : 0 < l = some-bytes l h in
+    let n : 0 < l = some_bytes l h in
     let e : length (zero_load l) ≡ l = load-long l n in
     let valid : IsTrue (is_length (length (zero_load l))) = subst (λ (l : ℕ). IsTrue (is_length l)) (sym e) h in
     ap (frame_of l) (frame-is l n)
@@ -62,7 +62,7 @@ parts-are l h =
 
 reset-long : (l : ℕ) → IsTrue (is_length l) → length (reset_frame 0 l) ≡ frame_len l
 reset-long l h =
-    let n : 0 < l = some-bytes l h in
+    let n : 0 < l = some_bytes l h in
     let f : Frame = zero_frame l in
     let b : length (with_crcs (groups f.load) f.crcs) ≡ length f.load + 2 * length (groups f.load) = groups_long f.load f.crcs (count-of f.load) in
     ap length (frame-is l n)

@@ -9,8 +9,6 @@ use Rattle.fsoe_base.specs.Bytes.{all_zero}
 use Rattle.fsoe_base.specs.Command.{command_byte}
 use Rattle.fsoe_frame.specs.Parts.{frame_of}
 use Rattle.param_load.specs.declared.master_settings.MasterSettings.{MasterSettings}
-use Rattle.param_load.specs.declared.profile.Profile.{Profile}
-use Rattle.param_load.specs.declared.profile.Profile.TheVariants as profile
 use Rattle.param_load.specs.Download.{is_padded}
 use Rattle.param_load.specs.Payload.{session_payload, connection_payload, parameter_payload, padded}
 use Rattle.end_model.specs.Setup.{OfMaster}
@@ -26,6 +24,7 @@ use Rattle.exchange_model.proofs.Fronts.{padded_long, piece_short, take_padded, 
 use Rattle.exchange_model.proofs.OnItsWay.{answering}
 use Rattle.exchange_model.proofs.Pieces.{front}
 use Rattle.exchange_model.proofs.ResetFrames.{zeros_all}
+use Rattle.exchange_model.proofs.UploadTests.{session_long}
 use Rattle.exchange_model.proofs.SlaveTurn.{Carries}
 use Rattle.exchange_model.proofs.Turns.{Partner, partner, slave_of, width, more, Turn, Starts, MoreSession, FirstConnection, MoreConnection, FirstParameter, MoreParameter, FirstZeros, FirstValues, MoreZeros, MoreValues, conn_after, SlaveAt}
 
@@ -117,10 +116,6 @@ piece-long p q c k h =
     length-take c (drop ((k - 1) * c) p)
     ∙ (ap (min c) (length-drop ((k - 1) * c) p ∙ (ap (λ n. n - (k - 1) * c) h ∙ sym (length-drop ((k - 1) * c) q))) ∙ sym (length-take c (drop ((k - 1) * c) q)))
 
-ids-long : (id id' : ℕ) (p : Profile) → length (session_payload id p) ≡ length (session_payload id' p)
-ids-long id id' profile.One = refl
-ids-long id id' (profile.Two word) = refl
-
 echo-long : (q : List ℕ) (c l m : ℕ) (load : List ℕ) → length q ≤ c → c ≤ l → c ≤ m → load ≡ padded q l → padded (take c load) m ≡ padded q m
 echo-long q c l m load h i j e = ap (λ t. padded (take c t) m) e ∙ (ap (λ t. padded t m) (take_padded q c l h i) ∙ padded_twice q c m h j)
 
@@ -189,7 +184,7 @@ reply ms r id e f load command.Session a b d conn long some k h =
     let q : List ℕ = id_piece (partner ms r) (received f command.Session load e) in
     let short : length q ≤ width ms = piece_short (session_payload sid ms.profile) (width ms) (count_in state.Session (f ∷ taken (since e))) in
     let same : length (piece (session_payload id ms.profile) (width ms) (suc a)) ≡ length q =
-    piece-long (session_payload id ms.profile) (session_payload sid ms.profile) (width ms) (suc a) (ids-long id sid ms.profile) ∙ ap (λ n. length (piece (session_payload sid ms.profile) (width ms) n)) (sym h.ids) in
+    piece-long (session_payload id ms.profile) (session_payload sid ms.profile) (width ms) (suc a) (session_long id ms.profile ∙ sym (session_long sid ms.profile)) ∙ ap (λ n. length (piece (session_payload sid ms.profile) (width ms) n)) (sym h.ids) in
     record {
       conn = 0;
       command = command.Session;

@@ -1,5 +1,5 @@
 -- A slave takes the master's frame that is on its way, and answers it.
-use Rattle.std.proofs.Common.{◌≡◌, ℕ, zero, suc, ◌+◌, ◌*◌, ◌<◌, ◌≤◌, nat_le, List, ◌++◌, length, min, take, drop, Bool, true, false, not, Some, None, IsTrue, if◌then◌else◌, refl, sym, ap, ap₂, subst, ◌∙◌, arith}
+use Rattle.std.proofs.Common.{◌≡◌, ℕ, zero, suc, ◌+◌, ◌*◌, ◌<◌, ◌≤◌, nat_le, List, ◌++◌, length, take, drop, Bool, true, false, not, Some, None, if◌then◌else◌, refl, sym, ap, ap₂, subst, ◌∙◌, arith}
 use Rattle.std.proofs.lemmas.Bool.{eq-eqb}
 use Rattle.std.proofs.lemmas.Bool.Decides.{nat_tests}
 use Rattle.fsoe_base.specs.declared.command.State.{State}
@@ -8,7 +8,6 @@ use Rattle.fsoe_base.specs.declared.command.Command.{Command}
 use Rattle.fsoe_base.specs.declared.command.Command.TheVariants as command
 use Rattle.fsoe_base.specs.Bytes.{all_zero}
 use Rattle.fsoe_base.specs.Command.{command_byte, command_of, code}
-use Rattle.fsoe_base.specs.Lengths.{is_length}
 use Rattle.fsoe_frame.specs.Parts.{Frame}
 use Rattle.param_load.specs.declared.contents.Expected.TheVariants as expected
 use Rattle.param_load.specs.declared.profile.Profile.{Profile}
@@ -27,6 +26,7 @@ use Rattle.exchange_model.proofs.Fronts.{front_long, front_begun, piece_short, t
 use Rattle.exchange_model.proofs.Framed.{piece_fits}
 use Rattle.exchange_model.proofs.OnItsWay.{OnItsWay, fits_on}
 use Rattle.exchange_model.proofs.Pieces.{front}
+use Rattle.exchange_model.proofs.ResetFrames.{some_bytes}
 use Rattle.exchange_model.proofs.Turns.{Partner, master_of, slave_of, width, session_pieces, connection_pieces, parameter_pieces, Turn, Starts, MoreSession, FirstConnection, MoreConnection, FirstParameter, MoreParameter, FirstZeros, FirstValues, MoreZeros, MoreValues, conn_after, SlaveAt}
 use Rattle.exchange_model.proofs.UploadTests.{session_passes, connection_passes, parameters_pass, parameters_count}
 use Rattle.end_model.specs.Reactions.{IsValid}
@@ -41,13 +41,10 @@ Carries ms id command.FailSafeData a b d conn load = (conn ≡ ms.conn) × (all_
 Carries ms id command.ProcessData a b d conn load = conn ≡ ms.conn
 
 pub some_width : (ms : MasterSettings) → 0 < width ms
-some_width ms = both ms.lengths.master ms.lengths.slave ms.lengths.valid_master ms.lengths.valid_slave
-  where
-    positive : (l : ℕ) → IsTrue (is_length l) → 0 < l
-    positive l h = grind (arith, nat_tests)
-
-    both : (l m : ℕ) → IsTrue (is_length l) → IsTrue (is_length m) → 0 < min l m
-    both l m h k = let a : 0 < l = positive l h in let b : 0 < m = positive m k in omega arith
+some_width ms =
+    let a : 0 < ms.lengths.master = some_bytes ms.lengths.master ms.lengths.valid_master in
+    let b : 0 < ms.lengths.slave = some_bytes ms.lengths.slave ms.lengths.valid_slave in
+    omega arith
 
 -- whether so many pieces are a whole payload
 not-done : (n c k : ℕ) (u : List ℕ) → 0 < c → k < pieces_for n c → length u ≡ k * c → nat_le n (length u) ≡ false
@@ -106,11 +103,11 @@ pub record Accepts (ms : MasterSettings) (r : Partner ms) : Type 0 where
   pub allowed : allows r.rule ms.app ≡ true
 
 -- a frame with these parts
-abbrev pub frame_with : ℕ → ℕ → Command → List ℕ → List ℕ → Frame
-frame_with unused conn c load crcs = record { cmd = command_byte c; load = load; crcs = crcs; conn = conn }
+abbrev pub parts_with : ℕ → Command → List ℕ → List ℕ → Frame
+parts_with conn c load crcs = record { cmd = command_byte c; load = load; crcs = crcs; conn = conn }
 
 passes-contents : (ms : MasterSettings) (r : Partner ms) (id : ℕ) (e : List Deed) (c : Command) (p : State) (a b d conn : ℕ) (load crcs : List ℕ) → Accepts ms r → SlaveAt ms id (since e) p a b d
-    → Carries ms id c a b d conn load → contents (slave_of ms r) e c (frame_with 0 conn c load crcs) ≡ None
+    → Carries ms id c a b d conn load → contents (slave_of ms r) e c (parts_with conn c load crcs) ≡ None
 passes-contents ms r id e command.Reset p a b d conn load crcs m h k = absurd k
 passes-contents ms r id e command.Session p a b d conn load crcs m h k =
     session_passes id ms.profile (length (joined state.Session (width ms) (since e))) (joined state.Session (width ms) (since e) ++ take (width ms) load) (drop (width ms) load)

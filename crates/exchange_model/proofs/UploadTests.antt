@@ -53,20 +53,20 @@ both-zero false b x h i = cc
 none-of : (a b : Option Code) → a ≡ None → b ≡ None → or_else a b ≡ None
 none-of a b h i = ap₂ or_else h i
 
-session-long : (id : ℕ) (p : Profile) → length (session_payload id p) ≡ id_len p
-session-long id profile.One = refl
-session-long id (profile.Two word) = refl
+pub session_long : (id : ℕ) (p : Profile) → length (session_payload id p) ≡ id_len p
+session_long id profile.One = refl
+session_long id (profile.Two word) = refl
 
-parameters-long : (w : ℕ) (p : Profile) (app : List ℕ) → length (parameter_payload w p app) ≡ id_len p + 4 + length app
-parameters-long w profile.One app = omega arith
-parameters-long w (profile.Two word) app = omega arith
+pub parameters_long : (w : ℕ) (p : Profile) (app : List ℕ) → length (parameter_payload w p app) ≡ id_len p + 4 + length app
+parameters_long w profile.One app = omega arith
+parameters_long w (profile.Two word) app = omega arith
 
 -- the padding of a frame whose bytes begin the payload
 padding-passes : (e : Expected) (u p rest : List ℕ) → length p ≡ expected_len e → IsBegun u p → all_zero rest ≡ true → padding_fault e u rest ≡ None
 padding-passes e u p rest h b z = both-zero _ _ (code 0x07) (ap (λ n. all_zero (drop n u)) (sym h) ∙ padding_in u p b) z
 
 pub session_passes : (id : ℕ) (p : Profile) (before : ℕ) (u rest : List ℕ) → IsBegun u (session_payload id p) → all_zero rest ≡ true → contents_fault (expected.Session p) before u rest ≡ None
-session_passes id p before u rest b z = padding-passes (expected.Session p) u (session_payload id p) rest (session-long id p) b z
+session_passes id p before u rest b z = padding-passes (expected.Session p) u (session_payload id p) rest (session_long id p) b z
 
 pub connection_passes : (conn address before : ℕ) (u rest : List ℕ) → IsBegun u (connection_payload conn address) → all_zero rest ≡ true → contents_fault (expected.Connection conn address) before u rest ≡ None
 connection_passes conn address before u rest b z =
@@ -115,10 +115,7 @@ parameters_pass w most rule p app before u rest some fits long fine b z =
     (one-passes _ (code 0x0B)
     (no-fault before u (id_len p + 3 + rule_len rule) _
     (λ h. ap (allows rule) (ap (λ n. take n (drop (id_len p + 4) u)) (sym long) ∙ (part_in u payload b (id_len p + 4) (length app) (omega arith) ∙ app-is w p app zs)) ∙ fine))))
-    (padding-passes (expected.Parameter most rule p) u payload rest (parameters-long w p app ∙ ap (λ n. id_len p + 4 + n) long) b z)
+    (padding-passes (expected.Parameter most rule p) u payload rest (parameters_long w p app ∙ ap (λ n. id_len p + 4 + n) long) b z)
 
 pub parameters_count : (w : ℕ) (p : Profile) (app u : List ℕ) → IsBegun u (parameter_payload w p app) → id_len p + 4 ≤ length u → number_at (id_len p + 2) u ≡ length app
 parameters_count w p app u b h = number_in u (parameter_payload w p app) b (id_len p + 2) (omega arith) ∙ count-is w p app (replicate b.zeros 0)
-
-pub lengths_are : (w : ℕ) (p : Profile) (app : List ℕ) → length (parameter_payload w p app) ≡ id_len p + 4 + length app
-lengths_are w p app = parameters-long w p app
