@@ -1,5 +1,6 @@
 -- A master takes the answer that is on its way, and sends the next frame.
-use Rattle.std.proofs.Common.{◌≡◌, ℕ, suc, ◌+◌, ◌<◌, ◌≤◌, nat_lt, List, [], ◌∷◌, length, replicate, Bool, true, false, Some, None, if◌then◌else◌, refl, sym, ap, ap₂, subst, ◌∙◌, arith}
+use Rattle.std.proofs.Common.{◌≡◌, ℕ, suc, ◌+◌, ◌<◌, ◌≤◌, nat_lt, List, [], ◌∷◌, length, replicate, Bool, true, false, Some, None, if◌then◌else◌, refl, sym, ap, ap₂, subst, ◌∙◌, arith, unwrap_or}
+use Rattle.std.specs.Option.{option_or}
 use Rattle.std.proofs.lemmas.Bool.{eq-eqb, ltb-true, ltb-false}
 use Rattle.std.proofs.lemmas.List.{length-replicate}
 use Rattle.std.specs.Cmp.Lexicographic.{bytes_decides}
@@ -16,10 +17,10 @@ use Rattle.end_model.specs.Setup.{OfMaster}
 use Rattle.end_model.specs.Phases.{phase_of, is_reset}
 use Rattle.end_model.specs.Deed.{Deed}
 use Rattle.end_model.specs.Chain.{since, own, seal}
-use Rattle.end_model.specs.Payloads.{or_else, piece, pieces, pieces_for, count_in, first_some, nonce, id_sent, session_id}
+use Rattle.end_model.specs.Payloads.{piece, pieces, pieces_for, count_in, nonce, id_sent, session_id}
 use Rattle.end_model.specs.Readiness.{offer, held, master_allows}
 use Rattle.end_model.specs.Verdict.{has_conn, contents}
-use Rattle.end_model.specs.Step.{sealed, with_data, answer, download, after_phase}
+use Rattle.end_model.specs.Step.{sealed, with_data, answer, download_frame, after_phase}
 use Rattle.end_model.specs.Reactions.{received, IsValid}
 use Rattle.exchange_model.proofs.Framed.{piece_fits}
 use Rattle.exchange_model.proofs.Fronts.{padded_long, piece_short}
@@ -47,7 +48,7 @@ conn-right ms id e command.FailSafeData a b d conn load k = eq-eqb conn ms.conn 
 conn-right ms id e command.ProcessData a b d conn load k = eq-eqb conn ms.conn k
 
 pub id_of : (ms : MasterSettings) (id : ℕ) (e : List Deed) → id_sent (OfMaster ms) e ≡ Some id → session_id (OfMaster ms) e ≡ id
-id_of ms id e h = ap (λ o. or_else o (nonce (OfMaster ms) e)) h
+id_of ms id e h = ap (λ o. unwrap_or o (nonce (OfMaster ms) e)) h
 
 echoes : (q load : List ℕ) (l : ℕ) → length q ≤ l → load ≡ padded q l → is_echo q load ≡ true
 echoes q load l h e =
@@ -146,7 +147,7 @@ reached k n k' n' e f h g = let i : n ≤ k = ltb-false k n h in omega arith
 
 session-next : (ms : MasterSettings) (id : ℕ) (e : List Deed) (g load : List ℕ) (a : ℕ) (more : Bool) → MasterAt ms id e state.Session a 0 0 → a ≤ session_pieces ms
     → nat_lt (count_in state.Session (own (since e))) (pieces (session_payload (session_id (OfMaster ms) e) ms.profile) (width ms)) ≡ more
-    → Next ms id e g command.Session load (if more then download ms (received g command.Session load e) command.Session (suc (count_in state.Session (own (since e)))) else after_phase ms (received g command.Session load e) command.Session) state.Session a 0 0 a
+    → Next ms id e g command.Session load (if more then download_frame ms (received g command.Session load e) command.Session (suc (count_in state.Session (own (since e)))) else after_phase ms (received g command.Session load e) command.Session) state.Session a 0 0 a
 session-next ms id e g load a true h most k =
     record {
       conn = 0;
@@ -173,7 +174,7 @@ session-next ms id e g load a false h most k =
 
 connection-next : (ms : MasterSettings) (id : ℕ) (e : List Deed) (g load : List ℕ) (b m : ℕ) (more : Bool) → MasterAt ms id e state.Connection (session_pieces ms) b 0 → b ≤ connection_pieces ms → m ≡ session_pieces ms + b
     → nat_lt (count_in state.Connection (own (since e))) (connection_pieces ms) ≡ more
-    → Next ms id e g command.Connection load (if more then download ms (received g command.Connection load e) command.Connection (suc (count_in state.Connection (own (since e)))) else after_phase ms (received g command.Connection load e) command.Connection) state.Connection (session_pieces ms) b 0 m
+    → Next ms id e g command.Connection load (if more then download_frame ms (received g command.Connection load e) command.Connection (suc (count_in state.Connection (own (since e)))) else after_phase ms (received g command.Connection load e) command.Connection) state.Connection (session_pieces ms) b 0 m
 connection-next ms id e g load b m true h most at k =
     record {
       conn = ms.conn;
@@ -200,7 +201,7 @@ connection-next ms id e g load b m false h most at k =
 
 parameter-next : (ms : MasterSettings) (id : ℕ) (e : List Deed) (g load : List ℕ) (d m : ℕ) (more : Bool) → length (offer (OfMaster ms) e) ≡ ms.lengths.master → MasterAt ms id e state.Parameter (session_pieces ms) (connection_pieces ms) d
     → d ≤ parameter_pieces ms → m ≡ session_pieces ms + connection_pieces ms + d → nat_lt (count_in state.Parameter (own (since e))) (pieces (parameter_payload ms.watchdog ms.profile ms.app) (width ms)) ≡ more
-    → Next ms id e g command.Parameter load (if more then download ms (received g command.Parameter load e) command.Parameter (suc (count_in state.Parameter (own (since e)))) else after_phase ms (received g command.Parameter load e) command.Parameter) state.Parameter (session_pieces ms) (connection_pieces ms) d m
+    → Next ms id e g command.Parameter load (if more then download_frame ms (received g command.Parameter load e) command.Parameter (suc (count_in state.Parameter (own (since e)))) else after_phase ms (received g command.Parameter load e) command.Parameter) state.Parameter (session_pieces ms) (connection_pieces ms) d m
 parameter-next ms id e g load d m true long h most at k =
     record {
       conn = ms.conn;
@@ -235,7 +236,7 @@ pub master_after : (ms : MasterSettings) (id : ℕ) (e w : List Deed) (g : List 
     → MasterAt ms id (answering g c load (seal (master_of ms) w conn c' made) ∷ e) (phase_of c') (more state.Session c' a) (more state.Connection c' b) (more state.Parameter c' d)
 master_after ms id e w g c command.Reset load made p a b d conn n h = cc
 master_after ms id e w g c command.Session load made p a b d conn n h =
-    record { phase = refl; session = ap suc h.session; connection = h.connection; parameters = h.parameters; id_is = ap (λ o. first_some o (Some (nonce (OfMaster ms) e))) h.id_is }
+    record { phase = refl; session = ap suc h.session; connection = h.connection; parameters = h.parameters; id_is = ap (λ o. option_or o (Some (nonce (OfMaster ms) e))) h.id_is }
 master_after ms id e w g c command.Connection load made p a b d conn n h = record { phase = refl; session = h.session; connection = ap suc h.connection; parameters = h.parameters; id_is = h.id_is }
 master_after ms id e w g c command.Parameter load made p a b d conn n h = record { phase = refl; session = h.session; connection = h.connection; parameters = ap suc h.parameters; id_is = h.id_is }
 master_after ms id e w g c command.FailSafeData load made p a b d conn n h = record { phase = refl; session = h.session; connection = h.connection; parameters = h.parameters; id_is = h.id_is }

@@ -20,7 +20,7 @@ use Rattle.end_model.specs.Setup.{Setup, sends, receives}
 use Rattle.end_model.specs.Phases.{is_reset, has_command}
 use Rattle.end_model.specs.Deed.{Deed}
 use Rattle.end_model.specs.Chain.{own, taken, kept, newest_crc, own_link, taken_link, fits, seal}
-use Rattle.end_model.specs.Step.{takes}
+use Rattle.end_model.specs.Step.{takes_frame}
 use Rattle.end_model.specs.Neighbours.{IsOtherThanNewest, NeighboursDiffer}
 use Rattle.end_model.proofs.ReadBack.{valid_length, read_back}
 
@@ -92,7 +92,7 @@ pub record Fresh (s : Setup) (u : List Deed) : Type 0 where
 
 -- the deed that takes a frame of a session and answers it
 abbrev pub answering : List ℕ → Command → List ℕ → List ℕ → Deed
-answering f c load g = record { what = move.Deliver f; did = takes c load; sent = g }
+answering f c load g = record { what = move.Deliver f; did = takes_frame c load; sent = g }
 
 taken-more : (f : List ℕ) (c : Command) (load g : List ℕ) (v : List Deed) → is_reset c ≡ false → taken (answering f c load g ∷ v) ≡ f ∷ taken v
 taken-more f command.Reset load g v n = cc

@@ -1,5 +1,6 @@
 -- What a slave took after the frame in turn, and the answer that it seals.
-use Rattle.std.proofs.Common.{◌≡◌, ℕ, zero, suc, ◌*◌, ◌-◌, ◌<◌, ◌≤◌, List, [], ◌∷◌, ◌++◌, length, min, take, drop, replicate, Bool, true, false, Option, Some, None, if◌then◌else◌, refl, sym, ap, ap₂, subst, ◌∙◌, arith}
+use Rattle.std.proofs.Common.{◌≡◌, ℕ, zero, suc, ◌*◌, ◌-◌, ◌<◌, ◌≤◌, List, [], ◌∷◌, ◌++◌, length, min, take, drop, replicate, Bool, true, false, Option, Some, None, if◌then◌else◌, refl, sym, ap, ap₂, subst, ◌∙◌, arith, unwrap_or}
+use Rattle.std.specs.Option.{option_or}
 use Rattle.std.proofs.lemmas.List.{length-replicate, length-take, length-drop}
 use Rattle.fsoe_base.specs.declared.command.State.{State}
 use Rattle.fsoe_base.specs.declared.command.State.TheVariants as state
@@ -15,7 +16,7 @@ use Rattle.end_model.specs.Setup.{OfMaster}
 use Rattle.end_model.specs.Phases.{phase_of, is_reset}
 use Rattle.end_model.specs.Deed.{Deed}
 use Rattle.end_model.specs.Chain.{since, taken, seal}
-use Rattle.end_model.specs.Payloads.{or_else, piece, count_in, conn_in, first_conn, first_some, session_id, conn_id}
+use Rattle.end_model.specs.Payloads.{piece, count_in, conn_in, first_conn, session_id, conn_id}
 use Rattle.end_model.specs.Readiness.{offer, held}
 use Rattle.end_model.specs.Step.{sealed, with_data, answer, id_piece}
 use Rattle.end_model.specs.Reactions.{received}
@@ -28,11 +29,11 @@ use Rattle.exchange_model.proofs.UploadTests.{session_long}
 use Rattle.exchange_model.proofs.SlaveTurn.{Carries}
 use Rattle.exchange_model.proofs.Turns.{Partner, partner, slave_of, width, more, Turn, Starts, MoreSession, FirstConnection, MoreConnection, FirstParameter, MoreParameter, FirstZeros, FirstValues, MoreZeros, MoreValues, conn_after, SlaveAt}
 
-some-none : (o : Option ℕ) → first_some o None ≡ o
+some-none : (o : Option ℕ) → option_or o None ≡ o
 some-none None = refl
 some-none (Some n) = refl
 
-same-conn : (conn b : ℕ) → first_some (conn_after conn b) (Some conn) ≡ Some conn
+same-conn : (conn b : ℕ) → option_or (conn_after conn b) (Some conn) ≡ Some conn
 same-conn conn zero = refl
 same-conn conn (suc b) = refl
 
@@ -57,7 +58,7 @@ slave_after ms id v command.Connection p a b d conn load f g tail h head n k =
       connection = ap₂ (λ (t u : List ℕ). t ++ take (width ms) u) h.connection k.1 ∙ ap (λ t. front (connection_payload ms.conn ms.address) (width ms) b ++ t) (take_padded (piece (connection_payload ms.conn ms.address) (width ms) (suc b)) (width ms) ms.lengths.master (piece_short (connection_payload ms.conn ms.address) (width ms) (suc b)) (piece_fits (OfMaster ms)));
       parameters = h.parameters;
       ids = ap (λ f. count_in state.Session (f ∷ taken v)) head ∙ h.ids;
-      conn = ap₂ first_some h.conn (guarded-conn f tail head ∙ ap Some (n ∙ k.0)) ∙ same-conn ms.conn b;
+      conn = ap₂ option_or h.conn (guarded-conn f tail head ∙ ap Some (n ∙ k.0)) ∙ same-conn ms.conn b;
     }
   where
     guarded-conn : (f tail : List ℕ) → f ≡ 0x64 ∷ tail → conn_in ms.lengths.master f ≡ Some (frame_of ms.lengths.master f).conn
@@ -122,7 +123,7 @@ echo-long q c l m load h i j e = ap (λ t. padded (take c t) m) e ∙ (ap (λ t.
 -- where a connection id came, it is the session's
 known : (ms : MasterSettings) (r : Partner ms) (id : ℕ) (e : List Deed) (f load : List ℕ) (c : Command) (p : State) (a b d : ℕ) → is_reset c ≡ false → SlaveAt ms id (answering f c load [] ∷ since e) p a (suc b) d
     → conn_id (slave_of ms r) (received f c load e) ≡ ms.conn
-known ms r id e f load c p a b d n h = ap (λ o. or_else o 0) h.conn
+known ms r id e f load c p a b d n h = ap (λ o. unwrap_or o 0) h.conn
 
 data-reply : (ms : MasterSettings) (r : Partner ms) (id : ℕ) (e : List Deed) (f load : List ℕ) (c : Command) (a b d : ℕ) (hold : Bool) → is_reset c ≡ false → phase_of c ≡ state.Data
     → answer (slave_of ms r) (received f c load e) (record { command = c; load = load }) ≡ with_data (slave_of ms r) (received f c load e)

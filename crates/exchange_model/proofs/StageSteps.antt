@@ -1,5 +1,6 @@
 -- Each delivery of an honest run brings the next stage.
-use Rattle.std.proofs.Common.{◌≡◌, ℕ, suc, ◌≤◌, List, [], ◌∷◌, length, Bool, true, false, not, ◌&&◌, Option, Some, None, if◌then◌else◌, refl, sym, ap, ap₂, ◌∙◌, arith, nat_le, is_some}
+use Rattle.std.proofs.Common.{◌≡◌, ℕ, suc, ◌≤◌, List, [], ◌∷◌, length, Bool, true, false, not, ◌&&◌, Option, Some, None, if◌then◌else◌, refl, sym, ap, ap₂, ◌∙◌, arith, nat_le, is_some, unwrap_or}
+use Rattle.std.specs.Option.{option_or}
 use Rattle.std.proofs.lemmas.Bool.{eq-eqb}
 use Rattle.std.specs.Cmp.Lexicographic.{bytes_decides}
 use Rattle.fsoe_base.specs.declared.command.End.{End}
@@ -18,12 +19,13 @@ use Rattle.end_model.specs.Setup.{Setup, OfMaster}
 use Rattle.end_model.specs.Phases.{is_guarded, has_command, phase_of, same_phase}
 use Rattle.end_model.specs.Deed.{Deed}
 use Rattle.end_model.specs.Chain.{since, own, seal}
-use Rattle.end_model.specs.Payloads.{or_else, piece, count_in, first_conn, first_some, nonce, session_id}
+use Rattle.end_model.specs.Payloads.{piece, count_in, first_conn, nonce, session_id}
 use Rattle.end_model.specs.Readiness.{phase_sent}
 use Rattle.end_model.specs.Step.{step}
 use Rattle.end_model.specs.Entries.{entry_of}
 use Rattle.end_model.specs.Reactions.{received}
-use Rattle.exchange_model.specs.World.{setup_of, deeds, back_th, delivery, entry_on, entry_at, IsNextEntry}
+use Rattle.black_channel.specs.Window.{back_th}
+use Rattle.exchange_model.specs.World.{setup_of, deeds, delivery, entry_on, entry_at, IsNextEntry}
 use Rattle.exchange_model.specs.Items.{Item, items_of, items, newest, answers_to, answer_among, has_bytes, number_if}
 use Rattle.exchange_model.specs.Other.{is_other}
 use Rattle.exchange_model.specs.Serving.{deliveries_to, TakesDelivery, HasNoReset, TakesDataAfter}
@@ -183,7 +185,7 @@ replied_delivered ms r w h =
           session = ap (λ t. suc (count_in state.Session t)) h.outside.master.none_sent;
           connection = ap (count_in state.Connection) h.outside.master.none_sent;
           parameters = ap (count_in state.Parameter) h.outside.master.none_sent;
-          id_is = ap (λ o. first_some o (Some (nonce (OfMaster ms) em))) h.outside.no_id ∙ ap Some (sym (ap (λ o. or_else o (nonce (OfMaster ms) em)) h.outside.no_id));
+          id_is = ap (λ o. option_or o (Some (nonce (OfMaster ms) em))) h.outside.no_id ∙ ap Some (sym (ap (λ o. unwrap_or o (nonce (OfMaster ms) em)) h.outside.no_id));
         };
         slave = record {
           phase = h.outside.phase;

@@ -26,7 +26,7 @@ use Rattle.end_model.proofs.SealedFrames.{offer_len}
 use Rattle.exchange_model.specs.World.{deeds, IsWorld}
 use Rattle.exchange_model.specs.Items.{items_of, items}
 use Rattle.exchange_model.specs.Serving.{deliveries_to}
-use Rattle.exchange_model.proofs.Shown.{deeds_are_run}
+use Rattle.exchange_model.proofs.Projection.{deeds_are_run}
 use Rattle.exchange_model.proofs.Fronts.{some_piece}
 use Rattle.exchange_model.proofs.MasterTurn.{Next, next, master_valid, master_after}
 use Rattle.exchange_model.proofs.OnItsWay.{OnItsWay, answering, next_on_its_way, head_on}

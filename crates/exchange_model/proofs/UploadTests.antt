@@ -1,5 +1,6 @@
 -- The first pieces of a master's payloads pass a slave's tests of their contents, where the settings of both match.
 use Rattle.std.proofs.Common.{◌≡◌, ℕ, ◌+◌, ◌*◌, ◌/◌, ◌%◌, ◌<◌, ◌≤◌, ◌==◌, nat_le, nat_lt, List, ◌++◌, length, take, drop, replicate, Bool, true, false, ◌&&◌, not, Option, Some, None, if◌then◌else◌, refl, sym, ap, ap₂, ◌∙◌, arith}
+use Rattle.std.specs.Option.{option_or}
 use Rattle.std.proofs.lemmas.Bool.{eq-eqb, lt-ltb, le-leb, ltb-true}
 use Rattle.std.proofs.Math.Seq.{take-append_seam}
 use Rattle.fsoe_base.specs.declared.command.Code.{Code}
@@ -11,7 +12,7 @@ use Rattle.param_load.specs.declared.contents.Expected.TheVariants as expected
 use Rattle.param_load.specs.declared.profile.Profile.{Profile}
 use Rattle.param_load.specs.declared.profile.Profile.TheVariants as profile
 use Rattle.param_load.specs.AppRule.{rule_len, allows}
-use Rattle.param_load.specs.Contents.{or_else, fails, word_is, expected_len, padding_fault, contents_fault}
+use Rattle.param_load.specs.Contents.{fails, word_is, expected_len, padding_fault, contents_fault}
 use Rattle.param_load.specs.Payload.{session_payload, connection_payload, parameter_payload, number_at}
 use Rattle.param_load.specs.Profile.{id_len}
 use Rattle.exchange_model.proofs.Fronts.{IsBegun, number_in, part_in, padding_in}
@@ -50,8 +51,8 @@ both-zero true true x h i = refl
 both-zero true false x h i = cc
 both-zero false b x h i = cc
 
-none-of : (a b : Option Code) → a ≡ None → b ≡ None → or_else a b ≡ None
-none-of a b h i = ap₂ or_else h i
+none-of : (a b : Option Code) → a ≡ None → b ≡ None → option_or a b ≡ None
+none-of a b h i = ap₂ option_or h i
 
 pub session_long : (id : ℕ) (p : Profile) → length (session_payload id p) ≡ id_len p
 session_long id profile.One = refl
