@@ -231,7 +231,12 @@ impl Master {
         }
         let repeats = self.state.is_repeat(frame);
         let mut load = Image::zeros(0);
-        let Opened::OfSession(seen) = open(frame, self.kit.settings().peer_len(), repeats, &mut load) else {
+        let Opened::OfSession(seen) = open(
+            frame,
+            self.kit.settings().peer_len(),
+            repeats,
+            &mut load,
+        ) else {
             return None;
         };
         if self.state.fault(self.kit.settings(), &seen).is_some() {

@@ -111,7 +111,6 @@ impl Exchange {
         ensures outcome { result ≡ outcome self.old.download seen.now.frame.load }
         ensures taken { OnOk result (self.new ≡ answered self.old seen.now) }
     {
-        let _piece = kit.settings().piece_len();
         let progress = self.download.check(seen.load())?;
         self.chain.take_load(seen.view(), seen.conn(), seen.load());
         self.last.set(seen.bytes());
@@ -124,7 +123,6 @@ impl Exchange {
         ensures exchange { self.new ≡ piece_sent command conn kit.now self.old }
         ensures sent { out.new ≡ piece_frame command conn kit.now self.old }
     {
-        let _piece = kit.settings().piece_len();
         let load = self.download.load(kit.settings().own_len());
         self.chain.seal(command, conn, load.bytes(), out);
     }
@@ -333,7 +331,6 @@ impl InData {
         if !data_holds(seen.command(), seen.load()) {
             return Err(Code(0x07));
         }
-        let _len = kit.settings().peer_len();
         self.chain.take_load(seen.view(), seen.conn(), seen.load());
         self.outputs.take(seen.command(), seen.load());
         self.last.set(seen.bytes());
