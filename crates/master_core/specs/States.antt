@@ -1,10 +1,9 @@
 -- How the states of a master go on: by an answer that passed the tests, and by the frame that follows it.
-use Rattle.std.specs.Prelude.{ℕ, List, Result, Ok, Err, None, replicate, if◌then◌else◌}
+use Rattle.std.specs.Prelude.{ℕ, List, Result, Ok, Err, replicate, if◌then◌else◌}
 use Rattle.fsoe_base.specs.declared.command.Code.{Code}
 use Rattle.fsoe_base.specs.declared.command.Command.{Command}
 use Rattle.fsoe_base.specs.Command.{code}
 use Rattle.fsoe_frame.specs.Parts.{bytes_of}
-use Rattle.seq_chain.specs.declared.chain.Chain.{Chain}
 use Rattle.seq_chain.specs.Chain.{after_taken, fresh, chain_sent, frame_sent}
 use Rattle.seq_chain.specs.SessionFrame.{SessionFrameView}
 use Rattle.param_load.specs.declared.upload.Progress.{Progress}

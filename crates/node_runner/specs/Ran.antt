@@ -1,5 +1,5 @@
 -- What a run over an input that is told wrote, where the sink tells it.
-use Rattle.std.specs.Prelude.{◌≡◌, ℕ, ◌+◌, List, [], ◌++◌, length, IfSome, Some}
+use Rattle.std.specs.Prelude.{◌≡◌, ℕ, ◌+◌, List, ◌++◌, length, IfSome, Some}
 use Rattle.std.specs.declared.option.Option.{Option}
 use Rattle.std.specs.Io.KnownBytes.{Consumes, prepend_known}
 use Rattle.fsoe_base.specs.declared.command.End.{End}

@@ -5,7 +5,7 @@ use Rattle.std.specs.List.{slice_split, onto_first}
 use Rattle.std.proofs.lemmas.List.Splits.{slice_split-cons_yes, slice_split-cons_no, length-slice_split}
 use Rattle.fsoe_base.specs.declared.command.End.{End}
 use Rattle.schedule_file.specs.Header.{Heading, heading_new, heading_after, is_done}
-use Rattle.schedule_file.specs.Input.{InputCause, NoLine, Stop, AtEnd, Refused, NodeInput, WholeHeader, whole_line, open_line, lines_in, lines_of, header_step, header_in, said_after, steps, texts, events_after, stop_at, input_after, input_by, node_input}
+use Rattle.schedule_file.specs.Input.{InputCause, NoLine, Stop, AtEnd, Refused, WholeHeader, whole_line, open_line, lines_in, lines_of, header_step, header_in, said_after, steps, texts, events_after, stop_at, input_after, input_by, node_input}
 use Rattle.schedule_file.specs.declared.event.Event.{Event}
 use Rattle.schedule_file.specs.declared.event.ScheduleLine.{ScheduleLine}
 use Rattle.schedule_file.specs.declared.event.ScheduleLine.TheVariants as line

@@ -1,6 +1,6 @@
 -- What a header says once it is done is such as settings may have.
 use Rattle.std.proofs.Common.{◌≡◌, ℕ, ◌+◌, ◌/◌, ◌%◌, ◌≤◌, ◌<◌, Bool, true, false, List, [], ◌∷◌, ◌++◌, length, arith, refl}
-use Rattle.std.specs.Prelude.{IsTrue, Result, Ok, Err, Option, Some, None, IfOk, IfSome, ◌&&◌, ◌||◌, ◌==◌, nat_le, nat_lt, codes, if◌then◌else◌}
+use Rattle.std.specs.Prelude.{IsTrue, Result, Ok, Err, Some, None, IfOk, IfSome, ◌&&◌, ◌||◌, ◌==◌, nat_le, nat_lt, codes, if◌then◌else◌}
 use Rattle.std.specs.Str.{bytes_eq}
 use Rattle.std.specs.Cmp.Lexicographic.{pointwise}
 use Rattle.std.proofs.lemmas.Bool.{and_parts, or_parts, leb-true, ltb-true}
@@ -24,16 +24,14 @@ use Rattle.schedule_file.specs.Fields.{◌>>=◌, value_or, next_field, no_field
 use Rattle.schedule_file.specs.Header.{Heading, heading_new, heading_after, is_done, taken, title_taken, fields_taken, rule_place, IsMasterOf, IsSlaveOf}
 use Rattle.schedule_file.specs.HeaderKind.{title_of}
 use Rattle.schedule_file.specs.HeaderLine.{InRange, RuleInRange, number_16, number_32, profile_line, hex_field, lengths_line, master_line, slave_line, any_line, listed_line, rule_line, range_line, header_line}
-use Rattle.schedule_file.specs.HeaderPart.{MasterValues, SlaveValues, lows_of, highs_of, list_with, ranges_with, rule_begun, rule_with_bytes, rule_with_pairs, master_begun, slave_begun, master_with_app, slave_with_bytes, slave_with_pairs, profile_for}
+use Rattle.schedule_file.specs.HeaderPart.{MasterValues, SlaveValues, lows_of, highs_of, list_with, rule_begun, rule_with_bytes, rule_with_pairs, master_with_app, slave_with_bytes, slave_with_pairs, profile_for}
 use Rattle.schedule_file.specs.Input.{InputCause, Stop, WholeHeader, header_step, header_in, lines_of, input_by, node_input}
 use Rattle.schedule_file.specs.Place.{is_start, is_at_slave, admitted, header_word_of, profile_given}
 use Rattle.schedule_file.specs.declared.header_kind.HeaderKind.TheVariants.{Node}
 use Rattle.schedule_file.specs.declared.header_line.HeaderLine.{HeaderLine}
 use Rattle.schedule_file.specs.declared.header_line.HeaderLine.TheVariants as says
-use Rattle.schedule_file.specs.declared.header_line.MasterLine.{MasterLine}
 use Rattle.schedule_file.specs.declared.header_line.RuleLine.{RuleLine}
 use Rattle.schedule_file.specs.declared.header_line.RuleLine.TheVariants as rule
-use Rattle.schedule_file.specs.declared.header_line.SlaveLine.{SlaveLine}
 use Rattle.schedule_file.specs.declared.line_cause.LineCause.{LineCause}
 use Rattle.schedule_file.specs.declared.line_cause.LineCause.TheVariants as cause
 use Rattle.schedule_file.specs.declared.place.Place.{Place}

@@ -1,5 +1,5 @@
 -- How the states of a slave go on by a frame that passed the tests.
-use Rattle.std.specs.Prelude.{ℕ, List, length, Result, Ok, Err, None, if◌then◌else◌}
+use Rattle.std.specs.Prelude.{ℕ, List, length, Result, Ok, Err, if◌then◌else◌}
 use Rattle.fsoe_base.specs.declared.command.Code.{Code}
 use Rattle.fsoe_base.specs.declared.command.Command.{Command}
 use Rattle.fsoe_base.specs.declared.command.Command.TheVariants as command
