@@ -41,7 +41,7 @@ impl Duo {
     ghost use Rattle.black_channel.specs.Window.{back_th};
     ghost use Rattle.schedule_file.specs.Event.{Fits};
     ghost use Rattle.exchange_model.specs.Ends.{peer};
-    ghost use Rattle.exchange_model.specs.World.{end_of_event, move_of, SameLengths};
+    ghost use Rattle.exchange_model.specs.World.{move_of, SameLengths};
     ghost use Rattle.exchange_model.specs.Other.{first_other};
     ghost use Rattle.duo_run.specs.Duo.{sent_by, lengths_of, profiles_of, steps_done, DuoStands, Steps, Misses};
     ghost use Rattle.duo_run.specs.Acts.{heard_at, IsProperAt, MasterActs, SlaveActs, Acts};

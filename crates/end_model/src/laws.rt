@@ -1,6 +1,6 @@
 //! What holds of the definitions. The calls do nothing: each law is a contract.
 
-ghost use Rattle.std.specs.Prelude.{◌≡◌, ◌≢◌, ◌<◌, ◌≤◌, ℕ, nat_le, Bool, true, not, List, ◌∷◌, ◌++◌, length, All, Some};
+ghost use Rattle.std.specs.Prelude.{◌≡◌, ◌≢◌, ◌<◌, ◌≤◌, ℕ, nat_le, true, not, List, ◌∷◌, ◌++◌, length, All, Some};
 ghost use Rattle.fsoe_base.specs.declared.command.State.TheVariants as state;
 ghost use Rattle.param_load.specs.declared.entry.Move.{Move};
 ghost use Rattle.fsoe_base.specs.declared.command.Code.{Code};

@@ -28,8 +28,7 @@ impl Model for Monitor {
 }
 
 impl Monitor {
-    ghost use Rattle.std.specs.Prelude.{◌<◌, ◌+◌, ◌^◌, List, [], ◌∷◌};
-    ghost use Rattle.fsoe_base.specs.declared.command.End.TheVariants as end_name;
+    ghost use Rattle.std.specs.Prelude.{◌<◌, ◌+◌, ◌^◌, List, []};
     ghost use Rattle.param_load.specs.declared.entry.Entry.{Entry};
     ghost use Rattle.exchange_model.specs.Items.{items, awaited};
     ghost use Rattle.exchange_model.specs.Other.{first_other};

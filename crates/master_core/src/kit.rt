@@ -1,5 +1,5 @@
 //! What a master has in every state.
-ghost use Rattle.std.specs.Prelude.{◌≡◌, ◌≤◌};
+ghost use Rattle.std.specs.Prelude.{◌≡◌};
 
 use failsafe_io::Offer;
 use param_load::{Download, MasterSettings, Payload, Profile};

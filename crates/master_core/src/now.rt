@@ -33,7 +33,7 @@ fn has_conn(settings: &MasterSettings, command: Command, field: u16) -> bool
 }
 
 impl Now {
-    ghost use Rattle.std.specs.Prelude.{◌≡◌, ◌≤◌, length, IsTrue, IfOk, option_copied};
+    ghost use Rattle.std.specs.Prelude.{◌≡◌, ◌≤◌, length, IfOk, option_copied};
     ghost use Rattle.seq_chain.specs.SessionFrame.{HasPassed};
     ghost use Rattle.end_model.specs.Setup.{OfMaster, receives};
     ghost use Rattle.end_model.specs.Verdict.{is_repeat};

@@ -1,13 +1,9 @@
 //! The five states of a master. A state is made by the transitions of this crate alone, and owns what it needs. A
 //! transition takes an answer that passed the tests in this state, and gives what is to be sent next, or the code of
 //! the test of the answer's contents that fails.
-ghost use Rattle.std.specs.Prelude.{◌≡◌, ◌≤◌, IsTrue, IfOk, OnOk, OnErr, false, length};
+ghost use Rattle.std.specs.Prelude.{◌≡◌, ◌≤◌, IfOk, OnOk, OnErr, length};
 ghost use Rattle.fsoe_base.specs.declared.command.Command.TheVariants as command;
-ghost use Rattle.fsoe_base.specs.Lengths.{is_length};
-ghost use Rattle.fsoe_frame.specs.Parts.{bytes_of};
-ghost use Rattle.param_load.specs.Download.{is_whole, outcome, piece_in_turn};
-ghost use Rattle.param_load.specs.Payload.{padded};
-ghost use Rattle.seq_chain.specs.Chain.{fits_next};
+ghost use Rattle.param_load.specs.Download.{outcome};
 ghost use Rattle.seq_chain.specs.SessionFrame.{HasPassed};
 ghost use Rattle.end_model.specs.Setup.{OfMaster, receives};
 ghost use Rattle.master_core.specs.Now.{NextUnder};
