@@ -1,8 +1,13 @@
-use Rattle.std.proofs.Common.{arith, refl, ◌∙◌}
+use Rattle.std.proofs.Common.{[], arith, refl, ◌∙◌}
+use Rattle.fsoe_io.proofs.Passing.{grew_none}
 use Rattle.node_runner.specs.Stop.{last_of}
 use Rattle.node_runner.proofs.Going.{going_start, going_sent, going_event, appended_part, ends_write, ends_closed, ends_halted, halts_after}
 use Rattle.node_runner.proofs.Running.{running_start, running_sent, running_event, running_unsent, running_lost, running_ended, running_halted, header_halted}
 use Rattle.node_runner.proofs.run.run_node.Goals as goal
+
+pub returns-in-Err-clause-ends : goal.returns-in-Err-clause-ends
+returns-in-Err-clause-ends g c =
+    ends_closed _ _ _ _ _ _ _ c.new-output.result (last_of c.in-Err.why) ([], grew_none _, c.new-output.ensures.sent) c.halt.ensures.closes (ends_halted _ _ _ _ c.in-Err.why c.in-Err.ensures.halts)
 
 pub returns-in-Err-send_before_read-clause-ends : goal.returns-in-Err-send_before_read-clause-ends
 returns-in-Err-send_before_read-clause-ends g c =
