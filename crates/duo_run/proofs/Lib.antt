@@ -1,4 +1,3 @@
-pub mod Settings
 pub mod Told
 pub mod Heard
 pub mod Moved

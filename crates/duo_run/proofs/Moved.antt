@@ -1,5 +1,6 @@
 -- What an event is to its end: by the last 64 frames of its peer as by all of them.
 use Rattle.std.proofs.Common.{◌≡◌, ℕ, List, Option, Some, None, refl, ap, subst, sym, ◌∙◌}
+use Rattle.fsoe_base.specs.LengthsOf.{length_of}
 use Rattle.fsoe_base.specs.declared.command.End.{End}
 use Rattle.fsoe_base.specs.declared.command.End.TheVariants as end_name
 use Rattle.param_load.specs.declared.entry.Move.{Move}
@@ -7,7 +8,7 @@ use Rattle.param_load.specs.declared.entry.Move.TheVariants as move
 use Rattle.black_channel.specs.Altered.{altered}
 use Rattle.black_channel.specs.Window.{back_th, WindowView, window_of}
 use Rattle.black_channel.proofs.Pushed.{back_within}
-use Rattle.schedule_file.specs.Event.{IsWritable, Fits}
+use Rattle.schedule_file.specs.Event.{IsWritable, Fits, profile_of}
 use Rattle.schedule_file.specs.declared.event.Event.{Event}
 use Rattle.schedule_file.specs.declared.event.Event.TheVariants as event
 use Rattle.end_model.specs.Setup.{OfMaster, OfSlave}
@@ -39,7 +40,7 @@ altered-proper : (at : End) (v : DuoView) (pos mask : ℕ) (frame : Option (List
 altered-proper at v pos mask None what h = absurd (cc)
 altered-proper at v pos mask (Some frame) what h = as-move at v (move.Deliver (altered pos mask frame)) what h tt
 
-proper-of : (v : DuoView) (frames : List (List ℕ)) (event : Event) (what : Move) → Fits (lengths_of v) (profiles_of v) event → move_of frames event ≡ Some what → IsProperAt (end_of_event event) v what
+proper-of : (v : DuoView) (frames : List (List ℕ)) (event : Event) (what : Move) → Fits (length_of (lengths_of v)) (profile_of (profiles_of v)) event → move_of frames event ≡ Some what → IsProperAt (end_of_event event) v what
 proper-of v frames (event.Deliver to back) what fits h = delivery-proper to v (back_th back frames) what h
 proper-of v frames (event.Altered to back pos mask) what fits h = altered-proper to v pos mask (back_th back frames) what h
 proper-of v frames (event.Raw to frame) what fits h = as-move to v (move.Deliver frame) what h tt
@@ -49,7 +50,7 @@ proper-of v frames (event.Hold at failsafe) what fits h = as-move at v (move.Hol
 proper-of v frames (event.Nonce at id) what fits h = as-move at v (move.Nonce id) what h fits.1
 proper-of v frames (event.Local at) what fits h = as-move at v move.Local what h tt
 
-pub proper_at : (at : End) (v : DuoView) (event : Event) (what : Move) → at ≡ end_of_event event → Fits (lengths_of v) (profiles_of v) event → move_of (heard_at event v) event ≡ Some what → IsProperAt at v what
+pub proper_at : (at : End) (v : DuoView) (event : Event) (what : Move) → at ≡ end_of_event event → Fits (length_of (lengths_of v)) (profile_of (profiles_of v)) event → move_of (heard_at event v) event ≡ Some what → IsProperAt at v what
 proper_at at v event what here fits h = subst (λ (at : End). IsProperAt at v what) (sym here) (proper-of v (heard_at event v) event what fits h)
 
 -- and so it is for the end's own settings

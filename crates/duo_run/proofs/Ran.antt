@@ -1,5 +1,5 @@
 -- A pair over a whole list of events.
-use Rattle.std.proofs.Common.{◌≡◌, List, [], ◌∷◌, Option, sym, ap, subst, ◌∙◌, inl, inr}
+use Rattle.std.proofs.Common.{◌≡◌, List, [], ◌∷◌, All, Option, sym, ap, subst, ◌∙◌, inl, inr}
 use Rattle.fsoe_base.specs.declared.command.End.{End}
 use Rattle.param_load.specs.declared.entry.Entry.{Entry}
 use Rattle.param_load.specs.declared.master_settings.MasterSettings.{MasterSettings}
@@ -9,9 +9,12 @@ use Rattle.end_model.specs.Entries.{entries}
 use Rattle.end_model.specs.Step.{run}
 use Rattle.exchange_model.specs.Ends.{of_end}
 use Rattle.exchange_model.specs.Fair.{Fair}
+use Rattle.exchange_model.specs.Honest.{Match, IsHonest}
 use Rattle.exchange_model.specs.Other.{before_other}
-use Rattle.exchange_model.specs.World.{setup_of, moves, going_on, world_after, world, SameLengths}
+use Rattle.exchange_model.specs.Serving.{Serves}
+use Rattle.exchange_model.specs.World.{setup_of, moves, going_on, world_after, world, SameLengths, IsProperEvent}
 use Rattle.exchange_model.proofs.Headline.{fair_world}
+use Rattle.exchange_model.proofs.HonestSchedules.{honest_serves, honest_fair}
 use Rattle.exchange_model.proofs.Others.{before_is_clean, before_is_world}
 use Rattle.exchange_model.proofs.Projection as alone
 use Rattle.duo_run.specs.Duo.{DuoView, DuoStands}
@@ -41,3 +44,11 @@ fair_before_other ms ss v w same h = fair_world ms ss (before_other w) same (bef
 
 pub runs_alone : (ms : MasterSettings) (ss : SlaveSettings) (which : End) (v : DuoView) (w : List Entry) → DuoStands ms ss v w → of_end which w ≡ entries (setup_of ms ss which) (run (setup_of ms ss which) (moves which w))
 runs_alone ms ss which v w h = alone.projection ms ss which w h.world
+
+pub serves_honest : (ms : MasterSettings) (ss : SlaveSettings) (first last : DuoView) (events : List Event) (w : List Entry) → Match ms ss → All (IsProperEvent ms ss) events → IsHonest ms ss events → DuoStands ms ss first [] → Ran first events [] last w → Serves ms events w
+serves_honest ms ss first last events w m proper honest h r =
+    subst (λ (w : List Entry). Serves ms events w) (sym (entries_are_world ms ss first last events w h r)) (honest_serves ms ss events m proper honest)
+
+pub fair_honest : (ms : MasterSettings) (ss : SlaveSettings) (first last : DuoView) (events : List Event) (w : List Entry) → Match ms ss → All (IsProperEvent ms ss) events → IsHonest ms ss events → DuoStands ms ss first [] → Ran first events [] last w → Fair ms.lengths w
+fair_honest ms ss first last events w m proper honest h r =
+    subst (λ (w : List Entry). Fair ms.lengths w) (sym (entries_are_world ms ss first last events w h r)) (honest_fair ms ss events m proper honest)

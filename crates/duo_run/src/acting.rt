@@ -31,7 +31,7 @@ pub(crate) fn end_of(event: &Event) -> End
 }
 
 /// A move at a master. The frame that it sends is written to `sent`, which is empty where it sends none.
-#[tactic(auto, using(crate::proofs::Settings::put_answers, crate::proofs::Settings::hold_answers, crate::proofs::Settings::nonce_answers))]
+#[tactic(auto, using(end_model::proofs::Settings::put_answers, end_model::proofs::Settings::hold_answers, end_model::proofs::Settings::nonce_answers))]
 fn move_master(master: &mut Master, what: &Move, sent: &mut FrameBuf) -> Did
     requires proper { IsProper (OfMaster master.old.kit.settings) what.now }
     requires rest { is_due master.old.state ≡ false }
@@ -63,7 +63,7 @@ fn move_master(master: &mut Master, what: &Move, sent: &mut FrameBuf) -> Did
 }
 
 /// The same at a slave.
-#[tactic(auto, using(crate::proofs::Settings::put_answers, crate::proofs::Settings::hold_answers, crate::proofs::Settings::nonce_answers))]
+#[tactic(auto, using(end_model::proofs::Settings::put_answers, end_model::proofs::Settings::hold_answers, end_model::proofs::Settings::nonce_answers))]
 fn move_slave(slave: &mut Slave, what: &Move, sent: &mut FrameBuf) -> Did
     requires { IsProper (OfSlave slave.old.kit.settings) what.now }
     ensures follows { Follows OfSlave slave_core.view_of slave.old what.now slave.new }

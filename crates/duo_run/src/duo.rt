@@ -34,12 +34,13 @@ impl Model for Duo {
 }
 
 impl Duo {
+    ghost use Rattle.fsoe_base.specs.LengthsOf.{length_of};
     ghost use Rattle.fsoe_base.specs.declared.command.End.TheVariants as end_name;
     ghost use Rattle.param_load.specs.declared.entry.Entry.{Entry};
     ghost use Rattle.param_load.specs.declared.master_settings.MasterSettings.{MasterSettings};
     ghost use Rattle.param_load.specs.declared.slave_settings.SlaveSettings.{SlaveSettings};
     ghost use Rattle.black_channel.specs.Window.{back_th};
-    ghost use Rattle.schedule_file.specs.Event.{Fits};
+    ghost use Rattle.schedule_file.specs.Event.{Fits, profile_of};
     ghost use Rattle.exchange_model.specs.Ends.{peer};
     ghost use Rattle.exchange_model.specs.World.{move_of, SameLengths};
     ghost use Rattle.exchange_model.specs.Other.{first_other};
@@ -68,7 +69,7 @@ impl Duo {
     /// sent; then nothing is changed. The event fits the lengths and the profiles, and fewer than 2^64 - 1 steps were done before.
     #[tactic(auto, using(crate::proofs::Moved::proper_at, crate::proofs::Stepped::steps_by, crate::proofs::Stepped::misses_by))]
     pub fn step(&mut self, event: &Event) -> Result<Entry, StepFault>
-        requires fits { Fits (lengths_of self.old) (profiles_of self.old) event.now }
+        requires fits { Fits (length_of (lengths_of self.old)) (profile_of (profiles_of self.old)) event.now }
         requires fewer { steps_done self.old + 1 < 2 ^ 64 }
         ensures steps { IfOk result (λ x. Steps self.old event.now x self.new) }
         ensures misses { OnErr result (Misses self.old event.now) }
@@ -102,7 +103,7 @@ impl Duo {
 
     /// What an event is to its end.
     fn moved(&self, event: &Event) -> Result<Move, StepFault>
-        requires { Fits (lengths_of self.now) (profiles_of self.now) event.now }
+        requires { Fits (length_of (lengths_of self.now)) (profile_of (profiles_of self.now)) event.now }
         ensures found { IfOk result (λ what. move_of (heard_at event.now self.now) event.now ≡ Some what) }
         ensures missed { OnErr result (move_of (heard_at event.now self.now) event.now ≡ None) }
     {

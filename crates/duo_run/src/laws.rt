@@ -1,6 +1,6 @@
 //! What holds of a pair over all its steps. The calls do nothing: each law is a contract.
 
-ghost use Rattle.std.specs.Prelude.{◌≡◌, List, []};
+ghost use Rattle.std.specs.Prelude.{◌≡◌, List, [], All};
 ghost use Rattle.fsoe_base.specs.declared.command.End.{End};
 ghost use Rattle.param_load.specs.declared.entry.Entry.{Entry};
 ghost use Rattle.param_load.specs.declared.master_settings.MasterSettings.{MasterSettings};
@@ -10,8 +10,10 @@ ghost use Rattle.end_model.specs.Entries.{entries};
 ghost use Rattle.end_model.specs.Step.{run};
 ghost use Rattle.exchange_model.specs.Ends.{of_end};
 ghost use Rattle.exchange_model.specs.Fair.{Fair};
+ghost use Rattle.exchange_model.specs.Honest.{Match, IsHonest};
 ghost use Rattle.exchange_model.specs.Other.{before_other};
-ghost use Rattle.exchange_model.specs.World.{setup_of, moves, world, SameLengths};
+ghost use Rattle.exchange_model.specs.Serving.{Serves};
+ghost use Rattle.exchange_model.specs.World.{setup_of, moves, world, SameLengths, IsProperEvent};
 ghost use Rattle.duo_run.specs.Duo.{DuoView, DuoStands};
 ghost use Rattle.duo_run.specs.Ran.{Ran};
 
@@ -24,6 +26,13 @@ pub fn steps()
 /// The entries of a pair before the first other one, all where there is none, are fair.
 pub fn fair()
     ensures { (ms : MasterSettings) (ss : SlaveSettings) (v : DuoView) (w : List Entry) → SameLengths ms ss → DuoStands ms ss v w → Fair ms.lengths (before_other w) }
+{}
+
+/// Over an honest schedule of proper events between matching ends a new pair refuses no event, and its entries serve and are
+/// fair.
+pub fn honest()
+    ensures serves { (ms : MasterSettings) (ss : SlaveSettings) (first last : DuoView) (events : List Event) (w : List Entry) → Match ms ss → All (IsProperEvent ms ss) events → IsHonest ms ss events → DuoStands ms ss first [] → Ran first events [] last w → Serves ms events w }
+    ensures fair { (ms : MasterSettings) (ss : SlaveSettings) (first last : DuoView) (events : List Event) (w : List Entry) → Match ms ss → All (IsProperEvent ms ss) events → IsHonest ms ss events → DuoStands ms ss first [] → Ran first events [] last w → Fair ms.lengths w }
 {}
 
 /// The entries of one end of a pair are those of the run of that end's own events alone.

@@ -1,5 +1,5 @@
 //! Both ends of a connection over a schedule: each event happens at one of them, and a frame that comes is one of those that its peer
-//! sent, or is invented. `specs` says what the definitions of a world have to do with it.
+//! sent, as it was or with one byte altered, or is invented. `specs` says what the definitions of a world have to do with it.
 #![tactic(auto)]
 
 mod acting;
@@ -10,5 +10,7 @@ pub mod laws;
 pub use duo::Duo;
 pub use fault::StepFault;
 
+#[cfg(test)]
+mod fairness;
 #[cfg(test)]
 mod tests;

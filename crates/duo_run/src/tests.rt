@@ -2,11 +2,13 @@ ghost use Rattle.std.specs.Prelude.{◌≡◌, ◌<◌, ◌≤◌, ◌+◌, ◌^
 ghost use Rattle.duo_run.specs.Duo.{steps_done};
 
 use super::*;
+use crate::fairness::first_unfair;
 use entry_text::push_entry;
-use fsoe_base::{End, Lengths};
+use fsoe_base::{Command, Did, End, Image, Lengths};
 use fsoe_io::LineText;
-use param_load::{AppBytes, AppRule, Entry, MasterSettings, Profiles, SlaveSettings};
+use param_load::{AppBytes, AppRule, Entry, MasterSettings, Move, Profiles, SlaveSettings};
 use schedule_file::{Event, ScheduleLine, read_event};
+use std::alloc::Global;
 use std::test::Fail;
 
 /// An event as a schedule writes it, and the line of its entry after the number.
@@ -222,5 +224,89 @@ fn an_altered_byte_ends_the_session(rt: HostRuntime) -> Result<(), Fail> {
     )];
     assert_eq!(rt; first_unlike(&mut duo, &altered), None);
     assert_eq!(rt; duo.other(), None);
+    Ok(())
+}
+
+/// The entries of two new ends over the events until the first data, and then over these.
+fn entries_after_first_data(alloc: Global, rows: &[&str]) -> Result<Vec<Entry>, Fail>
+    requires few { length rows.now ≤ 4 }
+{
+    let mut duo = pair(2)?;
+    let mut entries = Vec::new(alloc);
+    for (event, _) in &UNTIL_DATA {
+        entries.push(step(&mut duo, event).ok_or("event")?)?;
+    }
+    for event in rows {
+        entries.push(step(&mut duo, event).ok_or("event")?)?;
+    }
+    Ok(entries)
+}
+
+/// One thing in the entries of a run that isn't as the ends did it.
+#[derive(Clone, Copy, Debug)]
+enum Untrue {
+    /// The master put other data.
+    Put,
+    /// The master told other terms when it sent its first data.
+    Terms,
+    /// The slave shows other outputs.
+    Outputs,
+    /// The slave takes data at two repeats, though it awaits the same frame at both.
+    Twice,
+}
+
+/// Makes one thing untrue. None where there is no such entry.
+fn make_untrue(entries: &mut Vec<Entry>, what: Untrue) -> Option<()> {
+    match what {
+        Untrue::Put => entries.get_mut(0)?.what = Move::Put(Image::zeros(2)),
+        Untrue::Terms => entries.get_mut(16)?.terms.as_mut()?.conn = 3,
+        Untrue::Outputs => entries.get_mut(17)?.outputs.set(&[1, 1]),
+        Untrue::Twice => {
+            for place in [19, 20] {
+                entries.get_mut(place)?.did = Did::took(Command::ProcessData, &[1, 0], true);
+            }
+        }
+    }
+    Some(())
+}
+
+#[test]
+fn worked_runs_are_fair_before_a_foreign_frame(rt: HostRuntime) -> Result<(), Fail> {
+    for (rows, fair) in [
+        (["ds -1", "zs", "dm -2", "dm -1"].as_slice(), 23),
+        (["zs", "ds -8", "ds -1"].as_slice(), 22),
+        (["rs 36ff004ee90100"].as_slice(), 19),
+        (["zs", "ds -8", "ds -7"].as_slice(), 21),
+    ] {
+        let entries = entries_after_first_data(rt.alloc(), rows)?;
+        let entries = entries.get(..fair).ok_or("few entries")?;
+        assert_eq!(rt; first_unfair(rt.alloc(), entries)?, None, "{fair} entries");
+    }
+    Ok(())
+}
+
+#[test]
+fn untrue_entries_are_unfair(rt: HostRuntime) -> Result<(), Fail> {
+    let forged = entries_after_first_data(rt.alloc(), &["rs 36ff004ee90100"])?;
+    assert_eq!(rt; first_unfair(rt.alloc(), forged.as_slice())?, Some(20));
+    for (what, unfair) in [
+        (Untrue::Put, 18),
+        (Untrue::Terms, 18),
+        (Untrue::Outputs, 18),
+        (Untrue::Twice, 21),
+    ] {
+        let mut entries = entries_after_first_data(rt.alloc(), &["ds -2", "ds -2"])?;
+        assert_eq!(rt;
+            first_unfair(rt.alloc(), entries.as_slice())?,
+            None,
+            "{what:?}"
+        );
+        make_untrue(&mut entries, what).ok_or("few entries")?;
+        assert_eq!(rt;
+            first_unfair(rt.alloc(), entries.as_slice())?,
+            Some(unfair),
+            "{what:?}"
+        );
+    }
     Ok(())
 }

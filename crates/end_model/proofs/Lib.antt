@@ -20,3 +20,4 @@ pub mod Neighbours
 pub mod Repeats
 pub mod WholeUploads
 pub mod Calls
+pub mod Settings

@@ -19,21 +19,21 @@ valid_length (OfMaster ms) = ms.lengths.valid_master
 valid_length (OfSlave ss) = ss.lengths.valid_slave
 
 -- there are as many CRCs as groups
-count_crcs : (last conn seq cmd i : ℕ) (gs : List (List ℕ)) → length (crcs_from last conn seq cmd i gs) ≡ length gs
+pub count_crcs : (last conn seq cmd i : ℕ) (gs : List (List ℕ)) → length (crcs_from last conn seq cmd i gs) ≡ length gs
 count_crcs last conn seq cmd i [] = refl
 count_crcs last conn seq cmd i (g ∷ gs) = ap suc (count_crcs last conn seq cmd (suc i) gs)
 
-count_groups : (load : List ℕ) → length (groups load) ≡ (length load + 1) / 2
+pub count_groups : (load : List ℕ) → length (groups load) ≡ (length load + 1) / 2
 count_groups [] = refl
 count_groups (d ∷ []) = refl
 count_groups (d ∷ d' ∷ load) = let e = count_groups load in omega arith
 
-halves : (l : ℕ) → IsTrue (is_length l) → (l + 1) / 2 ≡ group_count l
+pub halves : (l : ℕ) → IsTrue (is_length l) → (l + 1) / 2 ≡ group_count l
 halves l h = grind (arith, nat_tests)
 
 -- a frame with as many CRCs as its load has groups
-made : (f : Frame) → IsTrue (is_length (length f.load)) → length f.crcs ≡ group_count (length f.load) → frame_of (length f.load) (bytes_of f) ≡ f
-made f h k = frame_layout f.cmd f.conn f.load f.crcs h k
+pub parts_made : (f : Frame) → IsTrue (is_length (length f.load)) → length f.crcs ≡ group_count (length f.load) → frame_of (length f.load) (bytes_of f) ≡ f
+parts_made f h k = frame_layout f.cmd f.conn f.load f.crcs h k
 
 pub read_back : (s : Setup) (e : List Deed) (conn : ℕ) (c : Command) (load : List ℕ) → length load ≡ sends s
     → frame_of (sends s) (seal s e conn c load) ≡ sealing.sealed (newest_crc (receives s) (taken e)) (own_link s e) conn (command_byte c) load
@@ -41,4 +41,4 @@ read_back s e conn c load h =
     let valid : IsTrue (is_length (length load)) = subst (λ (l : ℕ). IsTrue (is_length l)) (sym h) (valid_length s) in
     let f : Frame = sealing.sealed (newest_crc (receives s) (taken e)) (own_link s e) conn (command_byte c) load in
     ap (λ (l : ℕ). frame_of l (bytes_of f)) (sym h)
-    ∙ made f valid (count_crcs _ conn _ (command_byte c) 0 (groups load) ∙ (count_groups load ∙ halves (length load) valid))
+    ∙ parts_made f valid (count_crcs _ conn _ (command_byte c) 0 (groups load) ∙ (count_groups load ∙ halves (length load) valid))

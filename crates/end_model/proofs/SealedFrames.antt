@@ -31,7 +31,7 @@ sealed-if : (s : Setup) (e : List Deed) (b : Bool) (f g : List ℕ) → IsSealed
 sealed-if s e true f g h k = h
 sealed-if s e false f g h k = k
 
-padded_len : (bytes : List ℕ) (n : ℕ) → length bytes ≤ n → length (padded bytes n) ≡ n
+pub padded_len : (bytes : List ℕ) (n : ℕ) → length bytes ≤ n → length (padded bytes n) ≡ n
 padded_len bytes n h = simp (length-append, length-replicate) (omega arith)
 
 min_left : (m n : ℕ) → min m n ≤ m

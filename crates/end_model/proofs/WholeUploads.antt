@@ -14,7 +14,8 @@ use Rattle.end_model.specs.Step.{IsRun}
 use Rattle.end_model.proofs.SlaveShown.{SlaveShows, parameters}
 use Rattle.end_model.proofs.Shown.{slave-run}
 
-by_count : (v n said len : ℕ) (b : Bool) → nat_le (v + 4) len ≡ b → (v + 4 ≤ len → said ≡ n) → has_all (if b then Some (v + 4 + said) else None) len ≡ nat_le (v + 4 + n) len
+-- a count of all bytes that reads as n, once it came, tells whether the parameters are whole
+pub by_count : (v n said len : ℕ) (b : Bool) → nat_le (v + 4) len ≡ b → (v + 4 ≤ len → said ≡ n) → has_all (if b then Some (v + 4 + said) else None) len ≡ nat_le (v + 4 + n) len
 by_count v n said len true h k = ap (λ (m : ℕ). nat_le (v + 4 + m) len) (k (leb-true (v + 4) len h))
 by_count v n said len false h k = grind (arith, nat_tests)
 

@@ -1,9 +1,6 @@
 -- The frames that an end sends: how they begin, and what they carry.
-use Rattle.std.proofs.Common.{◌≡◌, ◌≢◌, ℕ, suc, ◌+◌, ◌-◌, ◌≤◌, List, [], ◌∷◌, length, take, replicate, Bool, true, false, Option, Some, None, nat_lt, ◌==◌, if◌then◌else◌, refl, sym, ap, subst, ◌∙◌, arith}
+use Rattle.std.proofs.Common.{◌≡◌, ◌≢◌, ℕ, ◌+◌, ◌-◌, ◌≤◌, List, [], ◌∷◌, length, take, replicate, Bool, true, false, Option, Some, None, ◌==◌, if◌then◌else◌, refl, sym, ap, subst, ◌∙◌, arith}
 use Rattle.std.proofs.lemmas.List.{length-append, length-replicate, length-take}
-use Rattle.std.proofs.lemmas.Bool.Decides.{nat_tests}
-use Rattle.fsoe_base.specs.declared.command.State.{State}
-use Rattle.fsoe_base.specs.declared.command.State.TheVariants as state
 use Rattle.fsoe_base.specs.declared.command.Command.{Command}
 use Rattle.fsoe_base.specs.declared.command.Command.TheVariants as command
 use Rattle.fsoe_base.specs.Command.{command_byte, command_of}
@@ -14,13 +11,13 @@ use Rattle.param_load.specs.Payload.{connection_payload, parameter_payload, padd
 use Rattle.end_model.specs.Setup.{Setup, OfMaster, OfSlave, sends, piece_len}
 use Rattle.end_model.specs.Phases.{is_guarded, is_guarded_if, is_guarded_frame, phase_of, phase_of_known, phase_of_frame}
 use Rattle.end_model.specs.Deed.{Deed}
-use Rattle.end_model.specs.Chain.{since, own}
-use Rattle.end_model.specs.Payloads.{piece, pieces, count_in, conn_id, session_id, pay}
+use Rattle.end_model.specs.Chain.{since}
+use Rattle.end_model.specs.Payloads.{piece, pieces, conn_id, session_id, pay}
 use Rattle.end_model.specs.Readiness.{offer, held}
-use Rattle.end_model.specs.Step.{sealed, with_piece, with_data, download_frame, after_phase, master_answer, slave_answer, IsRun}
+use Rattle.end_model.specs.Step.{sealed, with_piece, with_data, download_frame, slave_answer, IsRun}
 use Rattle.end_model.specs.Reactions.{received, Taking}
 use Rattle.end_model.proofs.ReadBack.{read_back}
-use Rattle.end_model.proofs.SealedFrames.{offer_len}
+use Rattle.end_model.proofs.SealedFrames.{padded_len, offer_len}
 use Rattle.end_model.proofs.Taken.{answer_is}
 use Rattle.fsoe_base.specs.Data.{is_data}
 use Rattle.exchange_model.proofs.Joint.{is_guarded_in}
@@ -96,11 +93,8 @@ phase_framed l c load f h = phase_by f c (command_framed l c load f h)
 pub sealed_frame : (s : Setup) (e : List Deed) (c : Command) (load : List ℕ) → length load ≡ sends s → IsFrame (sends s) c load (sealed s e c load)
 sealed_frame s e c load h = record { rest = _; is = refl; carries = ap (λ f. f.load) (read_back s (since e) (if is_guarded c then conn_id s e else 0) c load h) }
 
-length-padded : (p : List ℕ) (l : ℕ) → length p ≤ l → length (padded p l) ≡ l
-length-padded p l h = length-append p (replicate (l - length p) 0) ∙ (ap (λ n. length p + n) (length-replicate (l - length p) 0) ∙ omega arith)
-
 pub piece_frame : (s : Setup) (e : List Deed) (c : Command) (p : List ℕ) → length p ≤ sends s → IsFrame (sends s) c (padded p (sends s)) (with_piece s e c p)
-piece_frame s e c p h = sealed_frame s e c (padded p (sends s)) (length-padded p (sends s) h)
+piece_frame s e c p h = sealed_frame s e c (padded p (sends s)) (padded_len p (sends s) h)
 
 -- a piece is no longer than a frame's safe data
 pub piece_fits : (s : Setup) → piece_len s ≤ sends s
@@ -146,10 +140,6 @@ connection_of ms = connection_payload ms.conn ms.address
 abbrev pub parameters_of : MasterSettings → List ℕ
 parameters_of ms = parameter_payload ms.watchdog ms.profile ms.app
 
--- the frames of a phase that a master sent in its session
-abbrev pub sent_in : State → List Deed → ℕ
-sent_in phase e = count_in phase (own (since e))
-
 -- a master's frame with the k-th piece of a payload
 abbrev pub IsPiece : MasterSettings → Command → List ℕ → ℕ → List ℕ → Type 0
 IsPiece ms c payload k f = IsFrame (sends (OfMaster ms)) c (padded (piece payload (piece_len (OfMaster ms)) k) (sends (OfMaster ms))) f
@@ -157,41 +147,11 @@ IsPiece ms c payload k f = IsFrame (sends (OfMaster ms)) c (padded (piece payloa
 abbrev pub pieces_of : MasterSettings → List ℕ → ℕ
 pieces_of ms payload = pieces payload (piece_len (OfMaster ms))
 
--- what a master sends on a frame with this command
-pub data MasterSends (ms : MasterSettings) (e : List Deed) : Command → List ℕ → Type 0 where
-  Begins : (load f : List ℕ) → IsFrame (sends (OfMaster ms)) command.Session load f → MasterSends ms e command.Reset f
-  GoesOn : (load f : List ℕ) → IsFrame (sends (OfMaster ms)) command.Session load f → MasterSends ms e command.Session f
-  Connects : (f : List ℕ) → IsPiece ms command.Connection (connection_of ms) 1 f → MasterSends ms e command.Session f
-  MoreConnection : (f : List ℕ) → IsPiece ms command.Connection (connection_of ms) (suc (sent_in state.Connection e)) f → MasterSends ms e command.Connection f
-  Sets : (f : List ℕ) → pieces_of ms (connection_of ms) ≤ sent_in state.Connection e → IsPiece ms command.Parameter (parameters_of ms) 1 f → MasterSends ms e command.Connection f
-  MoreParameter : (f : List ℕ) → IsPiece ms command.Parameter (parameters_of ms) (suc (sent_in state.Parameter e)) f → MasterSends ms e command.Parameter f
-  Opens : (f : List ℕ) → pieces_of ms (parameters_of ms) ≤ sent_in state.Parameter e → IsData (OfMaster ms) e f → MasterSends ms e command.Parameter f
-  Exchanges : (c : Command) (f : List ℕ) → is_data c ≡ true → IsData (OfMaster ms) e f → MasterSends ms e c f
+-- the frame with a piece of a payload, of a master that takes a frame
+pub piece_sent : (ms : MasterSettings) (e : List Deed) (bytes load : List ℕ) (c next : Command) (k : ℕ) (f : List ℕ) → f ≡ download_frame ms (received bytes c load e) next k
+    → IsPiece ms next (pay ms (session_id (OfMaster ms) (received bytes c load e)) (phase_of next)) k f
+piece_sent ms e bytes load c next k f made = subst (IsPiece ms next _ k) (sym made) (piece_frame (OfMaster ms) (received bytes c load e) next _ (front_fits (OfMaster ms) _))
 
-download-frame : (ms : MasterSettings) (e : List Deed) (c : Command) (k : ℕ) → IsPiece ms c (pay ms (session_id (OfMaster ms) e) (phase_of c)) k (download_frame ms e c k)
-download-frame ms e c k = piece_frame (OfMaster ms) e c _ (front_fits (OfMaster ms) _)
-
-after-session : (ms : MasterSettings) (e : List Deed) (k : ℕ) (b : Bool) → MasterSends ms e command.Session (if b then download_frame ms e command.Session (suc k) else after_phase ms e command.Session)
-after-session ms e k true = GoesOn _ _ (download-frame ms e command.Session (suc k))
-after-session ms e k false = Connects _ (download-frame ms e command.Connection 1)
-
-after-connection : (ms : MasterSettings) (e : List Deed) (b : Bool) → nat_lt (sent_in state.Connection e) (pieces_of ms (connection_of ms)) ≡ b
-    → MasterSends ms e command.Connection (if b then download_frame ms e command.Connection (suc (sent_in state.Connection e)) else after_phase ms e command.Connection)
-after-connection ms e true h = MoreConnection _ (download-frame ms e command.Connection (suc (sent_in state.Connection e)))
-after-connection ms e false h = Sets _ (grind (arith, nat_tests)) (download-frame ms e command.Parameter 1)
-
-after-parameter : (ms : MasterSettings) (e : List Deed) (b : Bool) → length (offer (OfMaster ms) e) ≡ sends (OfMaster ms) → nat_lt (sent_in state.Parameter e) (pieces_of ms (parameters_of ms)) ≡ b
-    → MasterSends ms e command.Parameter (if b then download_frame ms e command.Parameter (suc (sent_in state.Parameter e)) else after_phase ms e command.Parameter)
-after-parameter ms e true k h = MoreParameter _ (download-frame ms e command.Parameter (suc (sent_in state.Parameter e)))
-after-parameter ms e false k h = Opens _ (grind (arith, nat_tests)) (data_framed (OfMaster ms) e k)
-
-master-gives : (ms : MasterSettings) (e : List Deed) (c : Command) → length (offer (OfMaster ms) e) ≡ sends (OfMaster ms) → MasterSends ms e c (master_answer ms e c)
-master-gives ms e command.Reset k = Begins _ _ (download-frame ms e command.Session 1)
-master-gives ms e command.Session k = after-session ms e (sent_in state.Session e) _
-master-gives ms e command.Connection k = after-connection ms e _ refl
-master-gives ms e command.Parameter k = after-parameter ms e _ k refl
-master-gives ms e command.FailSafeData k = Exchanges command.FailSafeData _ refl (data_framed (OfMaster ms) e k)
-master-gives ms e command.ProcessData k = Exchanges command.ProcessData _ refl (data_framed (OfMaster ms) e k)
-
-pub master_sends : (ms : MasterSettings) (e : List Deed) (bytes load : List ℕ) (c : Command) (f : List ℕ) → IsRun (OfMaster ms) e → Taking e bytes load (OfMaster ms) c f → MasterSends ms (received bytes c load e) c f
-master_sends ms e bytes load c f r taking = subst (MasterSends ms (received bytes c load e) c) (sym (answer_is e bytes load (OfMaster ms) c f taking)) (master-gives ms (received bytes c load e) c (offer_len (OfMaster ms) e r))
+-- the data frame of a master that takes a frame
+pub data_sent : (ms : MasterSettings) (e : List Deed) (bytes load : List ℕ) (c : Command) (f : List ℕ) → IsRun (OfMaster ms) e → f ≡ with_data (OfMaster ms) (received bytes c load e) → IsData (OfMaster ms) (received bytes c load e) f
+data_sent ms e bytes load c f r made = subst (IsData (OfMaster ms) (received bytes c load e)) (sym made) (data_framed (OfMaster ms) (received bytes c load e) (offer_len (OfMaster ms) e r))

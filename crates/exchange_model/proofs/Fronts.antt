@@ -6,21 +6,16 @@ use Rattle.std.proofs.Math.Seq.{take-append-add, drop-append-add}
 use Rattle.fsoe_base.specs.Bytes.{all_zero}
 use Rattle.param_load.specs.Payload.{number_at, padded}
 use Rattle.end_model.specs.Payloads.{piece, pieces, pieces_for}
-use Rattle.exchange_model.proofs.Pieces.{front}
+use Rattle.end_model.proofs.SealedFrames.{padded_len}
+use Rattle.exchange_model.proofs.Pieces.{front, piece_short}
 use Rattle.exchange_model.proofs.Agree.{front_whole}
 use Rattle.exchange_model.proofs.ResetFrames.{zeros_all}
-
-pub padded_long : (p : List ℕ) (l : ℕ) → length p ≤ l → length (padded p l) ≡ l
-padded_long p l h = length-append p (replicate (l - length p) 0) ∙ (ap (λ n. length p + n) (length-replicate (l - length p) 0) ∙ omega arith)
-
-pub piece_short : (p : List ℕ) (c k : ℕ) → length (piece p c k) ≤ c
-piece_short p c k = omega (arith, length-take c (drop ((k - 1) * c) p))
 
 pub front_long : (p : List ℕ) (c k : ℕ) → length (front p c k) ≡ k * c
 front_long p c zero = omega arith
 front_long p c (suc k) =
     length-append (front p c k) (padded (piece p c (suc k)) c)
-    ∙ (ap₂ (λ (a b : ℕ). a + b) (front_long p c k) (padded_long (piece p c (suc k)) c (piece_short p c (suc k))) ∙ omega arith)
+    ∙ (ap₂ (λ (a b : ℕ). a + b) (front_long p c k) (padded_len (piece p c (suc k)) c (piece_short p c (suc k))) ∙ omega arith)
 
 -- bytes that begin a payload with zeros after it
 pub record IsBegun (u p : List ℕ) : Type 0 where
@@ -93,11 +88,6 @@ some_piece n c h g = positive (pieces_for n c) (λ k. let z : n ≤ 0 * c = all_
     positive (suc q) f = omega arith
 
 -- past a piece in a frame there are zeros
-pub take_padded : (q : List ℕ) (c l : ℕ) → length q ≤ c → c ≤ l → take c (padded q l) ≡ padded q c
-take_padded q c l h k =
-    let e : c ≡ length q + (c - length q) = omega arith in
-    ap (λ n. take n (padded q l)) e ∙ (take-append-add q (replicate (l - length q) 0) (c - length q) ∙ ap (λ t. q ++ t) (take-replicate (c - length q) (l - length q) 0 (omega arith)))
-
 pub drop_padded : (q : List ℕ) (c l : ℕ) → length q ≤ c → all_zero (drop c (padded q l)) ≡ true
 drop_padded q c l h =
     let e : c ≡ length q + (c - length q) = omega arith in
@@ -107,7 +97,7 @@ drop_padded q c l h =
 
 -- a piece that fills an answer fills it in the same way
 pub padded_twice : (q : List ℕ) (c l : ℕ) → length q ≤ c → c ≤ l → padded (padded q c) l ≡ padded q l
-padded_twice q c l h k = filled-more q (c - length q) (l - length (padded q c)) (l - length q) (let a : length (padded q c) ≡ c = padded_long q c h in omega arith)
+padded_twice q c l h k = filled-more q (c - length q) (l - length (padded q c)) (l - length q) (let a : length (padded q c) ≡ c = padded_len q c h in omega arith)
   where
     filled-more : (q : List ℕ) (i j n : ℕ) → i + j ≡ n → (q ++ replicate i 0) ++ replicate j 0 ≡ q ++ replicate n 0
     filled-more q i j n e = append_assoc q (replicate i 0) (replicate j 0) ∙ ap (λ t. q ++ t) (replicate-append-replicate i j 0 ∙ ap (λ n. replicate n 0) e)

@@ -15,7 +15,7 @@ use Rattle.end_model.specs.Setup.{Setup, OfMaster, OfSlave, sends}
 use Rattle.end_model.specs.Deed.{Deed, is_empty}
 use Rattle.end_model.specs.Readiness.{offer, offer_after, held, held_after}
 use Rattle.end_model.specs.Step.{takes_frame, begun, IsRun}
-use Rattle.end_model.specs.Reactions.{Taking, Reaction, Answers}
+use Rattle.end_model.specs.Reactions.{OfSession, OfConnection, OfParameter, AfterSession, AfterConnection, Taking, MasterStarts, MasterGoesOn, MasterNextPhase, MasterFirstData, MasterMoreData, Reaction, Answers}
 use Rattle.end_model.proofs.Taken.{answer_is}
 use Rattle.exchange_model.specs.Ends.{same_end, of_end}
 use Rattle.exchange_model.specs.World.{setup_of, deed_in, deeds, IsWorld}
@@ -24,7 +24,7 @@ use Rattle.fsoe_base.specs.Data.{is_data}
 use Rattle.end_model.specs.Phases.{is_data_if, is_data_frame}
 use Rattle.exchange_model.specs.Fair.{frame_with, frame_if}
 use Rattle.exchange_model.proofs.Projection.{same, deeds_are_run, entry_reacted}
-use Rattle.exchange_model.proofs.Framed.{command_in, IsFrame, command_framed, IsData, Zeros, Offers, SlaveSends, Echoes, Gives, slave_sends, MasterSends, Begins, GoesOn, Connects, MoreConnection, Sets, MoreParameter, Opens, Exchanges, master_sends}
+use Rattle.exchange_model.proofs.Framed.{command_in, IsFrame, command_framed, IsData, Zeros, Offers, SlaveSends, Echoes, Gives, slave_sends, piece_sent, data_sent}
 
 -- an item of data is of the frame that its load makes
 pub record Carries (l : ℕ) (i : Item) : Type 0 where
@@ -98,22 +98,22 @@ before-it : (s : Setup) (e : List Deed) (bytes f : List ℕ) (d : Did) → IsDat
 before-it s e bytes f d (Zeros h g) = Zeros h g
 before-it s e bytes f d (Offers h g) = Offers h g
 
-master-sending : (ms : MasterSettings) (e : List Deed) (bytes : List ℕ) (d : Did) (c : Command) (f : List ℕ) → MasterSends ms (begun (move.Deliver bytes) d ∷ e) c f → Sending (OfMaster ms) e f
-master-sending ms e bytes d command.Reset f (Begins load _ g) = plain _ e _ command.Session load f refl g
-master-sending ms e bytes d command.Session f (GoesOn load _ g) = plain _ e _ command.Session load f refl g
-master-sending ms e bytes d command.Session f (Connects _ g) = plain _ e _ command.Connection _ f refl g
-master-sending ms e bytes d command.Connection f (MoreConnection _ g) = plain _ e _ command.Connection _ f refl g
-master-sending ms e bytes d command.Connection f (Sets _ x g) = plain _ e _ command.Parameter _ f refl g
-master-sending ms e bytes d command.Parameter f (MoreParameter _ g) = plain _ e _ command.Parameter _ f refl g
-master-sending ms e bytes d command.Parameter f (Opens _ x g) = OfData (before-it (OfMaster ms) e bytes f d g)
-master-sending ms e bytes d c f (Exchanges _ _ x g) = OfData (before-it (OfMaster ms) e bytes f d g)
+master-sending : (ms : MasterSettings) (e : List Deed) (bytes load : List ℕ) (c : Command) (f : List ℕ) → IsRun (OfMaster ms) e → Taking e bytes load (OfMaster ms) c f → Sending (OfMaster ms) e f
+master-sending ms e bytes load c f r (MasterStarts _ _ now none frame is_zero made sent after) = plain _ e _ command.Session _ f refl (piece_sent ms e bytes load command.Reset command.Session 1 f made)
+master-sending ms e bytes load c f r (MasterGoesOn _ _ _ OfSession now part x) = plain _ e _ command.Session _ f refl (piece_sent ms e bytes load command.Session command.Session _ f x.is_made)
+master-sending ms e bytes load c f r (MasterGoesOn _ _ _ OfConnection now part x) = plain _ e _ command.Connection _ f refl (piece_sent ms e bytes load command.Connection command.Connection _ f x.is_made)
+master-sending ms e bytes load c f r (MasterGoesOn _ _ _ OfParameter now part x) = plain _ e _ command.Parameter _ f refl (piece_sent ms e bytes load command.Parameter command.Parameter _ f x.is_made)
+master-sending ms e bytes load c f r (MasterNextPhase _ _ _ _ AfterSession now whole x) = plain _ e _ command.Connection _ f refl (piece_sent ms e bytes load command.Session command.Connection 1 f x.is_made)
+master-sending ms e bytes load c f r (MasterNextPhase _ _ _ _ AfterConnection now whole x) = plain _ e _ command.Parameter _ f refl (piece_sent ms e bytes load command.Connection command.Parameter 1 f x.is_made)
+master-sending ms e bytes load c f r (MasterFirstData _ _ now whole x) = OfData (before-it (OfMaster ms) e bytes f _ (data_sent ms e bytes load command.Parameter f r x.is_made))
+master-sending ms e bytes load c f r (MasterMoreData _ _ _ is now x) = OfData (before-it (OfMaster ms) e bytes f _ (data_sent ms e bytes load c f r x.is_made))
 
 slave-sending : (ss : SlaveSettings) (e : List Deed) (bytes : List ℕ) (d : Did) (c : Command) (f : List ℕ) → SlaveSends ss (begun (move.Deliver bytes) d ∷ e) c f → Sending (OfSlave ss) e f
 slave-sending ss e bytes d c f (Echoes load x g) = plain _ e _ c load f x g
 slave-sending ss e bytes d c f (Gives x g) = OfData (before-it (OfSlave ss) e bytes f d g)
 
 answering : (s : Setup) (e : List Deed) (bytes load : List ℕ) (c : Command) (f : List ℕ) → IsRun s e → Taking e bytes load s c f → Sending s e f
-answering (OfMaster ms) e bytes load c f r taking = master-sending ms e bytes (takes_frame c load) c f (master_sends ms e bytes load c f r taking)
+answering (OfMaster ms) e bytes load c f r taking = master-sending ms e bytes load c f r taking
 answering (OfSlave ss) e bytes load command.Reset f r taking = Plain (ap (λ (f : List ℕ). is_data_if (command_in f)) (answer_is e bytes load (OfSlave ss) command.Reset f taking))
 answering (OfSlave ss) e bytes load c f r taking = slave-sending ss e bytes (takes_frame c load) c f (slave_sends ss e bytes load c f r taking (λ k. cc))
 

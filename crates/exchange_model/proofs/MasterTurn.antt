@@ -22,8 +22,9 @@ use Rattle.end_model.specs.Readiness.{offer, held, master_allows}
 use Rattle.end_model.specs.Verdict.{has_conn, contents}
 use Rattle.end_model.specs.Step.{sealed, with_data, answer, download_frame, after_phase}
 use Rattle.end_model.specs.Reactions.{received, IsValid}
+use Rattle.exchange_model.proofs.Pieces.{piece_short}
 use Rattle.exchange_model.proofs.Framed.{piece_fits}
-use Rattle.exchange_model.proofs.Fronts.{padded_long, piece_short}
+use Rattle.end_model.proofs.SealedFrames.{padded_len}
 use Rattle.exchange_model.proofs.OnItsWay.{OnItsWay, fits_on, answering}
 use Rattle.exchange_model.proofs.ResetFrames.{zeros_all}
 use Rattle.exchange_model.proofs.SlaveReplies.{Replies}
@@ -52,7 +53,7 @@ id_of ms id e h = ap (λ o. unwrap_or o (nonce (OfMaster ms) e)) h
 
 echoes : (q load : List ℕ) (l : ℕ) → length q ≤ l → load ≡ padded q l → is_echo q load ≡ true
 echoes q load l h e =
-    let long : length load ≡ l = ap length e ∙ padded_long q l h in
+    let long : length load ≡ l = ap length e ∙ padded_len q l h in
     (bytes_decides load (padded q (length load))).1 (e ∙ ap (padded q) (sym long))
 
 unless-true : (b : Bool) (n : ℕ) → b ≡ true → (if b then None else Some (code n)) ≡ None
@@ -104,7 +105,7 @@ pub record Next (ms : MasterSettings) (id : ℕ) (e : List Deed) (g : List ℕ) 
   pub carries : Carries ms id command a b d conn made
 
 piece-made : (ms : MasterSettings) (p : List ℕ) (k : ℕ) → length (padded (piece p (width ms) k) ms.lengths.master) ≡ ms.lengths.master
-piece-made ms p k = padded_long (piece p (width ms) k) ms.lengths.master (let s : length (piece p (width ms) k) ≤ width ms = piece_short p (width ms) k in let w : width ms ≤ ms.lengths.master = piece_fits (OfMaster ms) in omega arith)
+piece-made ms p k = padded_len (piece p (width ms) k) ms.lengths.master (let s : length (piece p (width ms) k) ≤ width ms = piece_short p (width ms) k in let w : width ms ≤ ms.lengths.master = piece_fits (OfMaster ms) in omega arith)
 
 session-count : (ms : MasterSettings) (id : ℕ) → pieces (session_payload id ms.profile) (width ms) ≡ session_pieces ms
 session-count ms id = ap (λ n. pieces_for n (width ms)) (session_long id ms.profile)

@@ -22,7 +22,7 @@ use Rattle.end_model.specs.Deed.{Deed}
 use Rattle.end_model.specs.Chain.{own, taken, kept, newest_crc, own_link, taken_link, fits, seal}
 use Rattle.end_model.specs.Step.{takes_frame}
 use Rattle.end_model.specs.Neighbours.{IsOtherThanNewest, NeighboursDiffer}
-use Rattle.end_model.proofs.ReadBack.{valid_length, read_back}
+use Rattle.end_model.proofs.ReadBack.{valid_length, count_crcs, count_groups, read_back}
 
 -- a frame that was taken is the newest of these, or a Reset frame where there is none
 abbrev pub IsNewestOf : List ℕ → List (List ℕ) → Type 0
@@ -62,25 +62,16 @@ groups_long (d ∷ []) (k ∷ k' ∷ crcs) h = absurd (omega arith)
 groups_long (d ∷ d' ∷ load) [] h = absurd (omega arith)
 groups_long (d ∷ d' ∷ load) (k ∷ crcs) h = let e = groups_long load crcs (omega arith) in omega arith
 
-pub crcs_count : (last conn number cmd i : ℕ) (gs : List (List ℕ)) → length (crcs_from last conn number cmd i gs) ≡ length gs
-crcs_count last conn number cmd i [] = refl
-crcs_count last conn number cmd i (g ∷ gs) = ap suc (crcs_count last conn number cmd (suc i) gs)
-
-pub groups_count : (load : List ℕ) → length (groups load) ≡ (length load + 1) / 2
-groups_count [] = refl
-groups_count (d ∷ []) = refl
-groups_count (d ∷ d' ∷ load) = let e = groups_count load in omega arith
-
 pub lengths_add : (l n m : ℕ) → IsTrue (is_length l) → n ≡ (l + 1) / 2 → m ≡ l + 2 * n → suc (m + 2) ≡ frame_len l
 lengths_add l n m h i j = elim (cases_eq l 1) [ inl one ↦ grind (arith, nat_tests) | inr other ↦ grind (arith, nat_tests) ]
 
 pub sealed_long : (s : Setup) (e : List Deed) (conn : ℕ) (c : Command) (load : List ℕ) → length load ≡ sends s → length (seal s e conn c load) ≡ frame_len (sends s)
 sealed_long s e conn c load h =
     let g : Frame = sealing.sealed (newest_crc (receives s) (taken e)) (own_link s e) conn (command_byte c) load in
-    let a : length g.crcs ≡ length (groups load) = crcs_count _ conn _ (command_byte c) 0 (groups load) in
+    let a : length g.crcs ≡ length (groups load) = count_crcs _ conn _ (command_byte c) 0 (groups load) in
     let b : length (with_crcs (groups load) g.crcs) ≡ length load + 2 * length (groups load) = groups_long load g.crcs a in
     ap suc (length-append (with_crcs (groups load) g.crcs) (low_high conn))
-    ∙ lengths_add (sends s) (length (groups load)) (length (with_crcs (groups load) g.crcs)) (valid_length s) (groups_count load ∙ ap (λ n. (n + 1) / 2) h) (b ∙ ap (λ n. n + 2 * length (groups load)) h)
+    ∙ lengths_add (sends s) (length (groups load)) (length (with_crcs (groups load) g.crcs)) (valid_length s) (count_groups load ∙ ap (λ n. (n + 1) / 2) h) (b ∙ ap (λ n. n + 2 * length (groups load)) h)
 
 -- nothing is of a session
 pub record Fresh (s : Setup) (u : List Deed) : Type 0 where

@@ -15,19 +15,18 @@ use Rattle.param_load.specs.declared.entry.Move.TheVariants as move
 use Rattle.param_load.specs.declared.master_settings.MasterSettings.{MasterSettings}
 use Rattle.param_load.specs.Payload.{padded}
 use Rattle.end_model.specs.Setup.{Setup, OfMaster, sends, piece_len}
-use Rattle.end_model.specs.Phases.{phase_of, phase_of_frame}
+use Rattle.end_model.specs.Phases.{phase_of_frame}
 use Rattle.end_model.specs.Deed.{Deed, is_empty}
 use Rattle.end_model.specs.Chain.{since, own}
 use Rattle.end_model.specs.Payloads.{piece, count_in}
 use Rattle.end_model.specs.Readiness.{phase_sent}
 use Rattle.end_model.specs.Step.{takes_frame, IsRun}
-use Rattle.end_model.specs.Reactions.{received, with_answer, Taking, Reaction, Expires, SendsAgain, ResetsItself, Refuses, PeerResets, Answers}
+use Rattle.end_model.specs.Reactions.{OfSession, OfConnection, OfParameter, AfterSession, AfterConnection, with_answer, Taking, MasterStarts, MasterGoesOn, MasterNextPhase, MasterFirstData, MasterMoreData, Reaction, Expires, SendsAgain, ResetsItself, Refuses, PeerResets, Answers}
 use Rattle.end_model.proofs.Heads.{IsInSession}
-use Rattle.end_model.proofs.Reactions.{phase_of_data}
 use Rattle.end_model.proofs.SoundRuns.{reacted}
-use Rattle.end_model.proofs.Taken.{master_answers, master_phase}
+use Rattle.end_model.proofs.Taken.{master_answers}
 use Rattle.exchange_model.proofs.Joint.{is_guarded_in, session, carried_by}
-use Rattle.exchange_model.proofs.Framed.{IsFrame, IsData, Zeros, Offers, phase_framed, piece_fits, connection_of, parameters_of, IsPiece, pieces_of, MasterSends, Begins, GoesOn, Connects, MoreConnection, Sets, MoreParameter, Opens, Exchanges, master_sends}
+use Rattle.exchange_model.proofs.Framed.{IsFrame, IsData, Zeros, Offers, phase_framed, piece_fits, connection_of, parameters_of, IsPiece, pieces_of, piece_sent, data_sent}
 
 -- the first k pieces of a payload, each filled up with zeros
 abbrev pub front : List ℕ → ℕ → ℕ → List ℕ
@@ -48,19 +47,19 @@ pub record Sent (ms : MasterSettings) (frames : List (List ℕ)) : Type 0 where
   pub parameters : carried_by state.Parameter (sends (OfMaster ms)) (piece_len (OfMaster ms)) frames ≡ front (parameters_of ms) (piece_len (OfMaster ms)) (count_in state.Parameter frames)
   pub order : InOrder (phase_sent frames) (count_in state.Connection frames) (pieces_of ms (connection_of ms)) (count_in state.Parameter frames) (pieces_of ms (parameters_of ms))
 
-take-padded : (q : List ℕ) (c l : ℕ) → length q ≤ c → c ≤ l → take c (padded q l) ≡ padded q c
-take-padded q c l h k =
+pub take_padded : (q : List ℕ) (c l : ℕ) → length q ≤ c → c ≤ l → take c (padded q l) ≡ padded q c
+take_padded q c l h k =
     let e : c ≡ length q + (c - length q) = omega arith in
     ap (λ n. take n (padded q l)) e ∙ (take-append-add q (replicate (l - length q) 0) (c - length q)
     ∙ ap (λ t. q ++ t) (take-replicate (c - length q) (l - length q) 0 (omega arith)))
 
-piece-short : (p : List ℕ) (c k : ℕ) → length (piece p c k) ≤ c
-piece-short p c k = omega (arith, length-take c (drop ((k - 1) * c) p))
+pub piece_short : (p : List ℕ) (c k : ℕ) → length (piece p c k) ≤ c
+piece_short p c k = omega (arith, length-take c (drop ((k - 1) * c) p))
 
 -- the part of a frame with a piece
 part-is : (ms : MasterSettings) (c : Command) (p : List ℕ) (k : ℕ) (f : List ℕ) → IsPiece ms c p k f → take (piece_len (OfMaster ms)) (frame_of (sends (OfMaster ms)) f).load ≡ padded (piece p (piece_len (OfMaster ms)) k) (piece_len (OfMaster ms))
 part-is ms c p k f h =
-    ap (take (piece_len (OfMaster ms))) h.carries ∙ take-padded (piece p (piece_len (OfMaster ms)) k) (piece_len (OfMaster ms)) (sends (OfMaster ms)) (piece-short p (piece_len (OfMaster ms)) k) (piece_fits (OfMaster ms))
+    ap (take (piece_len (OfMaster ms))) h.carries ∙ take_padded (piece p (piece_len (OfMaster ms)) k) (piece_len (OfMaster ms)) (sends (OfMaster ms)) (piece_short p (piece_len (OfMaster ms)) k) (piece_fits (OfMaster ms))
 
 pub none_sent : (ms : MasterSettings) → Sent ms []
 none_sent ms = record { connection = refl; parameters = refl; order = (refl, refl) }
@@ -114,22 +113,23 @@ data_phase s e f (Offers h g) = phase_framed _ command.ProcessData _ f g
 pub order_at : (now now' : State) (k n k' n' : ℕ) → now ≡ now' → InOrder now k n k' n' → InOrder now' k n k' n'
 order_at now now' k n k' n' h o = subst (λ (x : State). InOrder x k n k' n') h o
 
--- one more frame of a master in the state of the command that it took
-sent-next : (ms : MasterSettings) (e : List Deed) (c : Command) (f : List ℕ) → MasterSends ms e c f → phase_sent (own (since e)) ≡ phase_of c → Sent ms (own (since e)) → Sent ms (f ∷ own (since e))
-sent-next ms e command.Reset f (Begins load _ g) now h = sent-session ms load f (own (since e)) g (ap is_guarded_in now) h
-sent-next ms e command.Session f (GoesOn load _ g) now h = sent-session ms load f (own (since e)) g (ap is_guarded_in now) h
-sent-next ms e command.Session f (Connects _ g) now h =
+-- one more frame of a master that takes a frame
+sent-next : (ms : MasterSettings) (e : List Deed) (bytes load : List ℕ) (c : Command) (f : List ℕ) → IsRun (OfMaster ms) e → Taking e bytes load (OfMaster ms) c f → Sent ms (own (since e)) → Sent ms (f ∷ own (since e))
+sent-next ms e bytes load c f r (MasterStarts _ _ now none frame is_zero made sent after) h = sent-session ms _ f (own (since e)) (piece_sent ms e bytes load command.Reset command.Session 1 f made) (ap is_guarded_in now) h
+sent-next ms e bytes load c f r (MasterGoesOn _ _ _ OfSession now part x) h = sent-session ms _ f (own (since e)) (piece_sent ms e bytes load command.Session command.Session _ f x.is_made) (ap is_guarded_in now) h
+sent-next ms e bytes load c f r (MasterGoesOn _ _ _ OfConnection now part x) h = sent-connection ms f (own (since e)) (piece_sent ms e bytes load command.Connection command.Connection _ f x.is_made) (order_at _ state.Connection _ _ _ _ now h.order) h
+sent-next ms e bytes load c f r (MasterGoesOn _ _ _ OfParameter now part x) h = sent-parameter ms f (own (since e)) (piece_sent ms e bytes load command.Parameter command.Parameter _ f x.is_made) (order_at _ state.Parameter _ _ _ _ now h.order) h
+sent-next ms e bytes load c f r (MasterNextPhase _ _ _ _ AfterSession now whole x) h =
     let z = order_at _ state.Session _ _ _ _ now h.order in
-    sent-connection ms f (own (since e)) (subst (λ (k : ℕ). IsPiece ms command.Connection (connection_of ms) (suc k) f) (sym z.0) g) z.1 h
-sent-next ms e command.Connection f (MoreConnection _ g) now h = sent-connection ms f (own (since e)) g (order_at _ state.Connection _ _ _ _ now h.order) h
-sent-next ms e command.Connection f (Sets _ d g) now h =
+    sent-connection ms f (own (since e)) (subst (λ (k : ℕ). IsPiece ms command.Connection (connection_of ms) (suc k) f) (sym z.0) (piece_sent ms e bytes load command.Session command.Connection 1 f x.is_made)) z.1 h
+sent-next ms e bytes load c f r (MasterNextPhase _ _ _ _ AfterConnection now whole x) h =
     let z = order_at _ state.Connection _ _ _ _ now h.order in
-    sent-parameter ms f (own (since e)) (subst (λ (k : ℕ). IsPiece ms command.Parameter (parameters_of ms) (suc k) f) (sym z) g) d h
-sent-next ms e command.Parameter f (MoreParameter _ g) now h = sent-parameter ms f (own (since e)) g (order_at _ state.Parameter _ _ _ _ now h.order) h
-sent-next ms e command.Parameter f (Opens _ d g) now h = sent-data ms f (own (since e)) (data_phase (OfMaster ms) e f g) (order_at _ state.Parameter _ _ _ _ now h.order) d h
-sent-next ms e c f (Exchanges _ _ d g) now h =
-    let z = order_at _ state.Data _ _ _ _ (now ∙ phase_of_data c d) h.order in
-    sent-data ms f (own (since e)) (data_phase (OfMaster ms) e f g) z.0 z.1 h
+    sent-parameter ms f (own (since e)) (subst (λ (k : ℕ). IsPiece ms command.Parameter (parameters_of ms) (suc k) f) (sym z) (piece_sent ms e bytes load command.Connection command.Parameter 1 f x.is_made)) whole h
+sent-next ms e bytes load c f r (MasterFirstData _ _ now whole x) h =
+    sent-data ms f (own (since e)) (data_phase (OfMaster ms) _ f (data_sent ms e bytes load command.Parameter f r x.is_made)) (order_at _ state.Parameter _ _ _ _ now h.order) whole h
+sent-next ms e bytes load c f r (MasterMoreData _ _ _ is now x) h =
+    let z = order_at _ state.Data _ _ _ _ now h.order in
+    sent-data ms f (own (since e)) (data_phase (OfMaster ms) _ f (data_sent ms e bytes load c f r x.is_made)) z.0 z.1 h
 
 abbrev pub deed : Move → Did → List ℕ → Deed
 deed m d f = record { what = m; did = d; sent = f }
@@ -142,7 +142,7 @@ sent-taken : (ms : MasterSettings) (e : List Deed) (bytes load : List ℕ) (c : 
     → Sent ms (own (since (with_answer bytes c load f e)))
 sent-taken ms e bytes load c f r taking h =
     subst (Sent ms) (sym (sent_more (deed (move.Deliver bytes) (takes_frame c load) f) e (master_answers e bytes load ms c f taking)))
-    (sent-next ms (received bytes c load e) c f (master_sends ms e bytes load c f r taking) (master_phase e bytes load ms c f taking) h)
+    (sent-next ms e bytes load c f r taking h)
 
 sent-kept : (ms : MasterSettings) (e : List Deed) (m : Move) (d : Did) (f : List ℕ) → IsRun (OfMaster ms) e → Sent ms (own (since e)) → Reaction (OfMaster ms) e m d f → Sent ms (own (since (deed m d f ∷ e)))
 sent-kept ms e m d f r h (Answers bytes load c answer taking) = sent-taken ms e bytes load c answer r taking h

@@ -21,22 +21,21 @@ use Rattle.end_model.specs.Payloads.{uploaded}
 use Rattle.end_model.specs.Readiness.{state_of, phase_sent, slave_allows}
 use Rattle.end_model.specs.Step.{takes_frame, IsRun}
 use Rattle.end_model.specs.Entries.{entry_of}
-use Rattle.end_model.specs.Reactions.{received, IsValid, IsReaction, Taking, Reaction, Expires, SendsAgain, ResetsItself, Refuses, PeerResets, Answers}
+use Rattle.end_model.specs.Reactions.{received, OfSession, OfConnection, OfParameter, AfterSession, AfterConnection, IsValid, IsReaction, Taking, MasterStarts, MasterGoesOn, MasterNextPhase, MasterFirstData, MasterMoreData, Reaction, Expires, SendsAgain, ResetsItself, Refuses, PeerResets, Answers}
 use Rattle.end_model.proofs.Reactions.{phase_of_data}
 use Rattle.end_model.proofs.SoundRuns.{answer_sent}
-use Rattle.end_model.proofs.Taken.{exchange_of, answer_is, master_phase}
+use Rattle.end_model.proofs.Taken.{exchange_of, answer_is}
 use Rattle.end_model.proofs.Heads.{IsInSession}
 use Rattle.exchange_model.specs.World.{setup_of, deed_in, deeds, SameLengths, IsNextEntry, IsWorld}
 use Rattle.exchange_model.specs.Items.{Item, newest, items_of, items, item_of, number_if}
 use Rattle.exchange_model.specs.Other.{is_other, NoOther}
-use Rattle.fsoe_base.specs.Data.{is_data}
 use Rattle.exchange_model.proofs.Projection.{next_told, deeds_are_run, entry_reacted}
 use Rattle.exchange_model.proofs.Frames.{bytes_in, frames}
 use Rattle.exchange_model.proofs.Numbered.{numbered}
 use Rattle.exchange_model.proofs.Awaited.{IsNewest, newest_is}
 use Rattle.exchange_model.proofs.Joint.{is_guarded_in, is_loading, session, carried, with_part, Placed, Joint, Before, Uploads}
 use Rattle.exchange_model.proofs.JointSteps.{master_adds, unguarded_placed, next_placed, first_placed, slave_before, slave_past, none_uploaded}
-use Rattle.exchange_model.proofs.Framed.{command_in, head_is, phase_by, phase_framed, IsFrame, connection_of, parameters_of, SlaveSends, Echoes, Gives, slave_sends, MasterSends, Begins, GoesOn, Connects, MoreConnection, Sets, MoreParameter, Opens, Exchanges, master_sends}
+use Rattle.exchange_model.proofs.Framed.{command_in, head_is, phase_by, phase_framed, IsFrame, connection_of, parameters_of, SlaveSends, Echoes, Gives, slave_sends, piece_sent}
 use Rattle.exchange_model.proofs.Pieces.{front, order_at, Sent, pieces_sent, session_own, deed, data_phase}
 use Rattle.exchange_model.proofs.Uploads.{uploads_next, state_next}
 use Rattle.exchange_model.proofs.Taking.{TakesItem, takes_item, answers_newest, data_guarded, NoneOther, none_other}
@@ -134,26 +133,23 @@ head-in : (s : Setup) (e : List Deed) (bytes load : List ℕ) (c : Command) → 
 head-in s e bytes load c v = head_is (receives s) bytes c v.is_read.command_is
 
 -- each item of a master that takes a frame has its place
-master-placed : (ms : MasterSettings) (ss : SlaveSettings) (w : List Entry) (bytes load : List ℕ) (c : Command) (f : List ℕ) (e : List Deed) → SameLengths ms ss → IsRun (OfMaster ms) (deeds end_name.Master w)
-    → state_of (OfMaster ms) (deeds end_name.Master w) ≡ phase_of c → (c ≢ command.Reset → command_in bytes ≡ Some c) → is_other (items w) (of_master ms w (move.Deliver bytes) (takes_frame c load) f) ≡ false
-    → MasterSends ms e c f → PlacedIn ss w (item_of (of_master ms w (move.Deliver bytes) (takes_frame c load) f) w (items w))
-master-placed ms ss w bytes load command.Reset f e same r now head o (Begins given _ g) = session-placed ms ss w bytes load command.Reset f given g refl
-master-placed ms ss w bytes load command.Session f e same r now head o (GoesOn given _ g) = session-placed ms ss w bytes load command.Session f given g refl
-master-placed ms ss w bytes load command.Session f e same r now head o (Connects _ g) = connection-placed ms ss w bytes load f same r now (head (λ x. cc))
-master-placed ms ss w bytes load command.Connection f e same r now head o (MoreConnection _ g) = answer-placed ms ss w bytes load f command.Connection refl o (head (λ x. cc))
-master-placed ms ss w bytes load command.Connection f e same r now head o (Sets _ d g) = answer-placed ms ss w bytes load f command.Connection refl o (head (λ x. cc))
-master-placed ms ss w bytes load command.Parameter f e same r now head o (MoreParameter _ g) = answer-placed ms ss w bytes load f command.Parameter refl o (head (λ x. cc))
-master-placed ms ss w bytes load command.Parameter f e same r now head o (Opens _ d g) = answer-placed ms ss w bytes load f command.Parameter refl o (head (λ x. cc))
-master-placed ms ss w bytes load c f e same r now head o (Exchanges _ _ d g) =
-    answer-placed ms ss w bytes load f c (data_guarded c d) o (head (λ x. let q : is_data command.Reset ≡ true = ap is_data (sym x) ∙ d in cc))
+master-placed : (ms : MasterSettings) (ss : SlaveSettings) (w : List Entry) (bytes load : List ℕ) (c : Command) (f : List ℕ) → SameLengths ms ss → IsRun (OfMaster ms) (deeds end_name.Master w)
+    → is_other (items w) (of_master ms w (move.Deliver bytes) (takes_frame c load) f) ≡ false → Taking (deeds end_name.Master w) bytes load (OfMaster ms) c f → PlacedIn ss w (item_of (of_master ms w (move.Deliver bytes) (takes_frame c load) f) w (items w))
+master-placed ms ss w bytes load c f same r o (MasterStarts _ _ now none frame is_zero made sent after) = session-placed ms ss w bytes load command.Reset f _ (piece_sent ms (deeds end_name.Master w) bytes load command.Reset command.Session 1 f made) refl
+master-placed ms ss w bytes load c f same r o (MasterGoesOn _ _ _ OfSession now part x) = session-placed ms ss w bytes load command.Session f _ (piece_sent ms (deeds end_name.Master w) bytes load command.Session command.Session _ f x.is_made) refl
+master-placed ms ss w bytes load c f same r o (MasterGoesOn _ _ _ OfConnection now part x) = answer-placed ms ss w bytes load f command.Connection refl o (head-in (OfMaster ms) _ bytes load command.Connection x.valid)
+master-placed ms ss w bytes load c f same r o (MasterGoesOn _ _ _ OfParameter now part x) = answer-placed ms ss w bytes load f command.Parameter refl o (head-in (OfMaster ms) _ bytes load command.Parameter x.valid)
+master-placed ms ss w bytes load c f same r o (MasterNextPhase _ _ _ _ AfterSession now whole x) = connection-placed ms ss w bytes load f same r now (head-in (OfMaster ms) _ bytes load command.Session x.valid)
+master-placed ms ss w bytes load c f same r o (MasterNextPhase _ _ _ _ AfterConnection now whole x) = answer-placed ms ss w bytes load f command.Connection refl o (head-in (OfMaster ms) _ bytes load command.Connection x.valid)
+master-placed ms ss w bytes load c f same r o (MasterFirstData _ _ now whole x) = answer-placed ms ss w bytes load f command.Parameter refl o (head-in (OfMaster ms) _ bytes load command.Parameter x.valid)
+master-placed ms ss w bytes load c f same r o (MasterMoreData _ _ _ is now x) = answer-placed ms ss w bytes load f c (data_guarded c is) o (head-in (OfMaster ms) _ bytes load c x.valid)
 
 master-takes : (ms : MasterSettings) (ss : SlaveSettings) (w : List Entry) (bytes load : List ℕ) (c : Command) (f : List ℕ) → SameLengths ms ss → IsRun (OfMaster ms) (deeds end_name.Master w) → Related ms ss w
     → Taking (deeds end_name.Master w) bytes load (OfMaster ms) c f → is_other (items w) (of_master ms w (move.Deliver bytes) (takes_frame c load) f) ≡ false → Related ms ss (of_master ms w (move.Deliver bytes) (takes_frame c load) f ∷ w)
 master-takes ms ss w bytes load c f same r h taking o =
     let e : List Deed = deeds end_name.Master w in
     master-grows ms ss w (move.Deliver bytes) (takes_frame c load) f (answer_sent e bytes load (OfMaster ms) c f taking)
-    (master-placed ms ss w bytes load c f (received bytes c load e) same r (master_phase e bytes load ms c f taking)
-    (λ n. head-in (OfMaster ms) e bytes load c (exchange_of e bytes load (OfMaster ms) c f taking n).2.valid) o (master_sends ms e bytes load c f r taking)) h
+    (master-placed ms ss w bytes load c f same r o taking) h
 
 -- each entry of a master keeps it
 master-keeps : (ms : MasterSettings) (ss : SlaveSettings) (w : List Entry) (m : Move) (d : Did) (f : List ℕ) → SameLengths ms ss → IsRun (OfMaster ms) (deeds end_name.Master w) → Related ms ss w

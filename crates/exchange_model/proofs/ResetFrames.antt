@@ -15,7 +15,8 @@ use Rattle.end_model.specs.Setup.{Setup, receives}
 use Rattle.end_model.specs.Deed.{Deed}
 use Rattle.end_model.specs.Chain.{since, kept}
 use Rattle.end_model.specs.Reactions.{IsResetFrame}
-use Rattle.exchange_model.proofs.OnItsWay.{crcs_count, groups_count, groups_long, lengths_add}
+use Rattle.end_model.proofs.ReadBack.{count_crcs, count_groups, halves, parts_made}
+use Rattle.exchange_model.proofs.OnItsWay.{groups_long, lengths_add}
 
 pub zeros_all : (n : ℕ) → all_zero (replicate n 0) ≡ true
 zeros_all zero = refl
@@ -35,18 +36,12 @@ some_bytes l h = grind (arith, nat_tests)
 load-long : (l : ℕ) → 0 < l → length (zero_load l) ≡ l
 load-long l h = ap suc (length-replicate (l - 1) 0) ∙ omega arith
 
-halves : (l : ℕ) → IsTrue (is_length l) → (l + 1) / 2 ≡ group_count l
-halves l h = grind (arith, nat_tests)
-
 -- the parts of a Reset frame
 abbrev zero_frame : ℕ → Frame
 zero_frame l = record { cmd = 0x2A; load = zero_load l; crcs = reset_crcs (zero_load l); conn = 0 }
 
 count-of : (load : List ℕ) → length (reset_crcs load) ≡ length (groups load)
-count-of load = crcs_count 0 0 1 0x2A 0 (groups load)
-
-parts-made : (f : Frame) → IsTrue (is_length (length f.load)) → length f.crcs ≡ group_count (length f.load) → frame_of (length f.load) (bytes_of f) ≡ f
-parts-made f h k = frame_layout f.cmd f.conn f.load f.crcs h k
+count-of load = count_crcs 0 0 1 0x2A 0 (groups load)
 
 frame-is : (l : ℕ) → 0 < l → reset_frame 0 l ≡ bytes_of (zero_frame l)
 frame-is l h = ap (λ load. bytes_of (record { cmd = 0x2A; load = load; crcs = reset_crcs load; conn = 0 })) (load-is l h)
@@ -58,7 +53,7 @@ parts-are l h =
     let valid : IsTrue (is_length (length (zero_load l))) = subst (λ (l : ℕ). IsTrue (is_length l)) (sym e) h in
     ap (frame_of l) (frame-is l n)
     ∙ (ap (λ k. frame_of k (bytes_of (zero_frame l))) (sym e)
-    ∙ parts-made (zero_frame l) valid (count-of (zero_load l) ∙ (groups_count (zero_load l) ∙ halves (length (zero_load l)) valid)))
+    ∙ parts_made (zero_frame l) valid (count-of (zero_load l) ∙ (count_groups (zero_load l) ∙ halves (length (zero_load l)) valid)))
 
 reset-long : (l : ℕ) → IsTrue (is_length l) → length (reset_frame 0 l) ≡ frame_len l
 reset-long l h =
@@ -67,7 +62,7 @@ reset-long l h =
     let b : length (with_crcs (groups f.load) f.crcs) ≡ length f.load + 2 * length (groups f.load) = groups_long f.load f.crcs (count-of f.load) in
     ap length (frame-is l n)
     ∙ (ap suc (length-append (with_crcs (groups f.load) f.crcs) (low_high 0))
-    ∙ lengths_add l (length (groups f.load)) (length (with_crcs (groups f.load) f.crcs)) h (groups_count f.load ∙ ap (λ n. (n + 1) / 2) (load-long l n)) (b ∙ ap (λ n. n + 2 * length (groups f.load)) (load-long l n)))
+    ∙ lengths_add l (length (groups f.load)) (length (with_crcs (groups f.load) f.crcs)) h (count_groups f.load ∙ ap (λ n. (n + 1) / 2) (load-long l n)) (b ∙ ap (λ n. n + 2 * length (groups f.load)) (load-long l n)))
 
 tested : (a b k : Bool) (x y z o : Code) → a ≡ true → b ≡ true → k ≡ true → (if not a then Err x else if not b then Err y else if not k then Err z else Ok o) ≡ Ok o
 tested true true true x y z o h i j = refl

@@ -21,9 +21,10 @@ use Rattle.end_model.specs.Readiness.{offer, held}
 use Rattle.end_model.specs.Step.{sealed, with_data, answer, id_piece}
 use Rattle.end_model.specs.Reactions.{received}
 use Rattle.exchange_model.proofs.Framed.{piece_fits}
-use Rattle.exchange_model.proofs.Fronts.{padded_long, piece_short, take_padded, drop_padded, padded_twice}
+use Rattle.end_model.proofs.SealedFrames.{padded_len}
+use Rattle.exchange_model.proofs.Fronts.{drop_padded, padded_twice}
 use Rattle.exchange_model.proofs.OnItsWay.{answering}
-use Rattle.exchange_model.proofs.Pieces.{front}
+use Rattle.exchange_model.proofs.Pieces.{front, piece_short, take_padded}
 use Rattle.exchange_model.proofs.ResetFrames.{zeros_all}
 use Rattle.exchange_model.proofs.UploadTests.{session_long}
 use Rattle.exchange_model.proofs.SlaveTurn.{Carries}
@@ -192,7 +193,7 @@ reply ms r id e f load command.Session a b d conn long some k h =
       made = padded q ms.lengths.slave;
       in_session = refl;
       same = refl;
-      long = padded_long q ms.lengths.slave (let w : width ms ≤ ms.lengths.slave = piece_fits (slave_of ms r) in omega arith);
+      long = padded_len q ms.lengths.slave (let w : width ms ≤ ms.lengths.slave = piece_fits (slave_of ms r) in omega arith);
       is = refl;
       replies = (refl, ap (λ n. all_zero (drop n (padded q ms.lengths.slave))) same ∙ drop_padded q (length q) ms.lengths.slave (omega arith));
     }
@@ -205,7 +206,7 @@ reply ms r id e f load command.Connection a b d conn long some k h =
       made = padded (take (width ms) load) ms.lengths.slave;
       in_session = refl;
       same = refl;
-      long = ap length same ∙ padded_long q ms.lengths.slave (let s : length q ≤ width ms = piece_short (connection_payload ms.conn ms.address) (width ms) (suc b) in let w : width ms ≤ ms.lengths.slave = piece_fits (slave_of ms r) in omega arith);
+      long = ap length same ∙ padded_len q ms.lengths.slave (let s : length q ≤ width ms = piece_short (connection_payload ms.conn ms.address) (width ms) (suc b) in let w : width ms ≤ ms.lengths.slave = piece_fits (slave_of ms r) in omega arith);
       is = refl;
       replies = (known ms r id e f load command.Connection state.Connection a b d refl h, same);
     }
@@ -218,7 +219,7 @@ reply ms r id e f load command.Parameter a b d conn long some k h =
       made = padded (take (width ms) load) ms.lengths.slave;
       in_session = refl;
       same = refl;
-      long = ap length same ∙ padded_long q ms.lengths.slave (let s : length q ≤ width ms = piece_short (parameter_payload ms.watchdog ms.profile ms.app) (width ms) (suc d) in let w : width ms ≤ ms.lengths.slave = piece_fits (slave_of ms r) in omega arith);
+      long = ap length same ∙ padded_len q ms.lengths.slave (let s : length q ≤ width ms = piece_short (parameter_payload ms.watchdog ms.profile ms.app) (width ms) (suc d) in let w : width ms ≤ ms.lengths.slave = piece_fits (slave_of ms r) in omega arith);
       is = refl;
       replies = (conn-known ms r id e f load command.Parameter state.Parameter a b (suc d) refl some h, same);
     }

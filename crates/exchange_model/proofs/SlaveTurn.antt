@@ -22,10 +22,11 @@ use Rattle.end_model.specs.Chain.{since, taken}
 use Rattle.end_model.specs.Payloads.{piece, pieces_for, joined, first_conn, has_all, whole}
 use Rattle.end_model.specs.Readiness.{slave_allows}
 use Rattle.end_model.specs.Verdict.{is_slave_conn, has_conn, contents}
-use Rattle.exchange_model.proofs.Fronts.{front_long, front_begun, piece_short, take_padded, drop_padded, not_yet, all_come, IsBegun}
+use Rattle.end_model.proofs.WholeUploads.{by_count}
+use Rattle.exchange_model.proofs.Fronts.{front_long, front_begun, drop_padded, not_yet, all_come, IsBegun}
 use Rattle.exchange_model.proofs.Framed.{piece_fits}
 use Rattle.exchange_model.proofs.OnItsWay.{OnItsWay, fits_on}
-use Rattle.exchange_model.proofs.Pieces.{front}
+use Rattle.exchange_model.proofs.Pieces.{front, piece_short, take_padded}
 use Rattle.exchange_model.proofs.ResetFrames.{some_bytes}
 use Rattle.exchange_model.proofs.Turns.{Partner, master_of, slave_of, width, session_pieces, connection_pieces, parameter_pieces, Turn, Starts, MoreSession, FirstConnection, MoreConnection, FirstParameter, MoreParameter, FirstZeros, FirstValues, MoreZeros, MoreValues, conn_after, SlaveAt}
 use Rattle.exchange_model.proofs.UploadTests.{session_passes, connection_passes, parameters_pass, parameters_count}
@@ -53,13 +54,9 @@ not-done n c k u h g e = let f : k * c < n = not_yet n c k h g in grind (arith, 
 done : (n c : ℕ) (u : List ℕ) → 0 < c → length u ≡ pieces_for n c * c → nat_le n (length u) ≡ true
 done n c u h e = let f : n ≤ pieces_for n c * c = all_come n c (pieces_for n c) h (omega arith) in grind (arith, nat_tests)
 
-counted-by : (v n said len : ℕ) (b : Bool) → nat_le (v + 4) len ≡ b → (v + 4 ≤ len → said ≡ n) → has_all (if b then Some (v + 4 + said) else None) len ≡ nat_le (v + 4 + n) len
-counted-by v n said len true h k = ap (λ (m : ℕ). nat_le (v + 4 + m) len) (k (grind (arith, nat_tests)))
-counted-by v n said len false h k = grind (arith, nat_tests)
-
 -- parameters whose first bytes came are whole when all bytes came
 parameters-whole : (w : ℕ) (p : Profile) (app u : List ℕ) → IsBegun u (parameter_payload w p app) → whole p state.Parameter u ≡ nat_le (id_len p + 4 + length app) (length u)
-parameters-whole w p app u b = counted-by (id_len p) (length app) (number_at (id_len p + 2) u) (length u) _ refl (λ h. parameters_count w p app u b h)
+parameters-whole w p app u b = by_count (id_len p) (length app) (number_at (id_len p + 2) u) (length u) _ refl (λ h. parameters_count w p app u b h)
 
 -- what the slave joined of the parameters is whole when all bytes came
 loaded : (ms : MasterSettings) (id : ℕ) (v : List Deed) (p : State) (a b d : ℕ) → SlaveAt ms id v p a b d

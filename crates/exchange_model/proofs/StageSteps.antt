@@ -31,7 +31,8 @@ use Rattle.exchange_model.specs.Other.{is_other}
 use Rattle.exchange_model.specs.Serving.{deliveries_to, TakesDelivery, HasNoReset, TakesDataAfter}
 use Rattle.exchange_model.specs.Honest.{exchanges}
 use Rattle.exchange_model.specs.Fair.{data_taken}
-use Rattle.exchange_model.proofs.Fronts.{padded_long, piece_short}
+use Rattle.end_model.proofs.SealedFrames.{padded_len}
+use Rattle.exchange_model.proofs.Pieces.{piece_short}
 use Rattle.exchange_model.proofs.Framed.{piece_fits}
 use Rattle.exchange_model.proofs.MasterTurn.{next}
 use Rattle.exchange_model.proofs.OnItsWay.{answering, first_on_its_way}
@@ -156,7 +157,7 @@ replied_delivered ms r w h =
     let load : List ℕ = zero_load ms.lengths.slave in
     let id : ℕ = session_id (OfMaster ms) (received f command.Reset load em) in
     let made : List ℕ = padded (piece (session_payload id ms.profile) (width ms) 1) ms.lengths.master in
-    let long : length made ≡ ms.lengths.master = padded_long (piece (session_payload id ms.profile) (width ms) 1) ms.lengths.master (let s : length (piece (session_payload id ms.profile) (width ms) 1) ≤ width ms = piece_short (session_payload id ms.profile) (width ms) 1 in let t : width ms ≤ ms.lengths.master = piece_fits (OfMaster ms) in omega arith) in
+    let long : length made ≡ ms.lengths.master = padded_len (piece (session_payload id ms.profile) (width ms) 1) ms.lengths.master (let s : length (piece (session_payload id ms.profile) (width ms) 1) ≤ width ms = piece_short (session_payload id ms.profile) (width ms) 1 in let t : width ms ≤ ms.lengths.master = piece_fits (OfMaster ms) in omega arith) in
     let g : List ℕ = seal (master_of ms) (answering f command.Reset load [] ∷ since em) 0 command.Session made in
     let d : Deed = answering f command.Reset load g in
     let stepped : step (master_of ms) em (move.Deliver f) ≡ d =

@@ -14,6 +14,7 @@ mismatches = (
   λ m. let other = m.same_profile in cc,
   λ m. let other = m.watchdog_accepted in omega (arith, other),
   λ m. let other = m.as_many_parameters in cc,
+  λ m. let other = m.parameters_allowed in cc,
 )
 
 pub not_plain : NotPlain

@@ -101,7 +101,8 @@ keeps_time ms ss [] w = true
 keeps_time ms ss (event ∷ events) w = may_happen ms ss w event && if_on w (entry_at ms ss w event) (keeps_time ms ss events)
 
 -- an honest schedule delivers the peer's last frames unaltered, to the slave and to the master in turn, the slave first; the
--- master's first tick comes before and is the only tick that reaches a limit; nothing else happens but puts, holds and nonces
+-- master's first tick comes before them, no later tick of the master and none of a slave outside state Reset reaches its limit,
+-- and all else is puts, holds and nonces
 pub record IsHonest (ms : MasterSettings) (ss : SlaveSettings) (events : List Event) : Type 0 where
   pub plain : IsTrue (list_all is_plain events)
   pub turns : IsTrue (in_turn end_name.Slave events)

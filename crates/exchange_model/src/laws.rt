@@ -85,8 +85,8 @@ pub fn exchanges_before_data()
     ensures { (ms : MasterSettings) (id : ℕ) → exchanges ms ≡ 1 + pieces (pay ms id state.Session) (piece_len (OfMaster ms)) + pieces (pay ms id state.Connection) (piece_len (OfMaster ms)) + pieces (pay ms id state.Parameter) (piece_len (OfMaster ms)) }
 {}
 
-/// An honest schedule brings matching ends into Data and keeps them there: the run is whole, no entry is other, no session
-/// ends and each delivery is taken. The master is in Data from the last of the exchanges before the first data on, the
+/// Over an honest schedule of proper events the run of matching ends is whole, no entry is other, no session ends and each
+/// delivery is taken. The master is in Data from the last of the exchanges before the first data on, the
 /// slave from the next delivery on, and neither is before; from then on each delivery takes data. These are those that the
 /// peer put, as the run is fair.
 pub fn honest_schedules()
