@@ -246,12 +246,12 @@ impl Master {
             return None;
         };
         match state.take(&seen, &self.kit) {
-            Err(_) => None,
+            Err(_) => return None,
             Ok(()) => {
                 state.send_next(&self.kit, out);
                 let limit = self.kit.settings().watchdog();
                 self.watchdog.restart(limit);
-                Some(Did::took(seen.command(), seen.load(), true))
+                return Some(Did::took(seen.command(), seen.load(), true));
             }
         }
     }
@@ -265,9 +265,10 @@ impl Master {
         ensures kit { self.new.kit ≡ self.old.kit }
         ensures done { is_due self.new.state ≡ false }
     {
+        // Each answer is returned where it is made: a value that joins several is moved once more.
         match self.go_on(frame, out) {
-            Some(did) => did,
-            None => self.exchange_by_move(frame, out),
+            Some(did) => return did,
+            None => return self.exchange_by_move(frame, out),
         }
     }
 

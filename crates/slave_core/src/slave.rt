@@ -131,7 +131,7 @@ impl Slave {
                 Ok(()) => {
                     let limit = state.terms().watchdog;
                     self.watchdog.restart(limit);
-                    Did::took(seen.frame().command(), seen.frame().load(), true)
+                    return Did::took(seen.frame().command(), seen.frame().load(), true);
                 }
                 Err(code) => self.fall(true, Cause::Found(code), code, out),
             },
@@ -188,13 +188,14 @@ impl Slave {
         out.clear();
         let repeats = self.state.is_repeat(frame);
         let mut load = Image::zeros(0);
+        // Each answer is returned where it is made: a value that joins several is moved once more.
         match open(frame, self.kit.settings().peer_len(), repeats, &mut load) {
-            Opened::Drop(why) => Did::dropped(why),
-            Opened::Refuse(code) => self.refuse(false, code, out),
-            Opened::ResetFrame(code, view) => self.acknowledge(code, &view, out),
+            Opened::Drop(why) => return Did::dropped(why),
+            Opened::Refuse(code) => return self.refuse(false, code, out),
+            Opened::ResetFrame(code, view) => return self.acknowledge(code, &view, out),
             Opened::OfSession(frame) => match self.state.fault(&frame) {
-                Some(code) => self.refuse(false, code, out),
-                None => self.take(&Seen::new(frame), out),
+                Some(code) => return self.refuse(false, code, out),
+                None => return self.take(&Seen::new(frame), out),
             },
         }
     }
