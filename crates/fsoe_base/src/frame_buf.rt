@@ -1,8 +1,12 @@
 //! The bytes of one frame.
 ghost use Rattle.std.specs.Prelude.{◌≡◌, ◌+◌, ◌≤◌, ◌<◌, ◌==◌, [], ◌∷◌, ◌++◌, length};
+ghost use Rattle.std.specs.Borrow.{sem};
 
 use arrayvec::ArrayVec;
 use std::marker::Model;
+
+/// What stands in a frame of the most bytes before any are written over it.
+const BLANK: [u8; 255] = [0; 255];
 
 /// The bytes of one frame, at most 255, or of none where it is empty. Contracts see it as a list.
 #[derive(Debug, Drop)]
@@ -19,6 +23,8 @@ impl Model for FrameBuf {
 }
 
 impl FrameBuf {
+    ghost use Rattle.fsoe_base.specs.FrameBuf.{lends_bytes};
+
     /// No bytes.
     pub fn new() -> FrameBuf
         ensures { result ≡ [] }
@@ -51,6 +57,24 @@ impl FrameBuf {
         self.inner.as_slice()
     }
 
+    /// The bytes, for writing over them.
+    pub fn bytes_mut(&mut self) -> &mut [u8]
+        ensures* writes_back { sem 𝓛 (lends_bytes self.entry result) }
+        ensures value { result.now ≡ self.old }
+    {
+        self.inner.as_mut_slice()
+    }
+
+    /// Has this many bytes from now on, at most 255, whichever they are.
+    pub fn resize(&mut self, len: usize)
+        requires { len ≤ 255 }
+        ensures { length self.new ≡ len }
+    {
+        if self.len() != len {
+            self.set(&BLANK[..len]);
+        }
+    }
+
     /// Forgets all bytes.
     pub fn clear(&mut self)
         ensures { self.new ≡ [] }
@@ -80,8 +104,12 @@ impl FrameBuf {
         requires { length from.now ≤ 255 }
         ensures { self.new ≡ from.now }
     {
-        self.clear();
-        let _fits = self.inner.try_extend_from_slice(from);
+        if self.len() == from.len() {
+            self.inner.as_mut_slice().copy_from_slice(from);
+        } else {
+            self.clear();
+            let _fits = self.inner.try_extend_from_slice(from);
+        }
     }
 
     /// The same bytes again.

@@ -101,8 +101,12 @@ impl Image {
         requires { length from.now ≤ 126 }
         ensures { self.new ≡ from.now }
     {
-        self.clear();
-        let _fits = self.inner.try_extend_from_slice(from);
+        if self.len() == from.len() {
+            self.inner.as_mut_slice().copy_from_slice(from);
+        } else {
+            self.clear();
+            let _fits = self.inner.try_extend_from_slice(from);
+        }
     }
 
     /// The same bytes again.

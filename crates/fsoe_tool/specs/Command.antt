@@ -7,7 +7,7 @@ use Rattle.fsoe_base.specs.declared.command.End.TheVariants as side
 use Rattle.fsoe_io.specs.Sink.{Grew}
 use Rattle.fsoe_io.specs.declared.status.Ended.{Ended}
 use Rattle.fsoe_io.specs.declared.status.Status.TheVariants as status
-use Rattle.node_runner.specs.Ending.{IsPrefix}
+use Rattle.file_run.specs.Ending.{IsPrefix}
 
 -- the end that a word names
 abbrev pub end_named : List ℕ → Option End

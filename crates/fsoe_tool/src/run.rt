@@ -1,9 +1,11 @@
 //! The commands of the program.
 ghost use Rattle.std.specs.Prelude.{◌≡◌, ◌≢◌, ◌≤◌, ◌⊎◌, IfSome, None, Some, map, string_bytes};
 ghost use Rattle.fsoe_io.specs.Faults.{Rose};
-ghost use Rattle.node_runner.specs.Ending.{Ends};
-ghost use Rattle.node_runner.specs.Ran.{Ran, ended_at};
-ghost use Rattle.schedule_file.specs.Input.{node_input};
+ghost use Rattle.schedule_file.specs.declared.header_kind.HeaderKind.TheVariants.{Node};
+ghost use Rattle.schedule_file.specs.Input.{input_of};
+ghost use Rattle.file_run.specs.Ending.{Ends};
+ghost use Rattle.file_run.specs.Ran.{Ran};
+ghost use Rattle.node_runner.specs.Ran.{EndsWell, NodeReports, ended_at};
 ghost use Rattle.fsoe_tool.specs.Command.{RanUsage, end_named, node_of};
 
 use fsoe_base::End;
@@ -73,15 +75,15 @@ pub fn run<S: Source, K: Sink>(words: &[String], source: &mut S, sink: &mut K) -
     // They run a node, and the source tells its bytes: the status says how these stop, and appended, where the sink tells
     // it, is the report, or a first part of it where a read or a write failed.
     ensures ran { (end : End) → node_of (map string_bytes words.now) ≡ Some end
-        → Ran end result (S.left source.old) (S.left source.new) (K.written sink.old) (K.written sink.new) }
+        → Ran (NodeReports end) (Node end) result (S.left source.old) (S.left source.new) (K.written sink.old) (K.written sink.new) }
     // Where neither count of faults rose besides, the status and the place are those of how the input stops.
     ensures stops { ¬ Rose (S.faults source.old) (S.faults source.new) → ¬ Rose (K.faults sink.old) (K.faults sink.new)
         → (end : End) → node_of (map string_bytes words.now) ≡ Some end
-        → IfSome (S.left source.old) (λ input. result ≡ ended_at (node_input end input).stop) }
+        → IfSome (S.left source.old) (λ input. result ≡ ended_at (input_of (Node end) input).stop) }
     // Also where the source doesn't tell them: which statuses come, place 0 with `Ok`, and with `Write` the bytes written,
     // where the sink tells these.
     ensures ends { (end : End) → node_of (map string_bytes words.now) ≡ Some end
-        → Ends result (S.left source.old) (S.left source.new) (K.written sink.old) (K.written sink.new) }
+        → Ends EndsWell result (S.left source.old) (S.left source.new) (K.written sink.old) (K.written sink.new) }
     ensures command { (end : End) → node_of (map string_bytes words.now) ≡ Some end → result.status ≢ Status.Usage }
     // A failure is blamed on an end only where its count of faults rose.
     ensures read { result.status ≡ Status.Read → Rose (S.faults source.old) (S.faults source.new) }

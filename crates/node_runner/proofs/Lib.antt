@@ -1,13 +1,5 @@
-pub mod Taken
-pub mod Going
-pub mod Settings
 pub mod Nodes
-pub mod Lines
-pub mod Found
-pub mod HeaderSeen
-pub mod Seen
 pub mod DeedLines
-pub mod Sending
+pub mod OneReport
 pub mod Running
 pub mod Exact
-pub mod OneReport

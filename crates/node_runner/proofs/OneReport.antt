@@ -16,11 +16,13 @@ use Rattle.param_load.specs.declared.master_settings.MasterSettings.{MasterSetti
 use Rattle.param_load.specs.declared.slave_settings.SlaveSettings.{SlaveSettings}
 use Rattle.schedule_file.specs.Header.{Heading}
 use Rattle.schedule_file.proofs.Sound.{gives_master, gives_slave}
-use Rattle.schedule_file.specs.Input.{NodeInput, node_input}
+use Rattle.schedule_file.specs.Input.{Input, input_of}
+use Rattle.schedule_file.specs.declared.header_kind.HeaderKind.TheVariants as kind
 use Rattle.schedule_file.specs.declared.event.Event.{Event}
 use Rattle.end_model.specs.Setup.{Setup, OfMaster, OfSlave}
+use Rattle.file_run.specs.Report.{last_line}
 use Rattle.node_runner.specs.Node.{IsSetTo}
-use Rattle.node_runner.specs.Report.{AreLines, IsReport, deed_lines, deeds, last_line}
+use Rattle.node_runner.specs.Report.{AreLines, IsReport, deed_lines, deeds}
 
 same_lengths : (a b : Lengths) → a.master ≡ b.master → a.slave ≡ b.slave → a ≡ b
 same_lengths a b master slave = λ i. record {
@@ -75,21 +77,21 @@ one_text : (end : End) (heading : Option Heading) (events : List Event) (a b : L
 one_text end None events a b x y = x ∙ sym y
 one_text end (Some h) events a b x y = x.2 ∙ ap (λ (s : Setup). deed_lines s (deeds s events)) (one_setup end h x.0 y.0 x.1 y.1) ∙ sym y.2
 
-pub one_report : (end : End) (input : NodeInput) (a b : List ℕ) → IsReport end input a → IsReport end input b → a ≡ b
+pub one_report : (end : End) (input : Input) (a b : List ℕ) → IsReport end input a → IsReport end input b → a ≡ b
 one_report end input a b x y =
     x.2 ∙ ap (λ (lines : List ℕ). lines ++ last_line (length input.events) input.stop) (one_text end input.heading input.events x.0 y.0 x.1 y.1) ∙ sym y.2
 
 -- a whole header gives settings, and so the lines of the events
-header_set : (end : End) (bytes : List ℕ) → IfSome (node_input end bytes).heading (λ h. (s : Setup) × IsSetTo end h s)
-header_set side.Master bytes = IfSome_then (node_input side.Master bytes).heading (gives_master side.Master bytes) (λ h ms. (OfMaster ms.0, ms.1))
-header_set side.Slave bytes = IfSome_then (node_input side.Slave bytes).heading (gives_slave side.Slave bytes) (λ h ss. (OfSlave ss.0, ss.1))
+header_set : (end : End) (bytes : List ℕ) → IfSome (input_of (kind.Node end) bytes).heading (λ h. (s : Setup) × IsSetTo end h s)
+header_set side.Master bytes = IfSome_then (input_of (kind.Node side.Master) bytes).heading (gives_master (kind.Node side.Master) bytes) (λ h ms. (OfMaster ms.0, ms.1))
+header_set side.Slave bytes = IfSome_then (input_of (kind.Node side.Slave) bytes).heading (gives_slave (kind.Node side.Slave) bytes) (λ h ss. (OfSlave ss.0, ss.1))
 
 some_lines : (end : End) (heading : Option Heading) (events : List Event) → IfSome heading (λ h. (s : Setup) × IsSetTo end h s) → (lines : List ℕ) × AreLines end heading events lines
 some_lines end None events set = ([], refl)
 some_lines end (Some h) events set = (deed_lines set.0 (deeds set.0 events), (set.0, set.1, refl))
 
-pub some_report : (end : End) (bytes : List ℕ) → (report : List ℕ) × IsReport end (node_input end bytes) report
+pub some_report : (end : End) (bytes : List ℕ) → (report : List ℕ) × IsReport end (input_of (kind.Node end) bytes) report
 some_report end bytes =
-    let input : NodeInput = node_input end bytes in
+    let input : Input = input_of (kind.Node end) bytes in
     let lines = some_lines end input.heading input.events (header_set end bytes) in
     (lines.0 ++ last_line (length input.events) input.stop, (lines.0, lines.1, refl))

@@ -1,12 +1,4 @@
-pub mod Cause
-pub mod Ending
-pub mod Event
-pub mod Halt
-pub mod HaltOf
-pub mod Header
-pub mod WholeLines
+pub mod Move
 pub mod Node
 pub mod Ran
 pub mod Report
-pub mod Move
-pub mod Stop

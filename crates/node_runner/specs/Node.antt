@@ -6,7 +6,10 @@ use Rattle.fsoe_base.specs.declared.did.Did.{Did}
 use Rattle.fsoe_base.specs.declared.lengths.Lengths.{Lengths}
 use Rattle.param_load.specs.declared.entry.Move.{Move}
 use Rattle.param_load.specs.declared.profile.Profile.{Profile}
+use Rattle.schedule_file.specs.Event as schedule_file
 use Rattle.schedule_file.specs.Header.{Heading, IsMasterOf, IsSlaveOf}
+use Rattle.schedule_file.specs.declared.header_kind.HeaderKind.TheVariants as kind
+use Rattle.file_run.specs.declared.event.Grammar.{Grammar}
 use Rattle.end_model.specs.Setup.{Setup, OfMaster, OfSlave}
 use Rattle.end_model.specs.Deed.{Deed}
 use Rattle.end_model.specs.Step.{step}
@@ -31,6 +34,11 @@ lengths_of (node.Slave slave) = slave.kit.settings.lengths
 abbrev pub profile_of : Node → Profile
 profile_of (node.Master master) = master.kit.settings.profile
 profile_of (node.Slave slave) = slave.kit.settings.profile
+
+-- lines are read for an end that is set so: with its lengths and its profile
+abbrev pub IsGrammarFor : Setup → Grammar → Type 0
+IsGrammarFor (OfMaster ms) grammar = (grammar.kind ≡ kind.Node side.Master) × (grammar.lengths ≡ ms.lengths) × (schedule_file.profile_of grammar.profiles side.Master ≡ ms.profile)
+IsGrammarFor (OfSlave ss) grammar = (grammar.kind ≡ kind.Node side.Slave) × (grammar.lengths ≡ ss.lengths) × (schedule_file.profile_of grammar.profiles side.Slave ≡ ss.profile)
 
 -- no frame of a master is due between events
 abbrev pub IsReady : Node → Type 0

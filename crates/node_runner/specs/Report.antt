@@ -5,14 +5,14 @@ use Rattle.fsoe_base.specs.declared.command.State.{State}
 use Rattle.fsoe_base.specs.declared.did.Did.{Did}
 use Rattle.entry_text.specs.EntryText.{entry_text}
 use Rattle.schedule_file.specs.Header.{Heading}
-use Rattle.schedule_file.specs.Input.{InputCause, Stop, AtEnd, Refused, NodeInput}
+use Rattle.schedule_file.specs.Input.{Input}
 use Rattle.schedule_file.specs.declared.event.Event.{Event}
 use Rattle.end_model.specs.Setup.{Setup}
 use Rattle.end_model.specs.Deed.{Deed}
 use Rattle.end_model.specs.Outputs.{out}
 use Rattle.end_model.specs.Readiness.{state_of}
 use Rattle.end_model.specs.Step.{run}
-use Rattle.node_runner.specs.Cause.{refusal_name}
+use Rattle.file_run.specs.Report.{last_line}
 use Rattle.node_runner.specs.Node.{IsSetTo}
 use Rattle.node_runner.specs.Move.{move_of}
 
@@ -29,19 +29,6 @@ abbrev pub deed_lines : Setup → List Deed → List ℕ
 deed_lines s [] = []
 deed_lines s (x ∷ e) = deed_lines s e ++ deed_line s e x
 
--- the last line of an input that was read up to its `end`
-abbrev pub events_line : ℕ → List ℕ
-events_line events = codes "events " ++ decimal events ++ codes "\n"
-
--- the last line where a line is refused
-abbrev pub refused_line : ℕ → InputCause → List ℕ
-refused_line line why = codes "refused " ++ decimal line ++ codes " " ++ refusal_name why ++ codes "\n"
-
--- the last line of an input with so many events
-abbrev pub last_line : ℕ → Stop → List ℕ
-last_line events AtEnd = events_line events
-last_line events (Refused line why) = refused_line line why
-
 -- the deeds of an end that is set so over these events
 abbrev pub deeds : Setup → List Event → List Deed
 deeds s events = run s (map move_of events)
@@ -52,5 +39,5 @@ AreLines end None events text = text ≡ []
 AreLines end (Some h) events text = (s : Setup) × IsSetTo end h s × (text ≡ deed_lines s (deeds s events))
 
 -- the report of the node at this end: a line for each event, and a last one, which says how the input stops
-abbrev pub IsReport : End → NodeInput → List ℕ → Type 0
+abbrev pub IsReport : End → Input → List ℕ → Type 0
 IsReport end input report = (lines : List ℕ) × AreLines end input.heading input.events lines × (report ≡ lines ++ last_line (length input.events) input.stop)

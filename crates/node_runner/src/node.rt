@@ -15,11 +15,12 @@ ghost use Rattle.master_core.specs.ViewOf as master_core;
 ghost use Rattle.slave_core.specs.ViewOf as slave_core;
 
 use entry_text::push_entry;
+use file_run::Grammar;
 use fsoe_base::{Did, End, FrameBuf, Lengths, State};
 use fsoe_io::LineText;
 use master_core::Master;
-use param_load::Profile;
-use schedule_file::{Event, Header};
+use param_load::{Profile, Profiles};
+use schedule_file::{Event, Header, HeaderKind};
 use slave_core::Slave;
 
 /// The end that a node runs.
@@ -30,7 +31,7 @@ pub enum Node {
 }
 
 /// One event at a master. The frame that it sends is written to `sent`, which is empty where it sends none.
-#[tactic(auto, using(crate::proofs::Settings::put_answers, crate::proofs::Settings::hold_answers, crate::proofs::Settings::nonce_answers))]
+#[tactic(auto, using(end_model::proofs::Settings::put_answers, end_model::proofs::Settings::hold_answers, end_model::proofs::Settings::nonce_answers))]
 fn step_master(master: &mut Master, event: &Event, sent: &mut FrameBuf) -> Did
     requires fits { FitsNode side.Master master.old.kit.settings.lengths master.old.kit.settings.profile event.now }
     requires rest { is_due master.old.state ≡ false }
@@ -62,7 +63,7 @@ fn step_master(master: &mut Master, event: &Event, sent: &mut FrameBuf) -> Did
 }
 
 /// The same at a slave.
-#[tactic(auto, using(crate::proofs::Settings::put_answers, crate::proofs::Settings::hold_answers, crate::proofs::Settings::nonce_answers))]
+#[tactic(auto, using(end_model::proofs::Settings::put_answers, end_model::proofs::Settings::hold_answers, end_model::proofs::Settings::nonce_answers))]
 fn step_slave(slave: &mut Slave, event: &Event, sent: &mut FrameBuf) -> Did
     requires { FitsNode side.Slave slave.old.kit.settings.lengths slave.old.kit.settings.profile event.now }
     ensures follows { Follows OfSlave slave_core.view_of slave.old (move_of event.now) slave.new }
@@ -108,7 +109,7 @@ impl Node {
     }
 
     /// Which end it is.
-    pub fn end(&self) -> End
+    fn end(&self) -> End
         ensures { result ≡ end_of self.now }
     {
         match self {
@@ -118,7 +119,7 @@ impl Node {
     }
 
     /// The lengths of its connection.
-    pub fn lengths(&self) -> &Lengths
+    fn lengths(&self) -> &Lengths
         ensures { result.now ≡ lengths_of self.now }
     {
         match self {
@@ -128,12 +129,29 @@ impl Node {
     }
 
     /// The profile of its parameters.
-    pub fn profile(&self) -> Profile
+    fn profile(&self) -> Profile
         ensures { result ≡ profile_of self.now }
     {
         match self {
             Node::Master(master) => master.settings().profile(),
             Node::Slave(slave) => slave.settings().profile(),
+        }
+    }
+
+    /// How the lines of its events are read.
+    pub fn grammar(&self) -> Grammar
+        ensures kind { result.kind ≡ kind.Node (end_of self.now) }
+        ensures lengths { result.lengths ≡ lengths_of self.now }
+        ensures profiles { result.profiles ≡ record { master = profile_of self.now; slave = profile_of self.now } }
+    {
+        let profile = self.profile();
+        Grammar {
+            kind: HeaderKind::Node(self.end()),
+            lengths: *self.lengths(),
+            profiles: Profiles {
+                master: profile,
+                slave: profile,
+            },
         }
     }
 

@@ -3,13 +3,12 @@ use Rattle.std.proofs.Common.{◌≡◌, ℕ, zero, suc, ◌+◌, Bool, true, fa
 use Rattle.std.specs.Prelude.{◌==◌, Result, Ok, Err, Option, Some, None, slice_get, if◌then◌else◌}
 use Rattle.std.specs.List.{slice_split, onto_first}
 use Rattle.std.proofs.lemmas.List.Splits.{slice_split-cons_yes, slice_split-cons_no, length-slice_split}
-use Rattle.fsoe_base.specs.declared.command.End.{End}
 use Rattle.schedule_file.specs.Header.{Heading, heading_new, heading_after, is_done}
-use Rattle.schedule_file.specs.Input.{InputCause, NoLine, Stop, AtEnd, Refused, WholeHeader, whole_line, open_line, lines_in, lines_of, header_step, header_in, said_after, steps, texts, events_after, stop_at, input_after, input_by, node_input}
+use Rattle.schedule_file.specs.Input.{InputCause, NoLine, Stop, AtEnd, Refused, WholeHeader, whole_line, open_line, lines_in, lines_of, header_step, header_in, said_after, steps, texts, events_after, stop_at, input_after, input_by, input_of}
 use Rattle.schedule_file.specs.declared.event.Event.{Event}
 use Rattle.schedule_file.specs.declared.event.ScheduleLine.{ScheduleLine}
 use Rattle.schedule_file.specs.declared.event.ScheduleLine.TheVariants as line
-use Rattle.schedule_file.specs.declared.header_kind.HeaderKind.TheVariants.{Node}
+use Rattle.schedule_file.specs.declared.header_kind.HeaderKind.{HeaderKind}
 use Rattle.schedule_file.specs.declared.line_cause.LineCause.{LineCause}
 
 -- the lines of an input
@@ -117,52 +116,52 @@ same_events said (suc most) (Ok first ∷ w) t u text is at =
     same_after (said first) said most first (w ++ t) (w ++ u) text (λ later. same_events said most w t u text is later) at
 
 -- an input stops by `end` at a line
-at_line : (end : End) (h : Heading) (number events : ℕ) (next : Option (Result (List ℕ) InputCause)) → stop_at end h number events next ≡ AtEnd → (text : List ℕ) × (next ≡ Some (Ok text))
-at_line end h number events None e = cc
-at_line end h number events (Some (Err why)) e = cc
-at_line end h number events (Some (Ok text)) e = (text, refl)
+at_line : (kind : HeaderKind) (h : Heading) (number events : ℕ) (next : Option (Result (List ℕ) InputCause)) → stop_at kind h number events next ≡ AtEnd → (text : List ℕ) × (next ≡ Some (Ok text))
+at_line kind h number events None e = cc
+at_line kind h number events (Some (Err why)) e = cc
+at_line kind h number events (Some (Ok text)) e = (text, refl)
 
-after_same : (end : End) (h : Heading) (n : ℕ) (w t u : Lines) → IsOpen t → (input_after end (record { heading = h; lines = n; rest = w ++ t })).stop ≡ AtEnd
-    → input_after end (record { heading = h; lines = n; rest = w ++ u }) ≡ input_after end (record { heading = h; lines = n; rest = w ++ t })
-after_same end h n w t u is e =
-    let events : List Event = events_after end h (w ++ t) in
-    let stops = at_line end h (n + length events + 1) (length events) (slice_get (w ++ t) (length events)) e in
-    let same = same_events (said_after end h) 200000 w t u stops.0 is stops.1 in
-    ap (λ (es : List Event). record { heading = Some h; events = es; stop = stop_at end h (n + length es + 1) (length es) (slice_get (w ++ u) (length es)) }) same.0
-    ∙ ap (λ (next : Option (Result (List ℕ) InputCause)). record { heading = Some h; events = events; stop = stop_at end h (n + length events + 1) (length events) next }) (same.1 ∙ sym stops.1)
+after_same : (kind : HeaderKind) (h : Heading) (n : ℕ) (w t u : Lines) → IsOpen t → (input_after kind (record { heading = h; lines = n; rest = w ++ t })).stop ≡ AtEnd
+    → input_after kind (record { heading = h; lines = n; rest = w ++ u }) ≡ input_after kind (record { heading = h; lines = n; rest = w ++ t })
+after_same kind h n w t u is e =
+    let events : List Event = events_after kind h (w ++ t) in
+    let stops = at_line kind h (n + length events + 1) (length events) (slice_get (w ++ t) (length events)) e in
+    let same = same_events (said_after kind h) 200000 w t u stops.0 is stops.1 in
+    ap (λ (es : List Event). record { heading = Some h; lines = n; events = es; stop = stop_at kind h (n + length es + 1) (length es) (slice_get (w ++ u) (length es)) }) same.0
+    ∙ ap (λ (next : Option (Result (List ℕ) InputCause)). record { heading = Some h; lines = n; events = events; stop = stop_at kind h (n + length events + 1) (length events) next }) (same.1 ∙ sym stops.1)
 
 -- the input after a header that has no more lines before these
-abbrev Goes : End → Result WholeHeader Stop → Result WholeHeader Stop → Type 0
-Goes end this other = (input_by end this).stop ≡ AtEnd → input_by end other ≡ input_by end this
+abbrev Goes : HeaderKind → Result WholeHeader Stop → Result WholeHeader Stop → Type 0
+Goes kind this other = (input_by kind this).stop ≡ AtEnd → input_by kind other ≡ input_by kind this
 
-step_done : (done : Bool) (end : End) (n : ℕ) (next : Heading) (w t u : Lines) → IsOpen t → Goes end (header_in (n + 1) next (w ++ t)) (header_in (n + 1) next (w ++ u))
-    → Goes end (if done then Ok (record { heading = next; lines = n; rest = w ++ t }) else header_in (n + 1) next (w ++ t))
+step_done : (done : Bool) (kind : HeaderKind) (n : ℕ) (next : Heading) (w t u : Lines) → IsOpen t → Goes kind (header_in (n + 1) next (w ++ t)) (header_in (n + 1) next (w ++ u))
+    → Goes kind (if done then Ok (record { heading = next; lines = n; rest = w ++ t }) else header_in (n + 1) next (w ++ t))
     (if done then Ok (record { heading = next; lines = n; rest = w ++ u }) else header_in (n + 1) next (w ++ u))
-step_done true end n next w t u is later = λ e. after_same end next n w t u is e
-step_done false end n next w t u is later = later
+step_done true kind n next w t u is later = λ e. after_same kind next n w t u is e
+step_done false kind n next w t u is later = later
 
-step_same : (r : Result Heading LineCause) (end : End) (n : ℕ) (w t u : Lines) → IsOpen t → ((next : Heading) → Goes end (header_in (n + 1) next (w ++ t)) (header_in (n + 1) next (w ++ u)))
-    → Goes end (header_step n (w ++ t) (λ next. header_in (n + 1) next (w ++ t)) r) (header_step n (w ++ u) (λ next. header_in (n + 1) next (w ++ u)) r)
-step_same (Ok next) end n w t u is later = step_done (is_done next) end n next w t u is (later next)
-step_same (Err cause) end n w t u is later = λ e. refl
+step_same : (r : Result Heading LineCause) (kind : HeaderKind) (n : ℕ) (w t u : Lines) → IsOpen t → ((next : Heading) → Goes kind (header_in (n + 1) next (w ++ t)) (header_in (n + 1) next (w ++ u)))
+    → Goes kind (header_step n (w ++ t) (λ next. header_in (n + 1) next (w ++ t)) r) (header_step n (w ++ u) (λ next. header_in (n + 1) next (w ++ u)) r)
+step_same (Ok next) kind n w t u is later = step_done (is_done next) kind n next w t u is (later next)
+step_same (Err cause) kind n w t u is later = λ e. refl
 
-header_same : (end : End) (n : ℕ) (h : Heading) (w t u : Lines) → IsOpen t → Goes end (header_in n h (w ++ t)) (header_in n h (w ++ u))
-header_same end n h [] [] u is = λ e. let never : Refused n NoLine ≡ AtEnd = e in cc
-header_same end n h [] (Ok first ∷ t) u is = absurd is
-header_same end n h [] (Err why ∷ t) u is = λ e. let never : Refused n why ≡ AtEnd = e in cc
-header_same end n h (Err why ∷ w) t u is = λ e. refl
-header_same end n h (Ok text ∷ w) t u is = step_same (heading_after h text) end n w t u is (λ next. header_same end (n + 1) next w t u is)
+header_same : (kind : HeaderKind) (n : ℕ) (h : Heading) (w t u : Lines) → IsOpen t → Goes kind (header_in n h (w ++ t)) (header_in n h (w ++ u))
+header_same kind n h [] [] u is = λ e. let never : Refused n NoLine ≡ AtEnd = e in cc
+header_same kind n h [] (Ok first ∷ t) u is = absurd is
+header_same kind n h [] (Err why ∷ t) u is = λ e. let never : Refused n why ≡ AtEnd = e in cc
+header_same kind n h (Err why ∷ w) t u is = λ e. refl
+header_same kind n h (Ok text ∷ w) t u is = step_same (heading_after h text) kind n w t u is (λ next. header_same kind (n + 1) next w t u is)
 
-pub after_end : (end : End) (bytes more : List ℕ) → (node_input end bytes).stop ≡ AtEnd → node_input end (bytes ++ more) ≡ node_input end bytes
-after_end end bytes more e =
+pub after_end : (kind : HeaderKind) (bytes more : List ℕ) → (input_of kind bytes).stop ≡ AtEnd → input_of kind (bytes ++ more) ≡ input_of kind bytes
+after_end kind bytes more e =
     let c = cut bytes more in
     let w : Lines = map whole_line c.front in
     let t : Lines = open_line c.last in
     let u : Lines = lines_in (c.next ∷ c.tail) in
     let this : lines_of bytes ≡ w ++ t = ap lines_in c.parts ∙ whole_lines c.front c.last [] in
     let other : lines_of (bytes ++ more) ≡ w ++ u = ap lines_in c.longer ∙ whole_lines c.front c.next c.tail in
-    let stops : (input_by end (header_in 1 (heading_new (Node end)) (w ++ t))).stop ≡ AtEnd =
-    ap (λ (z : Lines). (input_by end (header_in 1 (heading_new (Node end)) z)).stop) (sym this) ∙ e in
-    ap (λ (z : Lines). input_by end (header_in 1 (heading_new (Node end)) z)) other
-    ∙ header_same end 1 (heading_new (Node end)) w t u (open_is c.last) stops
-    ∙ sym (ap (λ (z : Lines). input_by end (header_in 1 (heading_new (Node end)) z)) this)
+    let stops : (input_by kind (header_in 1 (heading_new kind) (w ++ t))).stop ≡ AtEnd =
+    ap (λ (z : Lines). (input_by kind (header_in 1 (heading_new kind) z)).stop) (sym this) ∙ e in
+    ap (λ (z : Lines). input_by kind (header_in 1 (heading_new kind) z)) other
+    ∙ header_same kind 1 (heading_new kind) w t u (open_is c.last) stops
+    ∙ sym (ap (λ (z : Lines). input_by kind (header_in 1 (heading_new kind) z)) this)

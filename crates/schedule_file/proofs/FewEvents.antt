@@ -2,18 +2,16 @@
 use Rattle.std.proofs.Common.{ℕ, ◌≤◌, List, length, take, arith}
 use Rattle.std.specs.Prelude.{Result, Ok, Err}
 use Rattle.std.proofs.lemmas.List.{length-take}
-use Rattle.fsoe_base.specs.declared.command.End.{End}
-use Rattle.schedule_file.specs.Header.{heading_new}
-use Rattle.schedule_file.specs.Input.{WholeHeader, Stop, header_in, input_by, lines_of, node_input}
+use Rattle.schedule_file.specs.Input.{WholeHeader, Stop, header_of, input_by, input_of}
 use Rattle.schedule_file.specs.declared.event.Event.{Event}
-use Rattle.schedule_file.specs.declared.header_kind.HeaderKind.TheVariants.{Node}
+use Rattle.schedule_file.specs.declared.header_kind.HeaderKind.{HeaderKind}
 
 taken-few : (events : List Event) → length (take 200000 events) ≤ 200000
 taken-few events = omega (arith, length-take 200000 events)
 
-input_by-few : (end : End) (r : Result WholeHeader Stop) → length (input_by end r).events ≤ 200000
-input_by-few end (Ok headed) = taken-few _
-input_by-few end (Err stop) = omega arith
+input_by-few : (kind : HeaderKind) (r : Result WholeHeader Stop) → length (input_by kind r).events ≤ 200000
+input_by-few kind (Ok headed) = taken-few _
+input_by-few kind (Err stop) = omega arith
 
-pub few_events : (end : End) (bytes : List ℕ) → length (node_input end bytes).events ≤ 200000
-few_events end bytes = input_by-few end (header_in 1 (heading_new (Node end)) (lines_of bytes))
+pub few_events : (kind : HeaderKind) (bytes : List ℕ) → length (input_of kind bytes).events ≤ 200000
+few_events kind bytes = input_by-few kind (header_of kind bytes)

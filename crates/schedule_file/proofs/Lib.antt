@@ -11,3 +11,4 @@ pub mod FewEvents
 pub mod AfterEnd
 pub mod Sound
 pub mod HexAlone
+pub mod Fitting

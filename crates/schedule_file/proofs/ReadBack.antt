@@ -13,14 +13,11 @@ use Rattle.std.proofs.lemmas.List.Splits.{slice_split_at, slice_split_none}
 use Rattle.std.proofs.lemmas.Str.Parse.{numerals_by_value, tells_all_ascii_digits}
 use Rattle.hex.specs.Hex.{IsBytes, encode_lower, is_hex_digit}
 use Rattle.hex.proofs.HexLemmas.{decode_of-encode_lower, decode_of-ok}
-use Rattle.fsoe_base.specs.LengthsOf.{length_of}
 use Rattle.fsoe_base.specs.declared.command.End.{End}
 use Rattle.fsoe_base.specs.declared.command.End.TheVariants as side
-use Rattle.fsoe_base.specs.declared.lengths.Lengths.{Lengths}
 use Rattle.param_load.specs.Profile.{allows_id}
 use Rattle.param_load.specs.declared.profile.Profile.{Profile}
-use Rattle.param_load.specs.declared.profile.Profiles.{Profiles}
-use Rattle.schedule_file.specs.Event.{Fits, profile_of}
+use Rattle.schedule_file.specs.Event.{Fits}
 use Rattle.schedule_file.specs.EventLine.{switch_of, reference_of, delivered_len, deliver_line, altered_line, raw_line, put_line, hold_line, nonce_line}
 use Rattle.schedule_file.specs.EventText.{IsOfTypes, end_letter, event_text, reference_text, switch_text}
 use Rattle.schedule_file.specs.Field.{is_space, fields_of, number_of, bytes_of, some_bytes}
@@ -123,10 +120,10 @@ no_space-switch false = spaceless-more 48 [] refl spaceless-none
 deliver_read : (to : End) (back : ℕ) (reference : List ℕ) → reference_of reference ≡ Some back → deliver_line to (reference ∷ []) ≡ Ok (line.Step (event.Deliver to back))
 deliver_read to back reference e = rw e refl
 
-altered_read : (lengths : Lengths) (to : End) (back pos mask : ℕ) (reference place digits : List ℕ)
-    → number_of 65535 place ≡ Some pos → reference_of reference ≡ Some back → bytes_of 1 digits ≡ Some (mask ∷ []) → pos < delivered_len lengths to
-    → altered_line to lengths (reference ∷ place ∷ digits ∷ []) ≡ Ok (line.Step (event.Altered to back pos mask))
-altered_read lengths to back pos mask reference place digits e f g lt = rw (e, f, g) (grind (arith, nat_tests))
+altered_read : (sends : End → ℕ) (to : End) (back pos mask : ℕ) (reference place digits : List ℕ)
+    → number_of 65535 place ≡ Some pos → reference_of reference ≡ Some back → bytes_of 1 digits ≡ Some (mask ∷ []) → pos < delivered_len sends to
+    → altered_line to sends (reference ∷ place ∷ digits ∷ []) ≡ Ok (line.Step (event.Altered to back pos mask))
+altered_read sends to back pos mask reference place digits e f g lt = rw (e, f, g) (grind (arith, nat_tests))
 
 raw_read : (to : End) (frame field : List ℕ) → bytes_of 255 field ≡ Some frame → raw_line to (field ∷ []) ≡ Ok (line.Step (event.Raw to frame))
 raw_read to frame field e = rw e refl
@@ -141,78 +138,78 @@ nonce_read : (at : End) (profile : Profile) (id : ℕ) (field : List ℕ) → nu
 nonce_read at profile id field e allowed = rw (e, allowed) refl
 
 -- a line whose fields have no spaces says what its fields say
-said_of_fields : (lengths : Lengths) (profiles : Profiles) (first : List ℕ) (fields : List (List ℕ)) → HaveNoSpaces (first ∷ fields)
-    → pair_line lengths profiles (join_with_byte 32 (first ∷ fields)) ≡ pair_said_by lengths profiles (first ∷ fields)
-said_of_fields lengths profiles first fields none = ap (pair_said_by lengths profiles) (fields_joined first fields none)
+said_of_fields : (sends : End → ℕ) (profiles : End → Profile) (first : List ℕ) (fields : List (List ℕ)) → HaveNoSpaces (first ∷ fields)
+    → pair_line sends profiles (join_with_byte 32 (first ∷ fields)) ≡ pair_said_by sends profiles (first ∷ fields)
+said_of_fields sends profiles first fields none = ap (pair_said_by sends profiles) (fields_joined first fields none)
 
 word_spaceless : (first : ℕ) (end : End) → is_space first ≡ false → HasNoSpace (first ∷ end_letter end)
 word_spaceless first side.Master e = two_letters first 109 e refl
 word_spaceless first side.Slave e = two_letters first 115 e refl
 
 -- what is said with each word
-said_deliver : (lengths : Lengths) (profiles : Profiles) (to : End) (fields : List (List ℕ)) → pair_said_by lengths profiles ((100 ∷ end_letter to) ∷ fields) ≡ deliver_line to fields
-said_deliver lengths profiles side.Master fields = refl
-said_deliver lengths profiles side.Slave fields = refl
+said_deliver : (sends : End → ℕ) (profiles : End → Profile) (to : End) (fields : List (List ℕ)) → pair_said_by sends profiles ((100 ∷ end_letter to) ∷ fields) ≡ deliver_line to fields
+said_deliver sends profiles side.Master fields = refl
+said_deliver sends profiles side.Slave fields = refl
 
-said_altered : (lengths : Lengths) (profiles : Profiles) (to : End) (fields : List (List ℕ)) → pair_said_by lengths profiles ((97 ∷ end_letter to) ∷ fields) ≡ altered_line to lengths fields
-said_altered lengths profiles side.Master fields = refl
-said_altered lengths profiles side.Slave fields = refl
+said_altered : (sends : End → ℕ) (profiles : End → Profile) (to : End) (fields : List (List ℕ)) → pair_said_by sends profiles ((97 ∷ end_letter to) ∷ fields) ≡ altered_line to sends fields
+said_altered sends profiles side.Master fields = refl
+said_altered sends profiles side.Slave fields = refl
 
-said_raw : (lengths : Lengths) (profiles : Profiles) (to : End) (fields : List (List ℕ)) → pair_said_by lengths profiles ((114 ∷ end_letter to) ∷ fields) ≡ raw_line to fields
-said_raw lengths profiles side.Master fields = refl
-said_raw lengths profiles side.Slave fields = refl
+said_raw : (sends : End → ℕ) (profiles : End → Profile) (to : End) (fields : List (List ℕ)) → pair_said_by sends profiles ((114 ∷ end_letter to) ∷ fields) ≡ raw_line to fields
+said_raw sends profiles side.Master fields = refl
+said_raw sends profiles side.Slave fields = refl
 
-said_put : (lengths : Lengths) (profiles : Profiles) (at : End) (fields : List (List ℕ)) → pair_said_by lengths profiles ((112 ∷ end_letter at) ∷ fields) ≡ put_line at (length_of lengths at) fields
-said_put lengths profiles side.Master fields = refl
-said_put lengths profiles side.Slave fields = refl
+said_put : (sends : End → ℕ) (profiles : End → Profile) (at : End) (fields : List (List ℕ)) → pair_said_by sends profiles ((112 ∷ end_letter at) ∷ fields) ≡ put_line at (sends at) fields
+said_put sends profiles side.Master fields = refl
+said_put sends profiles side.Slave fields = refl
 
-said_hold : (lengths : Lengths) (profiles : Profiles) (at : End) (fields : List (List ℕ)) → pair_said_by lengths profiles ((104 ∷ end_letter at) ∷ fields) ≡ hold_line at fields
-said_hold lengths profiles side.Master fields = refl
-said_hold lengths profiles side.Slave fields = refl
+said_hold : (sends : End → ℕ) (profiles : End → Profile) (at : End) (fields : List (List ℕ)) → pair_said_by sends profiles ((104 ∷ end_letter at) ∷ fields) ≡ hold_line at fields
+said_hold sends profiles side.Master fields = refl
+said_hold sends profiles side.Slave fields = refl
 
-said_nonce : (lengths : Lengths) (profiles : Profiles) (at : End) (fields : List (List ℕ)) → pair_said_by lengths profiles ((110 ∷ end_letter at) ∷ fields) ≡ nonce_line at (profile_of profiles at) fields
-said_nonce lengths profiles side.Master fields = refl
-said_nonce lengths profiles side.Slave fields = refl
+said_nonce : (sends : End → ℕ) (profiles : End → Profile) (at : End) (fields : List (List ℕ)) → pair_said_by sends profiles ((110 ∷ end_letter at) ∷ fields) ≡ nonce_line at (profiles at) fields
+said_nonce sends profiles side.Master fields = refl
+said_nonce sends profiles side.Slave fields = refl
 
-said_tick : (lengths : Lengths) (profiles : Profiles) (at : End) → pair_said_by lengths profiles ((116 ∷ end_letter at) ∷ []) ≡ Ok (line.Step (event.Tick at))
-said_tick lengths profiles side.Master = refl
-said_tick lengths profiles side.Slave = refl
+said_tick : (sends : End → ℕ) (profiles : End → Profile) (at : End) → pair_said_by sends profiles ((116 ∷ end_letter at) ∷ []) ≡ Ok (line.Step (event.Tick at))
+said_tick sends profiles side.Master = refl
+said_tick sends profiles side.Slave = refl
 
-said_local : (lengths : Lengths) (profiles : Profiles) (at : End) → pair_said_by lengths profiles ((122 ∷ end_letter at) ∷ []) ≡ Ok (line.Step (event.Local at))
-said_local lengths profiles side.Master = refl
-said_local lengths profiles side.Slave = refl
+said_local : (sends : End → ℕ) (profiles : End → Profile) (at : End) → pair_said_by sends profiles ((122 ∷ end_letter at) ∷ []) ≡ Ok (line.Step (event.Local at))
+said_local sends profiles side.Master = refl
+said_local sends profiles side.Slave = refl
 
-pub read_back : (lengths : Lengths) (profiles : Profiles) (event : Event) → IsOfTypes event → Fits lengths profiles event → pair_line lengths profiles (event_text event) ≡ Ok (line.Step event)
-read_back lengths profiles (event.Deliver to back) typed fits =
-    said_of_fields lengths profiles (100 ∷ end_letter to) (reference_text back ∷ []) (word_spaceless 100 to refl, (no_space-reference back fits.0.1, tt))
-    ∙ said_deliver lengths profiles to (reference_text back ∷ [])
+pub read_back : (sends : End → ℕ) (profiles : End → Profile) (event : Event) → IsOfTypes event → Fits sends profiles event → pair_line sends profiles (event_text event) ≡ Ok (line.Step event)
+read_back sends profiles (event.Deliver to back) typed fits =
+    said_of_fields sends profiles (100 ∷ end_letter to) (reference_text back ∷ []) (word_spaceless 100 to refl, (no_space-reference back fits.0.1, tt))
+    ∙ said_deliver sends profiles to (reference_text back ∷ [])
     ∙ deliver_read to back (reference_text back) (reference_of-text back fits.0.0 fits.0.1)
-read_back lengths profiles (event.Altered to back pos mask) typed fits =
+read_back sends profiles (event.Altered to back pos mask) typed fits =
     let place : List ℕ = decimal pos in
     let digits : List ℕ = encode_lower (mask ∷ []) in
     let is_byte = one_byte mask typed.2 in
-    said_of_fields lengths profiles (97 ∷ end_letter to) (reference_text back ∷ place ∷ digits ∷ [])
+    said_of_fields sends profiles (97 ∷ end_letter to) (reference_text back ∷ place ∷ digits ∷ [])
     (word_spaceless 97 to refl, (no_space-reference back fits.0.1, (no_space-decimal pos (omega (arith, typed.1)), (no_space-hex (mask ∷ []) is_byte, tt))))
-    ∙ said_altered lengths profiles to (reference_text back ∷ place ∷ digits ∷ [])
-    ∙ altered_read lengths to back pos mask (reference_text back) place digits (number_of-decimal 65535 pos (omega (arith, typed.1)) (omega (arith, typed.1)))
+    ∙ said_altered sends profiles to (reference_text back ∷ place ∷ digits ∷ [])
+    ∙ altered_read sends to back pos mask (reference_text back) place digits (number_of-decimal 65535 pos (omega (arith, typed.1)) (omega (arith, typed.1)))
     (reference_of-text back fits.0.0 fits.0.1) (bytes_of-hex 1 (mask ∷ []) is_byte (omega arith) (omega arith)) fits.1
-read_back lengths profiles (event.Raw to frame) typed fits =
-    said_of_fields lengths profiles (114 ∷ end_letter to) (encode_lower frame ∷ []) (word_spaceless 114 to refl, (no_space-hex frame typed, tt))
-    ∙ said_raw lengths profiles to (encode_lower frame ∷ [])
+read_back sends profiles (event.Raw to frame) typed fits =
+    said_of_fields sends profiles (114 ∷ end_letter to) (encode_lower frame ∷ []) (word_spaceless 114 to refl, (no_space-hex frame typed, tt))
+    ∙ said_raw sends profiles to (encode_lower frame ∷ [])
     ∙ raw_read to frame (encode_lower frame) (bytes_of-hex 255 frame typed fits.0.0 fits.0.1)
-read_back lengths profiles (event.Tick at) typed fits =
-    said_of_fields lengths profiles (116 ∷ end_letter at) [] (word_spaceless 116 at refl, tt) ∙ said_tick lengths profiles at
-read_back lengths profiles (event.Put at load) typed fits =
-    said_of_fields lengths profiles (112 ∷ end_letter at) (encode_lower load ∷ []) (word_spaceless 112 at refl, (no_space-hex load typed, tt))
-    ∙ said_put lengths profiles at (encode_lower load ∷ [])
-    ∙ put_read at (length_of lengths at) load (encode_lower load) (bytes_of-hex 126 load typed fits.0.0 fits.0.1) fits.1
-read_back lengths profiles (event.Hold at failsafe) typed fits =
-    said_of_fields lengths profiles (104 ∷ end_letter at) (switch_text failsafe ∷ []) (word_spaceless 104 at refl, (no_space-switch failsafe, tt))
-    ∙ said_hold lengths profiles at (switch_text failsafe ∷ [])
+read_back sends profiles (event.Tick at) typed fits =
+    said_of_fields sends profiles (116 ∷ end_letter at) [] (word_spaceless 116 at refl, tt) ∙ said_tick sends profiles at
+read_back sends profiles (event.Put at load) typed fits =
+    said_of_fields sends profiles (112 ∷ end_letter at) (encode_lower load ∷ []) (word_spaceless 112 at refl, (no_space-hex load typed, tt))
+    ∙ said_put sends profiles at (encode_lower load ∷ [])
+    ∙ put_read at (sends at) load (encode_lower load) (bytes_of-hex 126 load typed fits.0.0 fits.0.1) fits.1
+read_back sends profiles (event.Hold at failsafe) typed fits =
+    said_of_fields sends profiles (104 ∷ end_letter at) (switch_text failsafe ∷ []) (word_spaceless 104 at refl, (no_space-switch failsafe, tt))
+    ∙ said_hold sends profiles at (switch_text failsafe ∷ [])
     ∙ hold_read at failsafe (switch_text failsafe) (switch_of-text failsafe)
-read_back lengths profiles (event.Nonce at id) typed fits =
-    said_of_fields lengths profiles (110 ∷ end_letter at) (decimal id ∷ []) (word_spaceless 110 at refl, (no_space-decimal id (omega (arith, typed)), tt))
-    ∙ said_nonce lengths profiles at (decimal id ∷ [])
-    ∙ nonce_read at (profile_of profiles at) id (decimal id) (number_of-decimal 4294967295 id (omega (arith, typed)) (omega (arith, typed))) fits.1
-read_back lengths profiles (event.Local at) typed fits =
-    said_of_fields lengths profiles (122 ∷ end_letter at) [] (word_spaceless 122 at refl, tt) ∙ said_local lengths profiles at
+read_back sends profiles (event.Nonce at id) typed fits =
+    said_of_fields sends profiles (110 ∷ end_letter at) (decimal id ∷ []) (word_spaceless 110 at refl, (no_space-decimal id (omega (arith, typed)), tt))
+    ∙ said_nonce sends profiles at (decimal id ∷ [])
+    ∙ nonce_read at (profiles at) id (decimal id) (number_of-decimal 4294967295 id (omega (arith, typed)) (omega (arith, typed))) fits.1
+read_back sends profiles (event.Local at) typed fits =
+    said_of_fields sends profiles (122 ∷ end_letter at) [] (word_spaceless 122 at refl, tt) ∙ said_local sends profiles at

@@ -10,7 +10,6 @@ use Rattle.std.proofs.lemmas.Result.{IfOk-weaker}
 use Rattle.hex.specs.declared.error.FromHexError.{FromHexError}
 use Rattle.hex.specs.Hex.{decode_of}
 use Rattle.fsoe_base.specs.Lengths.{is_length}
-use Rattle.fsoe_base.specs.declared.command.End.{End}
 use Rattle.fsoe_base.specs.declared.lengths.Lengths.{Lengths}
 use Rattle.param_load.specs.AppRule.{is_acceptable}
 use Rattle.param_load.specs.Profile.{allows_id}
@@ -25,9 +24,9 @@ use Rattle.schedule_file.specs.Header.{Heading, heading_new, heading_after, is_d
 use Rattle.schedule_file.specs.HeaderKind.{title_of}
 use Rattle.schedule_file.specs.HeaderLine.{InRange, RuleInRange, number_16, number_32, profile_line, hex_field, lengths_line, master_line, slave_line, any_line, listed_line, rule_line, range_line, header_line}
 use Rattle.schedule_file.specs.HeaderPart.{MasterValues, SlaveValues, lows_of, highs_of, list_with, rule_begun, rule_with_bytes, rule_with_pairs, master_with_app, slave_with_bytes, slave_with_pairs, profile_for}
-use Rattle.schedule_file.specs.Input.{InputCause, Stop, WholeHeader, header_step, header_in, lines_of, input_by, node_input}
+use Rattle.schedule_file.specs.Input.{InputCause, Stop, WholeHeader, header_step, header_in, lines_of, header_of, input_by, input_of}
 use Rattle.schedule_file.specs.Place.{is_start, is_at_slave, admitted, header_word_of, profile_given}
-use Rattle.schedule_file.specs.declared.header_kind.HeaderKind.TheVariants.{Node}
+use Rattle.schedule_file.specs.declared.header_kind.HeaderKind.{HeaderKind}
 use Rattle.schedule_file.specs.declared.header_line.HeaderLine.{HeaderLine}
 use Rattle.schedule_file.specs.declared.header_line.HeaderLine.TheVariants as says
 use Rattle.schedule_file.specs.declared.header_line.RuleLine.{RuleLine}
@@ -61,11 +60,11 @@ record Sound (h : Heading) : Type 0 where
   slave : SoundSlave h.slave
 
 -- the next step gives such a value, whatever this one gave
-each : {A B : Type 0} (r : Result A LineCause) (f : A → Result B LineCause) (P : B → Type 0) → ((x : A) → IfOk (f x) P) → IfOk (r >>= f) P
+pub each : {A B : Type 0} (r : Result A LineCause) (f : A → Result B LineCause) (P : B → Type 0) → ((x : A) → IfOk (f x) P) → IfOk (r >>= f) P
 each (Ok x) f P h = h x
 each (Err e) f P h = tt
 
-ok_if : {A : Type 0} (b : Bool) (x : A) (e : LineCause) (P : A → Type 0) → (b ≡ true → P x) → IfOk (if b then Ok x else Err e) P
+pub ok_if : {A : Type 0} (b : Bool) (x : A) (e : LineCause) (P : A → Type 0) → (b ≡ true → P x) → IfOk (if b then Ok x else Err e) P
 ok_if true x e P h = h refl
 ok_if false x e P h = tt
 
@@ -261,16 +260,16 @@ lines_sound number h (Err why ∷ rest) s = tt
 lines_sound number h (Ok text ∷ rest) s =
     step_sound (heading_after h text) number rest (λ next. header_in (number + 1) next rest) (after_sound h text s) (λ next sound. lines_sound (number + 1) next rest sound)
 
-new_sound : (end : End) → Sound (heading_new (Node end))
-new_sound end = record {
+new_sound : (kind : HeaderKind) → Sound (heading_new kind)
+new_sound kind = record {
   master_length = refl;
   slave_length = refl;
   master = record { conn = omega arith; watchdog = omega arith; allowed = profile_allows 0 };
   slave = record { hand = omega arith; most = omega arith; acceptable = refl; allowed = profile_allows 0 };
 }
 
-header_sound : (end : End) (lines : List (Result (List ℕ) InputCause)) → IfOk (header_in 1 (heading_new (Node end)) lines) (λ whole. Sound whole.heading)
-header_sound end lines = lines_sound 1 (heading_new (Node end)) lines (new_sound end)
+header_sound : (kind : HeaderKind) (lines : List (Result (List ℕ) InputCause)) → IfOk (header_in 1 (heading_new kind) lines) (λ whole. Sound whole.heading)
+header_sound kind lines = lines_sound 1 (heading_new kind) lines (new_sound kind)
 
 -- there are settings with these values
 master_settings : (h : Heading) → Sound h → (ms : MasterSettings) × IsMasterOf h ms
@@ -309,15 +308,15 @@ slave_settings h s =
     (ss, (refl, refl, record { lengths_are = refl; address_is = refl; hand_is = refl; most_is = refl; rule_is = refl; nonce_is = refl; profile_is = refl }))
 
 -- the header of an input, where it is whole, gives settings of both ends
-heading_sound : (end : End) (r : Result WholeHeader Stop) → IfOk r (λ whole. Sound whole.heading) → IfSome (input_by end r).heading Sound
-heading_sound end (Ok whole) s = s
-heading_sound end (Err stop) s = tt
+heading_sound : (kind : HeaderKind) (r : Result WholeHeader Stop) → IfOk r (λ whole. Sound whole.heading) → IfSome (input_by kind r).heading Sound
+heading_sound kind (Ok whole) s = s
+heading_sound kind (Err stop) s = tt
 
-input_sound : (end : End) (bytes : List ℕ) → IfSome (node_input end bytes).heading Sound
-input_sound end bytes = heading_sound end (header_in 1 (heading_new (Node end)) (lines_of bytes)) (header_sound end (lines_of bytes))
+input_sound : (kind : HeaderKind) (bytes : List ℕ) → IfSome (input_of kind bytes).heading Sound
+input_sound kind bytes = heading_sound kind (header_of kind bytes) (header_sound kind (lines_of bytes))
 
-pub gives_master : (end : End) (bytes : List ℕ) → IfSome (node_input end bytes).heading (λ h. (ms : MasterSettings) × IsMasterOf h ms)
-gives_master end bytes = IfSome_then (node_input end bytes).heading (input_sound end bytes) (λ h s. master_settings h s)
+pub gives_master : (kind : HeaderKind) (bytes : List ℕ) → IfSome (input_of kind bytes).heading (λ h. (ms : MasterSettings) × IsMasterOf h ms)
+gives_master kind bytes = IfSome_then (input_of kind bytes).heading (input_sound kind bytes) (λ h s. master_settings h s)
 
-pub gives_slave : (end : End) (bytes : List ℕ) → IfSome (node_input end bytes).heading (λ h. (ss : SlaveSettings) × IsSlaveOf h ss)
-gives_slave end bytes = IfSome_then (node_input end bytes).heading (input_sound end bytes) (λ h s. slave_settings h s)
+pub gives_slave : (kind : HeaderKind) (bytes : List ℕ) → IfSome (input_of kind bytes).heading (λ h. (ss : SlaveSettings) × IsSlaveOf h ss)
+gives_slave kind bytes = IfSome_then (input_of kind bytes).heading (input_sound kind bytes) (λ h s. slave_settings h s)

@@ -1,5 +1,5 @@
 -- Which events the ends of a pair may have, and which the node at one end.
-use Rattle.std.specs.Prelude.{◌≡◌, ◌<◌, ◌≤◌, length, IsTrue}
+use Rattle.std.specs.Prelude.{◌≡◌, ℕ, ◌<◌, ◌≤◌, length, IsTrue}
 use Rattle.fsoe_base.specs.declared.command.End.{End}
 use Rattle.fsoe_base.specs.declared.lengths.Lengths.{Lengths}
 use Rattle.fsoe_base.specs.LengthsOf.{length_of}
@@ -29,26 +29,26 @@ IsWritable (event.Hold at failsafe) = Unit {0}
 IsWritable (event.Nonce at id) = Unit {0}
 IsWritable (event.Local at) = Unit {0}
 
--- an event that ends of these lengths and profiles may have: an altered place is one of that direction's frame, a put
--- has exactly as many bytes as the end sends, and the end's profile allows the session id
-abbrev pub Suits : Lengths → Profiles → Event → Type 0
-Suits lengths profiles (event.Altered to back pos mask) = pos < delivered_len lengths to
-Suits lengths profiles (event.Put at load) = length load ≡ length_of lengths at
-Suits lengths profiles (event.Nonce at id) = IsTrue (allows_id (profile_of profiles at) id)
-Suits lengths profiles (event.Deliver to back) = Unit {0}
-Suits lengths profiles (event.Raw to frame) = Unit {0}
-Suits lengths profiles (event.Tick at) = Unit {0}
-Suits lengths profiles (event.Hold at failsafe) = Unit {0}
-Suits lengths profiles (event.Local at) = Unit {0}
+-- an event that ends may have which send so many safe data bytes and have these profiles: an altered place is one of that
+-- direction's frame, a put has exactly as many bytes as the end sends, and the end's profile allows the session id
+abbrev pub Suits : (End → ℕ) → (End → Profile) → Event → Type 0
+Suits sends profiles (event.Altered to back pos mask) = pos < delivered_len sends to
+Suits sends profiles (event.Put at load) = length load ≡ sends at
+Suits sends profiles (event.Nonce at id) = IsTrue (allows_id (profiles at) id)
+Suits sends profiles (event.Deliver to back) = Unit {0}
+Suits sends profiles (event.Raw to frame) = Unit {0}
+Suits sends profiles (event.Tick at) = Unit {0}
+Suits sends profiles (event.Hold at failsafe) = Unit {0}
+Suits sends profiles (event.Local at) = Unit {0}
 
--- an event fits lengths and profiles where a line can say it and ends of these may have it
-abbrev pub Fits : Lengths → Profiles → Event → Type 0
-Fits lengths profiles event = IsWritable event × Suits lengths profiles event
+-- an event fits ends where a line can say it and they may have it
+abbrev pub Fits : (End → ℕ) → (End → Profile) → Event → Type 0
+Fits sends profiles event = IsWritable event × Suits sends profiles event
 
 -- the event of a line, where it has one, fits
-abbrev pub PairLineFits : Lengths → Profiles → ScheduleLine → Type 0
-PairLineFits lengths profiles (line.Step event) = Fits lengths profiles event
-PairLineFits lengths profiles line.End = Unit {0}
+abbrev pub PairLineFits : (End → ℕ) → (End → Profile) → ScheduleLine → Type 0
+PairLineFits sends profiles (line.Step event) = Fits sends profiles event
+PairLineFits sends profiles line.End = Unit {0}
 
 -- an event that the node at this end may have: it is at this end, a frame has from 1 to 255 bytes,
 -- a put has exactly as many bytes as the end sends, and the profile allows the session id

@@ -3,10 +3,8 @@
 use Rattle.std.specs.Prelude.{ℕ, ◌==◌, nat_lt, length, slice_index, Bool, true, false, List, [], ◌∷◌, codes, Option, Some, None, Result, Ok, Err, if◌then◌else◌}
 use Rattle.std.specs.Str.{bytes_eq}
 use Rattle.fsoe_base.specs.Lengths.{frame_len}
-use Rattle.fsoe_base.specs.LengthsOf.{length_of}
 use Rattle.fsoe_base.specs.declared.command.End.{End}
 use Rattle.fsoe_base.specs.declared.command.End.TheVariants as side
-use Rattle.fsoe_base.specs.declared.lengths.Lengths.{Lengths}
 use Rattle.param_load.specs.Profile.{allows_id}
 use Rattle.param_load.specs.declared.profile.Profile.{Profile}
 use Rattle.schedule_file.specs.Field.{number_of, bytes_of}
@@ -34,10 +32,10 @@ abbrev pub reference_of : List ℕ → Option ℕ
 reference_of [] = None
 reference_of (sign ∷ digits) = if sign == 45 then not_zero (number_of 64 digits) else None
 
--- the bytes of a frame that is delivered to an end: its peer sent it
-abbrev pub delivered_len : Lengths → End → ℕ
-delivered_len lengths side.Master = frame_len (length_of lengths side.Slave)
-delivered_len lengths side.Slave = frame_len (length_of lengths side.Master)
+-- the bytes of a frame that is delivered to an end, where the ends send so many safe data bytes: its peer sent it
+abbrev pub delivered_len : (End → ℕ) → End → ℕ
+delivered_len sends side.Master = frame_len (sends side.Slave)
+delivered_len sends side.Slave = frame_len (sends side.Master)
 
 -- a frame that the peer sent
 abbrev pub deliver_line : End → List (List ℕ) → Result ScheduleLine LineCause
@@ -47,15 +45,15 @@ deliver_line to fields = do
   Ok (line.Step (event.Deliver to back))
 
 -- a frame that the peer sent with one of its bytes altered
-abbrev pub altered_line : End → Lengths → List (List ℕ) → Result ScheduleLine LineCause
-altered_line to lengths fields = do
+abbrev pub altered_line : End → (End → ℕ) → List (List ℕ) → Result ScheduleLine LineCause
+altered_line to sends fields = do
   reference ← next_field fields
   place ← next_field reference.1
   digits ← one_field place.1
   pos ← value_or cause.Number (number_of 65535 place.0)
   back ← value_or cause.Reference (reference_of reference.0)
   mask ← value_or cause.Hex (bytes_of 1 digits)
-  if nat_lt pos (delivered_len lengths to) then Ok (line.Step (event.Altered to back pos (slice_index mask 0))) else Err cause.Position
+  if nat_lt pos (delivered_len sends to) then Ok (line.Step (event.Altered to back pos (slice_index mask 0))) else Err cause.Position
 
 -- a tick
 abbrev pub tick_line : End → List (List ℕ) → Result ScheduleLine LineCause

@@ -1,4 +1,4 @@
--- What the bytes of a node's input say: its header, its events, and how it stops. This looks at the lines alone.
+-- What the bytes of an input say: its header, its events, and how it stops. This looks at the lines alone.
 use Rattle.std.specs.Prelude.{ℕ, ◌+◌, ◌==◌, nat_le, length, take, map, List, [], ◌∷◌, codes, Option, Some, None, Result, Ok, Err, if◌then◌else◌, slice_get}
 use Rattle.std.specs.List.{slice_split}
 use Rattle.std.specs.Str.{bytes_eq}
@@ -7,19 +7,23 @@ use Rattle.fsoe_base.specs.declared.command.End.TheVariants as side
 use Rattle.param_load.specs.declared.profile.Profile.{Profile}
 use Rattle.schedule_file.specs.Header.{Heading, heading_new, heading_after, is_done}
 use Rattle.schedule_file.specs.NodeEvent.{node_line}
+use Rattle.schedule_file.specs.PairEvent.{pair_line}
 use Rattle.schedule_file.specs.declared.event.Event.{Event}
 use Rattle.schedule_file.specs.declared.event.ScheduleLine.{ScheduleLine}
 use Rattle.schedule_file.specs.declared.event.ScheduleLine.TheVariants as line
-use Rattle.schedule_file.specs.declared.header_kind.HeaderKind.TheVariants.{Node}
+use Rattle.schedule_file.specs.declared.header_kind.HeaderKind.{HeaderKind}
+use Rattle.schedule_file.specs.declared.header_kind.HeaderKind.TheVariants.{Pair, Node}
 use Rattle.schedule_file.specs.declared.line_cause.LineCause.{LineCause}
 
 -- why an input goes no further: its next line is too long, has no newline, doesn't come, or comes after all events that
--- there may be; or the line itself is refused. `NoLine` is the cause that reports name `End`
+-- there may be; or the frame that the line names wasn't sent, which a run alone finds; or the line itself is refused.
+-- `NoLine` is the cause that reports name `End`
 pub data InputCause : Type 0 where
   Long : InputCause
   NoNewline : InputCause
   NoLine : InputCause
   TooMany : InputCause
+  NoFrame : InputCause
   Line : (cause : LineCause) → InputCause
 
 -- an input stops by its line `end`, or at the line of a number, from 1
@@ -73,9 +77,14 @@ abbrev pub heading_profile : Heading → End → Profile
 heading_profile h side.Master = h.master.profile
 heading_profile h side.Slave = h.slave.profile
 
+-- what a line says after a header of this kind, where the ends send so many safe data bytes and have these profiles
+abbrev pub said_by : HeaderKind → (End → ℕ) → (End → Profile) → List ℕ → Result ScheduleLine LineCause
+said_by Pair sends profiles text = pair_line sends profiles text
+said_by (Node end) sends profiles text = node_line end (sends end) (profiles end) text
+
 -- what a line after a header says
-abbrev pub said_after : End → Heading → List ℕ → Result ScheduleLine LineCause
-said_after end h text = node_line end (own_length h end) (heading_profile h end) text
+abbrev pub said_after : HeaderKind → Heading → List ℕ → Result ScheduleLine LineCause
+said_after kind h text = said_by kind (own_length h) (heading_profile h) text
 
 -- the events that stand before the first line that says none
 abbrev pub steps : List (Result ScheduleLine LineCause) → List Event
@@ -91,8 +100,8 @@ texts (Ok text ∷ rest) = text ∷ texts rest
 texts (Err why ∷ rest) = []
 
 -- the events after a header, at most 200,000
-abbrev pub events_after : End → Heading → List (Result (List ℕ) InputCause) → List Event
-events_after end h rest = take 200000 (steps (map (said_after end h) (texts rest)))
+abbrev pub events_after : HeaderKind → Heading → List (Result (List ℕ) InputCause) → List Event
+events_after kind h rest = take 200000 (steps (map (said_after kind h) (texts rest)))
 
 -- how an input stops at a line by what it says; an event stands here only after 200,000, where `stop_at` has refused it
 -- before
@@ -102,35 +111,41 @@ stop_by number (Ok (line.Step event)) = Refused number TooMany
 stop_by number (Err cause) = Refused number (Line cause)
 
 -- how an input stops at the line after so many events: where these are 200,000, only the very line `end` may come
-abbrev pub stop_at : End → Heading → ℕ → ℕ → Option (Result (List ℕ) InputCause) → Stop
-stop_at end h number events None = Refused number NoLine
-stop_at end h number events (Some (Err why)) = Refused number why
-stop_at end h number events (Some (Ok text)) =
+abbrev pub stop_at : HeaderKind → Heading → ℕ → ℕ → Option (Result (List ℕ) InputCause) → Stop
+stop_at kind h number events None = Refused number NoLine
+stop_at kind h number events (Some (Err why)) = Refused number why
+stop_at kind h number events (Some (Ok text)) =
     if bytes_eq text (codes "end") then AtEnd
     else if events == 200000 then Refused number TooMany
-    else stop_by number (said_after end h text)
+    else stop_by number (said_after kind h text)
 
--- what an input says: its header where that is done, its events, and how it stops
-pub record NodeInput : Type 0 where
+-- what an input says: its header where that is done, the lines of this (0 where it isn't), its events, and how it stops
+pub record Input : Type 0 where
   pub heading : Option Heading
+  pub lines : ℕ
   pub events : List Event
   pub stop : Stop
 
 -- the events stand in the lines after the header, and the line after them stops the input
-abbrev pub input_after : End → WholeHeader → NodeInput
-input_after end headed =
-    let events = events_after end headed.heading headed.rest in
+abbrev pub input_after : HeaderKind → WholeHeader → Input
+input_after kind headed =
+    let events = events_after kind headed.heading headed.rest in
     record {
       heading = Some headed.heading;
+      lines = headed.lines;
       events = events;
-      stop = stop_at end headed.heading (headed.lines + length events + 1) (length events) (slice_get headed.rest (length events));
+      stop = stop_at kind headed.heading (headed.lines + length events + 1) (length events) (slice_get headed.rest (length events));
     }
 
 -- the input whose header ends so
-abbrev pub input_by : End → Result WholeHeader Stop → NodeInput
-input_by end (Ok headed) = input_after end headed
-input_by end (Err stop) = record { heading = None; events = []; stop = stop }
+abbrev pub input_by : HeaderKind → Result WholeHeader Stop → Input
+input_by kind (Ok headed) = input_after kind headed
+input_by kind (Err stop) = record { heading = None; lines = 0; events = []; stop = stop }
 
--- what the bytes of the input of the node at this end say
-abbrev pub node_input : End → List ℕ → NodeInput
-node_input end bytes = input_by end (header_in 1 (heading_new (Node end)) (lines_of bytes))
+-- what the lines of these bytes say of a header of this kind
+abbrev pub header_of : HeaderKind → List ℕ → Result WholeHeader Stop
+header_of kind bytes = header_in 1 (heading_new kind) (lines_of bytes)
+
+-- what the bytes of an input with a header of this kind say
+abbrev pub input_of : HeaderKind → List ℕ → Input
+input_of kind bytes = input_by kind (header_of kind bytes)

@@ -24,21 +24,21 @@ word_of text =
     else None
 
 -- what a word says with its fields
-abbrev pub said : End → ℕ → Profile → Option Word → List (List ℕ) → Result ScheduleLine LineCause
-said end count profile None fields = Err cause.Word
-said end count profile (Some word.Tick) fields = tick_line end fields
-said end count profile (Some word.Deliver) fields = raw_line end fields
-said end count profile (Some word.Put) fields = put_line end count fields
-said end count profile (Some word.Hold) fields = hold_line end fields
-said end count profile (Some word.Nonce) fields = nonce_line end profile fields
-said end count profile (Some word.Local) fields = local_line end fields
-said end count profile (Some word.End) fields = end_line fields
+abbrev pub node_said : End → ℕ → Profile → Option Word → List (List ℕ) → Result ScheduleLine LineCause
+node_said end count profile None fields = Err cause.Word
+node_said end count profile (Some word.Tick) fields = tick_line end fields
+node_said end count profile (Some word.Deliver) fields = raw_line end fields
+node_said end count profile (Some word.Put) fields = put_line end count fields
+node_said end count profile (Some word.Hold) fields = hold_line end fields
+node_said end count profile (Some word.Nonce) fields = nonce_line end profile fields
+node_said end count profile (Some word.Local) fields = local_line end fields
+node_said end count profile (Some word.End) fields = end_line fields
 
 -- what the fields of a line say, of which the first is its word
-abbrev pub said_by : End → ℕ → Profile → List (List ℕ) → Result ScheduleLine LineCause
-said_by end count profile [] = Err cause.Word
-said_by end count profile (first ∷ fields) = said end count profile (word_of first) fields
+abbrev pub node_said_by : End → ℕ → Profile → List (List ℕ) → Result ScheduleLine LineCause
+node_said_by end count profile [] = Err cause.Word
+node_said_by end count profile (first ∷ fields) = node_said end count profile (word_of first) fields
 
 -- what a line says to the node at this end, which sends so many safe data bytes
 abbrev pub node_line : End → ℕ → Profile → List ℕ → Result ScheduleLine LineCause
-node_line end count profile text = said_by end count profile (fields_of text)
+node_line end count profile text = node_said_by end count profile (fields_of text)

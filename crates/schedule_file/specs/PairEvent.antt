@@ -1,11 +1,9 @@
 -- What a line says that stands after the header of a pair.
 use Rattle.std.specs.Prelude.{List, [], ◌∷◌, ℕ, codes, Option, Some, None, Result, Err, if◌then◌else◌}
 use Rattle.std.specs.Str.{bytes_eq}
-use Rattle.fsoe_base.specs.LengthsOf.{length_of}
+use Rattle.fsoe_base.specs.declared.command.End.{End}
 use Rattle.fsoe_base.specs.declared.command.End.TheVariants as side
-use Rattle.fsoe_base.specs.declared.lengths.Lengths.{Lengths}
-use Rattle.param_load.specs.declared.profile.Profiles.{Profiles}
-use Rattle.schedule_file.specs.Event.{profile_of}
+use Rattle.param_load.specs.declared.profile.Profile.{Profile}
 use Rattle.schedule_file.specs.EventLine.{deliver_line, altered_line, tick_line, raw_line, put_line, hold_line, nonce_line, local_line, end_line}
 use Rattle.schedule_file.specs.Field.{fields_of}
 use Rattle.schedule_file.specs.declared.event.ScheduleLine.{ScheduleLine}
@@ -36,24 +34,24 @@ pair_word_of text =
     else if bytes_eq text (codes "end") then Some word.End
     else None
 
--- what a word says with its fields
-abbrev pub pair_said : Lengths → Profiles → Option PairWord → List (List ℕ) → Result ScheduleLine LineCause
-pair_said lengths profiles None fields = Err cause.Word
-pair_said lengths profiles (Some (word.Deliver to)) fields = deliver_line to fields
-pair_said lengths profiles (Some (word.Altered to)) fields = altered_line to lengths fields
-pair_said lengths profiles (Some (word.Raw to)) fields = raw_line to fields
-pair_said lengths profiles (Some (word.Tick at)) fields = tick_line at fields
-pair_said lengths profiles (Some (word.Put at)) fields = put_line at (length_of lengths at) fields
-pair_said lengths profiles (Some (word.Hold at)) fields = hold_line at fields
-pair_said lengths profiles (Some (word.Nonce at)) fields = nonce_line at (profile_of profiles at) fields
-pair_said lengths profiles (Some (word.Local at)) fields = local_line at fields
-pair_said lengths profiles (Some word.End) fields = end_line fields
+-- what a word says with its fields, where the ends send so many safe data bytes and have these profiles
+abbrev pub pair_said : (End → ℕ) → (End → Profile) → Option PairWord → List (List ℕ) → Result ScheduleLine LineCause
+pair_said sends profiles None fields = Err cause.Word
+pair_said sends profiles (Some (word.Deliver to)) fields = deliver_line to fields
+pair_said sends profiles (Some (word.Altered to)) fields = altered_line to sends fields
+pair_said sends profiles (Some (word.Raw to)) fields = raw_line to fields
+pair_said sends profiles (Some (word.Tick at)) fields = tick_line at fields
+pair_said sends profiles (Some (word.Put at)) fields = put_line at (sends at) fields
+pair_said sends profiles (Some (word.Hold at)) fields = hold_line at fields
+pair_said sends profiles (Some (word.Nonce at)) fields = nonce_line at (profiles at) fields
+pair_said sends profiles (Some (word.Local at)) fields = local_line at fields
+pair_said sends profiles (Some word.End) fields = end_line fields
 
 -- what the fields of a line say, of which the first is its word
-abbrev pub pair_said_by : Lengths → Profiles → List (List ℕ) → Result ScheduleLine LineCause
-pair_said_by lengths profiles [] = Err cause.Word
-pair_said_by lengths profiles (first ∷ fields) = pair_said lengths profiles (pair_word_of first) fields
+abbrev pub pair_said_by : (End → ℕ) → (End → Profile) → List (List ℕ) → Result ScheduleLine LineCause
+pair_said_by sends profiles [] = Err cause.Word
+pair_said_by sends profiles (first ∷ fields) = pair_said sends profiles (pair_word_of first) fields
 
--- what a line says to both ends
-abbrev pub pair_line : Lengths → Profiles → List ℕ → Result ScheduleLine LineCause
-pair_line lengths profiles text = pair_said_by lengths profiles (fields_of text)
+-- what a line says to both ends, which send so many safe data bytes and have these profiles
+abbrev pub pair_line : (End → ℕ) → (End → Profile) → List ℕ → Result ScheduleLine LineCause
+pair_line sends profiles text = pair_said_by sends profiles (fields_of text)

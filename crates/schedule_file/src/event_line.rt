@@ -1,12 +1,15 @@
 //! What the fields of an event's line say that stand after its word: one reader for each kind of event.
-ghost use Rattle.std.specs.Prelude.{◌≡◌, ◌≤◌, ◌<◌, IfSome, IfOk};
-ghost use Rattle.param_load.specs.declared.profile.Profiles.{Profiles};
+ghost use Rattle.std.specs.Prelude.{◌≡◌, ◌≤◌, ◌<◌, IfSome, IfOk, OnErr};
+ghost use Rattle.fsoe_base.specs.LengthsOf.{length_of};
+ghost use Rattle.fsoe_base.specs.declared.command.End.{End};
+ghost use Rattle.param_load.specs.declared.profile.Profile.{Profile};
 ghost use Rattle.schedule_file.specs.Event.{PairLineFits};
 ghost use Rattle.schedule_file.specs.EventLine.{switch_of, reference_of, delivered_len, deliver_line, altered_line, tick_line, raw_line, put_line, hold_line, nonce_line, local_line, end_line};
 ghost use Rattle.schedule_file.specs.Field.{fields_after};
+ghost use Rattle.schedule_file.specs.Fields.{Becomes};
 
 use crate::event::{Event, ScheduleLine};
-use crate::field::{HexBytes, next_field, no_field, number, one_field, one_hex_field};
+use crate::field::{HexBytes, frame_field, next_field, no_field, number, one_field, one_hex_field};
 use crate::line_cause::LineCause;
 use fsoe_base::{End, FrameBuf, Image, Lengths};
 use param_load::Profile;
@@ -42,7 +45,7 @@ fn read_reference(text: &[u8]) -> Option<u8>
 
 /// The number of bytes of a frame that is delivered to this end, which its peer sent.
 fn delivered_len(to: End, lengths: &Lengths) -> usize
-    ensures value { result ≡ delivered_len lengths.now to }
+    ensures value { result ≡ delivered_len (length_of lengths.now) to }
     ensures most { result ≤ 255 }
 {
     match to {
@@ -64,8 +67,8 @@ pub fn read_altered(
     lengths: &Lengths,
     fields: Option<&[u8]>,
 ) -> Result<ScheduleLine, LineCause>
-    ensures value { result ≡ altered_line to lengths.now (fields_after fields.entry) }
-    ensures fits { (profiles : Profiles) → IfOk result (PairLineFits lengths.now profiles) }
+    ensures value { result ≡ altered_line to (length_of lengths.now) (fields_after fields.entry) }
+    ensures fits { (profiles : End → Profile) → IfOk result (PairLineFits (length_of lengths.now) profiles) }
 {
     let (reference, rest) = next_field(fields)?;
     let (place, rest) = next_field(rest)?;
@@ -94,10 +97,46 @@ pub fn read_tick(at: End, fields: Option<&[u8]>) -> Result<ScheduleLine, LineCau
 pub fn read_raw(to: End, fields: Option<&[u8]>) -> Result<ScheduleLine, LineCause>
     ensures { result ≡ raw_line to (fields_after fields.entry) }
 {
-    let bytes = one_hex_field(fields, 255)?;
     let mut frame = FrameBuf::new();
-    frame.set(bytes.bytes());
+    frame_field(fields, &mut frame)?;
     Ok(ScheduleLine::Step(Event::Raw { to, frame }))
+}
+
+/// The same, written over `event`: a frame stays in its place where `event` has one. After an error it is as it was.
+fn read_raw_event(to: End, fields: Option<&[u8]>, event: &mut Event) -> Result<(), LineCause>
+    ensures value { Becomes result (ScheduleLine.Step event.new) (raw_line to (fields_after fields.entry)) }
+    ensures unwritten { OnErr result (event.new ≡ event.old) }
+{
+    match event {
+        Event::Raw { to: end, frame } => {
+            frame_field(fields, frame)?;
+            *end = to;
+        }
+        _ => {
+            let mut frame = FrameBuf::new();
+            frame_field(fields, &mut frame)?;
+            *event = Event::Raw { to, frame };
+        }
+    }
+    Ok(())
+}
+
+/// The same, written over `line`, which is as it was after an error.
+pub fn read_raw_into(
+    to: End,
+    fields: Option<&[u8]>,
+    line: &mut ScheduleLine,
+) -> Result<(), LineCause>
+    ensures value { Becomes result line.new (raw_line to (fields_after fields.entry)) }
+    ensures unwritten { OnErr result (line.new ≡ line.old) }
+{
+    match line {
+        ScheduleLine::Step(event) => read_raw_event(to, fields, event),
+        ScheduleLine::End => {
+            *line = read_raw(to, fields)?;
+            Ok(())
+        }
+    }
 }
 
 pub fn read_put(at: End, count: usize, fields: Option<&[u8]>) -> Result<ScheduleLine, LineCause>

@@ -1,9 +1,10 @@
-ghost use Rattle.std.specs.Prelude.{◌≡◌, ◌≤◌, ◌<◌, ◌∷◌, length, IfSome, IfOk};
-ghost use Rattle.schedule_file.specs.Fields.{next_field, no_field, one_field, one_hex_field, not_hex, IsField, AreFields};
-ghost use Rattle.schedule_file.specs.Field.{FindsSpace, fields_of, fields_after, number_of, bytes_of};
+ghost use Rattle.std.specs.Prelude.{◌≡◌, ◌≤◌, ◌<◌, ◌∷◌, length, IfSome, IfOk, OnOk, OnErr};
+ghost use Rattle.schedule_file.specs.Fields.{next_field, no_field, one_field, one_hex_field, not_hex, IsField, AreFields, Becomes};
+ghost use Rattle.schedule_file.specs.Field.{FindsSpace, CountsBytes, fields_of, fields_after, number_of, bytes_of};
 
 use crate::hex_digits::{are_digits, decode};
 use crate::line_cause::LineCause;
+use fsoe_base::FrameBuf;
 use memchr::memchr;
 use std::marker::Model;
 
@@ -44,6 +45,20 @@ pub fn number(text: &[u8], most: u32) -> Option<u32>
     Some(value as u32)
 }
 
+/// How many bytes a field says in digits of either case, from one to `most`.
+fn count_bytes(text: &[u8], most: usize) -> Option<usize>
+    ensures { CountsBytes result most text.now }
+{
+    let len = text.len() / 2;
+    if len == 0 || len > most {
+        return None;
+    }
+    if text.len() % 2 != 0 || !are_digits(text) {
+        return None;
+    }
+    Some(len)
+}
+
 /// The bytes of a hexadecimal field, from 1 to 256.
 #[derive(Drop)]
 pub struct HexBytes {
@@ -68,13 +83,7 @@ impl HexBytes {
         ensures value { result ≡ bytes_of most text.now }
         ensures count { IfSome result (λ bytes. (0 < length bytes) × (length bytes ≤ most)) }
     {
-        let len = text.len() / 2;
-        if len == 0 || len > most {
-            return None;
-        }
-        if text.len() % 2 != 0 || !are_digits(text) {
-            return None;
-        }
+        let len = count_bytes(text, most)?;
         let mut bytes = [0; 256];
         decode(text, &mut bytes[..len]);
         Some(HexBytes { bytes, len })
@@ -134,6 +143,27 @@ pub fn one_hex_field(fields: Option<&[u8]>, most: usize) -> Result<HexBytes, Lin
     };
     match HexBytes::read(text, most) {
         Some(bytes) => Ok(bytes),
+        None => Err(not_hex(text)),
+    }
+}
+
+/// Writes to `frame` the bytes of the only field, from one to 255. `Fields` where there is no field or more than one, else
+/// `Hex`; the frame is then as it was.
+#[tactic(auto, using(crate::proofs::HexAlone::hex_said, crate::proofs::HexAlone::hex_unsaid))]
+pub fn frame_field(fields: Option<&[u8]>, frame: &mut FrameBuf) -> Result<(), LineCause>
+    ensures value { Becomes result frame.new (one_hex_field 255 (fields_after fields.entry)) }
+    ensures count { OnOk result ((0 < length frame.new) × (length frame.new ≤ 255)) }
+    ensures unwritten { OnErr result (frame.new ≡ frame.old) }
+{
+    let Some(text) = fields else {
+        return Err(LineCause::Fields);
+    };
+    match count_bytes(text, 255) {
+        Some(len) => {
+            frame.resize(len);
+            decode(text, frame.bytes_mut());
+            Ok(())
+        }
         None => Err(not_hex(text)),
     }
 }

@@ -27,4 +27,4 @@ pub use header_kind::HeaderKind;
 pub use line_buf::LineBuf;
 pub use line_cause::LineCause;
 pub use node_event::read_node_event;
-pub use pair_event::read_event;
+pub use pair_event::{profile_of, read_event};

@@ -1,4 +1,5 @@
 ghost use Rattle.std.specs.Prelude.{◌≡◌, IfOk};
+ghost use Rattle.fsoe_base.specs.LengthsOf.{length_of};
 ghost use Rattle.schedule_file.specs.Event.{PairLineFits, profile_of};
 ghost use Rattle.schedule_file.specs.PairEvent.{pair_word_of, pair_line};
 
@@ -70,7 +71,7 @@ fn read_pair_word(text: &[u8]) -> Option<PairWord>
 }
 
 /// The profile of an end.
-fn profile_of(profiles: &Profiles, at: End) -> Profile
+pub fn profile_of(profiles: &Profiles, at: End) -> Profile
     ensures { result ≡ profile_of profiles.now at }
 {
     match at {
@@ -91,8 +92,8 @@ pub fn read_event(
     lengths: &Lengths,
     profiles: &Profiles,
 ) -> Result<ScheduleLine, LineCause>
-    ensures value { result ≡ pair_line lengths.now profiles.now line.now }
-    ensures fits { IfOk result (PairLineFits lengths.now profiles.now) }
+    ensures value { result ≡ pair_line (length_of lengths.now) (profile_of profiles.now) line.now }
+    ensures fits { IfOk result (PairLineFits (length_of lengths.now) (profile_of profiles.now)) }
 {
     let (first, fields) = cut(line);
     match read_pair_word(first) {

@@ -9,7 +9,8 @@ use std::test::Fail;
 /// Why a line is refused by a slave whose data has one byte, and its master's two.
 fn event_cause(line: &str, profile: Profile) -> Option<LineCause> {
     let lengths = Lengths::new(2, 1).ok()?;
-    read_node_event(line.as_bytes(), End::Slave, &lengths, profile).err()
+    let mut says = ScheduleLine::End;
+    read_node_event(line.as_bytes(), End::Slave, &lengths, profile, &mut says).err()
 }
 
 #[test]
@@ -58,19 +59,14 @@ fn reads_bytes_of_events(rt: HostRuntime) -> Result<(), Fail> {
         (513, 0, Some(LineCause::Hex)),
         (514, 0, Some(LineCause::Hex)),
     ] {
-        let (found, bytes, last) = match read_node_event(
-            &line[..end],
-            End::Master,
-            &lengths,
-            Profile::One,
-        ) {
-            Ok(ScheduleLine::Step(Event::Raw { frame, .. })) => (
-                None,
-                frame.len(),
-                frame.bytes().last().copied(),
-            ),
-            Ok(_) => (None, 0, None),
-            Err(cause) => (Some(cause), 0, None),
+        let mut says = ScheduleLine::End;
+        let read = read_node_event(&line[..end], End::Master, &lengths, Profile::One, &mut says);
+        let found = read.err();
+        let (bytes, last) = match &says {
+            ScheduleLine::Step(Event::Raw { frame, .. }) => {
+                (frame.len(), frame.bytes().last().copied())
+            }
+            _ => (0, None),
         };
         assert_eq!(rt; found, cause);
         assert_eq!(rt; bytes, len);

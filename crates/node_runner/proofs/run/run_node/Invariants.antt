@@ -1,8 +1,8 @@
 use Rattle.std.proofs.Common.{◌≤◌, ◌-◌}
 use Rattle.std.specs.Io.KnownBytes.{prepend_known}
 use Rattle.node_runner.specs.Node.{IsReady}
-use Rattle.node_runner.proofs.Going.{Going}
-use Rattle.node_runner.proofs.Running.{Running}
+use Rattle.file_run.proofs.Going.{Going}
+use Rattle.node_runner.proofs.Running.{NodeRunning}
 use Rattle.node_runner.proofs.run.run_node.Given as goal
 
 abbrev pub invariant-loop-output : goal.invariant-loop-output
@@ -11,7 +11,7 @@ invariant-loop-output g l =
     × (g.S.Source.faults l.fn.source ≤ g.S.Source.faults l.source)
     × (g.K.Sink.faults l.fn.sink ≤ g.K.Sink.faults l.sink)
     × IsReady l.node
-    × Running l.fn.end (g.S.Source.left l.fn.source) (prepend_known l.reader.bytes (g.S.Source.left l.source)) (g.K.Sink.written l.fn.sink) (g.K.Sink.written l.sink) l.output l.node l.events l.reader.lines
+    × NodeRunning l.fn.end l.grammar (g.S.Source.left l.fn.source) (prepend_known l.reader.bytes (g.S.Source.left l.source)) (g.K.Sink.written l.fn.sink) (g.K.Sink.written l.sink) l.output l.node l.events l.reader.lines
 
 abbrev pub decreases-loop-output : goal.decreases-loop-output
 decreases-loop-output g l = 200001 - l.events

@@ -1,0 +1,51 @@
+-- Why there is no next line, or what is wrong with it.
+use Rattle.std.proofs.Common.{◌≡◌, ℕ, List, [], ◌∷◌, ◌++◌, refl, ap}
+use Rattle.std.specs.Prelude.{Err, IfSome}
+use Rattle.std.specs.declared.option.Option.{Option}
+use Rattle.std.specs.Io.KnownBytes.{Consumes}
+use Rattle.std.proofs.lemmas.Option.{IfSome_then}
+use Rattle.fsoe_io.specs.Line.{IsLine}
+use Rattle.fsoe_io.specs.LineReader.{Reads}
+use Rattle.fsoe_io.specs.declared.line.LineFault.{LineFault}
+use Rattle.fsoe_io.specs.declared.line.LineFault.TheVariants as fault
+use Rattle.schedule_file.specs.Header.{Heading, heading_after}
+use Rattle.schedule_file.specs.Input.{Long, NoNewline, Line, lines_of}
+use Rattle.schedule_file.specs.declared.line_cause.LineCause.{LineCause}
+use Rattle.file_run.specs.Cause.{input_cause}
+use Rattle.file_run.specs.Event.{Finds, says_after, says_by, in_input}
+use Rattle.file_run.specs.HaltOf.{halt_of}
+use Rattle.file_run.specs.Header.{FindsHeading, heading_by, heading_by_itself}
+use Rattle.file_run.specs.NextLine.{FindsLine, first_line}
+use Rattle.file_run.specs.declared.cause.Cause.{Cause}
+use Rattle.file_run.specs.declared.event.Grammar.{Grammar}
+use Rattle.file_run.specs.declared.halt.Halt.{Halt}
+use Rattle.file_run.specs.declared.halt.Halt.TheVariants as halt
+use Rattle.file_run.proofs.Lines.{by_line, by_long, by_open}
+
+-- there is no next line
+pub no_line : (why : LineFault) (before : ℕ) (text : List ℕ) (old new : Option (List ℕ)) → Reads (Err why) old new → FindsLine (Err (halt_of why before)) text old new
+no_line fault.Read before text old new r = tt
+no_line fault.Long before text old new r = by_long old (λ lines. first_line lines ≡ Err Long) r (λ rest. refl)
+no_line fault.NoNewline before text old new r = by_open old (λ lines. first_line lines ≡ Err NoNewline) r refl
+
+-- then there is no next header line
+pub no_header_line : (h next : Heading) (why : Halt) (text : List ℕ) (old new : Option (List ℕ)) → FindsLine (Err why) text old new → FindsHeading h (Err why) next old new
+no_header_line h next (halt.Read lines) text old new finds = tt
+no_header_line h next (halt.Refused number why) text old new finds = IfSome_then old finds (λ input e. ap (heading_by h) e)
+
+-- and no next event
+pub no_event_line : (grammar : Grammar) (events : ℕ) (why : Halt) (text : List ℕ) (old new : Option (List ℕ)) → FindsLine (Err why) text old new → Finds grammar events (Err why) old new
+no_event_line grammar events (halt.Read lines) text old new finds = tt
+no_event_line grammar events (halt.Refused number why) text old new finds = IfSome_then old finds (λ input e. ap (says_by grammar events) e)
+
+-- the next header line is refused
+pub refused_header_line : (h : Heading) (old new : Option (List ℕ)) (text : List ℕ) (why : LineCause) → IsLine text → Consumes old new (text ++ 10 ∷ []) → heading_after h text ≡ Err why
+    → IfSome old (λ input. heading_by h (first_line (lines_of input)) ≡ Err (Line why))
+refused_header_line h old new text why is goes e =
+    by_line old new text (λ lines. heading_by h (first_line lines) ≡ Err (Line why)) is goes (λ rest. ap heading_by_itself e)
+
+-- the next line of an event is refused
+pub refused_event_line : (grammar : Grammar) (events : ℕ) (old new : Option (List ℕ)) (text : List ℕ) (why : Cause) → IsLine text → Consumes old new (text ++ 10 ∷ []) → says_after grammar events text ≡ Err why
+    → IfSome old (λ input. says_by grammar events (first_line (lines_of input)) ≡ Err (input_cause why))
+refused_event_line grammar events old new text why is goes e =
+    by_line old new text (λ lines. says_by grammar events (first_line lines) ≡ Err (input_cause why)) is goes (λ rest. ap in_input e)

@@ -1,0 +1,41 @@
+-- Whole lines that are taken one after another.
+use Rattle.std.proofs.Common.{◌≡◌, ℕ, ◌+◌, List, [], ◌∷◌, ◌++◌, refl, ap, ◌∙◌, sym, subst, append_assoc}
+use Rattle.std.specs.Prelude.{None, Some}
+use Rattle.std.specs.declared.option.Option.{Option}
+use Rattle.std.specs.Io.KnownBytes.{Consumes, prepend_known}
+use Rattle.std.proofs.lemmas.List.{append-nil, length_push}
+use Rattle.std.proofs.lemmas.List.Elements.{All-nil, All-push}
+use Rattle.fsoe_io.proofs.Taken.{consumes_then}
+use Rattle.fsoe_io.specs.Line.{IsLine}
+use Rattle.file_run.specs.WholeLines.{joined, TookLines}
+
+pub joined-append : (xs ys : List (List ℕ)) → joined (xs ++ ys) ≡ joined xs ++ joined ys
+joined-append [] ys = refl
+joined-append (line ∷ xs) ys =
+    ap (λ (z : List ℕ). (line ++ 10 ∷ []) ++ z) (joined-append xs ys) ∙ sym (append_assoc (line ++ 10 ∷ []) (joined xs) (joined ys))
+
+-- where nothing is held, nothing was taken
+pub took_none : (left : Option (List ℕ)) (held : List ℕ) (lines : ℕ) → held ≡ [] → lines ≡ 0 → TookLines lines left (prepend_known held left)
+took_none None held lines e z = record { lines = []; each = All-nil IsLine; counts = sym z; taken = tt }
+took_none (Some xs) held lines e z = record { lines = []; each = All-nil IsLine; counts = sym z; taken = sym (ap (λ (h : List ℕ). h ++ xs) e) }
+
+-- a line more
+pub took_line : (k lines : ℕ) (a b c : Option (List ℕ)) (line : List ℕ) → TookLines k a b → IsLine line → Consumes b c (line ++ 10 ∷ []) → lines ≡ k + 1 → TookLines lines a c
+took_line k lines a b c line took is goes next =
+    let whole : joined took.lines ++ (line ++ 10 ∷ []) ≡ joined (took.lines ++ line ∷ []) =
+    sym (joined-append took.lines (line ∷ []) ∙ ap (λ (z : List ℕ). joined took.lines ++ z) (append-nil (line ++ 10 ∷ []))) in
+    record {
+      lines = took.lines ++ line ∷ [];
+      each = All-push IsLine took.lines line took.each is;
+      counts = length_push took.lines line ∙ ap (λ (n : ℕ). n + 1) took.counts ∙ sym next;
+      taken = subst (Consumes a c) whole (consumes_then a b c (joined took.lines) (line ++ 10 ∷ []) took.taken goes);
+    }
+
+-- a read that failed takes nothing
+pub took_still : (k : ℕ) (a b c : Option (List ℕ)) → TookLines k a b → Consumes b c [] → TookLines k a c
+took_still k a b c took goes = record {
+  lines = took.lines;
+  each = took.each;
+  counts = took.counts;
+  taken = subst (Consumes a c) (append-nil (joined took.lines)) (consumes_then a b c (joined took.lines) [] took.taken goes);
+}

@@ -1,0 +1,12 @@
+use Rattle.std.proofs.Common.{sym}
+use Rattle.file_run.proofs.Found.{no_event_line, refused_event_line}
+use Rattle.file_run.proofs.event.next_event.Goals as goal
+
+pub returns-in-Err-read_after-clause-finds : goal.returns-in-Err-read_after-clause-finds
+returns-in-Err-read_after-clause-finds g c =
+    let line = c.in-Ok.ensures.finds in
+    refused_event_line c.args.grammar.now c.args.events _ _ c.next_line.new.line.bytes c.in-Err-read_after.cause line.0 line.1 (sym c.in-Err-read_after.ensures.says)
+
+pub returns-in-Err-clause-finds : goal.returns-in-Err-clause-finds
+returns-in-Err-clause-finds g c =
+    no_event_line c.args.grammar.now c.args.events c.in-Err.why _ _ _ c.in-Err.ensures.finds

@@ -1,0 +1,11 @@
+pub mod Cause
+pub mod Ending
+pub mod Event
+pub mod Halt
+pub mod HaltOf
+pub mod Header
+pub mod NextLine
+pub mod Ran
+pub mod Report
+pub mod Stop
+pub mod WholeLines

@@ -1,0 +1,20 @@
+-- The next line of an input.
+use Rattle.std.specs.Prelude.{◌≡◌, ℕ, List, [], ◌∷◌, ◌++◌, Result, Ok, Err, IfSome}
+use Rattle.std.specs.declared.option.Option.{Option}
+use Rattle.std.specs.Io.KnownBytes.{Consumes}
+use Rattle.fsoe_io.specs.Line.{IsLine}
+use Rattle.schedule_file.specs.Input.{InputCause, NoLine, lines_of}
+use Rattle.file_run.specs.Cause.{input_cause}
+use Rattle.file_run.specs.declared.halt.Halt.{Halt}
+use Rattle.file_run.specs.declared.halt.Halt.TheVariants as halt
+
+-- the first of these lines, or why there is none
+abbrev pub first_line : List (Result (List ℕ) InputCause) → Result (List ℕ) InputCause
+first_line [] = Err NoLine
+first_line (line ∷ rest) = line
+
+-- the next line has these bytes, or there is none for this cause
+abbrev pub FindsLine : Result (Unit {0}) Halt → List ℕ → Option (List ℕ) → Option (List ℕ) → Type 0
+FindsLine (Ok done) text old new = IsLine text × Consumes old new (text ++ 10 ∷ [])
+FindsLine (Err (halt.Read lines)) text old new = Unit {0}
+FindsLine (Err (halt.Refused number why)) text old new = IfSome old (λ input. first_line (lines_of input) ≡ Err (input_cause why))

@@ -1,0 +1,39 @@
+//! Why a line of an input is refused.
+ghost use Rattle.std.specs.Prelude.{◌≡◌, ◌≤◌, length};
+ghost use Rattle.file_run.specs.Cause.{refusal_name, input_cause};
+
+use schedule_file::LineCause;
+
+/// Why a line is refused: by itself, or by where it stands in the input.
+#[derive(Clone, Copy)]
+pub enum Cause {
+    /// It has more than 640 bytes.
+    Long,
+    /// The input ends inside it.
+    NoNewline,
+    /// The input ends where it would begin.
+    End,
+    /// There were as many events as an input may have, and it isn't `end`.
+    TooMany,
+    /// It names a frame that wasn't sent.
+    NoFrame,
+    /// It says what no line there may say.
+    Line(LineCause),
+}
+
+impl Cause {
+    /// The name as reports write it.
+    pub fn name(self) -> &'static str
+        ensures text { result.now ≡ refusal_name (input_cause self) }
+        ensures most { length result.now ≤ 10 }
+    {
+        match self {
+            Cause::Long => "Long",
+            Cause::NoNewline => "NoNewline",
+            Cause::End => "End",
+            Cause::TooMany => "TooMany",
+            Cause::NoFrame => "NoFrame",
+            Cause::Line(cause) => cause.name(),
+        }
+    }
+}

@@ -1,0 +1,96 @@
+//! The events of an input.
+ghost use Rattle.std.specs.Io.KnownBytes.{prepend_known};
+ghost use Rattle.std.specs.Prelude.{◌≡◌, ◌-◌, ◌^◌, ◌≤◌, ◌<◌, OnOk};
+ghost use Rattle.file_run.specs.Event.{Finds, FitsGrammar, IsWithin, says, says_after, what_says};
+ghost use Rattle.file_run.specs.Halt.{Blames, Goes, Stalls};
+
+use crate::cause::Cause;
+use crate::halt::Halt;
+use crate::line::next_line;
+use fsoe_base::Lengths;
+use fsoe_io::{Line, LineReader, Source};
+use param_load::Profiles;
+use schedule_file::{HeaderKind, LineCause, ScheduleLine, profile_of, read_event, read_node_event};
+
+/// The most events of an input.
+const MOST: u64 = 200_000;
+
+/// How lines are read that stand after a header: for which ends, and with which lengths and profiles. Of a node only its own count.
+#[derive(Clone, Copy)]
+pub struct Grammar {
+    pub kind: HeaderKind,
+    pub lengths: Lengths,
+    pub profiles: Profiles,
+}
+
+/// What a line says by a grammar, written over `said`, or why it is refused.
+fn read_by(line: &[u8], grammar: &Grammar, said: &mut ScheduleLine) -> Result<(), LineCause>
+    ensures says { what_says result said.new ≡ says grammar.now line.now }
+    ensures fits { OnOk result (FitsGrammar grammar.now said.new) }
+{
+    match grammar.kind {
+        HeaderKind::Pair => {
+            *said = read_event(line, &grammar.lengths, &grammar.profiles)?;
+            Ok(())
+        }
+        HeaderKind::Node(end) => {
+            let profile = profile_of(&grammar.profiles, end);
+            read_node_event(line, end, &grammar.lengths, profile, said)
+        }
+    }
+}
+
+/// What a line says that stands after so many events, written over `said`, or why it is refused.
+fn read_after(
+    line: &Line,
+    events: u64,
+    grammar: &Grammar,
+    said: &mut ScheduleLine,
+) -> Result<(), Cause>
+    ensures says { what_says result said.new ≡ says_after grammar.now events line.now.bytes }
+    ensures fits { OnOk result (FitsGrammar grammar.now said.new) }
+    ensures few { OnOk result (IsWithin events said.new) }
+{
+    if events < MOST {
+        match read_by(line.bytes(), grammar, said) {
+            Ok(()) => Ok(()),
+            Err(cause) => Err(Cause::Line(cause)),
+        }
+    } else if line.bytes() == b"end".as_slice() {
+        *said = ScheduleLine::End;
+        Ok(())
+    } else {
+        Err(Cause::TooMany)
+    }
+}
+
+/// What the next line says, after so many events. The line is written to `line`, and what it says to `said`.
+pub fn next_event<S: Source>(
+    reader: &mut LineReader,
+    source: &mut S,
+    line: &mut Line,
+    events: u64,
+    grammar: &Grammar,
+    said: &mut ScheduleLine,
+) -> Result<(), Halt>
+    requires { reader.old.lines < 2 ^ 64 - 1 }
+    ensures fits { OnOk result (FitsGrammar grammar.now said.new) }
+    ensures few { OnOk result (IsWithin events said.new) }
+    ensures finds { Finds grammar.now events (what_says result said.new)
+        (prepend_known reader.old.bytes (S.left source.old))
+        (prepend_known reader.new.bytes (S.left source.new)) }
+    ensures goes { Goes result reader.old.lines reader.new.lines
+        (prepend_known reader.old.bytes (S.left source.old))
+        (prepend_known reader.new.bytes (S.left source.new)) }
+    ensures stalls { Stalls result reader.new.bytes }
+    ensures later { S.faults source.old ≤ S.faults source.new }
+    ensures cause { Blames result (S.faults source.old) (S.faults source.new) }
+{
+    match next_line(reader, source, line) {
+        Ok(()) => match read_after(line, events, grammar, said) {
+            Ok(()) => Ok(()),
+            Err(cause) => Err(Halt::Refused(line.number(), cause)),
+        },
+        Err(why) => Err(why),
+    }
+}

@@ -1,0 +1,35 @@
+//! The next line of an input.
+ghost use Rattle.std.specs.Io.KnownBytes.{prepend_known};
+ghost use Rattle.std.specs.Prelude.{◌≡◌, ◌-◌, ◌^◌, ◌≤◌, ◌<◌, OnOk};
+ghost use Rattle.file_run.specs.Halt.{Blames, Goes, Stalls};
+ghost use Rattle.file_run.specs.NextLine.{FindsLine};
+
+use crate::cause::Cause;
+use crate::halt::{Halt, halt_of};
+use fsoe_io::{Line, LineReader, Source};
+
+/// Writes the next line to `line`, or tells why there is none.
+pub fn next_line<S: Source>(
+    reader: &mut LineReader,
+    source: &mut S,
+    line: &mut Line,
+) -> Result<(), Halt>
+    requires { reader.old.lines < 2 ^ 64 - 1 }
+    ensures finds { FindsLine result line.new.bytes
+        (prepend_known reader.old.bytes (S.left source.old))
+        (prepend_known reader.new.bytes (S.left source.new)) }
+    ensures number { OnOk result (line.new.number ≡ reader.new.lines) }
+    ensures goes { Goes result reader.old.lines reader.new.lines
+        (prepend_known reader.old.bytes (S.left source.old))
+        (prepend_known reader.new.bytes (S.left source.new)) }
+    ensures stalls { Stalls result reader.new.bytes }
+    ensures later { S.faults source.old ≤ S.faults source.new }
+    ensures cause { Blames result (S.faults source.old) (S.faults source.new) }
+{
+    let before = reader.lines();
+    match reader.next_into(source, line) {
+        Ok(true) => Ok(()),
+        Ok(false) => Err(Halt::Refused(before + 1, Cause::End)),
+        Err(fault) => Err(halt_of(fault, before)),
+    }
+}

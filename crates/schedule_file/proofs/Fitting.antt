@@ -1,0 +1,119 @@
+-- The events of a pair's input fit its ends.
+use Rattle.std.proofs.Common.{◌≡◌, ℕ, ◌≤◌, ◌<◌, Bool, true, false, List, [], ◌∷◌, length, map, refl, arith}
+use Rattle.std.specs.Prelude.{All, Result, Ok, Err, Option, Some, None, IfOk, IfSome, ◌&&◌, ◌==◌, nat_le, nat_lt, if◌then◌else◌}
+use Rattle.std.specs.Str.Parse.{digits_value}
+use Rattle.std.proofs.lemmas.Bool.{and_parts, leb-true, ltb-true, eqb-true}
+use Rattle.std.proofs.lemmas.Bool.Decides.{nat_tests}
+use Rattle.std.proofs.lemmas.List.Elements.{All-cons, All-nil, All-take}
+use Rattle.hex.specs.Hex.{decode_of}
+use Rattle.hex.specs.declared.error.FromHexError.{FromHexError}
+use Rattle.fsoe_base.specs.declared.command.End.{End}
+use Rattle.param_load.specs.Profile.{allows_id}
+use Rattle.param_load.specs.declared.profile.Profile.{Profile}
+use Rattle.schedule_file.specs.Event.{Fits, PairLineFits}
+use Rattle.schedule_file.specs.EventLine.{not_zero, reference_of, switch_of, delivered_len, altered_line}
+use Rattle.schedule_file.specs.Field.{fields_of, is_number, number_of, some_bytes, bytes_of}
+use Rattle.schedule_file.specs.Fields.{◌>>=◌, value_or, next_field, no_field, one_field}
+use Rattle.schedule_file.specs.Header.{Heading}
+use Rattle.schedule_file.specs.Input.{Stop, WholeHeader, header_of, own_length, heading_profile, said_after, steps, texts, input_by, input_of}
+use Rattle.schedule_file.specs.PairEvent.{pair_word_of, pair_said, pair_said_by, pair_line}
+use Rattle.schedule_file.specs.declared.event.ScheduleLine.{ScheduleLine}
+use Rattle.schedule_file.specs.declared.event.ScheduleLine.TheVariants as line
+use Rattle.schedule_file.specs.declared.header_kind.HeaderKind.TheVariants.{Pair}
+use Rattle.schedule_file.specs.declared.line_cause.LineCause.{LineCause}
+use Rattle.schedule_file.specs.declared.line_cause.LineCause.TheVariants as cause
+use Rattle.schedule_file.specs.declared.pair_event.PairWord.{PairWord}
+use Rattle.schedule_file.specs.declared.pair_event.PairWord.TheVariants as word
+use Rattle.schedule_file.proofs.Sound.{each, ok_if}
+
+-- the next step gives such a value, whatever is given here
+given : {A B : Type 0} (o : Option A) (cause : LineCause) (f : A → Result B LineCause) (Q : A → Type 0) (P : B → Type 0) → IfSome o Q → ((x : A) → Q x → IfOk (f x) P) → IfOk (value_or cause o >>= f) P
+given (Some x) cause f Q P q h = h x q
+given None cause f Q P q h = tt
+
+some_if : {A : Type 0} (b : Bool) (x : A) (P : A → Type 0) → (b ≡ true → P x) → IfSome (if b then Some x else None) P
+some_if true x P h = h refl
+some_if false x P h = tt
+
+-- a reference is from 1 to 64
+abbrev IsReference : ℕ → Type 0
+IsReference back = (0 < back) × (back ≤ 64)
+
+unless_zero : (b : Bool) (n : ℕ) → (n == 0) ≡ b → n ≤ 64 → IfSome (if b then None else Some n) IsReference
+unless_zero true n e le = tt
+unless_zero false n e le = (grind (arith, nat_tests), le)
+
+numbered : (b : Bool) (n : ℕ) → (b ≡ true → n ≤ 64) → IfSome (not_zero (if b then Some n else None)) IsReference
+numbered true n le = unless_zero (n == 0) n refl (le refl)
+numbered false n le = tt
+
+signed : (b : Bool) (digits : List ℕ) → IfSome (if b then not_zero (number_of 64 digits) else None) IsReference
+signed true digits =
+    numbered (is_number digits && nat_le (digits_value 10 digits) 64) (digits_value 10 digits)
+    (λ e. leb-true (digits_value 10 digits) 64 (and_parts (is_number digits) (nat_le (digits_value 10 digits) 64) e).1)
+signed false digits = tt
+
+reference_within : (text : List ℕ) → IfSome (reference_of text) IsReference
+reference_within [] = tt
+reference_within (sign ∷ digits) = signed (sign == 45) digits
+
+-- bytes are at least one
+some_within : (most : ℕ) (r : Result (List ℕ) FromHexError) → IfSome (some_bytes most r) (λ bytes. (0 < length bytes) × (length bytes ≤ most))
+some_within most (Ok bytes) =
+    some_if (nat_lt 0 (length bytes) && nat_le (length bytes) most) bytes _
+    (λ e. let parts = and_parts (nat_lt 0 (length bytes)) (nat_le (length bytes) most) e in (ltb-true 0 (length bytes) parts.0, leb-true (length bytes) most parts.1))
+some_within most (Err e) = tt
+
+bytes_within : (most : ℕ) (text : List ℕ) → IfSome (bytes_of most text) (λ bytes. (0 < length bytes) × (length bytes ≤ most))
+bytes_within most text = some_within most (decode_of text)
+
+-- the event of a line fits
+altered_fits : (sends : End → ℕ) (profiles : End → Profile) (to : End) (fields : List (List ℕ)) → IfOk (altered_line to sends fields) (PairLineFits sends profiles)
+altered_fits sends profiles to fields =
+    each (next_field fields) _ _ (λ reference. each (next_field reference.1) _ _ (λ place. each (one_field place.1) _ _ (λ digits. each (value_or cause.Number (number_of 65535 place.0)) _ _ (λ pos.
+    given (reference_of reference.0) cause.Reference _ _ _ (reference_within reference.0) (λ back range. each (value_or cause.Hex (bytes_of 1 digits)) _ _ (λ mask.
+    ok_if (nat_lt pos (delivered_len sends to)) _ cause.Position _ (λ e. (range, ltb-true pos (delivered_len sends to) e))))))))
+
+said_fits : (sends : End → ℕ) (profiles : End → Profile) (word : Option PairWord) (fields : List (List ℕ)) → IfOk (pair_said sends profiles word fields) (PairLineFits sends profiles)
+said_fits sends profiles None fields = tt
+said_fits sends profiles (Some (word.Deliver to)) fields =
+    each (one_field fields) _ _ (λ field. given (reference_of field) cause.Reference _ _ _ (reference_within field) (λ back range. (range, tt)))
+said_fits sends profiles (Some (word.Altered to)) fields = altered_fits sends profiles to fields
+said_fits sends profiles (Some (word.Raw to)) fields =
+    each (one_field fields) _ _ (λ field. given (bytes_of 255 field) cause.Hex _ _ _ (bytes_within 255 field) (λ bytes range. (range, tt)))
+said_fits sends profiles (Some (word.Tick at)) fields = each (no_field fields) _ _ (λ none. (tt, tt))
+said_fits sends profiles (Some (word.Put at)) fields =
+    each (one_field fields) _ _ (λ field. given (bytes_of 126 field) cause.Hex _ _ _ (bytes_within 126 field) (λ bytes range.
+    ok_if (length bytes == sends at) _ cause.Length _ (λ e. (range, eqb-true (length bytes) (sends at) e))))
+said_fits sends profiles (Some (word.Hold at)) fields = each (one_field fields) _ _ (λ field. each (value_or cause.Number (switch_of field)) _ _ (λ on. (tt, tt)))
+said_fits sends profiles (Some (word.Nonce at)) fields =
+    each (one_field fields) _ _ (λ field. each (value_or cause.Number (number_of 4294967295 field)) _ _ (λ id. ok_if (allows_id (profiles at) id) _ cause.Number _ (λ e. (tt, e))))
+said_fits sends profiles (Some (word.Local at)) fields = each (no_field fields) _ _ (λ none. (tt, tt))
+said_fits sends profiles (Some word.End) fields = each (no_field fields) _ _ (λ none. tt)
+
+fields_fit : (sends : End → ℕ) (profiles : End → Profile) (fields : List (List ℕ)) → IfOk (pair_said_by sends profiles fields) (PairLineFits sends profiles)
+fields_fit sends profiles [] = tt
+fields_fit sends profiles (first ∷ fields) = said_fits sends profiles (pair_word_of first) fields
+
+pub line_fits : (sends : End → ℕ) (profiles : End → Profile) (text : List ℕ) → IfOk (pair_line sends profiles text) (PairLineFits sends profiles)
+line_fits sends profiles text = fields_fit sends profiles (fields_of text)
+
+-- the events of lines fit
+first_fits : (sends : End → ℕ) (profiles : End → Profile) (r : Result ScheduleLine LineCause) (said : List (Result ScheduleLine LineCause)) → IfOk r (PairLineFits sends profiles) → All (Fits sends profiles) (steps said)
+    → All (Fits sends profiles) (steps (r ∷ said))
+first_fits sends profiles (Ok (line.Step event)) said fits later = All-cons (Fits sends profiles) event (steps said) fits later
+first_fits sends profiles (Ok line.End) said fits later = All-nil (Fits sends profiles)
+first_fits sends profiles (Err cause) said fits later = All-nil (Fits sends profiles)
+
+steps_fit : (h : Heading) (lines : List (List ℕ)) → All (Fits (own_length h) (heading_profile h)) (steps (map (said_after Pair h) lines))
+steps_fit h [] = All-nil (Fits (own_length h) (heading_profile h))
+steps_fit h (text ∷ lines) =
+    first_fits (own_length h) (heading_profile h) (said_after Pair h text) (map (said_after Pair h) lines) (line_fits (own_length h) (heading_profile h) text) (steps_fit h lines)
+
+input_fits : (r : Result WholeHeader Stop) → IfSome (input_by Pair r).heading (λ h. All (Fits (own_length h) (heading_profile h)) (input_by Pair r).events)
+input_fits (Ok whole) =
+    All-take (Fits (own_length whole.heading) (heading_profile whole.heading)) 200000 (steps (map (said_after Pair whole.heading) (texts whole.rest))) (steps_fit whole.heading (texts whole.rest))
+input_fits (Err stop) = tt
+
+pub events_fit : (bytes : List ℕ) → IfSome (input_of Pair bytes).heading (λ h. All (Fits (own_length h) (heading_profile h)) (input_of Pair bytes).events)
+events_fit bytes = input_fits (header_of Pair bytes)
