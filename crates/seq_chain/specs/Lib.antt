@@ -2,6 +2,7 @@ pub mod Cover
 pub mod Numbers
 pub mod Sealing
 pub mod Chain
+pub mod Tested
 pub mod Reset
 pub mod Differences
 pub mod BothFit

@@ -1,9 +1,10 @@
 //! The chain of a session at one end.
 
-ghost use Rattle.std.specs.Prelude.{◌≡◌, length, IsTrue};
+ghost use Rattle.std.specs.Prelude.{◌≡◌, length, IsTrue, Some, IfSome, is_some};
 ghost use Rattle.fsoe_base.specs.Lengths.{is_length, group_count};
 ghost use Rattle.seq_chain.specs.Numbers.{following, crc_noted};
 ghost use Rattle.seq_chain.specs.Chain.{fresh, chain_sent, frame_sent, fits_next, after_taken};
+ghost use Rattle.seq_chain.specs.Tested.{Notes};
 
 use crate::compare::crcs_are;
 use crate::link::{Link, crc_of, crc_or_zero, following_number, frame_number, number_with_crcs};
@@ -86,22 +87,30 @@ impl Chain {
     {
         let mut load = Image::zeros(0);
         view.load_into(&mut load);
-        self.test_load(view, conn, load.bytes())
+        self.test_load(view, conn, load.bytes()).is_some()
     }
 
-    /// The same where the safe data of the frame are at hand.
-    pub fn test_load(&self, view: &FrameView<'_>, conn: u16, load: &[u8]) -> bool
+    /// The same where the safe data of the frame are at hand. Where the frame is the next one it gives what is noted
+    /// of it when it is taken.
+    pub fn test_load(&self, view: &FrameView<'_>, conn: u16, load: &[u8]) -> Option<Link>
         requires connection { conn ≡ view.now.conn }
         requires load { load.now ≡ view.now.load }
         requires valid { IsTrue (is_length (length load.now)) }
         requires groups { length view.now.crcs ≡ group_count (length load.now) }
-        ensures { result ≡ fits_next self.now view.now }
+        ensures fits { is_some result ≡ fits_next self.now view.now }
+        ensures noted { IfSome result (λ link. Notes self.now view.now link) }
     {
         let last = crc_or_zero(self.own);
         let byte = view.command_byte();
         let mut crcs = ArrayVec::new();
-        let _number = number_with_crcs(self.taken, last, conn, byte, load, &mut crcs);
-        crcs_are(view, crcs.as_slice())
+        let number = number_with_crcs(self.taken, last, conn, byte, load, &mut crcs);
+        if !crcs_are(view, crcs.as_slice()) {
+            return None;
+        }
+        Some(Link {
+            number,
+            crc: view.crc_at(0),
+        })
     }
 
     /// Notes a frame of the peer that passed the test. `conn` is the connection id in the frame.
@@ -112,24 +121,32 @@ impl Chain {
     {
         let mut load = Image::zeros(0);
         view.load_into(&mut load);
-        self.take_load(view, conn, load.bytes());
+        let link = self.link_of(view, conn, load.bytes());
+        self.note(link);
     }
 
-    /// The same where the safe data of the frame are at hand.
-    pub fn take_load(&mut self, view: &FrameView<'_>, conn: u16, load: &[u8])
+    /// What is noted of a frame of the peer when it is taken, where its safe data are at hand. It is found anew; that
+    /// of a frame which was just tested is what the test gave.
+    pub fn link_of(&self, view: &FrameView<'_>, conn: u16, load: &[u8]) -> Link
         requires connection { conn ≡ view.now.conn }
         requires load { load.now ≡ view.now.load }
         requires valid { IsTrue (is_length (length load.now)) }
         requires groups { length view.now.crcs ≡ group_count (length load.now) }
-        requires tested { IsTrue (fits_next self.old view.now) }
-        ensures { self.new ≡ after_taken self.old view.now }
+        ensures { Notes self.now view.now result }
     {
         let last = crc_or_zero(self.own);
         let number = frame_number(self.taken, last, conn, view.command_byte(), load);
-        self.taken = Some(Link {
+        Link {
             number,
             crc: view.crc_at(0),
-        });
+        }
+    }
+
+    /// Notes a frame of the peer that passed the test, by what the test gave for it.
+    pub fn note(&mut self, link: Link)
+        ensures { self.new ≡ record self.old { taken = Some link } }
+    {
+        self.taken = Some(link);
     }
 }
 

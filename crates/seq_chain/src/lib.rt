@@ -5,7 +5,7 @@ pub use chain::Chain;
 pub use link::Link;
 pub use opened::{Opened, open};
 pub use reset::{reset_frame, reset_view};
-pub use session_frame::SessionFrame;
+pub use session_frame::{SessionFrame, UnreadFrame};
 
 mod chain;
 mod compare;

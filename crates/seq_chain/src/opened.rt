@@ -7,8 +7,8 @@ ghost use Rattle.seq_chain.specs.Opened.{opened, reset_opened};
 ghost use Rattle.seq_chain.specs.Reset as reset;
 
 use crate::reset::reset_view;
-use crate::session_frame::SessionFrame;
-use fsoe_base::{Code, Command, Dropped, Image};
+use crate::session_frame::UnreadFrame;
+use fsoe_base::{Code, Command, Dropped};
 use fsoe_frame::FrameView;
 
 /// What the first tests of a delivered frame say of it.
@@ -21,14 +21,14 @@ pub enum Opened<'a> {
     /// It is a valid Reset frame with this code.
     ResetFrame(Code, FrameView<'a>),
     /// It is a frame of a session, of which the command alone was tested.
-    OfSession(SessionFrame<'a>),
+    OfSession(UnreadFrame<'a>),
 }
 
 /// The first of these tests that a delivered frame fails: `Length` where it isn't a frame with `l` safe data bytes,
 /// `Repeat` where the caller says that it repeats the frame that was taken last, code 02h where its first byte stands
 /// for no command, and for a Reset frame 03h for another connection id than 0, 04h for a wrong CRC and 07h for a byte
-/// after the code that isn't 0. The safe data of a frame of a session are written to `load`.
-pub fn open<'a>(frame: &'a [u8], l: usize, repeats: bool, load: &'a mut Image) -> Opened<'a>
+/// after the code that isn't 0.
+pub fn open<'a>(frame: &'a [u8], l: usize, repeats: bool) -> Opened<'a>
     requires { IsTrue (is_length l) }
     ensures { result ≡ opened l repeats frame.now }
 {
@@ -41,7 +41,7 @@ pub fn open<'a>(frame: &'a [u8], l: usize, repeats: bool, load: &'a mut Image) -
     match Command::of(view.command_byte()) {
         None => Opened::Refuse(Code(0x02)),
         Some(Command::Reset) => open_reset(view),
-        Some(command) => Opened::OfSession(SessionFrame::new(command, view, load)),
+        Some(command) => Opened::OfSession(UnreadFrame::new(command, view)),
     }
 }
 

@@ -1,7 +1,51 @@
-//! A frame of a session.
+//! A frame of a session, and the same before its safe data are read.
 use fsoe_base::{Command, Image};
 use fsoe_frame::FrameView;
 use std::marker::Model;
+
+/// A delivered frame of a session: its command is known, and its safe data are still to be read. Contracts see the
+/// command and the frame.
+#[derive(Drop)]
+pub struct UnreadFrame<'a> {
+    command: Command,
+    view: FrameView<'a>,
+}
+
+impl<'a> Model for UnreadFrame<'a> {
+    ghost use Rattle.std.specs.Prelude.{◌≡◌};
+    ghost use Rattle.fsoe_base.specs.Command.{command_byte};
+    ghost use Rattle.seq_chain.specs.SessionFrame.{SessionFrameView};
+
+    ghost Value = { SessionFrameView };
+
+    ghost view = { λ s. record { command = s.command; frame = s.view } };
+
+    ghost invariant = { λ s. s.view.cmd ≡ command_byte s.command };
+}
+
+impl<'a> UnreadFrame<'a> {
+    ghost use Rattle.std.specs.Prelude.{◌≡◌, IsTrue, length};
+    ghost use Rattle.fsoe_base.specs.Command.{command_byte};
+    ghost use Rattle.fsoe_base.specs.Lengths.{is_length, group_count};
+
+    /// A frame with this command, whose byte it has.
+    pub(crate) fn new(command: Command, view: FrameView<'a>) -> UnreadFrame<'a>
+        requires { view.cmd ≡ command_byte command }
+        ensures { result ≡ record { command = command; frame = view.entry } }
+    {
+        UnreadFrame { command, view }
+    }
+
+    /// Copies the safe data into `out`, in place of what it held. They are as many as a frame can have, and there is a
+    /// CRC for each group of them.
+    pub fn load_into(&self, out: &mut Image)
+        ensures value { out.new ≡ self.now.frame.load }
+        ensures valid { IsTrue (is_length (length out.new)) }
+        ensures groups { length self.now.frame.crcs ≡ group_count (length out.new) }
+    {
+        self.view.load_into(out);
+    }
+}
 
 /// A delivered frame of a session: its command is known, and its safe data are at hand. Contracts see the command
 /// and the frame.
@@ -24,21 +68,21 @@ impl<'a> Model for SessionFrame<'a> {
 
 impl<'a> SessionFrame<'a> {
     ghost use Rattle.std.specs.Prelude.{◌≡◌, ◌≤◌, IsTrue, length};
-    ghost use Rattle.fsoe_base.specs.Command.{command_byte};
     ghost use Rattle.fsoe_base.specs.Lengths.{is_length, group_count};
     ghost use Rattle.fsoe_frame.specs.Parts.{bytes_of};
 
-    /// A frame with this command, whose byte it has. Its safe data are written to `load`.
-    pub fn new(command: Command, view: FrameView<'a>, load: &'a mut Image) -> SessionFrame<'a>
-        requires { view.cmd ≡ command_byte command }
-        ensures { result ≡ record { command = command; frame = view.entry } }
+    /// This frame, with its safe data as `load_into` gives them.
+    pub fn new(frame: UnreadFrame<'a>, load: &'a Image) -> SessionFrame<'a>
+        requires load { load.now ≡ frame.frame.load }
+        requires valid { IsTrue (is_length (length load.now)) }
+        requires groups { length frame.frame.crcs ≡ group_count (length load.now) }
+        ensures { result ≡ frame.entry }
     {
-        view.load_into(load);
-        let load = load.bytes();
+        let UnreadFrame { command, view } = frame;
         SessionFrame {
             command,
             view,
-            load,
+            load: load.bytes(),
         }
     }
 

@@ -88,11 +88,10 @@ fn passes(rt: &impl Abort, (command, data, number, crc): Row, from: &mut Chain, 
     assert!(rt; to.test(&received, conn), "number {number}");
     let mut load = Image::zeros(0);
     received.load_into(&mut load);
-    assert!(rt;
-        to.test_load(&received, conn, load.bytes()),
-        "number {number}"
-    );
-    to.take_load(&received, conn, load.bytes());
+    let tested = to.test_load(&received, conn, load.bytes());
+    let link = tested.expect(rt, "the next frame");
+    assert_eq!(rt; link, to.link_of(&received, conn, load.bytes()));
+    to.note(link);
     assert_eq!(rt; to.taken_prev(), Some(crc));
     assert_eq!(rt; to.peer_seq(), number.wrapping_add(1));
     assert!(rt; !to.test(&received, conn), "the same frame again");
