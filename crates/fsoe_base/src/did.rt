@@ -79,11 +79,15 @@ impl Did {
     {
         let mut image = Image::zeros(0);
         image.set(load);
+        Did::took_image(command, image, passed)
+    }
+
+    /// The same where the safe data are handed over.
+    pub fn took_image(command: Command, load: Image, passed: bool) -> Did
+        ensures { result ≡ takes command load passed }
+    {
         Did {
-            took: Some(Took {
-                command,
-                load: image,
-            }),
+            took: Some(Took { command, load }),
             passed,
             sent: true,
             reset: None,

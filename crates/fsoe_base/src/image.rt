@@ -77,7 +77,9 @@ impl Image {
         ensures { self.new ≡ [] }
     {
         // A new one costs less than to blank the bytes one by one.
-        self.inner = ArrayVec::new();
+        if !self.is_empty() {
+            self.inner = ArrayVec::new();
+        }
     }
 
     /// Appends a byte where fewer than 126 stand.

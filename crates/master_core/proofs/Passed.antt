@@ -1,6 +1,5 @@
 -- What a frame that passed the tests tells.
-use Rattle.std.proofs.Common.{◌≡◌, ℕ, Bool, false, IsTrue, List, Option, Some, None, is_some, refl, sym, ap, subst, ◌∙◌, []}
-use Rattle.fsoe_base.specs.declared.command.Code.{Code}
+use Rattle.std.proofs.Common.{◌≡◌, ℕ, Bool, IsTrue, List, None, ap, subst, ◌∙◌, []}
 use Rattle.fsoe_base.specs.Lengths.{is_length}
 use Rattle.param_load.specs.declared.master_settings.MasterSettings.{MasterSettings}
 use Rattle.seq_chain.specs.declared.chain.Chain.{Chain}
@@ -25,12 +24,8 @@ has_passed settings now l repeats bytes f valid at o e = record {
   fits = (session_passed (allows now f.command) (has_conn (OfMaster settings) [] f.command f.frame.conn) (fits_next (chain_of now) f.frame) e).2;
 }
 
-none-found : (found : Option Code) → is_some found ≡ false → found ≡ None
-none-found None h = refl
-none-found (Some x) h = absurd (cc h)
-
 -- the same in state Data
-pub data_passed : (settings : MasterSettings) (n : Now) (s : DataView) (l : ℕ) (repeats : Bool) (bytes : List ℕ) (f : SessionFrameView) (found : Option Code) → n ≡ now.Data s → IsTrue (is_length l) → l ≡ receives (OfMaster settings)
-    → opened l repeats bytes ≡ opened_as.OfSession f → found ≡ fault settings n f → is_some found ≡ false → HasPassed (receives (OfMaster settings)) s.chain f
-data_passed settings n s l repeats bytes f found here valid at o i e =
-    subst (λ (chain : Chain). HasPassed (receives (OfMaster settings)) chain f) (ap chain_of here) (has_passed settings n l repeats bytes f valid at o (sym i ∙ none-found found e))
+pub data_passed : (settings : MasterSettings) (n : Now) (s : DataView) (l : ℕ) (repeats : Bool) (bytes : List ℕ) (f : SessionFrameView) → n ≡ now.Data s → IsTrue (is_length l) → l ≡ receives (OfMaster settings)
+    → opened l repeats bytes ≡ opened_as.OfSession f → fault settings n f ≡ None → HasPassed (receives (OfMaster settings)) s.chain f
+data_passed settings n s l repeats bytes f here valid at o e =
+    subst (λ (chain : Chain). HasPassed (receives (OfMaster settings)) chain f) (ap chain_of here) (has_passed settings n l repeats bytes f valid at o e)

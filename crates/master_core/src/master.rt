@@ -9,7 +9,7 @@ use failsafe_io::Watchdog;
 use fsoe_base::{Cause, Code, Command, Did, Dropped, FrameBuf, Image, State};
 use fsoe_frame::FrameView;
 use param_load::{MasterSettings, Terms};
-use seq_chain::{Opened, SessionFrame, open, reset_frame};
+use seq_chain::{Link, Opened, SessionFrame, open, reset_frame};
 use std::marker::Model;
 use std::mem;
 
@@ -41,6 +41,7 @@ impl Master {
     ghost use Rattle.param_load.specs.declared.entry.Move.TheVariants as event;
     ghost use Rattle.fsoe_base.specs.declared.did.Did.{Did};
     ghost use Rattle.seq_chain.specs.SessionFrame.{HasPassed};
+    ghost use Rattle.seq_chain.specs.Tested.{Notes};
     ghost use Rattle.param_load.specs.declared.master_settings.MasterSettings.{MasterSettings};
     ghost use Rattle.end_model.specs.Deed.{Deed};
     ghost use Rattle.end_model.specs.Setup.{OfMaster, sends, receives};
@@ -122,20 +123,21 @@ impl Master {
         self.leave(Next::Begin(last));
         Did {
             sent: false,
-            ..Did::took(Command::Reset, load.bytes(), false)
+            ..Did::took_image(Command::Reset, load, false)
         }
     }
 
-    /// Takes a frame that passed the tests, unless its contents are wrong.
-    fn take(&mut self, seen: &SessionFrame<'_>) -> Did
-        requires { HasPassed (receives (OfMaster self.old.kit.settings)) (chain_of self.old.state) seen.now }
+    /// Takes a frame that passed the tests, with what the chain notes of it, unless its contents are wrong.
+    fn take(&mut self, seen: &SessionFrame<'_>, link: Link) -> Did
+        requires passed { HasPassed (receives (OfMaster self.old.kit.settings)) (chain_of self.old.state) seen.now }
+        requires noted { Notes (chain_of self.old.state) seen.now.frame link }
         ensures master { self.new ≡ (settles self.old seen.now (next_state self.old.kit self.old.state seen.now)).master }
         ensures did { result ≡ (settles self.old seen.now (next_state self.old.kit self.old.state seen.now)).did }
         ensures kit { self.new.kit ≡ self.old.kit }
         ensures unsent { result.sent ≡ false }
     {
         let old = mem::replace(&mut self.state, Now::Reset(InReset::new()));
-        match old.take(seen, &self.kit) {
+        match old.take(seen, link, &self.kit) {
             Ok(next) => {
                 self.leave(next);
                 Did {
@@ -157,15 +159,19 @@ impl Master {
         ensures unsent { result.sent ≡ false }
     {
         let repeats = self.state.is_repeat(frame);
-        let mut load = Image::zeros(0);
-        match open(frame, self.kit.settings().peer_len(), repeats, &mut load) {
+        match open(frame, self.kit.settings().peer_len(), repeats) {
             Opened::Drop(why) => Did::dropped(why),
             Opened::Refuse(code) => self.refuse(code),
             Opened::ResetFrame(code, view) => self.acknowledge(code, &view),
-            Opened::OfSession(seen) => match self.state.fault(self.kit.settings(), &seen) {
-                Some(code) => self.refuse(code),
-                None => self.take(&seen),
-            },
+            Opened::OfSession(frame) => {
+                let mut load = Image::zeros(0);
+                frame.load_into(&mut load);
+                let seen = SessionFrame::new(frame, &load);
+                match self.state.test(self.kit.settings(), &seen) {
+                    Err(code) => self.refuse(code),
+                    Ok(link) => self.take(&seen, link),
+                }
+            }
         }
     }
 
@@ -230,28 +236,26 @@ impl Master {
             return None;
         }
         let repeats = self.state.is_repeat(frame);
-        let mut load = Image::zeros(0);
-        let Opened::OfSession(seen) = open(
-            frame,
-            self.kit.settings().peer_len(),
-            repeats,
-            &mut load,
-        ) else {
+        let Opened::OfSession(frame) = open(frame, self.kit.settings().peer_len(), repeats) else {
             return None;
         };
-        if self.state.fault(self.kit.settings(), &seen).is_some() {
+        let mut load = Image::zeros(0);
+        frame.load_into(&mut load);
+        let seen = SessionFrame::new(frame, &load);
+        let Ok(link) = self.state.test(self.kit.settings(), &seen) else {
             return None;
-        }
+        };
         let Now::Data(state) = &mut self.state else {
             return None;
         };
-        match state.take(&seen, &self.kit) {
+        match state.take(&seen, link, &self.kit) {
             Err(_) => return None,
             Ok(()) => {
                 state.send_next(&self.kit, out);
                 let limit = self.kit.settings().watchdog();
                 self.watchdog.restart(limit);
-                return Some(Did::took(seen.command(), seen.load(), true));
+                let command = seen.command();
+                return Some(Did::took_image(command, load, true));
             }
         }
     }

@@ -9,7 +9,7 @@ use crate::states::{InConnection, InData, InParameter, InReset, InSession};
 use failsafe_io::zeros;
 use fsoe_base::{Code, Command, FrameBuf, State};
 use param_load::{MasterSettings, Terms};
-use seq_chain::{Chain, SessionFrame};
+use seq_chain::{Chain, Link, SessionFrame};
 
 /// The state that a master is in. While a frame is due the state after it is wrapped in `Due`.
 #[derive(Debug, Drop)]
@@ -34,7 +34,9 @@ fn has_conn(settings: &MasterSettings, command: Command, field: u16) -> bool
 
 impl Now {
     ghost use Rattle.std.specs.Prelude.{◌≡◌, ◌≤◌, length, IfOk, option_copied};
+    ghost use Rattle.std.specs.Result.{result_err};
     ghost use Rattle.seq_chain.specs.SessionFrame.{HasPassed};
+    ghost use Rattle.seq_chain.specs.Tested.{Notes};
     ghost use Rattle.end_model.specs.Setup.{OfMaster, receives};
     ghost use Rattle.end_model.specs.Verdict.{is_repeat};
     ghost use Rattle.master_core.specs.Now.{IsUnder, NextUnder, state_of, is_reset, is_due, chain_of, kept_in, allows, fault, next_state, replied, reply, outputs_in, terms_shown_in};
@@ -106,36 +108,44 @@ impl Now {
         }
     }
 
-    /// The code of the first test that a frame of a session fails: of its command, its connection id, and its CRCs.
-    pub(crate) fn fault(&self, settings: &MasterSettings, seen: &SessionFrame<'_>) -> Option<Code>
-        ensures { result ≡ fault settings.now self.now seen.now }
+    /// Tests a frame of a session: its command, its connection id, and its CRCs. It gives what the chain notes of the
+    /// frame when it is taken, or the code of the first test that fails.
+    pub(crate) fn test(
+        &self,
+        settings: &MasterSettings,
+        seen: &SessionFrame<'_>,
+    ) -> Result<Link, Code>
+        ensures code { result_err result ≡ fault settings.now self.now seen.now }
+        ensures noted { IfOk result (λ link. Notes (chain_of self.now) seen.now.frame link) }
     {
         let conn = seen.conn();
         if !self.allows(seen.command()) {
-            return Some(Code(0x01));
+            return Err(Code(0x01));
         }
         if !has_conn(settings, seen.command(), conn) {
-            return Some(Code(0x03));
+            return Err(Code(0x03));
         }
-        if !self.chain().test_load(seen.view(), conn, seen.load()) {
-            return Some(Code(0x04));
+        match self.chain().test_load(seen.view(), conn, seen.load()) {
+            Some(link) => Ok(link),
+            None => Err(Code(0x04)),
         }
-        None
     }
 
-    /// Takes a frame that passed the tests in this state, and gives what is to be sent next.
-    pub(crate) fn take(self, seen: &SessionFrame<'_>, kit: &Kit) -> Result<Next, Code>
+    /// Takes a frame that passed the tests in this state, with what the chain notes of it, and gives what is to be sent
+    /// next.
+    pub(crate) fn take(self, seen: &SessionFrame<'_>, link: Link, kit: &Kit) -> Result<Next, Code>
         requires under { IsUnder kit.now.settings self }
         requires passed { HasPassed (receives (OfMaster kit.now.settings)) (chain_of self) seen.now }
+        requires noted { Notes (chain_of self) seen.now.frame link }
         ensures next { result ≡ next_state kit.now self seen.now }
         ensures under { IfOk result (λ next. NextUnder kit.now.settings next) }
     {
         match self {
             Now::Reset(_) | Now::Due(_) => Err(Code(0x01)),
-            Now::Session(state) => state.take(seen, kit),
-            Now::Connection(state) => state.take(seen, kit),
-            Now::Parameter(state) => state.take(seen, kit),
-            Now::Data(mut state) => match state.take(seen, kit) {
+            Now::Session(state) => state.take(seen, link, kit),
+            Now::Connection(state) => state.take(seen, link, kit),
+            Now::Parameter(state) => state.take(seen, link, kit),
+            Now::Data(mut state) => match state.take(seen, link, kit) {
                 Ok(()) => Ok(Next::Data(state)),
                 Err(code) => Err(code),
             },

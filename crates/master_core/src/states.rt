@@ -1,10 +1,11 @@
 //! The five states of a master. A state is made by the transitions of this crate alone, and owns what it needs. A
-//! transition takes an answer that passed the tests in this state, and gives what is to be sent next, or the code of
-//! the test of the answer's contents that fails.
+//! transition takes an answer that passed the tests in this state, with what the chain notes of it, and gives what is to
+//! be sent next, or the code of the test of the answer's contents that fails.
 ghost use Rattle.std.specs.Prelude.{◌≡◌, ◌≤◌, IfOk, OnOk, OnErr, length};
 ghost use Rattle.fsoe_base.specs.declared.command.Command.TheVariants as command;
 ghost use Rattle.param_load.specs.Download.{outcome};
 ghost use Rattle.seq_chain.specs.SessionFrame.{HasPassed};
+ghost use Rattle.seq_chain.specs.Tested.{Notes};
 ghost use Rattle.end_model.specs.Setup.{OfMaster, receives};
 ghost use Rattle.master_core.specs.Now.{NextUnder};
 ghost use Rattle.master_core.specs.States.{no_session, piece_sent, piece_frame, first_exchange, answered, with_download, first_data, session_next, connection_next, parameter_next, data_next, in_place, data_sent, data_frame};
@@ -15,7 +16,7 @@ use crate::kit::Kit;
 use failsafe_io::{Outputs, data_holds};
 use fsoe_base::{Code, Command, FrameBuf};
 use param_load::{Download, Progress, Terms};
-use seq_chain::{Chain, SessionFrame};
+use seq_chain::{Chain, Link, SessionFrame};
 use std::marker::Model;
 
 /// No session.
@@ -101,14 +102,15 @@ impl Model for InData {
 
 impl Exchange {
     /// Takes the answer to the piece in turn. Refused with 07h where it isn't one; then the exchange is only left.
-    fn take(&mut self, seen: &SessionFrame<'_>, kit: &Kit) -> Result<Progress, Code>
+    fn take(&mut self, seen: &SessionFrame<'_>, link: Link, kit: &Kit) -> Result<Progress, Code>
         requires under { ExchangeUnder kit.now.settings self.old }
         requires passed { HasPassed (receives (OfMaster kit.now.settings)) self.old.chain seen.now }
+        requires noted { Notes self.old.chain seen.now.frame link }
         ensures outcome { result ≡ outcome self.old.download seen.now.frame.load }
         ensures taken { OnOk result (self.new ≡ answered self.old seen.now) }
     {
         let progress = self.download.check(seen.load())?;
-        self.chain.take_load(seen.view(), seen.conn(), seen.load());
+        self.chain.note(link);
         self.last.set(seen.bytes());
         Ok(progress)
     }
@@ -177,13 +179,19 @@ impl InSession {
 
     /// Goes on by a Session frame: the next piece, else the first Connection frame, is to be sent. Refused with 07h
     /// where the padding isn't zeros.
-    pub(crate) fn take(mut self, seen: &SessionFrame<'_>, kit: &Kit) -> Result<Next, Code>
+    pub(crate) fn take(
+        mut self,
+        seen: &SessionFrame<'_>,
+        link: Link,
+        kit: &Kit,
+    ) -> Result<Next, Code>
         requires under { ExchangeUnder kit.now.settings self }
         requires passed { HasPassed (receives (OfMaster kit.now.settings)) self.chain seen.now }
+        requires noted { Notes self.chain seen.now.frame link }
         ensures next { result ≡ session_next kit.now self seen.now }
         ensures under { IfOk result (λ next. NextUnder kit.now.settings next) }
     {
-        match self.exchange.take(seen, kit)? {
+        match self.exchange.take(seen, link, kit)? {
             Progress::More => Ok(Next::Session(self)),
             Progress::Whole => {
                 let InSession { exchange } = self;
@@ -222,13 +230,19 @@ impl InConnection {
 
     /// Goes on by a Connection frame: the next piece, else the first Parameter frame, is to be sent. Refused with 07h
     /// where the answer isn't the piece sent, followed by zeros.
-    pub(crate) fn take(mut self, seen: &SessionFrame<'_>, kit: &Kit) -> Result<Next, Code>
+    pub(crate) fn take(
+        mut self,
+        seen: &SessionFrame<'_>,
+        link: Link,
+        kit: &Kit,
+    ) -> Result<Next, Code>
         requires under { ExchangeUnder kit.now.settings self }
         requires passed { HasPassed (receives (OfMaster kit.now.settings)) self.chain seen.now }
+        requires noted { Notes self.chain seen.now.frame link }
         ensures next { result ≡ connection_next kit.now self seen.now }
         ensures under { IfOk result (λ next. NextUnder kit.now.settings next) }
     {
-        match self.exchange.take(seen, kit)? {
+        match self.exchange.take(seen, link, kit)? {
             Progress::More => Ok(Next::Connection(self)),
             Progress::Whole => {
                 let InConnection { exchange } = self;
@@ -267,13 +281,19 @@ impl InParameter {
 
     /// Goes on by a Parameter frame: the next piece, else the first data frame, is to be sent. Refused with 07h where
     /// the answer isn't the piece sent, followed by zeros.
-    pub(crate) fn take(mut self, seen: &SessionFrame<'_>, kit: &Kit) -> Result<Next, Code>
+    pub(crate) fn take(
+        mut self,
+        seen: &SessionFrame<'_>,
+        link: Link,
+        kit: &Kit,
+    ) -> Result<Next, Code>
         requires under { ExchangeUnder kit.now.settings self }
         requires passed { HasPassed (receives (OfMaster kit.now.settings)) self.chain seen.now }
+        requires noted { Notes self.chain seen.now.frame link }
         ensures next { result ≡ parameter_next kit.now self seen.now }
         ensures under { IfOk result (λ next. NextUnder kit.now.settings next) }
     {
-        match self.exchange.take(seen, kit)? {
+        match self.exchange.take(seen, link, kit)? {
             Progress::More => Ok(Next::Parameter(self)),
             Progress::Whole => {
                 let InParameter { exchange } = self;
@@ -317,9 +337,15 @@ impl InData {
 
     /// Goes on by a data frame, in place. Refused with 07h where a FailSafeData frame has a byte that isn't 0; then
     /// nothing is changed.
-    pub(crate) fn take(&mut self, seen: &SessionFrame<'_>, kit: &Kit) -> Result<(), Code>
+    pub(crate) fn take(
+        &mut self,
+        seen: &SessionFrame<'_>,
+        link: Link,
+        kit: &Kit,
+    ) -> Result<(), Code>
         requires under { DataUnder kit.now.settings self.old }
         requires passed { HasPassed (receives (OfMaster kit.now.settings)) self.old.chain seen.now }
+        requires noted { Notes self.old.chain seen.now.frame link }
         ensures next { in_place result self.new ≡ data_next self.old seen.now }
         ensures kept { OnErr result (self.new ≡ self.old) }
         ensures under { DataUnder kit.now.settings self.new }
@@ -327,7 +353,7 @@ impl InData {
         if !data_holds(seen.command(), seen.load()) {
             return Err(Code(0x07));
         }
-        self.chain.take_load(seen.view(), seen.conn(), seen.load());
+        self.chain.note(link);
         self.outputs.take(seen.command(), seen.load());
         self.last.set(seen.bytes());
         Ok(())

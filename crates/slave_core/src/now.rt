@@ -4,7 +4,7 @@ use crate::seen::Seen;
 use crate::states::{InConnection, InData, InParameter, InReset, InSession};
 use fsoe_base::{Code, Command, FrameBuf, State};
 use param_load::Terms;
-use seq_chain::{Chain, SessionFrame};
+use seq_chain::{Chain, Link, SessionFrame};
 
 /// The state that a slave is in.
 #[derive(Debug, Drop)]
@@ -18,7 +18,9 @@ pub(crate) enum Now {
 
 impl Now {
     ghost use Rattle.std.specs.Prelude.{◌≡◌, ◌<◌, IsTrue, IfOk, OnOk, OnErr, option_copied};
+    ghost use Rattle.std.specs.Result.{result_err};
     ghost use Rattle.seq_chain.specs.SessionFrame.{HasPassed};
+    ghost use Rattle.seq_chain.specs.Tested.{Notes};
     ghost use Rattle.end_model.specs.Verdict.{is_repeat};
     ghost use Rattle.end_model.specs.Setup.{OfSlave, receives};
     ghost use Rattle.slave_core.specs.Now.{IsUnder, state_of, is_reset, chain_of, kept_in, allows, has_conn, limit_of, terms_shown_in, fault};
@@ -101,21 +103,23 @@ impl Now {
         }
     }
 
-    /// The code of the first test that a frame of a session fails: of its command, its connection id, and its CRCs.
-    pub(crate) fn fault(&self, seen: &SessionFrame<'_>) -> Option<Code>
-        ensures { result ≡ fault self.now seen.now }
+    /// Tests a frame of a session: its command, its connection id, and its CRCs. It gives what the chain notes of the
+    /// frame when it is taken, or the code of the first test that fails.
+    pub(crate) fn test(&self, seen: &SessionFrame<'_>) -> Result<Link, Code>
+        ensures code { result_err result ≡ fault self.now seen.now }
+        ensures noted { IfOk result (λ link. Notes (chain_of self.now) seen.now.frame link) }
     {
         let conn = seen.conn();
         if !self.allows(seen.command()) {
-            return Some(Code(0x01));
+            return Err(Code(0x01));
         }
         if !self.has_conn(seen.command(), conn) {
-            return Some(Code(0x03));
+            return Err(Code(0x03));
         }
-        if !self.chain().test_load(seen.view(), conn, seen.load()) {
-            return Some(Code(0x04));
+        match self.chain().test_load(seen.view(), conn, seen.load()) {
+            Some(link) => Ok(link),
+            None => Err(Code(0x04)),
         }
-        None
     }
 
     /// The ticks after which the session expires.

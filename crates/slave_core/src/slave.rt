@@ -9,7 +9,7 @@ use failsafe_io::{Watchdog, zeros};
 use fsoe_base::{Cause, Code, Command, Did, Dropped, FrameBuf, Image, State};
 use fsoe_frame::FrameView;
 use param_load::{SlaveSettings, Terms};
-use seq_chain::{Opened, open, reset_frame};
+use seq_chain::{Opened, SessionFrame, UnreadFrame, open, reset_frame};
 use std::marker::Model;
 use std::mem;
 
@@ -36,8 +36,8 @@ impl Slave {
     ghost use Rattle.std.specs.Prelude.{IsTrue, [], length, option_copied};
     ghost use Rattle.seq_chain.specs.SessionFrame.{HasPassed};
     ghost use Rattle.param_load.specs.Profile.{allows_id};
-    ghost use Rattle.slave_core.specs.Now.{allows, chain_of, outputs_in};
-    ghost use Rattle.slave_core.specs.Slave.{fallen, falls, refuses, reset_by_peer, settles, on_frame, tick_of};
+    ghost use Rattle.slave_core.specs.Now.{allows, chain_of, fault, outputs_in};
+    ghost use Rattle.slave_core.specs.Slave.{fallen, falls, refuses, reset_by_peer, settles, on_session, on_frame, tick_of};
     ghost use Rattle.slave_core.specs.Taken.{next_state, reply};
     ghost use Rattle.slave_core.specs.ViewOf.{view_of};
     ghost use Rattle.param_load.specs.declared.entry.Move.TheVariants as event;
@@ -84,12 +84,12 @@ impl Slave {
     #[cold]
     #[inline(never)]
     fn refuse(&mut self, passed: bool, code: Code, out: &mut FrameBuf) -> Did
-        requires { out.old ≡ [] }
         ensures slave { self.new ≡ (refuses self.old passed code).slave }
         ensures did { result ≡ (refuses self.old passed code).did }
         ensures sent { out.new ≡ (refuses self.old passed code).sent }
     {
         if self.state.is_reset() {
+            out.clear();
             return Did {
                 passed,
                 ..Did::dropped(Dropped::InReset)
@@ -111,42 +111,17 @@ impl Slave {
             view.load_into(&mut load);
             self.forget();
             reset_frame(Code(0x00), self.kit.settings().own_len(), out);
-            return Did::took(Command::Reset, load.bytes(), false);
+            return Did::took_image(Command::Reset, load, false);
         }
         self.fall(false, Cause::Peer(code), Code(0x00), out)
     }
 
-    /// Takes a frame that passed the tests, unless its contents are wrong. A data frame goes on in place.
-    fn take(&mut self, seen: &Seen<'_>, out: &mut FrameBuf) -> Did
-        requires allowed { IsTrue (allows self.old.state seen.now.command) }
-        requires passed { HasPassed (receives (OfSlave self.old.kit.settings)) (chain_of self.old.state) seen.now }
-        requires empty { out.old ≡ [] }
-        ensures slave { self.new ≡ (settles self.old seen.now (reply self.old.kit self.old.state seen.now) (next_state self.old.kit self.old.state seen.now)).slave }
-        ensures did { result ≡ (settles self.old seen.now (reply self.old.kit self.old.state seen.now) (next_state self.old.kit self.old.state seen.now)).did }
-        ensures sent { out.new ≡ (settles self.old seen.now (reply self.old.kit self.old.state seen.now) (next_state self.old.kit self.old.state seen.now)).sent }
-        ensures kit { self.new.kit ≡ self.old.kit }
-    {
-        match &mut self.state {
-            Now::Data(state) => match state.go_on(seen.frame(), &self.kit, out) {
-                Ok(()) => {
-                    let limit = state.terms().watchdog;
-                    self.watchdog.restart(limit);
-                    return Did::took(seen.frame().command(), seen.frame().load(), true);
-                }
-                Err(code) => self.fall(true, Cause::Found(code), code, out),
-            },
-            Now::Reset(_) | Now::Session(_) | Now::Connection(_) | Now::Parameter(_) => {
-                self.take_by_move(seen, out)
-            }
-        }
-    }
-
-    /// The same by a move of the state, whose cost no data frame is to bear.
+    /// Takes a frame that passed the tests, unless its contents are wrong, by a move of the state, whose cost no data
+    /// frame is to bear.
     #[inline(never)]
     fn take_by_move(&mut self, seen: &Seen<'_>, out: &mut FrameBuf) -> Did
         requires allowed { IsTrue (allows self.old.state seen.now.command) }
         requires passed { HasPassed (receives (OfSlave self.old.kit.settings)) (chain_of self.old.state) seen.now }
-        requires empty { out.old ≡ [] }
         ensures slave { self.new ≡ (settles self.old seen.now (reply self.old.kit self.old.state seen.now) (next_state self.old.kit self.old.state seen.now)).slave }
         ensures did { result ≡ (settles self.old seen.now (reply self.old.kit self.old.state seen.now) (next_state self.old.kit self.old.state seen.now)).did }
         ensures sent { out.new ≡ (settles self.old seen.now (reply self.old.kit self.old.state seen.now) (next_state self.old.kit self.old.state seen.now)).sent }
@@ -166,6 +141,7 @@ impl Slave {
                 let hand = self.kit.settings().hand();
                 self.watchdog.restart(hand);
                 if was_reset {
+                    out.clear();
                     return Did {
                         passed: true,
                         ..Did::dropped(Dropped::InReset)
@@ -176,27 +152,55 @@ impl Slave {
         }
     }
 
+    /// Tests a frame of a session, and takes it unless a test fails or its contents are wrong. A data frame goes on in
+    /// place.
+    #[tactic(auto, using(crate::proofs::Passed::is_allowed, crate::proofs::Passed::fits))]
+    fn judge(&mut self, frame: UnreadFrame<'_>, out: &mut FrameBuf) -> Did
+        requires { length frame.frame.load ≡ receives (OfSlave self.old.kit.settings) }
+        ensures slave { self.new ≡ (on_session self.old frame.entry (fault self.old.state frame.entry)).slave }
+        ensures did { result ≡ (on_session self.old frame.entry (fault self.old.state frame.entry)).did }
+        ensures sent { out.new ≡ (on_session self.old frame.entry (fault self.old.state frame.entry)).sent }
+        ensures kit { self.new.kit ≡ self.old.kit }
+    {
+        let mut load = Image::zeros(0);
+        frame.load_into(&mut load);
+        let seen = Seen::new(SessionFrame::new(frame, &load));
+        // Each answer is returned where it is made: a value that joins several is moved once more.
+        let link = match self.state.test(seen.frame()) {
+            Err(code) => return self.refuse(false, code, out),
+            Ok(link) => link,
+        };
+        let Now::Data(state) = &mut self.state else {
+            return self.take_by_move(&seen, out);
+        };
+        match state.go_on(seen.frame(), link, &self.kit, out) {
+            Err(code) => return self.fall(true, Cause::Found(code), code, out),
+            Ok(()) => {
+                let limit = state.terms().watchdog;
+                self.watchdog.restart(limit);
+                let command = seen.frame().command();
+                return Did::took_image(command, load, true);
+            }
+        }
+    }
+
     /// Tests a frame of the master, and goes on by the verdict.
     #[inline(never)]
-    #[tactic(auto, using(crate::proofs::Passed::is_allowed))]
     fn receive(&mut self, frame: &[u8], out: &mut FrameBuf) -> Did
         ensures slave { self.new ≡ (on_frame self.old frame.now).slave }
         ensures did { result ≡ (on_frame self.old frame.now).did }
         ensures sent { out.new ≡ (on_frame self.old frame.now).sent }
         ensures kit { self.new.kit ≡ self.old.kit }
     {
-        out.clear();
         let repeats = self.state.is_repeat(frame);
-        let mut load = Image::zeros(0);
-        // Each answer is returned where it is made: a value that joins several is moved once more.
-        match open(frame, self.kit.settings().peer_len(), repeats, &mut load) {
-            Opened::Drop(why) => return Did::dropped(why),
+        match open(frame, self.kit.settings().peer_len(), repeats) {
+            Opened::Drop(why) => {
+                out.clear();
+                return Did::dropped(why);
+            }
             Opened::Refuse(code) => return self.refuse(false, code, out),
             Opened::ResetFrame(code, view) => return self.acknowledge(code, &view, out),
-            Opened::OfSession(frame) => match self.state.fault(&frame) {
-                Some(code) => return self.refuse(false, code, out),
-                None => return self.take(&Seen::new(frame), out),
-            },
+            Opened::OfSession(frame) => return self.judge(frame, out),
         }
     }
 

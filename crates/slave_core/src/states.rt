@@ -14,6 +14,7 @@ ghost use Rattle.param_load.specs.Upload.{is_whole};
 ghost use Rattle.seq_chain.specs.Chain.{fits_next, fresh};
 ghost use Rattle.fsoe_base.specs.Data.{is_data};
 ghost use Rattle.seq_chain.specs.SessionFrame.{HasPassed};
+ghost use Rattle.seq_chain.specs.Tested.{Notes};
 ghost use Rattle.slave_core.specs.declared.now.Now.TheVariants as now;
 ghost use Rattle.end_model.specs.Setup.{OfSlave, piece_len, receives};
 ghost use Rattle.slave_core.specs.GoesOn.{GoesOn};
@@ -26,7 +27,7 @@ use crate::seen::Seen;
 use failsafe_io::{Outputs, data_holds};
 use fsoe_base::{Code, Command, FrameBuf};
 use param_load::{Payload, Terms, Upload, padded};
-use seq_chain::{Chain, SessionFrame};
+use seq_chain::{Chain, Link, SessionFrame};
 use std::marker::Model;
 
 /// No session.
@@ -403,7 +404,9 @@ impl InParameter {
             outputs: Outputs::new(kit.settings().peer_len()),
             last: FrameBuf::new(),
         };
-        match next.go_on(seen.frame(), kit, out) {
+        let frame = seen.frame();
+        let link = link_of(&next.chain, frame);
+        match next.go_on(frame, link, kit, out) {
             Ok(()) => Ok(next),
             Err(code) => Err((InReset::new(), code)),
         }
@@ -470,22 +473,26 @@ impl InData {
         ensures goes_on { GoesOn (now.Data self) kit.now seen.now (as_data result) out.old out.new }
         ensures under { IfOk result (λ s. DataUnder kit.now.settings s) }
     {
-        match self.go_on(seen.frame(), kit, out) {
+        let frame = seen.frame();
+        let link = link_of(&self.chain, frame);
+        match self.go_on(frame, link, kit, out) {
             Ok(()) => Ok(self),
             Err(code) => Err((InReset::new(), code)),
         }
     }
 
-    /// The same in place. After a refusal the state is as it was, and only left.
+    /// The same in place, with what is noted of the frame. After a refusal the state is as it was, and only left.
     pub(crate) fn go_on(
         &mut self,
         seen: &SessionFrame<'_>,
+        link: Link,
         kit: &Kit,
         out: &mut FrameBuf,
     ) -> Result<(), Code>
         requires command { IsTrue (is_data seen.now.command) }
         requires under { DataUnder kit.now.settings self.old }
         requires passed { HasPassed (receives (OfSlave kit.now.settings)) self.old.chain seen.now }
+        requires noted { Notes self.old.chain seen.now.frame link }
         ensures next { in_place result self.new ≡ data_next kit.now self.old.chain self.old.terms seen.now }
         ensures sent { OnOk result (out.new ≡ data_reply kit.now self.old.chain self.old.terms seen.now) }
         ensures unwritten { OnErr result (out.new ≡ out.old) }
@@ -495,14 +502,9 @@ impl InData {
             return Err(Code(0x07));
         }
         let offer = kit.offer();
-        answer(
-            &mut self.chain,
-            seen,
-            offer.command(),
-            self.terms.conn,
-            offer.load(),
-            out,
-        );
+        self.chain.note(link);
+        self.chain
+            .seal(offer.command(), self.terms.conn, offer.load(), out);
         self.outputs.take(seen.command(), seen.load());
         self.last.set(seen.bytes());
         Ok(())
@@ -543,6 +545,13 @@ impl InData {
     }
 }
 
+/// What is noted of a frame that is taken.
+fn link_of(chain: &Chain, seen: &SessionFrame<'_>) -> Link
+    ensures { Notes chain.now seen.now.frame result }
+{
+    chain.link_of(seen.view(), seen.conn(), seen.load())
+}
+
 /// Notes a frame that is taken, and seals its answer.
 fn answer(
     chain: &mut Chain,
@@ -557,7 +566,8 @@ fn answer(
     ensures chain { chain.new ≡ answered chain.old seen.now conn command load.now }
     ensures sent { out.new ≡ answer chain.old seen.now conn command load.now }
 {
-    chain.take_load(seen.view(), seen.conn(), seen.load());
+    let link = link_of(chain, seen);
+    chain.note(link);
     chain.seal(command, conn, load, out);
 }
 
