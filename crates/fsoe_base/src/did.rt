@@ -79,15 +79,21 @@ impl Did {
     {
         let mut image = Image::zeros(0);
         image.set(load);
-        Did::took_image(command, image, passed)
+        Did::taken(
+            Took {
+                command,
+                load: image,
+            },
+            passed,
+        )
     }
 
-    /// The same where the safe data are handed over.
-    pub fn took_image(command: Command, load: Image, passed: bool) -> Did
-        ensures { result ≡ takes command load passed }
+    /// This frame was taken, and one was sent. `passed` says whether it passed the CRC test of a session.
+    pub fn taken(took: Took, passed: bool) -> Did
+        ensures { result ≡ takes took.command took.load passed }
     {
         Did {
-            took: Some(Took { command, load }),
+            took: Some(took),
             passed,
             sent: true,
             reset: None,

@@ -6,7 +6,7 @@ use crate::kit::Kit;
 use crate::now::Now;
 use crate::states::InReset;
 use failsafe_io::Watchdog;
-use fsoe_base::{Cause, Code, Command, Did, Dropped, FrameBuf, Image, State};
+use fsoe_base::{Cause, Code, Command, Did, Dropped, FrameBuf, Image, State, Took};
 use fsoe_frame::FrameView;
 use param_load::{MasterSettings, Terms};
 use seq_chain::{Link, Opened, SessionFrame, open, reset_frame};
@@ -116,14 +116,17 @@ impl Master {
         if code.0 != 0x00 {
             return Did::dropped(Dropped::InReset);
         }
-        let mut load = Image::zeros(0);
-        view.load_into(&mut load);
+        let mut took = Took {
+            command: Command::Reset,
+            load: Image::zeros(0),
+        };
+        view.load_into(&mut took.load);
         let mut last = FrameBuf::new();
         last.set(view.bytes());
         self.leave(Next::Begin(last));
         Did {
             sent: false,
-            ..Did::took_image(Command::Reset, load, false)
+            ..Did::taken(took, false)
         }
     }
 
@@ -163,10 +166,10 @@ impl Master {
             Opened::Drop(why) => Did::dropped(why),
             Opened::Refuse(code) => self.refuse(code),
             Opened::ResetFrame(code, view) => self.acknowledge(code, &view),
-            Opened::OfSession(frame) => {
+            Opened::OfSession(unread) => {
                 let mut load = Image::zeros(0);
-                frame.load_into(&mut load);
-                let seen = SessionFrame::new(frame, &load);
+                unread.load_into(&mut load);
+                let seen = SessionFrame::new(unread, &load);
                 match self.state.test(self.kit.settings(), &seen) {
                     Err(code) => self.refuse(code),
                     Ok(link) => self.take(&seen, link),
@@ -221,46 +224,9 @@ impl Master {
         self.send(out);
     }
 
-    /// Goes on in place where this is a data frame that passes all tests in state Data, so that no data frame bears
-    /// the cost of a move of the state. Else nothing is changed.
+    /// Tests a frame, and sends the frame that is due then. In state Data a data frame that passes all tests goes on in
+    /// place, so that it doesn't bear the cost of a move of the state.
     #[inline(never)]
-    fn go_on(&mut self, frame: &[u8], out: &mut FrameBuf) -> Option<Did>
-        ensures master { OnSome result (self.new ≡ (on_frame self.old frame.now).master) }
-        ensures did { IfSome result (λ did. did ≡ (on_frame self.old frame.now).did) }
-        ensures sent { OnSome result (out.new ≡ (on_frame self.old frame.now).sent) }
-        ensures kept { IfNone result (self.new ≡ self.old) }
-        ensures kit { self.new.kit ≡ self.old.kit }
-        ensures done { OnSome result (is_due self.new.state ≡ false) }
-    {
-        if !matches!(self.state, Now::Data(_)) {
-            return None;
-        }
-        let repeats = self.state.is_repeat(frame);
-        let Opened::OfSession(frame) = open(frame, self.kit.settings().peer_len(), repeats) else {
-            return None;
-        };
-        let mut load = Image::zeros(0);
-        frame.load_into(&mut load);
-        let seen = SessionFrame::new(frame, &load);
-        let Ok(link) = self.state.test(self.kit.settings(), &seen) else {
-            return None;
-        };
-        let Now::Data(state) = &mut self.state else {
-            return None;
-        };
-        match state.take(&seen, link, &self.kit) {
-            Err(_) => return None,
-            Ok(()) => {
-                state.send_next(&self.kit, out);
-                let limit = self.kit.settings().watchdog();
-                self.watchdog.restart(limit);
-                let command = seen.command();
-                return Some(Did::took_image(command, load, true));
-            }
-        }
-    }
-
-    /// Tests a frame, and sends the frame that is due then. A data frame goes on in place.
     fn exchange(&mut self, frame: &[u8], out: &mut FrameBuf) -> Did
         requires { is_due self.old.state ≡ false }
         ensures master { self.new ≡ (on_frame self.old frame.now).master }
@@ -269,10 +235,33 @@ impl Master {
         ensures kit { self.new.kit ≡ self.old.kit }
         ensures done { is_due self.new.state ≡ false }
     {
-        // Each answer is returned where it is made: a value that joins several is moved once more.
-        match self.go_on(frame, out) {
-            Some(did) => return did,
-            None => return self.exchange_by_move(frame, out),
+        if !matches!(self.state, Now::Data(_)) {
+            return self.exchange_by_move(frame, out);
+        }
+        let repeats = self.state.is_repeat(frame);
+        let Opened::OfSession(unread) = open(frame, self.kit.settings().peer_len(), repeats) else {
+            return self.exchange_by_move(frame, out);
+        };
+        let mut took = Took {
+            command: unread.command(),
+            load: Image::zeros(0),
+        };
+        unread.load_into(&mut took.load);
+        let seen = SessionFrame::new(unread, &took.load);
+        let Ok(link) = self.state.test(self.kit.settings(), &seen) else {
+            return self.exchange_by_move(frame, out);
+        };
+        let Now::Data(state) = &mut self.state else {
+            return self.exchange_by_move(frame, out);
+        };
+        match state.take(&seen, link, &self.kit) {
+            Err(_) => return self.exchange_by_move(frame, out),
+            Ok(()) => {
+                state.send_next(&self.kit, out);
+                let limit = self.kit.settings().watchdog();
+                self.watchdog.restart(limit);
+                return Did::taken(took, true);
+            }
         }
     }
 

@@ -46,6 +46,8 @@ pub fn open<'a>(frame: &'a [u8], l: usize, repeats: bool) -> Opened<'a>
 }
 
 /// What a Reset frame says.
+#[cold]
+#[inline(never)]
 fn open_reset<'a>(view: FrameView<'a>) -> Opened<'a>
     requires { view.cmd ≡ command_byte Command.Reset }
     ensures { result ≡ reset_opened view.entry (reset.reset_view view.entry) }

@@ -36,6 +36,13 @@ impl<'a> UnreadFrame<'a> {
         UnreadFrame { command, view }
     }
 
+    /// The command.
+    pub fn command(&self) -> Command
+        ensures { result ≡ self.now.command }
+    {
+        self.command
+    }
+
     /// Copies the safe data into `out`, in place of what it held. They are as many as a frame can have, and there is a
     /// CRC for each group of them.
     pub fn load_into(&self, out: &mut Image)

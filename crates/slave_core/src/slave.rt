@@ -6,10 +6,10 @@ use crate::now::Now;
 use crate::seen::Seen;
 use crate::states::InReset;
 use failsafe_io::{Watchdog, zeros};
-use fsoe_base::{Cause, Code, Command, Did, Dropped, FrameBuf, Image, State};
+use fsoe_base::{Cause, Code, Command, Did, Dropped, FrameBuf, Image, State, Took};
 use fsoe_frame::FrameView;
 use param_load::{SlaveSettings, Terms};
-use seq_chain::{Opened, SessionFrame, UnreadFrame, open, reset_frame};
+use seq_chain::{Opened, SessionFrame, open, reset_frame};
 use std::marker::Model;
 use std::mem;
 
@@ -36,8 +36,8 @@ impl Slave {
     ghost use Rattle.std.specs.Prelude.{IsTrue, [], length, option_copied};
     ghost use Rattle.seq_chain.specs.SessionFrame.{HasPassed};
     ghost use Rattle.param_load.specs.Profile.{allows_id};
-    ghost use Rattle.slave_core.specs.Now.{allows, chain_of, fault, outputs_in};
-    ghost use Rattle.slave_core.specs.Slave.{fallen, falls, refuses, reset_by_peer, settles, on_session, on_frame, tick_of};
+    ghost use Rattle.slave_core.specs.Now.{allows, chain_of, outputs_in};
+    ghost use Rattle.slave_core.specs.Slave.{fallen, falls, refuses, reset_by_peer, settles, on_frame, tick_of};
     ghost use Rattle.slave_core.specs.Taken.{next_state, reply};
     ghost use Rattle.slave_core.specs.ViewOf.{view_of};
     ghost use Rattle.param_load.specs.declared.entry.Move.TheVariants as event;
@@ -107,11 +107,14 @@ impl Slave {
         ensures sent { out.new ≡ (reset_by_peer self.old code view.now.load).sent }
     {
         if self.state.is_reset() {
-            let mut load = Image::zeros(0);
-            view.load_into(&mut load);
+            let mut took = Took {
+                command: Command::Reset,
+                load: Image::zeros(0),
+            };
+            view.load_into(&mut took.load);
             self.forget();
             reset_frame(Code(0x00), self.kit.settings().own_len(), out);
-            return Did::took_image(Command::Reset, load, false);
+            return Did::taken(took, false);
         }
         self.fall(false, Cause::Peer(code), Code(0x00), out)
     }
@@ -152,20 +155,33 @@ impl Slave {
         }
     }
 
-    /// Tests a frame of a session, and takes it unless a test fails or its contents are wrong. A data frame goes on in
+    /// Tests a frame of the master, and takes it unless a test fails or its contents are wrong. A data frame goes on in
     /// place.
-    #[tactic(auto, using(crate::proofs::Passed::is_allowed, crate::proofs::Passed::fits))]
-    fn judge(&mut self, frame: UnreadFrame<'_>, out: &mut FrameBuf) -> Did
-        requires { length frame.frame.load ≡ receives (OfSlave self.old.kit.settings) }
-        ensures slave { self.new ≡ (on_session self.old frame.entry (fault self.old.state frame.entry)).slave }
-        ensures did { result ≡ (on_session self.old frame.entry (fault self.old.state frame.entry)).did }
-        ensures sent { out.new ≡ (on_session self.old frame.entry (fault self.old.state frame.entry)).sent }
+    #[inline(never)]
+    #[tactic(auto, using(crate::proofs::Passed::is_allowed))]
+    fn receive(&mut self, frame: &[u8], out: &mut FrameBuf) -> Did
+        ensures slave { self.new ≡ (on_frame self.old frame.now).slave }
+        ensures did { result ≡ (on_frame self.old frame.now).did }
+        ensures sent { out.new ≡ (on_frame self.old frame.now).sent }
         ensures kit { self.new.kit ≡ self.old.kit }
     {
-        let mut load = Image::zeros(0);
-        frame.load_into(&mut load);
-        let seen = Seen::new(SessionFrame::new(frame, &load));
+        let repeats = self.state.is_repeat(frame);
         // Each answer is returned where it is made: a value that joins several is moved once more.
+        let unread = match open(frame, self.kit.settings().peer_len(), repeats) {
+            Opened::Drop(why) => {
+                out.clear();
+                return Did::dropped(why);
+            }
+            Opened::Refuse(code) => return self.refuse(false, code, out),
+            Opened::ResetFrame(code, view) => return self.acknowledge(code, &view, out),
+            Opened::OfSession(unread) => unread,
+        };
+        let mut took = Took {
+            command: unread.command(),
+            load: Image::zeros(0),
+        };
+        unread.load_into(&mut took.load);
+        let seen = Seen::new(SessionFrame::new(unread, &took.load));
         let link = match self.state.test(seen.frame()) {
             Err(code) => return self.refuse(false, code, out),
             Ok(link) => link,
@@ -178,29 +194,8 @@ impl Slave {
             Ok(()) => {
                 let limit = state.terms().watchdog;
                 self.watchdog.restart(limit);
-                let command = seen.frame().command();
-                return Did::took_image(command, load, true);
+                return Did::taken(took, true);
             }
-        }
-    }
-
-    /// Tests a frame of the master, and goes on by the verdict.
-    #[inline(never)]
-    fn receive(&mut self, frame: &[u8], out: &mut FrameBuf) -> Did
-        ensures slave { self.new ≡ (on_frame self.old frame.now).slave }
-        ensures did { result ≡ (on_frame self.old frame.now).did }
-        ensures sent { out.new ≡ (on_frame self.old frame.now).sent }
-        ensures kit { self.new.kit ≡ self.old.kit }
-    {
-        let repeats = self.state.is_repeat(frame);
-        match open(frame, self.kit.settings().peer_len(), repeats) {
-            Opened::Drop(why) => {
-                out.clear();
-                return Did::dropped(why);
-            }
-            Opened::Refuse(code) => return self.refuse(false, code, out),
-            Opened::ResetFrame(code, view) => return self.acknowledge(code, &view, out),
-            Opened::OfSession(frame) => return self.judge(frame, out),
         }
     }
 

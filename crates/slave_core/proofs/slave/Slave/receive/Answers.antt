@@ -1,10 +1,18 @@
 use Rattle.std.proofs.Common.{sym, ap, ◌∙◌}
+use Rattle.std.specs.Result.{result_err}
 use Rattle.param_load.specs.declared.slave_settings.SlaveSettings.{SlaveSettings}
-use Rattle.seq_chain.proofs.OpenedFrame.{opened_load}
+use Rattle.slave_core.proofs.Passed.{has_passed, data_passed}
 use Rattle.slave_core.proofs.slave.Slave.receive.Goals as goal
 
-pub judge-requires : goal.judge-requires
-judge-requires c =
-    rw (← c.self.view_is)
-    (opened_load c.peer_len.result c.is_repeat-repeats.result c.args.frame.now c.in-OfSession.frame c.peer_len.ensures.valid (sym c.open.ensures ∙ c.in-OfSession.is)
-    ∙ c.peer_len.ensures.value ∙ ap (λ (settings : SlaveSettings). settings.lengths.master) c.settings.ensures)
+pub take_by_move-requires-clause-passed : goal.take_by_move-requires-clause-passed
+take_by_move-requires-clause-passed c =
+    has_passed c.self.inside.kit.settings c.self.inside.state c.peer_len.result c.is_repeat-repeats.result c.args.frame.now c.new-seen.result c.peer_len.ensures.valid
+    (c.peer_len.ensures.value ∙ ap (λ (settings : SlaveSettings). settings.lengths.master) c.settings.ensures) (rw (c.new-seen.ensures, c.new.ensures) (sym c.open.ensures ∙ c.in-OfSession.is))
+    (rw (← c.frame.ensures) (sym c.test.ensures.code ∙ ap result_err c.in-Ok.is))
+
+pub go_on-requires-clause-passed : goal.go_on-requires-clause-passed
+go_on-requires-clause-passed c =
+    rw c.frame-2.ensures
+    (data_passed c.self.inside.kit.settings c.self.inside.state c.in-Data.state c.peer_len.result c.is_repeat-repeats.result c.args.frame.now c.new-seen.result c.in-Data.is c.peer_len.ensures.valid
+    (c.peer_len.ensures.value ∙ ap (λ (settings : SlaveSettings). settings.lengths.master) c.settings.ensures) (rw (c.new-seen.ensures, c.new.ensures) (sym c.open.ensures ∙ c.in-OfSession.is))
+    (rw (← c.frame.ensures) (sym c.test.ensures.code ∙ ap result_err c.in-Ok.is)))

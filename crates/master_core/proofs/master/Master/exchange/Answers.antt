@@ -2,7 +2,7 @@ use Rattle.std.proofs.Common.{sym, ap, ◌∙◌}
 use Rattle.std.specs.Result.{result_err}
 use Rattle.param_load.specs.declared.master_settings.MasterSettings.{MasterSettings}
 use Rattle.master_core.proofs.Passed.{data_passed}
-use Rattle.master_core.proofs.master.Master.go_on.Goals as goal
+use Rattle.master_core.proofs.master.Master.exchange.Goals as goal
 
 pub take-requires-clause-passed : goal.take-requires-clause-passed
 take-requires-clause-passed c =
