@@ -33,7 +33,7 @@ impl Model for Master {
 }
 
 impl Master {
-    ghost use Rattle.std.specs.Prelude.{◌≡◌, ◌≤◌, ◌||◌, ℕ, List, false, IsTrue, IfSome, OnSome, IfNone, is_some, length, [], option_copied};
+    ghost use Rattle.std.specs.Prelude.{◌≡◌, ◌≤◌, ◌||◌, ℕ, List, false, IsTrue, is_some, length, [], option_copied};
     ghost use Rattle.param_load.specs.Profile.{allows_id};
     ghost use Rattle.master_core.specs.Master.{makes_due, ends, refuses, on_reset_view, settles, accepted, replies, on_frame, falls, tick_of};
     ghost use Rattle.master_core.specs.Now.{NextUnder, chain_of, is_due, next_state, reply};
