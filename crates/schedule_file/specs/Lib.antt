@@ -14,3 +14,4 @@ pub mod NodeEvent
 pub mod PairEvent
 pub mod Place
 pub mod WorkedInputs
+pub mod HexDigits

@@ -1,7 +1,11 @@
-//! Bytes from hexadecimal digits.
-ghost use Rattle.std.specs.Prelude.{◌≡◌, ◌*◌, IsTrue, Some, Ok, length};
+//! Bytes from hexadecimal digits. Where there are eight digits or more, eight are taken at once: each eight from the first on,
+//! and the last eight, of which some were taken before.
+ghost use Rattle.std.specs.Prelude.{◌≡◌, ℕ, ◌*◌, ◌+◌, ◌≤◌, ◌<◌, IsTrue, Some, Ok, length, take, slice_index};
 ghost use Rattle.std.specs.List.{list_all};
 ghost use Rattle.hex.specs.Hex.{decode_of, hex_digit_value, is_hex_digit};
+ghost use Rattle.schedule_file.specs.HexDigits.{HasDigitsOf};
+
+use std::simd::prelude::*;
 
 /// Whether this is a digit, in either case.
 fn is_digit(c: u8) -> bool
@@ -10,13 +14,30 @@ fn is_digit(c: u8) -> bool
     matches!(c, b'0'..=b'9' | b'A'..=b'F' | b'a'..=b'f')
 }
 
-/// Whether these are digits alone. It goes over all of them, so that many are tested at once.
+/// Whether the first eight are digits.
+fn are_eight(text: &[u8]) -> bool
+    requires { 8 ≤ length text.now }
+    ensures { result ≡ list_all is_hex_digit (take 8 text.now) }
+{
+    let digits = u8x8::from_slice(text);
+    let numbers = digits - u8x8::splat(b'0');
+    let letters = (digits | u8x8::splat(b'a' - b'A')) - u8x8::splat(b'a');
+    // Ten numbers and six letters: four more than a letter's place is below ten too.
+    let places = numbers.simd_min(letters.saturating_add(u8x8::splat(4)));
+    places.simd_lt(u8x8::splat(10)).all()
+}
+
+/// Whether these are digits alone.
 pub(crate) fn are_digits(text: &[u8]) -> bool
     ensures { result ≡ list_all is_hex_digit text.now }
 {
-    let mut are = true;
-    for c in text {
-        are &= is_digit(*c);
+    let count = text.len();
+    if count < 8 {
+        return text.iter().all(|c| is_digit(*c));
+    }
+    let mut are = are_eight(&text[count - 8..]);
+    for i in 0..(count - 1) / 8 {
+        are &= are_eight(&text[8 * i..]);
     }
     are
 }
@@ -29,8 +50,8 @@ fn value(c: u8) -> u8
     (c & 0x0F) + if c <= b'9' { 0 } else { 9 }
 }
 
-/// The bytes of these digits, two a byte.
-pub(crate) fn decode(text: &[u8], out: &mut [u8])
+/// The bytes of these digits, two a byte, one after another.
+fn decode_each(text: &[u8], out: &mut [u8])
     requires digits { IsTrue (list_all is_hex_digit text.now) }
     requires two { length text.now ≡ 2 * length out.old }
     ensures { decode_of text.now ≡ Ok out.new }
@@ -38,4 +59,38 @@ pub(crate) fn decode(text: &[u8], out: &mut [u8])
     for i in 0..out.len() {
         out[i] = value(text[2 * i]) * 16 + value(text[2 * i + 1]);
     }
+}
+
+/// The bytes of the first eight digits.
+fn decode_eight(text: &[u8]) -> u8x4
+    requires eight { 8 ≤ length text.now }
+    requires digits { IsTrue (list_all is_hex_digit (take 8 text.now)) }
+    ensures four { length result ≡ 4 }
+    ensures digits { HasDigitsOf text.now result 4 }
+{
+    let digits = u8x8::from_slice(text);
+    let numbers = digits - u8x8::splat(b'0');
+    let letters = (digits | u8x8::splat(b'a' - b'A')) - u8x8::splat(b'a' - 10);
+    // A number is no letter, so as a letter it would be large; and a letter is larger as a number.
+    let values = numbers.simd_min(letters);
+    let high = values.swizzle([0, 2, 4, 6]);
+    let low = values.swizzle([1, 3, 5, 7]);
+    high * u8x4::splat(16) + low
+}
+
+/// The bytes of these digits, two a byte.
+pub(crate) fn decode(text: &[u8], out: &mut [u8])
+    requires digits { IsTrue (list_all is_hex_digit text.now) }
+    requires two { length text.now ≡ 2 * length out.old }
+    ensures { decode_of text.now ≡ Ok out.new }
+{
+    let count = out.len();
+    if count < 4 {
+        decode_each(text, out);
+        return;
+    }
+    for i in 0..(count - 1) / 4 {
+        decode_eight(&text[8 * i..]).copy_to_slice(&mut out[4 * i..]);
+    }
+    decode_eight(&text[2 * count - 8..]).copy_to_slice(&mut out[count - 4..]);
 }

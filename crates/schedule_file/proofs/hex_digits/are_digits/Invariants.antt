@@ -1,8 +1,9 @@
-use Rattle.std.proofs.Common.{◌≡◌, take}
+use Rattle.std.proofs.Common.{◌≡◌, ◌*◌, ◌-◌, take, drop}
+use Rattle.std.specs.Prelude.{◌&&◌}
 use Rattle.std.specs.List.{list_all}
 use Rattle.hex.specs.Hex.{is_hex_digit}
 use Rattle.schedule_file.proofs.hex_digits.are_digits.Given as goal
 
--- whether those so far are digits
-abbrev pub invariant-loop-c : goal.invariant-loop-c
-invariant-loop-c l = l.are ≡ list_all is_hex_digit (take l.c-index l.text)
+-- whether the last eight and those so far are digits
+abbrev pub invariant-loop-i : goal.invariant-loop-i
+invariant-loop-i l = l.are ≡ (list_all is_hex_digit (take 8 (drop (l.count - 8) l.text)) && list_all is_hex_digit (take (8 * l.i) l.text))

@@ -1,16 +1,33 @@
-use Rattle.std.proofs.Common.{List, ℕ, ◌+◌, ◌*◌, slice_index, arith, ◌∙◌}
-use Rattle.hex.proofs.HexLemmas.{decode_of-even}
-use Rattle.hex.proofs.Pairs.{decode_step, decode_done}
-use Rattle.schedule_file.proofs.HexDigits.{pair_read}
+use Rattle.std.proofs.Common.{◌≡◌, ℕ, ◌+◌, ◌-◌, ◌*◌, List, length, arith}
+use Rattle.std.proofs.lemmas.Simd.{length-put_chunk}
+use Rattle.schedule_file.proofs.Eights.{part, four_more, all_decoded}
 use Rattle.schedule_file.proofs.hex_digits.decode.Goals as goal
+use lib.Lanes.{put_chunk}
+
+pub decode_eight-requires-clause-digits : goal.decode_eight-requires-clause-digits
+decode_eight-requires-clause-digits c = part c.args.text.now (8 * c.loop-i.i) (length c.args.text.now - 8 * c.loop-i.i) 8 c.requires.digits
 
 pub loop-i-preserved : goal.loop-i-preserved
 loop-i-preserved c =
     let text : List ℕ = c.args.text.now in
     let i : ℕ = c.loop-i.i in
-    let pair = pair_read (slice_index text (2 * i)) (slice_index text (2 * i + 1)) (2 * i) c.value.result c.value-in-loop-i.result c.value.ensures c.value-in-loop-i.ensures in
-    decode_step text c.loop-i.out i _ (omega arith) (omega arith) pair c.loop-i.invariant
+    four_more text c.loop-i.out c.decode_eight.result (4 * i) (4 * i) (8 * i) (length text - 8 * i) (4 * (i + 1))
+    c.loop-i.invariant (omega arith) c.decode_eight.ensures.four (omega arith) (omega arith) (omega arith) (omega arith) c.decode_eight.ensures.digits
+
+pub decode_eight-requires-2-clause-digits : goal.decode_eight-requires-2-clause-digits
+decode_eight-requires-2-clause-digits c =
+    let from : ℕ = 2 * length c.args.out.now - 8 in
+    part c.args.text.now from (length c.args.text.now - from) 8 c.requires.digits
 
 pub returns : goal.returns
 returns c =
-    decode_of-even c.args.text.now (omega arith) ∙ decode_done c.args.text.now c.loop-i.out c.loop-i.i (omega arith) (omega arith) c.loop-i.invariant
+    let text : List ℕ = c.args.text.now in
+    let out : List ℕ = c.loop-i.out in
+    let count : ℕ = length c.args.out.now in
+    let bytes : List ℕ = c.decode_eight-2.result in
+    let from : ℕ = 2 * count - 8 in
+    let all : List ℕ = put_chunk (count - 4) out bytes in
+    let long : length all ≡ length out = length-put_chunk (count - 4) out bytes in
+    all_decoded text all (omega arith)
+    (four_more text out bytes (4 * c.loop-i.i) (count - 4) from (length text - from) (length all) c.loop-i.invariant (omega arith)
+    c.decode_eight-2.ensures.four (omega arith) (omega arith) (omega arith) (omega arith) c.decode_eight-2.ensures.digits)

@@ -1,8 +1,7 @@
-use Rattle.std.proofs.Common.{◌≡◌, ◌*◌, take, drop}
-use Rattle.hex.specs.Hex.{decode_pairs}
-use Rattle.hex.proofs.Pairs.{prepend}
+use Rattle.std.proofs.Common.{◌*◌}
+use Rattle.schedule_file.specs.HexDigits.{HasDigitsOf}
 use Rattle.schedule_file.proofs.hex_digits.decode.Given as goal
 
--- the bytes so far and those of the digits to come are all
+-- the digits so far are those of the bytes so far
 abbrev pub invariant-loop-i : goal.invariant-loop-i
-invariant-loop-i l = decode_pairs 0 l.text ≡ prepend (take l.i l.out) (decode_pairs (2 * l.i) (drop (2 * l.i) l.text))
+invariant-loop-i l = HasDigitsOf l.text l.out (4 * l.i)

@@ -1,0 +1,113 @@
+-- A text of digits, eight after eight.
+use Rattle.std.proofs.Common.{◌≡◌, ℕ, zero, suc, ◌+◌, ◌-◌, ◌*◌, ◌/◌, ◌%◌, ◌≤◌, Bool, true, false, List, length, take, drop, slice_index, slice_set, refl, sym, ap, ◌∙◌, arith, add-one, inl, inr}
+use Rattle.std.specs.Prelude.{◌&&◌, Ok}
+use Rattle.std.specs.List.{list_all}
+use Rattle.std.proofs.lemmas.Bool.{and_parts, cases_lt}
+use Rattle.std.proofs.lemmas.List.{drop-drop, drop-take, get_or-drop, get_or-take, set-get_or, take-append-drop, take-take}
+use Rattle.std.proofs.lemmas.List.Folds.{list_all-append}
+use Rattle.std.proofs.lemmas.Simd.{get_or-put_chunk_at, get_or-put_chunk_below}
+use Rattle.hex.specs.Hex.{decode_of, decode_pairs, hex_digit_value, is_hex_digit}
+use Rattle.hex.proofs.HexLemmas.{decode_of-even}
+use Rattle.hex.proofs.Pairs.{decode_done, decode_start, decode_step, prepend}
+use Rattle.schedule_file.specs.HexDigits.{HasDigitsOf}
+use Rattle.schedule_file.proofs.HexDigits.{pair_read}
+use lib.Lanes.{put_chunk}
+
+-- a text is digits where what stands before a place and after it is
+split_at : (text : List ℕ) (at : ℕ) → list_all is_hex_digit text ≡ (list_all is_hex_digit (take at text) && list_all is_hex_digit (drop at text))
+split_at text at = ap (list_all is_hex_digit) (sym (take-append-drop at text)) ∙ list_all-append is_hex_digit (take at text) (drop at text)
+
+next_part : (text : List ℕ) (at count : ℕ)
+    → list_all is_hex_digit (take (at + count) text) ≡ (list_all is_hex_digit (take at text) && list_all is_hex_digit (take count (drop at text)))
+next_part text at count =
+    split_at (take (at + count) text) at
+    ∙ ap (λ xs. list_all is_hex_digit xs && list_all is_hex_digit (drop at (take (at + count) text))) (take-take at (at + count) text (omega arith))
+    ∙ ap (λ xs. list_all is_hex_digit (take at text) && list_all is_hex_digit xs) (drop-take at count text)
+
+-- a part of a text of digits
+pub part : (text : List ℕ) (at most count : ℕ) → list_all is_hex_digit text ≡ true → list_all is_hex_digit (take count (take most (drop at text))) ≡ true
+part text at most count digits =
+    let after = (and_parts _ _ (sym (split_at text at) ∙ digits)).1 in
+    let few = (and_parts _ _ (sym (split_at (drop at text) most) ∙ after)).0 in
+    (and_parts _ _ (sym (split_at (take most (drop at text)) count) ∙ few)).0
+
+-- eight more are tested
+pub eight_more : (text : List ℕ) (i most : ℕ) (last so_far eight : Bool) → 8 ≤ most
+    → so_far ≡ (last && list_all is_hex_digit (take (8 * i) text))
+    → eight ≡ list_all is_hex_digit (take 8 (take most (drop (8 * i) text)))
+    → (so_far && eight) ≡ (last && list_all is_hex_digit (take (8 * (i + 1)) text))
+eight_more text i most last so_far eight room so is =
+    let next : list_all is_hex_digit (take (8 * (i + 1)) text) ≡ (list_all is_hex_digit (take (8 * i) text) && list_all is_hex_digit (take 8 (drop (8 * i) text))) =
+    ap (λ n. list_all is_hex_digit (take n text)) (omega arith) ∙ next_part text (8 * i) 8 in
+    let this : eight ≡ list_all is_hex_digit (take 8 (drop (8 * i) text)) = is ∙ ap (list_all is_hex_digit) (take-take 8 most (drop (8 * i) text) room) in
+    ap (λ b. b && eight) so ∙ ap (λ b. (last && list_all is_hex_digit (take (8 * i) text)) && b) this
+    ∙ grouped last _ _ ∙ ap (λ b. last && b) (sym next)
+  where
+    grouped : (a b c : Bool) → ((a && b) && c) ≡ (a && (b && c))
+    grouped true b c = refl
+    grouped false b c = refl
+
+overlap : (a m z : Bool) → ((m && z) && (a && m)) ≡ ((a && m) && z)
+overlap true true true = refl
+overlap true true false = refl
+overlap true false z = refl
+overlap false true true = refl
+overlap false true false = refl
+overlap false false z = refl
+
+-- the first ones and the last ones are all, where none stands between them
+pub all_tested : (text : List ℕ) (from to : ℕ) → from ≤ to
+    → (list_all is_hex_digit (drop from text) && list_all is_hex_digit (take to text)) ≡ list_all is_hex_digit text
+all_tested text from to le =
+    let mid : List ℕ = take (to - from) (drop from text) in
+    let there : from + (to - from) ≡ to = omega arith in
+    let late : list_all is_hex_digit (drop from text) ≡ (list_all is_hex_digit mid && list_all is_hex_digit (drop to text)) =
+    split_at (drop from text) (to - from) ∙ ap (λ xs. list_all is_hex_digit mid && list_all is_hex_digit xs) (drop-drop (to - from) from text ∙ ap (λ n. drop n text) there) in
+    let early : list_all is_hex_digit (take to text) ≡ (list_all is_hex_digit (take from text) && list_all is_hex_digit mid) =
+    ap (λ n. list_all is_hex_digit (take n text)) (sym there) ∙ next_part text from (to - from) in
+    ap (λ b. b && list_all is_hex_digit (take to text)) late
+    ∙ ap (λ b. (list_all is_hex_digit mid && list_all is_hex_digit (drop to text)) && b) early
+    ∙ overlap (list_all is_hex_digit (take from text)) (list_all is_hex_digit mid) (list_all is_hex_digit (drop to text))
+    ∙ ap (λ b. b && list_all is_hex_digit (drop to text)) (sym early)
+    ∙ sym (split_at text to)
+
+-- four bytes more are written, from this byte on, before which all are written
+pub four_more : (text out bytes : List ℕ) (written at from most to : ℕ) → HasDigitsOf text out written → at ≤ written
+    → length bytes ≡ 4 → at + 4 ≤ length out → 8 ≤ most → from ≡ 2 * at → to ≤ at + 4 → HasDigitsOf (take most (drop from text)) bytes 4
+    → HasDigitsOf text (put_chunk at out bytes) to
+four_more text out bytes written at from most to before le long room some twice end four k lt =
+    elim (cases_lt k at) [
+      | inl early ↦
+          let same : slice_index (put_chunk at out bytes) k ≡ slice_index out k = get_or-put_chunk_below at out bytes k 0 early in
+          rw same (before k (omega arith))
+      | inr late ↦
+          let j : ℕ = k - at in
+          let place : at + j ≡ k = omega arith in
+          let same : slice_index (put_chunk at out bytes) k ≡ slice_index bytes j =
+          ap (slice_index (put_chunk at out bytes)) (sym place) ∙ get_or-put_chunk_at at out bytes j 0 (omega arith) (omega arith) in
+          let high : slice_index (take most (drop from text)) (2 * j) ≡ slice_index text (2 * k) =
+          get_or-take most (drop from text) (2 * j) 0 (omega arith) ∙ get_or-drop from text (2 * j) 0 ∙ ap (slice_index text) (omega arith) in
+          let low : slice_index (take most (drop from text)) (2 * j + 1) ≡ slice_index text (2 * k + 1) =
+          get_or-take most (drop from text) (2 * j + 1) 0 (omega arith) ∙ get_or-drop from text (2 * j + 1) 0 ∙ ap (slice_index text) (omega arith) in
+          let here = four j (omega arith) in
+          rw same (ap hex_digit_value (sym high) ∙ here.0, ap hex_digit_value (sym low) ∙ here.1)
+    ]
+
+-- so many bytes are decoded
+so_far : (text out : List ℕ) → length text ≡ 2 * length out → HasDigitsOf text out (length out)
+    → (i : ℕ) → i ≤ length out → decode_pairs 0 text ≡ prepend (take i out) (decode_pairs (2 * i) (drop (2 * i) text))
+so_far text out two digits zero le = decode_start text out
+so_far text out two digits (suc i) le =
+    let here = digits i (omega arith) in
+    let byte : ℕ = slice_index out i in
+    let whole : byte / 16 * 16 + byte % 16 ≡ byte = omega arith in
+    let pair = pair_read (slice_index text (2 * i)) (slice_index text (2 * i + 1)) (2 * i) (byte / 16) (byte % 16) here.0 here.1 ∙ ap Ok whole in
+    let step = decode_step text out i byte (omega arith) (omega arith) pair (so_far text out two digits i (omega arith)) in
+    let kept : slice_set out i byte ≡ out = set-get_or out i 0 in
+    rw (← add-one) (rw kept at step)
+
+-- bytes whose digits a text has, and no others, are what it says
+pub all_decoded : (text out : List ℕ) → length text ≡ 2 * length out → HasDigitsOf text out (length out) → decode_of text ≡ Ok out
+all_decoded text out two digits =
+    decode_of-even text (omega arith)
+    ∙ decode_done text out (length out) (omega arith) (omega arith) (so_far text out two digits (length out) (omega arith))
