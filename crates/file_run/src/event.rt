@@ -10,7 +10,9 @@ use crate::line::next_line;
 use fsoe_base::Lengths;
 use fsoe_io::{Line, LineReader, Source};
 use param_load::Profiles;
-use schedule_file::{HeaderKind, LineCause, ScheduleLine, profile_of, read_event, read_node_event};
+use schedule_file::{
+    HeaderKind, LineCause, ScheduleLine, profile_of, read_event_into, read_node_event_into,
+};
 
 /// The most events of an input.
 const MOST: u64 = 200_000;
@@ -29,13 +31,10 @@ fn read_by(line: &[u8], grammar: &Grammar, said: &mut ScheduleLine) -> Result<()
     ensures fits { OnOk result (FitsGrammar grammar.now said.new) }
 {
     match grammar.kind {
-        HeaderKind::Pair => {
-            *said = read_event(line, &grammar.lengths, &grammar.profiles)?;
-            Ok(())
-        }
+        HeaderKind::Pair => read_event_into(line, &grammar.lengths, &grammar.profiles, said),
         HeaderKind::Node(end) => {
             let profile = profile_of(&grammar.profiles, end);
-            read_node_event(line, end, &grammar.lengths, profile, said)
+            read_node_event_into(line, end, &grammar.lengths, profile, said)
         }
     }
 }

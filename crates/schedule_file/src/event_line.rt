@@ -1,5 +1,6 @@
-//! What the fields of an event's line say that stand after its word: one reader for each kind of event.
-ghost use Rattle.std.specs.Prelude.{◌≡◌, ◌≤◌, ◌<◌, IfSome, IfOk, OnErr};
+//! What the fields of an event's line say that stand after its word: one reader for each kind of event. Each writes what they
+//! say over `says`, which is as it was after an error. So what a line says is made in its place and never moved.
+ghost use Rattle.std.specs.Prelude.{◌≡◌, ◌≤◌, ◌<◌, IfSome, MatchResult, OnOk, OnErr, Ok, Err};
 ghost use Rattle.fsoe_base.specs.LengthsOf.{length_of};
 ghost use Rattle.fsoe_base.specs.declared.command.End.{End};
 ghost use Rattle.param_load.specs.declared.profile.Profile.{Profile};
@@ -54,21 +55,29 @@ fn delivered_len(to: End, lengths: &Lengths) -> usize
     }
 }
 
-pub fn read_deliver(to: End, fields: Option<&[u8]>) -> Result<ScheduleLine, LineCause>
-    ensures { result ≡ deliver_line to (fields_after fields.entry) }
+pub fn read_deliver(
+    to: End,
+    fields: Option<&[u8]>,
+    says: &mut ScheduleLine,
+) -> Result<(), LineCause>
+    ensures value { Becomes result says.new (deliver_line to (fields_after fields.entry)) }
+    ensures unwritten { OnErr result (says.new ≡ says.old) }
 {
     let field = one_field(fields)?;
     let back = read_reference(field).ok_or(LineCause::Reference)?;
-    Ok(ScheduleLine::Step(Event::Deliver { to, back }))
+    *says = ScheduleLine::Step(Event::Deliver { to, back });
+    Ok(())
 }
 
 pub fn read_altered(
     to: End,
     lengths: &Lengths,
     fields: Option<&[u8]>,
-) -> Result<ScheduleLine, LineCause>
-    ensures value { result ≡ altered_line to (length_of lengths.now) (fields_after fields.entry) }
-    ensures fits { (profiles : End → Profile) → IfOk result (PairLineFits (length_of lengths.now) profiles) }
+    says: &mut ScheduleLine,
+) -> Result<(), LineCause>
+    ensures value { Becomes result says.new (altered_line to (length_of lengths.now) (fields_after fields.entry)) }
+    ensures fits { (profiles : End → Profile) → OnOk result (PairLineFits (length_of lengths.now) profiles says.new) }
+    ensures unwritten { OnErr result (says.new ≡ says.old) }
 {
     let (reference, rest) = next_field(fields)?;
     let (place, rest) = next_field(rest)?;
@@ -79,30 +88,35 @@ pub fn read_altered(
     if pos as usize >= delivered_len(to, lengths) {
         return Err(LineCause::Position);
     }
-    Ok(ScheduleLine::Step(Event::Altered {
+    *says = ScheduleLine::Step(Event::Altered {
         to,
         back,
         pos: pos as u8,
         mask: mask.bytes()[0],
-    }))
+    });
+    Ok(())
 }
 
-pub fn read_tick(at: End, fields: Option<&[u8]>) -> Result<ScheduleLine, LineCause>
-    ensures { result ≡ tick_line at (fields_after fields.entry) }
+pub fn read_tick(at: End, fields: Option<&[u8]>, says: &mut ScheduleLine) -> Result<(), LineCause>
+    ensures value { Becomes result says.new (tick_line at (fields_after fields.entry)) }
+    ensures unwritten { OnErr result (says.new ≡ says.old) }
 {
     no_field(fields)?;
-    Ok(ScheduleLine::Step(Event::Tick { at }))
+    *says = ScheduleLine::Step(Event::Tick { at });
+    Ok(())
 }
 
-pub fn read_raw(to: End, fields: Option<&[u8]>) -> Result<ScheduleLine, LineCause>
-    ensures { result ≡ raw_line to (fields_after fields.entry) }
+pub fn read_raw(to: End, fields: Option<&[u8]>, says: &mut ScheduleLine) -> Result<(), LineCause>
+    ensures value { Becomes result says.new (raw_line to (fields_after fields.entry)) }
+    ensures unwritten { OnErr result (says.new ≡ says.old) }
 {
-    let mut frame = FrameBuf::new();
-    frame_field(fields, &mut frame)?;
-    Ok(ScheduleLine::Step(Event::Raw { to, frame }))
+    match says {
+        ScheduleLine::Step(event) => read_raw_event(to, fields, event),
+        ScheduleLine::End => read_first_raw(to, fields, says),
+    }
 }
 
-/// The same, written over `event`: a frame stays in its place where `event` has one. After an error it is as it was.
+/// The same over an event. A frame stays in its place where `event` has one.
 fn read_raw_event(to: End, fields: Option<&[u8]>, event: &mut Event) -> Result<(), LineCause>
     ensures value { Becomes result (ScheduleLine.Step event.new) (raw_line to (fields_after fields.entry)) }
     ensures unwritten { OnErr result (event.new ≡ event.old) }
@@ -111,36 +125,48 @@ fn read_raw_event(to: End, fields: Option<&[u8]>, event: &mut Event) -> Result<(
         Event::Raw { to: end, frame } => {
             frame_field(fields, frame)?;
             *end = to;
+            Ok(())
         }
-        _ => {
-            let mut frame = FrameBuf::new();
-            frame_field(fields, &mut frame)?;
-            *event = Event::Raw { to, frame };
-        }
+        _ => read_next_raw(to, fields, event),
     }
+}
+
+fn new_raw(to: End, fields: Option<&[u8]>) -> Result<Event, LineCause>
+    ensures { MatchResult result (λ event. raw_line to (fields_after fields.entry) ≡ Ok (ScheduleLine.Step event)) (λ cause. raw_line to (fields_after fields.entry) ≡ Err cause) }
+{
+    let mut frame = FrameBuf::new();
+    frame_field(fields, &mut frame)?;
+    Ok(Event::Raw { to, frame })
+}
+
+/// The same where the event before had no frame.
+#[inline(never)]
+fn read_next_raw(to: End, fields: Option<&[u8]>, event: &mut Event) -> Result<(), LineCause>
+    ensures value { Becomes result (ScheduleLine.Step event.new) (raw_line to (fields_after fields.entry)) }
+    ensures unwritten { OnErr result (event.new ≡ event.old) }
+{
+    *event = new_raw(to, fields)?;
     Ok(())
 }
 
-/// The same, written over `line`, which is as it was after an error.
-pub fn read_raw_into(
-    to: End,
-    fields: Option<&[u8]>,
-    line: &mut ScheduleLine,
-) -> Result<(), LineCause>
-    ensures value { Becomes result line.new (raw_line to (fields_after fields.entry)) }
-    ensures unwritten { OnErr result (line.new ≡ line.old) }
+/// The same where there was no event before.
+#[inline(never)]
+fn read_first_raw(to: End, fields: Option<&[u8]>, says: &mut ScheduleLine) -> Result<(), LineCause>
+    ensures value { Becomes result says.new (raw_line to (fields_after fields.entry)) }
+    ensures unwritten { OnErr result (says.new ≡ says.old) }
 {
-    match line {
-        ScheduleLine::Step(event) => read_raw_event(to, fields, event),
-        ScheduleLine::End => {
-            *line = read_raw(to, fields)?;
-            Ok(())
-        }
-    }
+    *says = ScheduleLine::Step(new_raw(to, fields)?);
+    Ok(())
 }
 
-pub fn read_put(at: End, count: usize, fields: Option<&[u8]>) -> Result<ScheduleLine, LineCause>
-    ensures { result ≡ put_line at count (fields_after fields.entry) }
+pub fn read_put(
+    at: End,
+    count: usize,
+    fields: Option<&[u8]>,
+    says: &mut ScheduleLine,
+) -> Result<(), LineCause>
+    ensures value { Becomes result says.new (put_line at count (fields_after fields.entry)) }
+    ensures unwritten { OnErr result (says.new ≡ says.old) }
 {
     let bytes = one_hex_field(fields, 126)?;
     if bytes.bytes().len() != count {
@@ -148,42 +174,52 @@ pub fn read_put(at: End, count: usize, fields: Option<&[u8]>) -> Result<Schedule
     }
     let mut load = Image::zeros(0);
     load.set(bytes.bytes());
-    Ok(ScheduleLine::Step(Event::Put { at, load }))
+    *says = ScheduleLine::Step(Event::Put { at, load });
+    Ok(())
 }
 
-pub fn read_hold(at: End, fields: Option<&[u8]>) -> Result<ScheduleLine, LineCause>
-    ensures { result ≡ hold_line at (fields_after fields.entry) }
+pub fn read_hold(at: End, fields: Option<&[u8]>, says: &mut ScheduleLine) -> Result<(), LineCause>
+    ensures value { Becomes result says.new (hold_line at (fields_after fields.entry)) }
+    ensures unwritten { OnErr result (says.new ≡ says.old) }
 {
     let field = one_field(fields)?;
     let failsafe = read_switch(field).ok_or(LineCause::Number)?;
-    Ok(ScheduleLine::Step(Event::Hold { at, failsafe }))
+    *says = ScheduleLine::Step(Event::Hold { at, failsafe });
+    Ok(())
 }
 
 pub fn read_nonce(
     at: End,
     profile: Profile,
     fields: Option<&[u8]>,
-) -> Result<ScheduleLine, LineCause>
-    ensures { result ≡ nonce_line at profile (fields_after fields.entry) }
+    says: &mut ScheduleLine,
+) -> Result<(), LineCause>
+    ensures value { Becomes result says.new (nonce_line at profile (fields_after fields.entry)) }
+    ensures unwritten { OnErr result (says.new ≡ says.old) }
 {
     let field = one_field(fields)?;
     let id = number(field, u32::MAX).ok_or(LineCause::Number)?;
     if !profile.allows_id(id) {
         return Err(LineCause::Number);
     }
-    Ok(ScheduleLine::Step(Event::Nonce { at, id }))
+    *says = ScheduleLine::Step(Event::Nonce { at, id });
+    Ok(())
 }
 
-pub fn read_local(at: End, fields: Option<&[u8]>) -> Result<ScheduleLine, LineCause>
-    ensures { result ≡ local_line at (fields_after fields.entry) }
+pub fn read_local(at: End, fields: Option<&[u8]>, says: &mut ScheduleLine) -> Result<(), LineCause>
+    ensures value { Becomes result says.new (local_line at (fields_after fields.entry)) }
+    ensures unwritten { OnErr result (says.new ≡ says.old) }
 {
     no_field(fields)?;
-    Ok(ScheduleLine::Step(Event::Local { at }))
+    *says = ScheduleLine::Step(Event::Local { at });
+    Ok(())
 }
 
-pub fn read_end(fields: Option<&[u8]>) -> Result<ScheduleLine, LineCause>
-    ensures { result ≡ end_line (fields_after fields.entry) }
+pub fn read_end(fields: Option<&[u8]>, says: &mut ScheduleLine) -> Result<(), LineCause>
+    ensures value { Becomes result says.new (end_line (fields_after fields.entry)) }
+    ensures unwritten { OnErr result (says.new ≡ says.old) }
 {
     no_field(fields)?;
-    Ok(ScheduleLine::End)
+    *says = ScheduleLine::End;
+    Ok(())
 }

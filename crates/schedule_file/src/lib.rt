@@ -26,5 +26,5 @@ pub use header::Header;
 pub use header_kind::HeaderKind;
 pub use line_buf::LineBuf;
 pub use line_cause::LineCause;
-pub use node_event::read_node_event;
-pub use pair_event::{profile_of, read_event};
+pub use node_event::{read_node_event, read_node_event_into};
+pub use pair_event::{profile_of, read_event, read_event_into};

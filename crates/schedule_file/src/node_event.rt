@@ -1,4 +1,4 @@
-ghost use Rattle.std.specs.Prelude.{◌≡◌, OnOk, OnErr};
+ghost use Rattle.std.specs.Prelude.{◌≡◌, IfOk, OnOk, OnErr};
 ghost use Rattle.fsoe_base.specs.LengthsOf.{length_of};
 ghost use Rattle.schedule_file.specs.Event.{LineFits};
 ghost use Rattle.schedule_file.specs.Fields.{Becomes};
@@ -6,7 +6,7 @@ ghost use Rattle.schedule_file.specs.NodeEvent.{word_of, node_line};
 
 use crate::event::ScheduleLine;
 use crate::event_line::{
-    read_end, read_hold, read_local, read_nonce, read_put, read_raw_into, read_tick,
+    read_end, read_hold, read_local, read_nonce, read_put, read_raw, read_tick,
 };
 use crate::field::cut;
 use crate::line_cause::LineCause;
@@ -48,12 +48,27 @@ fn read_word(text: &[u8]) -> Option<Word>
     }
 }
 
-/// What a line after the header says to the node at `end`, without its newline, written over `says`: an event there, or
-/// the end of the schedule. The lines are `d <hex>` (a frame of 1 to 255 bytes), `t` (a tick), `p <hex>` (exactly the
-/// end's own number of safe data bytes), `h 0` and `h 1` (fail-safe data off and on), `n <id>` (a session id that
-/// the profile allows), `z` (a local reset), and `end`. An error is the first of these causes that applies:
-/// `Word`, `Fields`, `Number`, `Hex`, `Length`; `says` is then as it was.
+/// What a line after the header says to the node at `end`, without its newline: an event there, or the end of the
+/// schedule. The lines are `d <hex>` (a frame of 1 to 255 bytes), `t` (a tick), `p <hex>` (exactly the end's own number
+/// of safe data bytes), `h 0` and `h 1` (fail-safe data off and on), `n <id>` (a session id that the profile allows),
+/// `z` (a local reset), and `end`. An error is the first of these causes that applies: `Word`, `Fields`, `Number`,
+/// `Hex`, `Length`.
 pub fn read_node_event(
+    line: &[u8],
+    end: End,
+    lengths: &Lengths,
+    profile: Profile,
+) -> Result<ScheduleLine, LineCause>
+    ensures value { result ≡ node_line end (length_of lengths.now end) profile line.now }
+    ensures fits { IfOk result (LineFits end lengths.now profile) }
+{
+    let mut says = ScheduleLine::End;
+    read_node_event_into(line, end, lengths, profile, &mut says)?;
+    Ok(says)
+}
+
+/// The same, written over `says`, which is as it was after an error. A frame stays in its place where `says` has one.
+pub fn read_node_event_into(
     line: &[u8],
     end: End,
     lengths: &Lengths,
@@ -66,14 +81,13 @@ pub fn read_node_event(
 {
     let (first, fields) = cut(line);
     match read_word(first) {
-        Some(Word::Tick) => *says = read_tick(end, fields)?,
-        Some(Word::Deliver) => read_raw_into(end, fields, says)?,
-        Some(Word::Put) => *says = read_put(end, lengths.of(end), fields)?,
-        Some(Word::Hold) => *says = read_hold(end, fields)?,
-        Some(Word::Nonce) => *says = read_nonce(end, profile, fields)?,
-        Some(Word::Local) => *says = read_local(end, fields)?,
-        Some(Word::End) => *says = read_end(fields)?,
-        None => return Err(LineCause::Word),
+        Some(Word::Tick) => read_tick(end, fields, says),
+        Some(Word::Deliver) => read_raw(end, fields, says),
+        Some(Word::Put) => read_put(end, lengths.of(end), fields, says),
+        Some(Word::Hold) => read_hold(end, fields, says),
+        Some(Word::Nonce) => read_nonce(end, profile, fields, says),
+        Some(Word::Local) => read_local(end, fields, says),
+        Some(Word::End) => read_end(fields, says),
+        None => Err(LineCause::Word),
     }
-    Ok(())
 }

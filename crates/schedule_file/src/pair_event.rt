@@ -1,6 +1,7 @@
-ghost use Rattle.std.specs.Prelude.{◌≡◌, IfOk};
+ghost use Rattle.std.specs.Prelude.{◌≡◌, IfOk, OnOk, OnErr};
 ghost use Rattle.fsoe_base.specs.LengthsOf.{length_of};
 ghost use Rattle.schedule_file.specs.Event.{PairLineFits, profile_of};
+ghost use Rattle.schedule_file.specs.Fields.{Becomes};
 ghost use Rattle.schedule_file.specs.PairEvent.{pair_word_of, pair_line};
 
 use crate::event::ScheduleLine;
@@ -95,17 +96,33 @@ pub fn read_event(
     ensures value { result ≡ pair_line (length_of lengths.now) (profile_of profiles.now) line.now }
     ensures fits { IfOk result (PairLineFits (length_of lengths.now) (profile_of profiles.now)) }
 {
+    let mut says = ScheduleLine::End;
+    read_event_into(line, lengths, profiles, &mut says)?;
+    Ok(says)
+}
+
+/// The same, written over `says`, which is as it was after an error. A frame stays in its place where `says` has one.
+pub fn read_event_into(
+    line: &[u8],
+    lengths: &Lengths,
+    profiles: &Profiles,
+    says: &mut ScheduleLine,
+) -> Result<(), LineCause>
+    ensures value { Becomes result says.new (pair_line (length_of lengths.now) (profile_of profiles.now) line.now) }
+    ensures fits { OnOk result (PairLineFits (length_of lengths.now) (profile_of profiles.now) says.new) }
+    ensures unwritten { OnErr result (says.new ≡ says.old) }
+{
     let (first, fields) = cut(line);
     match read_pair_word(first) {
-        Some(PairWord::Deliver(to)) => read_deliver(to, fields),
-        Some(PairWord::Altered(to)) => read_altered(to, lengths, fields),
-        Some(PairWord::Raw(to)) => read_raw(to, fields),
-        Some(PairWord::Tick(at)) => read_tick(at, fields),
-        Some(PairWord::Put(at)) => read_put(at, lengths.of(at), fields),
-        Some(PairWord::Hold(at)) => read_hold(at, fields),
-        Some(PairWord::Nonce(at)) => read_nonce(at, profile_of(profiles, at), fields),
-        Some(PairWord::Local(at)) => read_local(at, fields),
-        Some(PairWord::End) => read_end(fields),
+        Some(PairWord::Deliver(to)) => read_deliver(to, fields, says),
+        Some(PairWord::Altered(to)) => read_altered(to, lengths, fields, says),
+        Some(PairWord::Raw(to)) => read_raw(to, fields, says),
+        Some(PairWord::Tick(at)) => read_tick(at, fields, says),
+        Some(PairWord::Put(at)) => read_put(at, lengths.of(at), fields, says),
+        Some(PairWord::Hold(at)) => read_hold(at, fields, says),
+        Some(PairWord::Nonce(at)) => read_nonce(at, profile_of(profiles, at), fields, says),
+        Some(PairWord::Local(at)) => read_local(at, fields, says),
+        Some(PairWord::End) => read_end(fields, says),
         None => Err(LineCause::Word),
     }
 }

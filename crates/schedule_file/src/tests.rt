@@ -1,6 +1,6 @@
 use crate::{
     Event, Header, HeaderKind, LineBuf, LineCause, ScheduleLine, read_event, read_node_event,
-    write_event,
+    read_node_event_into, write_event,
 };
 use fsoe_base::{End, Lengths};
 use param_load::{Profile, Profiles};
@@ -9,8 +9,7 @@ use std::test::Fail;
 /// Why a line is refused by a slave whose data has one byte, and its master's two.
 fn event_cause(line: &str, profile: Profile) -> Option<LineCause> {
     let lengths = Lengths::new(2, 1).ok()?;
-    let mut says = ScheduleLine::End;
-    read_node_event(line.as_bytes(), End::Slave, &lengths, profile, &mut says).err()
+    read_node_event(line.as_bytes(), End::Slave, &lengths, profile).err()
 }
 
 #[test]
@@ -60,7 +59,13 @@ fn reads_bytes_of_events(rt: HostRuntime) -> Result<(), Fail> {
         (514, 0, Some(LineCause::Hex)),
     ] {
         let mut says = ScheduleLine::End;
-        let read = read_node_event(&line[..end], End::Master, &lengths, Profile::One, &mut says);
+        let read = read_node_event_into(
+            &line[..end],
+            End::Master,
+            &lengths,
+            Profile::One,
+            &mut says,
+        );
         let found = read.err();
         let (bytes, last) = match &says {
             ScheduleLine::Step(Event::Raw { frame, .. }) => {
