@@ -12,5 +12,5 @@ pub mod AfterEnd
 pub mod Sound
 pub mod HexAlone
 pub mod Fitting
-pub mod EightLanes
-pub mod Eights
+pub mod DigitLanes
+pub mod DigitParts

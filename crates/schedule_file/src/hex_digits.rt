@@ -1,5 +1,5 @@
-//! Bytes from hexadecimal digits. Where there are eight digits or more, eight are taken at once: each eight from the first on,
-//! and the last eight, of which some were taken before.
+//! Bytes from hexadecimal digits. Sixteen digits are taken at once, or eight where there are fewer than sixteen. The last ones are
+//! taken as well, of which some were taken before, so that none is taken alone.
 ghost use Rattle.std.specs.Prelude.{◌≡◌, ℕ, ◌*◌, ◌+◌, ◌≤◌, ◌<◌, IsTrue, Some, Ok, length, take, slice_index};
 ghost use Rattle.std.specs.List.{list_all};
 ghost use Rattle.hex.specs.Hex.{decode_of, hex_digit_value, is_hex_digit};
@@ -22,9 +22,24 @@ fn are_eight(text: &[u8]) -> bool
     let digits = u8x8::from_slice(text);
     let numbers = digits - u8x8::splat(b'0');
     let letters = (digits | u8x8::splat(b'a' - b'A')) - u8x8::splat(b'a');
-    // Ten numbers and six letters: four more than a letter's place is below ten too.
-    let places = numbers.simd_min(letters.saturating_add(u8x8::splat(4)));
-    places.simd_lt(u8x8::splat(10)).all()
+    // How far above the last number, and above the last letter.
+    let beyond = numbers.saturating_sub(u8x8::splat(9));
+    let above = letters.saturating_sub(u8x8::splat(5));
+    beyond.simd_min(above).simd_lt(u8x8::splat(1)).all()
+}
+
+/// Whether the first sixteen are digits.
+fn are_sixteen(text: &[u8]) -> bool
+    requires { 16 ≤ length text.now }
+    ensures { result ≡ list_all is_hex_digit (take 16 text.now) }
+{
+    let digits = u8x16::from_slice(text);
+    let numbers = digits - u8x16::splat(b'0');
+    let letters = (digits | u8x16::splat(b'a' - b'A')) - u8x16::splat(b'a');
+    // How far above the last number, and above the last letter.
+    let beyond = numbers.saturating_sub(u8x16::splat(9));
+    let above = letters.saturating_sub(u8x16::splat(5));
+    beyond.simd_min(above).simd_lt(u8x16::splat(1)).all()
 }
 
 /// Whether these are digits alone.
@@ -35,9 +50,12 @@ pub(crate) fn are_digits(text: &[u8]) -> bool
     if count < 8 {
         return text.iter().all(|c| is_digit(*c));
     }
-    let mut are = are_eight(&text[count - 8..]);
-    for i in 0..(count - 1) / 8 {
-        are &= are_eight(&text[8 * i..]);
+    if count < 16 {
+        return are_eight(&text[count - 8..]) & are_eight(text);
+    }
+    let mut are = are_sixteen(&text[count - 16..]);
+    for i in 0..(count - 1) / 16 {
+        are &= are_sixteen(&text[16 * i..]);
     }
     are
 }
@@ -63,19 +81,36 @@ fn decode_each(text: &[u8], out: &mut [u8])
 
 /// The bytes of the first eight digits.
 fn decode_eight(text: &[u8]) -> u8x4
-    requires eight { 8 ≤ length text.now }
+    requires room { 8 ≤ length text.now }
     requires digits { IsTrue (list_all is_hex_digit (take 8 text.now)) }
-    ensures four { length result ≡ 4 }
+    ensures count { length result ≡ 4 }
     ensures digits { HasDigitsOf text.now result 4 }
 {
     let digits = u8x8::from_slice(text);
     let numbers = digits - u8x8::splat(b'0');
     let letters = (digits | u8x8::splat(b'a' - b'A')) - u8x8::splat(b'a' - 10);
-    // A number is no letter, so as a letter it would be large; and a letter is larger as a number.
+    // A letter is large as a number, and a number as a letter.
     let values = numbers.simd_min(letters);
     let high = values.swizzle([0, 2, 4, 6]);
     let low = values.swizzle([1, 3, 5, 7]);
     high * u8x4::splat(16) + low
+}
+
+/// The bytes of the first sixteen digits.
+fn decode_sixteen(text: &[u8]) -> u8x8
+    requires room { 16 ≤ length text.now }
+    requires digits { IsTrue (list_all is_hex_digit (take 16 text.now)) }
+    ensures count { length result ≡ 8 }
+    ensures digits { HasDigitsOf text.now result 8 }
+{
+    let digits = u8x16::from_slice(text);
+    let numbers = digits - u8x16::splat(b'0');
+    let letters = (digits | u8x16::splat(b'a' - b'A')) - u8x16::splat(b'a' - 10);
+    // A letter is large as a number, and a number as a letter.
+    let values = numbers.simd_min(letters);
+    let high = values.swizzle([0, 2, 4, 6, 8, 10, 12, 14]);
+    let low = values.swizzle([1, 3, 5, 7, 9, 11, 13, 15]);
+    high * u8x8::splat(16) + low
 }
 
 /// The bytes of these digits, two a byte.
@@ -89,8 +124,13 @@ pub(crate) fn decode(text: &[u8], out: &mut [u8])
         decode_each(text, out);
         return;
     }
-    for i in 0..(count - 1) / 4 {
-        decode_eight(&text[8 * i..]).copy_to_slice(&mut out[4 * i..]);
+    if count < 8 {
+        decode_eight(text).copy_to_slice(out);
+        decode_eight(&text[2 * count - 8..]).copy_to_slice(&mut out[count - 4..]);
+        return;
     }
-    decode_eight(&text[2 * count - 8..]).copy_to_slice(&mut out[count - 4..]);
+    for i in 0..(count - 1) / 8 {
+        decode_sixteen(&text[16 * i..]).copy_to_slice(&mut out[8 * i..]);
+    }
+    decode_sixteen(&text[2 * count - 16..]).copy_to_slice(&mut out[count - 8..]);
 }

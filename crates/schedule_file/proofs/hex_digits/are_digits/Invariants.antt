@@ -4,6 +4,6 @@ use Rattle.std.specs.List.{list_all}
 use Rattle.hex.specs.Hex.{is_hex_digit}
 use Rattle.schedule_file.proofs.hex_digits.are_digits.Given as goal
 
--- whether the last eight and those so far are digits
+-- whether the last sixteen and those so far are digits
 abbrev pub invariant-loop-i : goal.invariant-loop-i
-invariant-loop-i l = l.are ≡ (list_all is_hex_digit (take 8 (drop (l.count - 8) l.text)) && list_all is_hex_digit (take (8 * l.i) l.text))
+invariant-loop-i l = l.are ≡ (list_all is_hex_digit (take 16 (drop (l.count - 16) l.text)) && list_all is_hex_digit (take (16 * l.i) l.text))

@@ -1,33 +1,61 @@
-use Rattle.std.proofs.Common.{◌≡◌, ℕ, ◌+◌, ◌-◌, ◌*◌, List, length, arith}
+use Rattle.std.proofs.Common.{◌≡◌, ℕ, ◌+◌, ◌-◌, ◌*◌, List, length, slice_index, sym, ap, zero-add, arith}
 use Rattle.std.proofs.lemmas.Simd.{length-put_chunk}
-use Rattle.schedule_file.proofs.Eights.{part, four_more, all_decoded}
+use Rattle.schedule_file.specs.HexDigits.{HasDigitsOf}
+use Rattle.schedule_file.proofs.DigitParts.{front, part, part_at, more_written, all_decoded}
 use Rattle.schedule_file.proofs.hex_digits.decode.Goals as goal
 use lib.Lanes.{put_chunk}
 
 pub decode_eight-requires-clause-digits : goal.decode_eight-requires-clause-digits
-decode_eight-requires-clause-digits c = part c.args.text.now (8 * c.loop-i.i) (length c.args.text.now - 8 * c.loop-i.i) 8 c.requires.digits
+decode_eight-requires-clause-digits c = front c.args.text.now 8 c.requires.digits
+
+pub decode_eight-requires-then-count-lt8-clause-digits : goal.decode_eight-requires-then-count-lt8-clause-digits
+decode_eight-requires-then-count-lt8-clause-digits c =
+    let from : ℕ = 2 * length c.args.out.now - 8 in
+    part c.args.text.now from (length c.args.text.now - from) 8 c.requires.digits
+
+pub returns-then-count-lt8 : goal.returns-then-count-lt8
+returns-then-count-lt8 c =
+    let text : List ℕ = c.args.text.now in
+    let out : List ℕ = c.args.out.now in
+    let first : List ℕ = put_chunk 0 out c.decode_eight.result in
+    let at : ℕ = length out - 4 in
+    let from : ℕ = 2 * length out - 8 in
+    let all : List ℕ = put_chunk at first c.decode_eight-then-count-lt8.result in
+    let long : length first ≡ length out = length-put_chunk 0 out c.decode_eight.result in
+    let same : length all ≡ length first = length-put_chunk at first c.decode_eight-then-count-lt8.result in
+    let four : HasDigitsOf text first 4 =
+    more_written text out c.decode_eight.result text 0 0 4 0 4 (λ k lt. absurd (omega arith)) (omega arith)
+    c.decode_eight.ensures.count (omega arith) (omega arith) (omega arith) (λ j lt. ap (slice_index text) (sym (zero-add j))) c.decode_eight.ensures.digits in
+    all_decoded text all (omega arith)
+    (more_written text first c.decode_eight-then-count-lt8.result _ 4 at 4 from (length all) four (omega arith)
+    c.decode_eight-then-count-lt8.ensures.count (omega arith) (omega arith) (omega arith) (part_at text from (length text - from) 8 (omega arith))
+    c.decode_eight-then-count-lt8.ensures.digits)
+
+pub decode_sixteen-requires-clause-digits : goal.decode_sixteen-requires-clause-digits
+decode_sixteen-requires-clause-digits c = part c.args.text.now (16 * c.loop-i.i) (length c.args.text.now - 16 * c.loop-i.i) 16 c.requires.digits
 
 pub loop-i-preserved : goal.loop-i-preserved
 loop-i-preserved c =
     let text : List ℕ = c.args.text.now in
     let i : ℕ = c.loop-i.i in
-    four_more text c.loop-i.out c.decode_eight.result (4 * i) (4 * i) (8 * i) (length text - 8 * i) (4 * (i + 1))
-    c.loop-i.invariant (omega arith) c.decode_eight.ensures.four (omega arith) (omega arith) (omega arith) (omega arith) c.decode_eight.ensures.digits
+    let most : ℕ = length text - 16 * i in
+    more_written text c.loop-i.out c.decode_sixteen.result _ (8 * i) (8 * i) 8 (16 * i) (8 * (i + 1)) c.loop-i.invariant (omega arith)
+    c.decode_sixteen.ensures.count (omega arith) (omega arith) (omega arith) (part_at text (16 * i) most 16 (omega arith)) c.decode_sixteen.ensures.digits
 
-pub decode_eight-requires-2-clause-digits : goal.decode_eight-requires-2-clause-digits
-decode_eight-requires-2-clause-digits c =
-    let from : ℕ = 2 * length c.args.out.now - 8 in
-    part c.args.text.now from (length c.args.text.now - from) 8 c.requires.digits
+pub decode_sixteen-requires-2-clause-digits : goal.decode_sixteen-requires-2-clause-digits
+decode_sixteen-requires-2-clause-digits c =
+    let from : ℕ = 2 * length c.args.out.now - 16 in
+    part c.args.text.now from (length c.args.text.now - from) 16 c.requires.digits
 
 pub returns : goal.returns
 returns c =
     let text : List ℕ = c.args.text.now in
     let out : List ℕ = c.loop-i.out in
-    let count : ℕ = length c.args.out.now in
-    let bytes : List ℕ = c.decode_eight-2.result in
-    let from : ℕ = 2 * count - 8 in
-    let all : List ℕ = put_chunk (count - 4) out bytes in
-    let long : length all ≡ length out = length-put_chunk (count - 4) out bytes in
+    let at : ℕ = length c.args.out.now - 8 in
+    let from : ℕ = 2 * length c.args.out.now - 16 in
+    let all : List ℕ = put_chunk at out c.decode_sixteen-2.result in
+    let same : length all ≡ length out = length-put_chunk at out c.decode_sixteen-2.result in
     all_decoded text all (omega arith)
-    (four_more text out bytes (4 * c.loop-i.i) (count - 4) from (length text - from) (length all) c.loop-i.invariant (omega arith)
-    c.decode_eight-2.ensures.four (omega arith) (omega arith) (omega arith) (omega arith) c.decode_eight-2.ensures.digits)
+    (more_written text out c.decode_sixteen-2.result _ (8 * c.loop-i.i) at 8 from (length all) c.loop-i.invariant (omega arith)
+    c.decode_sixteen-2.ensures.count (omega arith) (omega arith) (omega arith) (part_at text from (length text - from) 16 (omega arith))
+    c.decode_sixteen-2.ensures.digits)

@@ -1,5 +1,5 @@
--- A text of digits, eight after eight.
-use Rattle.std.proofs.Common.{◌≡◌, ℕ, zero, suc, ◌+◌, ◌-◌, ◌*◌, ◌/◌, ◌%◌, ◌≤◌, Bool, true, false, List, length, take, drop, slice_index, slice_set, refl, sym, ap, ◌∙◌, arith, add-one, inl, inr}
+-- A text of digits, part after part.
+use Rattle.std.proofs.Common.{◌≡◌, ℕ, zero, suc, ◌+◌, ◌-◌, ◌*◌, ◌/◌, ◌%◌, ◌≤◌, Bool, true, false, List, length, take, drop, slice_index, slice_set, refl, sym, ap, ◌∙◌, arith, add-one, inl, inr, ◌<◌}
 use Rattle.std.specs.Prelude.{◌&&◌, Ok}
 use Rattle.std.specs.List.{list_all}
 use Rattle.std.proofs.lemmas.Bool.{and_parts, cases_lt}
@@ -24,6 +24,10 @@ next_part text at count =
     ∙ ap (λ xs. list_all is_hex_digit xs && list_all is_hex_digit (drop at (take (at + count) text))) (take-take at (at + count) text (omega arith))
     ∙ ap (λ xs. list_all is_hex_digit (take at text) && list_all is_hex_digit xs) (drop-take at count text)
 
+-- the front of a text of digits
+pub front : (text : List ℕ) (count : ℕ) → list_all is_hex_digit text ≡ true → list_all is_hex_digit (take count text) ≡ true
+front text count digits = (and_parts _ _ (sym (split_at text count) ∙ digits)).0
+
 -- a part of a text of digits
 pub part : (text : List ℕ) (at most count : ℕ) → list_all is_hex_digit text ≡ true → list_all is_hex_digit (take count (take most (drop at text))) ≡ true
 part text at most count digits =
@@ -31,17 +35,17 @@ part text at most count digits =
     let few = (and_parts _ _ (sym (split_at (drop at text) most) ∙ after)).0 in
     (and_parts _ _ (sym (split_at (take most (drop at text)) count) ∙ few)).0
 
--- eight more are tested
-pub eight_more : (text : List ℕ) (i most : ℕ) (last so_far eight : Bool) → 8 ≤ most
-    → so_far ≡ (last && list_all is_hex_digit (take (8 * i) text))
-    → eight ≡ list_all is_hex_digit (take 8 (take most (drop (8 * i) text)))
-    → (so_far && eight) ≡ (last && list_all is_hex_digit (take (8 * (i + 1)) text))
-eight_more text i most last so_far eight room so is =
-    let next : list_all is_hex_digit (take (8 * (i + 1)) text) ≡ (list_all is_hex_digit (take (8 * i) text) && list_all is_hex_digit (take 8 (drop (8 * i) text))) =
-    ap (λ n. list_all is_hex_digit (take n text)) (omega arith) ∙ next_part text (8 * i) 8 in
-    let this : eight ≡ list_all is_hex_digit (take 8 (drop (8 * i) text)) = is ∙ ap (list_all is_hex_digit) (take-take 8 most (drop (8 * i) text) room) in
-    ap (λ b. b && eight) so ∙ ap (λ b. (last && list_all is_hex_digit (take (8 * i) text)) && b) this
-    ∙ grouped last _ _ ∙ ap (λ b. last && b) (sym next)
+-- the digits after those at this place are tested
+pub more_tested : (text : List ℕ) (at count next most : ℕ) (last so_far here : Bool) → count ≤ most → next ≡ at + count
+    → so_far ≡ (last && list_all is_hex_digit (take at text))
+    → here ≡ list_all is_hex_digit (take count (take most (drop at text)))
+    → (so_far && here) ≡ (last && list_all is_hex_digit (take next text))
+more_tested text at count next most last so_far here room end so is =
+    let more : list_all is_hex_digit (take next text) ≡ (list_all is_hex_digit (take at text) && list_all is_hex_digit (take count (drop at text))) =
+    ap (λ n. list_all is_hex_digit (take n text)) end ∙ next_part text at count in
+    let this : here ≡ list_all is_hex_digit (take count (drop at text)) = is ∙ ap (list_all is_hex_digit) (take-take count most (drop at text) room) in
+    ap (λ b. b && here) so ∙ ap (λ b. (last && list_all is_hex_digit (take at text)) && b) this
+    ∙ grouped last _ _ ∙ ap (λ b. last && b) (sym more)
   where
     grouped : (a b c : Bool) → ((a && b) && c) ≡ (a && (b && c))
     grouped true b c = refl
@@ -71,27 +75,30 @@ all_tested text from to le =
     ∙ ap (λ b. b && list_all is_hex_digit (drop to text)) (sym early)
     ∙ sym (split_at text to)
 
--- four bytes more are written, from this byte on, before which all are written
-pub four_more : (text out bytes : List ℕ) (written at from most to : ℕ) → HasDigitsOf text out written → at ≤ written
-    → length bytes ≡ 4 → at + 4 ≤ length out → 8 ≤ most → from ≡ 2 * at → to ≤ at + 4 → HasDigitsOf (take most (drop from text)) bytes 4
+-- bytes are written from this place on, before which all are written
+pub more_written : (text out bytes part : List ℕ) (written at count from to : ℕ) → HasDigitsOf text out written → at ≤ written
+    → length bytes ≡ count → at + count ≤ length out → from ≡ 2 * at → to ≤ at + count
+    → ((j : ℕ) → j < 2 * count → slice_index part j ≡ slice_index text (from + j)) → HasDigitsOf part bytes count
     → HasDigitsOf text (put_chunk at out bytes) to
-four_more text out bytes written at from most to before le long room some twice end four k lt =
+more_written text out bytes part written at count from to before le long room twice end same these k lt =
     elim (cases_lt k at) [
       | inl early ↦
-          let same : slice_index (put_chunk at out bytes) k ≡ slice_index out k = get_or-put_chunk_below at out bytes k 0 early in
-          rw same (before k (omega arith))
+          let kept : slice_index (put_chunk at out bytes) k ≡ slice_index out k = get_or-put_chunk_below at out bytes k 0 early in
+          rw kept (before k (omega arith))
       | inr late ↦
           let j : ℕ = k - at in
           let place : at + j ≡ k = omega arith in
-          let same : slice_index (put_chunk at out bytes) k ≡ slice_index bytes j =
+          let put : slice_index (put_chunk at out bytes) k ≡ slice_index bytes j =
           ap (slice_index (put_chunk at out bytes)) (sym place) ∙ get_or-put_chunk_at at out bytes j 0 (omega arith) (omega arith) in
-          let high : slice_index (take most (drop from text)) (2 * j) ≡ slice_index text (2 * k) =
-          get_or-take most (drop from text) (2 * j) 0 (omega arith) ∙ get_or-drop from text (2 * j) 0 ∙ ap (slice_index text) (omega arith) in
-          let low : slice_index (take most (drop from text)) (2 * j + 1) ≡ slice_index text (2 * k + 1) =
-          get_or-take most (drop from text) (2 * j + 1) 0 (omega arith) ∙ get_or-drop from text (2 * j + 1) 0 ∙ ap (slice_index text) (omega arith) in
-          let here = four j (omega arith) in
-          rw same (ap hex_digit_value (sym high) ∙ here.0, ap hex_digit_value (sym low) ∙ here.1)
+          let high : slice_index part (2 * j) ≡ slice_index text (2 * k) = same (2 * j) (omega arith) ∙ ap (slice_index text) (omega arith) in
+          let low : slice_index part (2 * j + 1) ≡ slice_index text (2 * k + 1) = same (2 * j + 1) (omega arith) ∙ ap (slice_index text) (omega arith) in
+          let here = these j (omega arith) in
+          rw put (ap hex_digit_value (sym high) ∙ here.0, ap hex_digit_value (sym low) ∙ here.1)
     ]
+
+-- what stands at a place of a part
+pub part_at : (text : List ℕ) (from most count : ℕ) → count ≤ most → (j : ℕ) → j < count → slice_index (take most (drop from text)) j ≡ slice_index text (from + j)
+part_at text from most count room j lt = get_or-take most (drop from text) j 0 (omega arith) ∙ get_or-drop from text j 0
 
 -- so many bytes are decoded
 so_far : (text out : List ℕ) → length text ≡ 2 * length out → HasDigitsOf text out (length out)
