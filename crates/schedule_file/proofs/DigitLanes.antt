@@ -20,6 +20,9 @@ minus a b = (a + (256 - b)) % 256
 abbrev below : ℕ → ℕ → ℕ
 below a b = cond (ltb a b) 255 0
 
+abbrev equal : ℕ → ℕ → ℕ
+equal a b = cond (nat_eq a b) 255 0
+
 abbrev least : List ℕ → List ℕ → List ℕ
 least v w = sel_l (map (top 7) (zip2 below v w)) v w
 
@@ -39,7 +42,7 @@ letters n first v = zip2 minus (zip2 bit_or v (replicate n 32)) (replicate n fir
 
 -- which lanes are digits
 abbrev tests : ℕ → List ℕ → List Bool
-tests n v = map (top 7) (zip2 below (least (above n 9 (numbers n v)) (above n 5 (letters n 97 v))) (replicate n 1))
+tests n v = map (top 7) (zip2 equal (least (above n 9 (numbers n v)) (above n 5 (letters n 97 v))) (replicate n 0))
 
 -- the values of digits
 abbrev values : ℕ → List ℕ → List ℕ

@@ -1,5 +1,5 @@
-//! Bytes from hexadecimal digits. Sixteen digits are taken at once, or eight where there are fewer than sixteen. The last ones are
-//! taken as well, of which some were taken before, so that none is taken alone.
+//! Bytes from hexadecimal digits. Sixteen digits are taken at once, or eight where there are fewer than sixteen. The last ones
+//! are taken as well, though some of them were taken before, so that from eight digits on none is taken alone.
 ghost use Rattle.std.specs.Prelude.{◌≡◌, ℕ, ◌*◌, ◌+◌, ◌≤◌, ◌<◌, IsTrue, Some, Ok, length, take, slice_index};
 ghost use Rattle.std.specs.List.{list_all};
 ghost use Rattle.hex.specs.Hex.{decode_of, hex_digit_value, is_hex_digit};
@@ -22,10 +22,13 @@ fn are_eight(text: &[u8]) -> bool
     let digits = u8x8::from_slice(text);
     let numbers = digits - u8x8::splat(b'0');
     let letters = (digits | u8x8::splat(b'a' - b'A')) - u8x8::splat(b'a');
-    // How far above the last number, and above the last letter.
-    let beyond = numbers.saturating_sub(u8x8::splat(9));
-    let above = letters.saturating_sub(u8x8::splat(5));
-    beyond.simd_min(above).simd_lt(u8x8::splat(1)).all()
+    // How far each is past the last of ten numbers, and past the last of six letters.
+    let past_numbers = numbers.saturating_sub(u8x8::splat(9));
+    let past_letters = letters.saturating_sub(u8x8::splat(5));
+    past_numbers
+        .simd_min(past_letters)
+        .simd_eq(u8x8::splat(0))
+        .all()
 }
 
 /// Whether the first sixteen are digits.
@@ -36,10 +39,13 @@ fn are_sixteen(text: &[u8]) -> bool
     let digits = u8x16::from_slice(text);
     let numbers = digits - u8x16::splat(b'0');
     let letters = (digits | u8x16::splat(b'a' - b'A')) - u8x16::splat(b'a');
-    // How far above the last number, and above the last letter.
-    let beyond = numbers.saturating_sub(u8x16::splat(9));
-    let above = letters.saturating_sub(u8x16::splat(5));
-    beyond.simd_min(above).simd_lt(u8x16::splat(1)).all()
+    // How far each is past the last of ten numbers, and past the last of six letters.
+    let past_numbers = numbers.saturating_sub(u8x16::splat(9));
+    let past_letters = letters.saturating_sub(u8x16::splat(5));
+    past_numbers
+        .simd_min(past_letters)
+        .simd_eq(u8x16::splat(0))
+        .all()
 }
 
 /// Whether these are digits alone.
