@@ -1,6 +1,6 @@
 //! What the fields of an event's line say that stand after its word: one reader for each kind of event. Each writes what they
-//! say over `says`, which is as it was after an error. So what a line says is made in its place and never moved.
-ghost use Rattle.std.specs.Prelude.{◌≡◌, ◌≤◌, ◌<◌, IfSome, MatchResult, OnOk, OnErr, Ok, Err};
+//! say over `says`, which is as it was after an error. So what a line says is made in its place.
+ghost use Rattle.std.specs.Prelude.{◌≡◌, ◌≤◌, ◌<◌, IfSome, OnOk, OnErr};
 ghost use Rattle.fsoe_base.specs.LengthsOf.{length_of};
 ghost use Rattle.fsoe_base.specs.declared.command.End.{End};
 ghost use Rattle.param_load.specs.declared.profile.Profile.{Profile};
@@ -131,21 +131,15 @@ fn read_raw_event(to: End, fields: Option<&[u8]>, event: &mut Event) -> Result<(
     }
 }
 
-fn new_raw(to: End, fields: Option<&[u8]>) -> Result<Event, LineCause>
-    ensures { MatchResult result (λ event. raw_line to (fields_after fields.entry) ≡ Ok (ScheduleLine.Step event)) (λ cause. raw_line to (fields_after fields.entry) ≡ Err cause) }
-{
-    let mut frame = FrameBuf::new();
-    frame_field(fields, &mut frame)?;
-    Ok(Event::Raw { to, frame })
-}
-
 /// The same where the event before had no frame.
 #[inline(never)]
 fn read_next_raw(to: End, fields: Option<&[u8]>, event: &mut Event) -> Result<(), LineCause>
     ensures value { Becomes result (ScheduleLine.Step event.new) (raw_line to (fields_after fields.entry)) }
     ensures unwritten { OnErr result (event.new ≡ event.old) }
 {
-    *event = new_raw(to, fields)?;
+    let mut frame = FrameBuf::new();
+    frame_field(fields, &mut frame)?;
+    *event = Event::Raw { to, frame };
     Ok(())
 }
 
@@ -155,7 +149,9 @@ fn read_first_raw(to: End, fields: Option<&[u8]>, says: &mut ScheduleLine) -> Re
     ensures value { Becomes result says.new (raw_line to (fields_after fields.entry)) }
     ensures unwritten { OnErr result (says.new ≡ says.old) }
 {
-    *says = ScheduleLine::Step(new_raw(to, fields)?);
+    let mut frame = FrameBuf::new();
+    frame_field(fields, &mut frame)?;
+    *says = ScheduleLine::Step(Event::Raw { to, frame });
     Ok(())
 }
 
