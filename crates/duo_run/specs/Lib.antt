@@ -1,3 +1,4 @@
 pub mod Duo
 pub mod Acts
 pub mod Ran
+pub mod Replay

@@ -1,0 +1,81 @@
+-- What a replay reports of an input: a line for each entry of both ends, and last how the run stops. Lists of entries are newest first.
+use Rattle.std.specs.Prelude.{◌≡◌, ℕ, ◌+◌, ◌==◌, List, [], ◌∷◌, ◌++◌, length, codes, decimal, Option, Some, None, IfSome, if◌then◌else◌}
+use Rattle.fsoe_io.specs.declared.status.Ended.{Ended}
+use Rattle.fsoe_io.specs.declared.status.Status.TheVariants as status
+use Rattle.param_load.specs.declared.entry.Entry.{Entry}
+use Rattle.param_load.specs.declared.master_settings.MasterSettings.{MasterSettings}
+use Rattle.param_load.specs.declared.slave_settings.SlaveSettings.{SlaveSettings}
+use Rattle.entry_text.specs.EntryText.{entry_text}
+use Rattle.schedule_file.specs.EventText.{end_letter}
+use Rattle.schedule_file.specs.Header.{Heading, IsMasterOf, IsSlaveOf}
+use Rattle.schedule_file.specs.Input.{Input, NoFrame, Stop, AtEnd, Refused}
+use Rattle.schedule_file.specs.declared.event.Event.{Event}
+use Rattle.file_run.specs.Ran.{Reporting}
+use Rattle.file_run.specs.Report.{events_line, refused_line}
+use Rattle.exchange_model.specs.Fair.{Fair}
+use Rattle.exchange_model.specs.Honest.{Match, IsHonest}
+use Rattle.exchange_model.specs.Other.{before_other, first_other}
+use Rattle.exchange_model.specs.Serving.{Serves}
+use Rattle.exchange_model.specs.World.{world}
+
+-- an entry, with its number from 1 and the letter of its end
+abbrev pub entry_line : ℕ → Entry → List ℕ
+entry_line n x = decimal n ++ codes " " ++ end_letter x.end ++ codes " " ++ entry_text x.did x.state x.outputs x.sent ++ codes "\n"
+
+-- the lines of these entries, oldest first
+abbrev pub entry_lines : List Entry → List ℕ
+entry_lines [] = []
+entry_lines (x ∷ w) = entry_lines w ++ entry_line (length w + 1) x
+
+-- the number of the first other entry, if one is
+abbrev pub other_line : Option ℕ → List ℕ
+other_line None = codes "other none\n"
+other_line (Some n) = codes "other " ++ decimal n ++ codes "\n"
+
+-- the last lines of a run of these entries, which stops so
+abbrev pub last_lines : List Entry → Stop → List ℕ
+last_lines w AtEnd = events_line (length w) ++ other_line (first_other w)
+last_lines w (Refused number why) = refused_line number why
+
+-- how a whole run ends, by the number of its first other entry
+abbrev pub ended_with : Option ℕ → Ended
+ended_with None = record { status = status.Ok; place = 0 }
+ended_with (Some n) = record { status = status.Other; place = n }
+
+-- how a run of these entries ends that stops so, where neither a read nor a write failed
+abbrev pub ended_at : List Entry → Stop → Ended
+ended_at w AtEnd = ended_with (first_other w)
+ended_at w (Refused number why) = record { status = status.Line; place = number }
+
+-- a run up to the `end` of its input ends so
+abbrev pub EndsWell : Ended → Type 0
+EndsWell ended = (other : Option ℕ) × (ended ≡ ended_with other)
+
+-- how a run over an input stops that has these entries: as the input does where each event has its entry, else at the first event
+-- without one, since its frame wasn't sent
+abbrev pub run_stop : Input → List Entry → Stop
+run_stop input w = if length w == length input.events then input.stop else Refused (input.lines + length w + 1) NoFrame
+
+-- both ends are set to what a header says
+abbrev pub AreSetTo : Heading → MasterSettings → SlaveSettings → Type 0
+AreSetTo h ms ss = IsMasterOf h ms × IsSlaveOf h ss
+
+-- the entries of both ends over these events, which are set to what the header says; without a whole header there are none
+abbrev pub AreEntries : Option Heading → List Event → List Entry → Type 0
+AreEntries None events w = w ≡ []
+AreEntries (Some h) events w = (ms : MasterSettings) × (ss : SlaveSettings) × AreSetTo h ms ss × (w ≡ world ms ss events)
+
+-- the whole report of both ends over an input, and how a run that writes it ends
+abbrev pub ReplayReports : Reporting
+ReplayReports input ended text =
+    (w : List Entry) × AreEntries input.heading input.events w
+    × (text ≡ entry_lines w ++ last_lines w (run_stop input w))
+    × (ended ≡ ended_at w (run_stop input w))
+
+-- the entries over an input before the first other one, all where there is none, are fair
+abbrev pub RunsFairly : Input → Type 0
+RunsFairly input = IfSome input.heading (λ h. (ms : MasterSettings) (ss : SlaveSettings) → AreSetTo h ms ss → Fair ms.lengths (before_other (world ms ss input.events)))
+
+-- where the ends match and the events are honest, the entries over an input serve
+abbrev pub RunsServe : Input → Type 0
+RunsServe input = IfSome input.heading (λ h. (ms : MasterSettings) (ss : SlaveSettings) → AreSetTo h ms ss → Match ms ss → IsHonest ms ss input.events → Serves ms input.events (world ms ss input.events))
