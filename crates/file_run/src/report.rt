@@ -1,5 +1,5 @@
 //! The closing lines of a report.
-ghost use Rattle.std.specs.Prelude.{◌≡◌};
+ghost use Rattle.std.specs.Prelude.{◌≡◌, ◌≤◌, length};
 ghost use Rattle.file_run.specs.Cause.{input_cause};
 ghost use Rattle.file_run.specs.Report.{events_line, refused_line};
 
@@ -9,6 +9,7 @@ use fsoe_io::LineText;
 /// The last line of an input that was read up to its `end`.
 pub fn write_events(events: u64, text: &mut LineText)
     ensures text { text.new ≡ events_line events }
+    ensures most { length text.new ≤ 28 }
 {
     text.clear();
     text.push_str("events ");

@@ -14,3 +14,4 @@ pub mod HexAlone
 pub mod Fitting
 pub mod DigitLanes
 pub mod DigitParts
+pub mod OneSetting

@@ -7,8 +7,9 @@ use crate::event::Event;
 use crate::line_buf::LineBuf;
 use fsoe_base::End;
 
-/// The letter that stands for an end in a word.
-fn letter(end: End) -> &'static [u8]
+/// The letter that stands for an end, `m` or `s`, in a word of a schedule and in a report of both ends. Each caller may ask for it at
+/// any time; nothing is refused.
+pub fn end_letter(end: End) -> &'static [u8]
     ensures value { result.now ≡ end_letter end }
     ensures one { length result.now ≡ 1 }
 {
@@ -25,7 +26,7 @@ fn write_word(first: u8, end: End, out: &mut LineBuf)
 {
     out.clear();
     out.push(first);
-    out.push_all(letter(end));
+    out.push_all(end_letter(end));
 }
 
 fn push_reference(back: u8, out: &mut LineBuf)

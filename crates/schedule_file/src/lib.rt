@@ -21,7 +21,7 @@ mod place;
 mod tests;
 
 pub use event::{Event, ScheduleLine};
-pub use event_text::write_event;
+pub use event_text::{end_letter, write_event};
 pub use header::Header;
 pub use header_kind::HeaderKind;
 pub use line_buf::LineBuf;
