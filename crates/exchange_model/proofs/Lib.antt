@@ -43,3 +43,4 @@ pub mod QuietEvents
 pub mod ServingRuns
 pub mod HonestSchedules
 pub mod WorkedServing
+pub mod Longer
