@@ -4,3 +4,7 @@ pub mod Moved
 pub mod Began
 pub mod Stepped
 pub mod Ran
+pub mod EntryLines
+pub mod FairReplay
+pub mod OneReplay
+pub mod Replaying

@@ -1,16 +1,21 @@
 //! Both ends of a connection over a schedule: each event happens at one of them, and a frame that comes is one of those that its peer
 //! sent, as it was or with one byte altered, or is invented. `specs` says what the definitions of a world have to do with it.
+//! `run_replay` does so over a pair file, from bytes to bytes.
 #![tactic(auto)]
 
 mod acting;
 mod duo;
 mod fault;
 pub mod laws;
+mod replay;
 
 pub use duo::Duo;
 pub use fault::StepFault;
+pub use replay::run_replay;
 
 #[cfg(test)]
 mod fairness;
+#[cfg(test)]
+mod replay_tests;
 #[cfg(test)]
 mod tests;

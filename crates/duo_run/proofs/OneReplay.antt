@@ -1,0 +1,49 @@
+-- An input has one report of both ends: its header says all that they are set to, and no more than they may be set to.
+use Rattle.std.proofs.Common.{◌≡◌, ℕ, List, [], ◌++◌, refl, ap, ◌∙◌, sym}
+use Rattle.std.specs.Prelude.{IfSome, Some, None}
+use Rattle.std.specs.declared.option.Option.{Option}
+use Rattle.fsoe_io.specs.declared.status.Ended.{Ended}
+use Rattle.param_load.specs.declared.entry.Entry.{Entry}
+use Rattle.param_load.specs.declared.master_settings.MasterSettings.{MasterSettings}
+use Rattle.param_load.specs.declared.slave_settings.SlaveSettings.{SlaveSettings}
+use Rattle.schedule_file.specs.Header.{Heading, IsMasterOf, IsSlaveOf}
+use Rattle.schedule_file.specs.Input.{Input, input_of}
+use Rattle.schedule_file.specs.declared.event.Event.{Event}
+use Rattle.schedule_file.specs.declared.header_kind.HeaderKind.TheVariants as kind
+use Rattle.schedule_file.proofs.OneSetting.{one_master, one_slave}
+use Rattle.schedule_file.proofs.Sound.{gives_master, gives_slave}
+use Rattle.exchange_model.specs.World.{world}
+use Rattle.duo_run.specs.Replay.{entry_lines, last_lines, ended_at, run_stop, AreSetTo, AreEntries, ReplayReports}
+
+one_entries : (heading : Option Heading) (events : List Event) (a b : List Entry) → AreEntries heading events a → AreEntries heading events b → a ≡ b
+one_entries None events a b x y = x ∙ sym y
+one_entries (Some h) events a b x y =
+    x.3
+    ∙ ap (λ (ms : MasterSettings). world ms x.1 events) (one_master h x.0 y.0 x.2.0 y.2.0)
+    ∙ ap (λ (ss : SlaveSettings). world y.0 ss events) (one_slave h x.1 y.1 x.2.1 y.2.1)
+    ∙ sym y.3
+
+pub one_text : (input : Input) (a b : Ended) (x y : List ℕ) → ReplayReports input a x → ReplayReports input b y → x ≡ y
+one_text input a b x y r s =
+    r.2 ∙ ap (λ (w : List Entry). entry_lines w ++ last_lines w (run_stop input w)) (one_entries input.heading input.events r.0 s.0 r.1 s.1) ∙ sym s.2
+
+pub one_ending : (input : Input) (a b : Ended) (x y : List ℕ) → ReplayReports input a x → ReplayReports input b y → a ≡ b
+one_ending input a b x y r s =
+    r.3 ∙ ap (λ (w : List Entry). ended_at w (run_stop input w)) (one_entries input.heading input.events r.0 s.0 r.1 s.1) ∙ sym s.3
+
+-- a whole header gives the settings of both ends, and so the entries
+set_by : (heading : Option Heading) → IfSome heading (λ h. (ms : MasterSettings) × IsMasterOf h ms) → IfSome heading (λ h. (ss : SlaveSettings) × IsSlaveOf h ss)
+    → IfSome heading (λ h. (ms : MasterSettings) × (ss : SlaveSettings) × AreSetTo h ms ss)
+set_by None master slave = tt
+set_by (Some h) master slave = (master.0, slave.0, (master.1, slave.1))
+
+some_entries : (heading : Option Heading) (events : List Event) → IfSome heading (λ h. (ms : MasterSettings) × (ss : SlaveSettings) × AreSetTo h ms ss) → (w : List Entry) × AreEntries heading events w
+some_entries None events set = ([], refl)
+some_entries (Some h) events set = (world set.0 set.1 events, (set.0, set.1, set.2, refl))
+
+pub some_replay : (bytes : List ℕ) → (report : List ℕ) × (ended : Ended) × ReplayReports (input_of kind.Pair bytes) ended report
+some_replay bytes =
+    let input : Input = input_of kind.Pair bytes in
+    let run = some_entries input.heading input.events (set_by input.heading (gives_master kind.Pair bytes) (gives_slave kind.Pair bytes)) in
+    let w : List Entry = run.0 in
+    (entry_lines w ++ last_lines w (run_stop input w), ended_at w (run_stop input w), (w, run.1, refl, refl))
