@@ -1,11 +1,14 @@
-//! What holds of a pair over all its steps. The calls do nothing: each law is a contract.
+//! What holds of a pair over all its steps, and of the reports of its runs. The calls do nothing: each law is a contract.
 
-ghost use Rattle.std.specs.Prelude.{◌≡◌, List, [], All};
+ghost use Rattle.std.specs.Prelude.{◌≡◌, ℕ, List, [], All};
 ghost use Rattle.fsoe_base.specs.declared.command.End.{End};
+ghost use Rattle.fsoe_io.specs.declared.status.Ended.{Ended};
 ghost use Rattle.param_load.specs.declared.entry.Entry.{Entry};
 ghost use Rattle.param_load.specs.declared.master_settings.MasterSettings.{MasterSettings};
 ghost use Rattle.param_load.specs.declared.slave_settings.SlaveSettings.{SlaveSettings};
+ghost use Rattle.schedule_file.specs.Input.{Input, input_of};
 ghost use Rattle.schedule_file.specs.declared.event.Event.{Event};
+ghost use Rattle.schedule_file.specs.declared.header_kind.HeaderKind.TheVariants as kind;
 ghost use Rattle.end_model.specs.Entries.{entries};
 ghost use Rattle.end_model.specs.Step.{run};
 ghost use Rattle.exchange_model.specs.Ends.{of_end};
@@ -16,6 +19,7 @@ ghost use Rattle.exchange_model.specs.Serving.{Serves};
 ghost use Rattle.exchange_model.specs.World.{setup_of, moves, world, SameLengths, IsProperEvent};
 ghost use Rattle.duo_run.specs.Duo.{DuoView, DuoStands};
 ghost use Rattle.duo_run.specs.Ran.{Ran};
+ghost use Rattle.duo_run.specs.Replay.{ReplayReports};
 
 /// The entries of a new pair over any list of events are the world of that schedule, for which it stands then.
 pub fn steps()
@@ -38,4 +42,12 @@ pub fn honest()
 /// The entries of one end of a pair are those of the run of that end's own events alone.
 pub fn projection()
     ensures { (ms : MasterSettings) (ss : SlaveSettings) (which : End) (v : DuoView) (w : List Entry) → DuoStands ms ss v w → of_end which w ≡ entries (setup_of ms ss which) (run (setup_of ms ss which) (moves which w)) }
+{}
+
+/// An input has one report of both ends, and a run that writes it ends in one way: its header, where it is whole, says all that the
+/// ends are set to, and no more than they may be set to.
+pub fn one_replay()
+    ensures some { (bytes : List ℕ) → (report : List ℕ) × (ended : Ended) × ReplayReports (input_of kind.Pair bytes) ended report }
+    ensures one_text { (input : Input) (a b : Ended) (x y : List ℕ) → ReplayReports input a x → ReplayReports input b y → x ≡ y }
+    ensures one_ending { (input : Input) (a b : Ended) (x y : List ℕ) → ReplayReports input a x → ReplayReports input b y → a ≡ b }
 {}

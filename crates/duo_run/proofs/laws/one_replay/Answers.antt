@@ -1,0 +1,11 @@
+use Rattle.duo_run.proofs.OneReplay.{one_text, one_ending, some_replay}
+use Rattle.duo_run.proofs.laws.one_replay.Goals as goal
+
+pub returns-clause-some : goal.returns-clause-some
+returns-clause-some c = some_replay
+
+pub returns-clause-one_text : goal.returns-clause-one_text
+returns-clause-one_text c = one_text
+
+pub returns-clause-one_ending : goal.returns-clause-one_ending
+returns-clause-one_ending c = one_ending
