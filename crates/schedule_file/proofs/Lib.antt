@@ -1,6 +1,7 @@
 pub mod Digits
 pub mod Hexed
 pub mod LinesLeft
+pub mod Making
 pub mod OneField
 pub mod Ranges
 pub mod Split

@@ -10,6 +10,8 @@ pub mod HeaderPart
 pub mod Input
 pub mod LineCause
 pub mod LinesLeft
+pub mod Made
+pub mod Maker
 pub mod NodeEvent
 pub mod PairEvent
 pub mod Place

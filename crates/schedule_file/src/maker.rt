@@ -1,0 +1,220 @@
+//! A schedule from a number.
+ghost use Rattle.std.specs.Prelude.{◌≡◌, if◌then◌else◌};
+ghost use Rattle.schedule_file.specs.Made.{FitsMade, event_of_word, is_switch_on, load_of, mask_of, place_of};
+ghost use Rattle.fsoe_base.specs.declared.command.End.TheVariants as side;
+ghost use Rattle.schedule_file.specs.declared.event.Event.TheVariants as event;
+
+use crate::event::Event;
+use fsoe_base::{End, Image, Lengths};
+use param_load::{AppBytes, AppRule, MasterSettings, SlaveSettings};
+use rand_core::SeedableRng;
+use rand_core::utils::NextWord;
+use rand_pcg::Pcg32;
+use std::marker::Model;
+
+/// The next event in turn.
+#[derive(Clone, Copy, Debug)]
+enum Turn {
+    /// The first tick of the master.
+    Tick,
+    /// The master's last frame comes to the slave.
+    ToSlave,
+    /// The slave's last frame comes to the master.
+    ToMaster,
+}
+
+/// Makes the events of a number's schedule, one after another, without an end.
+#[derive(Debug, Drop)]
+pub struct Maker {
+    turn: Turn,
+    /// How many events in turn come before those by words; None where all are in turn.
+    left: Option<u8>,
+    words: Pcg32,
+}
+
+impl Model for Maker {
+    ghost use Rattle.schedule_file.specs.Maker.{MakerView};
+
+    ghost Value = { MakerView };
+
+    ghost view = { λ m. record { turn = m.turn; left = m.left; words = m.words } };
+}
+
+impl Turn {
+    ghost use Rattle.std.specs.Prelude.{◌≡◌, ℕ, suc};
+    ghost use Rattle.schedule_file.specs.Made.{FitsMade, event_in_turn};
+    ghost use Rattle.schedule_file.specs.Maker.{turn_after};
+
+    /// The event of this turn.
+    fn event(self) -> Event
+        ensures value { (count : ℕ) → self ≡ turn_after count → result ≡ event_in_turn (suc count) }
+        ensures fits { FitsMade result }
+    {
+        match self {
+            Turn::Tick => Event::Tick { at: End::Master },
+            Turn::ToSlave => last_to(End::Slave),
+            Turn::ToMaster => last_to(End::Master),
+        }
+    }
+
+    /// The turn after this one.
+    fn next(self) -> Turn
+        ensures { (count : ℕ) → self ≡ turn_after count → result ≡ turn_after (suc count) }
+    {
+        match self {
+            Turn::Tick | Turn::ToMaster => Turn::ToSlave,
+            Turn::ToSlave => Turn::ToMaster,
+        }
+    }
+}
+
+impl Maker {
+    ghost use Rattle.std.specs.Prelude.{◌≡◌, ℕ, suc};
+    ghost use Rattle.schedule_file.specs.Made.{FitsMade, event_in_turn, made_master, made_slave};
+    ghost use Rattle.schedule_file.specs.Maker.{IsMaker, Makes, turn_after};
+
+    /// The maker of a number's events, of which none is made.
+    pub fn new(number: u64) -> Maker
+        ensures { IsMaker number 0 result }
+    {
+        Maker {
+            turn: Turn::Tick,
+            left: if number == 0 { None } else { Some(4) },
+            words: Pcg32::seed_from_u64(number),
+        }
+    }
+
+    /// The next event of the number, which goes on without an end. It fits ends that are set to `settings`.
+    pub fn next(&mut self) -> Event
+        ensures makes { Makes self.old result self.new }
+        ensures fits { FitsMade result }
+    {
+        match self.left {
+            None => self.take_turn(),
+            Some(0) => event_of(self.words.next_word()),
+            Some(left) => {
+                self.left = Some(left - 1);
+                self.take_turn()
+            }
+        }
+    }
+
+    fn take_turn(&mut self) -> Event
+        ensures event { (count : ℕ) → self.old.turn ≡ turn_after count → result ≡ event_in_turn (suc count) }
+        ensures turn { (count : ℕ) → self.old.turn ≡ turn_after count → self.new.turn ≡ turn_after (suc count) }
+        ensures fits { FitsMade result }
+        ensures left { self.new.left ≡ self.old.left }
+        ensures words { self.new.words ≡ self.old.words }
+    {
+        let event = self.turn.event();
+        self.turn = self.turn.next();
+        event
+    }
+
+    /// What both ends of each number's schedule are set to: two safe data bytes each way, connection 1, address 2, watchdog 100, at most
+    /// 100 ticks without a frame in a handshake, watchdogs up to 1000, no application parameters, and session ids 1 and 2.
+    pub fn settings() -> (MasterSettings, SlaveSettings)
+        ensures master { result.0 ≡ made_master }
+        ensures slave { result.1 ≡ made_slave }
+    {
+        let lengths = Lengths::new(2, 2).unwrap();
+        (
+            MasterSettings::new(lengths, 1, 2, 100, AppBytes::new(), 1).unwrap(),
+            SlaveSettings::new(lengths, 2, 100, 1000, AppRule::Any(0), 2).unwrap(),
+        )
+    }
+}
+
+/// The peer's last frame comes to an end.
+fn last_to(to: End) -> Event
+    ensures { result ≡ event.Deliver to 1 }
+{
+    Event::Deliver { to, back: 1 }
+}
+
+/// The peer's last frame comes to an end with one bit turned, at the place and by the mask of a word.
+fn altered_to(to: End, word: u32) -> Event
+    ensures { result ≡ event.Altered to 1 (place_of word) (mask_of word) }
+{
+    Event::Altered {
+        to,
+        back: 1,
+        pos: ((word >> 8) % 7) as u8,
+        mask: 1 << ((word >> 16) % 8),
+    }
+}
+
+/// A put at an end of bytes 1 and 2 of a word.
+fn put_at(at: End, word: u32) -> Event
+    ensures { result ≡ event.Put at (load_of word) }
+{
+    let mut load = Image::zeros(0);
+    load.push(((word >> 8) % 256) as u8);
+    load.push(((word >> 16) % 256) as u8);
+    Event::Put { at, load }
+}
+
+/// Whether bit 8 of a word is 1.
+fn is_switch_on(word: u32) -> bool
+    ensures { result ≡ is_switch_on word }
+{
+    (word >> 8) % 2 == 1
+}
+
+/// The event of a word of the generator.
+fn event_of(word: u32) -> Event
+    ensures value { result ≡ event_of_word word }
+    ensures fits { FitsMade result }
+{
+    match word % 64 {
+        0..=21 => last_to(End::Slave),
+        22..=43 => last_to(End::Master),
+        44..=47 => Event::Tick { at: End::Master },
+        48..=51 => Event::Tick { at: End::Slave },
+        52 => Event::Deliver {
+            to: End::Slave,
+            back: 2,
+        },
+        53 => Event::Deliver {
+            to: End::Master,
+            back: 2,
+        },
+        54 => altered_to(End::Slave, word),
+        55 => altered_to(End::Master, word),
+        56 | 57 => put_at(End::Master, word),
+        58 | 59 => put_at(End::Slave, word),
+        60 => hold_at(End::Master, word),
+        61 => hold_at(End::Slave, word),
+        62 => Event::Nonce {
+            at: End::Master,
+            id: word >> 16,
+        },
+        _ => reset_by(word),
+    }
+}
+
+/// An end is held, or no longer, by bit 8 of a word.
+fn hold_at(at: End, word: u32) -> Event
+    ensures { result ≡ event.Hold at (is_switch_on word) }
+{
+    Event::Hold {
+        at,
+        failsafe: is_switch_on(word),
+    }
+}
+
+/// A reset of the end that bit 8 of a word names.
+fn reset_by(word: u32) -> Event
+    ensures { result ≡ event.Local (if is_switch_on word then side.Slave else side.Master) }
+{
+    Event::Local {
+        at: if is_switch_on(word) {
+            End::Slave
+        } else {
+            End::Master
+        },
+    }
+}
+
+#[cfg(test)]
+mod tests;
