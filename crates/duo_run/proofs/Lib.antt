@@ -8,3 +8,8 @@ pub mod EntryLines
 pub mod FairReplay
 pub mod OneReplay
 pub mod Replaying
+pub mod Counted
+pub mod WholeRuns
+pub mod HonestNumber
+pub mod Summarizing
+pub mod Summed

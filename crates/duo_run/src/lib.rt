@@ -4,11 +4,14 @@
 #![tactic(auto)]
 
 mod acting;
+mod bulk;
 mod duo;
 mod fault;
 pub mod laws;
 mod replay;
+mod summary;
 
+pub use bulk::run_bulk;
 pub use duo::Duo;
 pub use fault::StepFault;
 pub use replay::run_replay;

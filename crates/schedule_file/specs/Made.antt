@@ -80,10 +80,11 @@ byte_of i word = word / 2 ^ (8 * i) % 256
 abbrev pub is_switch_on : ℕ → Bool
 is_switch_on word = word / 2 ^ 8 % 2 == 1
 
--- the place in a frame of 7 bytes, and the mask of one bit, of a word that alters a byte
+-- the place in a frame of 7 bytes that a word alters
 abbrev pub place_of : ℕ → ℕ
 place_of word = word / 2 ^ 8 % 7
 
+-- the mask of one bit by which a word alters it
 abbrev pub mask_of : ℕ → ℕ
 mask_of word = 2 ^ (word / 2 ^ 16 % 8)
 

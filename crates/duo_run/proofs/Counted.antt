@@ -1,0 +1,90 @@
+-- A summary counts the next entry.
+use Rattle.std.proofs.Common.{◌≡◌, ℕ, ◌+◌, ◌^◌, ◌<◌, List, ◌∷◌, length, Bool, true, false, ◌&&◌, cond, if◌then◌else◌, refl, sym, ap, ◌∙◌, add_comm, arith}
+use Rattle.std.specs.Prelude.{count_by, is_some}
+use Rattle.std.proofs.lemmas.List.Sums.{count_by-le-length, sum_by-cons}
+use Rattle.fsoe_base.specs.declared.command.End.{End}
+use Rattle.fsoe_base.specs.declared.command.End.TheVariants as end_name
+use Rattle.param_load.specs.declared.entry.Entry.{Entry}
+use Rattle.exchange_model.specs.Ends.{same_end}
+use Rattle.exchange_model.specs.Fair.{data_taken, takes_data}
+use Rattle.exchange_model.specs.Serving.{state_told}
+use Rattle.duo_run.specs.Summary.{has_reset, has_drop, counts_of, summary_of, HasRoom}
+use Rattle.duo_run.specs.declared.summary.Counts.{Counts}
+use Rattle.duo_run.specs.declared.summary.Summary.{Summary}
+
+-- one entry is counted
+pub record Noted (old : Counts) (x : Entry) (new : Counts) : Type 0 where
+  pub taken : new.taken ≡ old.taken + (if is_some (data_taken x.did.took) then 1 else 0)
+  pub resets : new.resets ≡ old.resets + (if is_some x.did.reset then 1 else 0)
+  pub drops : new.drops ≡ old.drops + (if is_some x.did.dropped then 1 else 0)
+  pub state : new.state ≡ x.state
+
+same_counts : (a b : Counts) → a.taken ≡ b.taken → a.resets ≡ b.resets → a.drops ≡ b.drops → a.state ≡ b.state → a ≡ b
+same_counts a b taken resets drops state = λ i. record { taken = taken i; resets = resets i; drops = drops i; state = state i }
+
+same_summary : (a b : Summary) → a.master ≡ b.master → a.slave ≡ b.slave → a ≡ b
+same_summary a b master slave = λ i. record { master = master i; slave = slave i }
+
+count_by-cons : (test : Entry → Bool) (x : Entry) (w : List Entry) → cond (test x) 1 0 + count_by test w ≡ count_by test (x ∷ w)
+count_by-cons test x w = sym (sum_by-cons (λ y. cond (test y) 1 0) x w)
+
+-- a count goes up where the next entry is the end's own and passes a test
+own_counted : (mine test : Bool) (before now : ℕ) → mine ≡ true → now ≡ before + (if test then 1 else 0) → now ≡ cond (mine && test) 1 0 + before
+own_counted true true before now own h = h ∙ add_comm before 1
+own_counted true false before now own h = h ∙ add_comm before 0
+own_counted false test before now own h = cc
+
+-- and else not
+other_counted : (mine test : Bool) (count : ℕ) → mine ≡ false → count ≡ cond (mine && test) 1 0 + count
+other_counted false test count other = omega arith
+other_counted true test count other = cc
+
+own_told : (which : End) (x : Entry) (w : List Entry) (mine : Bool) → same_end which x.end ≡ mine → mine ≡ true → x.state ≡ state_told which (x ∷ w)
+own_told which x w mine is own = rw (is ∙ own) refl
+
+other_told : (which : End) (x : Entry) (w : List Entry) → same_end which x.end ≡ false → state_told which w ≡ state_told which (x ∷ w)
+other_told which x w is = rw is refl
+
+own_noted : (which : End) (old new : Counts) (x : Entry) (w : List Entry) → same_end which x.end ≡ true → Noted old x new → old ≡ counts_of which w → new ≡ counts_of which (x ∷ w)
+own_noted which old new x w own noted before =
+    same_counts _ _
+    (own_counted (same_end which x.end) (is_some (data_taken x.did.took)) _ _ own (noted.taken ∙ ap (λ (c : Counts). c.taken + (if is_some (data_taken x.did.took) then 1 else 0)) before) ∙ count_by-cons (takes_data which) x w)
+    (own_counted (same_end which x.end) (is_some x.did.reset) _ _ own (noted.resets ∙ ap (λ (c : Counts). c.resets + (if is_some x.did.reset then 1 else 0)) before) ∙ count_by-cons (has_reset which) x w)
+    (own_counted (same_end which x.end) (is_some x.did.dropped) _ _ own (noted.drops ∙ ap (λ (c : Counts). c.drops + (if is_some x.did.dropped then 1 else 0)) before) ∙ count_by-cons (has_drop which) x w)
+    (noted.state ∙ own_told which x w true own refl)
+
+other_noted : (which : End) (old : Counts) (x : Entry) (w : List Entry) → same_end which x.end ≡ false → old ≡ counts_of which w → old ≡ counts_of which (x ∷ w)
+other_noted which old x w other before =
+    before ∙ same_counts _ _
+    (other_counted (same_end which x.end) (is_some (data_taken x.did.took)) (count_by (takes_data which) w) other ∙ count_by-cons (takes_data which) x w)
+    (other_counted (same_end which x.end) (is_some x.did.reset) (count_by (has_reset which) w) other ∙ count_by-cons (has_reset which) x w)
+    (other_counted (same_end which x.end) (is_some x.did.dropped) (count_by (has_drop which) w) other ∙ count_by-cons (has_drop which) x w)
+    (other_told which x w other)
+
+pub counted_at_master : (old new : Summary) (x : Entry) (w : List Entry) → x.end ≡ end_name.Master → Noted old.master x new.master → new.slave ≡ old.slave
+    → old ≡ summary_of w → new ≡ summary_of (x ∷ w)
+counted_at_master old new x w at noted slave before =
+    same_summary _ _
+    (own_noted end_name.Master old.master new.master x w (ap (same_end end_name.Master) at) noted (ap (λ (s : Summary). s.master) before))
+    (slave ∙ other_noted end_name.Slave old.slave x w (ap (same_end end_name.Slave) at) (ap (λ (s : Summary). s.slave) before))
+
+pub counted_at_slave : (old new : Summary) (x : Entry) (w : List Entry) → x.end ≡ end_name.Slave → Noted old.slave x new.slave → new.master ≡ old.master
+    → old ≡ summary_of w → new ≡ summary_of (x ∷ w)
+counted_at_slave old new x w at noted master before =
+    same_summary _ _
+    (master ∙ other_noted end_name.Master old.master x w (ap (same_end end_name.Master) at) (ap (λ (s : Summary). s.master) before))
+    (own_noted end_name.Slave old.slave new.slave x w (ap (same_end end_name.Slave) at) noted (ap (λ (s : Summary). s.slave) before))
+
+-- counts of fewer than 2^63 entries have room
+has_room : (which : End) (c : Counts) (w : List Entry) → c ≡ counts_of which w → length w < 2 ^ 63 → HasRoom c
+has_room which c w is few = record {
+  taken = let e : c.taken ≡ count_by (takes_data which) w = ap (λ (c : Counts). c.taken) is in omega (arith, e, count_by-le-length (takes_data which) w);
+  resets = let e : c.resets ≡ count_by (has_reset which) w = ap (λ (c : Counts). c.resets) is in omega (arith, e, count_by-le-length (has_reset which) w);
+  drops = let e : c.drops ≡ count_by (has_drop which) w = ap (λ (c : Counts). c.drops) is in omega (arith, e, count_by-le-length (has_drop which) w);
+}
+
+pub room_at_master : (s : Summary) (w : List Entry) → s ≡ summary_of w → length w < 2 ^ 63 → HasRoom s.master
+room_at_master s w is few = has_room end_name.Master s.master w (ap (λ (s : Summary). s.master) is) few
+
+pub room_at_slave : (s : Summary) (w : List Entry) → s ≡ summary_of w → length w < 2 ^ 63 → HasRoom s.slave
+room_at_slave s w is few = has_room end_name.Slave s.slave w (ap (λ (s : Summary). s.slave) is) few

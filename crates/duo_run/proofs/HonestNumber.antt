@@ -1,0 +1,100 @@
+-- The schedule of number 0 is honest.
+use Rattle.std.proofs.Common.{◌≡◌, ℕ, zero, suc, ◌<◌, ◌%◌, ◌==◌, List, [], ◌∷◌, ◌++◌, true, false, Some, None, All, refl, sym, ap, ap₂, subst, ◌∙◌, arith}
+use Rattle.std.specs.List.{list_all}
+use Rattle.std.proofs.lemmas.Bool.{leb-true}
+use Rattle.std.proofs.lemmas.Bool.Decides.{nat_tests}
+use Rattle.std.proofs.lemmas.List.Elements.{All-nil, All-cons}
+use Rattle.fsoe_base.specs.declared.command.End.{End}
+use Rattle.fsoe_base.specs.declared.command.End.TheVariants as end_name
+use Rattle.param_load.specs.declared.entry.Entry.{Entry}
+use Rattle.schedule_file.specs.declared.event.Event.{Event}
+use Rattle.schedule_file.specs.declared.event.Event.TheVariants as event
+use Rattle.schedule_file.specs.Made.{event_in_turn, made, made_master, made_slave}
+use Rattle.schedule_file.proofs.Making.{event_at-zero}
+use Rattle.exchange_model.specs.Ends.{peer}
+use Rattle.exchange_model.specs.World.{entry_at, IsProperEvent}
+use Rattle.exchange_model.specs.Honest.{Match, is_plain, in_turn, if_on, keeps_time, IsHonest}
+use Rattle.exchange_model.specs.Serving.{Serves}
+use Rattle.exchange_model.proofs.HonestSchedules.{honest_serves}
+use Rattle.duo_run.specs.Bulk.{entries_of}
+
+-- so many times the peer's last frame comes to an end, this one first, and to its peer in turn
+abbrev alternating : End → ℕ → List Event
+alternating to zero = []
+alternating to (suc n) = event.Deliver to 1 ∷ alternating (peer to) n
+
+-- the end whose turn it is after so many
+abbrev turned : End → ℕ → End
+turned to zero = to
+turned to (suc n) = turned (peer to) n
+
+alternating-more : (to : End) (n : ℕ) → alternating to n ++ event.Deliver (turned to n) 1 ∷ [] ≡ alternating to (suc n)
+alternating-more to zero = refl
+alternating-more to (suc n) = ap (λ (events : List Event). event.Deliver to 1 ∷ events) (alternating-more (peer to) n)
+
+-- the turns come again after two events
+two_later : (n : ℕ) → event_in_turn (suc (suc (suc (suc n)))) ≡ event_in_turn (suc (suc n))
+two_later n =
+    let parity : suc (suc (suc (suc n))) % 2 ≡ suc (suc n) % 2 = omega arith in
+    let later : (suc (suc (suc (suc n))) == 1) ≡ false = grind (arith, nat_tests) in
+    let sooner : (suc (suc n) == 1) ≡ false = grind (arith, nat_tests) in
+    rw (later, sooner, parity) refl
+
+in_turn_at : (n : ℕ) → event_in_turn (suc (suc n)) ≡ event.Deliver (turned end_name.Slave n) 1
+in_turn_at zero = refl
+in_turn_at (suc zero) = refl
+in_turn_at (suc (suc n)) = two_later n ∙ in_turn_at n
+
+-- the events of number 0: a tick of the master, and then the last frames in turn, to the slave first
+events_of_zero : (n : ℕ) → made 0 (suc n) ≡ event.Tick end_name.Master ∷ alternating end_name.Slave n
+events_of_zero zero = refl
+events_of_zero (suc n) =
+    ap₂ (λ (events : List Event) (last : Event). events ++ last ∷ []) (events_of_zero n) (event_at-zero (suc (suc n)) ∙ in_turn_at n)
+    ∙ ap (λ (events : List Event). event.Tick end_name.Master ∷ events) (alternating-more end_name.Slave n)
+
+plain : (to : End) (n : ℕ) → list_all is_plain (alternating to n) ≡ true
+plain to zero = refl
+plain to (suc n) = plain (peer to) n
+
+turns : (to : End) (n : ℕ) → in_turn to (alternating to n) ≡ true
+turns to zero = refl
+turns end_name.Master (suc n) = turns end_name.Slave n
+turns end_name.Slave (suc n) = turns end_name.Master n
+
+-- deliveries are at any time
+timely : (to : End) (n : ℕ) (w : List Entry) → keeps_time made_master made_slave (alternating to n) w ≡ true
+timely to zero w = refl
+timely to (suc n) w =
+    elim (entry_at made_master made_slave w (event.Deliver to 1)) as (λ o. if_on w o (keeps_time made_master made_slave (alternating (peer to) n)) ≡ true) [
+      | None ↦ refl
+      | Some x ↦ timely (peer to) n (x ∷ w)
+    ]
+
+proper : (to : End) (n : ℕ) → All (IsProperEvent made_master made_slave) (alternating to n)
+proper to zero = All-nil (IsProperEvent made_master made_slave)
+proper to (suc n) = All-cons (IsProperEvent made_master made_slave) (event.Deliver to 1) (alternating (peer to) n) tt (proper (peer to) n)
+
+matching : Match made_master made_slave
+matching = record {
+  same_lengths = record { master = refl; slave = refl };
+  same_address = refl;
+  same_profile = refl;
+  watchdog_accepted = leb-true 100 1000 refl;
+  as_many_parameters = refl;
+  parameters_allowed = refl;
+}
+
+honest : (n : ℕ) → IsHonest made_master made_slave (event.Tick end_name.Master ∷ alternating end_name.Slave n)
+honest n = record { plain = plain end_name.Slave n; turns = turns end_name.Slave n; begun = refl; time = timely end_name.Slave n _ }
+
+serves_some : (n : ℕ) → Serves made_master (made 0 (suc n)) (entries_of 0 (suc n))
+serves_some n =
+    honest_serves made_master made_slave (made 0 (suc n)) matching
+    (subst (All (IsProperEvent made_master made_slave)) (sym (events_of_zero n))
+    (All-cons (IsProperEvent made_master made_slave) (event.Tick end_name.Master) (alternating end_name.Slave n) tt (proper end_name.Slave n)))
+    (subst (IsHonest made_master made_slave) (sym (events_of_zero n)) (honest n))
+
+-- number 0 serves
+pub zero_serves : (number events : ℕ) → number ≡ 0 → 0 < events → Serves made_master (made number events) (entries_of number events)
+zero_serves number zero is some = absurd (omega (arith, some))
+zero_serves number (suc n) is some = subst (λ (number : ℕ). Serves made_master (made number (suc n)) (entries_of number (suc n))) (sym is) (serves_some n)

@@ -1,0 +1,185 @@
+-- No event of a number names a frame that wasn't sent, so each has its entry.
+use Rattle.std.proofs.Common.{◌≡◌, ℕ, zero, suc, ◌+◌, ◌-◌, ◌≤◌, ◌/◌, ◌%◌, ◌^◌, List, [], ◌∷◌, ◌++◌, length, Bool, true, false, if◌then◌else◌, Option, Some, None, refl, sym, ap, subst, ◌∙◌, length-append, arith}
+use Rattle.fsoe_base.specs.declared.command.End.{End}
+use Rattle.fsoe_base.specs.declared.command.End.TheVariants as end_name
+use Rattle.fsoe_crc.specs.Remainder.{computing}
+use Rattle.param_load.specs.declared.entry.Entry.{Entry}
+use Rattle.param_load.specs.declared.entry.Move.{Move}
+use Rattle.param_load.specs.declared.entry.Move.TheVariants as move
+use Rattle.param_load.specs.declared.master_settings.MasterSettings.{MasterSettings}
+use Rattle.param_load.specs.declared.slave_settings.SlaveSettings.{SlaveSettings}
+use Rattle.black_channel.specs.Altered.{altered}
+use Rattle.black_channel.specs.Window.{back_th}
+use Rattle.schedule_file.specs.declared.event.Event.{Event}
+use Rattle.schedule_file.specs.declared.event.Event.TheVariants as event
+use Rattle.schedule_file.specs.Made.{event_at, event_by, word_after, place_of, mask_of, load_of, is_switch_on, made, made_master, made_slave}
+use Rattle.end_model.specs.Deed.{is_empty}
+use Rattle.end_model.specs.Chain.{own}
+use Rattle.exchange_model.specs.Ends.{same_end, peer}
+use Rattle.exchange_model.specs.World.{setup_of, deed_in, deeds, frames_of, end_of_event, delivery, altered_delivery, move_of, next_entry, entry_on, entry_at, going_on, world_after}
+use Rattle.duo_run.specs.Bulk.{entries_of}
+
+-- a schedule goes on by one event
+goes_on : (ms : MasterSettings) (ss : SlaveSettings) (events : List Event) (last : Event) (w : List Entry) (x : Entry)
+    → length (world_after ms ss events w) ≡ length events + length w → entry_at ms ss (world_after ms ss events w) last ≡ Some x
+    → world_after ms ss (events ++ last ∷ []) w ≡ x ∷ world_after ms ss events w
+goes_on ms ss [] last w x whole next = ap (λ (o : Option Entry). going_on w o (world_after ms ss [])) next
+goes_on ms ss (event ∷ events) last w x whole next =
+    elim (entry_at ms ss w event) as (λ o. length (going_on w o (world_after ms ss events)) ≡ suc (length events) + length w
+    → entry_at ms ss (going_on w o (world_after ms ss events)) last ≡ Some x
+    → going_on w o (world_after ms ss (events ++ last ∷ [])) ≡ x ∷ going_on w o (world_after ms ss events)) [
+      | None ↦ λ whole next. absurd (omega (arith, whole))
+      | Some y ↦ λ whole next. goes_on ms ss events last (y ∷ w) x (omega (arith, whole)) next
+    ] whole next
+
+-- one end more has sent as many frames or one more
+own_more : (sent : Bool) (frame : List ℕ) (frames : List (List ℕ)) → length frames ≤ length (if sent then frames else frame ∷ frames)
+own_more true frame frames = omega arith
+own_more false frame frames = omega arith
+
+frames_more : (which : End) (x : Entry) (w : List Entry) (mine : Bool) → length (frames_of which w) ≤ length (own (if mine then deed_in x ∷ deeds which w else deeds which w))
+frames_more which x w true = own_more (is_empty x.sent) x.sent (frames_of which w)
+frames_more which x w false = omega arith
+
+-- both ends sent two frames
+pub record SentTwo (w : List Entry) : Type 0 where
+  pub master : 2 ≤ length (frames_of end_name.Master w)
+  pub slave : 2 ≤ length (frames_of end_name.Slave w)
+
+still_two : (x : Entry) (w : List Entry) → SentTwo w → SentTwo (x ∷ w)
+still_two x w two = record {
+  master = omega (arith, two.master, frames_more end_name.Master x w (same_end end_name.Master x.end));
+  slave = omega (arith, two.slave, frames_more end_name.Slave x w (same_end end_name.Slave x.end));
+}
+
+-- the last two frames are there
+last_two : (frames : List (List ℕ)) → 2 ≤ length frames → ((f : List ℕ) × (back_th 1 frames ≡ Some f)) × ((f : List ℕ) × (back_th 2 frames ≡ Some f))
+last_two [] two = absurd (omega (arith, two))
+last_two (f ∷ []) two = absurd (omega (arith, two))
+last_two (f ∷ g ∷ frames) two = ((f, refl), (g, refl))
+
+-- the last frame is there
+last_one : (frames : List (List ℕ)) → 1 ≤ length frames → (f : List ℕ) × (back_th 1 frames ≡ Some f)
+last_one [] one = absurd (omega (arith, one))
+last_one (f ∷ frames) one = (f, refl)
+
+-- an event has an entry
+pub record Goes (w : List Entry) (event : Event) : Type 0 where
+  pub entry : Entry
+  pub next : entry_at made_master made_slave w event ≡ Some entry
+
+goes_by : (w : List Entry) (event : Event) (what : Move) → move_of (frames_of (peer (end_of_event event)) w) event ≡ Some what → Goes w event
+goes_by w event what is = record {
+  entry = next_entry (setup_of made_master made_slave (end_of_event event)) (deeds (end_of_event event) w) what;
+  next = ap (entry_on (setup_of made_master made_slave (end_of_event event)) (deeds (end_of_event event) w)) is;
+}
+
+-- a frame that its peer sent comes to an end
+last_goes : (w : List Entry) (to : End) → 1 ≤ length (frames_of (peer to) w) → Goes w (event.Deliver to 1)
+last_goes w to one = let f = last_one _ one in goes_by w (event.Deliver to 1) (move.Deliver f.0) (ap delivery f.1)
+
+sent_to : (w : List Entry) (to : End) → SentTwo w → 2 ≤ length (frames_of (peer to) w)
+sent_to w end_name.Master two = two.slave
+sent_to w end_name.Slave two = two.master
+
+deliver_goes : (w : List Entry) (to : End) → SentTwo w → Goes w (event.Deliver to 1)
+deliver_goes w to two = last_goes w to (omega (arith, sent_to w to two))
+
+older_goes : (w : List Entry) (to : End) → SentTwo w → Goes w (event.Deliver to 2)
+older_goes w to two = let f = (last_two _ (sent_to w to two)).1 in goes_by w (event.Deliver to 2) (move.Deliver f.0) (ap delivery f.1)
+
+altered_goes : (w : List Entry) (to : End) (pos mask : ℕ) → SentTwo w → Goes w (event.Altered to 1 pos mask)
+altered_goes w to pos mask two =
+    let f = (last_two _ (sent_to w to two)).0 in
+    goes_by w (event.Altered to 1 pos mask) (move.Deliver (altered pos mask f.0)) (ap (altered_delivery pos mask) f.1)
+
+choose : (w : List Entry) (test : Bool) (x y : Event) → Goes w x → Goes w y → Goes w (if test then x else y)
+choose w true x y a b = a
+choose w false x y a b = b
+
+-- the event of a word
+word_goes : (w : List Entry) (rest word : ℕ) → SentTwo w → Goes w (event_by rest word)
+word_goes w rest word two =
+    choose w _ _ _ (deliver_goes w end_name.Slave two)
+    (choose w _ _ _ (deliver_goes w end_name.Master two)
+    (choose w _ _ _ (goes_by w (event.Tick end_name.Master) move.Tick refl)
+    (choose w _ _ _ (goes_by w (event.Tick end_name.Slave) move.Tick refl)
+    (choose w _ _ _ (older_goes w end_name.Slave two)
+    (choose w _ _ _ (older_goes w end_name.Master two)
+    (choose w _ _ _ (altered_goes w end_name.Slave (place_of word) (mask_of word) two)
+    (choose w _ _ _ (altered_goes w end_name.Master (place_of word) (mask_of word) two)
+    (choose w _ _ _ (goes_by w (event.Put end_name.Master (load_of word)) (move.Put (load_of word)) refl)
+    (choose w _ _ _ (goes_by w (event.Put end_name.Slave (load_of word)) (move.Put (load_of word)) refl)
+    (choose w _ _ _ (goes_by w (event.Hold end_name.Master (is_switch_on word)) (move.Hold (is_switch_on word)) refl)
+    (choose w _ _ _ (goes_by w (event.Hold end_name.Slave (is_switch_on word)) (move.Hold (is_switch_on word)) refl)
+    (choose w _ _ _ (goes_by w (event.Nonce end_name.Master (word / 2 ^ 16)) (move.Nonce (word / 2 ^ 16)) refl)
+    (goes_by w (event.Local (if is_switch_on word then end_name.Slave else end_name.Master)) move.Local refl)))))))))))))
+
+-- each event, once both ends sent two frames
+later_goes : (number place : ℕ) (w : List Entry) → SentTwo w → Goes w (event_at number place)
+later_goes number place w two =
+    choose w _ _ _
+    (choose w _ _ _ (goes_by w (event.Tick end_name.Master) move.Tick refl) (choose w _ _ _ (deliver_goes w end_name.Slave two) (deliver_goes w end_name.Master two)))
+    (word_goes w (word_after number (place - 5) % 64) (word_after number (place - 5)) two)
+
+-- the first four events, after which both ends sent two frames
+second_goes : (number : ℕ) → Goes (entries_of number 1) (event_at number 2)
+unfolding computing
+second_goes number = let one : length (frames_of end_name.Master (entries_of number 1)) ≡ 1 = refl in last_goes (entries_of number 1) end_name.Slave (omega (arith, one))
+
+third_goes : (number : ℕ) → Goes (entries_of number 2) (event_at number 3)
+unfolding computing
+third_goes number = let one : length (frames_of end_name.Slave (entries_of number 2)) ≡ 1 = refl in last_goes (entries_of number 2) end_name.Master (omega (arith, one))
+
+fourth_goes : (number : ℕ) → Goes (entries_of number 3) (event_at number 4)
+unfolding computing
+fourth_goes number = let two : length (frames_of end_name.Master (entries_of number 3)) ≡ 2 = refl in last_goes (entries_of number 3) end_name.Slave (omega (arith, two))
+
+two_after_four : (number : ℕ) → SentTwo (entries_of number 4)
+unfolding computing
+two_after_four number =
+    let master : length (frames_of end_name.Master (entries_of number 4)) ≡ 2 = refl in
+    let slave : length (frames_of end_name.Slave (entries_of number 4)) ≡ 2 = refl in
+    record { master = omega (arith, master); slave = omega (arith, slave) }
+
+next_goes : (number count : ℕ) → (4 ≤ count → SentTwo (entries_of number count)) → Goes (entries_of number count) (event_at number (suc count))
+next_goes number zero two = goes_by [] (event.Tick end_name.Master) move.Tick refl
+next_goes number (suc zero) two = second_goes number
+next_goes number (suc (suc zero)) two = third_goes number
+next_goes number (suc (suc (suc zero))) two = fourth_goes number
+next_goes number (suc (suc (suc (suc count)))) two = later_goes number (suc (suc (suc (suc (suc count))))) _ (two (omega arith))
+
+two_more : (number count : ℕ) (x : Entry) → (4 ≤ count → SentTwo (entries_of number count)) → entries_of number (suc count) ≡ x ∷ entries_of number count
+    → 4 ≤ suc count → SentTwo (entries_of number (suc count))
+two_more number zero x two next late = absurd (omega (arith, late))
+two_more number (suc zero) x two next late = absurd (omega (arith, late))
+two_more number (suc (suc zero)) x two next late = absurd (omega (arith, late))
+two_more number (suc (suc (suc zero))) x two next late = two_after_four number
+two_more number (suc (suc (suc (suc count)))) x two next late = subst SentTwo (sym next) (still_two x _ (two (omega arith)))
+
+-- so many events are made
+length-made : (number count : ℕ) → length (made number count) ≡ count
+length-made number zero = refl
+length-made number (suc count) = length-append (made number count) (event_at number (suc count) ∷ []) ∙ (let before = length-made number count in omega (arith, before))
+
+-- the run is whole so far
+pub record Whole (number count : ℕ) : Type 0 where
+  pub each : length (entries_of number count) ≡ count
+  pub two : 4 ≤ count → SentTwo (entries_of number count)
+
+-- and goes on
+pub entry_goes : (number count : ℕ) → Whole number count → Goes (entries_of number count) (event_at number (suc count))
+entry_goes number count whole = next_goes number count whole.two
+
+pub entries_more : (number count : ℕ) (x : Entry) → Whole number count → entry_at made_master made_slave (entries_of number count) (event_at number (suc count)) ≡ Some x
+    → entries_of number (suc count) ≡ x ∷ entries_of number count
+entries_more number count x whole next =
+    goes_on made_master made_slave (made number count) (event_at number (suc count)) [] x (whole.each ∙ (let all = length-made number count in omega (arith, all))) next
+
+pub is_whole : (number count : ℕ) → Whole number count
+is_whole number zero = record { each = refl; two = λ late. absurd (omega (arith, late)) }
+is_whole number (suc count) =
+    let whole : Whole number count = is_whole number count in
+    let goes : Goes (entries_of number count) (event_at number (suc count)) = entry_goes number count whole in
+    let more : entries_of number (suc count) ≡ goes.entry ∷ entries_of number count = entries_more number count goes.entry whole goes.next in
+    record { each = ap length more ∙ ap suc whole.each; two = two_more number count goes.entry whole.two more }

@@ -1,0 +1,52 @@
+-- What `bulk` reports of the schedule of a number. Lists of entries are newest first.
+use Rattle.std.specs.Prelude.{◌≡◌, ℕ, List, ◌++◌, ◌⊎◌, length, codes, decimal, Option}
+use Rattle.fsoe_base.specs.Command.{state_name}
+use Rattle.fsoe_base.specs.declared.command.State.{State}
+use Rattle.fsoe_io.specs.Sink.{Grew}
+use Rattle.fsoe_io.specs.declared.status.Ended.{Ended}
+use Rattle.fsoe_io.specs.declared.status.Status.TheVariants as status
+use Rattle.param_load.specs.declared.entry.Entry.{Entry}
+use Rattle.schedule_file.specs.Made.{made, made_master, made_slave}
+use Rattle.file_run.specs.Ending.{IsPrefix}
+use Rattle.exchange_model.specs.Other.{first_other}
+use Rattle.exchange_model.specs.World.{world}
+use Rattle.duo_run.specs.Replay.{other_line, ended_with}
+use Rattle.duo_run.specs.Summary.{summary_of}
+use Rattle.duo_run.specs.declared.summary.Summary.{Summary}
+
+-- the entries of both ends over the first so many events of a number
+abbrev pub entries_of : ℕ → ℕ → List Entry
+entries_of number events = world made_master made_slave (made number events)
+
+-- a line that tells a number of each end
+abbrev pub ends_line : List ℕ → ℕ → ℕ → List ℕ
+ends_line word master slave = word ++ codes " master " ++ decimal master ++ codes " slave " ++ decimal slave ++ codes "\n"
+
+-- the line that tells the state of each end
+abbrev pub state_line : State → State → List ℕ
+state_line master slave = codes "state " ++ state_name master ++ codes " " ++ state_name slave ++ codes "\n"
+
+-- the first line: the number, and how many of its events
+abbrev pub number_line : ℕ → ℕ → List ℕ
+number_line number events = codes "bulk " ++ decimal number ++ codes " " ++ decimal events ++ codes "\n"
+
+-- the lines of a summary: the data frames taken, the entries with a reset and those with a dropped frame, and the states told last
+abbrev pub summary_lines : Summary → List ℕ
+summary_lines s =
+    ends_line (codes "data") s.master.taken s.slave.taken
+    ++ ends_line (codes "resets") s.master.resets s.slave.resets
+    ++ ends_line (codes "drops") s.master.drops s.slave.drops
+    ++ state_line s.master.state s.slave.state
+
+-- the whole report of these entries over the first so many events of a number
+abbrev pub report_of : ℕ → ℕ → List Entry → List ℕ
+report_of number events w = number_line number events ++ summary_lines (summary_of w) ++ other_line (first_other w)
+
+-- the whole report of a number's first so many events was written, and the run ended as its first other entry says; or a first part of
+-- it where a write failed, with its length as place
+abbrev pub RanBulk : ℕ → ℕ → Ended → Option (List ℕ) → Option (List ℕ) → Type 0
+RanBulk number events ended before now =
+    let w : List Entry = entries_of number events in
+    (text : List ℕ) × Grew before now text
+    × (((ended ≡ ended_with (first_other w)) × (text ≡ report_of number events w))
+    ⊎ ((ended.status ≡ status.Write) × (ended.place ≡ length text) × IsPrefix text (report_of number events w)))

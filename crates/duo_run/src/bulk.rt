@@ -1,0 +1,169 @@
+//! The summary of a number's schedule.
+ghost use Rattle.std.specs.Prelude.{◌≡◌, ◌≤◌, ◌<◌, ◌+◌, ◌++◌, ◌⊎◌, length};
+ghost use Rattle.fsoe_io.specs.Faults.{Rose};
+ghost use Rattle.schedule_file.specs.Made.{made, made_lengths, made_master, made_slave};
+ghost use Rattle.exchange_model.specs.Fair.{Fair};
+ghost use Rattle.exchange_model.specs.Other.{before_other, first_other};
+ghost use Rattle.exchange_model.specs.Serving.{Serves};
+ghost use Rattle.exchange_model.specs.World.{IsWorld};
+ghost use Rattle.duo_run.specs.Replay.{other_line, ended_with};
+ghost use Rattle.duo_run.specs.Summary.{summary_of};
+ghost use Rattle.duo_run.specs.Bulk.{entries_of, ends_line, state_line, number_line, summary_lines, RanBulk};
+
+use crate::duo::Duo;
+use crate::summary::Summary;
+use fsoe_base::State;
+use fsoe_io::{Ended, LineText, Sink, Status, put_all};
+use schedule_file::Maker;
+
+/// Does the first so many events of a number with a new pair: what is told of their entries, and the number of the first other one.
+fn summarize(number: u64, events: u64) -> (Summary, Option<u64>)
+    requires { events ≤ 200000 }
+    ensures summary { result.0 ≡ summary_of (entries_of number events) }
+    ensures other { result.1 ≡ first_other (entries_of number events) }
+    ensures is_world { IsWorld made_master made_slave (entries_of number events) }
+{
+    let (master, slave) = Maker::settings();
+    let mut maker = Maker::new(number);
+    let mut duo = Duo::new(master, slave);
+    let mut summary = Summary::new();
+    for _ in 0..events {
+        let event = maker.next();
+        let entry = duo.step(&event).unwrap();
+        summary.note(&entry);
+    }
+    (summary, duo.other())
+}
+
+/// Appends a line that tells a number of each end.
+fn push_ends(word: &str, master: u64, slave: u64, text: &mut LineText)
+    requires word { length word.now ≤ 10 }
+    requires room { length text.old ≤ 500 }
+    ensures text { text.new ≡ text.old ++ ends_line word.now master slave }
+    ensures most { length text.new ≤ length text.old + 70 }
+{
+    text.push_str(word);
+    text.push(b" master ");
+    text.push_decimal(master);
+    text.push(b" slave ");
+    text.push_decimal(slave);
+    text.push(b"\n");
+}
+
+/// Appends the line that tells the state of each end.
+fn push_states(master: State, slave: State, text: &mut LineText)
+    requires { length text.old ≤ 500 }
+    ensures text { text.new ≡ text.old ++ state_line master slave }
+    ensures most { length text.new ≤ length text.old + 70 }
+{
+    text.push(b"state ");
+    text.push_str(master.name());
+    text.push(b" ");
+    text.push_str(slave.name());
+    text.push(b"\n");
+}
+
+fn push_summary(summary: &Summary, text: &mut LineText)
+    requires { length text.old ≤ 100 }
+    ensures text { text.new ≡ text.old ++ summary_lines summary.now }
+    ensures most { length text.new ≤ length text.old + 280 }
+{
+    let Summary { master, slave } = summary;
+    push_ends("data", master.taken, slave.taken, text);
+    push_ends("resets", master.resets, slave.resets, text);
+    push_ends("drops", master.drops, slave.drops, text);
+    push_states(master.state, slave.state, text);
+}
+
+/// Appends the line that tells the number of the first other entry.
+fn push_other(other: Option<u64>, text: &mut LineText)
+    requires { length text.old ≤ 500 }
+    ensures { text.new ≡ text.old ++ other_line other }
+{
+    match other {
+        Some(first) => {
+            text.push(b"other ");
+            text.push_decimal(first);
+            text.push(b"\n");
+        }
+        None => text.push(b"other none\n"),
+    }
+}
+
+fn push_number(number: u64, events: u64, text: &mut LineText)
+    requires { length text.old ≤ 10 }
+    ensures text { text.new ≡ text.old ++ number_line number events }
+    ensures most { length text.new ≤ length text.old + 60 }
+{
+    text.push(b"bulk ");
+    text.push_decimal(number);
+    text.push(b" ");
+    text.push_decimal(events);
+    text.push(b"\n");
+}
+
+/// Writes the report over what `text` held.
+fn write_report(
+    number: u64,
+    events: u64,
+    summary: &Summary,
+    other: Option<u64>,
+    text: &mut LineText,
+)
+    ensures { text.new ≡ number_line number events ++ summary_lines summary.now ++ other_line other }
+{
+    text.clear();
+    push_number(number, events, text);
+    push_summary(summary, text);
+    push_other(other, text);
+}
+
+/// How a run ends whose whole report is written.
+fn ended_with(other: Option<u64>) -> Ended
+    ensures { result ≡ ended_with other }
+{
+    match other {
+        Some(first) => Ended {
+            status: Status::Other,
+            place: first,
+        },
+        None => Ended {
+            status: Status::Ok,
+            place: 0,
+        },
+    }
+}
+
+/// Does the first so many events of a number, at most 200,000, with a new pair, and writes a summary of six lines: the number with that of
+/// its events; of each end the data frames that it took, the events with a reset and those with a dropped frame, and its last state; and
+/// the number of the first other event, if there is one. No event names a frame that wasn't sent, so all are done.
+///
+/// The status is `Ok` with place 0; `Other` with the number of the first other event; or `Write` with the bytes written, only where the
+/// sink failed. It takes no memory.
+#[tactic(auto, using(crate::proofs::Summed::entries_each, crate::proofs::Summed::entries_fair))]
+pub fn run_bulk<K: Sink>(number: u64, events: u64, sink: &mut K) -> Ended
+    requires { events ≤ 200000 }
+    // What is appended, where the sink tells it, is the whole report, or a first part of it where a write failed.
+    ensures ran { RanBulk number events result (K.written sink.old) (K.written sink.new) }
+    ensures whole { length (entries_of number events) ≡ events }
+    // The entries before the first other one, all where there is none, are fair; over number 0 a connection comes to Data and stays there.
+    ensures fair { Fair made_lengths (before_other (entries_of number events)) }
+    ensures serves { number ≡ 0 → 0 < events → Serves made_master (made number events) (entries_of number events) }
+    ensures statuses { (result.status ≡ Status.Ok) ⊎ (result.status ≡ Status.Other) ⊎ (result.status ≡ Status.Write) }
+    ensures write { result.status ≡ Status.Write → Rose (K.faults sink.old) (K.faults sink.new) }
+    ensures later { K.faults sink.old ≤ K.faults sink.new }
+{
+    let (summary, other) = summarize(number, events);
+    let mut text = LineText::new();
+    write_report(number, events, &summary, other, &mut text);
+    match put_all(sink, text.bytes()) {
+        Ok(()) => ended_with(other),
+        Err(partial) => Ended {
+            status: Status::Write,
+            place: partial.done as u64,
+        },
+    }
+}
+
+#[cfg(test)]
+mod tests;

@@ -1,0 +1,103 @@
+//! What is told of both ends over their entries.
+ghost use Rattle.std.specs.Prelude.{◌≡◌, ◌+◌, is_some, if◌then◌else◌};
+ghost use Rattle.exchange_model.specs.Fair.{data_taken};
+
+use fsoe_base::{Command, Did, End, State};
+use param_load::Entry;
+
+/// What is told of an end: in how many entries it took a data frame, was reset and dropped a frame, and the state that it told last.
+#[derive(Clone, Copy)]
+pub(crate) struct Counts {
+    pub(crate) taken: u64,
+    pub(crate) resets: u64,
+    pub(crate) drops: u64,
+    pub(crate) state: State,
+}
+
+/// The same of both ends.
+#[derive(Clone, Copy)]
+pub(crate) struct Summary {
+    pub(crate) master: Counts,
+    pub(crate) slave: Counts,
+}
+
+/// Whether a data frame was taken.
+fn takes_data(did: &Did) -> bool
+    ensures { result ≡ is_some (data_taken did.now.took) }
+{
+    match &did.took {
+        Some(took) => match took.command {
+            Command::ProcessData | Command::FailSafeData => true,
+            _ => false,
+        },
+        None => false,
+    }
+}
+
+impl Counts {
+    ghost use Rattle.std.specs.Prelude.{◌≡◌, ◌+◌, [], is_some, if◌then◌else◌};
+    ghost use Rattle.fsoe_base.specs.declared.command.State.TheVariants as state;
+    ghost use Rattle.exchange_model.specs.Fair.{data_taken};
+    ghost use Rattle.duo_run.specs.Summary.{HasRoom};
+
+    /// What is told of an end without an entry.
+    fn new() -> Counts
+        ensures { result ≡ record { taken = 0; resets = 0; drops = 0; state = state.Reset } }
+    {
+        Counts {
+            taken: 0,
+            resets: 0,
+            drops: 0,
+            state: State::Reset,
+        }
+    }
+
+    /// Counts the next entry of the end.
+    fn note(&mut self, entry: &Entry)
+        requires { HasRoom self.old }
+        ensures taken { self.new.taken ≡ self.old.taken + (if is_some (data_taken entry.now.did.took) then 1 else 0) }
+        ensures resets { self.new.resets ≡ self.old.resets + (if is_some entry.now.did.reset then 1 else 0) }
+        ensures drops { self.new.drops ≡ self.old.drops + (if is_some entry.now.did.dropped then 1 else 0) }
+        ensures state { self.new.state ≡ entry.now.state }
+    {
+        if takes_data(&entry.did) {
+            self.taken += 1;
+        }
+        if entry.did.reset.is_some() {
+            self.resets += 1;
+        }
+        if entry.did.dropped.is_some() {
+            self.drops += 1;
+        }
+        self.state = entry.state;
+    }
+}
+
+impl Summary {
+    ghost use Rattle.std.specs.Prelude.{◌≡◌, List, [], ◌∷◌};
+    ghost use Rattle.param_load.specs.declared.entry.Entry.{Entry};
+    ghost use Rattle.duo_run.specs.Summary.{HasRoom, summary_of};
+
+    /// What is told of no entries.
+    pub(crate) fn new() -> Summary
+        ensures { result ≡ summary_of [] }
+    {
+        Summary {
+            master: Counts::new(),
+            slave: Counts::new(),
+        }
+    }
+
+    /// Counts the next entry.
+    #[tactic(auto, using(crate::proofs::Counted::counted_at_master, crate::proofs::Counted::counted_at_slave))]
+    pub(crate) fn note(&mut self, entry: &Entry)
+        requires master { HasRoom self.old.master }
+        requires slave { HasRoom self.old.slave }
+        ensures { (w : List Entry) → self.old ≡ summary_of w → self.new ≡ summary_of (entry.now ∷ w) }
+    {
+        match entry.end {
+            End::Master => self.master.note(entry),
+            End::Slave => self.slave.note(entry),
+        }
+    }
+}
