@@ -1,14 +1,14 @@
 -- A summary counts the next entry.
-use Rattle.std.proofs.Common.{◌≡◌, ℕ, ◌+◌, ◌^◌, ◌<◌, List, ◌∷◌, length, Bool, true, false, ◌&&◌, cond, if◌then◌else◌, refl, sym, ap, ◌∙◌, add_comm, arith}
+use Rattle.std.proofs.Common.{◌≡◌, ℕ, ◌+◌, List, ◌∷◌, Bool, true, false, ◌&&◌, cond, if◌then◌else◌, refl, sym, ap, ◌∙◌, add_comm, arith}
 use Rattle.std.specs.Prelude.{count_by, is_some}
-use Rattle.std.proofs.lemmas.List.Sums.{count_by-le-length, sum_by-cons}
+use Rattle.std.proofs.lemmas.List.Sums.{sum_by-cons}
 use Rattle.fsoe_base.specs.declared.command.End.{End}
 use Rattle.fsoe_base.specs.declared.command.End.TheVariants as end_name
 use Rattle.param_load.specs.declared.entry.Entry.{Entry}
 use Rattle.exchange_model.specs.Ends.{same_end}
 use Rattle.exchange_model.specs.Fair.{data_taken, takes_data}
 use Rattle.exchange_model.specs.Serving.{state_told}
-use Rattle.duo_run.specs.Summary.{has_reset, has_drop, counts_of, summary_of, HasRoom}
+use Rattle.duo_run.specs.Summary.{has_reset, has_drop, counts_of, summary_of}
 use Rattle.duo_run.specs.declared.summary.Counts.{Counts}
 use Rattle.duo_run.specs.declared.summary.Summary.{Summary}
 
@@ -74,17 +74,3 @@ counted_at_slave old new x w at noted master before =
     same_summary _ _
     (master ∙ other_noted end_name.Master old.master x w (ap (same_end end_name.Master) at) (ap (λ (s : Summary). s.master) before))
     (own_noted end_name.Slave old.slave new.slave x w (ap (same_end end_name.Slave) at) noted (ap (λ (s : Summary). s.slave) before))
-
--- counts of fewer than 2^63 entries have room
-has_room : (which : End) (c : Counts) (w : List Entry) → c ≡ counts_of which w → length w < 2 ^ 63 → HasRoom c
-has_room which c w is few = record {
-  taken = let e : c.taken ≡ count_by (takes_data which) w = ap (λ (c : Counts). c.taken) is in omega (arith, e, count_by-le-length (takes_data which) w);
-  resets = let e : c.resets ≡ count_by (has_reset which) w = ap (λ (c : Counts). c.resets) is in omega (arith, e, count_by-le-length (has_reset which) w);
-  drops = let e : c.drops ≡ count_by (has_drop which) w = ap (λ (c : Counts). c.drops) is in omega (arith, e, count_by-le-length (has_drop which) w);
-}
-
-pub room_at_master : (s : Summary) (w : List Entry) → s ≡ summary_of w → length w < 2 ^ 63 → HasRoom s.master
-room_at_master s w is few = has_room end_name.Master s.master w (ap (λ (s : Summary). s.master) is) few
-
-pub room_at_slave : (s : Summary) (w : List Entry) → s ≡ summary_of w → length w < 2 ^ 63 → HasRoom s.slave
-room_at_slave s w is few = has_room end_name.Slave s.slave w (ap (λ (s : Summary). s.slave) is) few

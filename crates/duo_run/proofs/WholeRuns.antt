@@ -20,19 +20,19 @@ use Rattle.exchange_model.specs.World.{setup_of, deed_in, deeds, frames_of, end_
 use Rattle.duo_run.specs.Bulk.{entries_of}
 
 -- a schedule goes on by one event
-goes_on : (ms : MasterSettings) (ss : SlaveSettings) (events : List Event) (last : Event) (w : List Entry) (x : Entry)
+world_after-append : (ms : MasterSettings) (ss : SlaveSettings) (events : List Event) (last : Event) (w : List Entry) (x : Entry)
     → length (world_after ms ss events w) ≡ length events + length w → entry_at ms ss (world_after ms ss events w) last ≡ Some x
     → world_after ms ss (events ++ last ∷ []) w ≡ x ∷ world_after ms ss events w
-goes_on ms ss [] last w x whole next = ap (λ (o : Option Entry). going_on w o (world_after ms ss [])) next
-goes_on ms ss (event ∷ events) last w x whole next =
+world_after-append ms ss [] last w x whole next = ap (λ (o : Option Entry). going_on w o (world_after ms ss [])) next
+world_after-append ms ss (event ∷ events) last w x whole next =
     elim (entry_at ms ss w event) as (λ o. length (going_on w o (world_after ms ss events)) ≡ suc (length events) + length w
     → entry_at ms ss (going_on w o (world_after ms ss events)) last ≡ Some x
     → going_on w o (world_after ms ss (events ++ last ∷ [])) ≡ x ∷ going_on w o (world_after ms ss events)) [
       | None ↦ λ whole next. absurd (omega (arith, whole))
-      | Some y ↦ λ whole next. goes_on ms ss events last (y ∷ w) x (omega (arith, whole)) next
+      | Some y ↦ λ whole next. world_after-append ms ss events last (y ∷ w) x (omega (arith, whole)) next
     ] whole next
 
--- one end more has sent as many frames or one more
+-- after an entry an end has sent as many frames or one more
 own_more : (sent : Bool) (frame : List ℕ) (frames : List (List ℕ)) → length frames ≤ length (if sent then frames else frame ∷ frames)
 own_more true frame frames = omega arith
 own_more false frame frames = omega arith
@@ -174,7 +174,7 @@ entry_goes number count whole = next_goes number count whole.two
 pub entries_more : (number count : ℕ) (x : Entry) → Whole number count → entry_at made_master made_slave (entries_of number count) (event_at number (suc count)) ≡ Some x
     → entries_of number (suc count) ≡ x ∷ entries_of number count
 entries_more number count x whole next =
-    goes_on made_master made_slave (made number count) (event_at number (suc count)) [] x (whole.each ∙ (let all = length-made number count in omega (arith, all))) next
+    world_after-append made_master made_slave (made number count) (event_at number (suc count)) [] x (whole.each ∙ (let all = length-made number count in omega (arith, all))) next
 
 pub is_whole : (number count : ℕ) → Whole number count
 is_whole number zero = record { each = refl; two = λ late. absurd (omega (arith, late)) }
