@@ -146,7 +146,7 @@ pub fn run_bulk<K: Sink>(number: u64, events: u64, sink: &mut K) -> Ended
     // What is appended, where the sink tells it, is the whole report, or a first part of it where a write failed.
     ensures ran { RanBulk number events result (K.written sink.old) (K.written sink.new) }
     ensures whole { length (entries_of number events) ≡ events }
-    // The entries before the first other one, all where there is none, are fair; over number 0 a connection comes to Data and stays there.
+    // The entries before the first other one, all where there is none, are fair; those of number 0, whose schedule is honest, serve.
     ensures fair { Fair made_lengths (before_other (entries_of number events)) }
     ensures serves { number ≡ 0 → 0 < events → Serves made_master (made number events) (entries_of number events) }
     ensures statuses { (result.status ≡ Status.Ok) ⊎ (result.status ≡ Status.Other) ⊎ (result.status ≡ Status.Write) }

@@ -1,5 +1,6 @@
 //! Reads the lines of a schedule: its header, which says what the ends are set to, and then its events.
 //! A line is read without its newline. It takes no memory, and a line that is refused has one cause.
+//! A `Maker` makes the schedule of a number, without lines.
 #![tactic(auto)]
 
 pub mod event;
