@@ -1,0 +1,45 @@
+-- Worked rows: what single blocks give, cycle by cycle.
+use Rattle.std.specs.Prelude.{◌≡◌, ℕ, ◌==◌, true, false, List, [], ◌∷◌, ◌++◌, reverse, map, fold, codes, if◌then◌else◌}
+use Rattle.fb_lib.specs.declared.kind.BlockKind.{BlockKind}
+use Rattle.fb_lib.specs.declared.kind.BlockKind.TheVariants as kind
+use Rattle.fb_lib.specs.Cycle.{Cycle}
+use Rattle.fb_lib.specs.Value.{values}
+
+-- the cycle that a text is about to tell, and those before it, the newest first
+pub record Reading : Type 0 where
+  pub cycle : Cycle
+  pub before : List Cycle
+
+-- nothing is told yet: no input, and no tick
+abbrev pub idle : Cycle
+idle = record { ticked = false; ins = [] }
+
+-- one more character: a space ends a cycle, T ticks it, and 1 or 0 is its next input
+abbrev pub with_char : Reading → ℕ → Reading
+with_char r char =
+    if char == 32
+    then record { cycle = idle; before = r.cycle ∷ r.before }
+    else record r { cycle = if char == 84 then record r.cycle { ticked = true } else record r.cycle { ins = r.cycle.ins ++ (char == 49) ∷ [] } }
+
+-- the cycles that a text lists, the newest first
+abbrev pub cycles : List ℕ → List Cycle
+cycles text = let r = fold with_char (record { cycle = idle; before = [] }) text in r.cycle ∷ r.before
+
+-- the values of a block over the cycles that a text lists, as text, the oldest first
+abbrev pub told : BlockKind → ℕ → List ℕ → List ℕ
+told k n text = map (λ b. if b then 49 else 48) (reverse (values k n (cycles text)))
+
+unfoldable pub EstopRow : Type 0
+EstopRow = told kind.Estop 0 (codes "10 11 10 00 10 01 11 10 11") ≡ codes "011000001"
+
+unfoldable pub OnDelayRow : Type 0
+OnDelayRow = told kind.OnDelay 2 (codes "1T 1 1T 0 1T") ≡ codes "00100"
+
+unfoldable pub OffDelayRow : Type 0
+OffDelayRow = told kind.OffDelay 2 (codes "1 0T 0 0T") ≡ codes "1110"
+
+unfoldable pub TwoHandRow : Type 0
+TwoHandRow = told kind.TwoHand 1 (codes "00 10T 11 10 11 00 10T 01T 11") ≡ codes "001000000"
+
+unfoldable pub FeedbackRow : Type 0
+FeedbackRow = told kind.Feedback 1 (codes "11 11T 11T 01 11") ≡ codes "11001"
