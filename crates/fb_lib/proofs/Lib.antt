@@ -1,1 +1,4 @@
+pub mod Ticks
+pub mod Hands
+pub mod Looking
 pub mod WorkedRows

@@ -1,5 +1,7 @@
 pub mod Cycle
 pub mod LookBack
 pub mod Value
+pub mod Steps
+pub mod Standing
 pub mod Guarded
 pub mod Rows

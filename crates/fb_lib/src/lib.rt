@@ -1,7 +1,15 @@
 //! Function blocks of a safety application: each is stepped once a cycle with its inputs, and gives one output.
 #![tactic(auto)]
 
+pub mod block;
+mod delays;
+mod estop;
+mod feedback;
+mod held;
 pub mod kind;
+mod latch;
 pub mod laws;
+mod two_hand;
 
+pub use block::Block;
 pub use kind::BlockKind;

@@ -1,0 +1,72 @@
+-- A block that is stepped stands for its cycles and gives what looking back says.
+use Rattle.std.proofs.Common.{◌≡◌, ℕ, ◌<◌, nat_lt, if◌then◌else◌, not, ◌&&◌, ◌||◌, Bool, true, false, List, [], ◌∷◌, map, refl, sym, ap, ◌∙◌, arith}
+use Rattle.std.specs.List.{list_any}
+use Rattle.fb_lib.specs.declared.held.Held.{Held}
+use Rattle.fb_lib.specs.declared.held.Held.TheVariants as held
+use Rattle.fb_lib.specs.declared.kind.BlockKind.{BlockKind}
+use Rattle.fb_lib.specs.declared.kind.BlockKind.TheVariants as kind
+use Rattle.fb_lib.specs.declared.two_hand.TwoHand.{TwoHand}
+use Rattle.fb_lib.specs.Cycle.{Cycle, first, second}
+use Rattle.fb_lib.specs.LookBack.{run, since}
+use Rattle.fb_lib.specs.Value.{ticks, since_input, Watched, disagrees, is_late, is_released, watched, feedback, value}
+use Rattle.fb_lib.specs.Steps.{BlockView, risen, next_held, next_block, told}
+use Rattle.fb_lib.specs.Standing.{held_of, BlockFollows, BlockGives}
+use Rattle.fb_lib.proofs.Hands.{hands_of-next, is_on-hands_of}
+use Rattle.fb_lib.proofs.Ticks.{ticks-more, on_age-next, on_told-is, off_left-next, off_told-is}
+
+-- for how long the contactor hasn't followed, after one more cycle
+age-next : (q : Bool) (w : Watched) (ws : List Watched) → (if q then risen (ticks (map (λ v. v.cycle) ws)) w.cycle.ticked else 0) ≡ ticks (map (λ v. v.cycle) (if q then w ∷ ws else []))
+age-next true w ws = sym (ticks-more w.cycle (map (λ v. v.cycle) ws))
+age-next false w ws = refl
+
+-- a contactor that hasn't followed for so long now
+abbrev aged : ℕ → Bool → Bool → Bool → ℕ → Held
+aged n bad cmd fb age =
+    let now_bad = not (not cmd && fb) && (nat_lt n age || bad) in
+    held.Feedback (record { on = cmd && not now_bad; age = age; bad = now_bad })
+
+feedback-next : (n : ℕ) (e : List Cycle) (c : Cycle) → next_held n (held_of kind.Feedback n e) c ≡ held_of kind.Feedback n (c ∷ e)
+feedback-next n e c =
+    let w : Watched = record { cycle = c; output = feedback n e } in
+    ap (aged n (since (is_late n) (λ v. not (is_released v)) (watched n e)) (first c) (second c)) (age-next (disagrees w) w (run disagrees (watched n e)))
+
+next-is : (k : BlockKind) (n : ℕ) (e : List Cycle) (c : Cycle) → n < 65536 → next_held n (held_of k n e) c ≡ held_of k n (c ∷ e)
+next-is kind.Const0 n e c h = refl
+next-is kind.Const1 n e c h = refl
+next-is kind.And n e c h = refl
+next-is kind.Or n e c h = refl
+next-is kind.Latch n e c h = refl
+next-is kind.Estop n e c h = refl
+next-is kind.TwoHand n e c h = ap (λ (h : TwoHand). held.TwoHand h) (hands_of-next n e c)
+next-is kind.OnDelay n e c h = ap (λ (age : ℕ). held.OnDelay (record { age = age })) (on_age-next n c (run first e) (first c) h)
+next-is kind.OffDelay n e c h = ap (λ (left : ℕ). held.OffDelay (record { left = left })) (off_left-next n c (since_input e) (first c) (list_any first e) h)
+next-is kind.Feedback n e c h = feedback-next n e c
+
+told-is : (k : BlockKind) (n : ℕ) (e : List Cycle) (c : Cycle) → n < 65536 → told n (held_of k n (c ∷ e)) c ≡ value k n (c ∷ e)
+told-is kind.Const0 n e c h = refl
+told-is kind.Const1 n e c h = refl
+told-is kind.And n e c h = refl
+told-is kind.Or n e c h = refl
+told-is kind.Latch n e c h = refl
+told-is kind.Estop n e c h = refl
+told-is kind.TwoHand n e c h = is_on-hands_of n (c ∷ e)
+told-is kind.OnDelay n e c h = on_told-is n (ticks (run first (c ∷ e))) (first c)
+told-is kind.OffDelay n e c h = off_told-is n (ticks (since_input (c ∷ e))) (first c) (list_any first e)
+told-is kind.Feedback n e c h = refl
+
+pub follows_by : (old new : BlockView) (c : Cycle) → old.n < 65536 → new ≡ next_block old c → BlockFollows old c new
+follows_by old new c fits is = record {
+  stands = λ k n e s. record {
+    is =
+        let m : old.n ≡ n = ap (λ (v : BlockView). v.n) s.is in
+        is ∙ ap (λ (v : BlockView). next_block v c) s.is
+        ∙ ap (λ (h : Held). let v : BlockView = record { kind = k; n = n; held = h } in v) (next-is k n e c (omega arith));
+  };
+}
+
+pub gives_by : (old new : BlockView) (c : Cycle) (given : Bool) → old.n < 65536 → new ≡ next_block old c → given ≡ told new.n new.held c → BlockGives old c given
+gives_by old new c given fits is h = record {
+  gives = λ k n e s.
+      let m : old.n ≡ n = ap (λ (v : BlockView). v.n) s.is in
+      h ∙ ap (λ (v : BlockView). told v.n v.held c) (((follows_by old new c fits is).stands k n e s).is) ∙ told-is k n e c (omega arith);
+}

@@ -1,0 +1,77 @@
+//! A function block.
+ghost use Rattle.std.specs.Prelude.{◌≡◌, ◌<◌, IsTrue, [], length};
+ghost use Rattle.fb_lib.specs.Value.{takes};
+ghost use Rattle.fb_lib.specs.Standing.{BlockStands, BlockFollows, BlockGives};
+ghost use Rattle.fb_lib.specs.Steps.{next_block, told};
+
+use crate::held::Held;
+use crate::kind::BlockKind;
+use std::marker::Model;
+
+/// A function block: its kind, its number `n`, and what it keeps of the cycles up to now. It takes no memory.
+#[derive(Debug, Drop)]
+pub struct Block {
+    n: u16,
+    held: Held,
+}
+
+impl Model for Block {
+    ghost use Rattle.fb_lib.specs.Steps.{BlockView, kind_of};
+
+    ghost Value = { BlockView };
+
+    ghost view = { λ b. record { kind = kind_of b.held; n = b.n; held = b.held } };
+}
+
+impl Block {
+    /// A block before its first cycle. `n` is a number of ticked cycles, of which the kinds with a time make use.
+    pub fn new(kind: BlockKind, n: u16) -> Block
+        ensures { BlockStands kind n result [] }
+    {
+        Block {
+            n,
+            held: Held::new(kind),
+        }
+    }
+
+    /// What the block does with its inputs.
+    pub fn kind(&self) -> BlockKind
+        ensures { result ≡ self.now.kind }
+    {
+        self.held.kind()
+    }
+
+    /// Whether a block of this kind may have `n` inputs.
+    pub fn takes(&self, n: usize) -> bool
+        ensures { result ≡ takes self.now.kind n }
+    {
+        match self.kind() {
+            BlockKind::Const0 | BlockKind::Const1 => n == 0,
+            BlockKind::And | BlockKind::Or => 1 <= n && n <= 8,
+            BlockKind::Latch | BlockKind::Estop | BlockKind::TwoHand | BlockKind::Feedback => n
+                == 2,
+            BlockKind::OnDelay | BlockKind::OffDelay => n == 1,
+        }
+    }
+
+    /// Takes the next cycle, with as many inputs as a block of this kind may have, and gives the block's output in it.
+    #[tactic(auto, using(crate::proofs::Looking::follows_by, crate::proofs::Looking::gives_by))]
+    pub fn step(&mut self, ticked: bool, ins: &[bool]) -> bool
+        requires { IsTrue (takes self.old.kind (length ins.now)) }
+        ensures gives { BlockGives self.old (record { ticked = ticked; ins = ins.now }) result }
+        ensures follows { BlockFollows self.old (record { ticked = ticked; ins = ins.now }) self.new }
+        ensures kind { self.new.kind ≡ self.old.kind }
+    {
+        self.go(ticked, ins)
+    }
+
+    // What the block's held values come to.
+    fn go(&mut self, ticked: bool, ins: &[bool]) -> bool
+        requires { IsTrue (takes self.old.kind (length ins.now)) }
+        ensures next { self.new ≡ next_block self.old (record { ticked = ticked; ins = ins.now }) }
+        ensures fits { self.old.n < 65536 }
+        ensures told { result ≡ told self.new.n self.new.held (record { ticked = ticked; ins = ins.now }) }
+    {
+        self.held.step(self.n, ticked, ins)
+    }
+}
