@@ -1,4 +1,6 @@
 pub mod Ticks
 pub mod Hands
 pub mod Looking
+pub mod Calls
+pub mod Guarding
 pub mod WorkedRows

@@ -17,8 +17,12 @@ is_guarded kind.OnDelay gs = get_or gs 0 false
 is_guarded kind.OffDelay gs = false
 is_guarded kind.Feedback gs = get_or gs 0 false
 
--- each guarded input is false, and there are as many inputs as are listed
+-- these inputs are false wherever they are guarded, as listed: there are as many as are listed
 abbrev pub AreOff : List Bool → List Bool → Type 0
 AreOff [] [] = Unit {0}
 AreOff (g ∷ gs) (b ∷ bs) = (g ≡ true → b ≡ false) × AreOff gs bs
 AreOff _ _ = ⊥
+
+-- what a block of this kind gives is false if it is guarded and its guarded inputs are false, whichever are guarded
+pub record IsOffIfGuarded (k : BlockKind) (ins : List Bool) (given : Bool) : Type 0 where
+  pub off : (gs : List Bool) → AreOff gs ins → is_guarded k gs ≡ true → given ≡ false

@@ -1,4 +1,5 @@
 pub mod Cycle
+pub mod Kind
 pub mod LookBack
 pub mod Value
 pub mod Steps

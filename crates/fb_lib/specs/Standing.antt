@@ -1,6 +1,6 @@
 -- A block stands for the cycles that it was stepped with, newest first: it doesn't keep them, and gives what looking back over
 -- them says.
-use Rattle.std.specs.Prelude.{◌≡◌, ℕ, ◌-◌, min, not, Bool, List, ◌∷◌, map, if◌then◌else◌}
+use Rattle.std.specs.Prelude.{◌≡◌, ℕ, ◌-◌, min, not, Bool, List, [], ◌∷◌, map, if◌then◌else◌}
 use Rattle.std.specs.List.{list_any}
 use Rattle.fb_lib.specs.declared.held.Held.{Held}
 use Rattle.fb_lib.specs.declared.held.Held.TheVariants as held
@@ -53,3 +53,9 @@ pub record BlockFollows (old : BlockView) (c : Cycle) (new : BlockView) : Type 0
 -- what a block gives in a cycle is its value by looking back over the cycles for which it stood, and this one
 pub record BlockGives (old : BlockView) (c : Cycle) (given : Bool) : Type 0 where
   pub gives : (k : BlockKind) (n : ℕ) (e : List Cycle) → BlockStands k n old e → given ≡ value k n (c ∷ e)
+
+-- a block was stepped through these cycles, and gave these outputs, the newest first
+abbrev pub Stepped : BlockView → List Cycle → List Bool → BlockView → Type 0
+Stepped first [] [] last = first ≡ last
+Stepped first (c ∷ e) (given ∷ outputs) last = (v : BlockView) × Stepped first e outputs v × BlockGives v c given × BlockFollows v c last
+Stepped first _ _ last = ⊥

@@ -7,19 +7,6 @@ use Rattle.fb_lib.specs.declared.kind.BlockKind.TheVariants as kind
 use Rattle.fb_lib.specs.Cycle.{Cycle, first, second}
 use Rattle.fb_lib.specs.LookBack.{is_now, run, before_run, since}
 
--- how many inputs a block of this kind may have
-abbrev pub takes : BlockKind → ℕ → Bool
-takes kind.Const0 n = n == 0
-takes kind.Const1 n = n == 0
-takes kind.And n = nat_le 1 n && nat_le n 8
-takes kind.Or n = nat_le 1 n && nat_le n 8
-takes kind.Latch n = n == 2
-takes kind.Estop n = n == 2
-takes kind.TwoHand n = n == 2
-takes kind.OnDelay n = n == 1
-takes kind.OffDelay n = n == 1
-takes kind.Feedback n = n == 2
-
 -- how many of these cycles are ticked; the count stops at 65,535
 abbrev pub ticks : List Cycle → ℕ
 ticks e = min (count_by (λ c. c.ticked) e) 65535

@@ -1,14 +1,15 @@
 //! A function block.
 ghost use Rattle.std.specs.Prelude.{◌≡◌, ◌<◌, IsTrue, [], length};
-ghost use Rattle.fb_lib.specs.Value.{takes};
+ghost use Rattle.fb_lib.specs.Kind.{takes};
 ghost use Rattle.fb_lib.specs.Standing.{BlockStands, BlockFollows, BlockGives};
+ghost use Rattle.fb_lib.specs.Guarded.{IsOffIfGuarded};
 ghost use Rattle.fb_lib.specs.Steps.{next_block, told};
 
 use crate::held::Held;
 use crate::kind::BlockKind;
 use std::marker::Model;
 
-/// A function block: its kind, its number `n`, and what it keeps of the cycles up to now. It takes no memory.
+/// A function block. It keeps no cycles, but the few values that its output depends on, and takes no memory.
 #[derive(Debug, Drop)]
 pub struct Block {
     n: u16,
@@ -24,7 +25,8 @@ impl Model for Block {
 }
 
 impl Block {
-    /// A block before its first cycle. `n` is a number of ticked cycles, of which the kinds with a time make use.
+    /// A block before its first cycle. `n` is the number of ticked cycles of the kinds that have one; the others don't
+    /// use it.
     pub fn new(kind: BlockKind, n: u16) -> Block
         ensures { BlockStands kind n result [] }
     {
@@ -47,28 +49,32 @@ impl Block {
     {
         match self.kind() {
             BlockKind::Const0 | BlockKind::Const1 => n == 0,
-            BlockKind::And | BlockKind::Or => 1 <= n && n <= 8,
-            BlockKind::Latch | BlockKind::Estop | BlockKind::TwoHand | BlockKind::Feedback => n
-                == 2,
+            BlockKind::And | BlockKind::Or => (1..=8).contains(&n),
+            BlockKind::Latch | BlockKind::Estop => n == 2,
+            BlockKind::TwoHand | BlockKind::Feedback => n == 2,
             BlockKind::OnDelay | BlockKind::OffDelay => n == 1,
         }
     }
 
-    /// Takes the next cycle, with as many inputs as a block of this kind may have, and gives the block's output in it.
+    /// Takes the next cycle, with as many inputs as a block of this kind may have, and gives the block's output in it. `ticked` says
+    /// whether the cycle counts as one unit of time.
     #[tactic(auto, using(crate::proofs::Looking::follows_by, crate::proofs::Looking::gives_by))]
     pub fn step(&mut self, ticked: bool, ins: &[bool]) -> bool
         requires { IsTrue (takes self.old.kind (length ins.now)) }
         ensures gives { BlockGives self.old (record { ticked = ticked; ins = ins.now }) result }
         ensures follows { BlockFollows self.old (record { ticked = ticked; ins = ins.now }) self.new }
         ensures kind { self.new.kind ≡ self.old.kind }
+        ensures guarded { IsOffIfGuarded self.old.kind ins.now result }
     {
-        self.go(ticked, ins)
+        self.advance(ticked, ins)
     }
 
-    // What the block's held values come to.
-    fn go(&mut self, ticked: bool, ins: &[bool]) -> bool
+    // The step of what the block keeps, from which looking back follows.
+    #[tactic(auto, using(crate::proofs::Guarding::told_off))]
+    fn advance(&mut self, ticked: bool, ins: &[bool]) -> bool
         requires { IsTrue (takes self.old.kind (length ins.now)) }
         ensures next { self.new ≡ next_block self.old (record { ticked = ticked; ins = ins.now }) }
+        ensures guarded { IsOffIfGuarded self.old.kind ins.now result }
         ensures fits { self.old.n < 65536 }
         ensures told { result ≡ told self.new.n self.new.held (record { ticked = ticked; ins = ins.now }) }
     {

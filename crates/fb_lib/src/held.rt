@@ -2,7 +2,7 @@
 ghost use Rattle.std.specs.Prelude.{◌≡◌, IsTrue, length};
 ghost use Rattle.std.specs.List.{list_all, list_any};
 ghost use Rattle.fb_lib.specs.declared.held.Held.TheVariants as held;
-ghost use Rattle.fb_lib.specs.Value.{takes};
+ghost use Rattle.fb_lib.specs.Kind.{takes};
 ghost use Rattle.fb_lib.specs.Steps.{kind_of, new_held, next_held, told};
 
 use crate::delays::{OffDelay, OnDelay};

@@ -1,27 +1,28 @@
 //! The kinds of blocks.
 
-/// What a block does with its inputs.
+/// What a block does with its inputs, which stand here in their order. `n` is the block's number.
 #[derive(Clone, Copy, Debug, PartialEq, Eq)]
 pub enum BlockKind {
-    /// False; no inputs.
+    /// No inputs. False.
     Const0,
-    /// True; no inputs.
+    /// No inputs. True.
     Const1,
-    /// Whether all of 1 to 8 inputs are true.
+    /// 1 to 8 inputs. True where all of them are.
     And,
-    /// Whether at least one of 1 to 8 inputs is true.
+    /// 1 to 8 inputs. True where at least one of them is.
     Or,
-    /// Inputs set and enable: set is kept while enable is true.
+    /// Inputs `set` and `enable`. True from a cycle with `set` on, while `enable` is true.
     Latch,
-    /// Inputs input and ack: on from a rise of ack on, while input is true.
+    /// Inputs `input` and `ack`. True from a rise of `ack` on, while `input` is true.
     Estop,
-    /// Inputs a and b, the buttons of a two-hand control: both pressed within `n` ticked cycles, and held.
+    /// Inputs `a` and `b`, the buttons of a two-hand control. True while both are pressed, where neither was before, and then
+    /// exactly one was for at most `n` ticked cycles.
     TwoHand,
-    /// Input x: x has been true for at least `n` ticked cycles.
+    /// Input `x`. True where `x` has been true for at least `n` ticked cycles.
     OnDelay,
-    /// Input x: x is true, or was before fewer than `n` ticked cycles.
+    /// Input `x`. True where `x` is, and until the `n`-th ticked cycle after.
     OffDelay,
-    /// Inputs cmd and fb, which is true while the contactor is released: cmd, unless the contactor didn't follow the output
-    /// within `n` ticked cycles.
+    /// Inputs `cmd` and `fb`, the feedback of a contactor, true while it is released. True where `cmd` is, unless the contactor
+    /// didn't follow the output for more than `n` ticked cycles and hasn't been released without `cmd` since.
     Feedback,
 }

@@ -1,4 +1,11 @@
-//! What holds of the definitions. The calls do nothing: each law is a contract.
+//! What holds of all blocks. The calls do nothing: each law is a contract.
+ghost use Rattle.std.specs.Prelude.{◌≡◌, ℕ, true, false, Bool, List, [], ◌∷◌};
+ghost use Rattle.fb_lib.specs.declared.kind.BlockKind.{BlockKind};
+ghost use Rattle.fb_lib.specs.Cycle.{Cycle};
+ghost use Rattle.fb_lib.specs.Value.{value, values};
+ghost use Rattle.fb_lib.specs.Steps.{BlockView};
+ghost use Rattle.fb_lib.specs.Standing.{BlockStands, Stepped};
+ghost use Rattle.fb_lib.specs.Guarded.{is_guarded, AreOff};
 ghost use Rattle.fb_lib.specs.Rows.{EstopRow, OnDelayRow, OffDelayRow, TwoHandRow, FeedbackRow};
 
 /// Worked rows of single blocks: the inputs cycle by cycle, and the values.
@@ -9,4 +16,17 @@ pub fn worked_rows()
     ensures off_delay { OffDelayRow }
     ensures two_hand { TwoHandRow }
     ensures feedback { FeedbackRow }
+{}
+
+/// A new block that is stepped through any cycles gives in each its value by looking back, and stands for them all.
+#[tactic(auto, using(crate::proofs::Calls::outputs_are, crate::proofs::Calls::stands))]
+pub fn calls()
+    ensures given { (k : BlockKind) (n : ℕ) (first last : BlockView) (e : List Cycle) (outputs : List Bool) → BlockStands k n first [] → Stepped first e outputs last → outputs ≡ values k n e }
+    ensures stands { (k : BlockKind) (n : ℕ) (first last : BlockView) (e : List Cycle) (outputs : List Bool) → BlockStands k n first [] → Stepped first e outputs last → BlockStands k n last e }
+{}
+
+/// A guarded block is false in each cycle in which its guarded inputs are false, whatever came before.
+#[tactic(auto, using(crate::proofs::Guarding::value_off))]
+pub fn guards()
+    ensures { (k : BlockKind) (n : ℕ) (gs : List Bool) (c : Cycle) (e : List Cycle) → AreOff gs c.ins → is_guarded k gs ≡ true → value k n (c ∷ e) ≡ false }
 {}

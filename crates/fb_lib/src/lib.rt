@@ -13,3 +13,6 @@ mod two_hand;
 
 pub use block::Block;
 pub use kind::BlockKind;
+
+#[cfg(test)]
+mod tests;

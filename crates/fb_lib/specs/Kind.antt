@@ -1,0 +1,17 @@
+-- The kinds of blocks.
+use Rattle.std.specs.Prelude.{ℕ, ◌==◌, nat_le, Bool, ◌&&◌}
+use Rattle.fb_lib.specs.declared.kind.BlockKind.{BlockKind}
+use Rattle.fb_lib.specs.declared.kind.BlockKind.TheVariants as kind
+
+-- whether a block of this kind may have so many inputs
+abbrev pub takes : BlockKind → ℕ → Bool
+takes kind.Const0 n = n == 0
+takes kind.Const1 n = n == 0
+takes kind.And n = nat_le 1 n && nat_le n 8
+takes kind.Or n = nat_le 1 n && nat_le n 8
+takes kind.Latch n = n == 2
+takes kind.Estop n = n == 2
+takes kind.TwoHand n = n == 2
+takes kind.OnDelay n = n == 1
+takes kind.OffDelay n = n == 1
+takes kind.Feedback n = n == 2
