@@ -1,10 +1,10 @@
 -- A block that is stepped through a list of cycles.
-use Rattle.std.proofs.Common.{◌≡◌, ℕ, Bool, List, [], ◌∷◌, refl, sym, ap, ap₂, ◌∙◌}
+use Rattle.std.proofs.Common.{◌≡◌, ℕ, Bool, List, [], ◌∷◌, refl, sym, ap₂, ◌∙◌}
 use Rattle.fb_lib.specs.declared.kind.BlockKind.{BlockKind}
 use Rattle.fb_lib.specs.Cycle.{Cycle}
-use Rattle.fb_lib.specs.Value.{value, values}
+use Rattle.fb_lib.specs.Value.{values}
 use Rattle.fb_lib.specs.Steps.{BlockView}
-use Rattle.fb_lib.specs.Standing.{block_of, BlockStands, Stepped}
+use Rattle.fb_lib.specs.Standing.{BlockStands, Stepped}
 
 pub stands : (k : BlockKind) (n : ℕ) (first last : BlockView) (e : List Cycle) (outputs : List Bool) → BlockStands k n first [] → Stepped first e outputs last → BlockStands k n last e
 stands k n first last [] [] new done = record { is = sym done ∙ new.is }

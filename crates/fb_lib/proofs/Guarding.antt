@@ -1,5 +1,5 @@
 -- A guarded block is false where its guarded inputs are.
-use Rattle.std.proofs.Common.{◌≡◌, ℕ, zero, suc, get_or, map, not, ◌&&◌, ◌||◌, Bool, true, false, List, [], ◌∷◌, refl, sym, ap, ◌∙◌}
+use Rattle.std.proofs.Common.{◌≡◌, ℕ, zero, suc, get_or, ◌&&◌, ◌||◌, Bool, true, false, List, [], ◌∷◌, refl, ap, ◌∙◌}
 use Rattle.std.specs.List.{list_all, list_any}
 use Rattle.fb_lib.specs.declared.held.Held.{Held}
 use Rattle.fb_lib.specs.declared.held.Held.TheVariants as held
@@ -8,7 +8,6 @@ use Rattle.fb_lib.specs.declared.kind.BlockKind.TheVariants as kind
 use Rattle.fb_lib.specs.declared.two_hand.TwoHand.{TwoHand}
 use Rattle.fb_lib.specs.declared.two_hand.TwoHand.TheVariants as hands
 use Rattle.fb_lib.specs.Cycle.{Cycle, first, second}
-use Rattle.fb_lib.specs.LookBack.{before_run, since}
 use Rattle.fb_lib.specs.Value.{value}
 use Rattle.fb_lib.specs.Guarded.{is_guarded, AreOff, IsOffIfGuarded}
 use Rattle.fb_lib.specs.Steps.{kind_of, next_hands, is_on, next_held, told}

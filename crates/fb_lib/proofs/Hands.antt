@@ -29,6 +29,7 @@ after-both n gap t false true false = refl
 after-both n gap t false false true = refl
 after-both n gap t false false false = refl
 
+-- both are pressed, in time or too late
 in-time : (q : Bool) → (if q then hands.On else hands.Spent) ≡ hands_by (q && true) false 0
 in-time true = refl
 in-time false = refl
@@ -48,6 +49,7 @@ after-others n gap t false true false = refl
 after-others n gap t false false true = refl
 after-others n gap t false false false = refl
 
+-- the next ones from any: a block isn't ready while both are pressed, and is ready before the run of both where it is now, in time
 next-by : (n gap : ℕ) (t a b now_both ready before : Bool) → (now_both ≡ true → ready ≡ false) → (now_both ≡ false → before ≡ (nat_le gap n && ready))
     → next_hands n (hands_by (now_both && before) ready gap) t a b ≡ after before ready t gap a b
 next-by n gap t a b true true before spent seen = let e : true ≡ false = spent refl in cc
@@ -65,6 +67,7 @@ spent : (e : List Cycle) → is_now both e ≡ true → is_now neither (before_r
 spent [] h = refl
 spent (d ∷ e) h = spent-at (first d) (second d) (before_run exactly_one e) (d ∷ e) h refl
 
+-- where they aren't both pressed, no run of both stands first
 stands-first : (q : Bool) (x y : List Cycle) → q ≡ false → (if q then x else y) ≡ y
 stands-first true x y h = cc
 stands-first false x y h = refl
@@ -73,6 +76,7 @@ seen : (e : List Cycle) → is_now both e ≡ false → before_run both e ≡ e
 seen [] h = refl
 seen (d ∷ e) h = stands-first (both d) (before_run both e) (d ∷ e) h
 
+-- the three things that looking back finds, after one more cycle
 pressed : (n : ℕ) (q : Bool) (x y : List Cycle) → (q && is_ready n (if q then x else y)) ≡ (q && is_ready n x)
 pressed n true x y = refl
 pressed n false x y = refl
@@ -90,7 +94,6 @@ pub hands_of-next : (n : ℕ) (e : List Cycle) (c : Cycle) → next_hands n (han
 hands_of-next n e c =
     let ready : Bool = is_now neither (before_run exactly_one e) in
     let gap : ℕ = ticks (run exactly_one e) in
-    let now_on : Bool = two_hand n (c ∷ e) in
     let now_ready : Bool = is_now neither (before_run exactly_one (c ∷ e)) in
     let a : Bool = first c in
     let b : Bool = second c in

@@ -30,6 +30,7 @@ feedback-next n e c =
     let w : Watched = record { cycle = c; output = feedback n e } in
     ap (aged n (since (is_late n) (λ v. not (is_released v)) (watched n e)) (first c) (second c)) (age-next (disagrees w) w (run disagrees (watched n e)))
 
+-- what a block keeps goes on as looking back says
 next-is : (k : BlockKind) (n : ℕ) (e : List Cycle) (c : Cycle) → n < 65536 → next_held n (held_of k n e) c ≡ held_of k n (c ∷ e)
 next-is kind.Const0 n e c h = refl
 next-is kind.Const1 n e c h = refl
@@ -42,6 +43,7 @@ next-is kind.OnDelay n e c h = ap (λ (age : ℕ). held.OnDelay (record { age = 
 next-is kind.OffDelay n e c h = ap (λ (left : ℕ). held.OffDelay (record { left = left })) (off_left-next n c (since_input e) (first c) (list_any first e) h)
 next-is kind.Feedback n e c h = feedback-next n e c
 
+-- what it gives is the value
 told-is : (k : BlockKind) (n : ℕ) (e : List Cycle) (c : Cycle) → n < 65536 → told n (held_of k n (c ∷ e)) c ≡ value k n (c ∷ e)
 told-is kind.Const0 n e c h = refl
 told-is kind.Const1 n e c h = refl

@@ -1,5 +1,5 @@
 -- Counts of ticked cycles, and the delays that keep them.
-use Rattle.std.proofs.Common.{◌≡◌, ℕ, ◌+◌, ◌-◌, ◌<◌, ◌≤◌, min, nat_lt, nat_le, cond, if◌then◌else◌, not, ◌&&◌, ◌||◌, Bool, true, false, List, [], ◌∷◌, count_by, refl, sym, ap, ◌∙◌, arith}
+use Rattle.std.proofs.Common.{◌≡◌, ℕ, ◌+◌, ◌-◌, ◌<◌, min, nat_lt, nat_le, cond, if◌then◌else◌, not, ◌&&◌, ◌||◌, Bool, true, false, List, [], ◌∷◌, count_by, refl, sym, ap, ◌∙◌, arith}
 use Rattle.std.proofs.lemmas.Bool.Decides.{nat_tests}
 use Rattle.std.proofs.lemmas.List.Sums.{sum_by-cons}
 use Rattle.fb_lib.specs.Cycle.{Cycle}
@@ -14,9 +14,7 @@ counted k false = omega arith
 pub ticks-more : (c : Cycle) (e : List Cycle) → ticks (c ∷ e) ≡ risen (ticks e) c.ticked
 ticks-more c e = ap (λ k. min k 65535) (sum_by-cons (λ (d : Cycle). cond d.ticked 1 0) c e) ∙ counted (count_by (λ (d : Cycle). d.ticked) e) c.ticked
 
-most : (e : List Cycle) → ticks e ≤ 65535
-most e = omega arith
-
+-- at an on-delay whose input is true
 aged : (n k : ℕ) (t : Bool) → n < 65536 → on_age n (min n k) t true ≡ min n (risen k t)
 aged n k true h = grind (arith, nat_tests)
 aged n k false h = refl
@@ -26,10 +24,12 @@ pub on_age-next : (n : ℕ) (c : Cycle) (e : List Cycle) (x : Bool) → n < 6553
 on_age-next n c e true h = aged n (ticks e) c.ticked h ∙ ap (min n) (sym (ticks-more c e))
 on_age-next n c e false h = omega arith
 
+-- at an off-delay whose input is false, and was true
 less : (n k : ℕ) (t : Bool) → n < 65536 → off_left n (n - k) t false ≡ n - risen k t
 less n k true h = grind (arith, nat_tests)
 less n k false h = refl
 
+-- and where it wasn't
 none : (t : Bool) → let n : ℕ = if t && false then 0 else 0 in n ≡ 0
 none true = refl
 none false = refl
@@ -41,6 +41,7 @@ off_left-next n c e true any h = omega arith
 off_left-next n c e false true h = less n (ticks e) c.ticked h ∙ ap (λ k. n - k) (sym (ticks-more c e))
 off_left-next n c e false false h = none c.ticked
 
+-- what the delays give, by what they count
 pub off_told-is : (n k : ℕ) (x any : Bool) → off_told (if x || any then n - k else 0) x ≡ (x || ((x || any) && nat_lt k n))
 off_told-is n k true any = refl
 off_told-is n k false true = grind (arith, nat_tests)

@@ -4,7 +4,7 @@ use Rattle.std.specs.List.{list_all, list_any}
 use Rattle.fb_lib.specs.declared.kind.BlockKind.{BlockKind}
 use Rattle.fb_lib.specs.declared.kind.BlockKind.TheVariants as kind
 
--- a block of this kind is guarded, where each of its inputs is guarded or isn't, as listed
+-- whether a block of this kind is false whenever its guarded inputs are; the list says of each input whether it is guarded
 abbrev pub is_guarded : BlockKind → List Bool → Bool
 is_guarded kind.Const0 gs = true
 is_guarded kind.Const1 gs = false
@@ -17,7 +17,7 @@ is_guarded kind.OnDelay gs = get_or gs 0 false
 is_guarded kind.OffDelay gs = false
 is_guarded kind.Feedback gs = get_or gs 0 false
 
--- these inputs are false wherever they are guarded, as listed: there are as many as are listed
+-- each input is false where the list says that it is guarded, and there are as many as the list has
 abbrev pub AreOff : List Bool → List Bool → Type 0
 AreOff [] [] = Unit {0}
 AreOff (g ∷ gs) (b ∷ bs) = (g ≡ true → b ≡ false) × AreOff gs bs

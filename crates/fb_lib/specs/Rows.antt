@@ -26,20 +26,25 @@ abbrev pub cycles : List ℕ → List Cycle
 cycles text = let r = fold with_char (record { cycle = idle; before = [] }) text in r.cycle ∷ r.before
 
 -- the values of a block over the cycles that a text lists, as text, the oldest first
-abbrev pub told : BlockKind → ℕ → List ℕ → List ℕ
-told k n text = map (λ b. if b then 49 else 48) (reverse (values k n (cycles text)))
+abbrev pub given : BlockKind → ℕ → List ℕ → List ℕ
+given k n text = map (λ b. if b then 49 else 48) (reverse (values k n (cycles text)))
 
+-- a rise of ack switches on, its level doesn't
 unfoldable pub EstopRow : Type 0
-EstopRow = told kind.Estop 0 (codes "10 11 10 00 10 01 11 10 11") ≡ codes "011000001"
+EstopRow = given kind.Estop 0 (codes "10 11 10 00 10 01 11 10 11") ≡ codes "011000001"
 
+-- only ticked cycles count, and a false input begins anew
 unfoldable pub OnDelayRow : Type 0
-OnDelayRow = told kind.OnDelay 2 (codes "1T 1 1T 0 1T") ≡ codes "00100"
+OnDelayRow = given kind.OnDelay 2 (codes "1T 1 1T 0 1T") ≡ codes "00100"
 
+-- the second ticked cycle after the input ends it
 unfoldable pub OffDelayRow : Type 0
-OffDelayRow = told kind.OffDelay 2 (codes "1 0T 0 0T") ≡ codes "1110"
+OffDelayRow = given kind.OffDelay 2 (codes "1 0T 0 0T") ≡ codes "1110"
 
+-- one button may be pressed for one ticked cycle, and not for two; one that is let go ends it until both are
 unfoldable pub TwoHandRow : Type 0
-TwoHandRow = told kind.TwoHand 1 (codes "00 10T 11 10 11 00 10T 01T 11") ≡ codes "001000000"
+TwoHandRow = given kind.TwoHand 1 (codes "00 10T 11 10 11 00 10T 01T 11") ≡ codes "001000000"
 
+-- a contactor that doesn't follow for two ticked cycles is switched off, and may be on again once it is released without cmd
 unfoldable pub FeedbackRow : Type 0
-FeedbackRow = told kind.Feedback 1 (codes "11 11T 11T 01 11") ≡ codes "11001"
+FeedbackRow = given kind.Feedback 1 (codes "11 11T 11T 01 11") ≡ codes "11001"

@@ -17,12 +17,16 @@ use Rattle.fb_lib.specs.Cycle.{Cycle, first, second}
 abbrev pub risen : ℕ → Bool → ℕ
 risen count ticked = if ticked then min (count + 1) 65535 else count
 
+-- a latch goes on with set, and stays on, while enable is true
 abbrev pub next_latch : Latch → Bool → Bool → Latch
 next_latch l set enable = record { on = enable && (set || l.on) }
 
+-- an emergency stop goes on where ack rises, and stays on, while its input is true
 abbrev pub next_estop : Estop → Bool → Bool → Estop
 next_estop s input ack = record { on = input && ((ack && not s.ack) || s.on); ack = ack }
 
+-- a two-hand control is ready once both buttons are released, goes on where both are pressed in time, and is spent where they are
+-- late or one is let go
 abbrev pub next_hands : ℕ → TwoHand → Bool → Bool → Bool → TwoHand
 next_hands n h ticked false false = hands.Ready 0
 next_hands n (hands.Ready gap) ticked true true = if nat_le gap n then hands.On else hands.Spent
@@ -31,28 +35,36 @@ next_hands n hands.Spent ticked true true = hands.Spent
 next_hands n (hands.Ready gap) ticked _ _ = hands.Ready (risen gap ticked)
 next_hands n _ ticked _ _ = hands.Spent
 
+-- it gives whether it is on
 abbrev pub is_on : TwoHand → Bool
 is_on hands.On = true
 is_on _ = false
 
+-- an on-delay counts the ticked cycles with its input true, up to n
 abbrev pub on_age : ℕ → ℕ → Bool → Bool → ℕ
 on_age n age ticked x = if x then (if ticked && nat_lt age n then age + 1 else age) else 0
 
+-- it gives its input once it counted n
 abbrev pub on_told : ℕ → ℕ → Bool → Bool
 on_told n age x = x && nat_le n age
 
+-- an off-delay counts down from n, by the ticked cycles with its input false
 abbrev pub off_left : ℕ → ℕ → Bool → Bool → ℕ
 off_left n left ticked x = if x then n else (if ticked && nat_lt 0 left then left - 1 else left)
 
+-- it gives true until it counted down
 abbrev pub off_told : ℕ → Bool → Bool
 off_told left x = x || nat_lt 0 left
 
+-- a contactor that hasn't followed for more than n ticked cycles is bad until it is released without cmd, and is on with cmd unless
+-- it is bad
 abbrev pub next_feedback : ℕ → Feedback → Bool → Bool → Bool → Feedback
 next_feedback n f ticked cmd fb =
     let age = if beq fb f.on then risen f.age ticked else 0 in
     let bad = not (not cmd && fb) && (nat_lt n age || f.bad) in
     record { on = cmd && not bad; age = age; bad = bad }
 
+-- the kind of a block that keeps this
 abbrev pub kind_of : Held → BlockKind
 kind_of held.Const0 = kind.Const0
 kind_of held.Const1 = kind.Const1

@@ -1,5 +1,5 @@
 -- The value of a block, by looking back over its cycles, newest first.
-use Rattle.std.specs.Prelude.{ℕ, ◌==◌, min, nat_lt, nat_le, Bool, true, false, not, ◌&&◌, ◌||◌, List, [], ◌∷◌, map, count_by}
+use Rattle.std.specs.Prelude.{ℕ, min, nat_lt, nat_le, Bool, true, false, not, ◌&&◌, ◌||◌, List, [], ◌∷◌, map, count_by}
 use Rattle.std.specs.Bool.{beq}
 use Rattle.std.specs.List.{list_all, list_any}
 use Rattle.fb_lib.specs.declared.kind.BlockKind.{BlockKind}

@@ -21,12 +21,15 @@ pub fn worked_rows()
 /// A new block that is stepped through any cycles gives in each its value by looking back, and stands for them all.
 #[tactic(auto, using(crate::proofs::Calls::outputs_are, crate::proofs::Calls::stands))]
 pub fn calls()
-    ensures given { (k : BlockKind) (n : ℕ) (first last : BlockView) (e : List Cycle) (outputs : List Bool) → BlockStands k n first [] → Stepped first e outputs last → outputs ≡ values k n e }
-    ensures stands { (k : BlockKind) (n : ℕ) (first last : BlockView) (e : List Cycle) (outputs : List Bool) → BlockStands k n first [] → Stepped first e outputs last → BlockStands k n last e }
+    ensures given { (k : BlockKind) (n : ℕ) (first last : BlockView) (e : List Cycle) (outputs : List Bool)
+        → BlockStands k n first [] → Stepped first e outputs last → outputs ≡ values k n e }
+    ensures stands { (k : BlockKind) (n : ℕ) (first last : BlockView) (e : List Cycle) (outputs : List Bool)
+        → BlockStands k n first [] → Stepped first e outputs last → BlockStands k n last e }
 {}
 
 /// A guarded block is false in each cycle in which its guarded inputs are false, whatever came before.
 #[tactic(auto, using(crate::proofs::Guarding::value_off))]
 pub fn guards()
-    ensures { (k : BlockKind) (n : ℕ) (gs : List Bool) (c : Cycle) (e : List Cycle) → AreOff gs c.ins → is_guarded k gs ≡ true → value k n (c ∷ e) ≡ false }
+    ensures { (k : BlockKind) (n : ℕ) (gs : List Bool) (c : Cycle) (e : List Cycle)
+        → AreOff gs c.ins → is_guarded k gs ≡ true → value k n (c ∷ e) ≡ false }
 {}
