@@ -1,8 +1,8 @@
 -- The first pieces of a payload: how many bytes they are, and that they begin as the payload with zeros after it.
 use Rattle.std.proofs.Common.{◌≡◌, ℕ, zero, suc, ◌+◌, ◌-◌, ◌*◌, ◌/◌, ◌<◌, ◌≤◌, ◌==◌, List, [], ◌∷◌, ◌++◌, length, take, drop, replicate, true, ◌&&◌, refl, sym, ap, ap₂, ◌∙◌, arith, append_assoc}
-use Rattle.std.proofs.lemmas.List.{append-nil, length-append, length-replicate, length-take, get_or_append_left, take-append-le, drop-append-le, length-drop, drop_all, take-replicate, drop-replicate, replicate-append-replicate}
+use Rattle.std.proofs.lemmas.List.{append-nil, length-append, get_or_append_left, take-append-le, drop-append-le, length-drop, drop_all, drop-replicate, replicate-append-replicate}
 use Rattle.std.proofs.Math.Nat.{mul-le-mul_left}
-use Rattle.std.proofs.Math.Seq.{take-append-add, drop-append-add}
+use Rattle.std.proofs.Math.Seq.{drop-append-add}
 use Rattle.fsoe_base.specs.Bytes.{all_zero}
 use Rattle.param_load.specs.Payload.{number_at, padded}
 use Rattle.end_model.specs.Payloads.{piece, pieces, pieces_for}

@@ -13,7 +13,7 @@ use Rattle.fsoe_base.specs.Lengths.{is_length, frame_len}
 use Rattle.fsoe_frame.specs.Layout.{groups, with_crcs}
 use Rattle.fsoe_frame.specs.Parts.{Frame, frame_of}
 use Rattle.seq_chain.specs.declared.link.Link.{Link}
-use Rattle.seq_chain.specs.Cover.{first_of, crcs_from}
+use Rattle.seq_chain.specs.Cover.{first_of}
 use Rattle.seq_chain.specs.Sealing as sealing
 use Rattle.param_load.specs.declared.entry.Move.TheVariants as move
 use Rattle.end_model.specs.Setup.{Setup, sends, receives}

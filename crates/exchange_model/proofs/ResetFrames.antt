@@ -6,10 +6,9 @@ use Rattle.std.specs.Cmp.Lexicographic.{bytes_decides}
 use Rattle.fsoe_base.specs.declared.command.Code.{Code}
 use Rattle.fsoe_base.specs.Bytes.{all_zero, low_high}
 use Rattle.fsoe_base.specs.Command.{code, command_of}
-use Rattle.fsoe_base.specs.Lengths.{is_length, frame_len, group_count}
+use Rattle.fsoe_base.specs.Lengths.{is_length, frame_len}
 use Rattle.fsoe_frame.specs.Layout.{groups, with_crcs}
 use Rattle.fsoe_frame.specs.Parts.{Frame, frame_of, bytes_of}
-use Rattle.fsoe_frame.proofs.Places.{frame_layout}
 use Rattle.seq_chain.specs.Reset.{reset_load, reset_crcs, reset_frame, reset_view}
 use Rattle.end_model.specs.Setup.{Setup, receives}
 use Rattle.end_model.specs.Deed.{Deed}

@@ -1,5 +1,5 @@
 -- A slave takes the master's frame that is on its way, and answers it.
-use Rattle.std.proofs.Common.{◌≡◌, ℕ, zero, suc, ◌+◌, ◌*◌, ◌<◌, ◌≤◌, nat_le, List, ◌++◌, length, take, drop, Bool, true, false, not, Some, None, if◌then◌else◌, refl, sym, ap, ap₂, subst, ◌∙◌, arith}
+use Rattle.std.proofs.Common.{◌≡◌, ℕ, zero, suc, ◌+◌, ◌*◌, ◌<◌, ◌≤◌, nat_le, List, ◌++◌, length, take, drop, true, false, not, Some, None, if◌then◌else◌, refl, sym, ap, ap₂, subst, ◌∙◌, arith}
 use Rattle.std.proofs.lemmas.Bool.{eq-eqb}
 use Rattle.std.proofs.lemmas.Bool.Decides.{nat_tests}
 use Rattle.fsoe_base.specs.declared.command.State.{State}
@@ -19,7 +19,7 @@ use Rattle.param_load.specs.Profile.{id_len}
 use Rattle.end_model.specs.Setup.{OfMaster}
 use Rattle.end_model.specs.Deed.{Deed}
 use Rattle.end_model.specs.Chain.{since, taken}
-use Rattle.end_model.specs.Payloads.{piece, pieces_for, joined, first_conn, has_all, whole}
+use Rattle.end_model.specs.Payloads.{piece, pieces_for, joined, first_conn, whole}
 use Rattle.end_model.specs.Readiness.{slave_allows}
 use Rattle.end_model.specs.Verdict.{is_slave_conn, has_conn, contents}
 use Rattle.end_model.proofs.WholeUploads.{by_count}

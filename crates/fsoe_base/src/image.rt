@@ -1,6 +1,6 @@
 //! The safe data of one direction.
 ghost use Rattle.std.specs.Prelude.{◌≡◌, ◌≤◌, ◌<◌, ◌*◌, ◌==◌, ◌^◌, ◌%◌, ◌+◌, [], ◌∷◌, ◌++◌, length, replicate};
-ghost use Rattle.fsoe_base.specs.Image.{bit_of, byte_with, with_bit};
+ghost use Rattle.fsoe_base.specs.Image.{bit_of, with_bit};
 
 use arrayvec::ArrayVec;
 use std::marker::Model;

@@ -1,5 +1,5 @@
 //! How many safe data bytes each end of a connection sends.
-ghost use Rattle.std.specs.Prelude.{◌≡◌, IsTrue, min, ◌&&◌, IsOkAnd, IsErrOf, ◌↔◌, false, IfOk, IsOk};
+ghost use Rattle.std.specs.Prelude.{◌≡◌, IsTrue, min, ◌&&◌, ◌↔◌, IfOk, IsOk};
 ghost use Rattle.fsoe_base.specs.Lengths.{is_length, frame_len};
 
 use crate::command::End;

@@ -1,5 +1,5 @@
 //! The files of the system as a desk: the trusted edge.
-ghost use Rattle.std.specs.Prelude.{◌≡◌, ◌≢◌, ◌≤◌, ◌<◌, None, [], List, ℕ, length, IfOk, IfSome};
+ghost use Rattle.std.specs.Prelude.{◌≡◌, ◌≤◌, ◌<◌, None, [], length, IfOk, IfSome};
 ghost use Rattle.fsoe_io.specs.Desk.{failed_loads};
 ghost use Rattle.fsoe_io.specs.Faults.{Rose};
 

@@ -1,5 +1,5 @@
 //! Lines from a source.
-ghost use Rattle.std.specs.Prelude.{◌≡◌, ℕ, ◌+◌, ◌-◌, ◌^◌, ◌≤◌, ◌<◌, false, List, [], length, take, drop, IsTrue};
+ghost use Rattle.std.specs.Prelude.{◌≡◌, ◌+◌, ◌-◌, ◌^◌, ◌≤◌, ◌<◌, false, [], length, take, drop, IsTrue};
 ghost use Rattle.std.specs.Io.KnownBytes.{prepend_known};
 ghost use Rattle.fsoe_io.specs.Faults.{HasCause};
 ghost use Rattle.fsoe_io.specs.Line.{IsLine};

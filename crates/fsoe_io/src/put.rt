@@ -1,5 +1,5 @@
 //! Writing all of some bytes.
-ghost use Rattle.std.specs.Prelude.{◌≤◌, ◌<◌, length, take, MatchResult, IfErr};
+ghost use Rattle.std.specs.Prelude.{◌<◌, length, take, MatchResult, IfErr};
 ghost use Rattle.fsoe_io.specs.Faults.{HasCause};
 ghost use Rattle.fsoe_io.specs.Sink.{Grew};
 
