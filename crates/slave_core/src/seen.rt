@@ -2,8 +2,8 @@
 use seq_chain::SessionFrame;
 use std::marker::Model;
 
-/// A delivered frame of a session. The slave alone makes it, after the tests up to the CRCs; that its CRCs fit is
-/// a condition of each transition.
+/// A delivered frame of a session that passed the tests up to the CRCs. The slave alone makes it; that its CRCs fit the
+/// chain of the state is a condition of each transition.
 #[derive(Drop)]
 pub struct Seen<'a> {
     frame: SessionFrame<'a>,

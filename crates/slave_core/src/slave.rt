@@ -33,7 +33,7 @@ impl Model for Slave {
 }
 
 impl Slave {
-    ghost use Rattle.std.specs.Prelude.{IsTrue, [], length, option_copied};
+    ghost use Rattle.std.specs.Prelude.{IsTrue, false, [], length, option_copied};
     ghost use Rattle.seq_chain.specs.SessionFrame.{HasPassed};
     ghost use Rattle.param_load.specs.Profile.{allows_id};
     ghost use Rattle.slave_core.specs.Now.{allows, chain_of, outputs_in};
@@ -80,22 +80,19 @@ impl Slave {
         self.watchdog.restart(hand);
     }
 
-    /// A test of a frame failed with this code: in state Reset the frame is dropped.
+    /// A test of a frame up to the CRCs failed with this code: in state Reset the frame is dropped.
     #[cold]
     #[inline(never)]
-    fn refuse(&mut self, passed: bool, code: Code, out: &mut FrameBuf) -> Did
-        ensures slave { self.new ≡ (refuses self.old passed code).slave }
-        ensures did { result ≡ (refuses self.old passed code).did }
-        ensures sent { out.new ≡ (refuses self.old passed code).sent }
+    fn refuse(&mut self, code: Code, out: &mut FrameBuf) -> Did
+        ensures slave { self.new ≡ (refuses self.old false code).slave }
+        ensures did { result ≡ (refuses self.old false code).did }
+        ensures sent { out.new ≡ (refuses self.old false code).sent }
     {
         if self.state.is_reset() {
             out.clear();
-            return Did {
-                passed,
-                ..Did::dropped(Dropped::InReset)
-            };
+            return Did::dropped(Dropped::InReset);
         }
-        self.fall(passed, Cause::Found(code), code, out)
+        self.fall(false, Cause::Found(code), code, out)
     }
 
     /// A valid Reset frame came: in state Reset it is taken.
@@ -120,7 +117,7 @@ impl Slave {
     }
 
     /// Takes a frame that passed the tests, unless its contents are wrong, by a move of the state, whose cost no data
-    /// frame is to bear.
+    /// frame after the first is to bear.
     #[inline(never)]
     fn take_by_move(&mut self, seen: &Seen<'_>, out: &mut FrameBuf) -> Did
         requires allowed { IsTrue (allows self.old.state seen.now.command) }
@@ -172,7 +169,7 @@ impl Slave {
                 out.clear();
                 return Did::dropped(why);
             }
-            Opened::Refuse(code) => return self.refuse(false, code, out),
+            Opened::Refuse(code) => return self.refuse(code, out),
             Opened::ResetFrame(code, view) => return self.acknowledge(code, &view, out),
             Opened::OfSession(unread) => unread,
         };
@@ -181,15 +178,15 @@ impl Slave {
             load: Image::zeros(0),
         };
         unread.load_into(&mut took.load);
-        let seen = Seen::new(SessionFrame::new(unread, &took.load));
-        let link = match self.state.test(seen.frame()) {
-            Err(code) => return self.refuse(false, code, out),
+        let seen = SessionFrame::new(unread, &took.load);
+        let link = match self.state.test(&seen) {
+            Err(code) => return self.refuse(code, out),
             Ok(link) => link,
         };
         let Now::Data(state) = &mut self.state else {
-            return self.take_by_move(&seen, out);
+            return self.take_by_move(&Seen::new(seen), out);
         };
-        match state.go_on(seen.frame(), link, &self.kit, out) {
+        match state.go_on(&seen, link, &self.kit, out) {
             Err(code) => return self.fall(true, Cause::Found(code), code, out),
             Ok(()) => {
                 let limit = state.terms().watchdog;
