@@ -13,6 +13,6 @@ pub mod AfterEnd
 pub mod Sound
 pub mod HexAlone
 pub mod Fitting
+pub mod OneSetting
 pub mod DigitLanes
 pub mod DigitParts
-pub mod OneSetting

@@ -7,7 +7,7 @@ use Rattle.fsoe_base.specs.declared.command.End.TheVariants as side
 use Rattle.schedule_file.specs.declared.event.Event.{Event}
 use Rattle.schedule_file.specs.declared.event.Event.TheVariants as event
 
--- the letter that stands for an end in a word
+-- the letter that stands for an end in a word, and in a report of both ends
 abbrev pub end_letter : End → List ℕ
 end_letter side.Master = codes "m"
 end_letter side.Slave = codes "s"

@@ -119,7 +119,7 @@ stop_at kind h number events (Some (Ok text)) =
     else if events == 200000 then Refused number TooMany
     else stop_by number (said_after kind h text)
 
--- what an input says: its header where that is done, the lines of this (0 where it isn't), its events, and how it stops
+-- what an input says: its header where that is done, the number of its lines (0 where it isn't done), its events, and how it stops
 pub record Input : Type 0 where
   pub heading : Option Heading
   pub lines : ℕ

@@ -7,6 +7,7 @@ pub mod Header
 pub mod HeaderKind
 pub mod HeaderLine
 pub mod HeaderPart
+pub mod HexDigits
 pub mod Input
 pub mod LineCause
 pub mod LinesLeft
@@ -16,4 +17,3 @@ pub mod NodeEvent
 pub mod PairEvent
 pub mod Place
 pub mod WorkedInputs
-pub mod HexDigits

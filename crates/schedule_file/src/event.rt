@@ -1,3 +1,4 @@
+//! The events of a schedule, and what one of its lines says.
 use fsoe_base::{End, FrameBuf, Image};
 
 /// What happens to one end of a pair.

@@ -1,3 +1,4 @@
+//! Events written as lines.
 ghost use Rattle.std.specs.Prelude.{◌≡◌, ◌+◌, ◌*◌, ◌≤◌, ◌∷◌, ◌++◌, length, decimal};
 ghost use Rattle.hex.specs.Hex.{encode_lower};
 ghost use Rattle.schedule_file.specs.Event.{IsWritable};
@@ -7,8 +8,7 @@ use crate::event::Event;
 use crate::line_buf::LineBuf;
 use fsoe_base::End;
 
-/// The letter that stands for an end, `m` or `s`, in a word of a schedule and in a report of both ends. Each caller may ask for it at
-/// any time; nothing is refused.
+/// The letter that stands for an end, `m` or `s`, in a word of a schedule and in a report of both ends.
 pub fn end_letter(end: End) -> &'static [u8]
     ensures value { result.now ≡ end_letter end }
     ensures one { length result.now ≡ 1 }

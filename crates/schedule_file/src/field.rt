@@ -1,3 +1,4 @@
+//! The fields of a line, and what one field says.
 ghost use Rattle.std.specs.Prelude.{◌≡◌, ◌≤◌, ◌<◌, ◌∷◌, length, IfSome, IfOk, OnOk, OnErr};
 ghost use Rattle.schedule_file.specs.Fields.{next_field, no_field, one_field, one_hex_field, not_hex, IsField, AreFields, Becomes};
 ghost use Rattle.schedule_file.specs.Field.{FindsSpace, CountsBytes, fields_of, fields_after, number_of, bytes_of};
@@ -25,24 +26,35 @@ pub fn cut(text: &[u8]) -> (&[u8], Option<&[u8]>)
     }
 }
 
-/// The number that a field says, in digits with no sign and no leading zero, where it is at most `most`.
-pub fn number(text: &[u8], most: u32) -> Option<u32>
-    ensures { result ≡ number_of most text.now }
+/// The number that a text says, in digits with no sign and no leading zero, where it is at most `most`.
+pub fn read_number(text: &[u8], most: u64) -> Option<u64>
+    ensures value { result ≡ number_of most text.now }
+    ensures most { IfSome result (λ n. n ≤ most) }
 {
     if text.is_empty() || (text.len() > 1 && text[0] == b'0') {
         return None;
     }
-    let mut value = 0u64;
+    let mut value = 0u128;
     for digit in text {
         if !digit.is_ascii_digit() {
             return None;
         }
-        value = value * 10 + u64::from(*digit - b'0');
-        if value > u64::from(most) {
+        value = value * 10 + u128::from(*digit - b'0');
+        if value > u128::from(most) {
             return None;
         }
     }
-    Some(value as u32)
+    Some(value as u64)
+}
+
+/// The same of 32 bits.
+pub fn number(text: &[u8], most: u32) -> Option<u32>
+    ensures { result ≡ number_of most text.now }
+{
+    match read_number(text, u64::from(most)) {
+        Some(n) => Some(n as u32),
+        None => None,
+    }
 }
 
 /// How many bytes a field says in digits of either case, from one to `most`.

@@ -1,3 +1,4 @@
+//! The header of an input, line by line.
 ghost use Rattle.std.specs.Prelude.{◌≡◌, ◌<◌, IsTrue, IfOk, OnOk, OnErr};
 ghost use Rattle.schedule_file.specs.Fields.{Becomes};
 ghost use Rattle.schedule_file.specs.Header.{heading_new, heading_after, taken, profile_taken, title_taken, is_done, kind_of, master_place, slave_place, rule_place, IsMasterOf, IsSlaveOf};

@@ -1,3 +1,4 @@
+//! For which ends a header is.
 ghost use Rattle.std.specs.Prelude.{◌≡◌};
 
 use fsoe_base::End;

@@ -1,3 +1,4 @@
+//! What one header line says, by its fields.
 ghost use Rattle.std.specs.Prelude.{◌≡◌, ◌≤◌, ◌<◌, IsTrue, IfOk, length};
 ghost use Rattle.fsoe_base.specs.Lengths.{is_length};
 ghost use Rattle.schedule_file.specs.Field.{fields_after};

@@ -1,3 +1,4 @@
+//! What the lines of a header say of one end, as far as they are read.
 ghost use Rattle.std.specs.Prelude.{◌≡◌, ◌<◌, IsTrue};
 ghost use Rattle.param_load.specs.AppRule.{is_acceptable};
 ghost use Rattle.param_load.specs.Profile.{allows_id};

@@ -1,6 +1,6 @@
 //! Bytes from hexadecimal digits. Sixteen digits are taken at once, or eight where there are fewer than sixteen. The last ones
 //! are taken as well, though some of them were taken before, so that from eight digits on none is taken alone.
-ghost use Rattle.std.specs.Prelude.{◌≡◌, ℕ, ◌*◌, ◌+◌, ◌≤◌, ◌<◌, IsTrue, Some, Ok, length, take, slice_index};
+ghost use Rattle.std.specs.Prelude.{◌≡◌, ◌*◌, ◌+◌, ◌≤◌, ◌<◌, IsTrue, Some, Ok, length, take};
 ghost use Rattle.std.specs.List.{list_all};
 ghost use Rattle.hex.specs.Hex.{decode_of, hex_digit_value, is_hex_digit};
 ghost use Rattle.schedule_file.specs.HexDigits.{HasDigitsOf};
@@ -57,13 +57,14 @@ pub(crate) fn are_digits(text: &[u8]) -> bool
         return text.iter().all(|c| is_digit(*c));
     }
     if count < 16 {
+        // Both are tested, with no branch between them.
         return are_eight(&text[count - 8..]) & are_eight(text);
     }
-    let mut are = are_sixteen(&text[count - 16..]);
+    let mut all = are_sixteen(&text[count - 16..]);
     for i in 0..(count - 1) / 16 {
-        are &= are_sixteen(&text[16 * i..]);
+        all &= are_sixteen(&text[16 * i..]);
     }
-    are
+    all
 }
 
 /// The value of a digit.

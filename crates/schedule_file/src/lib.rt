@@ -24,6 +24,7 @@ mod tests;
 
 pub use event::{Event, ScheduleLine};
 pub use event_text::{end_letter, write_event};
+pub use field::read_number;
 pub use header::Header;
 pub use header_kind::HeaderKind;
 pub use line_buf::LineBuf;

@@ -1,3 +1,4 @@
+//! Why a line by itself is refused.
 ghost use Rattle.std.specs.Prelude.{◌≡◌};
 ghost use Rattle.schedule_file.specs.LineCause.{cause_name};
 

@@ -1,3 +1,4 @@
+//! Which header line may stand where.
 ghost use Rattle.std.specs.Prelude.{◌≡◌, IsTrue, IfOk};
 
 use crate::header_kind::HeaderKind;

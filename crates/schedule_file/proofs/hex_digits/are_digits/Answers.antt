@@ -10,8 +10,8 @@ pub loop-i-preserved : goal.loop-i-preserved
 loop-i-preserved c =
     let text : List ℕ = c.args.text.now in
     let at : ℕ = 16 * c.loop-i.i in
-    more_tested text at 16 (16 * (c.loop-i.i + 1)) (length text - at) _ c.loop-i.are c.are_sixteen-are-in-loop-i.result (omega arith) (omega arith)
-    c.loop-i.invariant c.are_sixteen-are-in-loop-i.ensures
+    more_tested text at 16 (16 * (c.loop-i.i + 1)) (length text - at) _ c.loop-i.all c.are_sixteen-all-in-loop-i.result (omega arith) (omega arith)
+    c.loop-i.invariant c.are_sixteen-all-in-loop-i.ensures
 
 pub returns : goal.returns
 returns c =

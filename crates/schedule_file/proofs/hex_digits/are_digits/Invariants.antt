@@ -6,4 +6,4 @@ use Rattle.schedule_file.proofs.hex_digits.are_digits.Given as goal
 
 -- whether the last sixteen and those so far are digits
 abbrev pub invariant-loop-i : goal.invariant-loop-i
-invariant-loop-i l = l.are ≡ (list_all is_hex_digit (take 16 (drop (l.count - 16) l.text)) && list_all is_hex_digit (take (16 * l.i) l.text))
+invariant-loop-i l = l.all ≡ (list_all is_hex_digit (take 16 (drop (l.count - 16) l.text)) && list_all is_hex_digit (take (16 * l.i) l.text))

@@ -1,10 +1,10 @@
 use Rattle.std.proofs.Common.{◌+◌, ◌<◌, length, arith, sym, ◌∙◌, lit≤}
 use Rattle.std.proofs.lemmas.Str.Parse.{digits_value-take-le}
 use Rattle.schedule_file.proofs.Digits.{value_more, digits_more, too_large}
-use Rattle.schedule_file.proofs.field.number.Goals as goal
+use Rattle.schedule_file.proofs.field.read_number.Goals as goal
 
-pub returns-then-value-from : goal.returns-then-value-from
-returns-then-value-from c =
+pub returns-then-value-from-clause-value : goal.returns-then-value-from-clause-value
+returns-then-value-from-clause-value c =
     let lt : c.loop-digit.digit-index < length c.args.text.now = omega arith in
     let digit = c.if-not-is_ascii_digit.ensures.cases in
     let next = value_more c.args.text.now c.loop-digit.digit-index lt digit.0 digit.1 in
