@@ -19,7 +19,7 @@ use Rattle.schedule_file.proofs.Fitting.{events_fit}
 use Rattle.exchange_model.specs.World.{SameLengths, IsProperEvent}
 use Rattle.exchange_model.proofs.Headline.{fair_before}
 use Rattle.exchange_model.proofs.HonestSchedules.{honest_serves}
-use Rattle.duo_run.specs.Replay.{AreSetTo, RunsFairly, RunsServe}
+use Rattle.duo_run.specs.Replay.{AreSetTo, RunsFairly, ServesIfHonest}
 
 -- ends that are set to a header have the same lengths
 pub same_lengths : (h : Heading) (ms : MasterSettings) (ss : SlaveSettings) → AreSetTo h ms ss → SameLengths ms ss
@@ -45,7 +45,7 @@ runs_fairly bytes =
     IfSome_then (input_of kind.Pair bytes).heading (events_fit bytes) (λ h fits ms ss set.
     fair_before ms ss (input_of kind.Pair bytes).events (same_lengths h ms ss set) (all_proper h ms ss (input_of kind.Pair bytes).events set fits))
 
-runs_serve : (bytes : List ℕ) → RunsServe (input_of kind.Pair bytes)
+runs_serve : (bytes : List ℕ) → ServesIfHonest (input_of kind.Pair bytes)
 runs_serve bytes =
     IfSome_then (input_of kind.Pair bytes).heading (events_fit bytes) (λ h fits ms ss set matching honest.
     honest_serves ms ss (input_of kind.Pair bytes).events matching (all_proper h ms ss (input_of kind.Pair bytes).events set fits) honest)
@@ -55,6 +55,6 @@ pub told_fairly : (told : Option (List ℕ)) → IfSome told (λ bytes. RunsFair
 told_fairly None = tt
 told_fairly (Some bytes) = runs_fairly bytes
 
-pub told_serve : (told : Option (List ℕ)) → IfSome told (λ bytes. RunsServe (input_of kind.Pair bytes))
+pub told_serve : (told : Option (List ℕ)) → IfSome told (λ bytes. ServesIfHonest (input_of kind.Pair bytes))
 told_serve None = tt
 told_serve (Some bytes) = runs_serve bytes

@@ -29,7 +29,7 @@ use Rattle.schedule_file.specs.declared.header_kind.HeaderKind.TheVariants as ki
 use Rattle.file_run.specs.Ending.{Closes, Ends}
 use Rattle.file_run.specs.Event.{Finds, FitsGrammar, FitsKind, IsGrammarAfter}
 use Rattle.file_run.specs.Halt.{Goes, Stalls}
-use Rattle.file_run.specs.Header.{Heads}
+use Rattle.file_run.specs.Header.{ReadsHeader}
 use Rattle.file_run.specs.Ran.{Ran}
 use Rattle.file_run.specs.Report.{events_line, refused_line}
 use Rattle.file_run.specs.Stop.{ended_by, last_of}
@@ -142,7 +142,7 @@ pub record ReplayRunning (grammar : Grammar) (left0 left w0 w : Option (List ℕ
   pub lined : lines ≡ header + events
   pub run : Running kind.Pair grammar heading header log left0 left w0 w waiting (entry_lines entries)
 
-pub replay_start : (grammar : Grammar) (h : Heading) (ms : MasterSettings) (ss : SlaveSettings) (left0 left w : Option (List ℕ)) (waiting : Waiting) (v : DuoView) (lines : ℕ) → Heads kind.Pair (Ok h) lines left0 left
+pub replay_start : (grammar : Grammar) (h : Heading) (ms : MasterSettings) (ss : SlaveSettings) (left0 left w : Option (List ℕ)) (waiting : Waiting) (v : DuoView) (lines : ℕ) → ReadsHeader kind.Pair (Ok h) lines left0 left
     → AreSetTo h ms ss → DuoStands ms ss v [] → grammar.kind ≡ kind.Pair → grammar.lengths ≡ lengths_of v → grammar.profiles ≡ profiles_of v → waiting.bytes ≡ [] → waiting.sent ≡ 0
     → ReplayRunning grammar left0 left w w waiting v 0 lines
 replay_start grammar h ms ss left0 left w waiting v lines heads set stands pair lengths profiles none sent =
@@ -357,7 +357,7 @@ replay_halted grammar left0 b new held w0 w1 w2 waiting v events lines now why r
 has_reports : HasReports ReplayReports kind.Pair
 has_reports = some_replay
 
-pub header_halted : (left0 new : Option (List ℕ)) (held : List ℕ) (w0 w2 : Option (List ℕ)) (waiting : Waiting) (lines : ℕ) (why : Halt) (result : Ended) → Heads kind.Pair (Err why) lines left0 (prepend_known held new)
+pub header_halted : (left0 new : Option (List ℕ)) (held : List ℕ) (w0 w2 : Option (List ℕ)) (waiting : Waiting) (lines : ℕ) (why : Halt) (result : Ended) → ReadsHeader kind.Pair (Err why) lines left0 (prepend_known held new)
     → Stalls {T = Heading} (Err why) held → waiting.bytes ≡ [] → waiting.sent ≡ 0 → Closes result (ended_by why) waiting w0 w2 (last_of why) → Ran ReplayReports kind.Pair result left0 new w0 w2
 header_halted left0 new held w0 w2 waiting lines why result heads stalls none sent closes =
     file_run.header_halted ReplayReports kind.Pair left0 new held w0 w2 waiting lines why result has_reports (λ number why. ([], refl, refl, refl)) heads stalls none sent closes

@@ -1,6 +1,6 @@
-pub mod Duo
 pub mod Acts
+pub mod Bulk
+pub mod Duo
 pub mod Ran
 pub mod Replay
 pub mod Summary
-pub mod Bulk

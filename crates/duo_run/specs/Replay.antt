@@ -1,4 +1,5 @@
--- What a replay reports of an input: a line for each entry of both ends, and last how the run stops. Lists of entries are newest first.
+-- What a replay reports of an input: a line for each entry of both ends, and last how the run stops; and what holds of its entries:
+-- fair before the first other one, and serving after an honest schedule. Lists of entries are newest first.
 use Rattle.std.specs.Prelude.{◌≡◌, ℕ, ◌+◌, ◌==◌, List, [], ◌∷◌, ◌++◌, length, codes, decimal, Option, Some, None, IfSome, if◌then◌else◌}
 use Rattle.fsoe_io.specs.declared.status.Ended.{Ended}
 use Rattle.fsoe_io.specs.declared.status.Status.TheVariants as status
@@ -18,7 +19,7 @@ use Rattle.exchange_model.specs.Other.{before_other, first_other}
 use Rattle.exchange_model.specs.Serving.{Serves}
 use Rattle.exchange_model.specs.World.{world}
 
--- an entry, with its number from 1 and the letter of its end
+-- the line of an entry: its number from 1, the letter of its end, and what every report writes of an entry
 abbrev pub entry_line : ℕ → Entry → List ℕ
 entry_line n x = decimal n ++ codes " " ++ end_letter x.end ++ codes " " ++ entry_text x.did x.state x.outputs x.sent ++ codes "\n"
 
@@ -27,7 +28,7 @@ abbrev pub entry_lines : List Entry → List ℕ
 entry_lines [] = []
 entry_lines (x ∷ w) = entry_lines w ++ entry_line (length w + 1) x
 
--- the number of the first other entry, if one is
+-- the line that names the first other entry, or says that there is none
 abbrev pub other_line : Option ℕ → List ℕ
 other_line None = codes "other none\n"
 other_line (Some n) = codes "other " ++ decimal n ++ codes "\n"
@@ -47,12 +48,12 @@ abbrev pub ended_at : List Entry → Stop → Ended
 ended_at w AtEnd = ended_with (first_other w)
 ended_at w (Refused number why) = record { status = status.Line; place = number }
 
--- a run up to the `end` of its input ends so
+-- a run of all its events ends so
 abbrev pub EndsWell : Ended → Type 0
 EndsWell ended = (other : Option ℕ) × (ended ≡ ended_with other)
 
--- how a run over an input stops that has these entries: as the input does where each event has its entry, else at the first event
--- without one, since its frame wasn't sent
+-- how a run over an input stops that has these entries: as the input does where each event has its entry, else at the line of the
+-- first event without one, which names a frame that wasn't sent
 abbrev pub run_stop : Input → List Entry → Stop
 run_stop input w = if length w == length input.events then input.stop else Refused (input.lines + length w + 1) NoFrame
 
@@ -60,7 +61,7 @@ run_stop input w = if length w == length input.events then input.stop else Refus
 abbrev pub AreSetTo : Heading → MasterSettings → SlaveSettings → Type 0
 AreSetTo h ms ss = IsMasterOf h ms × IsSlaveOf h ss
 
--- the entries of both ends over these events, which are set to what the header says; without a whole header there are none
+-- the entries of both ends, set to what the header says, over these events; without a whole header there are none
 abbrev pub AreEntries : Option Heading → List Event → List Entry → Type 0
 AreEntries None events w = w ≡ []
 AreEntries (Some h) events w = (ms : MasterSettings) × (ss : SlaveSettings) × AreSetTo h ms ss × (w ≡ world ms ss events)
@@ -72,10 +73,14 @@ ReplayReports input ended text =
     × (text ≡ entry_lines w ++ last_lines w (run_stop input w))
     × (ended ≡ ended_at w (run_stop input w))
 
+-- how a run over an input ends, where neither a read nor a write failed
+abbrev pub EndsAt : Input → Ended → Type 0
+EndsAt input ended = (w : List Entry) × AreEntries input.heading input.events w × (ended ≡ ended_at w (run_stop input w))
+
 -- the entries over an input before the first other one, all where there is none, are fair
 abbrev pub RunsFairly : Input → Type 0
 RunsFairly input = IfSome input.heading (λ h. (ms : MasterSettings) (ss : SlaveSettings) → AreSetTo h ms ss → Fair ms.lengths (before_other (world ms ss input.events)))
 
 -- where the ends match and the events are honest, the entries over an input serve
-abbrev pub RunsServe : Input → Type 0
-RunsServe input = IfSome input.heading (λ h. (ms : MasterSettings) (ss : SlaveSettings) → AreSetTo h ms ss → Match ms ss → IsHonest ms ss input.events → Serves ms input.events (world ms ss input.events))
+abbrev pub ServesIfHonest : Input → Type 0
+ServesIfHonest input = IfSome input.heading (λ h. (ms : MasterSettings) (ss : SlaveSettings) → AreSetTo h ms ss → Match ms ss → IsHonest ms ss input.events → Serves ms input.events (world ms ss input.events))

@@ -1,4 +1,4 @@
--- What a report writes of one entry, after its number.
+-- What a report writes of one entry, after its number, and in a report of both ends after the letter of its end.
 use Rattle.std.specs.Prelude.{ℕ, Bool, true, false, List, [], ◌∷◌, ◌++◌, Option, Some, None, codes}
 use Rattle.hex.specs.Hex.{encode_lower}
 use Rattle.fsoe_base.specs.Command.{command_name, state_name}

@@ -25,7 +25,7 @@ abbrev pub data_taken : Option Took → Option Took
 data_taken None = None
 data_taken (Some t) = if is_data t.command then Some t else None
 
--- the frame of l bytes that a load makes: FailSafeData with zeros, or ProcessData with the bytes that were put, zeros where none were
+-- the frame with l bytes of safe data that a load makes: FailSafeData with zeros, or ProcessData with the bytes that were put, zeros where none were
 abbrev pub frame_with : ℕ → Load → Took
 frame_with l FailSafe = record { command = command.FailSafeData; load = replicate l 0 }
 frame_with l (Values bytes) = record { command = command.ProcessData; load = bytes }

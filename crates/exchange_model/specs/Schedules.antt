@@ -3,9 +3,9 @@ use Rattle.std.specs.Prelude.{ℕ, nat_eq, List, [], ◌∷◌, ◌++◌, codes,
 use Rattle.std.specs.Cmp.Lexicographic.{pointwise}
 use Rattle.std.specs.List.{flat_map}
 use Rattle.hex.specs.Hex.{decode_of}
-use Rattle.fsoe_base.specs.declared.command.End.{End}
 use Rattle.fsoe_base.specs.declared.command.End.TheVariants as end_name
 use Rattle.param_load.specs.declared.entry.Entry.{Entry}
+use Rattle.schedule_file.specs.EventText.{end_letter}
 use Rattle.schedule_file.specs.declared.event.Event.{Event}
 use Rattle.schedule_file.specs.declared.event.Event.TheVariants as event
 use Rattle.entry_text.specs.EntryText.{entry_text}
@@ -64,18 +64,13 @@ rounds n = flat_map (λ round. round) (replicate n (ds 1 ∷ dm 1 ∷ []))
 abbrev pub until_data : List Event
 until_data = pm (codes "0100") ∷ ps (codes "8000") ∷ tm ∷ rounds 8
 
--- the letter of the end that acts
-abbrev pub letter : End → List ℕ
-letter end_name.Master = codes "m "
-letter end_name.Slave = codes "s "
-
 -- the line of an entry, after its number
 abbrev pub pair_line : Entry → List ℕ
-pair_line x = letter x.end ++ line x
+pair_line x = end_letter x.end ++ codes " " ++ line x
 
 -- the same without the frame that was sent
 abbrev pub short_line : Entry → List ℕ
-short_line x = letter x.end ++ entry_text x.did x.state x.outputs []
+short_line x = end_letter x.end ++ codes " " ++ entry_text x.did x.state x.outputs []
 
 -- the lines of a run
 abbrev pub lines : List Entry → List (List ℕ)

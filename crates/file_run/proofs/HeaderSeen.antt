@@ -12,7 +12,7 @@ use Rattle.schedule_file.specs.declared.header_kind.HeaderKind.{HeaderKind}
 use Rattle.schedule_file.specs.declared.line_cause.LineCause.{LineCause}
 use Rattle.file_run.specs.Cause.{input_cause}
 use Rattle.file_run.specs.Halt.{Goes}
-use Rattle.file_run.specs.Header.{FindsHeading, Heads, Headers, HeaderCutOff, heading_by, heading_by_itself}
+use Rattle.file_run.specs.Header.{FindsHeading, ReadsHeader, IsWholeHeader, IsHeaderCutOff, heading_by, heading_by_itself}
 use Rattle.file_run.specs.NextLine.{first_line}
 use Rattle.file_run.specs.declared.halt.Halt.{Halt}
 use Rattle.file_run.specs.declared.halt.Halt.TheVariants as halt
@@ -59,7 +59,7 @@ header_line kind h next lines now a b c text seen is goes e open_ count = record
 
 -- the last line, which ends the header
 pub header_done : (kind : HeaderKind) (h next : Heading) (lines now : ℕ) (a b c : Option (List ℕ)) (text : List ℕ) → HeaderSeen kind h lines a b → IsLine text → Consumes b c (text ++ 10 ∷ [])
-    → heading_after h text ≡ Ok next → is_done next ≡ true → now ≡ lines + 1 → Headers kind next now a c
+    → heading_after h text ≡ Ok next → is_done next ≡ true → now ≡ lines + 1 → IsWholeHeader kind next now a c
 header_done kind h next lines now a b c text seen is goes e done count = record {
   taken = seen.taken ++ (text ++ 10 ∷ []);
   goes = consumes_then a b c seen.taken (text ++ 10 ∷ []) seen.goes goes;
@@ -97,7 +97,7 @@ header_refused kind h lines number (Some xs) (Some ys) why seen first count =
     ∙ ap (λ (k : ℕ). Err (Refused k why)) (sym count)
 
 -- a read failed in the header
-header_cut_off : (kind : HeaderKind) (h : Heading) (lines count : ℕ) (a b c : Option (List ℕ)) → HeaderSeen kind h lines a b → Consumes b c [] → count ≡ lines → HeaderCutOff kind count a c
+header_cut_off : (kind : HeaderKind) (h : Heading) (lines count : ℕ) (a b c : Option (List ℕ)) → HeaderSeen kind h lines a b → Consumes b c [] → count ≡ lines → IsHeaderCutOff kind count a c
 header_cut_off kind h lines count a b c seen same is = record {
   taken = seen.taken;
   goes = subst (Consumes a c) (append-nil seen.taken) (consumes_then a b c seen.taken [] seen.goes same);
@@ -108,6 +108,6 @@ header_cut_off kind h lines count a b c seen same is = record {
 
 -- why the header goes no further
 pub header_halts : (kind : HeaderKind) (h next : Heading) (lines now after : ℕ) (a b c : Option (List ℕ)) (why : Halt) → HeaderSeen kind h lines a b → FindsHeading h (Err why) next b c
-    → Goes {T = Bool} (Err why) lines now b c → Heads kind (Err why) after a c
+    → Goes {T = Bool} (Err why) lines now b c → ReadsHeader kind (Err why) after a c
 header_halts kind h next lines now after a b c (halt.Read count) seen finds goes = header_cut_off kind h lines count a b c seen goes.1 goes.0
 header_halts kind h next lines now after a b c (halt.Refused number why) seen finds goes = header_refused kind h lines number a b (input_cause why) seen finds goes

@@ -6,3 +6,4 @@ pub mod HeaderSeen
 pub mod Seen
 pub mod Sending
 pub mod Running
+pub mod Exact

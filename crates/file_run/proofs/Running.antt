@@ -20,7 +20,7 @@ use Rattle.file_run.specs.Cause.{input_cause}
 use Rattle.file_run.specs.Ending.{Closes}
 use Rattle.file_run.specs.Event.{Finds, IsGrammarAfter}
 use Rattle.file_run.specs.Halt.{Goes, Stalls}
-use Rattle.file_run.specs.Header.{Heads, HeaderCutOff}
+use Rattle.file_run.specs.Header.{ReadsHeader, IsHeaderCutOff}
 use Rattle.file_run.specs.Ran.{Reporting, BeginsReport, ReportsReadLines, StatusSays, Ran}
 use Rattle.file_run.specs.Report.{refused_line}
 use Rattle.file_run.specs.Stop.{ended_by, last_of}
@@ -56,7 +56,7 @@ abbrev pub BeginsFor : Reporting → Heading → ℕ → List Event → List ℕ
 BeginsFor W h n log text = (more : List Event) (stop : Stop) → BeginsReport W (input_beginning h n log more stop) text
 
 -- after a header nothing was sent
-pub running_start : (kind : HeaderKind) (grammar : Grammar) (h : Heading) (left0 left w : Option (List ℕ)) (waiting : Waiting) (lines : ℕ) → Heads kind (Ok h) lines left0 left → IsGrammarAfter kind h grammar
+pub running_start : (kind : HeaderKind) (grammar : Grammar) (h : Heading) (left0 left w : Option (List ℕ)) (waiting : Waiting) (lines : ℕ) → ReadsHeader kind (Ok h) lines left0 left → IsGrammarAfter kind h grammar
     → waiting.bytes ≡ [] → waiting.sent ≡ 0 → Running kind grammar h lines [] left0 left w w waiting []
 running_start kind grammar h left0 left w waiting lines heads says none sent = record {
   seen = seen_none kind h lines left0 left heads;
@@ -232,7 +232,7 @@ running_halted W kind grammar h n log left0 b new held w0 w1 w2 waiting text lin
 headless : (kind : HeaderKind) (bytes : List ℕ) (stop : Stop) → header_of kind bytes ≡ Err stop → input_of kind bytes ≡ input_headless stop
 headless kind bytes stop e = ap (input_by kind) e
 
-headless_cut_off : (W : Reporting) (kind : HeaderKind) (left0 new : Option (List ℕ)) (held : List ℕ) (count : ℕ) → HeaderCutOff kind count left0 (prepend_known held new) → HasNoNewline held
+headless_cut_off : (W : Reporting) (kind : HeaderKind) (left0 new : Option (List ℕ)) (held : List ℕ) (count : ℕ) → IsHeaderCutOff kind count left0 (prepend_known held new) → HasNoNewline held
     → W (input_headless (Refused (count + 1) NoLine)) (record { status = status.Line; place = count + 1 }) (refused_line (count + 1) NoLine)
     → IfSome left0 (λ input. ReportsReadLines W kind count input new [])
 headless_cut_off W kind None new held count cut none report = tt
@@ -266,7 +266,7 @@ nothing_begins W kind (Some xs) has = let report = has xs in (report.0, report.1
 
 pub header_halted : (W : Reporting) (kind : HeaderKind) (left0 new : Option (List ℕ)) (held : List ℕ) (w0 w2 : Option (List ℕ)) (waiting : Waiting) (lines : ℕ) (why : Halt) (result : Ended) → HasReports W kind
     → ((number : ℕ) (why : InputCause) → W (input_headless (Refused number why)) (record { status = status.Line; place = number }) (refused_line number why))
-    → Heads kind (Err why) lines left0 (prepend_known held new) → Stalls {T = Heading} (Err why) held → waiting.bytes ≡ [] → waiting.sent ≡ 0
+    → ReadsHeader kind (Err why) lines left0 (prepend_known held new) → Stalls {T = Heading} (Err why) held → waiting.bytes ≡ [] → waiting.sent ≡ 0
     → Closes result (ended_by why) waiting w0 w2 (last_of why) → Ran W kind result left0 new w0 w2
 header_halted W kind left0 new held w0 w2 waiting lines (halt.Read count) result has stops heads stalls none sent closes =
     ran_closed W kind left0 new w0 w0 w2 result (ended_by (halt.Read count)) waiting [] [] (sent_none w0 waiting none sent) closes

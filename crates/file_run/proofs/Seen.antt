@@ -20,7 +20,7 @@ use Rattle.schedule_file.specs.declared.event.ScheduleLine.{ScheduleLine}
 use Rattle.schedule_file.specs.declared.event.ScheduleLine.TheVariants as line
 use Rattle.schedule_file.specs.declared.line_cause.LineCause.{LineCause}
 use Rattle.file_run.specs.Event.{IsGrammarAfter, says, says_after, says_by, by_itself, in_input}
-use Rattle.file_run.specs.Header.{Headers}
+use Rattle.file_run.specs.Header.{IsWholeHeader}
 use Rattle.file_run.specs.NextLine.{first_line}
 use Rattle.file_run.specs.declared.cause.Cause.TheVariants as cause
 use Rattle.file_run.specs.declared.event.Grammar.{Grammar}
@@ -48,7 +48,7 @@ pub record Seen (kind : HeaderKind) (h : Heading) (n : ℕ) (old new : Option (L
 less_none : (n : ℕ) → n ≡ n - 0
 less_none n = omega arith
 
-pub seen_none : (kind : HeaderKind) (h : Heading) (n : ℕ) (old new : Option (List ℕ)) → Headers kind h n old new → Seen kind h n old new []
+pub seen_none : (kind : HeaderKind) (h : Heading) (n : ℕ) (old new : Option (List ℕ)) → IsWholeHeader kind h n old new → Seen kind h n old new []
 seen_none kind h n old new headers = record {
   taken = headers.taken;
   goes = headers.goes;

@@ -18,7 +18,7 @@ use Rattle.file_run.specs.declared.halt.Halt.TheVariants as halt
 abbrev pub ReadLines : ℕ → Option (List ℕ) → Option (List ℕ) → Type 0
 ReadLines lines old left = (held : List ℕ) × HasNoNewline held × TookLines lines old (prepend_known held left)
 
--- so many whole lines stand before the refused line
+-- the refused line has this number, one more than the whole lines before it
 abbrev pub LinesBefore : ℕ → Option (List ℕ) → Type 0
 LinesBefore line old = (before : ℕ) × (rest : Option (List ℕ)) × (line ≡ before + 1) × TookLines before old rest
 
@@ -26,7 +26,7 @@ LinesBefore line old = (before : ℕ) × (rest : Option (List ℕ)) × (line ≡
 abbrev pub Appended : ℕ → Option (List ℕ) → Option (List ℕ) → Type 0
 Appended count before now = (text : List ℕ) × Grew before now text × (count ≡ length text)
 
--- what a status and its place say, where a run up to its `end` may end so
+-- what a status and its place say; `may` is what holds where the run came to the `end` of its input
 abbrev pub Ending : Status → Type 0 → ℕ → Option (List ℕ) → Option (List ℕ) → Option (List ℕ) → Option (List ℕ) → Type 0
 Ending status.Ok may place old new before now = may
 Ending status.Other may place old new before now = may

@@ -28,19 +28,19 @@ FindsHeading h (Err (halt.Read lines)) next old new = Unit {0}
 FindsHeading h (Err (halt.Refused number why)) next old new = IfSome old (λ input. heading_by h (first_line (lines_of input)) ≡ Err (input_cause why))
 
 -- the bytes that were taken are a whole header of so many lines, whatever comes after them
-pub record Headers (kind : HeaderKind) (h : Heading) (lines : ℕ) (old new : Option (List ℕ)) : Type 0 where
+pub record IsWholeHeader (kind : HeaderKind) (h : Heading) (lines : ℕ) (old new : Option (List ℕ)) : Type 0 where
   pub taken : List ℕ
   pub goes : Consumes old new taken
   pub says : (more : List ℕ) → header_of kind (taken ++ more) ≡ Ok (record { heading = h; lines = lines; rest = lines_of more })
 
 -- the bytes that were taken are so many lines of a header, and no line comes after them
-pub record HeaderCutOff (kind : HeaderKind) (lines : ℕ) (old : Option (List ℕ)) (new : Option (List ℕ)) : Type 0 where
+pub record IsHeaderCutOff (kind : HeaderKind) (lines : ℕ) (old : Option (List ℕ)) (new : Option (List ℕ)) : Type 0 where
   pub taken : List ℕ
   pub goes : Consumes old new taken
   pub says : header_of kind taken ≡ Err (Refused (lines + 1) NoLine)
 
 -- a header was read; or a line of it is refused, or a read failed
-abbrev pub Heads : HeaderKind → Result Heading Halt → ℕ → Option (List ℕ) → Option (List ℕ) → Type 0
-Heads kind (Ok h) lines old new = Headers kind h lines old new
-Heads kind (Err (halt.Read count)) lines old new = HeaderCutOff kind count old new
-Heads kind (Err (halt.Refused number why)) lines old new = IfSome old (λ input. header_of kind input ≡ Err (Refused number (input_cause why)))
+abbrev pub ReadsHeader : HeaderKind → Result Heading Halt → ℕ → Option (List ℕ) → Option (List ℕ) → Type 0
+ReadsHeader kind (Ok h) lines old new = IsWholeHeader kind h lines old new
+ReadsHeader kind (Err (halt.Read count)) lines old new = IsHeaderCutOff kind count old new
+ReadsHeader kind (Err (halt.Refused number why)) lines old new = IfSome old (λ input. header_of kind input ≡ Err (Refused number (input_cause why)))

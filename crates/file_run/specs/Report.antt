@@ -1,9 +1,9 @@
--- The last line of a report.
+-- The closing lines that reports share.
 use Rattle.std.specs.Prelude.{ℕ, List, ◌++◌, codes, decimal}
 use Rattle.schedule_file.specs.Input.{InputCause, Stop, AtEnd, Refused}
 use Rattle.file_run.specs.Cause.{refusal_name}
 
--- the last line of an input that was read up to its `end`
+-- the line that counts the events of an input that was read up to its `end`
 abbrev pub events_line : ℕ → List ℕ
 events_line events = codes "events " ++ decimal events ++ codes "\n"
 

@@ -17,7 +17,8 @@ use schedule_file::{
 /// The most events of an input.
 const MOST: u64 = 200_000;
 
-/// How lines are read that stand after a header: for which ends, and with which lengths and profiles. Of a node only its own count.
+/// How lines are read that stand after a header: for which ends, and with which lengths and profiles. For a node, only those of its
+/// own end count.
 #[derive(Clone, Copy)]
 pub struct Grammar {
     pub kind: HeaderKind,

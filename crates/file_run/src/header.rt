@@ -5,7 +5,7 @@ ghost use Rattle.schedule_file.specs.Header.{is_done, kind_of};
 ghost use Rattle.schedule_file.specs.LinesLeft.{lines_left};
 ghost use Rattle.file_run.specs.Ending.{Halts};
 ghost use Rattle.file_run.specs.Halt.{Blames, Goes, Stalls};
-ghost use Rattle.file_run.specs.Header.{FindsHeading, Heads};
+ghost use Rattle.file_run.specs.Header.{FindsHeading, ReadsHeader};
 ghost use Rattle.file_run.specs.WholeLines.{TookLines};
 
 use crate::cause::Cause;
@@ -58,7 +58,7 @@ pub fn read_header<S: Source>(
     ensures most { OnOk result (reader.new.lines ≤ 1032) }
     ensures done { IfOk result (λ header. IsTrue (is_done header)) }
     ensures kind { IfOk result (λ header. kind_of header ≡ kind) }
-    ensures heads { Heads kind result reader.new.lines
+    ensures heads { ReadsHeader kind result reader.new.lines
         (S.left source.old)
         (prepend_known reader.new.bytes (S.left source.new)) }
     ensures stalls { Stalls result reader.new.bytes }

@@ -6,7 +6,7 @@ ghost use Rattle.file_run.specs.Report.{events_line, refused_line};
 use crate::cause::Cause;
 use fsoe_io::LineText;
 
-/// The last line of an input that was read up to its `end`.
+/// The line that counts the events of an input that was read up to its `end`.
 pub fn write_events(events: u64, text: &mut LineText)
     ensures text { text.new ≡ events_line events }
     ensures most { length text.new ≤ 28 }

@@ -27,7 +27,7 @@ use Rattle.schedule_file.specs.declared.header_kind.HeaderKind.TheVariants as ki
 use Rattle.file_run.specs.Ending.{Closes}
 use Rattle.file_run.specs.Event.{Finds, FitsGrammar, FitsKind, IsGrammarAfter}
 use Rattle.file_run.specs.Halt.{Goes, Stalls}
-use Rattle.file_run.specs.Header.{Heads}
+use Rattle.file_run.specs.Header.{ReadsHeader}
 use Rattle.file_run.specs.Ran.{Ran}
 use Rattle.file_run.specs.Report.{events_line, last_line}
 use Rattle.file_run.specs.Stop.{ended_by, last_of}
@@ -108,7 +108,7 @@ pub record NodeRunning (end : End) (grammar : Grammar) (left0 left w0 w : Option
   pub lined : lines ≡ header + events
   pub run : Running (kind.Node end) grammar heading header log left0 left w0 w waiting (deed_lines setup (deeds setup log))
 
-pub node_start : (end : End) (grammar : Grammar) (h : Heading) (left0 left w : Option (List ℕ)) (waiting : Waiting) (v : Node) (lines : ℕ) → Heads (kind.Node end) (Ok h) lines left0 left → IsNew end h v
+pub node_start : (end : End) (grammar : Grammar) (h : Heading) (left0 left w : Option (List ℕ)) (waiting : Waiting) (v : Node) (lines : ℕ) → ReadsHeader (kind.Node end) (Ok h) lines left0 left → IsNew end h v
     → grammar.kind ≡ kind.Node (end_of v) → grammar.lengths ≡ lengths_of v → grammar.profiles ≡ record { master = profile_of v; slave = profile_of v } → waiting.bytes ≡ [] → waiting.sent ≡ 0
     → NodeRunning end grammar left0 left w w waiting v 0 lines
 node_start end grammar h left0 left w waiting v lines heads new at lengths profiles none sent =
@@ -260,7 +260,7 @@ node_halted end grammar left0 b new held w0 w1 w2 waiting v events lines now why
 has_reports : (end : End) → HasReports (NodeReports end) (kind.Node end)
 has_reports end = λ input. let report = some_report end input in (report.0, ended_at (input_of (kind.Node end) input).stop, (report.1, refl))
 
-pub header_halted : (end : End) (left0 new : Option (List ℕ)) (held : List ℕ) (w0 w2 : Option (List ℕ)) (waiting : Waiting) (lines : ℕ) (why : Halt) (result : Ended) → Heads (kind.Node end) (Err why) lines left0 (prepend_known held new)
+pub header_halted : (end : End) (left0 new : Option (List ℕ)) (held : List ℕ) (w0 w2 : Option (List ℕ)) (waiting : Waiting) (lines : ℕ) (why : Halt) (result : Ended) → ReadsHeader (kind.Node end) (Err why) lines left0 (prepend_known held new)
     → Stalls {T = Heading} (Err why) held → waiting.bytes ≡ [] → waiting.sent ≡ 0 → Closes result (ended_by why) waiting w0 w2 (last_of why) → Ran (NodeReports end) (kind.Node end) result left0 new w0 w2
 header_halted end left0 new held w0 w2 waiting lines why result heads stalls none sent closes =
     file_run.header_halted (NodeReports end) (kind.Node end) left0 new held w0 w2 waiting lines why result (has_reports end) (λ number why. (([], refl, refl), refl)) heads stalls none sent closes
