@@ -8,6 +8,7 @@ pub mod EntryLines
 pub mod FairReplay
 pub mod OneReplay
 pub mod Replaying
+pub mod Exact
 pub mod Counted
 pub mod WholeRuns
 pub mod HonestNumber

@@ -1,13 +1,11 @@
 -- No event of a number names a frame that wasn't sent, so each has its entry.
-use Rattle.std.proofs.Common.{◌≡◌, ℕ, zero, suc, ◌+◌, ◌-◌, ◌≤◌, ◌/◌, ◌%◌, ◌^◌, List, [], ◌∷◌, ◌++◌, length, Bool, true, false, if◌then◌else◌, Option, Some, None, refl, sym, ap, subst, ◌∙◌, length-append, arith}
+use Rattle.std.proofs.Common.{◌≡◌, ℕ, zero, suc, ◌-◌, ◌≤◌, ◌/◌, ◌%◌, ◌^◌, List, [], ◌∷◌, length, Bool, true, false, if◌then◌else◌, Some, refl, sym, ap, subst, ◌∙◌, length-append, arith}
 use Rattle.fsoe_base.specs.declared.command.End.{End}
 use Rattle.fsoe_base.specs.declared.command.End.TheVariants as end_name
 use Rattle.fsoe_crc.specs.Remainder.{computing}
 use Rattle.param_load.specs.declared.entry.Entry.{Entry}
 use Rattle.param_load.specs.declared.entry.Move.{Move}
 use Rattle.param_load.specs.declared.entry.Move.TheVariants as move
-use Rattle.param_load.specs.declared.master_settings.MasterSettings.{MasterSettings}
-use Rattle.param_load.specs.declared.slave_settings.SlaveSettings.{SlaveSettings}
 use Rattle.black_channel.specs.Altered.{altered}
 use Rattle.black_channel.specs.Window.{back_th}
 use Rattle.schedule_file.specs.declared.event.Event.{Event}
@@ -16,21 +14,9 @@ use Rattle.schedule_file.specs.Made.{event_at, event_by, word_after, place_of, m
 use Rattle.end_model.specs.Deed.{is_empty}
 use Rattle.end_model.specs.Chain.{own}
 use Rattle.exchange_model.specs.Ends.{same_end, peer}
-use Rattle.exchange_model.specs.World.{setup_of, deed_in, deeds, frames_of, end_of_event, delivery, altered_delivery, move_of, next_entry, entry_on, entry_at, going_on, world_after}
+use Rattle.exchange_model.specs.World.{setup_of, deed_in, deeds, frames_of, end_of_event, delivery, altered_delivery, move_of, next_entry, entry_on, entry_at}
+use Rattle.exchange_model.proofs.Longer.{world_next}
 use Rattle.duo_run.specs.Bulk.{entries_of}
-
--- a schedule goes on by one event
-world_after-append : (ms : MasterSettings) (ss : SlaveSettings) (events : List Event) (last : Event) (w : List Entry) (x : Entry)
-    → length (world_after ms ss events w) ≡ length events + length w → entry_at ms ss (world_after ms ss events w) last ≡ Some x
-    → world_after ms ss (events ++ last ∷ []) w ≡ x ∷ world_after ms ss events w
-world_after-append ms ss [] last w x whole next = ap (λ (o : Option Entry). going_on w o (world_after ms ss [])) next
-world_after-append ms ss (event ∷ events) last w x whole next =
-    elim (entry_at ms ss w event) as (λ o. length (going_on w o (world_after ms ss events)) ≡ suc (length events) + length w
-    → entry_at ms ss (going_on w o (world_after ms ss events)) last ≡ Some x
-    → going_on w o (world_after ms ss (events ++ last ∷ [])) ≡ x ∷ going_on w o (world_after ms ss events)) [
-      | None ↦ λ whole next. absurd (omega (arith, whole))
-      | Some y ↦ λ whole next. world_after-append ms ss events last (y ∷ w) x (omega (arith, whole)) next
-    ] whole next
 
 -- after an entry an end has sent as many frames or one more
 own_more : (sent : Bool) (frame : List ℕ) (frames : List (List ℕ)) → length frames ≤ length (if sent then frames else frame ∷ frames)
@@ -174,7 +160,7 @@ entry_goes number count whole = next_goes number count whole.two
 pub entries_more : (number count : ℕ) (x : Entry) → Whole number count → entry_at made_master made_slave (entries_of number count) (event_at number (suc count)) ≡ Some x
     → entries_of number (suc count) ≡ x ∷ entries_of number count
 entries_more number count x whole next =
-    world_after-append made_master made_slave (made number count) (event_at number (suc count)) [] x (whole.each ∙ (let all = length-made number count in omega (arith, all))) next
+    world_next made_master made_slave (made number count) (event_at number (suc count)) x (whole.each ∙ sym (length-made number count)) next
 
 pub is_whole : (number count : ℕ) → Whole number count
 is_whole number zero = record { each = refl; two = λ late. absurd (omega (arith, late)) }

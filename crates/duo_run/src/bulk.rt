@@ -6,10 +6,11 @@ ghost use Rattle.exchange_model.specs.Fair.{Fair};
 ghost use Rattle.exchange_model.specs.Other.{before_other, first_other};
 ghost use Rattle.exchange_model.specs.Serving.{Serves};
 ghost use Rattle.exchange_model.specs.World.{IsWorld};
-ghost use Rattle.duo_run.specs.Replay.{other_line, ended_with};
+ghost use Rattle.duo_run.specs.Replay.{other_line};
 ghost use Rattle.duo_run.specs.Summary.{summary_of};
 ghost use Rattle.duo_run.specs.Bulk.{entries_of, ends_line, state_line, number_line, summary_lines, RanBulk};
 
+use crate::closing::{ended_with, push_other};
 use crate::duo::Duo;
 use crate::summary::Summary;
 use fsoe_base::State;
@@ -75,22 +76,8 @@ fn push_summary(summary: &Summary, text: &mut LineText)
     push_states(master.state, slave.state, text);
 }
 
-/// Appends the line that tells the number of the first other entry.
-fn push_other(other: Option<u64>, text: &mut LineText)
-    requires { length text.old ≤ 500 }
-    ensures { text.new ≡ text.old ++ other_line other }
-{
-    match other {
-        Some(first) => {
-            text.push(b"other ");
-            text.push_decimal(first);
-            text.push(b"\n");
-        }
-        None => text.push(b"other none\n"),
-    }
-}
-
-fn push_number(number: u64, events: u64, text: &mut LineText)
+/// Appends the first line, which tells the number and how many of its events were done.
+fn push_title(number: u64, events: u64, text: &mut LineText)
     requires { length text.old ≤ 10 }
     ensures text { text.new ≡ text.old ++ number_line number events }
     ensures most { length text.new ≤ length text.old + 60 }
@@ -113,29 +100,13 @@ fn write_report(
     ensures { text.new ≡ number_line number events ++ summary_lines summary.now ++ other_line other }
 {
     text.clear();
-    push_number(number, events, text);
+    push_title(number, events, text);
     push_summary(summary, text);
     push_other(other, text);
 }
 
-/// How a run ends whose whole report is written.
-fn ended_with(other: Option<u64>) -> Ended
-    ensures { result ≡ ended_with other }
-{
-    match other {
-        Some(first) => Ended {
-            status: Status::Other,
-            place: first,
-        },
-        None => Ended {
-            status: Status::Ok,
-            place: 0,
-        },
-    }
-}
-
-/// Does the first so many events of a number, at most 200,000, with a new pair, and writes a summary of six lines: the number with that of
-/// its events; of each end the data frames that it took, the events with a reset and those with a dropped frame, and its last state; and
+/// Does the first so many events of a number, at most 200,000, with a new pair, and writes a summary of six lines: the number and how many
+/// of its events were done; of each end the data frames that it took, the events with a reset and those with a dropped frame, and its last state; and
 /// the number of the first other event, if there is one. No event names a frame that wasn't sent, so all are done.
 ///
 /// The status is `Ok` with place 0; `Other` with the number of the first other event; or `Write` with the bytes written, only where the

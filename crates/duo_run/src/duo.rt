@@ -116,6 +116,7 @@ impl Duo {
                 mask,
             } => {
                 let mut frame = self.heard(*to, *back)?;
+                // The frame has this place, since the event fits; a window doesn't tell how long its frames are.
                 if usize::from(*pos) < frame.len() {
                     altered(&mut frame, *pos, *mask);
                 }

@@ -1,11 +1,11 @@
 //! Both ends of a connection over a schedule: each event happens at one of them, and a frame that comes is one of those that its peer
 //! sent, as it was or with one byte altered, or is invented. `specs` says what the definitions of a world have to do with it.
-//! `run_replay` does so over a pair file, from bytes to bytes.
-//! `run_bulk` runs the schedule of a number, and reports a summary.
+//! `run_replay` does so over a pair file, from bytes to bytes, and `run_bulk` over the schedule of a number.
 #![tactic(auto)]
 
 mod acting;
 mod bulk;
+mod closing;
 mod duo;
 mod fault;
 pub mod laws;

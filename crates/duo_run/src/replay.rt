@@ -7,8 +7,9 @@ ghost use Rattle.file_run.specs.Ending.{Closes, Ends};
 ghost use Rattle.file_run.specs.Ran.{Ran};
 ghost use Rattle.file_run.specs.Report.{events_line};
 ghost use Rattle.duo_run.specs.Duo.{lengths_of, profiles_of};
-ghost use Rattle.duo_run.specs.Replay.{entry_line, other_line, ended_with, EndsWell, ReplayReports, RunsFairly, RunsServe};
+ghost use Rattle.duo_run.specs.Replay.{entry_line, other_line, ended_with, EndsWell, ReplayReports, RunsFairly, ServesIfHonest};
 
+use crate::closing::{ended_with, push_other};
 use crate::duo::Duo;
 use crate::fault::StepFault;
 use entry_text::push_entry;
@@ -61,30 +62,7 @@ fn write_closing(events: u64, other: Option<u64>, text: &mut LineText)
     ensures text { text.new ≡ events_line events ++ other_line other }
 {
     write_events(events, text);
-    match other {
-        Some(number) => {
-            text.push(b"other ");
-            text.push_decimal(number);
-            text.push(b"\n");
-        }
-        None => text.push(b"other none\n"),
-    }
-}
-
-/// How a whole run ends, by the number of its first other entry.
-fn ended_with(other: Option<u64>) -> Ended
-    ensures { result ≡ ended_with other }
-{
-    match other {
-        None => Ended {
-            status: Status::Ok,
-            place: 0,
-        },
-        Some(number) => Ended {
-            status: Status::Other,
-            place: number,
-        },
-    }
+    push_other(other, text);
 }
 
 /// Ends a whole run of so many entries, of which the first other one has this number.
@@ -113,7 +91,7 @@ pub fn run_replay<S: Source, K: Sink>(source: &mut S, sink: &mut K) -> Ended
     ensures ran { Ran ReplayReports kind.Pair result (S.left source.old) (S.left source.new) (K.written sink.old) (K.written sink.new) }
     // And what holds of the entries that it reports, for all bytes that come.
     ensures fair { IfSome (S.left source.old) (λ input. RunsFairly (input_of kind.Pair input)) }
-    ensures serves { IfSome (S.left source.old) (λ input. RunsServe (input_of kind.Pair input)) }
+    ensures serves { IfSome (S.left source.old) (λ input. ServesIfHonest (input_of kind.Pair input)) }
     ensures read { result.status ≡ Status.Read → Rose (S.faults source.old) (S.faults source.new) }
     ensures write { result.status ≡ Status.Write → Rose (K.faults sink.old) (K.faults sink.new) }
     ensures later_source { S.faults source.old ≤ S.faults source.new }

@@ -5,7 +5,7 @@ ghost use Rattle.exchange_model.specs.Fair.{data_taken};
 use fsoe_base::{Command, Did, End, State};
 use param_load::Entry;
 
-/// What is told of an end: in how many entries it took a data frame, was reset and dropped a frame, and the state that it told last.
+/// What a summary tells of an end: in how many entries it took a data frame, was reset and dropped a frame, and the state that it told last.
 #[derive(Clone, Copy)]
 pub(crate) struct Counts {
     pub(crate) taken: u64,
