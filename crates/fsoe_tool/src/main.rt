@@ -1,6 +1,7 @@
 //! Runs one of the commands over standard input and standard output, and ends with the number of its status.
 #![tactic(auto)]
 
+mod command;
 mod run;
 
 use fsoe_io::{Status, StdSink, StdSource};

@@ -531,17 +531,191 @@ fn there_may_be_200_000_events(rt: HostRuntime) -> Result<(), Fail> {
     Ok(())
 }
 
+/// A pair file up to the first data of both ends.
+const PAIR: &str = "fsoe 1 pair
+lengths 2 2
+master 1 2 100 1
+slave 2 200 1000 2
+rule any 0
+go
+pm 0100
+ps 8000
+tm
+ds -1
+dm -1
+ds -1
+dm -1
+ds -1
+dm -1
+ds -1
+dm -1
+ds -1
+dm -1
+ds -1
+dm -1
+ds -1
+dm -1
+ds -1
+dm -1
+";
+
+/// Events after that, how the run ends, and the report from line 19 on.
+type Replay = (&'static str, Status, u64, &'static str);
+
+const REPLAYS: [Replay; 4] = [
+    (
+        "end\n",
+        Status::Ok,
+        0,
+        "19 m took ProcessData Data 8000 > 360100cfa90100
+events 19
+other none
+",
+    ),
+    // An answer that was under way when its sender reset is still the awaited one.
+    (
+        "ds -1\nzs\ndm -2\ndm -1\nend\n",
+        Status::Ok,
+        0,
+        "19 m took ProcessData Data 8000 > 360100cfa90100
+20 s took ProcessData Data 0100 > 3680002d670100
+21 s reset own Reset 0000 > 2a0000c42d0000
+22 m took ProcessData Data 8000 > 360100e95d0100
+23 m reset peer 00 Reset 0000 > 2a0000c42d0000
+events 23
+other none
+",
+    ),
+    // A forged frame whose CRC fits.
+    (
+        "rs 36ff004ee90100\nend\n",
+        Status::Other,
+        20,
+        "19 m took ProcessData Data 8000 > 360100cfa90100
+20 s took ProcessData Data ff00 > 3680009fec0100
+events 20
+other 20
+",
+    ),
+    // A frame that the master didn't send.
+    (
+        "ds -64\nend\n",
+        Status::Line,
+        26,
+        "19 m took ProcessData Data 8000 > 360100cfa90100
+refused 26 NoFrame
+",
+    ),
+];
+
+#[test]
+fn replays(rt: HostRuntime) -> Result<(), Fail> {
+    let setting = Setting {
+        words: &["replay"],
+        ..PLAIN
+    };
+    for (events, status, place, report) in REPLAYS {
+        let (ended, sink) = run_over(&rt, &setting, &[PAIR, events])?;
+        assert_eq!(rt; (ended.status, ended.place), (status, place), "{events}");
+        assert!(rt; sink.bytes().ends_with(report.as_bytes()), "{events}");
+    }
+    Ok(())
+}
+
+/// The words, how the run ends, and the report.
+type Bulk = (&'static [&'static str], Status, u64, &'static str);
+
+const BULKS: [Bulk; 5] = [
+    (
+        &["bulk", "0", "17"],
+        Status::Ok,
+        0,
+        "bulk 0 17
+data master 1 slave 1
+resets master 0 slave 0
+drops master 0 slave 0
+state Data Data
+other none
+",
+    ),
+    // The sequence numbers pass 65,535.
+    (
+        &["bulk", "0", "131081"],
+        Status::Ok,
+        0,
+        "bulk 0 131081
+data master 65533 slave 65533
+resets master 0 slave 0
+drops master 0 slave 0
+state Data Data
+other none
+",
+    ),
+    // An old frame of the pair passes after a reset, since session ids come again.
+    (
+        &["bulk", "57", "80"],
+        Status::Other,
+        69,
+        "bulk 57 80
+data master 0 slave 0
+resets master 2 slave 3
+drops master 14 slave 14
+state Parameter Parameter
+other 69
+",
+    ),
+    (
+        &["bulk", "7", "20000"],
+        Status::Other,
+        208,
+        "bulk 7 20000
+data master 310 slave 355
+resets master 828 slave 844
+drops master 3569 slave 2963
+state Session Session
+other 208
+",
+    ),
+    (
+        &["bulk", "18446744073709551615", "1000"],
+        Status::Ok,
+        0,
+        "bulk 18446744073709551615 1000
+data master 9 slave 15
+resets master 40 slave 38
+drops master 200 slave 122
+state Connection Connection
+other none
+",
+    ),
+];
+
+#[test]
+fn schedules_of_numbers(rt: HostRuntime) -> Result<(), Fail> {
+    for (words, status, place, report) in BULKS {
+        let setting = Setting { words, ..PLAIN };
+        let (ended, sink) = run_over(&rt, &setting, &[])?;
+        assert_eq!(rt; (ended.status, ended.place), (status, place), "{report}");
+        assert_eq!(rt; sink.bytes(), report.as_bytes(), "{report}");
+    }
+    Ok(())
+}
+
 const USAGE: &str =
     "usage: fsoe_tool node master|slave, replay, bulk <number> <events>, plant <file>, image, diagnose, convert\n";
 
-const NO_COMMANDS: [&[&str]; 12] = [
+const NO_COMMANDS: [&[&str]; 16] = [
     &[],
     &["node"],
     &["-h"],
     &["node", "slave", "x"],
     &["node", "both"],
-    &["replay"],
-    &["bulk", "0", "17"],
+    &["replay", "x"],
+    &["bulk", "0", "0"],
+    &["bulk", "00", "5"],
+    &["bulk", "0", "200001"],
+    &["bulk", "18446744073709551616", "5"],
+    &["bulk", "0", "+5"],
     &["plant", "x"],
     &["image"],
     &["diagnose"],

@@ -1,0 +1,82 @@
+//! The words that name a command.
+ghost use Rattle.std.specs.Prelude.{◌≡◌, ◌-◌, ◌^◌, IfSome, map, string_bytes};
+ghost use Rattle.schedule_file.specs.Field.{number_of};
+ghost use Rattle.fsoe_tool.specs.Command.{bulk_of, command_alone, command_of, node_at, HasFewEvents};
+
+use fsoe_base::End;
+use schedule_file::read_number;
+
+/// What the program is to do.
+#[derive(Clone, Copy)]
+pub enum Command {
+    /// To run this end over a node file.
+    Node(End),
+    /// To run both ends over a schedule.
+    Replay,
+    /// To run both ends over the first so many events of the schedule of this number.
+    Bulk { number: u64, events: u64 },
+}
+
+/// The command of one word.
+fn command_alone(word: &str) -> Option<Command>
+    ensures { result ≡ command_alone word.now }
+{
+    if word == "replay" {
+        Some(Command::Replay)
+    } else {
+        None
+    }
+}
+
+/// The node at the end that a word names.
+fn node_at(word: &str) -> Option<Command>
+    ensures { result ≡ node_at word.now }
+{
+    if word == "master" {
+        Some(Command::Node(End::Master))
+    } else if word == "slave" {
+        Some(Command::Node(End::Slave))
+    } else {
+        None
+    }
+}
+
+/// The schedule of a number for so many events, as two words tell them.
+fn bulk_of(number: &str, events: &str) -> Option<Command>
+    ensures value { result ≡ bulk_of (number_of (2 ^ 64 - 1) number.now) (number_of 200000 events.now) }
+    ensures few { IfSome result HasFewEvents }
+{
+    let number = read_number(number.as_bytes(), u64::MAX)?;
+    let events = read_number(events.as_bytes(), 200_000)?;
+    if events == 0 {
+        None
+    } else {
+        Some(Command::Bulk { number, events })
+    }
+}
+
+/// The command that words name, which are those after the program's name: `node master`, `node slave`, `replay`, or
+/// `bulk <number> <events>` with a number of at most 64 bits and from 1 to 200,000 events.
+pub fn command_of(words: &[String]) -> Option<Command>
+    ensures value { result ≡ command_of (map string_bytes words.now) }
+    ensures few { IfSome result HasFewEvents }
+{
+    match words {
+        [word] => command_alone(word.as_str()),
+        [first, word] => {
+            if first.as_str() == "node" {
+                node_at(word.as_str())
+            } else {
+                None
+            }
+        }
+        [first, number, events] => {
+            if first.as_str() == "bulk" {
+                bulk_of(number.as_str(), events.as_str())
+            } else {
+                None
+            }
+        }
+        _ => None,
+    }
+}
