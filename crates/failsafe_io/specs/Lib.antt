@@ -1,3 +1,5 @@
+pub mod Application
+pub mod Bits
 pub mod Offer
 pub mod Outputs
 pub mod Timer

@@ -1,11 +1,15 @@
 //! The fail-safe side of an end: the watchdog that leads to state Reset, the outputs that are zeros unless process
-//! data stand, and the offer that is zeros while the end is held.
+//! data stand, and the offer that is zeros while the end is held; and what decides the outputs of all connections.
 #![tactic(auto)]
 
+pub mod application;
+pub mod bit;
 pub mod offer;
 pub mod outputs;
 pub mod watchdog;
 
+pub use application::Application;
+pub use bit::Bit;
 pub use offer::{Offer, data_holds, zeros};
 pub use outputs::Outputs;
 pub use watchdog::Watchdog;
