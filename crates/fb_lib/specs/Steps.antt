@@ -52,7 +52,7 @@ on_told n age x = x && nat_le n age
 abbrev pub off_left : ℕ → ℕ → Bool → Bool → ℕ
 off_left n left ticked x = if x then n else (if ticked && nat_lt 0 left then left - 1 else left)
 
--- it gives true until it counted down
+-- it gives true while its input is true, and after that until it counted down
 abbrev pub off_told : ℕ → Bool → Bool
 off_told left x = x || nat_lt 0 left
 

@@ -42,7 +42,7 @@ impl OnDelay {
     }
 }
 
-/// For how many more ticked cycles the output stays true.
+/// After how many more ticked cycles the output is false; in the last of them it is.
 #[derive(Debug, Drop)]
 pub(crate) struct OffDelay {
     left: u16,
@@ -55,7 +55,7 @@ impl OffDelay {
         OffDelay { left: 0 }
     }
 
-    /// Tells whether the input is true, or was before fewer than `n` ticked cycles.
+    /// Tells whether the input is true, or was and fewer than `n` cycles since are ticked.
     pub(crate) fn step(&mut self, n: u16, ticked: bool, x: bool) -> bool
         ensures left { self.new.left ≡ off_left n self.old.left ticked x }
         ensures told { result ≡ off_told self.new.left x }

@@ -19,7 +19,7 @@ impl Estop {
         }
     }
 
-    /// Goes on where `ack` rises, and stays on, while `input` is true. Tells whether it is on.
+    /// Turns on where `ack` rises, and stays on, while `input` is true. Tells whether it is on.
     pub(crate) fn step(&mut self, input: bool, ack: bool) -> bool
         ensures next { self.new ≡ next_estop self.old input ack }
         ensures told { result ≡ self.new.on }

@@ -15,7 +15,7 @@ impl Latch {
         Latch { on: false }
     }
 
-    /// Goes on where `set` is true, and stays on, while `enable` is true. Tells whether it is on.
+    /// Turns on where `set` is true, and stays on, while `enable` is true. Tells whether it is on.
     pub(crate) fn step(&mut self, set: bool, enable: bool) -> bool
         ensures next { self.new ≡ next_latch self.old set enable }
         ensures told { result ≡ self.new.on }

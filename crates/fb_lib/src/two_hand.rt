@@ -10,7 +10,7 @@ use crate::delays::risen;
 pub(crate) enum TwoHand {
     /// Both must be released first.
     Spent,
-    /// Both were released, and since then at most one was pressed, for so many ticked cycles.
+    /// Both were released, and exactly one has been pressed since they last were, for `gap` ticked cycles.
     Ready { gap: u16 },
     /// Both were pressed in time, and are still.
     On,
