@@ -1,0 +1,89 @@
+-- A cycle of a net.
+use Rattle.std.proofs.Common.{◌≡◌, ℕ, Bool, List, [], ◌∷◌, map, length, sym, ap, ap₂, subst, ◌∙◌}
+use Rattle.std.specs.declared.vec.Vec.{Vec}
+use Rattle.std.specs.Vec.{with_items}
+use Rattle.std.proofs.lemmas.List.{with_items_is}
+use Rattle.failsafe_io.specs.Bits.{bit_at}
+use Rattle.failsafe_io.specs.Application.{GuardsBy}
+use Rattle.fb_net.specs.declared.spec.BlockSpec.{BlockSpec}
+use Rattle.fb_net.specs.declared.spec.Drive.{Drive}
+use Rattle.fb_net.specs.Values.{NetCycle, Planned}
+use Rattle.fb_net.specs.Outputs.{bits_on, outputs_of}
+use Rattle.fb_net.specs.NetView.{NetView, plan}
+use Rattle.fb_net.specs.Guarded.{is_output_guarded}
+use Rattle.fb_net.specs.Steps.{run_values, run_blocks, holds_of, net_rule}
+use Rattle.fb_net.specs.Meaning.{net_holds, rule_of, guards_of, net_answer}
+use Rattle.fb_net.specs.Standing.{BlocksStand, NetFollows, NetGives, KeepsPlan}
+use Rattle.fb_net.specs.Ready.{AllReady}
+use Rattle.fb_net.specs.Ran.{Ran}
+use Rattle.fb_net.proofs.Looking.{values_are, blocks_stand}
+use Rattle.fb_net.proofs.Holding.{all_restored-back, plan_stays}
+use Rattle.fb_net.proofs.Guarding.{off_output}
+use Rattle.fb_net.proofs.Bits.{lengths_with}
+
+pub gives : (old new : NetView) (c : NetCycle) (lens : List ℕ) (outputs : List (List ℕ)) → Ran old c lens new outputs → NetGives old c lens outputs
+gives old new c lens outputs ran = record {
+  gives = λ e s.
+      ran.outputs ∙ ap (λ (vs : List Bool). outputs_of old.drives vs c.inputs lens) (values_are (λ _. []) old.blocks c e ran.ready s.blocks);
+}
+
+pub follows : (old new : NetView) (c : NetCycle) (lens : List ℕ) (outputs : List (List ℕ)) → Ran old c lens new outputs → NetFollows old c new
+follows old new c lens outputs ran = record {
+  stands = λ e s.
+      let P : List BlockSpec → Type 0 = λ bs. BlocksStand (λ _. []) bs (c ∷ e) in
+      record { blocks = subst P (sym ran.blocks) (blocks_stand (λ _. []) old.blocks c e ran.ready s.blocks) };
+}
+
+plan-is : (old new : NetView) (c : NetCycle) (lens : List ℕ) (outputs : List (List ℕ)) → Ran old c lens new outputs → plan new.blocks ≡ plan old.blocks
+plan-is old new c lens outputs ran = ap (λ (bs : List BlockSpec). plan bs) ran.blocks ∙ plan_stays [] c old.blocks
+
+pub keeps : (old new : NetView) (c : NetCycle) (lens : List ℕ) (outputs : List (List ℕ)) → Ran old c lens new outputs → KeepsPlan old new
+keeps old new c lens outputs ran = record { plan = plan-is old new c lens outputs ran; drives = ran.drives }
+
+pub answers : (old new : NetView) (c : NetCycle) (lens : List ℕ) (outputs : List (List ℕ)) → Ran old c lens new outputs
+    → outputs ≡ (net_answer old c.ticked c.inputs lens).outputs
+answers old new c lens outputs ran =
+    ran.outputs ∙ ap (λ (bs : List BlockSpec). outputs_of old.drives (run_values [] c bs) c.inputs lens) (sym (all_restored-back old.blocks ran.ready))
+
+pub holds : (old new : NetView) (c : NetCycle) (lens : List ℕ) (outputs : List (List ℕ)) → Ran old c lens new outputs
+    → net_holds new ≡ (net_answer old c.ticked c.inputs lens).holds
+holds old new c lens outputs ran =
+    ap (λ (bs : List BlockSpec). holds_of bs) ran.blocks
+    ∙ ap (λ (bs : List BlockSpec). holds_of (run_blocks [] c bs)) (sym (all_restored-back old.blocks ran.ready))
+
+pub rule_stays : (old new : NetView) (c : NetCycle) (lens : List ℕ) (outputs : List (List ℕ)) → Ran old c lens new outputs
+    → rule_of new ≡ rule_of old
+rule_stays old new c lens outputs ran =
+    ap₂ (λ (ps : List Planned) (ds : List Drive). net_rule ps ds) (plan-is old new c lens outputs ran) ran.drives
+
+pub guards_stay : (old new : NetView) (c : NetCycle) (lens : List ℕ) (outputs : List (List ℕ)) → Ran old c lens new outputs
+    → guards_of new ≡ guards_of old
+guards_stay old new c lens outputs ran =
+    ap₂ (λ (ps : List Planned) (ds : List Drive). is_output_guarded ps ds) (plan-is old new c lens outputs ran) ran.drives
+
+pub lengths : (old new : NetView) (c : NetCycle) (lens : List ℕ) (outputs : List (List ℕ)) → Ran old c lens new outputs → map length outputs ≡ lens
+lengths old new c lens outputs ran =
+    ap (λ (xs : List (List ℕ)). map length xs) ran.outputs ∙ lengths_with lens (bits_on old.drives (run_values [] c old.blocks) c.inputs)
+
+pub guarded : (old new : NetView) (c : NetCycle) (lens : List ℕ) (outputs : List (List ℕ)) → Ran old c lens new outputs
+    → GuardsBy (guards_of old) c.inputs outputs
+guarded old new c lens outputs ran = λ o i g zero_in.
+    ap (λ (xs : List (List ℕ)). bit_at xs o) ran.outputs ∙ off_output old.drives old.blocks c lens o i ran.ready g zero_in
+
+-- what the two calls of a cycle come to
+pub ran_is : {Z W : Type 0} (blocks : Vec BlockSpec Z) (drives : Vec Drive W) (old : NetView) (c : NetCycle) (lens : List ℕ) (lent made : List BlockSpec) (ds : List Drive) (values read : List Bool) (outputs : List (List ℕ))
+    → old ≡ record { blocks = blocks.items; drives = drives.items } → AllReady blocks.items → lent ≡ blocks.items → length made ≡ blocks.len
+    → made ≡ run_blocks [] c lent → values ≡ run_values [] c lent → read ≡ values → ds ≡ drives.items → outputs ≡ outputs_of ds read c.inputs lens
+    → Ran old c lens (record { blocks = (with_items blocks made).items; drives = drives.items }) outputs
+ran_is blocks drives old c lens lent made ds values read outputs is ready lent_is same made_is values_are read_is ds_is outputs_are =
+    let old_blocks : old.blocks ≡ blocks.items = ap (λ (v : NetView). v.blocks) is in
+    let old_drives : old.drives ≡ drives.items = ap (λ (v : NetView). v.drives) is in
+    let P : List BlockSpec → Type 0 = λ bs. AllReady bs in
+    record {
+      ready = subst P (sym old_blocks) ready;
+      blocks = with_items_is blocks made same ∙ made_is ∙ ap (λ (bs : List BlockSpec). run_blocks [] c bs) (lent_is ∙ sym old_blocks);
+      drives = sym old_drives;
+      outputs = outputs_are
+          ∙ ap₂ (λ (xs : List Drive) (vs : List Bool). outputs_of xs vs c.inputs lens) (ds_is ∙ sym old_drives)
+          (read_is ∙ values_are ∙ ap (λ (bs : List BlockSpec). run_values [] c bs) (lent_is ∙ sym old_blocks));
+    }

@@ -1,0 +1,46 @@
+-- A net without a fault can be stepped.
+use Rattle.std.proofs.Common.{◌≡◌, ℕ, suc, ◌+◌, IsTrue, Bool, true, false, List, [], ◌∷◌, length, Option, Some, None, refl, if◌then◌else◌, arith, rules}
+use Rattle.std.specs.List.{All}
+use Rattle.fb_lib.specs.Kind.{takes}
+use Rattle.fb_net.specs.declared.fault.NetFault.{NetFault}
+use Rattle.fb_net.specs.declared.spec.BlockSpec.{BlockSpec}
+use Rattle.fb_net.specs.declared.spec.Drive.{Drive}
+use Rattle.fb_net.specs.Values.{NetCycle, with_block}
+use Rattle.fb_net.specs.NetView.{planned}
+use Rattle.fb_net.specs.Fault.{or_next, block_fault, blocks_fault, drives_fault, first_fault}
+use Rattle.fb_net.specs.Standing.{BlocksStand, NetStands}
+use Rattle.fb_net.specs.New.{IsNew}
+use Rattle.fb_net.specs.Ready.{AllReady}
+
+both-none : (a b : Option NetFault) → or_next a b ≡ None → (a ≡ None) × (b ≡ None)
+both-none None b h = (refl, h)
+both-none (Some f) b h = absurd (cc)
+
+allowed : (q : Bool) (f : NetFault) (rest : Option NetFault) → (if q then rest else Some f) ≡ None → IsTrue q
+allowed true f rest h = search rules
+allowed false f rest h = absurd (cc)
+
+all-first : (b : BlockSpec) (bs : List BlockSpec) → All IsNew (b ∷ bs) → IsNew b
+all-first b bs h = h 0 b (omega arith)
+
+all-rest : (b : BlockSpec) (bs : List BlockSpec) → All IsNew (b ∷ bs) → All IsNew bs
+all-rest b bs h = λ k d lt. h (suc k) d (omega arith)
+
+ready-by : (ins : List ℕ) (before : ℕ) (bs : List BlockSpec) → All IsNew bs → blocks_fault ins before bs ≡ None → AllReady bs
+ready-by ins before [] new h = tt
+ready-by ins before (b ∷ bs) new h =
+    let t : (block_fault ins before b ≡ None) × (blocks_fault ins (before + 1) bs ≡ None) = both-none (block_fault ins before b) (blocks_fault ins (before + 1) bs) h in
+    let n : IsNew b = all-first b bs new in (
+      record { takes = allowed (takes b.block.kind (length b.ins)) _ _ t.0; fits = n.fits; past = []; stands = n.stands },
+      ready-by ins (before + 1) bs (all-rest b bs new) t.1,
+    )
+
+pub ready_by : (ins outs : List ℕ) (bs : List BlockSpec) (ds : List Drive) → All IsNew bs → first_fault ins outs bs ds ≡ None → AllReady bs
+ready_by ins outs bs ds new h = ready-by ins 0 bs new ((both-none (blocks_fault ins 0 bs) (drives_fault ins outs (length bs) [] ds) h).0)
+
+stand-new : (before : List NetCycle → List Bool) (bs : List BlockSpec) → All IsNew bs → BlocksStand before bs []
+stand-new before [] new = tt
+stand-new before (b ∷ bs) new = ((all-first b bs new).stands, stand-new (with_block before (planned b)) bs (all-rest b bs new))
+
+pub stands_new : (bs : List BlockSpec) (ds : List Drive) → All IsNew bs → NetStands (record { blocks = bs; drives = ds }) []
+stands_new bs ds new = record { blocks = stand-new (λ _. []) bs new }

@@ -1,0 +1,68 @@
+-- What a net holds as numbers is what its blocks keep.
+use Rattle.std.proofs.Common.{◌≡◌, ℕ, ◌==◌, Bool, true, false, List, [], ◌∷◌, ◌++◌, refl, sym, ap, ap₂, ◌∙◌}
+use Rattle.fb_lib.specs.declared.held.Held.{Held}
+use Rattle.fb_lib.specs.declared.held.Held.TheVariants as held
+use Rattle.fb_lib.specs.declared.kind.BlockKind.{BlockKind}
+use Rattle.fb_lib.specs.declared.kind.BlockKind.TheVariants as kind
+use Rattle.fb_lib.specs.declared.two_hand.TwoHand.TheVariants as hands
+use Rattle.fb_lib.specs.Cycle.{Cycle}
+use Rattle.fb_lib.specs.Steps.{BlockView, kind_of}
+use Rattle.fb_lib.specs.Standing.{held_of}
+use Rattle.fb_net.specs.declared.spec.BlockSpec.{BlockSpec}
+use Rattle.fb_net.specs.Values.{NetCycle, Planned}
+use Rattle.fb_net.specs.NetView.{planned, plan}
+use Rattle.fb_net.specs.Steps.{flag, count_held, on_held, flag_held, held_from, restored, all_restored, holds_of, given, run_blocks}
+use Rattle.fb_net.specs.Ready.{IsReady, AllReady}
+
+kind_of-held_of : (k : BlockKind) (n : ℕ) (e : List Cycle) → kind_of (held_of k n e) ≡ k
+kind_of-held_of kind.Const0 n e = refl
+kind_of-held_of kind.Const1 n e = refl
+kind_of-held_of kind.And n e = refl
+kind_of-held_of kind.Or n e = refl
+kind_of-held_of kind.Latch n e = refl
+kind_of-held_of kind.Estop n e = refl
+kind_of-held_of kind.TwoHand n e = refl
+kind_of-held_of kind.OnDelay n e = refl
+kind_of-held_of kind.OffDelay n e = refl
+kind_of-held_of kind.Feedback n e = refl
+
+-- a block keeps what a block of its kind keeps
+pub kind_is : (b : BlockSpec) → IsReady b → kind_of b.block.held ≡ b.block.kind
+kind_is b r = ap (λ (v : BlockView). kind_of v.held) r.stands.is ∙ kind_of-held_of b.block.kind b.block.n r.past
+
+flag-back : (b : Bool) → (flag b == 1) ≡ b
+flag-back true = refl
+flag-back false = refl
+
+-- the numbers tell what is kept
+numbers-back : (h : Held) → held_from (kind_of h) (count_held h) (on_held h) (flag_held h) ≡ h
+numbers-back held.Const0 = refl
+numbers-back held.Const1 = refl
+numbers-back held.And = refl
+numbers-back held.Or = refl
+numbers-back (held.Latch l) = ap (λ (on : Bool). held.Latch (record { on = on })) (flag-back l.on)
+numbers-back (held.Estop s) = ap₂ (λ (on ack : Bool). held.Estop (record { on = on; ack = ack })) (flag-back s.on) (flag-back s.ack)
+numbers-back (held.TwoHand hands.Spent) = refl
+numbers-back (held.TwoHand (hands.Ready gap)) = refl
+numbers-back (held.TwoHand hands.On) = refl
+numbers-back (held.OnDelay d) = refl
+numbers-back (held.OffDelay d) = refl
+numbers-back (held.Feedback f) =
+    ap₂ (λ (on bad : Bool). held.Feedback (record { on = on; age = f.age; bad = bad })) (flag-back f.on) (flag-back f.bad)
+
+restored-back : (b : BlockSpec) → kind_of b.block.held ≡ b.block.kind
+    → restored (planned b) (count_held b.block.held) (on_held b.block.held) (flag_held b.block.held) ≡ b
+restored-back b is =
+    let h : Held = b.block.held in
+    ap (λ (x : Held). let v : BlockView = record { kind = b.block.kind; n = b.block.n; held = x } in let made : BlockSpec = record { block = v; ins = b.ins } in made)
+    (ap (λ (k : BlockKind). held_from k (count_held h) (on_held h) (flag_held h)) (sym is) ∙ numbers-back h)
+
+pub all_restored-back : (bs : List BlockSpec) → AllReady bs → all_restored (plan bs) (holds_of bs) ≡ bs
+all_restored-back [] r = refl
+all_restored-back (b ∷ bs) r =
+    ap₂ (λ (x : BlockSpec) (xs : List BlockSpec). x ∷ xs) (restored-back b (kind_is b r.0)) (all_restored-back bs r.1)
+
+-- a cycle leaves what the blocks were made as
+pub plan_stays : (values : List Bool) (c : NetCycle) (bs : List BlockSpec) → plan (run_blocks values c bs) ≡ plan bs
+plan_stays values c [] = refl
+plan_stays values c (b ∷ bs) = ap (λ (ps : List Planned). planned b ∷ ps) (plan_stays (values ++ given values c b ∷ []) c bs)

@@ -1,0 +1,55 @@
+-- The rule of a net over a list of calls.
+use Rattle.std.proofs.Common.{◌≡◌, ℕ, Bool, List, [], ◌∷◌, ◌++◌, refl, sym, ap, ◌∙◌}
+use Rattle.fb_net.specs.declared.spec.BlockSpec.{BlockSpec}
+use Rattle.fb_net.specs.Values.{NetCycle, Planned, block_values}
+use Rattle.fb_net.specs.Outputs.{outputs_of}
+use Rattle.fb_net.specs.NetView.{NetView, plan}
+use Rattle.fb_net.specs.Standing.{BlocksStand, NetStands}
+use Rattle.fb_net.specs.Ready.{AllReady}
+use Rattle.fb_net.specs.Steps.{cycle_of, given, run_values, run_blocks, holds_of, all_restored}
+use Rattle.fb_net.specs.Meaning.{rule_of, net_holds}
+use Rattle.fb_net.specs.Calls.{Call, cycles_of, held_after}
+use Rattle.fb_net.proofs.Stepping.{next_ready}
+use Rattle.fb_net.proofs.Holding.{all_restored-back, plan_stays}
+use Rattle.fb_net.proofs.Looking.{values_are, blocks_stand}
+
+-- the blocks after calls
+abbrev after : List BlockSpec → List Call → List BlockSpec
+after bs [] = bs
+after bs (a ∷ e) = run_blocks [] a.cycle (after bs e)
+
+ready-run : (values : List Bool) (c : NetCycle) (bs : List BlockSpec) → AllReady bs → AllReady (run_blocks values c bs)
+ready-run values c [] r = tt
+ready-run values c (b ∷ bs) r = (next_ready b (cycle_of values c b.ins) r.0, ready-run (values ++ given values c b ∷ []) c bs r.1)
+
+ready-after : (bs : List BlockSpec) (e : List Call) → AllReady bs → AllReady (after bs e)
+ready-after bs [] r = r
+ready-after bs (a ∷ e) r = ready-run [] a.cycle (after bs e) (ready-after bs e r)
+
+plan-after : (bs : List BlockSpec) (e : List Call) → plan (after bs e) ≡ plan bs
+plan-after bs [] = refl
+plan-after bs (a ∷ e) = plan_stays [] a.cycle (after bs e) ∙ plan-after bs e
+
+stand-after : (bs : List BlockSpec) (e : List Call) → AllReady bs → BlocksStand (λ _. []) bs [] → BlocksStand (λ _. []) (after bs e) (cycles_of e)
+stand-after bs [] r s = s
+stand-after bs (a ∷ e) r s = blocks_stand (λ _. []) (after bs e) a.cycle (cycles_of e) (ready-after bs e r) (stand-after bs e r s)
+
+restored-after : (bs : List BlockSpec) (e : List Call) → AllReady bs → all_restored (plan bs) (holds_of (after bs e)) ≡ after bs e
+restored-after bs e r =
+    ap (λ (ps : List Planned). all_restored ps (holds_of (after bs e))) (sym (plan-after bs e)) ∙ all_restored-back (after bs e) (ready-after bs e r)
+
+held-is : (v : NetView) (e : List Call) → AllReady v.blocks → held_after (rule_of v) (net_holds v) e ≡ holds_of (after v.blocks e)
+held-is v [] r = refl
+held-is v (a ∷ e) r =
+    ap (λ (held : List ℕ). holds_of (run_blocks [] a.cycle (all_restored (plan v.blocks) held))) (held-is v e r)
+    ∙ ap (λ (bs : List BlockSpec). holds_of (run_blocks [] a.cycle bs)) (restored-after v.blocks e r)
+
+pub rule_answers : (v : NetView) (a : Call) (e : List Call) → AllReady v.blocks → NetStands v []
+    → (rule_of v (held_after (rule_of v) (net_holds v) e) a.cycle.ticked a.cycle.inputs a.lens).outputs
+    ≡ outputs_of v.drives (block_values (plan v.blocks) (a.cycle ∷ cycles_of e)) a.cycle.inputs a.lens
+rule_answers v a e r s =
+    let F : List Bool → List (List ℕ) = λ vs. outputs_of v.drives vs a.cycle.inputs a.lens in
+    ap (λ (held : List ℕ). F (run_values [] a.cycle (all_restored (plan v.blocks) held))) (held-is v e r)
+    ∙ ap (λ (bs : List BlockSpec). F (run_values [] a.cycle bs)) (restored-after v.blocks e r)
+    ∙ ap F (values_are (λ _. []) (after v.blocks e) a.cycle (cycles_of e) (ready-after v.blocks e r) (stand-after v.blocks e r s.blocks))
+    ∙ ap (λ (ps : List Planned). F (block_values ps (a.cycle ∷ cycles_of e))) (plan-after v.blocks e)

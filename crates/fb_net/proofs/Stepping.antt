@@ -1,0 +1,76 @@
+-- A block of a net that is stepped.
+use Rattle.std.proofs.Common.{◌≡◌, ℕ, ◌<◌, ◌≤◌, IsTrue, Bool, List, ◌∷◌, length, map, refl, sym, ap, subst, ◌∙◌, arith}
+use Rattle.std.proofs.lemmas.Bool.Decides.{nat_tests}
+use Rattle.fb_lib.specs.declared.kind.BlockKind.{BlockKind}
+use Rattle.fb_lib.specs.declared.kind.BlockKind.TheVariants as kind
+use Rattle.fb_lib.specs.Kind.{takes}
+use Rattle.fb_lib.specs.Cycle.{Cycle}
+use Rattle.fb_lib.specs.Steps.{BlockView, next_held, next_block, told}
+use Rattle.fb_lib.specs.Standing.{BlockStands, BlockFollows, BlockGives}
+use Rattle.fb_lib.proofs.Looking.{follows_by, gives_by}
+use Rattle.fb_net.specs.declared.spec.BlockSpec.{BlockSpec}
+use Rattle.fb_net.specs.Values.{NetCycle, wire_value}
+use Rattle.fb_net.specs.Steps.{cycle_of, stepped, given}
+use Rattle.fb_net.specs.Ready.{IsReady}
+
+-- no kind has more than 8 inputs
+most-inputs : (k : BlockKind) (n : ℕ) → IsTrue (takes k n) → n ≤ 8
+most-inputs kind.Const0 n h = grind (arith, nat_tests)
+most-inputs kind.Const1 n h = grind (arith, nat_tests)
+most-inputs kind.And n h = grind (arith, nat_tests)
+most-inputs kind.Or n h = grind (arith, nat_tests)
+most-inputs kind.Latch n h = grind (arith, nat_tests)
+most-inputs kind.Estop n h = grind (arith, nat_tests)
+most-inputs kind.TwoHand n h = grind (arith, nat_tests)
+most-inputs kind.OnDelay n h = grind (arith, nat_tests)
+most-inputs kind.OffDelay n h = grind (arith, nat_tests)
+most-inputs kind.Feedback n h = grind (arith, nat_tests)
+
+pub most_wires : (b : BlockSpec) → IsReady b → length b.ins ≤ 8
+most_wires b r = most-inputs b.block.kind (length b.ins) r.takes
+
+-- a block that stands for some cycles is stepped as its contract says
+pub next_is : (old new : BlockView) (c : Cycle) (past : List Cycle) → old.n < 65536 → BlockStands old.kind old.n old past
+    → BlockFollows old c new → new ≡ next_block old c
+next_is old new c past fits s follows =
+    (follows.stands old.kind old.n past s).is ∙ sym (((follows_by old (next_block old c) c fits refl).stands old.kind old.n past s).is)
+
+pub given_is : (old : BlockView) (c : Cycle) (past : List Cycle) (given : Bool) → old.n < 65536 → BlockStands old.kind old.n old past
+    → BlockGives old c given → given ≡ told old.n (next_held old.n old.held c) c
+given_is old c past given fits s gives =
+    gives.gives old.kind old.n past s
+    ∙ sym ((gives_by old (next_block old c) c (told old.n (next_held old.n old.held c) c) fits refl refl).gives old.kind old.n past s)
+
+-- a block that stands for some cycles after one more
+pub next_stands : (v : BlockView) (c : Cycle) (past : List Cycle) → v.n < 65536 → BlockStands v.kind v.n v past
+    → BlockStands v.kind v.n (next_block v c) (c ∷ past)
+next_stands v c past fits s = (follows_by v (next_block v c) c fits refl).stands v.kind v.n past s
+
+pub next_ready : (old : BlockSpec) (c : Cycle) → IsReady old → IsReady (record old { block = next_block old.block c })
+next_ready old c r = record {
+  takes = r.takes;
+  fits = r.fits;
+  past = c ∷ r.past;
+  stands = next_stands old.block c r.past r.fits r.stands;
+}
+
+-- a block of a net after it was stepped with what its wires read
+pub stepped_is : (b : BlockSpec) (new : BlockView) (ticked : Bool) (ins values : List Bool) (inputs : List (List ℕ)) → IsReady b
+    → ins ≡ map (wire_value values inputs) b.ins → BlockFollows b.block (record { ticked = ticked; ins = ins }) new
+    → (let made : BlockSpec = record { block = new; ins = b.ins } in made) ≡ stepped values (record { ticked = ticked; inputs = inputs }) b
+stepped_is b new ticked ins values inputs r read follows =
+    let c : Cycle = record { ticked = ticked; ins = ins } in
+    ap (λ (v : BlockView). let made : BlockSpec = record { block = v; ins = b.ins } in made) (next_is b.block new c r.past r.fits r.stands follows)
+    ∙ ap (λ (xs : List Bool). let made : BlockSpec = record { block = next_block b.block (record { ticked = ticked; ins = xs }); ins = b.ins } in made) read
+
+pub gives_is : (b : BlockSpec) (told_now : Bool) (ticked : Bool) (ins values : List Bool) (inputs : List (List ℕ)) → IsReady b
+    → ins ≡ map (wire_value values inputs) b.ins → BlockGives b.block (record { ticked = ticked; ins = ins }) told_now
+    → told_now ≡ given values (record { ticked = ticked; inputs = inputs }) b
+gives_is b told_now ticked ins values inputs r read gives =
+    let c : Cycle = record { ticked = ticked; ins = ins } in
+    given_is b.block c r.past told_now r.fits r.stands gives
+    ∙ ap (λ (xs : List Bool). let d : Cycle = record { ticked = ticked; ins = xs } in told b.block.n (next_held b.block.n b.block.held d) d) read
+
+-- and it can be stepped again
+pub ready_again : (b new : BlockSpec) (values : List Bool) (c : NetCycle) → IsReady b → new ≡ stepped values c b → IsReady new
+ready_again b new values c r is = let P : BlockSpec → Type 0 = λ x. IsReady x in subst P (sym is) (next_ready b (cycle_of values c b.ins) r)

@@ -1,0 +1,9 @@
+use Rattle.std.proofs.Common.{◌≡◌, map, drop}
+use Rattle.std.specs.List.{list_all}
+use Rattle.fb_net.specs.Guarded.{is_wire_guarded}
+use Rattle.fb_net.proofs.guards.all_guarded.Given as goal
+
+abbrev pub invariant-loop-wire : goal.invariant-loop-wire
+invariant-loop-wire l =
+    list_all (λ g. g) (map (is_wire_guarded l.inp l.guarded) (drop l.wire-index l.wires))
+    ≡ list_all (λ g. g) (map (is_wire_guarded l.inp l.guarded) l.wires)

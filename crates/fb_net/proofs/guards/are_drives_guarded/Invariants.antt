@@ -1,0 +1,10 @@
+use Rattle.std.proofs.Common.{◌≡◌, not, ◌||◌, drop}
+use Rattle.std.specs.List.{list_all}
+use Rattle.failsafe_io.specs.Bits.{is_same_bit}
+use Rattle.fb_net.specs.Guarded.{is_wire_guarded}
+use Rattle.fb_net.proofs.guards.are_drives_guarded.Given as goal
+
+abbrev pub invariant-loop-drive : goal.invariant-loop-drive
+invariant-loop-drive l =
+    list_all (λ d. not (is_same_bit d.out l.out) || is_wire_guarded l.inp l.guarded d.from) (drop l.drive-index l.drives)
+    ≡ list_all (λ d. not (is_same_bit d.out l.out) || is_wire_guarded l.inp l.guarded d.from) l.drives

@@ -1,0 +1,9 @@
+use Rattle.std.proofs.Common.{◌≡◌, length}
+use Rattle.fb_net.specs.Mirror.{mirrored}
+use Rattle.fb_net.proofs.mirror.mirrored.Given as goal
+
+abbrev pub invariant-loop-i : goal.invariant-loop-i
+invariant-loop-i l = record {
+  counted : length l.image ≡ l.i;
+  bytes : l.image ≡ mirrored l.bytes l.i;
+}

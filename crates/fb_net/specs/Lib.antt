@@ -1,0 +1,13 @@
+pub mod Values
+pub mod Outputs
+pub mod NetView
+pub mod Guarded
+pub mod Steps
+pub mod Standing
+pub mod Ready
+pub mod Meaning
+pub mod Ran
+pub mod Fault
+pub mod New
+pub mod Mirror
+pub mod Calls

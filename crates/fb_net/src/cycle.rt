@@ -1,0 +1,103 @@
+//! One cycle of a net.
+ghost use Rattle.std.specs.Prelude.{◌≡◌, ◌≤◌, false, [], map, length};
+ghost use Rattle.failsafe_io.specs.Bits.{at_number};
+ghost use Rattle.fb_net.specs.Values.{wire_value};
+ghost use Rattle.fb_net.specs.Outputs.{outputs_of};
+ghost use Rattle.fb_net.specs.Ready.{IsReady, AllReady};
+ghost use Rattle.fb_net.specs.Steps.{stepped, given, run_values, run_blocks};
+
+use crate::images::{bit_at, clear, set_bit};
+use crate::spec::{BlockSpec, Drive};
+use crate::wire::Wire;
+use arrayvec::ArrayVec;
+use fsoe_base::Image;
+
+/// What a wire reads, by the values of the blocks in their order.
+pub(crate) fn wire_value(wire: Wire, inputs: &[Image], values: &[bool]) -> bool
+    ensures { result ≡ wire_value values.now inputs.now wire }
+{
+    match wire {
+        Wire::Input(bit) => bit_at(inputs, bit),
+        Wire::Block(number) => number_value(values, number),
+    }
+}
+
+/// The value of a block by its number from 1, false where there is none.
+pub(crate) fn number_value(values: &[bool], number: u16) -> bool
+    ensures { result ≡ at_number values.now number false }
+{
+    if number == 0 {
+        return false;
+    }
+    let place = usize::from(number) - 1;
+    if place < values.len() {
+        values[place]
+    } else {
+        false
+    }
+}
+
+/// What the wires of a block read, at most 8.
+fn read_wires(wires: &[Wire], inputs: &[Image], values: &[bool]) -> ArrayVec<bool, 8>
+    requires { length wires.now ≤ 8 }
+    ensures { result.items ≡ map (wire_value values.now inputs.now) wires.now }
+{
+    let mut ins = ArrayVec::new();
+    for wire in wires {
+        ins.push(wire_value(*wire, inputs, values));
+    }
+    ins
+}
+
+/// Steps a block, and gives its value.
+fn step_block(spec: &mut BlockSpec, ticked: bool, inputs: &[Image], values: &[bool]) -> bool
+    requires { IsReady spec.old }
+    ensures stepped { spec.new
+        ≡ stepped values.now (record { ticked = ticked; inputs = inputs.now }) spec.old }
+    ensures given { result
+        ≡ given values.now (record { ticked = ticked; inputs = inputs.now }) spec.old }
+    ensures ready { IsReady spec.new }
+{
+    let ins = read_wires(spec.ins.list(), inputs, values);
+    spec.block.step(ticked, ins.as_slice())
+}
+
+/// Steps the blocks in their order, and lists their values.
+pub(crate) fn run_blocks(
+    blocks: &mut [BlockSpec],
+    ticked: bool,
+    inputs: &[Image],
+    values: &mut ArrayVec<bool, 256>,
+)
+    requires ready { AllReady blocks.old }
+    requires fits { length blocks.old ≤ 256 }
+    ensures blocks { blocks.new
+        ≡ run_blocks [] (record { ticked = ticked; inputs = inputs.now }) blocks.old }
+    ensures values { values.new.items
+        ≡ run_values [] (record { ticked = ticked; inputs = inputs.now }) blocks.old }
+    ensures ready { AllReady blocks.new }
+{
+    values.clear();
+    for i in 0..blocks.len() {
+        let spec = &mut blocks[i];
+        let value = step_block(spec, ticked, inputs, values.as_slice());
+        values.push(value);
+    }
+}
+
+/// Sets the driven bits whose wires read true, and makes every other bit 0.
+pub(crate) fn drive_outputs(
+    drives: &[Drive],
+    values: &[bool],
+    inputs: &[Image],
+    outputs: &mut [Image],
+)
+    ensures { outputs.new ≡ outputs_of drives.now values.now inputs.now (map length outputs.old) }
+{
+    clear(outputs);
+    for drive in drives {
+        if wire_value(drive.from, inputs, values) {
+            set_bit(outputs, drive.out);
+        }
+    }
+}

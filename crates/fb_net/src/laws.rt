@@ -1,0 +1,48 @@
+//! What holds of all nets. The calls do nothing: each law is a contract.
+ghost use Rattle.std.specs.Prelude.{◌≡◌, ℕ, true, false, Bool, ◌&&◌, List, [], ◌∷◌};
+ghost use Rattle.std.specs.List.{list_any};
+ghost use Rattle.failsafe_io.specs.declared.bit.Bit.{Bit};
+ghost use Rattle.failsafe_io.specs.Bits.{bit_at, has_bit, is_same_bit};
+ghost use Rattle.fb_net.specs.declared.spec.Drive.{Drive};
+ghost use Rattle.fb_net.specs.Values.{NetCycle, Planned, wire_value, block_values};
+ghost use Rattle.fb_net.specs.Outputs.{outputs_of};
+ghost use Rattle.fb_net.specs.NetView.{NetView, plan};
+ghost use Rattle.fb_net.specs.Guarded.{is_output_guarded};
+ghost use Rattle.fb_net.specs.Standing.{NetStands};
+ghost use Rattle.fb_net.specs.Ready.{AllReady};
+ghost use Rattle.fb_net.specs.Meaning.{rule_of, net_holds};
+ghost use Rattle.fb_net.specs.Calls.{Call, Called, cycles_of, all_outputs, held_after};
+
+/// A new net that has any calls gives in each what looking back over its cycles says, and stands for them all.
+#[tactic(auto, using(crate::proofs::CallsOf::outputs_are, crate::proofs::CallsOf::stands))]
+pub fn calls()
+    ensures given { (first last : NetView) (e : List Call) (outputs : List (List (List ℕ)))
+        → NetStands first [] → Called first e outputs last
+        → outputs ≡ all_outputs (plan first.blocks) first.drives e }
+    ensures stands { (first last : NetView) (e : List Call) (outputs : List (List (List ℕ)))
+        → NetStands first [] → Called first e outputs last → NetStands last (cycles_of e) }
+{}
+
+/// The rule of a new net says the same: from what it holds, after any calls, its answer to one more is what looking back over the
+/// cycles says.
+pub fn rule()
+    ensures { (v : NetView) (a : Call) (e : List Call) → AllReady v.blocks → NetStands v []
+        → (rule_of v (held_after (rule_of v) (net_holds v) e) a.cycle.ticked a.cycle.inputs a.lens).outputs
+        ≡ outputs_of v.drives (block_values (plan v.blocks) (a.cycle ∷ cycles_of e)) a.cycle.inputs a.lens }
+{}
+
+/// A guarded output bit is 0 in each cycle in which its input bit is 0, whatever came before.
+pub fn guards()
+    ensures { (ps : List Planned) (ds : List Drive) (c : NetCycle) (e : List NetCycle) (lens : List ℕ) (o i : Bit)
+        → is_output_guarded ps ds o i ≡ true → bit_at c.inputs i ≡ false
+        → bit_at (outputs_of ds (block_values ps (c ∷ e)) c.inputs lens) o ≡ false }
+{}
+
+/// An output bit that is there is 1 exactly where a drive of it reads true.
+#[tactic(auto, using(crate::proofs::Driven::driven_bit))]
+pub fn outputs()
+    ensures { (ds : List Drive) (values : List Bool) (inputs : List (List ℕ)) (lens : List ℕ) (o : Bit)
+        → has_bit lens o ≡ true
+        → bit_at (outputs_of ds values inputs lens) o
+        ≡ list_any (λ d. is_same_bit d.out o && wire_value values inputs d.from) ds }
+{}

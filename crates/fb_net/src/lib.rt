@@ -1,0 +1,27 @@
+//! Nets of function blocks: an application that steps its blocks in order, each with input bits and the values of earlier blocks,
+//! and drives output bits. Also two simple applications, and a type that is a net or an application that was handed in.
+#![tactic(auto)]
+
+mod cycle;
+pub mod fault;
+mod guards;
+mod images;
+pub mod kind_of;
+pub mod laws;
+mod making;
+pub mod mirror;
+pub mod net;
+pub mod spec;
+pub mod wire;
+pub mod zeros;
+
+pub use fault::NetFault;
+pub use kind_of::{AppEntry, AppKind, KindOf};
+pub use mirror::Mirror;
+pub use net::Net;
+pub use spec::{BlockSpec, Drive};
+pub use wire::{Wire, Wires};
+pub use zeros::Zeros;
+
+#[cfg(test)]
+mod tests;

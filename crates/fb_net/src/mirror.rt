@@ -1,0 +1,74 @@
+//! An application whose outputs are its inputs.
+ghost use Rattle.std.specs.Prelude.{◌≡◌, ◌≤◌, [], map, length, get_or, slice_index};
+ghost use Rattle.fb_net.specs.Mirror.{mirrored, mirror_images};
+
+use crate::guards::is_same_bit;
+use failsafe_io::{Application, Bit};
+use fsoe_base::Image;
+
+/// Gives each connection its input bytes as its outputs where both are there, and 0 elsewhere. It guards each output bit by
+/// the same input bit.
+#[derive(Debug, Drop)]
+pub struct Mirror;
+
+/// A byte, or 0 where there is none.
+#[tactic(auto, using(std::proofs::lemmas::List::get_or_past))]
+fn byte_or_zero(bytes: &[u8], place: usize) -> u8
+    ensures { result ≡ slice_index bytes.now place }
+{
+    if place < bytes.len() { bytes[place] } else { 0 }
+}
+
+/// These bytes as far as `len` goes, at most 126, and zeros behind them.
+fn mirrored(bytes: &[u8], len: usize) -> Image
+    requires { len ≤ 126 }
+    ensures { result ≡ mirrored bytes.now len }
+{
+    let mut image = Image::zeros(0);
+    for i in 0..len {
+        image.push(byte_or_zero(bytes, i));
+    }
+    image
+}
+
+/// The bytes of the image at this place, from 0, or none.
+fn bytes_at(images: &[Image], place: usize) -> &[u8]
+    ensures { result.now ≡ get_or images.now place [] }
+{
+    if place < images.len() {
+        images[place].bytes()
+    } else {
+        &[]
+    }
+}
+
+/// Makes each output image what its input is.
+#[tactic(auto, using(crate::proofs::Mirroring::mirror_step))]
+fn mirror_all(inputs: &[Image], outputs: &mut [Image])
+    ensures { outputs.new ≡ mirror_images inputs.now (map length outputs.old) }
+{
+    for i in 0..outputs.len() {
+        let image = &mut outputs[i];
+        *image = mirrored(bytes_at(inputs, i), image.len());
+    }
+}
+
+impl Application for Mirror {
+    ghost use Rattle.fb_net.specs.Mirror.{mirror_images};
+    ghost use Rattle.failsafe_io.specs.Bits.{is_same_bit};
+
+    ghost holds = { λ _. [] };
+
+    ghost rule = { λ _ _ _ inputs lens. record { outputs = mirror_images inputs lens; holds = [] } };
+
+    ghost guards = { λ _. is_same_bit };
+
+    #[tactic(auto, using(crate::proofs::Mirroring::lengths_mirrored, crate::proofs::Mirroring::mirror_guards))]
+    fn cycle(&mut self, _ticked: bool, inputs: &[Image], outputs: &mut [Image]) {
+        mirror_all(inputs, outputs);
+    }
+
+    fn guards(&self, out: Bit, inp: Bit) -> bool {
+        is_same_bit(out, inp)
+    }
+}

@@ -1,0 +1,120 @@
+//! A net of function blocks.
+ghost use Rattle.std.specs.Prelude.{◌≡◌, map, length};
+ghost use Rattle.failsafe_io.specs.Application.{GuardsBy};
+ghost use Rattle.fb_net.specs.Meaning.{net_holds, rule_of, guards_of, net_answer};
+ghost use Rattle.fb_net.specs.Ran.{Ran};
+ghost use Rattle.fb_net.specs.Standing.{NetFollows, NetGives, KeepsPlan};
+
+use crate::cycle::{drive_outputs, run_blocks};
+use crate::fault::NetFault;
+use crate::guards::is_output_guarded;
+use crate::making::first_fault;
+use crate::spec::{BlockSpec, Drive};
+use arrayvec::ArrayVec;
+use failsafe_io::{Application, Bit};
+use fsoe_base::Image;
+use std::marker::Model;
+
+/// A net: blocks that are stepped in order in each cycle, and output bits that are driven. It takes no memory in a cycle.
+#[derive(Debug, Drop)]
+pub struct Net {
+    blocks: Vec<BlockSpec>,
+    drives: Vec<Drive>,
+    values: ArrayVec<bool, 256>,
+}
+
+impl Model for Net {
+    ghost use Rattle.std.specs.Prelude.{◌≤◌, length};
+    ghost use Rattle.fb_net.specs.NetView.{NetView};
+    ghost use Rattle.fb_net.specs.Ready.{AllReady};
+
+    ghost Value = { NetView };
+
+    ghost view = { λ n. record { blocks = n.blocks.items; drives = n.drives.items } };
+
+    ghost invariant = { λ n. (length n.blocks.items ≤ 256) × AllReady n.blocks.items };
+}
+
+impl Net {
+    ghost use Rattle.std.specs.Prelude.{◌≤◌, [], IfOk, vec_len};
+    ghost use Rattle.std.specs.List.{All};
+    ghost use Rattle.std.specs.Result.{result_err};
+    ghost use Rattle.fb_net.specs.Fault.{first_fault};
+    ghost use Rattle.fb_net.specs.New.{IsNew};
+    ghost use Rattle.fb_net.specs.Ready.{AllReady};
+    ghost use Rattle.fb_net.specs.Standing.{NetStands};
+
+    /// A net of at most 256 blocks, which have had no cycle yet, and of drives, where `ins` and `outs` are the lengths in bytes of
+    /// the input and output images of each connection. Refused with the first fault: of the blocks in their order, each by its
+    /// number of inputs and then wire by wire; then of the drives in their order, each by its bit (that there is one, that no
+    /// earlier drive sets it) and then by its wire. It takes no memory.
+    pub fn new(
+        blocks: Vec<BlockSpec>,
+        drives: Vec<Drive>,
+        ins: &[u8],
+        outs: &[u8],
+    ) -> Result<Net, NetFault>
+        requires most { vec_len blocks ≤ 256 }
+        requires new { All IsNew blocks.items }
+        ensures first { result_err result ≡ first_fault ins.now outs.now blocks.items drives.items }
+        ensures made { IfOk result (λ net. net ≡ record { blocks = blocks.items; drives = drives.items }) }
+        ensures stands { IfOk result (λ net. NetStands net []) }
+        ensures ready { IfOk result (λ net. AllReady net.blocks) }
+    {
+        match first_fault(blocks.as_slice(), drives.as_slice(), ins, outs) {
+            Some(fault) => Err(fault),
+            None => Ok(Net {
+                blocks,
+                drives,
+                values: ArrayVec::new(),
+            }),
+        }
+    }
+
+    // A cycle in the machine's words, from which the rest follows.
+    fn run(&mut self, ticked: bool, inputs: &[Image], outputs: &mut [Image])
+        ensures { Ran self.old (record { ticked = ticked; inputs = inputs.now })
+            (map length outputs.old) self.new outputs.new }
+    {
+        run_blocks(self.blocks.as_mut_slice(), ticked, inputs, &mut self.values);
+        drive_outputs(
+            self.drives.as_slice(),
+            self.values.as_slice(),
+            inputs,
+            outputs,
+        );
+    }
+}
+
+impl Application for Net {
+    ghost use Rattle.fb_net.specs.Meaning.{net_holds, rule_of, guards_of};
+
+    ghost holds = { net_holds };
+
+    ghost rule = { rule_of };
+
+    ghost guards = { guards_of };
+
+    /// Steps the blocks in order, then sets the driven bits whose wires read true, and makes every other bit 0.
+    fn cycle(&mut self, ticked: bool, inputs: &[Image], outputs: &mut [Image])
+        ensures answers { outputs.new
+            ≡ (net_answer self.old ticked inputs.now (map length outputs.old)).outputs }
+        ensures holds { net_holds self.new
+            ≡ (net_answer self.old ticked inputs.now (map length outputs.old)).holds }
+        ensures rule_stays { rule_of self.new ≡ rule_of self.old }
+        ensures lengths { map length outputs.new ≡ map length outputs.old }
+        ensures guarded { GuardsBy (guards_of self.old) inputs.now outputs.new }
+        ensures guards_stay { guards_of self.new ≡ guards_of self.old }
+        ensures gives { NetGives self.old (record { ticked = ticked; inputs = inputs.now })
+            (map length outputs.old) outputs.new }
+        ensures follows { NetFollows self.old
+            (record { ticked = ticked; inputs = inputs.now }) self.new }
+        ensures keeps { KeepsPlan self.old self.new }
+    {
+        self.run(ticked, inputs, outputs);
+    }
+
+    fn guards(&self, out: Bit, inp: Bit) -> bool {
+        is_output_guarded(self.blocks.as_slice(), self.drives.as_slice(), out, inp)
+    }
+}
