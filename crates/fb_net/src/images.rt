@@ -3,7 +3,7 @@ ghost use Rattle.std.specs.Prelude.{◌≡◌, map, length};
 ghost use Rattle.failsafe_io.specs.Bits.{bit_at};
 ghost use Rattle.fb_net.specs.Outputs.{with_on, zero_images};
 
-use failsafe_io::Bit;
+use failsafe_io::{Bit, zeros};
 use fsoe_base::Image;
 
 /// The value of a bit, false where there is none.
@@ -44,6 +44,6 @@ pub(crate) fn clear(images: &mut [Image])
 {
     for i in 0..images.len() {
         let image = &mut images[i];
-        *image = Image::zeros(image.len());
+        image.set(zeros(image.len()));
     }
 }
