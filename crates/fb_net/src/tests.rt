@@ -1,3 +1,8 @@
+ghost use Rattle.std.specs.Prelude.{◌==◌, List, [], ◌∷◌, get_or, if◌then◌else◌};
+ghost use Rattle.failsafe_io.specs.Bits.{is_same_bit};
+ghost use Rattle.fb_net.specs.Mirror.{mirror_images};
+ghost use Rattle.fb_net.specs.Outputs.{zero_images};
+
 use super::*;
 use failsafe_io::{Application, Bit};
 use fb_lib::BlockKind;
@@ -136,5 +141,58 @@ fn applications_answer_through_a_box(rt: HostRuntime) -> Result<(), Fail> {
     assert!(rt; outputs.len() == 2);
     assert_eq!(rt; outputs[0].bytes(), [0, 0].as_slice());
     assert!(rt; app.guards(bit(1, 3), bit(2, 3)));
+    Ok(())
+}
+
+/// Answers its inputs and zeros in turn, and guards each output bit by the same input bit.
+#[derive(Drop)]
+struct InTurn {
+    is_zeros: bool,
+}
+
+impl Application for InTurn {
+    ghost holds = { λ a. (if a.is_zeros then 1 else 0) ∷ [] };
+
+    ghost rule = { λ _ held _ inputs lens. if get_or held 0 0 == 1
+        then record { outputs = zero_images lens; holds = 0 ∷ [] }
+        else record { outputs = mirror_images inputs lens; holds = 1 ∷ [] } };
+
+    ghost guards = { λ _. is_same_bit };
+
+    fn cycle(&mut self, ticked: bool, inputs: &[Image], outputs: &mut [Image]) {
+        if self.is_zeros {
+            Zeros.cycle(ticked, inputs, outputs);
+        } else {
+            Mirror.cycle(ticked, inputs, outputs);
+        }
+        self.is_zeros = !self.is_zeros;
+    }
+
+    fn guards(&self, out: Bit, inp: Bit) -> bool {
+        Mirror.guards(out, inp)
+    }
+}
+
+#[test]
+fn a_boxed_application_that_changes_in_each_cycle_keeps_its_law(
+    rt: HostRuntime,
+) -> Result<(), Fail> {
+    let boxed: Box<dyn Application> = Box::new(rt.alloc(), InTurn { is_zeros: false })?;
+    let mut app: AppKind = KindOf::Handed(boxed);
+    let mut outputs = images(rt.alloc(), 0xff)?;
+    for (first, want) in [(0x81, 0x81), (0x81, 0), (0x7e, 0x7e), (0xff, 0), (0, 0)] {
+        let inputs = images(rt.alloc(), first)?;
+        app.cycle(true, inputs.as_slice(), outputs.as_mut_slice());
+        assert!(rt; inputs.len() == 2 && outputs.len() == 2);
+        assert_eq!(rt; outputs[0].bytes(), [want, 0].as_slice());
+        assert!(rt; inputs[0].len() == 2 && outputs[0].len() == 2);
+        for place in 0..16u16 {
+            assert!(rt; app.guards(bit(1, place), bit(1, place)));
+            assert!(rt;
+                inputs[0].bit(place) || !outputs[0].bit(place),
+                "bit {place} at {first}"
+            );
+        }
+    }
     Ok(())
 }
