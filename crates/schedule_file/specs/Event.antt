@@ -9,6 +9,7 @@ use Rattle.param_load.specs.declared.profile.Profiles.{Profiles}
 use Rattle.param_load.specs.Profile.{allows_id}
 use Rattle.schedule_file.specs.EventLine.{delivered_len}
 use Rattle.schedule_file.specs.declared.event.Event.{Event}
+use Rattle.schedule_file.specs.declared.event.TheConstants.{MAX_BACK}
 use Rattle.schedule_file.specs.declared.event.Event.TheVariants as event
 use Rattle.schedule_file.specs.declared.event.ScheduleLine.{ScheduleLine}
 use Rattle.schedule_file.specs.declared.event.ScheduleLine.TheVariants as line
@@ -20,8 +21,8 @@ profile_of profiles side.Slave = profiles.slave
 
 -- an event that a line can say: a reference is from 1 to 64, a frame has from 1 to 255 bytes, a put from 1 to 126
 abbrev pub IsWritable : Event → Type 0
-IsWritable (event.Deliver to back) = (0 < back) × (back ≤ 64)
-IsWritable (event.Altered to back pos mask) = (0 < back) × (back ≤ 64)
+IsWritable (event.Deliver to back) = (0 < back) × (back ≤ MAX_BACK)
+IsWritable (event.Altered to back pos mask) = (0 < back) × (back ≤ MAX_BACK)
 IsWritable (event.Raw to frame) = (0 < length frame) × (length frame ≤ 255)
 IsWritable (event.Put at load) = (0 < length load) × (length load ≤ 126)
 IsWritable (event.Tick at) = Unit {0}

@@ -10,6 +10,7 @@ use Rattle.param_load.specs.declared.profile.Profile.{Profile}
 use Rattle.schedule_file.specs.Field.{number_of, bytes_of}
 use Rattle.schedule_file.specs.Fields.{◌>>=◌, value_or, next_field, no_field, one_field}
 use Rattle.schedule_file.specs.declared.event.Event.TheVariants as event
+use Rattle.schedule_file.specs.declared.event.TheConstants.{MAX_BACK}
 use Rattle.schedule_file.specs.declared.event.ScheduleLine.{ScheduleLine}
 use Rattle.schedule_file.specs.declared.event.ScheduleLine.TheVariants as line
 use Rattle.schedule_file.specs.declared.line_cause.LineCause.{LineCause}
@@ -30,7 +31,7 @@ not_zero (Some n) = if n == 0 then None else Some n
 -- a reference is a minus and a number from 1 to 64
 abbrev pub reference_of : List ℕ → Option ℕ
 reference_of [] = None
-reference_of (sign ∷ digits) = if sign == 45 then not_zero (number_of 64 digits) else None
+reference_of (sign ∷ digits) = if sign == 45 then not_zero (number_of MAX_BACK digits) else None
 
 -- the number of bytes of a frame that is delivered to an end, where the ends send so many safe data bytes: its peer sent it
 abbrev pub delivered_len : (End → ℕ) → End → ℕ

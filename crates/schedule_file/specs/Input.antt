@@ -9,10 +9,12 @@ use Rattle.schedule_file.specs.Header.{Heading, heading_new, heading_after, is_d
 use Rattle.schedule_file.specs.NodeEvent.{node_line}
 use Rattle.schedule_file.specs.PairEvent.{pair_line}
 use Rattle.schedule_file.specs.declared.event.Event.{Event}
+use Rattle.schedule_file.specs.declared.event.TheConstants.{MAX_EVENTS}
 use Rattle.schedule_file.specs.declared.event.ScheduleLine.{ScheduleLine}
 use Rattle.schedule_file.specs.declared.event.ScheduleLine.TheVariants as line
 use Rattle.schedule_file.specs.declared.header_kind.HeaderKind.{HeaderKind}
 use Rattle.schedule_file.specs.declared.header_kind.HeaderKind.TheVariants.{Pair, Node}
+use Rattle.schedule_file.specs.declared.line_buf.TheConstants.{MAX_LINE}
 use Rattle.schedule_file.specs.declared.line_cause.LineCause.{LineCause}
 
 -- why an input goes no further: its next line is too long, has no newline, doesn't come, or comes after all events that
@@ -33,12 +35,12 @@ pub data Stop : Type 0 where
 
 -- a line of at most 640 bytes
 abbrev pub whole_line : List ℕ → Result (List ℕ) InputCause
-whole_line text = if nat_le (length text) 640 then Ok text else Err Long
+whole_line text = if nat_le (length text) MAX_LINE then Ok text else Err Long
 
 -- what stands after the last newline is no line
 abbrev pub open_line : List ℕ → List (Result (List ℕ) InputCause)
 open_line [] = []
-open_line (b ∷ text) = Err (if nat_le (length (b ∷ text)) 640 then NoNewline else Long) ∷ []
+open_line (b ∷ text) = Err (if nat_le (length (b ∷ text)) MAX_LINE then NoNewline else Long) ∷ []
 
 -- the parts between newlines are lines, but for the last
 abbrev pub lines_in : List (List ℕ) → List (Result (List ℕ) InputCause)
@@ -101,7 +103,7 @@ texts (Err why ∷ rest) = []
 
 -- the events after a header, at most 200,000
 abbrev pub events_after : HeaderKind → Heading → List (Result (List ℕ) InputCause) → List Event
-events_after kind h rest = take 200000 (steps (map (said_after kind h) (texts rest)))
+events_after kind h rest = take MAX_EVENTS (steps (map (said_after kind h) (texts rest)))
 
 -- how an input stops at a line by what it says; an event stands here only after 200,000, where `stop_at` has refused it
 -- before
@@ -116,7 +118,7 @@ stop_at kind h number events None = Refused number NoLine
 stop_at kind h number events (Some (Err why)) = Refused number why
 stop_at kind h number events (Some (Ok text)) =
     if bytes_eq text (codes "end") then AtEnd
-    else if events == 200000 then Refused number TooMany
+    else if events == MAX_EVENTS then Refused number TooMany
     else stop_by number (said_after kind h text)
 
 -- what an input says: its header where that is done, the number of its lines (0 where it isn't done), its events, and how it stops

@@ -1,6 +1,12 @@
 //! The events of a schedule, and what one of its lines says.
 use fsoe_base::{End, FrameBuf, Image};
 
+/// The most events of an input, and of the schedule of a number that is run.
+pub const MAX_EVENTS: u64 = 200_000;
+
+/// The furthest back that an event may name a frame: this many of those that the peer sent, 1 being the last.
+pub const MAX_BACK: u32 = 64;
+
 /// What happens to one end of a pair.
 #[derive(Debug, Drop)]
 pub enum Event {

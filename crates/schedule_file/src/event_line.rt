@@ -9,7 +9,7 @@ ghost use Rattle.schedule_file.specs.EventLine.{switch_of, reference_of, deliver
 ghost use Rattle.schedule_file.specs.Field.{fields_after};
 ghost use Rattle.schedule_file.specs.Fields.{Becomes};
 
-use crate::event::{Event, ScheduleLine};
+use crate::event::{Event, MAX_BACK, ScheduleLine};
 use crate::field::{HexBytes, frame_field, next_field, no_field, number, one_field, one_hex_field};
 use crate::line_cause::LineCause;
 use fsoe_base::{End, FrameBuf, Image, Lengths};
@@ -31,13 +31,13 @@ fn read_switch(text: &[u8]) -> Option<bool>
 /// How many frames back, from 1 to 64.
 fn read_reference(text: &[u8]) -> Option<u8>
     ensures value { result ≡ reference_of text.now }
-    ensures range { IfSome result (λ back. (0 < back) × (back ≤ 64)) }
+    ensures range { IfSome result (λ back. (0 < back) × (back ≤ MAX_BACK)) }
 {
     let (sign, digits) = text.split_first()?;
     if *sign != b'-' {
         return None;
     }
-    let back = number(digits, 64)?;
+    let back = number(digits, MAX_BACK)?;
     if back == 0 {
         return None;
     }

@@ -5,7 +5,7 @@ ghost use Rattle.schedule_file.specs.Event.{IsWritable};
 ghost use Rattle.schedule_file.specs.EventText.{end_letter, switch_text, reference_text, event_text};
 
 use crate::event::Event;
-use crate::line_buf::LineBuf;
+use crate::line_buf::{LineBuf, MAX_LINE};
 use fsoe_base::End;
 
 /// The letter that stands for an end, `m` or `s`, in a word of a schedule and in a report of both ends.
@@ -48,7 +48,7 @@ fn push_number(n: u32, out: &mut LineBuf)
 }
 
 fn push_hex(bytes: &[u8], out: &mut LineBuf)
-    requires { length out.old + 1 + 2 * length bytes.now ≤ 640 }
+    requires { length out.old + 1 + 2 * length bytes.now ≤ MAX_LINE }
     ensures { out.new ≡ out.old ++ (32 ∷ encode_lower bytes.now) }
 {
     out.push(b' ');

@@ -6,6 +6,7 @@ ghost use Rattle.param_load.specs.declared.master_settings.MasterSettings.{Maste
 ghost use Rattle.param_load.specs.declared.profile.Profile.{Profile};
 ghost use Rattle.param_load.specs.declared.slave_settings.SlaveSettings.{SlaveSettings};
 ghost use Rattle.schedule_file.specs.declared.event.Event.{Event};
+ghost use Rattle.schedule_file.specs.declared.event.TheConstants.{MAX_EVENTS};
 ghost use Rattle.schedule_file.specs.declared.event.ScheduleLine.TheVariants.{Step};
 ghost use Rattle.schedule_file.specs.Event.{Fits};
 ghost use Rattle.schedule_file.specs.EventText.{IsOfTypes, event_text};
@@ -32,7 +33,7 @@ pub fn no_bytes_are_refused()
 
 /// An input has at most 200,000 events.
 pub fn inputs_have_few_events()
-    ensures { (kind : HeaderKind) (bytes : List ℕ) → length (input_of kind bytes).events ≤ 200000 }
+    ensures { (kind : HeaderKind) (bytes : List ℕ) → length (input_of kind bytes).events ≤ MAX_EVENTS }
 {}
 
 /// The header of an input, where it is whole, gives settings of both ends; those of an end that it doesn't describe are such as

@@ -22,12 +22,12 @@ mod place;
 #[cfg(test)]
 mod tests;
 
-pub use event::{Event, ScheduleLine};
+pub use event::{Event, MAX_BACK, MAX_EVENTS, ScheduleLine};
 pub use event_text::{end_letter, write_event};
 pub use field::read_number;
 pub use header::Header;
 pub use header_kind::HeaderKind;
-pub use line_buf::LineBuf;
+pub use line_buf::{LineBuf, MAX_LINE};
 pub use line_cause::LineCause;
 pub use maker::Maker;
 pub use node_event::{read_node_event, read_node_event_into};

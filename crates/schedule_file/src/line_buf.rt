@@ -5,6 +5,9 @@ ghost use Rattle.hex.specs.Hex.{encode_lower};
 use fsoe_io::LineText;
 use std::marker::Model;
 
+/// The most bytes of a line, without its newline.
+pub const MAX_LINE: usize = 640;
+
 /// A line of a schedule as it is made, without its newline: at most 640 bytes. It is seen as its bytes.
 #[derive(Drop)]
 pub struct LineBuf {
@@ -13,12 +16,13 @@ pub struct LineBuf {
 
 impl Model for LineBuf {
     ghost use Rattle.std.specs.Prelude.{◌≤◌, List, ℕ, length};
+    ghost use Rattle.schedule_file.specs.declared.line_buf.TheConstants.{MAX_LINE};
 
     ghost Value = { List ℕ };
 
     ghost view = { λ b. b.text };
 
-    ghost invariant = { λ b. length b.text ≤ 640 };
+    ghost invariant = { λ b. length b.text ≤ MAX_LINE };
 }
 
 impl LineBuf {
@@ -34,7 +38,7 @@ impl LineBuf {
     /// Its bytes.
     pub fn bytes(&self) -> &[u8]
         ensures value { result.now ≡ self.now }
-        ensures most { length result.now ≤ 640 }
+        ensures most { length result.now ≤ MAX_LINE }
     {
         self.text.bytes()
     }
@@ -48,7 +52,7 @@ impl LineBuf {
 
     /// Appends a byte where fewer than 640 stand.
     pub fn push(&mut self, b: u8)
-        requires { length self.old < 640 }
+        requires { length self.old < MAX_LINE }
         ensures { self.new ≡ self.old ++ b ∷ [] }
     {
         self.text.push(&[b]);
@@ -56,7 +60,7 @@ impl LineBuf {
 
     /// Appends bytes.
     pub(crate) fn push_all(&mut self, piece: &[u8])
-        requires { length self.old + length piece.now ≤ 640 }
+        requires { length self.old + length piece.now ≤ MAX_LINE }
         ensures { self.new ≡ self.old ++ piece.now }
     {
         self.text.push(piece);
@@ -64,7 +68,7 @@ impl LineBuf {
 
     /// Appends a number in decimal digits.
     pub(crate) fn push_decimal(&mut self, n: u32)
-        requires { length self.old + 20 ≤ 640 }
+        requires { length self.old + 20 ≤ MAX_LINE }
         ensures text { self.new ≡ self.old ++ decimal n }
         ensures most { length self.new ≤ length self.old + 20 }
     {
@@ -73,7 +77,7 @@ impl LineBuf {
 
     /// Appends bytes as lower-case hexadecimal digits, two a byte.
     pub(crate) fn push_hex(&mut self, bytes: &[u8])
-        requires { length self.old + 2 * length bytes.now ≤ 640 }
+        requires { length self.old + 2 * length bytes.now ≤ MAX_LINE }
         ensures { self.new ≡ self.old ++ encode_lower bytes.now }
     {
         self.text.push_hex(bytes);
