@@ -1,4 +1,4 @@
--- The events of a pair's input fit its ends.
+-- The events of an input fit the ends that its header describes.
 use Rattle.std.proofs.Common.{◌≡◌, ℕ, ◌≤◌, ◌<◌, Bool, true, false, List, [], ◌∷◌, length, map, refl, arith}
 use Rattle.std.specs.Prelude.{All, Result, Ok, Err, Option, Some, None, IfOk, IfSome, ◌&&◌, ◌==◌, nat_le, nat_lt, if◌then◌else◌}
 use Rattle.std.specs.Str.Parse.{digits_value}
@@ -10,18 +10,24 @@ use Rattle.hex.specs.declared.error.FromHexError.{FromHexError}
 use Rattle.fsoe_base.specs.declared.command.End.{End}
 use Rattle.param_load.specs.Profile.{allows_id}
 use Rattle.param_load.specs.declared.profile.Profile.{Profile}
-use Rattle.schedule_file.specs.Event.{Fits, PairLineFits}
+use Rattle.schedule_file.specs.Event.{Fits, FitsEnd, OnStep}
 use Rattle.schedule_file.specs.EventLine.{not_zero, reference_of, switch_of, delivered_len, altered_line}
 use Rattle.schedule_file.specs.Field.{fields_of, is_number, number_of, some_bytes, bytes_of}
 use Rattle.schedule_file.specs.Fields.{◌>>=◌, value_or, next_field, no_field, one_field}
 use Rattle.schedule_file.specs.Header.{Heading}
 use Rattle.schedule_file.specs.Input.{Stop, WholeHeader, header_of, own_length, heading_profile, said_after, steps, texts, input_by, input_of}
-use Rattle.schedule_file.specs.PairEvent.{pair_word_of, pair_said, pair_said_by, pair_line}
+use Rattle.schedule_file.specs.NodeEvent.{word_of, node_said, node_said_by}
+use Rattle.schedule_file.specs.PairEvent.{pair_word_of, pair_said, pair_said_by}
+use Rattle.schedule_file.specs.declared.event.Event.{Event}
+use Rattle.schedule_file.specs.declared.event.TheConstants.{MAX_EVENTS}
 use Rattle.schedule_file.specs.declared.event.ScheduleLine.{ScheduleLine}
 use Rattle.schedule_file.specs.declared.event.ScheduleLine.TheVariants as line
-use Rattle.schedule_file.specs.declared.header_kind.HeaderKind.TheVariants.{Pair}
+use Rattle.schedule_file.specs.declared.header_kind.HeaderKind.{HeaderKind}
+use Rattle.schedule_file.specs.declared.header_kind.HeaderKind.TheVariants.{Pair, Node}
 use Rattle.schedule_file.specs.declared.line_cause.LineCause.{LineCause}
 use Rattle.schedule_file.specs.declared.line_cause.LineCause.TheVariants as cause
+use Rattle.schedule_file.specs.declared.node_event.Word.{Word}
+use Rattle.schedule_file.specs.declared.node_event.Word.TheVariants as node_word
 use Rattle.schedule_file.specs.declared.pair_event.PairWord.{PairWord}
 use Rattle.schedule_file.specs.declared.pair_event.PairWord.TheVariants as word
 use Rattle.schedule_file.proofs.Sound.{each, ok_if}
@@ -68,13 +74,13 @@ bytes_within : (most : ℕ) (text : List ℕ) → IfSome (bytes_of most text) (�
 bytes_within most text = some_within most (decode_of text)
 
 -- the event of a line fits
-altered_fits : (sends : End → ℕ) (profiles : End → Profile) (to : End) (fields : List (List ℕ)) → IfOk (altered_line to sends fields) (PairLineFits sends profiles)
+altered_fits : (sends : End → ℕ) (profiles : End → Profile) (to : End) (fields : List (List ℕ)) → IfOk (altered_line to sends fields) (OnStep (Fits sends profiles))
 altered_fits sends profiles to fields =
     each (next_field fields) _ _ (λ reference. each (next_field reference.1) _ _ (λ place. each (one_field place.1) _ _ (λ digits. each (value_or cause.Number (number_of 65535 place.0)) _ _ (λ pos.
     given (reference_of reference.0) cause.Reference _ _ _ (reference_within reference.0) (λ back range. each (value_or cause.Hex (bytes_of 1 digits)) _ _ (λ mask.
     ok_if (nat_lt pos (delivered_len sends to)) _ cause.Position _ (λ e. (range, ltb-true pos (delivered_len sends to) e))))))))
 
-said_fits : (sends : End → ℕ) (profiles : End → Profile) (word : Option PairWord) (fields : List (List ℕ)) → IfOk (pair_said sends profiles word fields) (PairLineFits sends profiles)
+said_fits : (sends : End → ℕ) (profiles : End → Profile) (word : Option PairWord) (fields : List (List ℕ)) → IfOk (pair_said sends profiles word fields) (OnStep (Fits sends profiles))
 said_fits sends profiles None fields = tt
 said_fits sends profiles (Some (word.Deliver to)) fields =
     each (one_field fields) _ _ (λ field. given (reference_of field) cause.Reference _ _ _ (reference_within field) (λ back range. (range, tt)))
@@ -91,29 +97,49 @@ said_fits sends profiles (Some (word.Nonce at)) fields =
 said_fits sends profiles (Some (word.Local at)) fields = each (no_field fields) _ _ (λ none. (tt, tt))
 said_fits sends profiles (Some word.End) fields = each (no_field fields) _ _ (λ none. tt)
 
-fields_fit : (sends : End → ℕ) (profiles : End → Profile) (fields : List (List ℕ)) → IfOk (pair_said_by sends profiles fields) (PairLineFits sends profiles)
-fields_fit sends profiles [] = tt
-fields_fit sends profiles (first ∷ fields) = said_fits sends profiles (pair_word_of first) fields
+-- what a word says to a node fits its end
+node_said_fits : (end : End) (count : ℕ) (profile : Profile) (word : Option Word) (fields : List (List ℕ)) → IfOk (node_said end count profile word fields) (OnStep (FitsEnd end count profile))
+node_said_fits end count profile None fields = tt
+node_said_fits end count profile (Some node_word.Tick) fields = each (no_field fields) _ _ (λ none. refl)
+node_said_fits end count profile (Some node_word.Deliver) fields =
+    each (one_field fields) _ _ (λ field. given (bytes_of 255 field) cause.Hex _ _ _ (bytes_within 255 field) (λ bytes range. (refl, range.0, range.1)))
+node_said_fits end count profile (Some node_word.Put) fields =
+    each (one_field fields) _ _ (λ field. each (value_or cause.Hex (bytes_of 126 field)) _ _ (λ bytes. ok_if (length bytes == count) _ cause.Length _ (λ e. (refl, eqb-true (length bytes) count e))))
+node_said_fits end count profile (Some node_word.Hold) fields = each (one_field fields) _ _ (λ field. each (value_or cause.Number (switch_of field)) _ _ (λ on. refl))
+node_said_fits end count profile (Some node_word.Nonce) fields =
+    each (one_field fields) _ _ (λ field. each (value_or cause.Number (number_of 4294967295 field)) _ _ (λ id. ok_if (allows_id profile id) _ cause.Number _ (λ e. (refl, e))))
+node_said_fits end count profile (Some node_word.Local) fields = each (no_field fields) _ _ (λ none. refl)
+node_said_fits end count profile (Some node_word.End) fields = each (no_field fields) _ _ (λ none. tt)
 
-pub line_fits : (sends : End → ℕ) (profiles : End → Profile) (text : List ℕ) → IfOk (pair_line sends profiles text) (PairLineFits sends profiles)
-line_fits sends profiles text = fields_fit sends profiles (fields_of text)
+-- the event of a line by its fields, of which the first is its word
+pair_line_fits : (sends : End → ℕ) (profiles : End → Profile) (fields : List (List ℕ)) → IfOk (pair_said_by sends profiles fields) (OnStep (Fits sends profiles))
+pair_line_fits sends profiles [] = tt
+pair_line_fits sends profiles (first ∷ fields) = said_fits sends profiles (pair_word_of first) fields
 
--- the events of lines fit
-first_fits : (sends : End → ℕ) (profiles : End → Profile) (r : Result ScheduleLine LineCause) (said : List (Result ScheduleLine LineCause)) → IfOk r (PairLineFits sends profiles) → All (Fits sends profiles) (steps said)
-    → All (Fits sends profiles) (steps (r ∷ said))
-first_fits sends profiles (Ok (line.Step event)) said fits later = All-cons (Fits sends profiles) event (steps said) fits later
-first_fits sends profiles (Ok line.End) said fits later = All-nil (Fits sends profiles)
-first_fits sends profiles (Err cause) said fits later = All-nil (Fits sends profiles)
+node_line_fits : (end : End) (count : ℕ) (profile : Profile) (fields : List (List ℕ)) → IfOk (node_said_by end count profile fields) (OnStep (FitsEnd end count profile))
+node_line_fits end count profile [] = tt
+node_line_fits end count profile (first ∷ fields) = node_said_fits end count profile (word_of first) fields
 
-steps_fit : (h : Heading) (lines : List (List ℕ)) → All (Fits (own_length h) (heading_profile h)) (steps (map (said_after Pair h) lines))
-steps_fit h [] = All-nil (Fits (own_length h) (heading_profile h))
-steps_fit h (text ∷ lines) =
-    first_fits (own_length h) (heading_profile h) (said_after Pair h text) (map (said_after Pair h) lines) (line_fits (own_length h) (heading_profile h) text) (steps_fit h lines)
+-- the events of lines are such where each line's is
+first_is : (P : Event → Type 0) (r : Result ScheduleLine LineCause) (said : List (Result ScheduleLine LineCause)) → IfOk r (OnStep P) → All P (steps said) → All P (steps (r ∷ said))
+first_is P (Ok (line.Step event)) said is later = All-cons P event (steps said) is later
+first_is P (Ok line.End) said is later = All-nil P
+first_is P (Err cause) said is later = All-nil P
 
-input_fits : (r : Result WholeHeader Stop) → IfSome (input_by Pair r).heading (λ h. All (Fits (own_length h) (heading_profile h)) (input_by Pair r).events)
-input_fits (Ok whole) =
-    All-take (Fits (own_length whole.heading) (heading_profile whole.heading)) 200000 (steps (map (said_after Pair whole.heading) (texts whole.rest))) (steps_fit whole.heading (texts whole.rest))
-input_fits (Err stop) = tt
+steps_are : (P : Event → Type 0) (says : List ℕ → Result ScheduleLine LineCause) → ((text : List ℕ) → IfOk (says text) (OnStep P)) → (lines : List (List ℕ)) → All P (steps (map says lines))
+steps_are P says are [] = All-nil P
+steps_are P says are (text ∷ lines) = first_is P (says text) (map says lines) (are text) (steps_are P says are lines)
+
+input_is : (kind : HeaderKind) (P : Heading → Event → Type 0) → ((h : Heading) (text : List ℕ) → IfOk (said_after kind h text) (OnStep (P h)))
+    → (r : Result WholeHeader Stop) → IfSome (input_by kind r).heading (λ h. All (P h) (input_by kind r).events)
+input_is kind P are (Ok whole) =
+    let h = whole.heading in
+    All-take (P h) MAX_EVENTS (steps (map (said_after kind h) (texts whole.rest))) (steps_are (P h) (said_after kind h) (are h) (texts whole.rest))
+input_is kind P are (Err stop) = tt
 
 pub events_fit : (bytes : List ℕ) → IfSome (input_of Pair bytes).heading (λ h. All (Fits (own_length h) (heading_profile h)) (input_of Pair bytes).events)
-events_fit bytes = input_fits (header_of Pair bytes)
+events_fit bytes = input_is Pair (λ h. Fits (own_length h) (heading_profile h)) (λ h text. pair_line_fits (own_length h) (heading_profile h) (fields_of text)) (header_of Pair bytes)
+
+pub node_events_fit : (end : End) (bytes : List ℕ) → IfSome (input_of (Node end) bytes).heading (λ h. All (FitsEnd end (own_length h end) (heading_profile h end)) (input_of (Node end) bytes).events)
+node_events_fit end bytes =
+    input_is (Node end) (λ h. FitsEnd end (own_length h end) (heading_profile h end)) (λ h text. node_line_fits end (own_length h end) (heading_profile h end) (fields_of text)) (header_of (Node end) bytes)

@@ -46,24 +46,31 @@ Suits sends profiles (event.Local at) = Unit {0}
 abbrev pub Fits : (End → ℕ) → (End → Profile) → Event → Type 0
 Fits sends profiles event = IsWritable event × Suits sends profiles event
 
--- the event of a line, where it has one, fits
-abbrev pub PairLineFits : (End → ℕ) → (End → Profile) → ScheduleLine → Type 0
-PairLineFits sends profiles (line.Step event) = Fits sends profiles event
-PairLineFits sends profiles line.End = Unit {0}
-
--- an event that the node at this end may have: it is at this end, a frame has from 1 to 255 bytes,
+-- an event that the node at this end may have, which sends so many safe data bytes: it is at this end, a frame has from 1 to 255 bytes,
 -- a put has exactly as many bytes as the end sends, and the profile allows the session id
+abbrev pub FitsEnd : End → ℕ → Profile → Event → Type 0
+FitsEnd end count profile (event.Raw to frame) = (to ≡ end) × (0 < length frame) × (length frame ≤ 255)
+FitsEnd end count profile (event.Tick at) = at ≡ end
+FitsEnd end count profile (event.Put at load) = (at ≡ end) × (length load ≡ count)
+FitsEnd end count profile (event.Hold at failsafe) = at ≡ end
+FitsEnd end count profile (event.Nonce at id) = (at ≡ end) × IsTrue (allows_id profile id)
+FitsEnd end count profile (event.Local at) = at ≡ end
+FitsEnd end count profile (event.Deliver to back) = ⊥
+FitsEnd end count profile (event.Altered to back pos mask) = ⊥
+
+-- the same of an end with these lengths
 abbrev pub FitsNode : End → Lengths → Profile → Event → Type 0
-FitsNode end lengths profile (event.Raw to frame) = (to ≡ end) × (0 < length frame) × (length frame ≤ 255)
-FitsNode end lengths profile (event.Tick at) = at ≡ end
-FitsNode end lengths profile (event.Put at load) = (at ≡ end) × (length load ≡ length_of lengths end)
-FitsNode end lengths profile (event.Hold at failsafe) = at ≡ end
-FitsNode end lengths profile (event.Nonce at id) = (at ≡ end) × IsTrue (allows_id profile id)
-FitsNode end lengths profile (event.Local at) = at ≡ end
-FitsNode end lengths profile (event.Deliver to back) = ⊥
-FitsNode end lengths profile (event.Altered to back pos mask) = ⊥
+FitsNode end lengths profile event = FitsEnd end (length_of lengths end) profile event
+
+-- the event of a line, where it has one, is such
+abbrev pub OnStep : (Event → Type 0) → ScheduleLine → Type 0
+OnStep P (line.Step event) = P event
+OnStep P line.End = Unit {0}
+
+-- the event of a line, where it has one, fits both ends
+abbrev pub PairLineFits : (End → ℕ) → (End → Profile) → ScheduleLine → Type 0
+PairLineFits sends profiles said = OnStep (Fits sends profiles) said
 
 -- the event of a line, where it has one, fits the node
 abbrev pub LineFits : End → Lengths → Profile → ScheduleLine → Type 0
-LineFits end lengths profile (line.Step event) = FitsNode end lengths profile event
-LineFits end lengths profile line.End = Unit {0}
+LineFits end lengths profile said = OnStep (FitsNode end lengths profile) said

@@ -8,14 +8,14 @@ ghost use Rattle.param_load.specs.declared.slave_settings.SlaveSettings.{SlaveSe
 ghost use Rattle.schedule_file.specs.declared.event.Event.{Event};
 ghost use Rattle.schedule_file.specs.declared.event.TheConstants.{MAX_EVENTS};
 ghost use Rattle.schedule_file.specs.declared.event.ScheduleLine.TheVariants.{Step};
-ghost use Rattle.schedule_file.specs.Event.{Fits};
+ghost use Rattle.schedule_file.specs.Event.{Fits, FitsEnd};
 ghost use Rattle.schedule_file.specs.EventText.{IsOfTypes, event_text};
 ghost use Rattle.schedule_file.specs.Header.{IsMasterOf, IsSlaveOf};
 ghost use Rattle.schedule_file.specs.Input.{AtEnd, NoLine, NoNewline, Line, Refused, heading_profile, input_of, own_length};
 ghost use Rattle.schedule_file.specs.WorkedInputs.{input_with};
 ghost use Rattle.schedule_file.specs.declared.event.Event.TheVariants as event;
 ghost use Rattle.schedule_file.specs.declared.header_kind.HeaderKind.{HeaderKind};
-ghost use Rattle.schedule_file.specs.declared.header_kind.HeaderKind.TheVariants.{Pair};
+ghost use Rattle.schedule_file.specs.declared.header_kind.HeaderKind.TheVariants.{Node, Pair};
 ghost use Rattle.schedule_file.specs.declared.line_cause.LineCause.TheVariants as cause;
 ghost use Rattle.fsoe_base.specs.declared.command.End.TheVariants as side;
 ghost use Rattle.schedule_file.specs.PairEvent.{pair_line};
@@ -43,9 +43,10 @@ pub fn whole_headers_give_settings()
     ensures slave { (kind : HeaderKind) (bytes : List ℕ) → IfSome (input_of kind bytes).heading (λ h. (settings : SlaveSettings) × IsSlaveOf h settings) }
 {}
 
-/// The events of a pair's input, where its header is whole, fit the ends that this describes.
+/// The events of an input, where its header is whole, fit the ends that this describes: both of a pair, or that of a node.
 pub fn events_fit()
-    ensures { (bytes : List ℕ) → IfSome (input_of Pair bytes).heading (λ h. All (Fits (own_length h) (heading_profile h)) (input_of Pair bytes).events) }
+    ensures pair { (bytes : List ℕ) → IfSome (input_of Pair bytes).heading (λ h. All (Fits (own_length h) (heading_profile h)) (input_of Pair bytes).events) }
+    ensures node { (end : End) (bytes : List ℕ) → IfSome (input_of (Node end) bytes).heading (λ h. All (FitsEnd end (own_length h end) (heading_profile h end)) (input_of (Node end) bytes).events) }
 {}
 
 /// What comes after the line `end` changes nothing of what an input says.

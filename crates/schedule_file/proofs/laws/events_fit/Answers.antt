@@ -1,5 +1,8 @@
-use Rattle.schedule_file.proofs.Fitting.{events_fit}
+use Rattle.schedule_file.proofs.Fitting.{events_fit, node_events_fit}
 use Rattle.schedule_file.proofs.laws.events_fit.Goals as goal
 
-pub returns : goal.returns
-returns c = events_fit
+pub returns-clause-pair : goal.returns-clause-pair
+returns-clause-pair c = events_fit
+
+pub returns-clause-node : goal.returns-clause-node
+returns-clause-node c = node_events_fit
