@@ -1,7 +1,7 @@
 -- What the sources and sinks in memory hold.
 use Rattle.std.specs.Prelude.{ℕ, ◌+◌, ◌-◌, ◌^◌, ◌==◌, nat_lt, Bool, ◌&&◌, not, List, length, min, if◌then◌else◌}
 use Rattle.std.specs.declared.option.Option.{Option}
-use Rattle.fsoe_io.specs.Planned.{Planned, is_next_listed}
+use Rattle.fsoe_io.specs.Planned.{Planned, is_next_listed, planned_faults}
 
 -- the bytes left of a source, the most that it gives in a call, and the calls that fail
 pub record Feed : Type 0 where
@@ -32,3 +32,7 @@ abbrev pub refusals_after : Store → List ℕ → ℕ
 refusals_after store piece =
     if finds_no_room store piece && not (is_next_listed store.planned) then min (store.refusals + 1) (2 ^ 64 - 1)
     else store.refusals
+
+-- the faults so far: the listed calls and the refusals, up to 2^64 - 1
+abbrev pub store_faults : Store → ℕ
+store_faults store = min (planned_faults store.planned + store.refusals) (2 ^ 64 - 1)

@@ -1,10 +1,10 @@
 -- What a count of faults says of a call that failed.
-use Rattle.std.specs.Prelude.{ℕ, ◌+◌, ◌-◌, ◌^◌, ◌≤◌, min, OnErr}
+use Rattle.std.specs.Prelude.{◌≢◌, ℕ, ◌-◌, ◌^◌, ◌<◌, ◌≤◌, OnErr}
 use Rattle.std.specs.declared.result.Result.{Result}
 
--- the count is greater than before, or stands at 2^64 - 1, where it stays
+-- the count is greater than before, unless it stands at 2^64 - 1, the highest
 abbrev pub Rose : ℕ → ℕ → Type 0
-Rose before now = min (before + 1) (2 ^ 64 - 1) ≤ now
+Rose before now = now ≢ 2 ^ 64 - 1 → before < now
 
 -- the count didn't fall, and where the call failed it rose
 pub record HasCause {T E : Type 0} (before now : ℕ) (result : Result T E) : Type 0 where

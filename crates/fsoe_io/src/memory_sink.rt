@@ -1,8 +1,8 @@
 //! Sinks in memory.
 ghost use Rattle.std.specs.Prelude.{◌≡◌, ◌+◌, ◌-◌, ◌≤◌, ◌<◌, ◌||◌, Some, None, [], length, min, ◌++◌, IfOk, IfSome, IsNone, SomeIff, is_err};
-ghost use Rattle.fsoe_io.specs.Ends.{finds_no_room, refusals_after};
+ghost use Rattle.fsoe_io.specs.Ends.{finds_no_room, refusals_after, store_faults};
 ghost use Rattle.fsoe_io.specs.Faults.{HasCause};
-ghost use Rattle.fsoe_io.specs.Planned.{is_next_listed, planned_faults, with_one_more};
+ghost use Rattle.fsoe_io.specs.Planned.{is_next_listed, with_one_more};
 ghost use Rattle.fsoe_io.specs.Sink.{TakesSome, WriteGrows};
 
 use crate::planned::PlannedCalls;
@@ -13,8 +13,8 @@ use std::alloc::Global;
 use std::marker::Model;
 
 /// A sink in memory whose listed calls fail, and those with a byte to take once its room is used up. Its count of
-/// faults is the number of listed calls so far and that of the others that found no room: a call that is both counts
-/// once.
+/// faults is the number of listed calls so far and that of the others that found no room, up to 2^64 - 1: a call that is
+/// both counts once.
 #[derive(Drop)]
 pub struct MemSink {
     room: Vec<u8>,
@@ -76,15 +76,12 @@ impl MemSink {
 impl Sink for MemSink {
     ghost written = { λ s. Some s.written };
 
-    ghost faults = { λ s. planned_faults s.planned + s.refusals };
+    ghost faults = { store_faults };
 
     fn write(&mut self, piece: &[u8]) -> Result<usize, Failed>
         ensures bound { TakesSome result piece.now }
         ensures bytes { WriteGrows (Some self.old.written) (Some self.new.written) result piece.now }
-        ensures cause { HasCause
-            (planned_faults self.old.planned + self.old.refusals)
-            (planned_faults self.new.planned + self.new.refusals)
-            result }
+        ensures cause { HasCause (store_faults self.old) (store_faults self.new) result }
         // Each call counts. It fails exactly where it is listed or finds no room, and else takes as much as it may. A call
         // that is listed and finds no room counts once, as listed.
         ensures counts { self.new.planned ≡ with_one_more self.old.planned }
