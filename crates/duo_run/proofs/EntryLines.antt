@@ -7,7 +7,7 @@ use Rattle.param_load.specs.declared.slave_settings.SlaveSettings.{SlaveSettings
 use Rattle.schedule_file.specs.declared.event.Event.{Event}
 use Rattle.file_run.specs.Ending.{IsPrefix}
 use Rattle.exchange_model.specs.World.{entry_at, going_on, world_after, world}
-use Rattle.exchange_model.proofs.Longer.{world_on}
+use Rattle.exchange_model.proofs.Worlds.Longer.{world_on}
 use Rattle.duo_run.specs.Replay.{entry_line, entry_lines}
 
 lines_on : (ms : MasterSettings) (ss : SlaveSettings) (events : List Event) (w : List Entry) (next : Option Entry) → ((x : Entry) → IsPrefix (entry_lines (x ∷ w)) (entry_lines (world_after ms ss events (x ∷ w))))

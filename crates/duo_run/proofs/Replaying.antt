@@ -41,7 +41,7 @@ use Rattle.file_run.proofs.Running.{Running, input_beginning, input_stopped, Beg
 use Rattle.file_run.proofs.Running as file_run
 use Rattle.exchange_model.specs.Other.{first_other}
 use Rattle.exchange_model.specs.World.{entry_at, world}
-use Rattle.exchange_model.proofs.Longer.{world_next, world_missed}
+use Rattle.exchange_model.proofs.Worlds.Longer.{world_next, world_missed}
 use Rattle.duo_run.specs.Duo.{DuoView, lengths_of, profiles_of, DuoStands, Steps, Misses}
 use Rattle.duo_run.specs.Replay.{entry_line, entry_lines, other_line, last_lines, ended_with, ended_at, run_stop, EndsWell, AreSetTo, ReplayReports}
 use Rattle.duo_run.proofs.EntryLines.{lines_begin}

@@ -9,8 +9,8 @@ use Rattle.schedule_file.specs.Made.{made_lengths, made_master, made_slave}
 use Rattle.exchange_model.specs.Fair.{Fair}
 use Rattle.exchange_model.specs.Other.{before_other, first_other}
 use Rattle.exchange_model.specs.World.{IsWorld}
-use Rattle.exchange_model.proofs.Headline.{fair_world}
-use Rattle.exchange_model.proofs.Others.{before_is_clean, before_is_world}
+use Rattle.exchange_model.proofs.Fairness.Headline.{fair_world}
+use Rattle.exchange_model.proofs.Worlds.Others.{before_is_clean, before_is_world}
 use Rattle.duo_run.specs.Bulk.{entries_of, number_line, summary_lines, report_of, RanBulk}
 use Rattle.duo_run.specs.Replay.{other_line, ended_with}
 use Rattle.duo_run.specs.Summary.{summary_of}

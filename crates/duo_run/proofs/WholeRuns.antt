@@ -15,7 +15,7 @@ use Rattle.end_model.specs.Deed.{is_empty}
 use Rattle.end_model.specs.Chain.{own}
 use Rattle.exchange_model.specs.Ends.{same_end, peer}
 use Rattle.exchange_model.specs.World.{setup_of, deed_in, deeds, frames_of, end_of_event, delivery, altered_delivery, move_of, next_entry, entry_on, entry_at}
-use Rattle.exchange_model.proofs.Longer.{world_next}
+use Rattle.exchange_model.proofs.Worlds.Longer.{world_next}
 use Rattle.duo_run.specs.Bulk.{entries_of}
 
 -- after an entry an end has sent as many frames or one more

@@ -28,14 +28,14 @@ ghost use Rattle.exchange_model.specs.WorkedRuns.{FirstData, ByteByByte, Longest
 
 /// A schedule of proper events makes a world, each of whose entries is the next one of its end; and in each world the
 /// entries of an end are those of the run of that end's own events alone.
-#[tactic(auto, using(crate::proofs::Projection::world_is_world, crate::proofs::Projection::projection))]
+#[tactic(auto, using(crate::proofs::Worlds::Projection::world_is_world, crate::proofs::Worlds::Projection::projection))]
 pub fn worlds()
     ensures schedule { (ms : MasterSettings) (ss : SlaveSettings) (events : List Event) → All (IsProperEvent ms ss) events → IsWorld ms ss (world ms ss events) }
     ensures projection { (ms : MasterSettings) (ss : SlaveSettings) (which : End) (w : List Entry) → IsWorld ms ss w → of_end which w ≡ entries (setup_of ms ss which) (run (setup_of ms ss which) (moves which w)) }
 {}
 
 /// The items of an end are the frames that it sent.
-#[tactic(auto, using(crate::proofs::Frames::frames))]
+#[tactic(auto, using(crate::proofs::Worlds::Frames::frames))]
 pub fn frames()
     ensures { (which : End) (w : List Entry) → map (λ i. i.bytes) (items_of which (items w)) ≡ frames_of which w }
 {}
@@ -43,7 +43,7 @@ pub fn frames()
 /// In each world of ends with equal lengths the outputs after each entry are those that looking back gives, whatever
 /// comes: this part of a fair run rests on no premise. Looking back over the entries that a run of an end tells is looking
 /// back over its deeds.
-#[tactic(auto, using(crate::proofs::Shown::shows_due, crate::proofs::Shown::due_is_out))]
+#[tactic(auto, using(crate::proofs::Fairness::Shown::shows_due, crate::proofs::Fairness::Shown::due_is_out))]
 pub fn outputs()
     ensures shown { (ms : MasterSettings) (ss : SlaveSettings) (w : List Entry) → SameLengths ms ss → IsWorld ms ss w → ShowsDue ms.lengths w }
     ensures of_deeds { (s : Setup) (e : List Deed) → IsRun s e → outputs_due (receives s) (entries s e) ≡ out s e }
@@ -51,7 +51,7 @@ pub fn outputs()
 
 /// In each world no item is awaited at two entries in which its awaiter takes data, whatever comes: this part of a fair run
 /// rests on no premise either.
-#[tactic(auto, using(crate::proofs::Once::at_most_once))]
+#[tactic(auto, using(crate::proofs::Fairness::Once::at_most_once))]
 pub fn data_once()
     ensures { (ms : MasterSettings) (ss : SlaveSettings) (which : End) (w : List Entry) → IsWorld ms ss w → IsDistinct nat_eq (numbers_taken which w) }
 {}
@@ -61,7 +61,7 @@ pub fn data_once()
 /// its peer put into its answer to that end's last frame, under equal terms and once, and all other outputs are fail-safe.
 /// Without that premise the entries before the first other one are fair. In each world without another entry data are taken
 /// from the awaited item alone.
-#[tactic(auto, using(crate::proofs::Headline::fair_run, crate::proofs::Headline::fair_before, crate::proofs::Headline::takes_awaited))]
+#[tactic(auto, using(crate::proofs::Fairness::Headline::fair_run, crate::proofs::Fairness::Headline::fair_before, crate::proofs::Fairness::Headline::takes_awaited))]
 pub fn headline()
     ensures fair { (ms : MasterSettings) (ss : SlaveSettings) (events : List Event) → SameLengths ms ss → All (IsProperEvent ms ss) events → NoOther (world ms ss events) → Fair ms.lengths (world ms ss events) }
     ensures fair_before { (ms : MasterSettings) (ss : SlaveSettings) (events : List Event) → SameLengths ms ss → All (IsProperEvent ms ss) events → Fair ms.lengths (before_other (world ms ss events)) }
@@ -70,7 +70,7 @@ pub fn headline()
 
 /// No entry before the first other one is other, which is the whole run where there is none; they are a world where the
 /// run is one; and the first other entry has the next number.
-#[tactic(auto, using(crate::proofs::Others::before_is_clean, crate::proofs::Others::clean_is_before, crate::proofs::Others::before_is_world, crate::proofs::Others::number_of_first))]
+#[tactic(auto, using(crate::proofs::Worlds::Others::before_is_clean, crate::proofs::Worlds::Others::clean_is_before, crate::proofs::Worlds::Others::before_is_world, crate::proofs::Worlds::Others::number_of_first))]
 pub fn others()
     ensures none_before { (w : List Entry) → NoOther (before_other w) }
     ensures whole { (w : List Entry) → NoOther w → before_other w ≡ w }
@@ -80,7 +80,7 @@ pub fn others()
 
 /// The exchanges before the first data are one of Reset frames and one for each piece of a payload that the master
 /// downloads.
-#[tactic(auto, using(crate::proofs::Exchanges::are_pieces))]
+#[tactic(auto, using(crate::proofs::Honest::Exchanges::are_pieces))]
 pub fn exchanges_before_data()
     ensures { (ms : MasterSettings) (id : ℕ) → exchanges ms ≡ 1 + pieces (pay ms id state.Session) (piece_len (OfMaster ms)) + pieces (pay ms id state.Connection) (piece_len (OfMaster ms)) + pieces (pay ms id state.Parameter) (piece_len (OfMaster ms)) }
 {}
@@ -96,7 +96,7 @@ pub fn honest_schedules()
 
 /// Worked handshakes of both ends, over frames of several lengths and in both profiles: the lines of the report, and the number
 /// of the first other entry.
-#[tactic(auto, using(crate::proofs::WorkedRuns::first_data, crate::proofs::WorkedRuns::byte_by_byte, crate::proofs::WorkedRuns::longest_frames, crate::proofs::WorkedRuns::profile_two, crate::proofs::WorkedRuns::number_stepped, crate::proofs::WorkedRuns::no_frame))]
+#[tactic(auto, using(crate::proofs::Worked::WorkedRuns::first_data, crate::proofs::Worked::WorkedRuns::byte_by_byte, crate::proofs::Worked::WorkedRuns::longest_frames, crate::proofs::Worked::WorkedRuns::profile_two, crate::proofs::Worked::WorkedRuns::number_stepped, crate::proofs::Worked::WorkedRuns::no_frame))]
 pub fn worked_handshakes()
     ensures first_data { FirstData }
     ensures byte_by_byte { ByteByByte }
@@ -107,7 +107,7 @@ pub fn worked_handshakes()
 {}
 
 /// Worked handshakes that a slave ends, in the same way.
-#[tactic(auto, using(crate::proofs::WorkedRuns::other_address, crate::proofs::WorkedRuns::long_watchdog, crate::proofs::WorkedRuns::no_parameters, crate::proofs::WorkedRuns::high_parameter, crate::proofs::WorkedRuns::forged_watchdog, crate::proofs::WorkedRuns::other_word, crate::proofs::WorkedRuns::other_profile, crate::proofs::WorkedRuns::other_profile_later))]
+#[tactic(auto, using(crate::proofs::Worked::WorkedRuns::other_address, crate::proofs::Worked::WorkedRuns::long_watchdog, crate::proofs::Worked::WorkedRuns::no_parameters, crate::proofs::Worked::WorkedRuns::high_parameter, crate::proofs::Worked::WorkedRuns::forged_watchdog, crate::proofs::Worked::WorkedRuns::other_word, crate::proofs::Worked::WorkedRuns::other_profile, crate::proofs::Worked::WorkedRuns::other_profile_later))]
 pub fn worked_refusals()
     ensures other_address { OtherAddress }
     ensures long_watchdog { LongWatchdog }
@@ -120,7 +120,7 @@ pub fn worked_refusals()
 {}
 
 /// Worked exchanges of data, with frames that come again, late, altered or forged, and with resets and ticks.
-#[tactic(auto, using(crate::proofs::WorkedRuns::repeated, crate::proofs::WorkedRuns::altered_group, crate::proofs::WorkedRuns::old_data, crate::proofs::WorkedRuns::five_ticks, crate::proofs::WorkedRuns::answer_under_way, crate::proofs::WorkedRuns::old_session, crate::proofs::WorkedRuns::forged_data, crate::proofs::WorkedRuns::held_slave, crate::proofs::WorkedRuns::old_connection))]
+#[tactic(auto, using(crate::proofs::Worked::WorkedRuns::repeated, crate::proofs::Worked::WorkedRuns::altered_group, crate::proofs::Worked::WorkedRuns::old_data, crate::proofs::Worked::WorkedRuns::five_ticks, crate::proofs::Worked::WorkedRuns::answer_under_way, crate::proofs::Worked::WorkedRuns::old_session, crate::proofs::Worked::WorkedRuns::forged_data, crate::proofs::Worked::WorkedRuns::held_slave, crate::proofs::Worked::WorkedRuns::old_connection))]
 pub fn worked_data()
     ensures repeated { Repeated }
     ensures altered_group { AlteredGroup }
@@ -134,7 +134,7 @@ pub fn worked_data()
 {}
 
 /// The items of worked runs: what they answer and carry, which is awaited, and which gave data.
-#[tactic(auto, using(crate::proofs::WorkedItems::answering, crate::proofs::WorkedItems::answering_late, crate::proofs::WorkedItems::carrying, crate::proofs::WorkedItems::awaiting, crate::proofs::WorkedItems::taking))]
+#[tactic(auto, using(crate::proofs::Worked::WorkedItems::answering, crate::proofs::Worked::WorkedItems::answering_late, crate::proofs::Worked::WorkedItems::carrying, crate::proofs::Worked::WorkedItems::awaiting, crate::proofs::Worked::WorkedItems::taking))]
 pub fn worked_items()
     ensures answering { Answering }
     ensures answering_late { AnsweringLate }
@@ -144,7 +144,7 @@ pub fn worked_items()
 {}
 
 /// Worked runs that are fair, those with an other entry before it.
-#[tactic(auto, using(crate::proofs::FairRuns::first_data_fair, crate::proofs::FairRuns::answer_under_way_fair, crate::proofs::FairRuns::old_session_fair, crate::proofs::FairRuns::held_slave_fair, crate::proofs::FairRuns::profile_two_fair, crate::proofs::FairRuns::forged_data_fair, crate::proofs::FairRuns::old_connection_fair))]
+#[tactic(auto, using(crate::proofs::Worked::FairRuns::first_data_fair, crate::proofs::Worked::FairRuns::answer_under_way_fair, crate::proofs::Worked::FairRuns::old_session_fair, crate::proofs::Worked::FairRuns::held_slave_fair, crate::proofs::Worked::FairRuns::profile_two_fair, crate::proofs::Worked::FairRuns::forged_data_fair, crate::proofs::Worked::FairRuns::old_connection_fair))]
 pub fn fair_runs()
     ensures first_data { FirstDataFair }
     ensures answer_under_way { AnswerUnderWayFair }
@@ -156,7 +156,7 @@ pub fn fair_runs()
 {}
 
 /// Worked schedules that are honest, the exchanges before the first data, and when both ends of one are in Data.
-#[tactic(auto, using(crate::proofs::HonestRuns::honest, crate::proofs::HonestRuns::honest_ticks, crate::proofs::HonestRuns::exchanges, crate::proofs::WorkedServing::reaches_data))]
+#[tactic(auto, using(crate::proofs::Worked::HonestRuns::honest, crate::proofs::Worked::HonestRuns::honest_ticks, crate::proofs::Worked::HonestRuns::exchanges, crate::proofs::Worked::WorkedServing::reaches_data))]
 pub fn honest_runs()
     ensures honest { Honest }
     ensures ticks { HonestTicks }
@@ -165,7 +165,7 @@ pub fn honest_runs()
 {}
 
 /// Settings that don't match and schedules that aren't honest, each by one thing alone.
-#[tactic(auto, using(crate::proofs::WorkedSchedules::mismatches, crate::proofs::WorkedSchedules::not_plain, crate::proofs::WorkedSchedules::out_of_turn, crate::proofs::WorkedSchedules::ticked_late))]
+#[tactic(auto, using(crate::proofs::Worked::WorkedSchedules::mismatches, crate::proofs::Worked::WorkedSchedules::not_plain, crate::proofs::Worked::WorkedSchedules::out_of_turn, crate::proofs::Worked::WorkedSchedules::ticked_late))]
 pub fn dishonest_runs()
     ensures mismatches { Mismatches }
     ensures not_plain { NotPlain }

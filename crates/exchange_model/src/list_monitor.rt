@@ -68,7 +68,7 @@ fn side(mine: &[Listed], theirs: &[Listed]) -> Side
 
 /// Appends the item of an entry of the end with the first of these lists, where it sent a frame. True exactly where the entry
 /// is other. Unchanged after `Memory`.
-#[tactic(auto, using(crate::proofs::Lasts::last_sent_more))]
+#[tactic(auto, using(crate::proofs::Monitors::Lasts::last_sent_more))]
 fn add(mine: &mut Vec<Listed>, theirs: &[Listed], entry: &Entry) -> Result<bool, Memory>
     requires { next_number (last_sent mine.old.items) < 2 ^ 64 }
     ensures other { IfOk result (λ other. other ≡ is_other_to (side_in mine.old.items theirs.now) entry.now) }
@@ -135,7 +135,7 @@ impl ListMonitor {
 
     /// Notes the next entry of the run. Fewer than 2^64 - 1 entries were noted before. `Memory` where there is none for
     /// another item; the monitor is then unchanged.
-    #[tactic(auto, using(crate::proofs::ListNoted::lists_by))]
+    #[tactic(auto, using(crate::proofs::Monitors::ListNoted::lists_by))]
     pub fn note(&mut self, entry: &Entry) -> Result<(), Memory>
         requires { self.old.noted + 1 < 2 ^ 64 }
         ensures ok { OnOk result (Lists self.old entry.now self.new) }

@@ -47,7 +47,7 @@ impl Monitor {
     }
 
     /// Notes the next entry of the run. Fewer than 2^64 - 1 entries were noted before.
-    #[tactic(auto, using(crate::proofs::Noted::notes_by))]
+    #[tactic(auto, using(crate::proofs::Monitors::Noted::notes_by))]
     pub fn note(&mut self, entry: &Entry)
         requires { self.old.noted + 1 < 2 ^ 64 }
         ensures notes { Notes self.old entry.now self.new }
@@ -78,7 +78,7 @@ impl Monitor {
     }
 
     /// The number of the item that an end awaits, among those of its peer, from 1; None exactly where it awaits none.
-    #[tactic(auto, using(crate::proofs::Noted::awaited_number))]
+    #[tactic(auto, using(crate::proofs::Monitors::Noted::awaited_number))]
     pub fn awaited(&self, by: End) -> Option<u64>
         ensures { (w : List Entry) → self.now ≡ view_of w → result ≡ item_number (awaited (items w) by) }
     {

@@ -1,0 +1,147 @@
+-- A data frame that an end sends carries what its end put, or zeros where the end was held.
+use Rattle.std.proofs.Common.{◌≡◌, ℕ, List, [], ◌∷◌, replicate, Bool, true, false, Option, Some, None, if◌then◌else◌, refl, sym, ap, subst, ◌∙◌}
+use Rattle.std.specs.List.{AllByRecursion}
+use Rattle.fsoe_base.specs.declared.command.End.{End}
+use Rattle.fsoe_base.specs.declared.command.Command.{Command}
+use Rattle.fsoe_base.specs.declared.command.Command.TheVariants as command
+use Rattle.fsoe_base.specs.declared.did.Did.{Did}
+use Rattle.fsoe_frame.specs.Parts.{frame_of}
+use Rattle.param_load.specs.declared.entry.Move.{Move}
+use Rattle.param_load.specs.declared.entry.Move.TheVariants as move
+use Rattle.param_load.specs.declared.entry.Entry.{Entry}
+use Rattle.param_load.specs.declared.master_settings.MasterSettings.{MasterSettings}
+use Rattle.param_load.specs.declared.slave_settings.SlaveSettings.{SlaveSettings}
+use Rattle.end_model.specs.Setup.{Setup, OfMaster, OfSlave, sends}
+use Rattle.end_model.specs.Deed.{Deed, is_empty}
+use Rattle.end_model.specs.Readiness.{offer, offer_after, held, held_after}
+use Rattle.end_model.specs.Step.{takes_frame, begun, IsRun}
+use Rattle.end_model.specs.Reactions.{OfSession, OfConnection, OfParameter, AfterSession, AfterConnection, Taking, MasterStarts, MasterGoesOn, MasterNextPhase, MasterFirstData, MasterMoreData, Reaction, Answers}
+use Rattle.end_model.proofs.Taken.{answer_is}
+use Rattle.exchange_model.specs.Ends.{same_end, of_end}
+use Rattle.exchange_model.specs.World.{setup_of, deed_in, deeds, IsWorld}
+use Rattle.exchange_model.specs.Items.{put_after, last_put, is_held, load_put, load_of, Item, item_of, items_of, items}
+use Rattle.fsoe_base.specs.Data.{is_data}
+use Rattle.end_model.specs.Phases.{is_data_if, is_data_frame}
+use Rattle.exchange_model.specs.Fair.{frame_with, frame_if}
+use Rattle.exchange_model.proofs.Worlds.Projection.{same, deeds_are_run, entry_reacted}
+use Rattle.exchange_model.proofs.Alone.Framed.{command_in, IsFrame, command_framed, IsData, Zeros, Offers, SlaveSends, Echoes, Gives, slave_sends, piece_sent, data_sent}
+
+-- an item of data is of the frame that its load makes
+pub record Carries (l : ℕ) (i : Item) : Type 0 where
+  pub carries : (c : Command) → command_in i.bytes ≡ Some c → is_data c ≡ true → frame_if l i.load ≡ Some (record { command = c; load = (frame_of l i.bytes).load })
+
+-- what was put last, zeros where nothing was
+abbrev offer_by : ℕ → Option (List ℕ) → List ℕ
+offer_by l None = replicate l 0
+offer_by l (Some bytes) = bytes
+
+put-after : (l : ℕ) (m : Move) (before : List ℕ) (put : Option (List ℕ)) → before ≡ offer_by l put → offer_after m before ≡ offer_by l (put_after m put)
+put-after l (move.Put load) before put h = refl
+put-after l (move.Deliver bytes) before put h = h
+put-after l move.Tick before put h = h
+put-after l (move.Hold failsafe) before put h = h
+put-after l (move.Nonce id) before put h = h
+put-after l move.Local before put h = h
+
+put-head : (s : Setup) (which : End) (x : Entry) (w : List Entry) (mine : Bool) → offer s (deeds which w) ≡ offer_by (sends s) (last_put (of_end which w))
+    → offer s (if mine then deed_in x ∷ deeds which w else deeds which w) ≡ offer_by (sends s) (last_put (if mine then x ∷ of_end which w else of_end which w))
+put-head s which x w true h = put-after (sends s) x.what _ _ h
+put-head s which x w false h = h
+
+-- what was put last by an end's entries is its offer
+put-is : (s : Setup) (which : End) (w : List Entry) → offer s (deeds which w) ≡ offer_by (sends s) (last_put (of_end which w))
+put-is s which [] = refl
+put-is s which (x ∷ w) = put-head s which x w (same_end which x.end) (put-is s which w)
+
+held-head : (which : End) (x : Entry) (w : List Entry) (mine : Bool) → held (deeds which w) ≡ is_held (of_end which w)
+    → held (if mine then deed_in x ∷ deeds which w else deeds which w) ≡ is_held (if mine then x ∷ of_end which w else of_end which w)
+held-head which x w true h = ap (held_after x.what) h
+held-head which x w false h = h
+
+held-is : (which : End) (w : List Entry) → held (deeds which w) ≡ is_held (of_end which w)
+held-is which [] = refl
+held-is which (x ∷ w) = held-head which x w (same_end which x.end) (held-is which w)
+
+put-frame : (l : ℕ) (put : Option (List ℕ)) → frame_with l (load_put put) ≡ record { command = command.ProcessData; load = offer_by l put }
+put-frame l None = refl
+put-frame l (Some bytes) = refl
+
+same-command : (f : List ℕ) (c c' : Command) → command_in f ≡ Some c → command_in f ≡ Some c' → c ≡ c'
+same-command f c c' h k = let e : Some c ≡ Some c' = sym h ∙ k in cc
+
+-- a data frame carries what its end put
+data-carries : (s : Setup) (which : End) (w : List Entry) (f : List ℕ) (c : Command) → IsData s (deeds which w) f → command_in f ≡ Some c
+    → frame_if (sends s) (load_of f (of_end which w)) ≡ Some (record { command = c; load = (frame_of (sends s) f).load })
+data-carries s which w f c (Zeros h g) k =
+    let a : command.FailSafeData ≡ c = same-command f command.FailSafeData c (command_framed _ command.FailSafeData _ f g) k in
+    let b : (frame_of (sends s) f).load ≡ replicate (sends s) 0 = g.carries in
+    let d : is_data_frame f ≡ true = ap is_data_frame g.is in
+    let q : is_held (of_end which w) ≡ true = sym (held-is which w) ∙ h in
+    simp (d, q, ← a, b)
+data-carries s which w f c (Offers h g) k =
+    let a : command.ProcessData ≡ c = same-command f command.ProcessData c (command_framed _ command.ProcessData _ f g) k in
+    let b : (frame_of (sends s) f).load ≡ offer_by (sends s) (last_put (of_end which w)) = g.carries ∙ put-is s which w in
+    let d : is_data_frame f ≡ true = ap is_data_frame g.is in
+    let q : is_held (of_end which w) ≡ false = sym (held-is which w) ∙ h in
+    simp (d, q, ← a, b) (ap Some (put-frame (sends s) (last_put (of_end which w))))
+
+-- the frame of a deed, if it has one: of data or not
+data Sending (s : Setup) (e : List Deed) (f : List ℕ) : Type 0 where
+  Plain : is_data_if (command_in f) ≡ false → Sending s e f
+  OfData : IsData s e f → Sending s e f
+
+plain : (s : Setup) (e : List Deed) (l : ℕ) (c : Command) (load f : List ℕ) → is_data c ≡ false → IsFrame l c load f → Sending s e f
+plain s e l c load f h g = Plain (ap is_data_if (command_framed l c load f g) ∙ h)
+
+-- the deed itself changes no offer and no hold
+before-it : (s : Setup) (e : List Deed) (bytes f : List ℕ) (d : Did) → IsData s (begun (move.Deliver bytes) d ∷ e) f → IsData s e f
+before-it s e bytes f d (Zeros h g) = Zeros h g
+before-it s e bytes f d (Offers h g) = Offers h g
+
+master-sending : (ms : MasterSettings) (e : List Deed) (bytes load : List ℕ) (c : Command) (f : List ℕ) → IsRun (OfMaster ms) e → Taking e bytes load (OfMaster ms) c f → Sending (OfMaster ms) e f
+master-sending ms e bytes load c f r (MasterStarts _ _ now none frame is_zero made sent after) = plain _ e _ command.Session _ f refl (piece_sent ms e bytes load command.Reset command.Session 1 f made)
+master-sending ms e bytes load c f r (MasterGoesOn _ _ _ OfSession now part x) = plain _ e _ command.Session _ f refl (piece_sent ms e bytes load command.Session command.Session _ f x.is_made)
+master-sending ms e bytes load c f r (MasterGoesOn _ _ _ OfConnection now part x) = plain _ e _ command.Connection _ f refl (piece_sent ms e bytes load command.Connection command.Connection _ f x.is_made)
+master-sending ms e bytes load c f r (MasterGoesOn _ _ _ OfParameter now part x) = plain _ e _ command.Parameter _ f refl (piece_sent ms e bytes load command.Parameter command.Parameter _ f x.is_made)
+master-sending ms e bytes load c f r (MasterNextPhase _ _ _ _ AfterSession now whole x) = plain _ e _ command.Connection _ f refl (piece_sent ms e bytes load command.Session command.Connection 1 f x.is_made)
+master-sending ms e bytes load c f r (MasterNextPhase _ _ _ _ AfterConnection now whole x) = plain _ e _ command.Parameter _ f refl (piece_sent ms e bytes load command.Connection command.Parameter 1 f x.is_made)
+master-sending ms e bytes load c f r (MasterFirstData _ _ now whole x) = OfData (before-it (OfMaster ms) e bytes f _ (data_sent ms e bytes load command.Parameter f r x.is_made))
+master-sending ms e bytes load c f r (MasterMoreData _ _ _ is now x) = OfData (before-it (OfMaster ms) e bytes f _ (data_sent ms e bytes load c f r x.is_made))
+
+slave-sending : (ss : SlaveSettings) (e : List Deed) (bytes : List ℕ) (d : Did) (c : Command) (f : List ℕ) → SlaveSends ss (begun (move.Deliver bytes) d ∷ e) c f → Sending (OfSlave ss) e f
+slave-sending ss e bytes d c f (Echoes load x g) = plain _ e _ c load f x g
+slave-sending ss e bytes d c f (Gives x g) = OfData (before-it (OfSlave ss) e bytes f d g)
+
+answering : (s : Setup) (e : List Deed) (bytes load : List ℕ) (c : Command) (f : List ℕ) → IsRun s e → Taking e bytes load s c f → Sending s e f
+answering (OfMaster ms) e bytes load c f r taking = master-sending ms e bytes load c f r taking
+answering (OfSlave ss) e bytes load command.Reset f r taking = Plain (ap (λ (f : List ℕ). is_data_if (command_in f)) (answer_is e bytes load (OfSlave ss) command.Reset f taking))
+answering (OfSlave ss) e bytes load c f r taking = slave-sending ss e bytes (takes_frame c load) c f (slave_sends ss e bytes load c f r taking (λ k. cc))
+
+sending : (s : Setup) (e : List Deed) (m : Move) (d : Did) (f : List ℕ) → IsRun s e → Reaction s e m d f → Sending s e f
+sending s e m d f r (Answers bytes load c answer taking) = answering s e bytes load c answer r taking
+sending s e m d f r _ = Plain refl
+
+carries-by : (s : Setup) (which : End) (w : List Entry) (f : List ℕ) → Sending s (deeds which w) f → (c : Command) → command_in f ≡ Some c → is_data c ≡ true
+    → frame_if (sends s) (load_of f (of_end which w)) ≡ Some (record { command = c; load = (frame_of (sends s) f).load })
+carries-by s which w f (Plain h) c k d = absurd (let q : false ≡ true = sym h ∙ (ap is_data_if k ∙ d) in cc)
+carries-by s which w f (OfData g) c k d = data-carries s which w f c g k
+
+item-carries : (ms : MasterSettings) (ss : SlaveSettings) (which : End) (x : Entry) (w : List Entry) → x.end ≡ which → IsWorld ms ss (x ∷ w) → Carries (sends (setup_of ms ss which)) (item_of x w (items w))
+item-carries ms ss which x w h so_far =
+    let s : Setup = setup_of ms ss x.end in
+    let e : List Deed = deeds x.end w in
+    subst (λ (it : End). Carries (sends (setup_of ms ss it)) (item_of x w (items w))) h
+    (record { carries = carries-by s x.end w x.sent (sending s e x.what x.did x.sent (deeds_are_run ms ss x.end w so_far.1) (entry_reacted ms ss x w so_far)) })
+
+-- a property of items that holds of each new one holds of all
+pub all_items : (P : Item → Type 0) (which : End) (x : Entry) (w : List Entry) (mine none : Bool) → same_end which x.end ≡ mine → (mine ≡ true → is_empty x.sent ≡ false → P (item_of x w (items w)))
+    → is_empty x.sent ≡ none → AllByRecursion P (items_of which (items w)) → AllByRecursion P (items_of which (if none then items w else item_of x w (items w) ∷ items w))
+all_items P which x w mine true h new k all = all
+all_items P which x w true false h new k all = simp h (new refl k, all)
+all_items P which x w false false h new k all = simp h all
+
+-- in each world the items of an end carry what it put
+pub all_carry : (ms : MasterSettings) (ss : SlaveSettings) (which : End) (w : List Entry) → IsWorld ms ss w → AllByRecursion (Carries (sends (setup_of ms ss which))) (items_of which (items w))
+all_carry ms ss which [] h = tt
+all_carry ms ss which (x ∷ w) h =
+    all_items (Carries (sends (setup_of ms ss which))) which x w (same_end which x.end) (is_empty x.sent) refl (λ mine sent. item-carries ms ss which x w (same which x.end mine) h) refl (all_carry ms ss which w h.1)

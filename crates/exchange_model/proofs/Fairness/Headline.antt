@@ -1,0 +1,172 @@
+-- The law of the pair: in a world without another entry, data taken in Data are those that the peer put into the awaited answer,
+-- under equal terms. It rests on what both ends' items say of one another (Joint), on the pieces that a master sends (Pieces), on what
+-- a slave tests (Uploads) and on what data frames carry (Loads); Told and this file join them.
+use Rattle.std.proofs.Common.{◌≡◌, ℕ, List, [], ◌∷◌, length, Bool, true, false, Option, Some, None, is_some, ◌==◌, suc, if◌then◌else◌, refl, sym, ap, subst, ◌∙◌, All}
+use Rattle.std.specs.List.{AllByRecursion}
+use Rattle.fsoe_base.specs.declared.command.End.{End}
+use Rattle.fsoe_base.specs.declared.command.End.TheVariants as end_name
+use Rattle.fsoe_base.specs.declared.command.State.TheVariants as state
+use Rattle.fsoe_base.specs.declared.command.Command.{Command}
+use Rattle.fsoe_base.specs.declared.command.Command.TheVariants as command
+use Rattle.fsoe_base.specs.declared.did.Did.{Did}
+use Rattle.fsoe_base.specs.declared.did.Took.{Took}
+use Rattle.fsoe_frame.specs.Parts.{frame_of}
+use Rattle.param_load.specs.declared.entry.Move.{Move}
+use Rattle.param_load.specs.declared.entry.Move.TheVariants as move
+use Rattle.param_load.specs.declared.entry.Entry.{Entry}
+use Rattle.param_load.specs.declared.terms.Terms.{Terms}
+use Rattle.param_load.specs.declared.master_settings.MasterSettings.{MasterSettings}
+use Rattle.param_load.specs.declared.slave_settings.SlaveSettings.{SlaveSettings}
+use Rattle.schedule_file.specs.declared.event.Event.{Event}
+use Rattle.end_model.specs.Setup.{Setup, OfSlave, sends, receives}
+use Rattle.end_model.specs.Phases.{phase_of_frame}
+use Rattle.end_model.specs.Deed.{Deed, is_empty}
+use Rattle.end_model.specs.Readiness.{state_of}
+use Rattle.end_model.specs.Step.{takes_frame}
+use Rattle.end_model.specs.Reactions.{Taking, Reaction, Answers}
+use Rattle.end_model.proofs.Reactions.{phase_of_data}
+use Rattle.end_model.proofs.Taken.{exchange_of, data_after}
+use Rattle.exchange_model.specs.Ends.{same_end, peer}
+use Rattle.exchange_model.specs.World.{setup_of, deed_in, deeds, world, SameLengths, IsProperEvent, IsNextEntry, IsWorld}
+use Rattle.exchange_model.specs.Items.{Item, items_of, items, item_of, awaited}
+use Rattle.exchange_model.specs.Other.{NoOther, before_other}
+use Rattle.fsoe_base.specs.Data.{is_data}
+use Rattle.exchange_model.specs.Fair.{received_len, data_taken, frame_if, IsTakenFrom, TakesAwaited, Fair}
+use Rattle.exchange_model.proofs.Worlds.Projection.{same, entry_reacted, world_is_world}
+use Rattle.exchange_model.proofs.Fairness.Shown.{receives_is, shows_due}
+use Rattle.exchange_model.proofs.Fairness.Once.{at_most_once}
+use Rattle.exchange_model.proofs.Worlds.Others.{before_is_clean, before_is_world}
+use Rattle.exchange_model.proofs.Joint.Awaited.{up_to, newest_phase}
+use Rattle.exchange_model.proofs.Alone.Framed.{command_in, head_is, phase_by}
+use Rattle.exchange_model.proofs.Alone.Pieces.{deed}
+use Rattle.exchange_model.proofs.Alone.Loads.{Carries, all_carry, all_items}
+use Rattle.exchange_model.proofs.Joint.Taking.{TakesItem, takes_item, data_guarded, NoneOther, none_other}
+use Rattle.exchange_model.proofs.Joint.Related.{Related, related}
+use Rattle.exchange_model.proofs.Terms.Told.{terms_of, Tells, master_state, master_told, slave_told}
+
+-- each item of a master that is of data was sent under its terms
+tells-master : (ms : MasterSettings) (ss : SlaveSettings) (x : Entry) (w : List Entry) → end_name.Master ≡ x.end → IsNextEntry (setup_of ms ss x.end) x (deeds x.end w) → Tells (terms_of ms) (item_of x w (items w))
+tells-master ms ss x w is next =
+    record {
+      tells = λ c h d.
+          master_told ms x (deeds end_name.Master w) (subst (λ (it : End). IsNextEntry (setup_of ms ss it) x (deeds it w)) (sym is) next) (master_state ms (deed_in x) (deeds end_name.Master w) c h d);
+    }
+
+all-tell-master : (ms : MasterSettings) (ss : SlaveSettings) (w : List Entry) → IsWorld ms ss w → AllByRecursion (Tells (terms_of ms)) (items_of end_name.Master (items w))
+all-tell-master ms ss [] h = tt
+all-tell-master ms ss (x ∷ w) h =
+    all_items (Tells (terms_of ms)) end_name.Master x w (same_end end_name.Master x.end) (is_empty x.sent) refl (λ mine sent. tells-master ms ss x w (sym (same end_name.Master x.end mine)) h.0) refl (all-tell-master ms ss w h.1)
+
+-- a slave's newest item tells its state
+newest-state : (ms : MasterSettings) (ss : SlaveSettings) (x : Entry) (w : List Entry) → x.end ≡ end_name.Slave → is_empty x.sent ≡ false → Related ms ss (x ∷ w) → phase_of_frame x.sent ≡ state_of (OfSlave ss) (deeds end_name.Slave (x ∷ w))
+newest-state ms ss x w is sent h =
+    let mine : same_end end_name.Slave x.end ≡ true = ap (same_end end_name.Slave) is in
+    let e : items_of end_name.Slave (items (x ∷ w)) ≡ item_of x w (items w) ∷ items_of end_name.Slave (items w) = simp (sent, mine) in
+    ap newest_phase (sym e) ∙ h.newest_is
+
+tells-slave : (ms : MasterSettings) (ss : SlaveSettings) (x : Entry) (w : List Entry) → SameLengths ms ss → IsWorld ms ss (x ∷ w) → Related ms ss (x ∷ w) → x.end ≡ end_name.Slave → is_empty x.sent ≡ false → Tells (terms_of ms) (item_of x w (items w))
+tells-slave ms ss x w lens h k is sent =
+    record {
+      tells = λ c head d.
+          slave_told ms ss x w lens h k is (subst (λ (it : End). IsNextEntry (setup_of ms ss it) x (deeds it w)) is h.0)
+          (sym (newest-state ms ss x w is sent k) ∙ (phase_by x.sent c head ∙ phase_of_data c d));
+    }
+
+-- each item of a slave that is of data was sent under the master's terms
+all-tell-slave : (ms : MasterSettings) (ss : SlaveSettings) (w : List Entry) → SameLengths ms ss → IsWorld ms ss w → NoOther w → AllByRecursion (Tells (terms_of ms)) (items_of end_name.Slave (items w))
+all-tell-slave ms ss [] lens h n = tt
+all-tell-slave ms ss (x ∷ w) lens h n =
+    let o : NoneOther x w = none_other x w n in
+    all_items (Tells (terms_of ms)) end_name.Slave x w (same_end end_name.Slave x.end) (is_empty x.sent) refl (λ mine sent. tells-slave ms ss x w lens h (related ms ss (x ∷ w) lens h n) (same end_name.Slave x.end mine) sent) refl (all-tell-slave ms ss w lens h.1 o.before)
+
+all-tell : (ms : MasterSettings) (ss : SlaveSettings) (which : End) (w : List Entry) → SameLengths ms ss → IsWorld ms ss w → NoOther w → AllByRecursion (Tells (terms_of ms)) (items_of which (items w))
+all-tell ms ss end_name.Master w lens h n = all-tell-master ms ss w h
+all-tell ms ss end_name.Slave w lens h n = all-tell-slave ms ss w lens h n
+
+-- what holds of all items holds of one among them
+at-item : (P : Item → Type 0) (n : ℕ) (found rest : List Item) (j : Item) → AllByRecursion P found → up_to n found ≡ j ∷ rest → P j
+at-item P n [] rest j all h = cc
+at-item P n (i ∷ found) rest j all h = at-head (n == suc (length found)) (at-item P n found rest j all.1) h
+  where
+    at-head : (b : Bool) → (up_to n found ≡ j ∷ rest → P j) → (if b then i ∷ found else up_to n found) ≡ j ∷ rest → P j
+    at-head true later h = let q : i ≡ j = cc in subst P q all.0
+    at-head false later h = later h
+
+-- what an entry takes: no data, or a data frame that brings its end into Data or leaves it there
+data Takings (s : Setup) (e : List Deed) (x : Deed) : Type 0 where
+  NoData : data_taken x.did.took ≡ None → Takings s e x
+  SomeData : (bytes load : List ℕ) (c : Command) → x.what ≡ move.Deliver bytes → x.did ≡ takes_frame c load → is_data c ≡ true → command_in bytes ≡ Some c → (frame_of (receives s) bytes).load ≡ load
+      → state_of s (x ∷ e) ≡ state.Data → Takings s e x
+
+takings-by : (s : Setup) (e : List Deed) (bytes load : List ℕ) (c : Command) (f : List ℕ) (some : Bool) → Taking e bytes load s c f → is_data c ≡ some → Takings s e (deed (move.Deliver bytes) (takes_frame c load) f)
+takings-by s e bytes load c f true taking d =
+    let x = (exchange_of e bytes load s c f taking (λ k. let q : is_data command.Reset ≡ true = ap is_data (sym k) ∙ d in cc)).2 in
+    SomeData bytes load c refl refl d (head_is (receives s) bytes c x.valid.is_read.command_is) x.valid.load_is (data_after e bytes load s c f taking d)
+takings-by s e bytes load c f false taking d = NoData (simp d)
+
+takings : (s : Setup) (e : List Deed) (m : Move) (d : Did) (f : List ℕ) → Reaction s e m d f → Takings s e (deed m d f)
+takings s e m d f (Answers bytes load c answer taking) = takings-by s e bytes load c answer (is_data c) taking refl
+takings s e m d f _ = NoData refl
+
+-- an end in Data tells the terms of the master's settings
+told-in-data : (ms : MasterSettings) (ss : SlaveSettings) (which : End) (x : Entry) (w : List Entry) → SameLengths ms ss → IsWorld ms ss (x ∷ w) → Related ms ss (x ∷ w) → x.end ≡ which → state_of (setup_of ms ss which) (deed_in x ∷ deeds which w) ≡ state.Data
+    → x.terms ≡ Some (terms_of ms)
+told-in-data ms ss end_name.Master x w lens h k is now = master_told ms x (deeds end_name.Master w) (subst (λ (it : End). IsNextEntry (setup_of ms ss it) x (deeds it w)) is h.0) now
+told-in-data ms ss end_name.Slave x w lens h k is now =
+    let e : deeds end_name.Slave (x ∷ w) ≡ deed_in x ∷ deeds end_name.Slave w = ap (λ (end : End). if same_end end_name.Slave end then deed_in x ∷ deeds end_name.Slave w else deeds end_name.Slave w) is in
+    slave_told ms ss x w lens h k is (subst (λ (it : End). IsNextEntry (setup_of ms ss it) x (deeds it w)) is h.0) (ap (state_of (OfSlave ss)) e ∙ now)
+
+-- what an end receives is what its peer sends
+received-sent : (ms : MasterSettings) (ss : SlaveSettings) (which : End) → SameLengths ms ss → received_len ms.lengths which ≡ sends (setup_of ms ss (peer which))
+received-sent ms ss end_name.Master lens = lens.slave
+received-sent ms ss end_name.Slave lens = refl
+
+-- data that an entry takes are from the awaited item
+taken-from : (l : ℕ) (c : Command) (bytes load : List ℕ) (told : Option Terms) (t : Terms) (o : Option Item) (j : Item) → is_data c ≡ true → o ≡ Some j → j.bytes ≡ bytes → command_in bytes ≡ Some c → (frame_of l bytes).load ≡ load
+    → Carries l j → Tells t j → told ≡ Some t → IsTakenFrom l (data_taken (Some (record { command = c; load = load }))) told o
+taken-from l c bytes load told t o j d is same_bytes head load_is carry tell now =
+    let e : data_taken (Some (record { command = c; load = load })) ≡ Some (record { command = c; load = load }) = simp d in
+    let its : command_in j.bytes ≡ Some c = ap command_in same_bytes ∙ head in
+    let load_too : frame_if l j.load ≡ Some (record { command = c; load = load }) =
+    carry.carries c its d ∙ (ap (λ b. Some (record { command = c; load = (frame_of l b).load })) same_bytes ∙ ap (λ v. Some (record { command = c; load = v })) load_is) in
+    let terms_are : j.terms ≡ Some t = tell.tells c its d in
+    subst (λ (took : Option Took). IsTakenFrom l took told o) (sym e)
+    (subst (λ (o : Option Item). IsTakenFrom l (Some (record { command = c; load = load })) told o) (sym is)
+    (record { same_load = load_too; some_terms = ap is_some terms_are; equal_terms = terms_are ∙ sym now }))
+
+taken-head : (ms : MasterSettings) (ss : SlaveSettings) (x : Entry) (w : List Entry) → SameLengths ms ss → IsWorld ms ss (x ∷ w) → NoOther (x ∷ w) → Takings (setup_of ms ss x.end) (deeds x.end w) (deed_in x)
+    → IsTakenFrom (received_len ms.lengths x.end) (data_taken x.did.took) x.terms (awaited (items w) x.end)
+taken-head ms ss x w lens h n (NoData e) = subst (λ (took : Option Took). IsTakenFrom (received_len ms.lengths x.end) took x.terms (awaited (items w) x.end)) (sym e) tt
+taken-head ms ss x w lens h n (SomeData bytes load c a b d head load_is now) =
+    let o : NoneOther x w = none_other x w n in
+    let it : TakesItem w x bytes = takes_item w x bytes c load (record { what_is = a; did_is = b }) head (data_guarded c d) o.here in
+    let others : List Item = items_of (peer x.end) (items w) in
+    let carry : Carries (sends (setup_of ms ss (peer x.end))) it.item = at-item (Carries (sends (setup_of ms ss (peer x.end)))) it.item.number others it.found.rest it.item (all_carry ms ss (peer x.end) w h.1) it.found.is in
+    let tell : Tells (terms_of ms) it.item = at-item (Tells (terms_of ms)) it.item.number others it.found.rest it.item (all-tell ms ss (peer x.end) w lens h.1 o.before) it.found.is in
+    let l : ℕ = received_len ms.lengths x.end in
+    subst (λ (did : Did). IsTakenFrom (received_len ms.lengths x.end) (data_taken did.took) x.terms (awaited (items w) x.end)) (sym b)
+    (taken-from (received_len ms.lengths x.end) c bytes load x.terms (terms_of ms) (awaited (items w) x.end) it.item d it.is it.bytes_are head
+    (ap (λ (l : ℕ). (frame_of l bytes).load) (receives_is ms ss x.end lens) ∙ load_is)
+    (subst (λ (l : ℕ). Carries l it.item) (sym (received-sent ms ss x.end lens)) carry) tell
+    (told-in-data ms ss x.end x w lens h (related ms ss (x ∷ w) lens h n) refl now))
+
+-- the first part of fair: data are taken from the awaited item
+pub takes_awaited : (ms : MasterSettings) (ss : SlaveSettings) (w : List Entry) → SameLengths ms ss → IsWorld ms ss w → NoOther w → TakesAwaited ms.lengths w
+takes_awaited ms ss [] lens h n = tt
+takes_awaited ms ss (x ∷ w) lens h n =
+    let o : NoneOther x w = none_other x w n in
+    (taken-head ms ss x w lens h n (takings (setup_of ms ss x.end) (deeds x.end w) x.what x.did x.sent (entry_reacted ms ss x w h)), takes_awaited ms ss w lens h.1 o.before)
+
+-- a world without another entry is fair
+pub fair_world : (ms : MasterSettings) (ss : SlaveSettings) (w : List Entry) → SameLengths ms ss → IsWorld ms ss w → NoOther w → Fair ms.lengths w
+fair_world ms ss w lens h n =
+    record { from_awaited = takes_awaited ms ss w lens h n; master_once = at_most_once ms ss end_name.Master w h; slave_once = at_most_once ms ss end_name.Slave w h; outputs = shows_due ms ss w lens h }
+
+-- a run over proper events without another entry is fair
+pub fair_run : (ms : MasterSettings) (ss : SlaveSettings) (events : List Event) → SameLengths ms ss → All (IsProperEvent ms ss) events → NoOther (world ms ss events) → Fair ms.lengths (world ms ss events)
+fair_run ms ss events lens proper n = fair_world ms ss (world ms ss events) lens (world_is_world ms ss events proper) n
+
+-- each run over proper events is fair before its first other entry
+pub fair_before : (ms : MasterSettings) (ss : SlaveSettings) (events : List Event) → SameLengths ms ss → All (IsProperEvent ms ss) events → Fair ms.lengths (before_other (world ms ss events))
+fair_before ms ss events lens proper =
+    fair_world ms ss (before_other (world ms ss events)) lens (before_is_world ms ss (world ms ss events) (world_is_world ms ss events proper)) (before_is_clean (world ms ss events))

@@ -1,0 +1,185 @@
+-- No awaited item gives data twice: an end that takes data sends a frame, so that the next item it awaits answers a newer one.
+use Rattle.std.proofs.Common.{◌≡◌, ℕ, suc, ◌<◌, ◌≤◌, ◌==◌, nat_eq, List, [], ◌∷◌, length, Bool, true, false, ◌&&◌, not, Option, Some, None, is_some, if◌then◌else◌, refl, ap, subst, sym, ◌∙◌, eqb-true, arith}
+use Rattle.std.proofs.lemmas.Bool.Decides.{nat_tests}
+use Rattle.std.specs.List.{IsDistinct, AllByRecursion}
+use Rattle.fsoe_base.specs.declared.command.End.{End}
+use Rattle.fsoe_base.specs.declared.command.Command.TheVariants as command
+use Rattle.fsoe_base.specs.declared.did.Did.{Did}
+use Rattle.fsoe_base.specs.declared.did.Took.{Took}
+use Rattle.param_load.specs.declared.entry.Move.{Move}
+use Rattle.param_load.specs.declared.entry.Entry.{Entry}
+use Rattle.param_load.specs.declared.master_settings.MasterSettings.{MasterSettings}
+use Rattle.param_load.specs.declared.slave_settings.SlaveSettings.{SlaveSettings}
+use Rattle.end_model.specs.Setup.{Setup}
+use Rattle.end_model.specs.Phases.{has_command}
+use Rattle.end_model.specs.Deed.{Deed, is_empty}
+use Rattle.end_model.specs.Reactions.{Reaction, Answers}
+use Rattle.end_model.proofs.SoundRuns.{answer_sent}
+use Rattle.exchange_model.specs.Ends.{same_end, peer}
+use Rattle.exchange_model.specs.World.{setup_of, deeds, IsWorld}
+use Rattle.exchange_model.specs.Items.{Item, item_of, items_of, newest, answers_to, newest_answer, answer_among, awaited, items}
+use Rattle.exchange_model.specs.Fair.{data_taken, with_number, numbers_taken}
+use Rattle.exchange_model.proofs.Worlds.Projection.{entry_reacted}
+use Rattle.exchange_model.proofs.Worlds.Numbered.{Numbered, Grown, Same, More, next_number, grown}
+
+-- what the item with this number answers
+abbrev answer_of : ℕ → List Item → Option ℕ
+answer_of n [] = None
+answer_of n (i ∷ found) = if i.number == n then i.answers else answer_of n found
+
+-- the item with this number answered an item before the next of this many
+record Used (count : ℕ) (theirs : List Item) (n : ℕ) : Type 0 where
+  pub within : n ≤ length theirs
+  pub at : ℕ
+  pub answered : answer_of n theirs ≡ Some at
+  pub earlier : at < count
+
+older : (n number : ℕ) (found : List Item) → number ≡ suc (length found) → n ≤ length found → (number == n) ≡ false
+older n number found h k = grind (arith, nat_tests)
+
+used-more : (count n : ℕ) (i : Item) (theirs : List Item) → i.number ≡ suc (length theirs) → Used count theirs n → Used count (i ∷ theirs) n
+used-more count n i theirs h u =
+    let other : (i.number == n) ≡ false = older n i.number theirs h u.within in
+    record { within = let k : n ≤ length theirs = u.within in omega arith; at = u.at; answered = simp other u.answered; earlier = u.earlier }
+
+used-later : (count more n : ℕ) (theirs : List Item) → count ≤ more → Used count theirs n → Used more theirs n
+used-later count more n theirs h u = record { within = u.within; at = u.at; answered = u.answered; earlier = let k : u.at < count = u.earlier in omega arith }
+
+all-more : (count : ℕ) (ns : List ℕ) (i : Item) (theirs : List Item) → i.number ≡ suc (length theirs) → AllByRecursion (Used count theirs) ns → AllByRecursion (Used count (i ∷ theirs)) ns
+all-more count [] i theirs h all = tt
+all-more count (n ∷ ns) i theirs h all = (used-more count n i theirs h all.0, all-more count ns i theirs h all.1)
+
+all-later : (count more : ℕ) (ns : List ℕ) (theirs : List Item) → count ≤ more → AllByRecursion (Used count theirs) ns → AllByRecursion (Used more theirs) ns
+all-later count more [] theirs h all = tt
+all-later count more (n ∷ ns) theirs h all = (used-later count more n theirs h all.0, all-later count more ns theirs h all.1)
+
+-- an awaited item answers the newest item of the end that awaits it
+record AnswersNewest (k : ℕ) (theirs : List Item) (j : Item) : Type 0 where
+  pub within : j.number ≤ length theirs
+  pub answered : answer_of j.number theirs ≡ Some k
+
+is-answer : (k : ℕ) (o : Option ℕ) → answers_to k o ≡ true → o ≡ Some k
+is-answer k None h = cc
+is-answer k (Some n) h = ap Some (eqb-true n k h)
+
+right : (a b : Bool) → (a && b) ≡ true → b ≡ true
+right true b h = h
+right false b h = cc
+
+itself : (n : ℕ) → (n == n) ≡ true
+itself n = grind (arith, nat_tests)
+
+answer-head : (k : ℕ) (i : Item) (theirs : List Item) (j : Item) (b : Bool) → (not (has_command command.Reset i.bytes) && answers_to k i.answers) ≡ b
+    → Numbered (i ∷ theirs) → (newest_answer k theirs ≡ Some j → AnswersNewest k theirs j) → (if b then Some i else newest_answer k theirs) ≡ Some j → AnswersNewest k (i ∷ theirs) j
+answer-head k i theirs j true is numbered rest h =
+    let it : i ≡ j = cc in
+    let same_number : (i.number == i.number) ≡ true = itself i.number in
+    let number : i.number ≡ suc (length theirs) = numbered.0 in
+    subst (AnswersNewest k (i ∷ theirs)) it (record {
+      within = omega arith;
+      answered = simp same_number (is-answer k i.answers (right (not (has_command command.Reset i.bytes)) (answers_to k i.answers) is));
+    })
+answer-head k i theirs j false is numbered rest h =
+    let older_one : AnswersNewest k theirs j = rest h in
+    let other : (i.number == j.number) ≡ false = older j.number i.number theirs numbered.0 older_one.within in
+    record { within = let l : j.number ≤ length theirs = older_one.within in omega arith; answered = simp other older_one.answered }
+
+answers : (k : ℕ) (theirs : List Item) (j : Item) → Numbered theirs → newest_answer k theirs ≡ Some j → AnswersNewest k theirs j
+answers k [] j numbered h = cc
+answers k (i ∷ theirs) j numbered h =
+    answer-head k i theirs j (not (has_command command.Reset i.bytes) && answers_to k i.answers) refl numbered (answers k theirs j numbered.1) h
+
+awaits : (mine theirs : List Item) (j : Item) → Numbered mine → Numbered theirs → answer_among theirs (newest mine) ≡ Some j → AnswersNewest (length mine) theirs j
+awaits [] theirs j numbered others h = cc
+awaits (i ∷ mine) theirs j numbered others h = subst (λ (k : ℕ). AnswersNewest k theirs j) numbered.0 (answers i.number theirs j others h)
+
+-- numbers taken before are older
+apart : (count n : ℕ) (ns : List ℕ) (theirs : List Item) → answer_of n theirs ≡ Some count → AllByRecursion (Used count theirs) ns → AllByRecursion (λ m. nat_eq n m ≡ false) ns
+apart count n [] theirs h all = tt
+apart count n (m ∷ ns) theirs h all = (differ (nat_eq n m) refl, apart count n ns theirs h all.1)
+  where
+    differ : (b : Bool) → nat_eq n m ≡ b → b ≡ false
+    differ false is = refl
+    differ true is =
+        let it : n ≡ m = eqb-true n m is in
+        let at : Some count ≡ Some all.0.at = sym h ∙ (ap (λ (n : ℕ). answer_of n theirs) it ∙ all.0.answered) in
+        let same_place : count ≡ all.0.at = cc in
+        let before : all.0.at < count = all.0.earlier in
+        absurd (omega arith)
+
+-- what is known of the numbers taken so far
+record Once (mine theirs : List Item) (ns : List ℕ) : Type 0 where
+  pub numbered : Numbered mine
+  pub others : Numbered theirs
+  pub used : AllByRecursion (Used (length mine) theirs) ns
+  pub differ : IsDistinct nat_eq ns
+
+once-mine : (mine more theirs : List Item) (ns : List ℕ) → Grown mine more → Once mine theirs ns → Once more theirs ns
+once-mine mine more theirs ns (Same e) o = subst (λ (m : List Item). Once m theirs ns) (sym e) o
+once-mine mine more theirs ns (More i e h) o =
+    subst (λ (m : List Item). Once m theirs ns) (sym e)
+    (record { numbered = (h, o.numbered); others = o.others; used = all-later (length mine) (suc (length mine)) ns theirs (omega arith) o.used; differ = o.differ })
+
+once-theirs : (mine theirs more : List Item) (ns : List ℕ) → Grown theirs more → Once mine theirs ns → Once mine more ns
+once-theirs mine theirs more ns (Same e) o = subst (λ (t : List Item). Once mine t ns) (sym e) o
+once-theirs mine theirs more ns (More i e h) o =
+    subst (λ (t : List Item). Once mine t ns) (sym e)
+    (record { numbered = o.numbered; others = (h, o.others); used = all-more (length mine) ns i theirs h o.used; differ = o.differ })
+
+-- data are taken, and a new item is sent
+once-taken : (mine theirs : List Item) (ns : List ℕ) (j i : Item) → answer_among theirs (newest mine) ≡ Some j → i.number ≡ suc (length mine) → Once mine theirs ns
+    → Once (i ∷ mine) theirs (j.number ∷ ns)
+unfolding IsDistinct
+once-taken mine theirs ns j i h next o =
+    let a : AnswersNewest (length mine) theirs j = awaits mine theirs j o.numbered o.others h in
+    record {
+      numbered = (next, o.numbered);
+      others = o.others;
+      used = (
+        record { within = a.within; at = length mine; answered = a.answered; earlier = omega arith },
+        all-later (length mine) (suc (length mine)) ns theirs (omega arith) o.used,
+      );
+      differ = (apart (length mine) j.number ns theirs a.answered o.used, o.differ);
+    }
+
+-- a deed that took a frame sent one
+sends : (s : Setup) (e : List Deed) (m : Move) (d : Did) (f : List ℕ) → Reaction s e m d f → is_some d.took ≡ true → is_empty f ≡ false
+sends s e m d f (Answers bytes load c answer taking) h = answer_sent e bytes load s c answer taking
+sends s e m d f _ h = cc
+
+took-some : (t : Option Took) → is_some (data_taken t) ≡ true → is_some t ≡ true
+took-some None h = cc
+took-some (Some t) h = refl
+
+mine-grows : (which : End) (x : Entry) (w : List Entry) → same_end which x.end ≡ true → is_empty x.sent ≡ false → items_of which (items (x ∷ w)) ≡ item_of x w (items w) ∷ items_of which (items w)
+mine-grows which x w h k = simp (k, h)
+
+once-awaited : (which : End) (x : Entry) (w : List Entry) (ns : List ℕ) (o : Option Item) → awaited (items w) which ≡ o → same_end which x.end ≡ true → is_empty x.sent ≡ false
+    → Once (items_of which (items w)) (items_of (peer which) (items w)) ns
+    → Once (items_of which (items (x ∷ w))) (items_of (peer which) (items (x ∷ w))) (with_number o ns)
+once-awaited which x w ns None h k l so_far =
+    once-theirs _ _ _ ns (grown (peer which) x w) (once-mine _ _ _ ns (grown which x w) so_far)
+once-awaited which x w ns (Some j) h k l so_far =
+    let i : Item = item_of x w (items w) in
+    let mine : List Item = items_of which (items w) in
+    let theirs : List Item = items_of (peer which) (items w) in
+    once-theirs _ theirs _ (j.number ∷ ns) (grown (peer which) x w)
+    (subst (λ (m : List Item). Once m theirs (j.number ∷ ns)) (sym (mine-grows which x w k l)) (once-taken mine theirs ns j i h (next_number which x w k) so_far))
+
+once-next : (which : End) (x : Entry) (w : List Entry) (ns : List ℕ) (mine takes_some : Bool) → same_end which x.end ≡ mine → is_some (data_taken x.did.took) ≡ takes_some → (is_some x.did.took ≡ true → is_empty x.sent ≡ false)
+    → Once (items_of which (items w)) (items_of (peer which) (items w)) ns
+    → Once (items_of which (items (x ∷ w))) (items_of (peer which) (items (x ∷ w))) (if mine && takes_some then with_number (awaited (items w) which) ns else ns)
+once-next which x w ns true true h k sending so_far = once-awaited which x w ns (awaited (items w) which) refl h (sending (took-some x.did.took k)) so_far
+once-next which x w ns true false h k sending so_far = once-theirs _ _ _ ns (grown (peer which) x w) (once-mine _ _ _ ns (grown which x w) so_far)
+once-next which x w ns false takes_some h k sending so_far = once-theirs _ _ _ ns (grown (peer which) x w) (once-mine _ _ _ ns (grown which x w) so_far)
+
+once : (ms : MasterSettings) (ss : SlaveSettings) (which : End) (w : List Entry) → IsWorld ms ss w → Once (items_of which (items w)) (items_of (peer which) (items w)) (numbers_taken which w)
+unfolding IsDistinct
+once ms ss which [] h = record { numbered = tt; others = tt; used = tt; differ = tt }
+once ms ss which (x ∷ w) h =
+    once-next which x w (numbers_taken which w) (same_end which x.end) (is_some (data_taken x.did.took)) refl refl
+    (sends (setup_of ms ss x.end) (deeds x.end w) x.what x.did x.sent (entry_reacted ms ss x w h)) (once ms ss which w h.1)
+
+-- no awaited item gives data twice
+pub at_most_once : (ms : MasterSettings) (ss : SlaveSettings) (which : End) (w : List Entry) → IsWorld ms ss w → IsDistinct nat_eq (numbers_taken which w)
+at_most_once ms ss which w h = let o : Once (items_of which (items w)) (items_of (peer which) (items w)) (numbers_taken which w) = once ms ss which w h in o.differ

@@ -1,0 +1,86 @@
+-- In each world the outputs are those that looking back over the entries gives.
+use Rattle.std.proofs.Common.{◌≡◌, ℕ, List, [], ◌∷◌, ◌&&◌, nat_lt, Option, Some, None, is_some, if◌then◌else◌, refl, ap, subst, sym, ◌∙◌}
+use Rattle.fsoe_base.specs.declared.command.End.{End}
+use Rattle.fsoe_base.specs.declared.command.End.TheVariants as end_name
+use Rattle.fsoe_base.specs.declared.command.State.{State}
+use Rattle.fsoe_base.specs.declared.command.State.TheVariants as state
+use Rattle.fsoe_base.specs.declared.command.Command.{Command}
+use Rattle.fsoe_base.specs.declared.command.Command.TheVariants as command
+use Rattle.fsoe_base.specs.declared.did.Did.{Did}
+use Rattle.fsoe_base.specs.declared.did.Took.{Took}
+use Rattle.fsoe_base.specs.Data.{is_data}
+use Rattle.param_load.specs.declared.terms.Terms.{Terms}
+use Rattle.param_load.specs.declared.entry.Move.{Move}
+use Rattle.param_load.specs.declared.entry.Entry.{Entry}
+use Rattle.param_load.specs.declared.master_settings.MasterSettings.{MasterSettings}
+use Rattle.param_load.specs.declared.slave_settings.SlaveSettings.{SlaveSettings}
+use Rattle.end_model.specs.Setup.{Setup, receives}
+use Rattle.end_model.specs.Deed.{Deed, ticked}
+use Rattle.end_model.specs.Payloads.{terms}
+use Rattle.end_model.specs.Readiness.{state_of, told_in}
+use Rattle.end_model.specs.Outputs.{is_process, zeros, held_up, out_after, out}
+use Rattle.end_model.specs.Step.{IsRun}
+use Rattle.end_model.specs.Entries.{entry_of, entries}
+use Rattle.end_model.specs.Reactions.{Reaction, Answers}
+use Rattle.end_model.proofs.SoundRuns.{reacted}
+use Rattle.end_model.proofs.Taken.{data_after}
+use Rattle.end_model.proofs.Shown.{looking_back}
+use Rattle.exchange_model.specs.Ends.{of_end}
+use Rattle.exchange_model.specs.World.{setup_of, deed_in, deeds, SameLengths, IsWorld}
+use Rattle.exchange_model.specs.Fair.{received_len, outputs_by, outputs_at, outputs_after, outputs_due, ShowsDue}
+use Rattle.exchange_model.proofs.Worlds.Projection.{next_told, next_run, told}
+
+-- where ProcessData was taken, the state is Data
+abbrev IsInData : Setup → List Deed → Option Took → Type 0
+IsInData s e None = Unit {0}
+IsInData s e (Some t) = t.command ≡ command.ProcessData → state_of s e ≡ state.Data
+
+in-data : (s : Setup) (e : List Deed) (m : Move) (d : Did) (f : List ℕ) → Reaction s e m d f → IsInData s (record { what = m; did = d; sent = f } ∷ e) d.took
+in-data s e m d f (Answers bytes load c answer taking) = λ h. data_after e bytes load s c answer taking (ap is_data h)
+in-data s e m d f _ = tt
+
+shown-by : (s : Setup) (n : ℕ) (now : State) (t : Terms) (c : Command) (load : List ℕ) → (c ≡ command.ProcessData → now ≡ state.Data)
+    → outputs_by (zeros s) n (told_in now t) c load ≡ (if is_process c && nat_lt n t.watchdog then load else zeros s)
+shown-by s n now t command.ProcessData load h = subst (λ (now : State). outputs_by (zeros s) n (told_in now t) command.ProcessData load ≡ (if nat_lt n t.watchdog then load else zeros s)) (sym (h refl)) refl
+shown-by s n now t command.Reset load h = refl
+shown-by s n now t command.Session load h = refl
+shown-by s n now t command.Connection load h = refl
+shown-by s n now t command.Parameter load h = refl
+shown-by s n now t command.FailSafeData load h = refl
+
+shown-at : (s : Setup) (e : List Deed) (n : ℕ) (took : Option Took) (told_before by_deeds : List ℕ) → IsInData s e took → told_before ≡ by_deeds
+    → outputs_at (zeros s) n (told_in (state_of s e) (terms s e)) took told_before ≡ held_up s e n took by_deeds
+shown-at s e n None told_before by_deeds h same = same
+shown-at s e n (Some t) told_before by_deeds h same = shown-by s n (state_of s e) (terms s e) t.command t.load h
+
+due-after : (s : Setup) (e : List Deed) (n : ℕ) → IsRun s e → outputs_after (zeros s) n (entries s e) ≡ out_after s n e
+due-after s [] n h = refl
+due-after s (x ∷ e) n h =
+    ap (λ (v : List ℕ). if is_some x.did.reset then zeros s else v)
+    (shown-at s (x ∷ e) n x.did.took (outputs_after (zeros s) (ticked x.what n) (entries s e)) (out_after s (ticked x.what n) e) (in-data s e x.what x.did x.sent (reacted s x e h)) (due-after s e (ticked x.what n) h.1))
+
+-- looking back over what is told of an end's deeds is looking back over the deeds
+pub due_is_out : (s : Setup) (e : List Deed) → IsRun s e → outputs_due (receives s) (entries s e) ≡ out s e
+due_is_out s e h = due-after s e 0 h
+
+pub receives_is : (ms : MasterSettings) (ss : SlaveSettings) (which : End) → SameLengths ms ss → received_len ms.lengths which ≡ receives (setup_of ms ss which)
+receives_is ms ss end_name.Master h = refl
+receives_is ms ss end_name.Slave h = h.master
+
+-- after each entry of a world the outputs are those that looking back gives
+pub shows_due : (ms : MasterSettings) (ss : SlaveSettings) (w : List Entry) → SameLengths ms ss → IsWorld ms ss w → ShowsDue ms.lengths w
+shows_due ms ss [] h so_far = tt
+shows_due ms ss (x ∷ w) h so_far =
+    let s : Setup = setup_of ms ss x.end in
+    let e : List Deed = deeds x.end w in
+    let run : IsRun s (deed_in x ∷ e) = next_run ms ss x w so_far in
+    let head : x ≡ entry_of s e (deed_in x) = next_told s x e so_far.0 in
+    let whole : x ∷ of_end x.end w ≡ entries s (deed_in x ∷ e) =
+    ap (λ (first : Entry). first ∷ of_end x.end w) head ∙ ap (λ (rest : List Entry). entry_of s e (deed_in x) ∷ rest) (told ms ss x.end w so_far.1) in (
+      ap (λ (y : Entry). y.outputs) head
+          ∙ (looking_back s (deed_in x ∷ e) run
+          ∙ (sym (due_is_out s (deed_in x ∷ e) run)
+          ∙ (ap (outputs_due (receives s)) (sym whole)
+          ∙ ap (λ (l : ℕ). outputs_due l (x ∷ of_end x.end w)) (sym (receives_is ms ss x.end h))))),
+      shows_due ms ss w h so_far.1,
+    )

@@ -1,0 +1,244 @@
+-- A master takes the answer that is on its way, and sends the next frame.
+use Rattle.std.proofs.Common.{◌≡◌, ℕ, suc, ◌+◌, ◌<◌, ◌≤◌, nat_lt, List, [], ◌∷◌, length, replicate, Bool, true, false, Some, None, if◌then◌else◌, refl, sym, ap, ap₂, subst, ◌∙◌, arith, unwrap_or}
+use Rattle.std.specs.Option.{option_or}
+use Rattle.std.proofs.lemmas.Bool.{eq-eqb, ltb-true, ltb-false}
+use Rattle.std.proofs.lemmas.List.{length-replicate}
+use Rattle.std.specs.Cmp.Lexicographic.{bytes_decides}
+use Rattle.fsoe_base.specs.declared.command.State.{State}
+use Rattle.fsoe_base.specs.declared.command.State.TheVariants as state
+use Rattle.fsoe_base.specs.declared.command.Command.{Command}
+use Rattle.fsoe_base.specs.declared.command.Command.TheVariants as command
+use Rattle.fsoe_base.specs.Command.{command_of, code}
+use Rattle.fsoe_frame.specs.Parts.{Frame}
+use Rattle.param_load.specs.declared.master_settings.MasterSettings.{MasterSettings}
+use Rattle.param_load.specs.Download.{is_padded, is_echo}
+use Rattle.param_load.specs.Payload.{session_payload, connection_payload, parameter_payload, padded}
+use Rattle.end_model.specs.Setup.{OfMaster}
+use Rattle.end_model.specs.Phases.{phase_of, is_reset}
+use Rattle.end_model.specs.Deed.{Deed}
+use Rattle.end_model.specs.Chain.{since, own, seal}
+use Rattle.end_model.specs.Payloads.{piece, pieces, pieces_for, count_in, nonce, id_sent, session_id}
+use Rattle.end_model.specs.Readiness.{offer, held, master_allows}
+use Rattle.end_model.specs.Verdict.{has_conn, contents}
+use Rattle.end_model.specs.Step.{sealed, with_data, answer, download_frame, after_phase}
+use Rattle.end_model.specs.Reactions.{received, IsValid}
+use Rattle.exchange_model.proofs.Alone.Pieces.{piece_short}
+use Rattle.exchange_model.proofs.Alone.Framed.{piece_fits}
+use Rattle.end_model.proofs.SealedFrames.{padded_len}
+use Rattle.exchange_model.proofs.Honest.OnItsWay.{OnItsWay, fits_on, answering}
+use Rattle.exchange_model.proofs.Honest.ResetFrames.{zeros_all}
+use Rattle.exchange_model.proofs.Honest.SlaveReplies.{Replies}
+use Rattle.exchange_model.proofs.Honest.SlaveTurn.{Carries, command_back, parts_with}
+use Rattle.exchange_model.proofs.Honest.UploadTests.{session_long, parameters_long}
+use Rattle.exchange_model.proofs.Honest.Turns.{Partner, master_of, slave_of, width, session_pieces, connection_pieces, parameter_pieces, more, Turn, MoreSession, FirstConnection, MoreConnection, FirstParameter, MoreParameter, FirstZeros, FirstValues, MoreZeros, MoreValues, Spot, InSession, InConnection, InParameter, InData, MasterAt}
+
+answers-allowed : (c : Command) → is_reset c ≡ false → master_allows (phase_of c) c ≡ true
+answers-allowed command.Reset n = cc
+answers-allowed command.Session n = refl
+answers-allowed command.Connection n = refl
+answers-allowed command.Parameter n = refl
+answers-allowed command.FailSafeData n = refl
+answers-allowed command.ProcessData n = refl
+
+conn-right : (ms : MasterSettings) (id : ℕ) (e : List Deed) (c : Command) (a b d conn : ℕ) (load : List ℕ) → Replies ms id c a b d conn load → has_conn (OfMaster ms) e c conn ≡ true
+conn-right ms id e command.Reset a b d conn load k = absurd k
+conn-right ms id e command.Session a b d conn load k = eq-eqb conn 0 k.0
+conn-right ms id e command.Connection a b d conn load k = eq-eqb conn ms.conn k.0
+conn-right ms id e command.Parameter a b d conn load k = eq-eqb conn ms.conn k.0
+conn-right ms id e command.FailSafeData a b d conn load k = eq-eqb conn ms.conn k.0
+conn-right ms id e command.ProcessData a b d conn load k = eq-eqb conn ms.conn k
+
+pub id_of : (ms : MasterSettings) (id : ℕ) (e : List Deed) → id_sent (OfMaster ms) e ≡ Some id → session_id (OfMaster ms) e ≡ id
+id_of ms id e h = ap (λ o. unwrap_or o (nonce (OfMaster ms) e)) h
+
+echoes : (q load : List ℕ) (l : ℕ) → length q ≤ l → load ≡ padded q l → is_echo q load ≡ true
+echoes q load l h e =
+    let long : length load ≡ l = ap length e ∙ padded_len q l h in
+    (bytes_decides load (padded q (length load))).1 (e ∙ ap (padded q) (sym long))
+
+unless-true : (b : Bool) (n : ℕ) → b ≡ true → (if b then None else Some (code n)) ≡ None
+unless-true true n h = refl
+unless-true false n h = cc
+
+contents-right : (ms : MasterSettings) (r : Partner ms) (id : ℕ) (e : List Deed) (c : Command) (p : State) (a b d conn : ℕ) (load crcs : List ℕ) → MasterAt ms id e p a b d → Replies ms id c a b d conn load
+    → contents (OfMaster ms) e c (parts_with conn c load crcs) ≡ None
+contents-right ms r id e command.Reset p a b d conn load crcs h k = absurd k
+contents-right ms r id e command.Session p a b d conn load crcs h k =
+    unless-true _ 0x07 (ap₂ (λ (i n : ℕ). is_padded (piece (session_payload i ms.profile) (width ms) n) load) (id_of ms id e h.id_is) h.session ∙ k.1)
+contents-right ms r id e command.Connection p a b d conn load crcs h k =
+    unless-true _ 0x07 (ap (λ n. is_echo (piece (connection_payload ms.conn ms.address) (width ms) n) load) h.connection
+    ∙ echoes (piece (connection_payload ms.conn ms.address) (width ms) b) load ms.lengths.slave (short (connection_payload ms.conn ms.address) b) k.1)
+  where
+    short : (p : List ℕ) (n : ℕ) → length (piece p (width ms) n) ≤ ms.lengths.slave
+    short p n = let s : length (piece p (width ms) n) ≤ width ms = piece_short p (width ms) n in let w : width ms ≤ ms.lengths.slave = piece_fits (slave_of ms r) in omega arith
+contents-right ms r id e command.Parameter p a b d conn load crcs h k =
+    unless-true _ 0x07 (ap (λ n. is_echo (piece (parameter_payload ms.watchdog ms.profile ms.app) (width ms) n) load) h.parameters
+    ∙ echoes (piece (parameter_payload ms.watchdog ms.profile ms.app) (width ms) d) load ms.lengths.slave (short (parameter_payload ms.watchdog ms.profile ms.app) d) k.1)
+  where
+    short : (p : List ℕ) (n : ℕ) → length (piece p (width ms) n) ≤ ms.lengths.slave
+    short p n = let s : length (piece p (width ms) n) ≤ width ms = piece_short p (width ms) n in let w : width ms ≤ ms.lengths.slave = piece_fits (slave_of ms r) in omega arith
+contents-right ms r id e command.FailSafeData p a b d conn load crcs h k = unless-true _ 0x07 k.1
+contents-right ms r id e command.ProcessData p a b d conn load crcs h k = refl
+
+-- the answer passes all tests of the master
+pub master_valid : (ms : MasterSettings) (r : Partner ms) (id : ℕ) (u e : List Deed) (c : Command) (p : State) (a b d conn : ℕ) (load g : List ℕ) → is_reset c ≡ false → phase_of c ≡ p
+    → OnItsWay (slave_of ms r) (master_of ms) u (since e) conn c load g → MasterAt ms id e p a b d → Replies ms id c a b d conn load → IsValid (master_of ms) e g c load
+master_valid ms r id u e c p a b d conn load g n same o h k =
+    record {
+      is_read = record { has_length = o.long; is_new = o.is_new; command_is = ap (λ (g : Frame). command_of g.cmd) o.frame ∙ command_back c };
+      load_is = ap (λ (g : Frame). g.load) o.frame;
+      is_allowed = ap (λ (p : State). master_allows p c) (h.phase ∙ sym same) ∙ answers-allowed c n;
+      has_conn_id = ap (λ (g : Frame). has_conn (master_of ms) e c g.conn) o.frame ∙ conn-right ms id e c a b d conn load k;
+      does_fit = fits_on (slave_of ms r) (master_of ms) u (since e) conn c load g refl o;
+      is_sound = ap (contents (master_of ms) e c) o.frame ∙ contents-right ms r id e c p a b d conn load _ h k;
+    }
+
+-- the next frame of a master
+pub record Next (ms : MasterSettings) (id : ℕ) (e : List Deed) (g : List ℕ) (c : Command) (load next : List ℕ) (p : State) (a b d m : ℕ) : Type 0 where
+  pub conn : ℕ
+  pub command : Command
+  pub made : List ℕ
+  pub in_session : is_reset command ≡ false
+  pub turn : Turn (session_pieces ms) (connection_pieces ms) (parameter_pieces ms) command p a b d m
+  pub long : length made ≡ ms.lengths.master
+  pub is : next ≡ seal (master_of ms) (answering g c load [] ∷ since e) conn command made
+  pub carries : Carries ms id command a b d conn made
+
+piece-made : (ms : MasterSettings) (p : List ℕ) (k : ℕ) → length (padded (piece p (width ms) k) ms.lengths.master) ≡ ms.lengths.master
+piece-made ms p k = padded_len (piece p (width ms) k) ms.lengths.master (let s : length (piece p (width ms) k) ≤ width ms = piece_short p (width ms) k in let w : width ms ≤ ms.lengths.master = piece_fits (OfMaster ms) in omega arith)
+
+session-count : (ms : MasterSettings) (id : ℕ) → pieces (session_payload id ms.profile) (width ms) ≡ session_pieces ms
+session-count ms id = ap (λ n. pieces_for n (width ms)) (session_long id ms.profile)
+
+parameter-count : (ms : MasterSettings) → pieces (parameter_payload ms.watchdog ms.profile ms.app) (width ms) ≡ parameter_pieces ms
+parameter-count ms = ap (λ n. pieces_for n (width ms)) (parameters_long ms.watchdog ms.profile ms.app)
+
+-- the first data frame, or a further one
+data-next : (ms : MasterSettings) (id : ℕ) (e : List Deed) (g : List ℕ) (c : Command) (load : List ℕ) (p : State) (a b d m : ℕ) (hold : Bool) → length (offer (OfMaster ms) e) ≡ ms.lengths.master
+    → Turn (session_pieces ms) (connection_pieces ms) (parameter_pieces ms) command.FailSafeData p a b d m → Turn (session_pieces ms) (connection_pieces ms) (parameter_pieces ms) command.ProcessData p a b d m
+    → held e ≡ hold → Next ms id e g c load (with_data (OfMaster ms) (received g c load e)) p a b d m
+data-next ms id e g c load p a b d m true long t t' h =
+    record {
+      conn = ms.conn;
+      command = command.FailSafeData;
+      made = replicate ms.lengths.master 0;
+      in_session = refl;
+      turn = t;
+      long = length-replicate ms.lengths.master 0;
+      is = ap (λ (b : Bool). if b then sealed (OfMaster ms) (received g c load e) command.FailSafeData (replicate ms.lengths.master 0) else sealed (OfMaster ms) (received g c load e) command.ProcessData (offer (OfMaster ms) e)) h;
+      carries = (refl, zeros_all ms.lengths.master);
+    }
+data-next ms id e g c load p a b d m false long t t' h =
+    record {
+      conn = ms.conn;
+      command = command.ProcessData;
+      made = offer (OfMaster ms) e;
+      in_session = refl;
+      turn = t';
+      long = long;
+      is = ap (λ (b : Bool). if b then sealed (OfMaster ms) (received g c load e) command.FailSafeData (replicate ms.lengths.master 0) else sealed (OfMaster ms) (received g c load e) command.ProcessData (offer (OfMaster ms) e)) h;
+      carries = refl;
+    }
+
+below : (k n k' n' : ℕ) → k ≡ k' → n ≡ n' → nat_lt k n ≡ true → k' < n'
+below k n k' n' e f h = let i : k < n = ltb-true k n h in omega arith
+
+reached : (k n k' n' : ℕ) → k ≡ k' → n ≡ n' → nat_lt k n ≡ false → k' ≤ n' → k' ≡ n'
+reached k n k' n' e f h g = let i : n ≤ k = ltb-false k n h in omega arith
+
+session-next : (ms : MasterSettings) (id : ℕ) (e : List Deed) (g load : List ℕ) (a : ℕ) (more : Bool) → MasterAt ms id e state.Session a 0 0 → a ≤ session_pieces ms
+    → nat_lt (count_in state.Session (own (since e))) (pieces (session_payload (session_id (OfMaster ms) e) ms.profile) (width ms)) ≡ more
+    → Next ms id e g command.Session load (if more then download_frame ms (received g command.Session load e) command.Session (suc (count_in state.Session (own (since e)))) else after_phase ms (received g command.Session load e) command.Session) state.Session a 0 0 a
+session-next ms id e g load a true h most k =
+    record {
+      conn = 0;
+      command = command.Session;
+      made = padded (piece (session_payload (session_id (OfMaster ms) e) ms.profile) (width ms) (suc (count_in state.Session (own (since e))))) ms.lengths.master;
+      in_session = refl;
+      turn = MoreSession a (below _ _ a (session_pieces ms) h.session (session-count ms (session_id (OfMaster ms) e)) k);
+      long = piece-made ms _ _;
+      is = refl;
+      carries = (refl, ap₂ (λ (i n : ℕ). padded (piece (session_payload i ms.profile) (width ms) (suc n)) ms.lengths.master) (id_of ms id e h.id_is) h.session);
+    }
+session-next ms id e g load a false h most k =
+    let all : a ≡ session_pieces ms = reached _ _ a (session_pieces ms) h.session (session-count ms (session_id (OfMaster ms) e)) k most in
+    record {
+      conn = ms.conn;
+      command = command.Connection;
+      made = padded (piece (connection_payload ms.conn ms.address) (width ms) 1) ms.lengths.master;
+      in_session = refl;
+      turn = subst (λ (a : ℕ). Turn (session_pieces ms) (connection_pieces ms) (parameter_pieces ms) command.Connection state.Session a 0 0 a) (sym all) FirstConnection;
+      long = piece-made ms (connection_payload ms.conn ms.address) 1;
+      is = refl;
+      carries = (refl, refl);
+    }
+
+connection-next : (ms : MasterSettings) (id : ℕ) (e : List Deed) (g load : List ℕ) (b m : ℕ) (more : Bool) → MasterAt ms id e state.Connection (session_pieces ms) b 0 → b ≤ connection_pieces ms → m ≡ session_pieces ms + b
+    → nat_lt (count_in state.Connection (own (since e))) (connection_pieces ms) ≡ more
+    → Next ms id e g command.Connection load (if more then download_frame ms (received g command.Connection load e) command.Connection (suc (count_in state.Connection (own (since e)))) else after_phase ms (received g command.Connection load e) command.Connection) state.Connection (session_pieces ms) b 0 m
+connection-next ms id e g load b m true h most at k =
+    record {
+      conn = ms.conn;
+      command = command.Connection;
+      made = padded (piece (connection_payload ms.conn ms.address) (width ms) (suc (count_in state.Connection (own (since e))))) ms.lengths.master;
+      in_session = refl;
+      turn = MoreConnection b m (below _ _ b (connection_pieces ms) h.connection refl k) at;
+      long = piece-made ms _ _;
+      is = refl;
+      carries = (refl, ap (λ n. padded (piece (connection_payload ms.conn ms.address) (width ms) (suc n)) ms.lengths.master) h.connection);
+    }
+connection-next ms id e g load b m false h most at k =
+    let all : b ≡ connection_pieces ms = reached _ _ b (connection_pieces ms) h.connection refl k most in
+    record {
+      conn = ms.conn;
+      command = command.Parameter;
+      made = padded (piece (parameter_payload ms.watchdog ms.profile ms.app) (width ms) 1) ms.lengths.master;
+      in_session = refl;
+      turn = subst (λ (b : ℕ). Turn (session_pieces ms) (connection_pieces ms) (parameter_pieces ms) command.Parameter state.Connection (session_pieces ms) b 0 m) (sym all) (FirstParameter m (at ∙ ap (λ n. session_pieces ms + n) all));
+      long = piece-made ms (parameter_payload ms.watchdog ms.profile ms.app) 1;
+      is = refl;
+      carries = (refl, refl);
+    }
+
+parameter-next : (ms : MasterSettings) (id : ℕ) (e : List Deed) (g load : List ℕ) (d m : ℕ) (more : Bool) → length (offer (OfMaster ms) e) ≡ ms.lengths.master → MasterAt ms id e state.Parameter (session_pieces ms) (connection_pieces ms) d
+    → d ≤ parameter_pieces ms → m ≡ session_pieces ms + connection_pieces ms + d → nat_lt (count_in state.Parameter (own (since e))) (pieces (parameter_payload ms.watchdog ms.profile ms.app) (width ms)) ≡ more
+    → Next ms id e g command.Parameter load (if more then download_frame ms (received g command.Parameter load e) command.Parameter (suc (count_in state.Parameter (own (since e)))) else after_phase ms (received g command.Parameter load e) command.Parameter) state.Parameter (session_pieces ms) (connection_pieces ms) d m
+parameter-next ms id e g load d m true long h most at k =
+    record {
+      conn = ms.conn;
+      command = command.Parameter;
+      made = padded (piece (parameter_payload ms.watchdog ms.profile ms.app) (width ms) (suc (count_in state.Parameter (own (since e))))) ms.lengths.master;
+      in_session = refl;
+      turn = MoreParameter d m (below _ _ d (parameter_pieces ms) h.parameters (parameter-count ms) k) at;
+      long = piece-made ms _ _;
+      is = refl;
+      carries = (refl, ap (λ n. padded (piece (parameter_payload ms.watchdog ms.profile ms.app) (width ms) (suc n)) ms.lengths.master) h.parameters);
+    }
+parameter-next ms id e g load d m false long h most at k =
+    let all : d ≡ parameter_pieces ms = reached _ _ d (parameter_pieces ms) h.parameters (parameter-count ms) k most in
+    let whole : m ≡ session_pieces ms + connection_pieces ms + parameter_pieces ms = at ∙ ap (λ n. session_pieces ms + connection_pieces ms + n) all in
+    data-next ms id e g command.Parameter load state.Parameter (session_pieces ms) (connection_pieces ms) d m (held e) long
+    (subst (λ (d : ℕ). Turn (session_pieces ms) (connection_pieces ms) (parameter_pieces ms) command.FailSafeData state.Parameter (session_pieces ms) (connection_pieces ms) d m) (sym all) (FirstZeros m whole))
+    (subst (λ (d : ℕ). Turn (session_pieces ms) (connection_pieces ms) (parameter_pieces ms) command.ProcessData state.Parameter (session_pieces ms) (connection_pieces ms) d m) (sym all) (FirstValues m whole)) refl
+
+-- the frame that follows an answer
+pub next : (ms : MasterSettings) (id : ℕ) (e : List Deed) (g : List ℕ) (c : Command) (load : List ℕ) (a b d m : ℕ) → is_reset c ≡ false → length (offer (OfMaster ms) e) ≡ ms.lengths.master
+    → Spot (session_pieces ms) (connection_pieces ms) (parameter_pieces ms) (phase_of c) a b d m → MasterAt ms id e (phase_of c) a b d
+    → Next ms id e g c load (answer (master_of ms) (received g c load e) (record { command = c; load = load })) (phase_of c) a b d m
+next ms id e g command.Reset load a b d m n long s h = cc
+next ms id e g command.Session load a b d m n long (InSession _ most) h = session-next ms id e g load a _ h most refl
+next ms id e g command.Connection load a b d m n long (InConnection _ _ most at) h = connection-next ms id e g load b m _ h most at refl
+next ms id e g command.Parameter load a b d m n long (InParameter _ _ most at) h = parameter-next ms id e g load d m _ long h most at refl
+next ms id e g command.FailSafeData load a b d m n long (InData _ past) h = data-next ms id e g command.FailSafeData load state.Data a b d m (held e) long (MoreZeros m past) (MoreValues m past) refl
+next ms id e g command.ProcessData load a b d m n long (InData _ past) h = data-next ms id e g command.ProcessData load state.Data a b d m (held e) long (MoreZeros m past) (MoreValues m past) refl
+
+-- what a master sent with that frame
+pub master_after : (ms : MasterSettings) (id : ℕ) (e w : List Deed) (g : List ℕ) (c c' : Command) (load made : List ℕ) (p : State) (a b d conn : ℕ) → is_reset c' ≡ false → MasterAt ms id e p a b d
+    → MasterAt ms id (answering g c load (seal (master_of ms) w conn c' made) ∷ e) (phase_of c') (more state.Session c' a) (more state.Connection c' b) (more state.Parameter c' d)
+master_after ms id e w g c command.Reset load made p a b d conn n h = cc
+master_after ms id e w g c command.Session load made p a b d conn n h =
+    record { phase = refl; session = ap suc h.session; connection = h.connection; parameters = h.parameters; id_is = ap (λ o. option_or o (Some (nonce (OfMaster ms) e))) h.id_is }
+master_after ms id e w g c command.Connection load made p a b d conn n h = record { phase = refl; session = h.session; connection = ap suc h.connection; parameters = h.parameters; id_is = h.id_is }
+master_after ms id e w g c command.Parameter load made p a b d conn n h = record { phase = refl; session = h.session; connection = h.connection; parameters = ap suc h.parameters; id_is = h.id_is }
+master_after ms id e w g c command.FailSafeData load made p a b d conn n h = record { phase = refl; session = h.session; connection = h.connection; parameters = h.parameters; id_is = h.id_is }
+master_after ms id e w g c command.ProcessData load made p a b d conn n h = record { phase = refl; session = h.session; connection = h.connection; parameters = h.parameters; id_is = h.id_is }

@@ -1,0 +1,159 @@
+-- Where a handshake stands: the pieces of each payload that were sent and taken so far, and whose turn it is.
+use Rattle.std.proofs.Common.{◌≡◌, ℕ, zero, suc, ◌+◌, ◌<◌, ◌≤◌, List, length, Bool, true, false, nat_lt, Option, Some, None, IsTrue, if◌then◌else◌, arith, nat_le}
+use Rattle.std.proofs.lemmas.Bool.Decides.{nat_tests}
+use Rattle.std.proofs.lemmas.Bool.{lt-ltb, le-ltb}
+use Rattle.fsoe_base.specs.declared.command.State.{State}
+use Rattle.fsoe_base.specs.declared.command.State.TheVariants as state
+use Rattle.fsoe_base.specs.declared.command.Command.{Command}
+use Rattle.fsoe_base.specs.declared.command.Command.TheVariants as command
+use Rattle.fsoe_base.specs.Lengths.{is_length}
+use Rattle.param_load.specs.declared.app_rule.AppRule.{AppRule}
+use Rattle.param_load.specs.declared.master_settings.MasterSettings.{MasterSettings}
+use Rattle.param_load.specs.declared.slave_settings.SlaveSettings.{SlaveSettings}
+use Rattle.param_load.specs.AppRule.{is_acceptable}
+use Rattle.param_load.specs.Payload.{session_payload, connection_payload, parameter_payload}
+use Rattle.param_load.specs.Profile.{id_len, allows_id}
+use Rattle.end_model.specs.Setup.{Setup, OfMaster, OfSlave, piece_len}
+use Rattle.end_model.specs.Phases.{phase_of, same_phase}
+use Rattle.end_model.specs.Deed.{Deed}
+use Rattle.end_model.specs.Chain.{since, own, taken}
+use Rattle.end_model.specs.Payloads.{pieces_for, joined, count_in, first_conn, id_sent}
+use Rattle.end_model.specs.Readiness.{phase_sent, phase_taken}
+use Rattle.exchange_model.proofs.Alone.Pieces.{front}
+
+-- what a slave whose settings match a master's has of its own
+pub record Partner (ms : MasterSettings) : Type 0 where
+  pub hand : ℕ
+  pub most : ℕ
+  pub rule : AppRule
+  pub nonce : ℕ
+  pub valid_master : IsTrue (is_length ms.lengths.master)
+  pub valid_slave : IsTrue (is_length ms.lengths.slave)
+  pub some_hand : 0 < hand
+  pub some_most : 0 < most
+  pub acceptable : IsTrue (is_acceptable rule)
+  pub allowed : IsTrue (allows_id ms.profile nonce)
+
+-- the settings of that slave: its lengths, its address and its profile are the master's
+abbrev pub partner : (ms : MasterSettings) → Partner ms → SlaveSettings
+partner ms r = record {
+  lengths = record { master = ms.lengths.master; slave = ms.lengths.slave; valid_master = r.valid_master; valid_slave = r.valid_slave };
+  address = ms.address;
+  hand = r.hand;
+  most = r.most;
+  rule = r.rule;
+  nonce = r.nonce;
+  profile = ms.profile;
+  some_hand = r.some_hand;
+  some_most = r.some_most;
+  acceptable = r.acceptable;
+  allowed = r.allowed;
+}
+
+abbrev pub master_of : MasterSettings → Setup
+master_of ms = OfMaster ms
+
+abbrev pub slave_of : (ms : MasterSettings) → Partner ms → Setup
+slave_of ms r = OfSlave (partner ms r)
+
+-- the bytes of a piece, and the pieces of each payload
+abbrev pub width : MasterSettings → ℕ
+width ms = piece_len (OfMaster ms)
+
+abbrev pub session_pieces : MasterSettings → ℕ
+session_pieces ms = pieces_for (id_len ms.profile) (width ms)
+
+abbrev pub connection_pieces : MasterSettings → ℕ
+connection_pieces ms = pieces_for 4 (width ms)
+
+abbrev pub parameter_pieces : MasterSettings → ℕ
+parameter_pieces ms = pieces_for (id_len ms.profile + 4 + length ms.app) (width ms)
+
+-- one more where a frame with this command is of the phase
+abbrev pub more : State → Command → ℕ → ℕ
+more phase c k = if same_phase phase (phase_of c) then suc k else k
+
+-- the command of the k-th frame of the master, from 0, where of the three payloads, of n, n' and n'' pieces, a, b and d were sent before
+pub data Turn (n n' n'' : ℕ) : Command → State → ℕ → ℕ → ℕ → ℕ → Type 0 where
+  Starts : Turn n n' n'' command.Session state.Reset 0 0 0 0
+  MoreSession : (a : ℕ) → a < n → Turn n n' n'' command.Session state.Session a 0 0 a
+  FirstConnection : Turn n n' n'' command.Connection state.Session n 0 0 n
+  MoreConnection : (b k : ℕ) → b < n' → k ≡ n + b → Turn n n' n'' command.Connection state.Connection n b 0 k
+  FirstParameter : (k : ℕ) → k ≡ n + n' → Turn n n' n'' command.Parameter state.Connection n n' 0 k
+  MoreParameter : (d k : ℕ) → d < n'' → k ≡ n + n' + d → Turn n n' n'' command.Parameter state.Parameter n n' d k
+  FirstZeros : (k : ℕ) → k ≡ n + n' + n'' → Turn n n' n'' command.FailSafeData state.Parameter n n' n'' k
+  FirstValues : (k : ℕ) → k ≡ n + n' + n'' → Turn n n' n'' command.ProcessData state.Parameter n n' n'' k
+  MoreZeros : (k : ℕ) → n + n' + n'' < k → Turn n n' n'' command.FailSafeData state.Data n n' n'' k
+  MoreValues : (k : ℕ) → n + n' + n'' < k → Turn n n' n'' command.ProcessData state.Data n n' n'' k
+
+-- where the master's m-th frame leaves a handshake
+pub data Spot (n n' n'' : ℕ) : State → ℕ → ℕ → ℕ → ℕ → Type 0 where
+  InSession : (a : ℕ) → a ≤ n → Spot n n' n'' state.Session a 0 0 a
+  InConnection : (b m : ℕ) → b ≤ n' → m ≡ n + b → Spot n n' n'' state.Connection n b 0 m
+  InParameter : (d m : ℕ) → d ≤ n'' → m ≡ n + n' + d → Spot n n' n'' state.Parameter n n' d m
+  InData : (m : ℕ) → n + n' + n'' < m → Spot n n' n'' state.Data n n' n'' m
+
+-- after the frame in turn
+pub spot_after : (n n' n'' : ℕ) (c : Command) (p : State) (a b d k : ℕ) → 0 < n → 0 < n' → 0 < n'' → Turn n n' n'' c p a b d k
+    → Spot n n' n'' (phase_of c) (more state.Session c a) (more state.Connection c b) (more state.Parameter c d) (suc k)
+spot_after n n' n'' c p a b d k i i' i'' Starts = InSession 1 (omega arith)
+spot_after n n' n'' c p a b d k i i' i'' (MoreSession _ h) = InSession (suc a) (omega arith)
+spot_after n n' n'' c p a b d k i i' i'' FirstConnection = InConnection 1 (suc n) (omega arith) (omega arith)
+spot_after n n' n'' c p a b d k i i' i'' (MoreConnection _ _ h e) = InConnection (suc b) (suc k) (omega arith) (omega arith)
+spot_after n n' n'' c p a b d k i i' i'' (FirstParameter _ e) = InParameter 1 (suc k) (omega arith) (omega arith)
+spot_after n n' n'' c p a b d k i i' i'' (MoreParameter _ _ h e) = InParameter (suc d) (suc k) (omega arith) (omega arith)
+spot_after n n' n'' c p a b d k i i' i'' (FirstZeros _ e) = InData (suc k) (omega arith)
+spot_after n n' n'' c p a b d k i i' i'' (FirstValues _ e) = InData (suc k) (omega arith)
+spot_after n n' n'' c p a b d k i i' i'' (MoreZeros _ e) = InData (suc k) (omega arith)
+spot_after n n' n'' c p a b d k i i' i'' (MoreValues _ e) = InData (suc k) (omega arith)
+
+-- an end is in Data exactly after the last piece
+pub spot_data : (n n' n'' : ℕ) (p : State) (a b d m : ℕ) → Spot n n' n'' p a b d m → same_phase state.Data p ≡ nat_lt (n + n' + n'') m
+spot_data n n' n'' p a b d m (InSession _ h) = sym-lt (le-ltb (n + n' + n'') m (omega arith))
+  where
+    sym-lt : {x y : Bool} → x ≡ y → y ≡ x
+    sym-lt h = cc
+spot_data n n' n'' p a b d m (InConnection _ _ h e) = let f : nat_lt (n + n' + n'') m ≡ false = le-ltb (n + n' + n'') m (omega arith) in cc
+spot_data n n' n'' p a b d m (InParameter _ _ h e) = let f : nat_lt (n + n' + n'') m ≡ false = le-ltb (n + n' + n'') m (omega arith) in cc
+spot_data n n' n'' p a b d m (InData _ h) = let f : nat_lt (n + n' + n'') m ≡ true = lt-ltb (n + n' + n'') m (omega arith) in cc
+
+pub turn_data : (n n' n'' : ℕ) (c : Command) (p : State) (a b d k : ℕ) → Turn n n' n'' c p a b d k → same_phase state.Data p ≡ nat_lt (n + n' + n'') k
+turn_data n n' n'' c p a b d k Starts = let f : nat_lt (n + n' + n'') 0 ≡ false = le-ltb (n + n' + n'') 0 (omega arith) in cc
+turn_data n n' n'' c p a b d k (MoreSession _ h) = let f : nat_lt (n + n' + n'') k ≡ false = le-ltb (n + n' + n'') k (omega arith) in cc
+turn_data n n' n'' c p a b d k FirstConnection = let f : nat_lt (n + n' + n'') k ≡ false = le-ltb (n + n' + n'') k (omega arith) in cc
+turn_data n n' n'' c p a b d k (MoreConnection _ _ h e) = let f : nat_lt (n + n' + n'') k ≡ false = le-ltb (n + n' + n'') k (omega arith) in cc
+turn_data n n' n'' c p a b d k (FirstParameter _ e) = let f : nat_lt (n + n' + n'') k ≡ false = le-ltb (n + n' + n'') k (omega arith) in cc
+turn_data n n' n'' c p a b d k (MoreParameter _ _ h e) = let f : nat_lt (n + n' + n'') k ≡ false = le-ltb (n + n' + n'') k (omega arith) in cc
+turn_data n n' n'' c p a b d k (FirstZeros _ e) = let f : nat_lt (n + n' + n'') k ≡ false = le-ltb (n + n' + n'') k (omega arith) in cc
+turn_data n n' n'' c p a b d k (FirstValues _ e) = let f : nat_lt (n + n' + n'') k ≡ false = le-ltb (n + n' + n'') k (omega arith) in cc
+turn_data n n' n'' c p a b d k (MoreZeros _ h) = let f : nat_lt (n + n' + n'') k ≡ true = lt-ltb (n + n' + n'') k h in cc
+turn_data n n' n'' c p a b d k (MoreValues _ h) = let f : nat_lt (n + n' + n'') k ≡ true = lt-ltb (n + n' + n'') k h in cc
+
+-- the numbers of deliveries that bring an end into Data
+pub at_least : (a b c m : ℕ) → nat_lt (a + b + c) m ≡ nat_le (1 + a + b + c) m
+at_least a b c m = grind (arith, nat_tests)
+
+pub none_yet : (a b c : ℕ) → nat_le (1 + a + b + c) 0 ≡ false
+none_yet a b c = grind (arith, nat_tests)
+
+-- the connection id that came with b pieces of its payload, if some came
+abbrev pub conn_after : ℕ → ℕ → Option ℕ
+conn_after conn zero = None
+conn_after conn (suc b) = Some conn
+
+-- a slave took these pieces in its session
+pub record SlaveAt (ms : MasterSettings) (id : ℕ) (v : List Deed) (p : State) (a b d : ℕ) : Type 0 where
+  pub phase : phase_taken v ≡ p
+  pub session : joined state.Session (width ms) v ≡ front (session_payload id ms.profile) (width ms) a
+  pub connection : joined state.Connection (width ms) v ≡ front (connection_payload ms.conn ms.address) (width ms) b
+  pub parameters : joined state.Parameter (width ms) v ≡ front (parameter_payload ms.watchdog ms.profile ms.app) (width ms) d
+  pub ids : count_in state.Session (taken v) ≡ a
+  pub conn : first_conn ms.lengths.master (taken v) ≡ conn_after ms.conn b
+
+-- a master sent these pieces in its session
+pub record MasterAt (ms : MasterSettings) (id : ℕ) (e : List Deed) (p : State) (a b d : ℕ) : Type 0 where
+  pub phase : phase_sent (own (since e)) ≡ p
+  pub session : count_in state.Session (own (since e)) ≡ a
+  pub connection : count_in state.Connection (own (since e)) ≡ b
+  pub parameters : count_in state.Parameter (own (since e)) ≡ d
+  pub id_is : id_sent (OfMaster ms) e ≡ Some id

@@ -1,0 +1,201 @@
+-- What a monitor keeps after an entry is what the definitions say of the entries with it.
+use Rattle.std.proofs.Common.{◌≡◌, ℕ, suc, ◌≤◌, nat_eq, List, [], ◌∷◌, length, Bool, true, false, ◌&&◌, not, Option, Some, None, if◌then◌else◌, refl, sym, ap, ap₂, subst, ◌∙◌, arith}
+use Rattle.std.specs.Cmp.Lexicographic.{pointwise}
+use Rattle.std.specs.List.{AllByRecursion}
+use Rattle.std.proofs.lemmas.Bool.Decides.{nat_tests}
+use Rattle.fsoe_base.specs.declared.command.End.{End}
+use Rattle.fsoe_base.specs.declared.command.End.TheVariants as end_name
+use Rattle.fsoe_base.specs.declared.command.Command.TheVariants as command
+use Rattle.fsoe_base.specs.declared.did.Took.{Took}
+use Rattle.param_load.specs.declared.entry.Entry.{Entry}
+use Rattle.end_model.specs.Phases.{is_guarded, is_guarded_frame, has_command}
+use Rattle.end_model.specs.Deed.{delivered, is_empty}
+use Rattle.exchange_model.specs.declared.side.Sent.{Sent}
+use Rattle.exchange_model.specs.declared.side.Side.{Side}
+use Rattle.exchange_model.specs.Ends.{same_end, peer}
+use Rattle.exchange_model.specs.Items.{Item, newest, items_of, items, item_of, item_taken, awaited, answers_to, newest_answer, answer_among, has_bytes, number_if}
+use Rattle.exchange_model.specs.Other.{is_other, first_of_both, first_other}
+use Rattle.exchange_model.specs.Noting.{sent_of, kept_of, MonitorView, view_of, Notes, sent_number, item_number, has, number_of, next_number, is_answer, is_other_to, answered, sent_next, heard_next, own_after, peer_after, side_of, master_after, slave_after, noted_next}
+use Rattle.exchange_model.proofs.Worlds.Projection.{same}
+use Rattle.exchange_model.proofs.Worlds.Numbered.{Numbered, Grown, Same, More, grown, numbered}
+use Rattle.exchange_model.proofs.Joint.Awaited.{awaited_found}
+use Rattle.exchange_model.proofs.Alone.Loads.{all_items}
+
+-- an item answers one of the first n
+record Within (n : ℕ) (i : Item) : Type 0 where
+  pub within : (k : ℕ) → i.answers ≡ Some k → k ≤ n
+
+-- an item with a number
+record HasNumber (k : ℕ) (o : Option Item) : Type 0 where
+  pub item : Item
+  pub is : o ≡ Some item
+  pub number_is : item.number ≡ k
+
+number-found : (bytes : List ℕ) (o : Option Item) (k : ℕ) → number_if bytes o ≡ Some k → HasNumber k o
+number-found bytes None k h = cc
+number-found bytes (Some i) k h = by-bytes (pointwise nat_eq i.bytes bytes) h
+  where
+    by-bytes : (b : Bool) → (if b then Some i.number else None) ≡ Some k → HasNumber k (Some i)
+    by-bytes true h = record { item = i; is = refl; number_is = cc }
+    by-bytes false h = cc
+
+newest-within : (found : List Item) (j : Item) → Numbered found → newest found ≡ Some j → j.number ≤ length found
+newest-within [] j num h = cc
+newest-within (i ∷ found) j num h = let q : i ≡ j = cc in let k : j.number ≡ suc (length found) = subst (λ (x : Item). x.number ≡ suc (length found)) q num.0 in omega arith
+
+taken-within : (w : List Entry) (which : End) (bytes : List ℕ) (took : Option Took) (k : ℕ) → item_taken (items w) which bytes took ≡ Some k → k ≤ length (items_of (peer which) (items w))
+taken-within w which bytes None k h = cc
+taken-within w which bytes (Some t) k h = by-command (is_guarded t.command) h
+  where
+    by-command : (b : Bool) → number_if bytes (if b then awaited (items w) which else newest (items_of (peer which) (items w))) ≡ Some k → k ≤ length (items_of (peer which) (items w))
+    by-command true h =
+        let it : HasNumber k (awaited (items w) which) = number-found bytes (awaited (items w) which) k h in
+        let f = awaited_found (items_of which (items w)) (items_of (peer which) (items w)) it.item (numbered which w) (numbered (peer which) w) it.is in
+        subst (λ (k : ℕ). k ≤ length (items_of (peer which) (items w))) it.number_is f.within
+    by-command false h =
+        let it : HasNumber k (newest (items_of (peer which) (items w))) = number-found bytes (newest (items_of (peer which) (items w))) k h in
+        subst (λ (k : ℕ). k ≤ length (items_of (peer which) (items w))) it.number_is (newest-within (items_of (peer which) (items w)) it.item (numbered (peer which) w) it.is)
+
+grown-length : (old new : List Item) → Grown old new → length old ≤ length new
+grown-length old new (Same e) = let q : length new ≡ length old = ap length e in omega arith
+grown-length old new (More i e h) = let q : length new ≡ suc (length old) = ap length e in omega arith
+
+all-within : (n m : ℕ) (found : List Item) → n ≤ m → AllByRecursion (Within n) found → AllByRecursion (Within m) found
+all-within n m [] h all = tt
+all-within n m (i ∷ found) h all = (record { within = λ k e. let q : k ≤ n = all.0.within k e in omega arith }, all-within n m found h all.1)
+
+-- the items of an end answer those that its peer has sent
+answers-within : (which : End) (w : List Entry) → AllByRecursion (Within (length (items_of (peer which) (items w)))) (items_of which (items w))
+answers-within which [] = tt
+answers-within which (x ∷ w) =
+    let more : length (items_of (peer which) (items w)) ≤ length (items_of (peer which) (items (x ∷ w))) = grown-length _ _ (grown (peer which) x w) in
+    all_items (Within (length (items_of (peer which) (items (x ∷ w))))) which x w (same_end which x.end) (is_empty x.sent) refl
+    (λ mine sent. record {
+      within = λ k e.
+          let q : k ≤ length (items_of (peer x.end) (items w)) = taken-within w x.end (delivered x.what) x.did.took k e in
+          let p : length (items_of (peer x.end) (items w)) ≡ length (items_of (peer which) (items w)) = ap (λ (it : End). length (items_of (peer it) (items w))) (same which x.end mine) in
+          omega arith;
+    })
+    refl (all-within _ _ _ more (answers-within which w))
+
+no-answer : (n : ℕ) (o : Option ℕ) → ((k : ℕ) → o ≡ Some k → k ≤ n) → answers_to (suc n) o ≡ false
+no-answer n None h = refl
+no-answer n (Some k) h = let q : k ≤ n = h k refl in grind (arith, nat_tests)
+
+skipped : (b c : Bool) (i : Item) (o : Option Item) → c ≡ false → o ≡ None → (if b && c then Some i else o) ≡ None
+skipped true c i o h k = simp h k
+skipped false c i o h k = k
+
+-- no item answers the next one yet
+none-answers : (n : ℕ) (found : List Item) → AllByRecursion (Within n) found → newest_answer (suc n) found ≡ None
+none-answers n [] all = refl
+none-answers n (i ∷ found) all = skipped (not (has_command command.Reset i.bytes)) (answers_to (suc n) i.answers) i (newest_answer (suc n) found) (no-answer n i.answers all.0.within) (none-answers n found all.1)
+
+abbrev side : Option Sent → Option Sent → Side
+side n a = record { newest = n; awaited = a }
+
+pub newest_next : (found : List Item) → Numbered found → next_number (sent_of (newest found)) ≡ suc (length found)
+newest_next [] num = refl
+newest_next (i ∷ found) num = ap suc num.0
+
+-- an end that sends an item
+own-items : (which : End) (i : Item) (found : List Item) → i.end ≡ which → kept_of which (i ∷ found) ≡ side (sent_of (Some i)) (sent_of (newest_answer i.number (items_of (peer which) found)))
+own-items end_name.Master i found h = simp h
+own-items end_name.Slave i found h = simp h
+
+own-kept-by : (which : End) (x : Entry) (w : List Entry) (none : Bool) → x.end ≡ which → is_empty x.sent ≡ none
+    → (if none then kept_of which (items w) else sent_next (kept_of which (items w)) x.sent) ≡ kept_of which (if none then items w else item_of x w (items w) ∷ items w)
+own-kept-by which x w true h k = refl
+own-kept-by which x w false h k =
+    let i : Item = item_of x w (items w) in
+    let n : suc (length (items_of x.end (items w))) ≡ suc (length (items_of which (items w))) = ap (λ (it : End). suc (length (items_of it (items w)))) h in
+    let a : next_number (kept_of which (items w)).newest ≡ suc (length (items_of x.end (items w))) = newest_next (items_of which (items w)) (numbered which w) ∙ sym n in
+    let b : newest_answer (suc (length (items_of x.end (items w)))) (items_of (peer which) (items w)) ≡ None = ap (λ n. newest_answer n (items_of (peer which) (items w))) n ∙ none-answers (length (items_of which (items w))) (items_of (peer which) (items w)) (back which) in
+    ap₂ (λ (n : ℕ) (o : Option Item). side (Some (record { number = n; bytes = x.sent })) (sent_of o)) a (sym b) ∙ sym (own-items which i (items w) h)
+  where
+    back : (which : End) → AllByRecursion (Within (length (items_of which (items w)))) (items_of (peer which) (items w))
+    back end_name.Master = answers-within end_name.Slave w
+    back end_name.Slave = answers-within end_name.Master w
+
+own-kept : (which : End) (x : Entry) (w : List Entry) → x.end ≡ which → own_after (kept_of which (items w)) x ≡ kept_of which (items (x ∷ w))
+own-kept which x w h = own-kept-by which x w (is_empty x.sent) h refl
+
+-- its peer
+chosen : (b c : Bool) (i : Item) (o : Option Item) → sent_of (if b && c then Some i else o) ≡ (if b && c then sent_of (Some i) else sent_of o)
+chosen true true i o = refl
+chosen true false i o = refl
+chosen false c i o = refl
+
+unanswered : (b : Bool) (s o : Option Sent) → o ≡ (if b && false then s else o)
+unanswered true s o = refl
+unanswered false s o = refl
+
+peer-awaits : (i : Item) (found : List Item) (o : Option Item) → sent_of (answer_among (i ∷ found) o) ≡ (if not (has_command command.Reset i.bytes) && is_answer (sent_of o) i.answers then sent_of (Some i) else sent_of (answer_among found o))
+peer-awaits i found None = unanswered (not (has_command command.Reset i.bytes)) (sent_of (Some i)) None
+peer-awaits i found (Some mine) = chosen (not (has_command command.Reset i.bytes)) (answers_to mine.number i.answers) i (newest_answer mine.number found)
+
+peer-items : (which : End) (i : Item) (found : List Item) → i.end ≡ which
+    → kept_of (peer which) (i ∷ found) ≡ side (kept_of (peer which) found).newest (if not (has_command command.Reset i.bytes) && is_answer (kept_of (peer which) found).newest i.answers then sent_of (Some i) else (kept_of (peer which) found).awaited)
+peer-items end_name.Master i found h = simp h (ap (side (kept_of end_name.Slave found).newest) (peer-awaits i (items_of end_name.Master found) (newest (items_of end_name.Slave found))))
+peer-items end_name.Slave i found h = simp h (ap (side (kept_of end_name.Master found).newest) (peer-awaits i (items_of end_name.Slave found) (newest (items_of end_name.Master found))))
+
+number-is : (bytes : List ℕ) (o : Option Item) → number_of bytes (sent_of o) ≡ number_if bytes o
+number-is bytes None = refl
+number-is bytes (Some i) = refl
+
+if-sent : (b : Bool) (o p : Option Item) → (if b then sent_of o else sent_of p) ≡ sent_of (if b then o else p)
+if-sent true o p = refl
+if-sent false o p = refl
+
+pub answered_is : (which : End) (found : List Item) (bytes : List ℕ) (took : Option Took) → answered (kept_of which found) (kept_of (peer which) found) bytes took ≡ item_taken found which bytes took
+answered_is which found bytes None = refl
+answered_is which found bytes (Some t) =
+    ap (number_of bytes) (if-sent (is_guarded t.command) (awaited found which) (newest (items_of (peer which) found)))
+    ∙ number-is bytes (if is_guarded t.command then awaited found which else newest (items_of (peer which) found))
+
+peer-kept-by : (which : End) (x : Entry) (w : List Entry) (none : Bool) → x.end ≡ which → is_empty x.sent ≡ none
+    → (if none then kept_of (peer which) (items w) else heard_next (kept_of which (items w)) (kept_of (peer which) (items w)) x.sent (answered (kept_of which (items w)) (kept_of (peer which) (items w)) (delivered x.what) x.did.took))
+    ≡ kept_of (peer which) (if none then items w else item_of x w (items w) ∷ items w)
+peer-kept-by which x w true h k = refl
+peer-kept-by which x w false h k =
+    let i : Item = item_of x w (items w) in
+    let its : List Item = items w in
+    let n : next_number (kept_of which (items w)).newest ≡ suc (length (items_of x.end (items w))) = newest_next (items_of which (items w)) (numbered which w) ∙ ap (λ (it : End). suc (length (items_of it (items w)))) (sym h) in
+    let a : answered (kept_of which (items w)) (kept_of (peer which) (items w)) (delivered x.what) x.did.took ≡ item_taken (items w) x.end (delivered x.what) x.did.took = answered_is which (items w) (delivered x.what) x.did.took ∙ ap (λ (it : End). item_taken (items w) it (delivered x.what) x.did.took) (sym h) in
+    ap₂ (λ (n : ℕ) (answer : Option ℕ). side (kept_of (peer which) (items w)).newest (if not (has_command command.Reset x.sent) && is_answer (kept_of (peer which) (items w)).newest answer then Some (record { number = n; bytes = x.sent }) else (kept_of (peer which) (items w)).awaited)) n a
+    ∙ sym (peer-items which i (items w) h)
+
+peer-kept : (which : End) (x : Entry) (w : List Entry) → x.end ≡ which → peer_after (kept_of which (items w)) (kept_of (peer which) (items w)) x ≡ kept_of (peer which) (items (x ∷ w))
+peer-kept which x w h = peer-kept-by which x w (is_empty x.sent) h refl
+
+has-is : (bytes : List ℕ) (o : Option Item) → has bytes (sent_of o) ≡ has_bytes bytes o
+has-is bytes None = refl
+has-is bytes (Some i) = refl
+
+pub other_is : (which : End) (x : Entry) (w : List Entry) → x.end ≡ which → is_other_to (kept_of which (items w)) x ≡ is_other (items w) x
+other_is which x w h =
+    ap (λ (b : Bool). x.did.passed && is_guarded_frame (delivered x.what) && not b) (has-is (delivered x.what) (awaited (items w) which) ∙ ap (λ (it : End). has_bytes (delivered x.what) (awaited (items w) it)) (sym h))
+
+same-view : (n : ℕ) (other other' : Option ℕ) (a a' b b' : Side) → other ≡ other' → a ≡ a' → b ≡ b'
+    → (let v : MonitorView = record { noted = n; other = other; master = a; slave = b } in v) ≡ record { noted = n; other = other'; master = a'; slave = b' }
+same-view n other other' a a' b b' h i j = cc
+
+next-is : (which : End) (x : Entry) (w : List Entry) → x.end ≡ which
+    → (let v : MonitorView = record { noted = suc (length w); other = first_of_both (first_other w) (is_other_to (side_of which (view_of w)) x) (suc (length w)); master = master_after which (view_of w) x; slave = slave_after which (view_of w) x } in v) ≡ view_of (x ∷ w)
+next-is end_name.Master x w h =
+    same-view (suc (length w)) _ _ _ _ _ _ (ap (λ (b : Bool). first_of_both (first_other w) b (suc (length w))) (other_is end_name.Master x w h)) (own-kept end_name.Master x w h) (peer-kept end_name.Master x w h)
+next-is end_name.Slave x w h =
+    same-view (suc (length w)) _ _ _ _ _ _ (ap (λ (b : Bool). first_of_both (first_other w) b (suc (length w))) (other_is end_name.Slave x w h)) (peer-kept end_name.Slave x w h) (own-kept end_name.Slave x w h)
+
+-- a monitor that steps so notes the entry
+pub notes_by : {old new : MonitorView} {x : Entry} → new ≡ noted_next old x → Notes old x new
+notes_by {old} {new} {x} h = record { notes = λ w is. h ∙ (ap (λ (v : MonitorView). noted_next v x) is ∙ next-is x.end x w refl) }
+
+number-of-item : (o : Option Item) → sent_number (sent_of o) ≡ item_number o
+number-of-item None = refl
+number-of-item (Some i) = refl
+
+-- the number of the item that an end awaits
+pub awaited_number : (v : MonitorView) (by : End) (w : List Entry) → v ≡ view_of w → sent_number (side_of by v).awaited ≡ item_number (awaited (items w) by)
+awaited_number v end_name.Master w h = ap (λ (v : MonitorView). sent_number v.master.awaited) h ∙ number-of-item (awaited (items w) end_name.Master)
+awaited_number v end_name.Slave w h = ap (λ (v : MonitorView). sent_number v.slave.awaited) h ∙ number-of-item (awaited (items w) end_name.Slave)

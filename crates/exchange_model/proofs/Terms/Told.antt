@@ -1,0 +1,109 @@
+-- Both ends tell equal terms in state Data: those of the master's settings.
+use Rattle.std.proofs.Common.{◌≡◌, ℕ, suc, ◌<◌, List, [], ◌∷◌, length, Bool, true, false, Some, IsTrue, ◌==◌, if◌then◌else◌, refl, sym, ap, subst, ◌∙◌, arith}
+use Rattle.std.proofs.lemmas.Bool.Decides.{nat_tests}
+use Rattle.fsoe_base.specs.declared.command.End.{End}
+use Rattle.fsoe_base.specs.declared.command.End.TheVariants as end_name
+use Rattle.fsoe_base.specs.declared.command.State.{State}
+use Rattle.fsoe_base.specs.declared.command.State.TheVariants as state
+use Rattle.fsoe_base.specs.declared.command.Command.{Command}
+use Rattle.fsoe_base.specs.Lengths.{is_length}
+use Rattle.param_load.specs.declared.entry.Entry.{Entry}
+use Rattle.param_load.specs.declared.terms.Terms.{Terms}
+use Rattle.param_load.specs.declared.master_settings.MasterSettings.{MasterSettings}
+use Rattle.param_load.specs.declared.slave_settings.SlaveSettings.{SlaveSettings}
+use Rattle.end_model.specs.Setup.{OfMaster, OfSlave, receives, piece_len}
+use Rattle.end_model.specs.Deed.{Deed}
+use Rattle.end_model.specs.Payloads.{uploaded, terms, terms_in}
+use Rattle.end_model.specs.Readiness.{state_of, phase_sent, told_in}
+use Rattle.end_model.proofs.Heads.{IsInSession}
+use Rattle.end_model.proofs.Reactions.{phase_of_data}
+use Rattle.exchange_model.specs.Ends.{same_end}
+use Rattle.exchange_model.specs.World.{deed_in, deeds, SameLengths, IsNextEntry, IsWorld}
+use Rattle.exchange_model.specs.Items.{Item, items_of, items}
+use Rattle.fsoe_base.specs.Data.{is_data}
+use Rattle.exchange_model.proofs.Worlds.Projection.{next_told, deeds_are_run}
+use Rattle.exchange_model.proofs.Worlds.Frames.{bytes_in, frames}
+use Rattle.exchange_model.proofs.Joint.Awaited.{up_to}
+use Rattle.exchange_model.proofs.Joint.Joint.{is_guarded_in, session, Mirrors, Standing, Before, Past, no_reset}
+use Rattle.exchange_model.proofs.Alone.Framed.{command_in, phase_by, connection_of, parameters_of}
+use Rattle.exchange_model.proofs.Alone.Pieces.{order_at, Sent, AllSent, all_sent, session_phase, sent_more}
+use Rattle.exchange_model.proofs.Alone.Uploads.{Tested, tested}
+use Rattle.exchange_model.proofs.Terms.Agree.{agree, front_whole}
+use Rattle.exchange_model.proofs.Joint.Related.{Related, carried_is}
+
+-- the terms of a master's settings
+abbrev pub terms_of : MasterSettings → Terms
+terms_of ms = terms (OfMaster ms) []
+
+-- an item of data was sent under these terms
+pub record Tells (t : Terms) (i : Item) : Type 0 where
+  pub tells : (c : Command) → command_in i.bytes ≡ Some c → is_data c ≡ true → i.terms ≡ Some t
+
+-- what a master had sent up to one of its items
+up-to-sent : (ms : MasterSettings) (n : ℕ) (m : List Item) → AllSent ms (bytes_in m) → Sent ms (session (bytes_in (up_to n m)))
+up-to-sent ms n [] h = h
+up-to-sent ms n (i ∷ m) h = up-to-head (n == suc (length m)) (up-to-sent ms n m h.1)
+  where
+    up-to-head : (b : Bool) → Sent ms (session (bytes_in (up_to n m))) → Sent ms (session (bytes_in (if b then i ∷ m else up_to n m)))
+    up-to-head true k = h.0
+    up-to-head false k = k
+
+-- a piece has a byte at least
+some-length : (l : ℕ) → IsTrue (is_length l) → 0 < l
+some-length l h = grind (arith, nat_tests)
+
+some-piece : (ms : MasterSettings) → 0 < piece_len (OfMaster ms)
+some-piece ms =
+    let a : 0 < ms.lengths.master = some-length ms.lengths.master ms.lengths.valid_master in
+    let b : 0 < ms.lengths.slave = some-length ms.lengths.slave ms.lengths.valid_slave in
+    omega arith
+
+-- a slave that mirrors a master in Data has both payloads whole
+whole-terms : (ms : MasterSettings) (ss : SlaveSettings) (t : List Item) (uploads : State → List ℕ) → SameLengths ms ss → Sent ms (session (bytes_in t)) → Mirrors (receives (OfSlave ss)) (piece_len (OfSlave ss)) state.Data uploads t → Tested ss (uploads state.Parameter)
+    → terms_in ss.profile (uploads state.Connection) (uploads state.Parameter) ≡ terms_of ms
+whole-terms ms ss t uploads same h k u =
+    let o = order_at _ state.Data _ _ _ _ (session_phase (bytes_in t) ∙ k.phase_is) h.order in
+    agree ms ss _ _ (uploads state.Connection) (uploads state.Parameter)
+    (k.same state.Connection refl ∙ (carried_is ms ss state.Connection t same ∙ (h.connection ∙ front_whole (connection_of ms) (piece_len (OfMaster ms)) _ (some-piece ms) o.0)))
+    (k.same state.Parameter refl ∙ (carried_is ms ss state.Parameter t same ∙ (h.parameters ∙ front_whole (parameters_of ms) (piece_len (OfMaster ms)) _ (some-piece ms) o.1))) u
+
+-- a slave in Data has the master's terms
+terms-agree : (ms : MasterSettings) (ss : SlaveSettings) (w : List Entry) → SameLengths ms ss → IsWorld ms ss w → Related ms ss w → state_of (OfSlave ss) (deeds end_name.Slave w) ≡ state.Data → terms (OfSlave ss) (deeds end_name.Slave w) ≡ terms_of ms
+terms-agree ms ss w same so_far h now = by-standing h.standing
+  where
+    by-standing : Standing (receives (OfSlave ss)) (piece_len (OfSlave ss)) (state_of (OfSlave ss) (deeds end_name.Slave w)) (λ phase. uploaded ss phase (deeds end_name.Slave w)) (items_of end_name.Slave (items w)) (items_of end_name.Master (items w))
+        → terms_in ss.profile (uploaded ss state.Connection (deeds end_name.Slave w)) (uploaded ss state.Parameter (deeds end_name.Slave w)) ≡ terms_of ms
+    by-standing (Before a none) = absurd (let q : false ≡ true = sym a ∙ ap is_guarded_in now in cc)
+    by-standing (Past a k) =
+        let uploads : State → List ℕ = λ phase. uploaded ss phase (deeds end_name.Slave w) in
+        let m : List Item = items_of end_name.Master (items w) in
+        let sent : AllSent ms (bytes_in m) = subst (AllSent ms) (sym (frames end_name.Master w)) (all_sent ms (deeds end_name.Master w) (deeds_are_run ms ss end_name.Master w so_far)) in
+        whole-terms ms ss (up_to k.item m) uploads same (up-to-sent ms k.item m sent)
+        (subst (λ (now : State). Mirrors (receives (OfSlave ss)) (piece_len (OfSlave ss)) now uploads (up_to k.item m)) now k.mirrors)
+        (tested ss (deeds end_name.Slave w) (deeds_are_run ms ss end_name.Slave w so_far))
+
+-- terms that are told in Data
+told-data : (now : State) (t u : Terms) → now ≡ state.Data → t ≡ u → told_in now t ≡ Some u
+told-data now t u h k = ap (λ (now : State). told_in now t) h ∙ ap Some k
+
+-- a data frame belongs to a session
+data-in-session : (f : List ℕ) (c : Command) → command_in f ≡ Some c → is_data c ≡ true → IsInSession f
+data-in-session [] c h d = cc
+data-in-session (b ∷ f) c h d = record { in_session = no_reset (b ∷ f) (ap is_guarded_in (phase_by (b ∷ f) c h ∙ phase_of_data c d)); sent = refl }
+
+-- a master that sent a data frame is in Data
+pub master_state : (ms : MasterSettings) (x : Deed) (e : List Deed) (c : Command) → command_in x.sent ≡ Some c → is_data c ≡ true → state_of (OfMaster ms) (x ∷ e) ≡ state.Data
+master_state ms x e c h d = ap phase_sent (sent_more x e (data-in-session x.sent c h d)) ∙ (phase_by x.sent c h ∙ phase_of_data c d)
+
+-- an entry of a master in Data tells the terms of its settings
+pub master_told : (ms : MasterSettings) (x : Entry) (e : List Deed) → IsNextEntry (OfMaster ms) x e → state_of (OfMaster ms) (deed_in x ∷ e) ≡ state.Data → x.terms ≡ Some (terms_of ms)
+master_told ms x e next now = ap (λ (y : Entry). y.terms) (next_told (OfMaster ms) x e next) ∙ told-data (state_of (OfMaster ms) (deed_in x ∷ e)) (terms (OfMaster ms) (deed_in x ∷ e)) (terms_of ms) now refl
+
+-- an entry of a slave in Data tells the same, where both ends' items are related after it
+pub slave_told : (ms : MasterSettings) (ss : SlaveSettings) (x : Entry) (w : List Entry) → SameLengths ms ss → IsWorld ms ss (x ∷ w) → Related ms ss (x ∷ w) → x.end ≡ end_name.Slave → IsNextEntry (OfSlave ss) x (deeds end_name.Slave w)
+    → state_of (OfSlave ss) (deeds end_name.Slave (x ∷ w)) ≡ state.Data → x.terms ≡ Some (terms_of ms)
+slave_told ms ss x w same h k is next now =
+    let e : deeds end_name.Slave (x ∷ w) ≡ deed_in x ∷ deeds end_name.Slave w = ap (λ (end : End). if same_end end_name.Slave end then deed_in x ∷ deeds end_name.Slave w else deeds end_name.Slave w) is in
+    ap (λ (y : Entry). y.terms) (next_told (OfSlave ss) x (deeds end_name.Slave w) next)
+    ∙ told-data (state_of (OfSlave ss) (deed_in x ∷ deeds end_name.Slave w)) (terms (OfSlave ss) (deed_in x ∷ deeds end_name.Slave w)) (terms_of ms)
+    (ap (state_of (OfSlave ss)) (sym e) ∙ now) (ap (terms (OfSlave ss)) (sym e) ∙ terms-agree ms ss (x ∷ w) same h k now)
