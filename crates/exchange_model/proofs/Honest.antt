@@ -15,7 +15,6 @@ pub mod MasterTurn
 pub mod Stages
 pub mod StageSteps
 pub mod StageTurns
-pub mod QuietDeeds
 pub mod QuietEvents
 -- Along the events.
 pub mod ServingRuns

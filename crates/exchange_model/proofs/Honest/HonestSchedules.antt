@@ -16,60 +16,15 @@ use Rattle.exchange_model.specs.Fair.{Fair}
 use Rattle.exchange_model.specs.Honest.{Match, is_plain, in_turn, ticks_first, keeps_time, IsHonest}
 use Rattle.exchange_model.specs.Serving.{HasNoReset, TakesDelivery, Serves}
 use Rattle.exchange_model.proofs.Fairness.Headline.{fair_run}
-use Rattle.exchange_model.proofs.Honest.QuietEvents.{AtIdle, idle_tick, idle_put, idle_hold, idle_nonce, first_tick}
-use Rattle.exchange_model.proofs.Honest.ServingRuns.{Served, served_more, ServesOn, goes_on, keeps_on, may_now, stage_opens, idle_opens, serves_on}
+use Rattle.exchange_model.proofs.Honest.OnItsWay.{fresh}
+use Rattle.exchange_model.proofs.Honest.QuietEvents.{AtIdle}
+use Rattle.exchange_model.proofs.Honest.ServingRuns.{Served, ServesOn, Waits, idle_opens, serves_on}
 use Rattle.exchange_model.proofs.Honest.SlaveTurn.{Accepts}
 use Rattle.exchange_model.proofs.Honest.StageSteps.{Enters, Goes}
 use Rattle.exchange_model.proofs.Honest.Turns.{Partner, partner}
 
--- before the master's first tick
-serves-idle : (ms : MasterSettings) (r : Partner ms) (events : List Event) (w : List Entry) → Accepts ms r → Served ms r w → AtIdle ms r w → All (IsProperEvent ms (partner ms r)) events
-    → list_all is_plain events ≡ true → in_turn end_name.Slave events ≡ true → ticks_first events ≡ true → keeps_time ms (partner ms r) events w ≡ true → ServesOn ms r events w
-serves-idle ms r [] w accepts served idle proper plain turn first time = absurd (cc first)
-serves-idle ms r (event.Deliver to back ∷ events) w accepts served idle proper plain turn first time = absurd (cc first)
-serves-idle ms r (event.Altered to back pos mask ∷ events) w accepts served idle proper plain turn first time = absurd (cc plain)
-serves-idle ms r (event.Raw to frame ∷ events) w accepts served idle proper plain turn first time = absurd (cc plain)
-serves-idle ms r (event.Local at ∷ events) w accepts served idle proper plain turn first time = absurd (cc plain)
-serves-idle ms r (event.Tick end_name.Master ∷ events) w accepts served idle proper plain turn first time =
-    let x : Goes ms r w (event.Tick end_name.Master) end_name.Slave = first_tick ms r w (may_now ms r w (event.Tick end_name.Master) events time) idle in
-    goes_on ms r w (event.Tick end_name.Master) events _ x
-    (serves_on ms r events (x.entry ∷ w) end_name.Slave accepts (served_more ms r w (event.Tick end_name.Master) _ x (stage_opens ms r (x.entry ∷ w) end_name.Slave (x.follows, served.is_world) x.stage) served) x.stage
-    (All-tail (IsProperEvent ms (partner ms r)) (event.Tick end_name.Master) events proper) plain turn (keeps_on ms r w (event.Tick end_name.Master) events _ x time))
-serves-idle ms r (event.Tick end_name.Slave ∷ events) w accepts served idle proper plain turn first time =
-    let x : Enters ms r w (event.Tick end_name.Slave) (AtIdle ms r) = idle_tick ms r w (may_now ms r w (event.Tick end_name.Slave) events time) idle in
-    goes_on ms r w (event.Tick end_name.Slave) events (AtIdle ms r) x
-    (serves-idle ms r events (x.entry ∷ w) accepts (served_more ms r w (event.Tick end_name.Slave) (AtIdle ms r) x (idle_opens ms r (x.entry ∷ w) (x.follows, served.is_world) x.stage) served) x.stage
-    (All-tail (IsProperEvent ms (partner ms r)) (event.Tick end_name.Slave) events proper) plain turn first (keeps_on ms r w (event.Tick end_name.Slave) events (AtIdle ms r) x time))
-serves-idle ms r (event.Put at load ∷ events) w accepts served idle proper plain turn first time =
-    let x : Enters ms r w (event.Put at load) (AtIdle ms r) = idle_put ms r w at load (All-head (IsProperEvent ms (partner ms r)) (event.Put at load) events proper) idle in
-    goes_on ms r w (event.Put at load) events (AtIdle ms r) x
-    (serves-idle ms r events (x.entry ∷ w) accepts (served_more ms r w (event.Put at load) (AtIdle ms r) x (idle_opens ms r (x.entry ∷ w) (x.follows, served.is_world) x.stage) served) x.stage
-    (All-tail (IsProperEvent ms (partner ms r)) (event.Put at load) events proper) plain turn first (keeps_on ms r w (event.Put at load) events (AtIdle ms r) x time))
-serves-idle ms r (event.Hold at failsafe ∷ events) w accepts served idle proper plain turn first time =
-    let x : Enters ms r w (event.Hold at failsafe) (AtIdle ms r) = idle_hold ms r w at failsafe idle in
-    goes_on ms r w (event.Hold at failsafe) events (AtIdle ms r) x
-    (serves-idle ms r events (x.entry ∷ w) accepts (served_more ms r w (event.Hold at failsafe) (AtIdle ms r) x (idle_opens ms r (x.entry ∷ w) (x.follows, served.is_world) x.stage) served) x.stage
-    (All-tail (IsProperEvent ms (partner ms r)) (event.Hold at failsafe) events proper) plain turn first (keeps_on ms r w (event.Hold at failsafe) events (AtIdle ms r) x time))
-serves-idle ms r (event.Nonce at id ∷ events) w accepts served idle proper plain turn first time =
-    let x : Enters ms r w (event.Nonce at id) (AtIdle ms r) = idle_nonce ms r w at id (All-head (IsProperEvent ms (partner ms r)) (event.Nonce at id) events proper) idle in
-    goes_on ms r w (event.Nonce at id) events (AtIdle ms r) x
-    (serves-idle ms r events (x.entry ∷ w) accepts (served_more ms r w (event.Nonce at id) (AtIdle ms r) x (idle_opens ms r (x.entry ∷ w) (x.follows, served.is_world) x.stage) served) x.stage
-    (All-tail (IsProperEvent ms (partner ms r)) (event.Nonce at id) events proper) plain turn first (keeps_on ms r w (event.Nonce at id) events (AtIdle ms r) x time))
-
 at-first : (ms : MasterSettings) (r : Partner ms) → AtIdle ms r []
-at-first ms r =
-    record {
-      outside = record {
-        master = record { none_sent = refl; none_taken = refl; none_kept = refl; no_own = refl; no_taken = refl };
-        slave = record { none_sent = refl; none_taken = refl; none_kept = refl; no_own = refl; no_taken = refl };
-        no_id = refl;
-        phase = refl;
-        none_joined = λ phase. refl;
-      };
-      master_count = refl;
-      slave_count = refl;
-      not_ticked = refl;
-    }
+at-first ms r = record { outside = record { master = fresh; slave = fresh; no_id = refl; phase = refl; none_joined = λ phase. refl }; master_count = refl; slave_count = refl }
 
 served-none : (ms : MasterSettings) (r : Partner ms) → Served ms r []
 served-none ms r = record { is_world = tt; no_other = refl; no_reset = All-nil HasNoReset; taken = All-nil TakesDelivery; reaches_data = idle_opens ms r [] tt (at-first ms r); takes_data = tt }
@@ -77,7 +32,7 @@ served-none ms r = record { is_world = tt; no_other = refl; no_reset = All-nil H
 -- a partner's run serves
 partner-serves : (ms : MasterSettings) (r : Partner ms) (events : List Event) → Accepts ms r → All (IsProperEvent ms (partner ms r)) events → IsHonest ms (partner ms r) events → Serves ms events (world ms (partner ms r) events)
 partner-serves ms r events accepts proper honest =
-    let h : ServesOn ms r events [] = serves-idle ms r events [] accepts (served-none ms r) (at-first ms r) proper honest.plain honest.turns honest.begun honest.time in
+    let h : ServesOn ms r events [] = serves_on ms r events [] accepts (served-none ms r) (Waits refl (at-first ms r) honest.turns honest.begun) proper honest.plain honest.time in
     record { whole = h.whole ∙ omega arith; no_other = h.served.no_other; no_reset = h.served.no_reset; taken = h.served.taken; reaches_data = h.served.reaches_data; takes_data = h.served.takes_data }
 
 -- what holds of the settings with these lengths, this address and this profile, and the rest of a slave's, holds of the slave's own

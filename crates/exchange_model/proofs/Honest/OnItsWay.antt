@@ -33,19 +33,34 @@ abbrev pub IsNewestIfAny : Option (List ℕ) → List (List ℕ) → Type 0
 IsNewestIfAny None frames = Unit {0}
 IsNewestIfAny (Some f) frames = IsNewestOf f frames
 
--- the newest frame of s is on its way, and both chains agree but for it
-pub record OnItsWay (s r : Setup) (u v : List Deed) (conn : ℕ) (c : Command) (load f : List ℕ) : Type 0 where
+-- what a chain goes by
+pub record Chained : Type 0 where
+  pub sent : List (List ℕ)
+  pub taken : List (List ℕ)
+  pub kept : Option (List ℕ)
+  pub own_link : Option Link
+  pub taken_link : Option Link
+
+-- what the chain of an end goes by after its deeds in a session: no other deed changes it
+abbrev pub chained : Setup → List Deed → Chained
+chained s u = record { sent = own u; taken = taken u; kept = kept u; own_link = own_link s u; taken_link = taken_link s u }
+
+-- the newest frame of s, with the chain u, is on its way, and both chains agree but for it
+pub record Carried (s r : Setup) (u v : Chained) (conn : ℕ) (c : Command) (load f : List ℕ) : Type 0 where
   pub tail : List ℕ
   pub head : f ≡ command_byte c ∷ tail
   pub older : List (List ℕ)
-  pub newest : own u ≡ f ∷ older
-  pub frame : frame_of (sends s) f ≡ sealing.sealed (newest_crc (sends r) (own v)) (taken_link r v) conn (command_byte c) load
+  pub newest : u.sent ≡ f ∷ older
+  pub frame : frame_of (sends s) f ≡ sealing.sealed (newest_crc (sends r) v.sent) v.taken_link conn (command_byte c) load
   pub long : length f ≡ frame_len (sends s)
-  pub is_new : kept v ≢ Some f
-  pub sent_link : own_link s u ≡ Some (sealing.noted (newest_crc (sends r) (own v)) (taken_link r v) (frame_of (sends s) f))
-  pub answer_link : own_link r v ≡ taken_link s u
-  pub answer_crc : newest_crc (sends r) (own v) ≡ newest_crc (receives s) (taken u)
-  pub answer_kept : IsNewestIfAny (kept u) (own v)
+  pub is_new : v.kept ≢ Some f
+  pub sent_link : u.own_link ≡ Some (sealing.noted (newest_crc (sends r) v.sent) v.taken_link (frame_of (sends s) f))
+  pub answer_link : v.own_link ≡ u.taken_link
+  pub answer_crc : newest_crc (sends r) v.sent ≡ newest_crc (receives s) u.taken
+  pub answer_kept : IsNewestIfAny u.kept v.sent
+
+abbrev pub OnItsWay : Setup → Setup → List Deed → List Deed → ℕ → Command → List ℕ → List ℕ → Type 0
+OnItsWay s r u v conn c load f = Carried s r (chained s u) (chained r v) conn c load f
 
 -- the frame passes the test of its CRCs
 pub fits_on : (s r : Setup) (u v : List Deed) (conn : ℕ) (c : Command) (load f : List ℕ) → sends s ≡ receives r → OnItsWay s r u v conn c load f → fits r v (frame_of (receives r) f) ≡ true
@@ -74,12 +89,18 @@ sealed_long s e conn c load h =
     ∙ lengths_add (sends s) (length (groups load)) (length (with_crcs (groups load) g.crcs)) (valid_length s) (count_groups load ∙ ap (λ n. (n + 1) / 2) h) (b ∙ ap (λ n. n + 2 * length (groups load)) h)
 
 -- nothing is of a session
-pub record Fresh (s : Setup) (u : List Deed) : Type 0 where
-  pub none_sent : own u ≡ []
-  pub none_taken : taken u ≡ []
-  pub none_kept : kept u ≡ None
-  pub no_own : own_link s u ≡ None
-  pub no_taken : taken_link s u ≡ None
+pub record IsFresh (u : Chained) : Type 0 where
+  pub none_sent : u.sent ≡ []
+  pub none_taken : u.taken ≡ []
+  pub none_kept : u.kept ≡ None
+  pub no_own : u.own_link ≡ None
+  pub no_taken : u.taken_link ≡ None
+
+pub fresh : IsFresh (record { sent = []; taken = []; kept = None; own_link = None; taken_link = None })
+fresh = record { none_sent = refl; none_taken = refl; none_kept = refl; no_own = refl; no_taken = refl }
+
+abbrev pub Fresh : Setup → List Deed → Type 0
+Fresh s u = IsFresh (chained s u)
 
 -- the deed that takes a frame of a session and answers it
 abbrev pub answering : List ℕ → Command → List ℕ → List ℕ → Deed

@@ -1,5 +1,5 @@
--- Ticks below the limits, puts, holds and nonces leave the stage of an honest run.
-use Rattle.std.proofs.Common.{◌≡◌, ℕ, ◌&&◌, not, List, Bool, true, false, Some, if◌then◌else◌, refl, sym, ap, ◌∙◌}
+-- Ticks below the limits, puts, holds and nonces leave the stage of an honest run; the master's first tick begins it.
+use Rattle.std.proofs.Common.{◌≡◌, ℕ, suc, nat_le, ◌&&◌, not, List, ◌∷◌, [], Bool, true, false, Some, if◌then◌else◌, refl, sym, ap, ◌∙◌}
 use Rattle.fsoe_base.specs.declared.command.End.{End}
 use Rattle.fsoe_base.specs.declared.command.End.TheVariants as end_name
 use Rattle.fsoe_base.specs.declared.command.State.{State}
@@ -7,177 +7,138 @@ use Rattle.fsoe_base.specs.declared.command.State.TheVariants as state
 use Rattle.fsoe_base.specs.declared.did.Did.{Did}
 use Rattle.fsoe_base.specs.Did.{nothing}
 use Rattle.seq_chain.specs.Reset.{reset_frame}
+use Rattle.param_load.specs.declared.entry.Move.{Move}
 use Rattle.param_load.specs.declared.entry.Move.TheVariants as move
 use Rattle.param_load.specs.declared.entry.Entry.{Entry}
 use Rattle.param_load.specs.declared.master_settings.MasterSettings.{MasterSettings}
+use Rattle.param_load.specs.declared.slave_settings.SlaveSettings.{SlaveSettings}
+use Rattle.schedule_file.specs.declared.event.Event.{Event}
 use Rattle.schedule_file.specs.declared.event.Event.TheVariants as event
+use Rattle.end_model.specs.Setup.{Setup, OfMaster, OfSlave}
 use Rattle.end_model.specs.Deed.{Deed}
 use Rattle.end_model.specs.Chain.{own}
 use Rattle.end_model.specs.Readiness.{phase_sent, state_of, reaches_limit}
 use Rattle.end_model.specs.Step.{on_expiry, deed_of, step}
 use Rattle.end_model.specs.Entries.{entry_of}
-use Rattle.exchange_model.specs.World.{deeds, IsProperEvent}
+use Rattle.exchange_model.specs.Ends.{same_end}
+use Rattle.exchange_model.specs.World.{setup_of, deeds, end_of_event, entry_at, IsProperEvent, IsNextEntry}
 use Rattle.exchange_model.specs.Items.{items_of, items}
-use Rattle.exchange_model.specs.Honest.{had_tick, is_counted, may_tick}
-use Rattle.exchange_model.specs.Serving.{deliveries_to}
-use Rattle.exchange_model.proofs.Honest.StageSteps.{AtStage, Enters, Goes}
-use Rattle.exchange_model.proofs.Honest.QuietDeeds.{quiet, quiet_at_master, quiet_at_slave, idle_at_master, idle_at_slave}
-use Rattle.exchange_model.proofs.Honest.Stages.{Asked, Replied, Down, Up, IsIdle}
+use Rattle.exchange_model.specs.Honest.{exchanges, had_tick, is_counted, may_tick}
+use Rattle.exchange_model.specs.Serving.{is_delivery, deliveries_to}
+use Rattle.exchange_model.proofs.Honest.OnItsWay.{fresh}
+use Rattle.exchange_model.proofs.Honest.StageSteps.{Enters, AtStage}
+use Rattle.exchange_model.proofs.Honest.Stages.{Both, both, Asked, IsIdle}
 use Rattle.exchange_model.proofs.Honest.Turns.{Partner, partner, master_of, slave_of}
+
+-- a deed in which an end takes and sends nothing
+abbrev pub quiet : Move → Deed
+quiet what = record { what = what; did = nothing; sent = [] }
+
+-- the entry that tells it
+abbrev pub quiet_entry : (ms : MasterSettings) → Partner ms → List Entry → End → Move → Entry
+quiet_entry ms r w at what = entry_of (setup_of ms (partner ms r) at) (deeds at w) (quiet what)
+
+-- an event at which an end takes and sends nothing
+pub record IsQuiet (ms : MasterSettings) (r : Partner ms) (w : List Entry) (event : Event) (what : Move) : Type 0 where
+  pub none_comes : is_delivery what ≡ false
+  pub is : entry_at ms (partner ms r) w event ≡ Some (quiet_entry ms r w (end_of_event event) what)
+  pub next : IsNextEntry (setup_of ms (partner ms r) (end_of_event event)) (quiet_entry ms r w (end_of_event event) what) (deeds (end_of_event event) w)
+
+quiet-follows : (ms : MasterSettings) (r : Partner ms) (w : List Entry) (at : End) (what : Move) → let x : Entry = quiet_entry ms r w at what in IsNextEntry (setup_of ms (partner ms r) at) x (deeds at w) → IsNextEntry (setup_of ms (partner ms r) x.end) x (deeds x.end w)
+quiet-follows ms r w end_name.Master what h = h
+quiet-follows ms r w end_name.Slave what h = h
+
+pub quiet_enters : (ms : MasterSettings) (r : Partner ms) (w : List Entry) (event : Event) (what : Move) → IsQuiet ms r w event what → Enters ms r w event (quiet_entry ms r w (end_of_event event) what)
+quiet_enters ms r w event what q =
+    record {
+      is = q.is;
+      follows = quiet-follows ms r w (end_of_event event) what q.next;
+      not_other = refl;
+      no_reset = refl;
+      taken = λ k. let b : false ≡ true = sym q.none_comes ∙ k in cc;
+      takes_data = sym (ap (λ b. b && nat_le (exchanges ms) (deliveries_to (quiet_entry ms r w (end_of_event event) what).end w)) q.none_comes);
+    }
+
+-- the stages see nothing of it
+pub both_kept : (ms : MasterSettings) (r : Partner ms) (w : List Entry) (at : End) (what : Move) → is_delivery what ≡ false → both ms r (quiet_entry ms r w at what ∷ w) ≡ both ms r w
+both_kept ms r w end_name.Master what h = ap (λ (b : Bool). record (both ms r w) { to_master = if b then suc (deliveries_to end_name.Master w) else deliveries_to end_name.Master w }) h
+both_kept ms r w end_name.Slave what h = ap (λ (b : Bool). record (both ms r w) { to_slave = if b then suc (deliveries_to end_name.Slave w) else deliveries_to end_name.Slave w }) h
 
 off : (b : Bool) → not b ≡ true → b ≡ false
 off true h = cc
 off false h = refl
 
--- the master's first tick came
-pub ticked_of : (ms : MasterSettings) (r : Partner ms) (w : List Entry) (next : End) → AtStage ms r w next → had_tick (deeds end_name.Master w) ≡ true
-ticked_of ms r w next (Asked h) = h.ticked
-ticked_of ms r w next (Replied h) = h.ticked
-ticked_of ms r w next (Down h) = h.ticked
-ticked_of ms r w next (Up h) = h.ticked
+master-tick : (ms : MasterSettings) (e : List Deed) → reaches_limit (OfMaster ms) e ≡ false → step (OfMaster ms) e move.Tick ≡ quiet move.Tick
+master-tick ms e h = ap (λ (b : Bool). deed_of (OfMaster ms) e move.Tick (if b then on_expiry (state_of (OfMaster ms) e) (OfMaster ms) else nothing)) h
 
-master-tick : (ms : MasterSettings) (r : Partner ms) (w : List Entry) → reaches_limit (master_of ms) (deeds end_name.Master w) ≡ false → step (master_of ms) (deeds end_name.Master w) move.Tick ≡ quiet move.Tick
-master-tick ms r w h =
-    let em : List Deed = deeds end_name.Master w in
-    ap (λ (b : Bool). deed_of (master_of ms) em move.Tick (if b then on_expiry (state_of (master_of ms) em) (master_of ms) else nothing)) h
-
-slave-rests : (ms : MasterSettings) (r : Partner ms) (now : State) (b : Bool) → not (is_counted now && b) ≡ true → (if b then on_expiry now (slave_of ms r) else nothing) ≡ nothing
-slave-rests ms r now false h = refl
-slave-rests ms r state.Reset true h = refl
-slave-rests ms r state.Session true h = cc
-slave-rests ms r state.Connection true h = cc
-slave-rests ms r state.Parameter true h = cc
-slave-rests ms r state.Data true h = cc
-
-slave-tick : (ms : MasterSettings) (r : Partner ms) (w : List Entry) → may_tick ms (partner ms r) w end_name.Slave ≡ true → step (slave_of ms r) (deeds end_name.Slave w) move.Tick ≡ quiet move.Tick
-slave-tick ms r w h =
-    let es : List Deed = deeds end_name.Slave w in
-    ap (λ (d : Did). deed_of (slave_of ms r) es move.Tick d) (slave-rests ms r (state_of (slave_of ms r) es) (reaches_limit (slave_of ms r) es) h)
+slave-rests : (ss : SlaveSettings) (now : State) (b : Bool) → not (is_counted now && b) ≡ true → (if b then on_expiry now (OfSlave ss) else nothing) ≡ nothing
+slave-rests ss now false h = refl
+slave-rests ss state.Reset true h = refl
+slave-rests ss state.Session true h = cc
+slave-rests ss state.Connection true h = cc
+slave-rests ss state.Parameter true h = cc
+slave-rests ss state.Data true h = cc
 
 if-ticked : (had b : Bool) → had ≡ true → (if had then not b else b) ≡ true → b ≡ false
 if-ticked true b h k = off b k
 if-ticked false b h k = cc
 
+-- an honest tick, of the master where it isn't the first
+tick-rests : (ms : MasterSettings) (r : Partner ms) (w : List Entry) (at : End) → may_tick ms (partner ms r) w at ≡ true → (same_end end_name.Master at ≡ true → had_tick (deeds end_name.Master w) ≡ true)
+    → step (setup_of ms (partner ms r) at) (deeds at w) move.Tick ≡ quiet move.Tick
+tick-rests ms r w end_name.Master h had = let e : List Deed = deeds end_name.Master w in master-tick ms e (if-ticked (had_tick e) (reaches_limit (master_of ms) e) (had refl) h)
+tick-rests ms r w end_name.Slave h had =
+    let e : List Deed = deeds end_name.Slave w in
+    ap (λ (d : Did). deed_of (slave_of ms r) e move.Tick d) (slave-rests (partner ms r) (state_of (slave_of ms r) e) (reaches_limit (slave_of ms r) e) h)
+
+pub quiet_tick : (ms : MasterSettings) (r : Partner ms) (w : List Entry) (at : End) → may_tick ms (partner ms r) w at ≡ true → (same_end end_name.Master at ≡ true → had_tick (deeds end_name.Master w) ≡ true) → IsQuiet ms r w (event.Tick at) move.Tick
+quiet_tick ms r w at h had =
+    let s : Setup = setup_of ms (partner ms r) at in
+    let stepped : step s (deeds at w) move.Tick ≡ quiet move.Tick = tick-rests ms r w at h had in
+    record { none_comes = refl; is = ap (λ d. Some (entry_of s (deeds at w) d)) stepped; next = record { proper = tt; stepped = ap (entry_of s (deeds at w)) (sym stepped) } }
+
+-- a put, a hold, a nonce
+pub quiet_put : (ms : MasterSettings) (r : Partner ms) (w : List Entry) (at : End) (load : List ℕ) → IsProperEvent ms (partner ms r) (event.Put at load) → IsQuiet ms r w (event.Put at load) (move.Put load)
+quiet_put ms r w at load p = record { none_comes = refl; is = refl; next = record { proper = p; stepped = refl } }
+
+pub quiet_hold : (ms : MasterSettings) (r : Partner ms) (w : List Entry) (at : End) (failsafe : Bool) → IsQuiet ms r w (event.Hold at failsafe) (move.Hold failsafe)
+quiet_hold ms r w at failsafe = record { none_comes = refl; is = refl; next = record { proper = tt; stepped = refl } }
+
+pub quiet_nonce : (ms : MasterSettings) (r : Partner ms) (w : List Entry) (at : End) (id : ℕ) → IsProperEvent ms (partner ms r) (event.Nonce at id) → IsQuiet ms r w (event.Nonce at id) (move.Nonce id)
+quiet_nonce ms r w at id p = record { none_comes = refl; is = refl; next = record { proper = p; stepped = refl } }
+
+-- before the master's first tick
+abbrev pub AtIdle : (ms : MasterSettings) → Partner ms → List Entry → Type 0
+AtIdle ms r w = IsIdle (both ms r w)
+
 if-not-ticked : (had b : Bool) → had ≡ false → (if had then not b else b) ≡ true → b ≡ true
 if-not-ticked false b h k = k
 if-not-ticked true b h k = cc
 
--- a tick
-pub tick_goes : (ms : MasterSettings) (r : Partner ms) (w : List Entry) (next at : End) → may_tick ms (partner ms r) w at ≡ true → AtStage ms r w next → Goes ms r w (event.Tick at) next
-tick_goes ms r w next end_name.Master h stage =
-    let em : List Deed = deeds end_name.Master w in
-    let stepped : step (master_of ms) em move.Tick ≡ quiet move.Tick = master-tick ms r w (if-ticked (had_tick em) (reaches_limit (master_of ms) em) (ticked_of ms r w next stage) h) in
-    record {
-      entry = entry_of (master_of ms) em (quiet move.Tick);
-      is = ap (λ d. Some (entry_of (master_of ms) em d)) stepped;
-      stage = quiet_at_master ms r _ _ _ _ _ _ next move.Tick stage;
-      follows = record { proper = tt; stepped = ap (entry_of (master_of ms) em) (sym stepped) };
-      not_other = refl;
-      no_reset = refl;
-      taken = λ k. cc;
-      takes_data = refl;
-    }
-tick_goes ms r w next end_name.Slave h stage =
-    let es : List Deed = deeds end_name.Slave w in
-    let stepped : step (slave_of ms r) es move.Tick ≡ quiet move.Tick = slave-tick ms r w h in
-    record {
-      entry = entry_of (slave_of ms r) es (quiet move.Tick);
-      is = ap (λ d. Some (entry_of (slave_of ms r) es d)) stepped;
-      stage = quiet_at_slave ms r _ _ _ _ _ _ next move.Tick stage;
-      follows = record { proper = tt; stepped = ap (entry_of (slave_of ms r) es) (sym stepped) };
-      not_other = refl;
-      no_reset = refl;
-      taken = λ k. cc;
-      takes_data = refl;
-    }
-
--- a put
-pub put_goes : (ms : MasterSettings) (r : Partner ms) (w : List Entry) (next at : End) (load : List ℕ) → IsProperEvent ms (partner ms r) (event.Put at load) → AtStage ms r w next → Goes ms r w (event.Put at load) next
-put_goes ms r w next end_name.Master load p stage =
-    record { entry = entry_of (master_of ms) (deeds end_name.Master w) (quiet (move.Put load)); is = refl; stage = quiet_at_master ms r _ _ _ _ _ _ next (move.Put load) stage; follows = record { proper = p; stepped = refl }; not_other = refl; no_reset = refl; taken = λ k. cc; takes_data = refl }
-put_goes ms r w next end_name.Slave load p stage =
-    record { entry = entry_of (slave_of ms r) (deeds end_name.Slave w) (quiet (move.Put load)); is = refl; stage = quiet_at_slave ms r _ _ _ _ _ _ next (move.Put load) stage; follows = record { proper = p; stepped = refl }; not_other = refl; no_reset = refl; taken = λ k. cc; takes_data = refl }
-
--- a hold
-pub hold_goes : (ms : MasterSettings) (r : Partner ms) (w : List Entry) (next at : End) (failsafe : Bool) → AtStage ms r w next → Goes ms r w (event.Hold at failsafe) next
-hold_goes ms r w next end_name.Master failsafe stage =
-    record { entry = entry_of (master_of ms) (deeds end_name.Master w) (quiet (move.Hold failsafe)); is = refl; stage = quiet_at_master ms r _ _ _ _ _ _ next (move.Hold failsafe) stage; follows = record { proper = tt; stepped = refl }; not_other = refl; no_reset = refl; taken = λ k. cc; takes_data = refl }
-hold_goes ms r w next end_name.Slave failsafe stage =
-    record { entry = entry_of (slave_of ms r) (deeds end_name.Slave w) (quiet (move.Hold failsafe)); is = refl; stage = quiet_at_slave ms r _ _ _ _ _ _ next (move.Hold failsafe) stage; follows = record { proper = tt; stepped = refl }; not_other = refl; no_reset = refl; taken = λ k. cc; takes_data = refl }
-
--- a nonce
-pub nonce_goes : (ms : MasterSettings) (r : Partner ms) (w : List Entry) (next at : End) (id : ℕ) → IsProperEvent ms (partner ms r) (event.Nonce at id) → AtStage ms r w next → Goes ms r w (event.Nonce at id) next
-nonce_goes ms r w next end_name.Master id p stage =
-    record { entry = entry_of (master_of ms) (deeds end_name.Master w) (quiet (move.Nonce id)); is = refl; stage = quiet_at_master ms r _ _ _ _ _ _ next (move.Nonce id) stage; follows = record { proper = p; stepped = refl }; not_other = refl; no_reset = refl; taken = λ k. cc; takes_data = refl }
-nonce_goes ms r w next end_name.Slave id p stage =
-    record { entry = entry_of (slave_of ms r) (deeds end_name.Slave w) (quiet (move.Nonce id)); is = refl; stage = quiet_at_slave ms r _ _ _ _ _ _ next (move.Nonce id) stage; follows = record { proper = p; stepped = refl }; not_other = refl; no_reset = refl; taken = λ k. cc; takes_data = refl }
-
--- the same before the master's first tick
-abbrev pub AtIdle : (ms : MasterSettings) → Partner ms → List Entry → Type 0
-AtIdle ms r w = IsIdle ms r (deeds end_name.Master w) (deeds end_name.Slave w) (deliveries_to end_name.Master w) (deliveries_to end_name.Slave w)
-
-pub idle_tick : (ms : MasterSettings) (r : Partner ms) (w : List Entry) → may_tick ms (partner ms r) w end_name.Slave ≡ true → AtIdle ms r w → Enters ms r w (event.Tick end_name.Slave) (AtIdle ms r)
-idle_tick ms r w h idle =
-    let es : List Deed = deeds end_name.Slave w in
-    let stepped : step (slave_of ms r) es move.Tick ≡ quiet move.Tick = slave-tick ms r w h in
-    record {
-      entry = entry_of (slave_of ms r) es (quiet move.Tick);
-      is = ap (λ d. Some (entry_of (slave_of ms r) es d)) stepped;
-      stage = idle_at_slave ms r _ _ _ _ move.Tick idle;
-      follows = record { proper = tt; stepped = ap (entry_of (slave_of ms r) es) (sym stepped) };
-      not_other = refl;
-      no_reset = refl;
-      taken = λ k. cc;
-      takes_data = refl;
-    }
-
-pub idle_put : (ms : MasterSettings) (r : Partner ms) (w : List Entry) (at : End) (load : List ℕ) → IsProperEvent ms (partner ms r) (event.Put at load) → AtIdle ms r w → Enters ms r w (event.Put at load) (AtIdle ms r)
-idle_put ms r w end_name.Master load p idle =
-    record { entry = entry_of (master_of ms) (deeds end_name.Master w) (quiet (move.Put load)); is = refl; stage = idle_at_master ms r _ _ _ _ (move.Put load) refl idle; follows = record { proper = p; stepped = refl }; not_other = refl; no_reset = refl; taken = λ k. cc; takes_data = refl }
-idle_put ms r w end_name.Slave load p idle =
-    record { entry = entry_of (slave_of ms r) (deeds end_name.Slave w) (quiet (move.Put load)); is = refl; stage = idle_at_slave ms r _ _ _ _ (move.Put load) idle; follows = record { proper = p; stepped = refl }; not_other = refl; no_reset = refl; taken = λ k. cc; takes_data = refl }
-
-pub idle_hold : (ms : MasterSettings) (r : Partner ms) (w : List Entry) (at : End) (failsafe : Bool) → AtIdle ms r w → Enters ms r w (event.Hold at failsafe) (AtIdle ms r)
-idle_hold ms r w end_name.Master failsafe idle =
-    record { entry = entry_of (master_of ms) (deeds end_name.Master w) (quiet (move.Hold failsafe)); is = refl; stage = idle_at_master ms r _ _ _ _ (move.Hold failsafe) refl idle; follows = record { proper = tt; stepped = refl }; not_other = refl; no_reset = refl; taken = λ k. cc; takes_data = refl }
-idle_hold ms r w end_name.Slave failsafe idle =
-    record { entry = entry_of (slave_of ms r) (deeds end_name.Slave w) (quiet (move.Hold failsafe)); is = refl; stage = idle_at_slave ms r _ _ _ _ (move.Hold failsafe) idle; follows = record { proper = tt; stepped = refl }; not_other = refl; no_reset = refl; taken = λ k. cc; takes_data = refl }
-
-pub idle_nonce : (ms : MasterSettings) (r : Partner ms) (w : List Entry) (at : End) (id : ℕ) → IsProperEvent ms (partner ms r) (event.Nonce at id) → AtIdle ms r w → Enters ms r w (event.Nonce at id) (AtIdle ms r)
-idle_nonce ms r w end_name.Master id p idle =
-    record { entry = entry_of (master_of ms) (deeds end_name.Master w) (quiet (move.Nonce id)); is = refl; stage = idle_at_master ms r _ _ _ _ (move.Nonce id) refl idle; follows = record { proper = p; stepped = refl }; not_other = refl; no_reset = refl; taken = λ k. cc; takes_data = refl }
-idle_nonce ms r w end_name.Slave id p idle =
-    record { entry = entry_of (slave_of ms r) (deeds end_name.Slave w) (quiet (move.Nonce id)); is = refl; stage = idle_at_slave ms r _ _ _ _ (move.Nonce id) idle; follows = record { proper = p; stepped = refl }; not_other = refl; no_reset = refl; taken = λ k. cc; takes_data = refl }
-
 -- the master's first tick sends its Reset frame
-pub first_tick : (ms : MasterSettings) (r : Partner ms) (w : List Entry) → may_tick ms (partner ms r) w end_name.Master ≡ true → AtIdle ms r w → Goes ms r w (event.Tick end_name.Master) end_name.Slave
-first_tick ms r w h idle =
+pub first_tick : (ms : MasterSettings) (r : Partner ms) (w : List Entry) → may_tick ms (partner ms r) w end_name.Master ≡ true → had_tick (deeds end_name.Master w) ≡ false → AtIdle ms r w
+    → (x : Entry) × Enters ms r w (event.Tick end_name.Master) x × (had_tick (deeds end_name.Master (x ∷ w)) ≡ true) × AtStage ms r (x ∷ w) end_name.Slave
+first_tick ms r w h none idle =
     let em : List Deed = deeds end_name.Master w in
     let d : Deed = record { what = move.Tick; did = record nothing { sent = true }; sent = reset_frame 0 ms.lengths.master } in
-    let reaches : reaches_limit (master_of ms) em ≡ true = if-not-ticked (had_tick em) (reaches_limit (master_of ms) em) idle.not_ticked h in
+    let reaches : reaches_limit (master_of ms) em ≡ true = if-not-ticked (had_tick em) (reaches_limit (master_of ms) em) none h in
     let stepped : step (master_of ms) em move.Tick ≡ d =
     ap (λ (b : Bool). deed_of (master_of ms) em move.Tick (if b then on_expiry (state_of (master_of ms) em) (master_of ms) else nothing)) reaches
     ∙ ap (λ (p : State). deed_of (master_of ms) em move.Tick (on_expiry p (master_of ms))) (ap phase_sent idle.outside.master.none_sent) in
+    (entry_of (master_of ms) em d,
     record {
-      entry = entry_of (master_of ms) em d;
       is = ap (λ d. Some (entry_of (master_of ms) em d)) stepped;
-      stage = Asked (record {
-        outside = record {
-          master = record { none_sent = refl; none_taken = refl; none_kept = refl; no_own = refl; no_taken = refl };
-          slave = idle.outside.slave;
-          no_id = refl;
-          phase = idle.outside.phase;
-          none_joined = idle.outside.none_joined;
-        };
-        last = record { older = own em; is = refl };
-        newest = record { item = _; older = items_of end_name.Master (items w); is = refl; bytes_are = refl };
-        master_count = idle.master_count;
-        slave_count = idle.slave_count;
-        ticked = refl;
-      });
       follows = record { proper = tt; stepped = ap (entry_of (master_of ms) em) (sym stepped) };
       not_other = refl;
       no_reset = refl;
       taken = λ k. cc;
       takes_data = refl;
-    }
+    },
+    refl,
+    Asked (record {
+      outside = record { master = fresh; slave = idle.outside.slave; no_id = refl; phase = idle.outside.phase; none_joined = idle.outside.none_joined };
+      last = record { older = own em; is = refl };
+      newest = record { item = _; older = items_of end_name.Master (items w); is = refl; bytes_are = refl };
+      master_count = idle.master_count;
+      slave_count = idle.slave_count;
+    }))

@@ -1,5 +1,5 @@
 -- Under an honest schedule a run of matching ends serves.
-use Rattle.std.proofs.Common.{◌≡◌, ℕ, suc, ◌+◌, ◌≤◌, ◌==◌, nat_le, nat_lt, List, [], ◌∷◌, length, Bool, true, false, All, Option, if◌then◌else◌, refl, sym, ap, ap₂, subst, ◌∙◌, arith}
+use Rattle.std.proofs.Common.{◌≡◌, ℕ, suc, ◌+◌, ◌≤◌, ◌==◌, nat_le, nat_lt, List, [], ◌∷◌, length, Bool, true, false, ◌&&◌, ◌||◌, All, Option, if◌then◌else◌, refl, sym, ap, ap₂, subst, ◌∙◌, arith}
 use Rattle.std.specs.List.{list_all}
 use Rattle.std.proofs.lemmas.Bool.{and_parts, eqb-true}
 use Rattle.std.proofs.lemmas.Bool.Decides.{nat_tests}
@@ -8,6 +8,8 @@ use Rattle.fsoe_base.specs.declared.command.End.{End}
 use Rattle.fsoe_base.specs.declared.command.End.TheVariants as end_name
 use Rattle.fsoe_base.specs.declared.command.State.{State}
 use Rattle.fsoe_base.specs.declared.command.State.TheVariants as state
+use Rattle.param_load.specs.declared.entry.Move.{Move}
+use Rattle.param_load.specs.declared.entry.Move.TheVariants as move
 use Rattle.param_load.specs.declared.entry.Entry.{Entry}
 use Rattle.param_load.specs.declared.master_settings.MasterSettings.{MasterSettings}
 use Rattle.param_load.specs.declared.slave_settings.SlaveSettings.{SlaveSettings}
@@ -18,14 +20,14 @@ use Rattle.end_model.specs.Readiness.{phase_sent, state_of}
 use Rattle.exchange_model.specs.Ends.{same_end, peer}
 use Rattle.exchange_model.specs.World.{setup_of, deed_in, deeds, entry_at, going_on, world_after, world, IsProperEvent, IsNextEntry, IsWorld}
 use Rattle.exchange_model.specs.Other.{first_of_both, NoOther}
-use Rattle.exchange_model.specs.Honest.{exchanges, is_plain, in_turn, may_happen, if_on, keeps_time}
-use Rattle.exchange_model.specs.Serving.{deliveries_to, state_told, InDataAfter, InDataThroughout, HasNoReset, TakesDelivery, TakesDataThroughout}
+use Rattle.exchange_model.specs.Honest.{exchanges, is_plain, in_turn, ticks_first, is_tick, had_tick, may_happen, if_on, keeps_time}
+use Rattle.exchange_model.specs.Serving.{is_delivery, deliveries_to, state_told, InDataAfter, InDataThroughout, HasNoReset, TakesDelivery, TakesDataThroughout}
 use Rattle.exchange_model.proofs.Worlds.Projection.{same, next_told}
-use Rattle.exchange_model.proofs.Honest.QuietEvents.{tick_goes, put_goes, hold_goes, nonce_goes, AtIdle}
+use Rattle.exchange_model.proofs.Honest.QuietEvents.{quiet_entry, IsQuiet, quiet_enters, both_kept, quiet_tick, quiet_put, quiet_hold, quiet_nonce, AtIdle, first_tick}
 use Rattle.exchange_model.proofs.Honest.SlaveTurn.{Accepts}
 use Rattle.exchange_model.proofs.Honest.StageSteps.{AtStage, Enters, Goes, asked_delivered, replied_delivered}
 use Rattle.exchange_model.proofs.Honest.StageTurns.{down_delivered, up_delivered, some_session, some_connection, some_parameter}
-use Rattle.exchange_model.proofs.Honest.Stages.{Asked, Replied, Down, Up}
+use Rattle.exchange_model.proofs.Honest.Stages.{Both, both, IsOutside, Stage, IsIdle, Asked, Replied, Down, Up}
 use Rattle.exchange_model.proofs.Honest.Turns.{Partner, partner, session_pieces, connection_pieces, parameter_pieces, spot_after, spot_data, turn_data, at_least, none_yet}
 
 told-head : (ms : MasterSettings) (ss : SlaveSettings) (which : End) (x : Entry) (w : List Entry) (mine : Bool) → IsNextEntry (setup_of ms ss x.end) x (deeds x.end w)
@@ -52,38 +54,34 @@ not-more a b c m h = grind (arith, nat_tests)
 opens : (test : ℕ → Bool) (told p : State) (m k : ℕ) → told ≡ p → m ≡ k → same_phase state.Data p ≡ test k → same_phase state.Data told ≡ test m
 opens test told p m k h i j = ap (same_phase state.Data) h ∙ (j ∙ ap test (sym i))
 
+-- where no session has begun, neither end is
+outside-opens : (ms : MasterSettings) (r : Partner ms) (w : List Entry) (n : ℕ) → IsWorld ms (partner ms r) w → IsOutside (both ms r w) → deliveries_to end_name.Master w ≡ 0 → deliveries_to end_name.Slave w ≡ n → n ≤ 1 → InDataAfter (exchanges ms) w
+outside-opens ms r w n world h none few most =
+    record {
+      master = opens (nat_le (exchanges ms)) _ state.Reset (deliveries_to end_name.Master w) 0 (told-state ms (partner ms r) end_name.Master w world ∙ ap phase_sent h.master.none_sent) none (sym (none_yet (session_pieces ms) (connection_pieces ms) (parameter_pieces ms)));
+      slave = opens (nat_lt (exchanges ms)) _ state.Reset (deliveries_to end_name.Slave w) n (told-state ms (partner ms r) end_name.Slave w world ∙ h.phase) few (sym (not-more (session_pieces ms) (connection_pieces ms) (parameter_pieces ms) n most));
+    }
+
+pub idle_opens : (ms : MasterSettings) (r : Partner ms) (w : List Entry) → IsWorld ms (partner ms r) w → AtIdle ms r w → InDataAfter (exchanges ms) w
+idle_opens ms r w world h = outside-opens ms r w 0 world h.outside h.master_count h.slave_count (omega arith)
+
 -- a stage says which ends are in Data
-pub stage_opens : (ms : MasterSettings) (r : Partner ms) (w : List Entry) (next : End) → IsWorld ms (partner ms r) w → AtStage ms r w next → InDataAfter (exchanges ms) w
-stage_opens ms r w next world (Asked h) =
-    record {
-      master = opens (nat_le (exchanges ms)) _ state.Reset (deliveries_to end_name.Master w) 0 (told-state ms (partner ms r) end_name.Master w world ∙ ap phase_sent h.outside.master.none_sent) h.master_count (sym (none_yet (session_pieces ms) (connection_pieces ms) (parameter_pieces ms)));
-      slave = opens (nat_lt (exchanges ms)) _ state.Reset (deliveries_to end_name.Slave w) 0 (told-state ms (partner ms r) end_name.Slave w world ∙ h.outside.phase) h.slave_count (sym (not-more (session_pieces ms) (connection_pieces ms) (parameter_pieces ms) 0 (omega arith)));
-    }
-stage_opens ms r w next world (Replied h) =
-    record {
-      master = opens (nat_le (exchanges ms)) _ state.Reset (deliveries_to end_name.Master w) 0 (told-state ms (partner ms r) end_name.Master w world ∙ ap phase_sent h.outside.master.none_sent) h.master_count (sym (none_yet (session_pieces ms) (connection_pieces ms) (parameter_pieces ms)));
-      slave = opens (nat_lt (exchanges ms)) _ state.Reset (deliveries_to end_name.Slave w) 1 (told-state ms (partner ms r) end_name.Slave w world ∙ h.outside.phase) h.slave_count (sym (not-more (session_pieces ms) (connection_pieces ms) (parameter_pieces ms) 1 (omega arith)));
-    }
-stage_opens ms r w next world (Down h) =
+stage-opens : (ms : MasterSettings) (r : Partner ms) (w : List Entry) (next : End) → IsWorld ms (partner ms r) w → AtStage ms r w next → InDataAfter (exchanges ms) w
+stage-opens ms r w next world (Asked h) = outside-opens ms r w 0 world h.outside h.master_count h.slave_count (omega arith)
+stage-opens ms r w next world (Replied h) = outside-opens ms r w 1 world h.outside h.master_count h.slave_count (omega arith)
+stage-opens ms r w next world (Down h) =
     record {
       master = opens (nat_le (exchanges ms)) _ (phase_of h.command) (deliveries_to end_name.Master w) (suc h.k) (told-state ms (partner ms r) end_name.Master w world ∙ h.master.phase) h.master_count
           (spot_data _ _ _ (phase_of h.command) _ _ _ (suc h.k) (spot_after _ _ _ h.command h.p h.a h.b h.d h.k (some_session ms) (some_connection ms) (some_parameter ms) h.turn) ∙ at_least (session_pieces ms) (connection_pieces ms) (parameter_pieces ms) (suc h.k));
       slave = opens (nat_lt (exchanges ms)) _ h.p (deliveries_to end_name.Slave w) (suc h.k) (told-state ms (partner ms r) end_name.Slave w world ∙ h.slave.phase) h.slave_count
           (turn_data _ _ _ h.command h.p h.a h.b h.d h.k h.turn ∙ more-than (session_pieces ms) (connection_pieces ms) (parameter_pieces ms) h.k);
     }
-stage_opens ms r w next world (Up h) =
+stage-opens ms r w next world (Up h) =
     record {
       master = opens (nat_le (exchanges ms)) _ (phase_of h.command) (deliveries_to end_name.Master w) h.k (told-state ms (partner ms r) end_name.Master w world ∙ h.master.phase) h.master_count
           (spot_data _ _ _ (phase_of h.command) _ _ _ h.k h.spot ∙ at_least (session_pieces ms) (connection_pieces ms) (parameter_pieces ms) h.k);
       slave = opens (nat_lt (exchanges ms)) _ (phase_of h.command) (deliveries_to end_name.Slave w) (suc h.k) (told-state ms (partner ms r) end_name.Slave w world ∙ h.slave.phase) h.slave_count
           (spot_data _ _ _ (phase_of h.command) _ _ _ h.k h.spot ∙ more-than (session_pieces ms) (connection_pieces ms) (parameter_pieces ms) h.k);
-    }
-
-pub idle_opens : (ms : MasterSettings) (r : Partner ms) (w : List Entry) → IsWorld ms (partner ms r) w → AtIdle ms r w → InDataAfter (exchanges ms) w
-idle_opens ms r w world h =
-    record {
-      master = opens (nat_le (exchanges ms)) _ state.Reset (deliveries_to end_name.Master w) 0 (told-state ms (partner ms r) end_name.Master w world ∙ ap phase_sent h.outside.master.none_sent) h.master_count (sym (none_yet (session_pieces ms) (connection_pieces ms) (parameter_pieces ms)));
-      slave = opens (nat_lt (exchanges ms)) _ state.Reset (deliveries_to end_name.Slave w) 0 (told-state ms (partner ms r) end_name.Slave w world ∙ h.outside.phase) h.slave_count (sym (not-more (session_pieces ms) (connection_pieces ms) (parameter_pieces ms) 0 (omega arith)));
     }
 
 -- a run has served so far
@@ -95,15 +93,15 @@ pub record Served (ms : MasterSettings) (r : Partner ms) (w : List Entry) : Type
   pub reaches_data : InDataThroughout (exchanges ms) w
   pub takes_data : TakesDataThroughout (exchanges ms) w
 
-pub served_more : (ms : MasterSettings) (r : Partner ms) (w : List Entry) (event : Event) (After : List Entry → Type 0) (x : Enters ms r w event After) → InDataAfter (exchanges ms) (x.entry ∷ w) → Served ms r w → Served ms r (x.entry ∷ w)
-served_more ms r w event After x opened h =
+served-more : (ms : MasterSettings) (r : Partner ms) (w : List Entry) (event : Event) (x : Entry) → Enters ms r w event x → InDataAfter (exchanges ms) (x ∷ w) → Served ms r w → Served ms r (x ∷ w)
+served-more ms r w event x enters opened h =
     record {
-      is_world = (x.follows, h.is_world);
-      no_other = ap₂ (λ (o : Option ℕ) (b : Bool). first_of_both o b (suc (length w))) h.no_other x.not_other;
-      no_reset = All-cons HasNoReset x.entry w x.no_reset h.no_reset;
-      taken = All-cons TakesDelivery x.entry w x.taken h.taken;
+      is_world = (enters.follows, h.is_world);
+      no_other = ap₂ (λ (o : Option ℕ) (b : Bool). first_of_both o b (suc (length w))) h.no_other enters.not_other;
+      no_reset = All-cons HasNoReset x w enters.no_reset h.no_reset;
+      taken = All-cons TakesDelivery x w enters.taken h.taken;
       reaches_data = (opened, h.reaches_data);
-      takes_data = (x.takes_data, h.takes_data);
+      takes_data = (enters.takes_data, h.takes_data);
     }
 
 -- a run that goes on has served at its end, and stopped at no event
@@ -111,22 +109,13 @@ pub record ServesOn (ms : MasterSettings) (r : Partner ms) (events : List Event)
   pub served : Served ms r (world_after ms (partner ms r) events w)
   pub whole : length (world_after ms (partner ms r) events w) ≡ length events + length w
 
-pub goes_on : (ms : MasterSettings) (r : Partner ms) (w : List Entry) (event : Event) (events : List Event) (After : List Entry → Type 0) (x : Enters ms r w event After) → ServesOn ms r events (x.entry ∷ w) → ServesOn ms r (event ∷ events) w
-goes_on ms r w event events After x h =
-    let e : world_after ms (partner ms r) (event ∷ events) w ≡ world_after ms (partner ms r) events (x.entry ∷ w) = ap (λ (o : Option Entry). going_on w o (world_after ms (partner ms r) events)) x.is in
+goes-on : (ms : MasterSettings) (r : Partner ms) (w : List Entry) (event : Event) (events : List Event) (x : Entry) → Enters ms r w event x → ServesOn ms r events (x ∷ w) → ServesOn ms r (event ∷ events) w
+goes-on ms r w event events x enters h =
+    let e : world_after ms (partner ms r) (event ∷ events) w ≡ world_after ms (partner ms r) events (x ∷ w) = ap (λ (o : Option Entry). going_on w o (world_after ms (partner ms r) events)) enters.is in
     record {
       served = subst (λ (v : List Entry). Served ms r v) (sym e) h.served;
       whole = ap length e ∙ (h.whole ∙ omega arith);
     }
-
--- the ticks after an event are honest
-pub keeps_on : (ms : MasterSettings) (r : Partner ms) (w : List Entry) (event : Event) (events : List Event) (After : List Entry → Type 0) (x : Enters ms r w event After) → keeps_time ms (partner ms r) (event ∷ events) w ≡ true
-    → keeps_time ms (partner ms r) events (x.entry ∷ w) ≡ true
-keeps_on ms r w event events After x h =
-    sym (ap (λ (o : Option Entry). if_on w o (keeps_time ms (partner ms r) events)) x.is) ∙ (and_parts (may_happen ms (partner ms r) w event) (if_on w (entry_at ms (partner ms r) w event) (keeps_time ms (partner ms r) events)) h).1
-
-pub may_now : (ms : MasterSettings) (r : Partner ms) (w : List Entry) (event : Event) (events : List Event) → keeps_time ms (partner ms r) (event ∷ events) w ≡ true → may_happen ms (partner ms r) w event ≡ true
-may_now ms r w event events h = (and_parts (may_happen ms (partner ms r) w event) (if_on w (entry_at ms (partner ms r) w event) (keeps_time ms (partner ms r) events)) h).0
 
 -- the frame on its way is delivered
 delivery-goes : (ms : MasterSettings) (r : Partner ms) (w : List Entry) (next : End) → Accepts ms r → IsWorld ms (partner ms r) w → AtStage ms r w next → Goes ms r w (event.Deliver next 1) (peer next)
@@ -140,37 +129,81 @@ deliver-goes ms r w next to back accepts world h k stage =
     subst (λ (to : End). Goes ms r w (event.Deliver to back) (peer next)) (sym h)
     (subst (λ (back : ℕ). Goes ms r w (event.Deliver next back) (peer next)) (sym k) (delivery-goes ms r w next accepts world stage))
 
--- from a stage on
-pub serves_on : (ms : MasterSettings) (r : Partner ms) (events : List Event) (w : List Entry) (next : End) → Accepts ms r → Served ms r w → AtStage ms r w next → All (IsProperEvent ms (partner ms r)) events
-    → list_all is_plain events ≡ true → in_turn next events ≡ true → keeps_time ms (partner ms r) events w ≡ true → ServesOn ms r events w
-serves_on ms r [] w next accepts served stage proper plain turn time = record { served = served; whole = omega arith }
-serves_on ms r (event.Deliver to back ∷ events) w next accepts served stage proper plain turn time =
-    let p = and_parts (back == 1) (list_all is_plain events) plain in
+-- what is left of an honest schedule: the master's first tick comes, or the frame on its way is delivered next
+pub data Ready (ms : MasterSettings) (r : Partner ms) (w : List Entry) (events : List Event) : Type 0 where
+  Waits : had_tick (deeds end_name.Master w) ≡ false → AtIdle ms r w → in_turn end_name.Slave events ≡ true → ticks_first events ≡ true → Ready ms r w events
+  Runs : (next : End) → had_tick (deeds end_name.Master w) ≡ true → AtStage ms r w next → in_turn next events ≡ true → Ready ms r w events
+
+ready-opens : (ms : MasterSettings) (r : Partner ms) (w : List Entry) (events : List Event) → IsWorld ms (partner ms r) w → Ready ms r w events → InDataAfter (exchanges ms) w
+ready-opens ms r w events world (Waits none idle turn first) = idle_opens ms r w world idle
+ready-opens ms r w events world (Runs next had stage turn) = stage-opens ms r w next world stage
+
+-- a master that had a tick has had it
+ticked-more : (x : Entry) (w : List Entry) → had_tick (deeds end_name.Master w) ≡ true → had_tick (deeds end_name.Master (x ∷ w)) ≡ true
+ticked-more x w h = by-end (same_end end_name.Master x.end)
+  where
+    or-true : (a b : Bool) → b ≡ true → (a || b) ≡ true
+    or-true true b h = refl
+    or-true false b h = h
+    by-end : (mine : Bool) → had_tick (if mine then deed_in x ∷ deeds end_name.Master w else deeds end_name.Master w) ≡ true
+    by-end true = or-true (is_tick x.what) (had_tick (deeds end_name.Master w)) h
+    by-end false = h
+
+stage-kept : (ms : MasterSettings) (r : Partner ms) (w : List Entry) (at : End) (what : Move) (next : End) → is_delivery what ≡ false → AtStage ms r w next → AtStage ms r (quiet_entry ms r w at what ∷ w) next
+stage-kept ms r w at what next h stage = subst (λ (x : Both). Stage ms r x next) (sym (both_kept ms r w at what h)) stage
+
+-- a quiet event but the master's first tick leaves what is left
+quiet-ready : (ms : MasterSettings) (r : Partner ms) (w : List Entry) (at : End) (what : Move) (event : Event) (events : List Event) → is_delivery what ≡ false → (is_tick what && same_end end_name.Master at) ≡ false
+    → ticks_first (event ∷ events) ≡ ticks_first events → ((next : End) → in_turn next (event ∷ events) ≡ in_turn next events) → Ready ms r w (event ∷ events) → Ready ms r (quiet_entry ms r w at what ∷ w) events
+quiet-ready ms r w at what event events h k same turns (Waits none idle turn first) =
+    Waits (untold at k) (subst (λ (x : Both). IsIdle x) (sym (both_kept ms r w at what h)) idle) (sym (turns end_name.Slave) ∙ turn) (sym same ∙ first)
+  where
+    untold : (at : End) → (is_tick what && same_end end_name.Master at) ≡ false → had_tick (deeds end_name.Master (quiet_entry ms r w at what ∷ w)) ≡ false
+    untold end_name.Slave k = none
+    untold end_name.Master k = no-tick (is_tick what) k
+      where
+        no-tick : (b : Bool) → (b && true) ≡ false → (b || had_tick (deeds end_name.Master w)) ≡ false
+        no-tick false k = none
+        no-tick true k = cc
+quiet-ready ms r w at what event events h k same turns (Runs next had stage turn) =
+    Runs next (ticked-more (quiet_entry ms r w at what) w had) (stage-kept ms r w at what next h stage) (sym (turns next) ∙ turn)
+
+-- each event of an honest schedule leaves the rest of it
+event-goes : (ms : MasterSettings) (r : Partner ms) (w : List Entry) (event : Event) (events : List Event) → Accepts ms r → IsWorld ms (partner ms r) w → IsProperEvent ms (partner ms r) event → is_plain event ≡ true
+    → may_happen ms (partner ms r) w event ≡ true → Ready ms r w (event ∷ events) → (x : Entry) × Enters ms r w event x × Ready ms r (x ∷ w) events
+event-goes ms r w (event.Deliver to back) events accepts world proper plain may (Waits none idle turn first) = absurd (cc first)
+event-goes ms r w (event.Deliver to back) events accepts world proper plain may (Runs next had stage turn) =
     let t = and_parts (same_end to next) (in_turn (peer next) events) turn in
-    let x : Goes ms r w (event.Deliver to back) (peer next) = deliver-goes ms r w next to back accepts served.is_world (sym (same to next t.0)) (eqb-true back 1 p.0) stage in
-    goes_on ms r w (event.Deliver to back) events _ x
-    (serves_on ms r events (x.entry ∷ w) (peer next) accepts (served_more ms r w (event.Deliver to back) _ x (stage_opens ms r (x.entry ∷ w) (peer next) (x.follows, served.is_world) x.stage) served) x.stage
-    (All-tail (IsProperEvent ms (partner ms r)) (event.Deliver to back) events proper) p.1 t.1 (keeps_on ms r w (event.Deliver to back) events _ x time))
-serves_on ms r (event.Altered to back pos mask ∷ events) w next accepts served stage proper plain turn time = absurd (cc plain)
-serves_on ms r (event.Raw to frame ∷ events) w next accepts served stage proper plain turn time = absurd (cc plain)
-serves_on ms r (event.Local at ∷ events) w next accepts served stage proper plain turn time = absurd (cc plain)
-serves_on ms r (event.Tick at ∷ events) w next accepts served stage proper plain turn time =
-    let x : Goes ms r w (event.Tick at) next = tick_goes ms r w next at (may_now ms r w (event.Tick at) events time) stage in
-    goes_on ms r w (event.Tick at) events _ x
-    (serves_on ms r events (x.entry ∷ w) next accepts (served_more ms r w (event.Tick at) _ x (stage_opens ms r (x.entry ∷ w) next (x.follows, served.is_world) x.stage) served) x.stage
-    (All-tail (IsProperEvent ms (partner ms r)) (event.Tick at) events proper) plain turn (keeps_on ms r w (event.Tick at) events _ x time))
-serves_on ms r (event.Put at load ∷ events) w next accepts served stage proper plain turn time =
-    let x : Goes ms r w (event.Put at load) next = put_goes ms r w next at load (All-head (IsProperEvent ms (partner ms r)) (event.Put at load) events proper) stage in
-    goes_on ms r w (event.Put at load) events _ x
-    (serves_on ms r events (x.entry ∷ w) next accepts (served_more ms r w (event.Put at load) _ x (stage_opens ms r (x.entry ∷ w) next (x.follows, served.is_world) x.stage) served) x.stage
-    (All-tail (IsProperEvent ms (partner ms r)) (event.Put at load) events proper) plain turn (keeps_on ms r w (event.Put at load) events _ x time))
-serves_on ms r (event.Hold at failsafe ∷ events) w next accepts served stage proper plain turn time =
-    let x : Goes ms r w (event.Hold at failsafe) next = hold_goes ms r w next at failsafe stage in
-    goes_on ms r w (event.Hold at failsafe) events _ x
-    (serves_on ms r events (x.entry ∷ w) next accepts (served_more ms r w (event.Hold at failsafe) _ x (stage_opens ms r (x.entry ∷ w) next (x.follows, served.is_world) x.stage) served) x.stage
-    (All-tail (IsProperEvent ms (partner ms r)) (event.Hold at failsafe) events proper) plain turn (keeps_on ms r w (event.Hold at failsafe) events _ x time))
-serves_on ms r (event.Nonce at id ∷ events) w next accepts served stage proper plain turn time =
-    let x : Goes ms r w (event.Nonce at id) next = nonce_goes ms r w next at id (All-head (IsProperEvent ms (partner ms r)) (event.Nonce at id) events proper) stage in
-    goes_on ms r w (event.Nonce at id) events _ x
-    (serves_on ms r events (x.entry ∷ w) next accepts (served_more ms r w (event.Nonce at id) _ x (stage_opens ms r (x.entry ∷ w) next (x.follows, served.is_world) x.stage) served) x.stage
-    (All-tail (IsProperEvent ms (partner ms r)) (event.Nonce at id) events proper) plain turn (keeps_on ms r w (event.Nonce at id) events _ x time))
+    let x : Goes ms r w (event.Deliver to back) (peer next) = deliver-goes ms r w next to back accepts world (sym (same to next t.0)) (eqb-true back 1 plain) stage in
+    (x.0, x.1, Runs (peer next) (ticked-more x.0 w had) x.2 t.1)
+event-goes ms r w (event.Altered to back pos mask) events accepts world proper plain may ready = absurd (cc plain)
+event-goes ms r w (event.Raw to frame) events accepts world proper plain may ready = absurd (cc plain)
+event-goes ms r w (event.Local at) events accepts world proper plain may ready = absurd (cc plain)
+event-goes ms r w (event.Tick end_name.Master) events accepts world proper plain may (Waits none idle turn first) =
+    let x = first_tick ms r w may none idle in
+    (x.0, x.1, Runs end_name.Slave x.2 x.3 turn)
+event-goes ms r w (event.Tick end_name.Master) events accepts world proper plain may (Runs next had stage turn) =
+    (quiet_entry ms r w end_name.Master move.Tick, quiet_enters ms r w (event.Tick end_name.Master) move.Tick (quiet_tick ms r w end_name.Master may (λ k. had)), Runs next refl (stage-kept ms r w end_name.Master move.Tick next refl stage) turn)
+event-goes ms r w (event.Tick end_name.Slave) events accepts world proper plain may ready =
+    (quiet_entry ms r w end_name.Slave move.Tick, quiet_enters ms r w (event.Tick end_name.Slave) move.Tick (quiet_tick ms r w end_name.Slave may (λ k. cc)), quiet-ready ms r w end_name.Slave move.Tick (event.Tick end_name.Slave) events refl refl refl (λ n. refl) ready)
+event-goes ms r w (event.Put at load) events accepts world proper plain may ready =
+    (quiet_entry ms r w at (move.Put load), quiet_enters ms r w (event.Put at load) (move.Put load) (quiet_put ms r w at load proper), quiet-ready ms r w at (move.Put load) (event.Put at load) events refl refl refl (λ n. refl) ready)
+event-goes ms r w (event.Hold at failsafe) events accepts world proper plain may ready =
+    (quiet_entry ms r w at (move.Hold failsafe), quiet_enters ms r w (event.Hold at failsafe) (move.Hold failsafe) (quiet_hold ms r w at failsafe), quiet-ready ms r w at (move.Hold failsafe) (event.Hold at failsafe) events refl refl refl (λ n. refl) ready)
+event-goes ms r w (event.Nonce at id) events accepts world proper plain may ready =
+    (quiet_entry ms r w at (move.Nonce id), quiet_enters ms r w (event.Nonce at id) (move.Nonce id) (quiet_nonce ms r w at id proper), quiet-ready ms r w at (move.Nonce id) (event.Nonce at id) events refl refl refl (λ n. refl) ready)
+
+-- along the events
+pub serves_on : (ms : MasterSettings) (r : Partner ms) (events : List Event) (w : List Entry) → Accepts ms r → Served ms r w → Ready ms r w events → All (IsProperEvent ms (partner ms r)) events
+    → list_all is_plain events ≡ true → keeps_time ms (partner ms r) events w ≡ true → ServesOn ms r events w
+serves_on ms r [] w accepts served ready proper plain time = record { served = served; whole = omega arith }
+serves_on ms r (event ∷ events) w accepts served ready proper plain time =
+    let p = and_parts (is_plain event) (list_all is_plain events) plain in
+    let t = and_parts (may_happen ms (partner ms r) w event) (if_on w (entry_at ms (partner ms r) w event) (keeps_time ms (partner ms r) events)) time in
+    let next : (x : Entry) × Enters ms r w event x × Ready ms r (x ∷ w) events = event-goes ms r w event events accepts served.is_world (All-head (IsProperEvent ms (partner ms r)) event events proper) p.0 t.0 ready in
+    let x : Entry = next.0 in
+    let enters : Enters ms r w event x = next.1 in
+    let kept : keeps_time ms (partner ms r) events (x ∷ w) ≡ true = sym (ap (λ (o : Option Entry). if_on w o (keeps_time ms (partner ms r) events)) enters.is) ∙ t.1 in
+    goes-on ms r w event events x enters
+    (serves_on ms r events (x ∷ w) accepts (served-more ms r w event x enters (ready-opens ms r (x ∷ w) events (enters.follows, served.is_world) next.2) served) next.2
+    (All-tail (IsProperEvent ms (partner ms r)) event events proper) p.1 kept)

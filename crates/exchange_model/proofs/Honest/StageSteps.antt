@@ -35,22 +35,19 @@ use Rattle.end_model.proofs.SealedFrames.{padded_len}
 use Rattle.exchange_model.proofs.Alone.Pieces.{piece_short}
 use Rattle.exchange_model.proofs.Alone.Framed.{piece_fits}
 use Rattle.exchange_model.proofs.Honest.MasterTurn.{next}
-use Rattle.exchange_model.proofs.Honest.OnItsWay.{answering, first_on_its_way}
+use Rattle.exchange_model.proofs.Honest.OnItsWay.{answering, fresh, first_on_its_way}
 use Rattle.exchange_model.proofs.Honest.Passing.{slave_rejoins, master_starts}
 use Rattle.exchange_model.proofs.Honest.ResetFrames.{zero_load, is_reset_frame}
-use Rattle.exchange_model.proofs.Honest.Stages.{NewestAnswers, IsAsked, IsReplied, Stage, Replied, Down}
+use Rattle.exchange_model.proofs.Honest.Stages.{both, NewestAnswers, IsAsked, IsReplied, Stage, Replied, Down}
 use Rattle.exchange_model.proofs.Honest.Turns.{Partner, partner, master_of, slave_of, width, Starts, none_yet, session_pieces, connection_pieces, parameter_pieces}
 
 -- the stage of these entries
 abbrev pub AtStage : (ms : MasterSettings) → Partner ms → List Entry → End → Type 0
-AtStage ms r w next =
-    Stage ms r (deeds end_name.Master w) (deeds end_name.Slave w) (items_of end_name.Master (items w)) (items_of end_name.Slave (items w)) (deliveries_to end_name.Master w) (deliveries_to end_name.Slave w) next
+AtStage ms r w next = Stage ms r (both ms r w) next
 
--- an event leads to an entry that serves, after which this holds
-pub record Enters (ms : MasterSettings) (r : Partner ms) (w : List Entry) (event : Event) (After : List Entry → Type 0) : Type 0 where
-  pub entry : Entry
+-- an event leads to this entry, which serves
+pub record Enters (ms : MasterSettings) (r : Partner ms) (w : List Entry) (event : Event) (entry : Entry) : Type 0 where
   pub is : entry_at ms (partner ms r) w event ≡ Some entry
-  pub stage : After (entry ∷ w)
   pub follows : IsNextEntry (setup_of ms (partner ms r) entry.end) entry (deeds entry.end w)
   pub not_other : is_other (items w) entry ≡ false
   pub no_reset : HasNoReset entry
@@ -59,7 +56,7 @@ pub record Enters (ms : MasterSettings) (r : Partner ms) (w : List Entry) (event
 
 -- an event leads to the next stage
 abbrev pub Goes : (ms : MasterSettings) → Partner ms → List Entry → Event → End → Type 0
-Goes ms r w event next = Enters ms r w event (λ w. AtStage ms r w next)
+Goes ms r w event next = (x : Entry) × Enters ms r w event x × AtStage ms r (x ∷ w) next
 
 -- an answer that is the newest of its end is the awaited one
 awaited-newest : (mine theirs : List Item) (f : List ℕ) (h : NewestAnswers mine theirs f) → answer_among mine (newest theirs) ≡ Some h.newest.item
@@ -113,43 +110,38 @@ pub delivered_entry : (s : Setup) (e : List Deed) (frames older : List (List ℕ
 delivered_entry s e frames older f d h k = ap (λ frames. entry_on s e (delivery (back_th 1 frames))) h ∙ ap (λ d. Some (entry_of s e d)) k
 
 -- the master's Reset frame comes to the slave
-pub asked_delivered : (ms : MasterSettings) (r : Partner ms) (w : List Entry)
-    → IsAsked ms r (deeds end_name.Master w) (deeds end_name.Slave w) (items_of end_name.Master (items w)) (items_of end_name.Slave (items w)) (deliveries_to end_name.Master w) (deliveries_to end_name.Slave w)
-    → Goes ms r w (event.Deliver end_name.Slave 1) end_name.Master
+pub asked_delivered : (ms : MasterSettings) (r : Partner ms) (w : List Entry) → IsAsked ms r (both ms r w) → Goes ms r w (event.Deliver end_name.Slave 1) end_name.Master
 asked_delivered ms r w h =
     let es : List Deed = deeds end_name.Slave w in
     let f : List ℕ = reset_frame 0 ms.lengths.master in
     let d : Deed = answering f command.Reset (zero_load ms.lengths.master) (reset_frame 0 ms.lengths.slave) in
     let stepped : step (slave_of ms r) es (move.Deliver f) ≡ d =
     slave_rejoins (partner ms r) es f (zero_load ms.lengths.master) h.outside.phase (is_reset_frame (slave_of ms r) es ms.lengths.valid_master h.outside.slave.none_kept) in
+    (entry_of (slave_of ms r) es d,
     record {
-      entry = entry_of (slave_of ms r) es d;
       is = delivered_entry (slave_of ms r) es (own (deeds end_name.Master w)) h.last.older f d h.last.is stepped;
-      stage = Replied (record {
-        outside = record {
-          master = h.outside.master;
-          slave = record { none_sent = refl; none_taken = refl; none_kept = refl; no_own = refl; no_taken = refl };
-          no_id = h.outside.no_id;
-          phase = refl;
-          none_joined = λ phase. refl;
-        };
-        last = record { older = own es; is = refl };
-        newest = record { item = _; older = items_of end_name.Slave (items w); is = refl; bytes_are = refl };
-        master_count = h.master_count;
-        slave_count = ap suc h.slave_count;
-        ticked = h.ticked;
-      });
       follows = record { proper = tt; stepped = ap (entry_of (slave_of ms r) es) (sym stepped) };
       not_other = refl;
       no_reset = refl;
       taken = λ k. refl;
       takes_data = sym (ap (nat_le (exchanges ms)) h.slave_count ∙ none_yet (session_pieces ms) (connection_pieces ms) (parameter_pieces ms));
-    }
+    },
+    Replied (record {
+      outside = record {
+        master = h.outside.master;
+        slave = fresh;
+        no_id = h.outside.no_id;
+        phase = refl;
+        none_joined = λ phase. refl;
+      };
+      last = record { older = own es; is = refl };
+      newest = record { item = _; older = items_of end_name.Slave (items w); is = refl; bytes_are = refl };
+      master_count = h.master_count;
+      slave_count = ap suc h.slave_count;
+    }))
 
 -- the slave's Reset frame comes to the master
-pub replied_delivered : (ms : MasterSettings) (r : Partner ms) (w : List Entry)
-    → IsReplied ms r (deeds end_name.Master w) (deeds end_name.Slave w) (items_of end_name.Master (items w)) (items_of end_name.Slave (items w)) (deliveries_to end_name.Master w) (deliveries_to end_name.Slave w)
-    → Goes ms r w (event.Deliver end_name.Master 1) end_name.Slave
+pub replied_delivered : (ms : MasterSettings) (r : Partner ms) (w : List Entry) → IsReplied ms r (both ms r w) → Goes ms r w (event.Deliver end_name.Master 1) end_name.Slave
 replied_delivered ms r w h =
     let em : List Deed = deeds end_name.Master w in
     let es : List Deed = deeds end_name.Slave w in
@@ -162,55 +154,54 @@ replied_delivered ms r w h =
     let d : Deed = answering f command.Reset load g in
     let stepped : step (master_of ms) em (move.Deliver f) ≡ d =
     master_starts ms em f _ (ap phase_sent h.outside.master.none_sent) (is_reset_frame (master_of ms) em ms.lengths.valid_slave h.outside.master.none_kept) in
+    (entry_of (master_of ms) em d,
     record {
-      entry = entry_of (master_of ms) em d;
       is = delivered_entry (master_of ms) em (own es) h.last.older f d h.last.is stepped;
-      stage = Down (record {
-        id = id;
-        command = command.Session;
-        p = state.Reset;
-        a = 0;
-        b = 0;
-        d = 0;
-        k = 0;
-        conn = 0;
-        load = made;
-        frame = g;
-        last = record { older = own em; is = refl };
-        in_session = refl;
-        way = first_on_its_way (master_of ms) (slave_of ms r) (since em) (since es) f load 0 command.Session made long refl h.outside.master h.outside.slave;
-        turn = Starts;
-        carries = (refl, refl);
-        master = record {
-          phase = refl;
-          session = ap (λ t. suc (count_in state.Session t)) h.outside.master.none_sent;
-          connection = ap (count_in state.Connection) h.outside.master.none_sent;
-          parameters = ap (count_in state.Parameter) h.outside.master.none_sent;
-          id_is = ap (λ o. option_or o (Some (nonce (OfMaster ms) em))) h.outside.no_id ∙ ap Some (sym (ap (λ o. unwrap_or o (nonce (OfMaster ms) em)) h.outside.no_id));
-        };
-        slave = record {
-          phase = h.outside.phase;
-          session = h.outside.none_joined state.Session;
-          connection = h.outside.none_joined state.Connection;
-          parameters = h.outside.none_joined state.Parameter;
-          ids = ap (count_in state.Session) h.outside.slave.none_taken;
-          conn = ap (first_conn ms.lengths.master) h.outside.slave.none_taken;
-        };
-        newest = record {
-          newest = record { item = _; older = items_of end_name.Master (items w); is = refl; bytes_are = refl };
-          answered = h.newest.item;
-          theirs_older = h.newest.older;
-          theirs_are = h.newest.is;
-          answers = ap (λ xs. number_if f (newest xs)) h.newest.is ∙ number-found f h.newest.item h.newest.bytes_are;
-          in_session = refl;
-        };
-        master_count = ap suc h.master_count;
-        slave_count = h.slave_count;
-        ticked = h.ticked;
-      });
       follows = record { proper = tt; stepped = ap (entry_of (master_of ms) em) (sym stepped) };
       not_other = refl;
       no_reset = refl;
       taken = λ k. refl;
       takes_data = sym (ap (nat_le (exchanges ms)) h.master_count ∙ none_yet (session_pieces ms) (connection_pieces ms) (parameter_pieces ms));
-    }
+    },
+    Down (record {
+      id = id;
+      command = command.Session;
+      p = state.Reset;
+      a = 0;
+      b = 0;
+      d = 0;
+      k = 0;
+      conn = 0;
+      load = made;
+      frame = g;
+      last = record { older = own em; is = refl };
+      in_session = refl;
+      way = first_on_its_way (master_of ms) (slave_of ms r) (since em) (since es) f load 0 command.Session made long refl h.outside.master h.outside.slave;
+      turn = Starts;
+      carries = (refl, refl);
+      master = record {
+        phase = refl;
+        session = ap (λ t. suc (count_in state.Session t)) h.outside.master.none_sent;
+        connection = ap (count_in state.Connection) h.outside.master.none_sent;
+        parameters = ap (count_in state.Parameter) h.outside.master.none_sent;
+        id_is = ap (λ o. option_or o (Some (nonce (OfMaster ms) em))) h.outside.no_id ∙ ap Some (sym (ap (λ o. unwrap_or o (nonce (OfMaster ms) em)) h.outside.no_id));
+      };
+      slave = record {
+        phase = h.outside.phase;
+        session = h.outside.none_joined state.Session;
+        connection = h.outside.none_joined state.Connection;
+        parameters = h.outside.none_joined state.Parameter;
+        ids = ap (count_in state.Session) h.outside.slave.none_taken;
+        conn = ap (first_conn ms.lengths.master) h.outside.slave.none_taken;
+      };
+      newest = record {
+        newest = record { item = _; older = items_of end_name.Master (items w); is = refl; bytes_are = refl };
+        answered = h.newest.item;
+        theirs_older = h.newest.older;
+        theirs_are = h.newest.is;
+        answers = ap (λ xs. number_if f (newest xs)) h.newest.is ∙ number-found f h.newest.item h.newest.bytes_are;
+        in_session = refl;
+      };
+      master_count = ap suc h.master_count;
+      slave_count = h.slave_count;
+    }))

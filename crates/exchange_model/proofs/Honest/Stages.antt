@@ -1,6 +1,5 @@
--- The stages of an honest run: which frame is on its way, and where both ends stand. m and n are the deliveries to the master and
--- to the slave so far.
-use Rattle.std.proofs.Common.{◌≡◌, ℕ, suc, List, [], ◌∷◌, true, false, Some, None}
+-- The stages of an honest run: which frame is on its way, and where both ends stand.
+use Rattle.std.proofs.Common.{◌≡◌, ℕ, suc, List, [], ◌∷◌, false, Option, Some, None}
 use Rattle.fsoe_base.specs.declared.command.End.{End}
 use Rattle.fsoe_base.specs.declared.command.End.TheVariants as end_name
 use Rattle.fsoe_base.specs.declared.command.State.{State}
@@ -14,12 +13,14 @@ use Rattle.end_model.specs.Deed.{Deed}
 use Rattle.end_model.specs.Chain.{since, own}
 use Rattle.end_model.specs.Payloads.{joined, id_sent}
 use Rattle.end_model.specs.Readiness.{phase_taken}
-use Rattle.exchange_model.specs.Honest.{had_tick}
-use Rattle.exchange_model.specs.Items.{Item}
-use Rattle.exchange_model.proofs.Honest.OnItsWay.{OnItsWay, Fresh}
+use Rattle.param_load.specs.declared.entry.Entry.{Entry}
+use Rattle.exchange_model.specs.World.{deeds}
+use Rattle.exchange_model.specs.Items.{Item, items_of, items}
+use Rattle.exchange_model.specs.Serving.{deliveries_to}
+use Rattle.exchange_model.proofs.Honest.OnItsWay.{Chained, chained, Carried, IsFresh}
 use Rattle.exchange_model.proofs.Honest.SlaveReplies.{Replies}
 use Rattle.exchange_model.proofs.Honest.SlaveTurn.{Carries}
-use Rattle.exchange_model.proofs.Honest.Turns.{Partner, master_of, slave_of, width, session_pieces, connection_pieces, parameter_pieces, more, Turn, Spot, SlaveAt, MasterAt}
+use Rattle.exchange_model.proofs.Honest.Turns.{Partner, master_of, slave_of, width, session_pieces, connection_pieces, parameter_pieces, more, Turn, Spot, HasTaken, HasSent}
 
 -- the newest item of an end has these bytes
 pub record NewestIs (items : List Item) (f : List ℕ) : Type 0 where
@@ -37,13 +38,46 @@ pub record NewestAnswers (items theirs : List Item) (f : List ℕ) : Type 0 wher
   pub answers : newest.item.answers ≡ Some answered.number
   pub in_session : has_command command.Reset f ≡ false
 
+-- what the stages see of both ends; a deed in which an end takes and sends nothing changes none of it
+pub record Both : Type 0 where
+  pub master : Chained
+  pub slave : Chained
+  pub master_sent : List (List ℕ)
+  pub slave_sent : List (List ℕ)
+  pub id : Option ℕ
+  pub phase : State
+  pub joined : State → List ℕ
+  pub master_items : List Item
+  pub slave_items : List Item
+  pub to_master : ℕ
+  pub to_slave : ℕ
+
+-- that after these entries
+abbrev pub both : (ms : MasterSettings) → Partner ms → List Entry → Both
+both ms r w =
+    let em : List Deed = deeds end_name.Master w in
+    let es : List Deed = deeds end_name.Slave w in
+    record {
+      master = chained (master_of ms) (since em);
+      slave = chained (slave_of ms r) (since es);
+      master_sent = own em;
+      slave_sent = own es;
+      id = id_sent (master_of ms) em;
+      phase = phase_taken (since es);
+      joined = λ phase. joined phase (width ms) (since es);
+      master_items = items_of end_name.Master (items w);
+      slave_items = items_of end_name.Slave (items w);
+      to_master = deliveries_to end_name.Master w;
+      to_slave = deliveries_to end_name.Slave w;
+    }
+
 -- no session has begun
-pub record IsOutside (ms : MasterSettings) (r : Partner ms) (em es : List Deed) : Type 0 where
-  pub master : Fresh (master_of ms) (since em)
-  pub slave : Fresh (slave_of ms r) (since es)
-  pub no_id : id_sent (master_of ms) em ≡ None
-  pub phase : phase_taken (since es) ≡ state.Reset
-  pub none_joined : (phase : State) → joined phase (width ms) (since es) ≡ []
+pub record IsOutside (x : Both) : Type 0 where
+  pub master : IsFresh x.master
+  pub slave : IsFresh x.slave
+  pub no_id : x.id ≡ None
+  pub phase : x.phase ≡ state.Reset
+  pub none_joined : (phase : State) → x.joined phase ≡ []
 
 -- the newest of these frames
 pub record LastIs (frames : List (List ℕ)) (f : List ℕ) : Type 0 where
@@ -51,25 +85,23 @@ pub record LastIs (frames : List (List ℕ)) (f : List ℕ) : Type 0 where
   pub is : frames ≡ f ∷ older
 
 -- the master's Reset frame is on its way
-pub record IsAsked (ms : MasterSettings) (r : Partner ms) (em es : List Deed) (im is : List Item) (m n : ℕ) : Type 0 where
-  pub outside : IsOutside ms r em es
-  pub last : LastIs (own em) (reset_frame 0 ms.lengths.master)
-  pub newest : NewestIs im (reset_frame 0 ms.lengths.master)
-  pub master_count : m ≡ 0
-  pub slave_count : n ≡ 0
-  pub ticked : had_tick em ≡ true
+pub record IsAsked (ms : MasterSettings) (r : Partner ms) (x : Both) : Type 0 where
+  pub outside : IsOutside x
+  pub last : LastIs x.master_sent (reset_frame 0 ms.lengths.master)
+  pub newest : NewestIs x.master_items (reset_frame 0 ms.lengths.master)
+  pub master_count : x.to_master ≡ 0
+  pub slave_count : x.to_slave ≡ 0
 
 -- the slave's Reset frame is on its way
-pub record IsReplied (ms : MasterSettings) (r : Partner ms) (em es : List Deed) (im is : List Item) (m n : ℕ) : Type 0 where
-  pub outside : IsOutside ms r em es
-  pub last : LastIs (own es) (reset_frame 0 ms.lengths.slave)
-  pub newest : NewestIs is (reset_frame 0 ms.lengths.slave)
-  pub master_count : m ≡ 0
-  pub slave_count : n ≡ 1
-  pub ticked : had_tick em ≡ true
+pub record IsReplied (ms : MasterSettings) (r : Partner ms) (x : Both) : Type 0 where
+  pub outside : IsOutside x
+  pub last : LastIs x.slave_sent (reset_frame 0 ms.lengths.slave)
+  pub newest : NewestIs x.slave_items (reset_frame 0 ms.lengths.slave)
+  pub master_count : x.to_master ≡ 0
+  pub slave_count : x.to_slave ≡ 1
 
 -- the master's frame number k, from 0, is on its way
-pub record IsDown (ms : MasterSettings) (r : Partner ms) (em es : List Deed) (im is : List Item) (m n : ℕ) : Type 0 where
+pub record IsDown (ms : MasterSettings) (r : Partner ms) (x : Both) : Type 0 where
   pub id : ℕ
   pub command : Command
   pub p : State
@@ -80,20 +112,19 @@ pub record IsDown (ms : MasterSettings) (r : Partner ms) (em es : List Deed) (im
   pub conn : ℕ
   pub load : List ℕ
   pub frame : List ℕ
-  pub last : LastIs (own em) frame
+  pub last : LastIs x.master_sent frame
   pub in_session : is_reset command ≡ false
-  pub way : OnItsWay (master_of ms) (slave_of ms r) (since em) (since es) conn command load frame
+  pub way : Carried (master_of ms) (slave_of ms r) x.master x.slave conn command load frame
   pub turn : Turn (session_pieces ms) (connection_pieces ms) (parameter_pieces ms) command p a b d k
   pub carries : Carries ms id command a b d conn load
-  pub master : MasterAt ms id em (phase_of command) (more state.Session command a) (more state.Connection command b) (more state.Parameter command d)
-  pub slave : SlaveAt ms id (since es) p a b d
-  pub newest : NewestAnswers im is frame
-  pub master_count : m ≡ suc k
-  pub slave_count : n ≡ suc k
-  pub ticked : had_tick em ≡ true
+  pub master : HasSent id x.master.sent x.id (phase_of command) (more state.Session command a) (more state.Connection command b) (more state.Parameter command d)
+  pub slave : HasTaken ms id x.phase x.joined x.slave.taken p a b d
+  pub newest : NewestAnswers x.master_items x.slave_items frame
+  pub master_count : x.to_master ≡ suc k
+  pub slave_count : x.to_slave ≡ suc k
 
 -- the slave's answer to the master's k-th frame is on its way
-pub record IsUp (ms : MasterSettings) (r : Partner ms) (em es : List Deed) (im is : List Item) (m n : ℕ) : Type 0 where
+pub record IsUp (ms : MasterSettings) (r : Partner ms) (x : Both) : Type 0 where
   pub id : ℕ
   pub command : Command
   pub a : ℕ
@@ -103,28 +134,26 @@ pub record IsUp (ms : MasterSettings) (r : Partner ms) (em es : List Deed) (im i
   pub conn : ℕ
   pub load : List ℕ
   pub frame : List ℕ
-  pub last : LastIs (own es) frame
+  pub last : LastIs x.slave_sent frame
   pub in_session : is_reset command ≡ false
-  pub way : OnItsWay (slave_of ms r) (master_of ms) (since es) (since em) conn command load frame
+  pub way : Carried (slave_of ms r) (master_of ms) x.slave x.master conn command load frame
   pub spot : Spot (session_pieces ms) (connection_pieces ms) (parameter_pieces ms) (phase_of command) a b d k
   pub replies : Replies ms id command a b d conn load
-  pub master : MasterAt ms id em (phase_of command) a b d
-  pub slave : SlaveAt ms id (since es) (phase_of command) a b d
-  pub newest : NewestAnswers is im frame
-  pub master_count : m ≡ k
-  pub slave_count : n ≡ suc k
-  pub ticked : had_tick em ≡ true
+  pub master : HasSent id x.master.sent x.id (phase_of command) a b d
+  pub slave : HasTaken ms id x.phase x.joined x.slave.taken (phase_of command) a b d
+  pub newest : NewestAnswers x.slave_items x.master_items frame
+  pub master_count : x.to_master ≡ k
+  pub slave_count : x.to_slave ≡ suc k
 
 -- a stage, with the end to which the frame goes
-pub data Stage (ms : MasterSettings) (r : Partner ms) (em es : List Deed) (im is : List Item) (m n : ℕ) : End → Type 0 where
-  Asked : IsAsked ms r em es im is m n → Stage ms r em es im is m n end_name.Slave
-  Replied : IsReplied ms r em es im is m n → Stage ms r em es im is m n end_name.Master
-  Down : IsDown ms r em es im is m n → Stage ms r em es im is m n end_name.Slave
-  Up : IsUp ms r em es im is m n → Stage ms r em es im is m n end_name.Master
+pub data Stage (ms : MasterSettings) (r : Partner ms) (x : Both) : End → Type 0 where
+  Asked : IsAsked ms r x → Stage ms r x end_name.Slave
+  Replied : IsReplied ms r x → Stage ms r x end_name.Master
+  Down : IsDown ms r x → Stage ms r x end_name.Slave
+  Up : IsUp ms r x → Stage ms r x end_name.Master
 
 -- nothing has happened but puts, holds, nonces and ticks of the slave
-pub record IsIdle (ms : MasterSettings) (r : Partner ms) (em es : List Deed) (m n : ℕ) : Type 0 where
-  pub outside : IsOutside ms r em es
-  pub master_count : m ≡ 0
-  pub slave_count : n ≡ 0
-  pub not_ticked : had_tick em ≡ false
+pub record IsIdle (x : Both) : Type 0 where
+  pub outside : IsOutside x
+  pub master_count : x.to_master ≡ 0
+  pub slave_count : x.to_slave ≡ 0

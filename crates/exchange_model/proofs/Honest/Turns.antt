@@ -141,19 +141,25 @@ abbrev pub conn_after : ℕ → ℕ → Option ℕ
 conn_after conn zero = None
 conn_after conn (suc b) = Some conn
 
--- a slave took these pieces in its session
-pub record SlaveAt (ms : MasterSettings) (id : ℕ) (v : List Deed) (p : State) (a b d : ℕ) : Type 0 where
-  pub phase : phase_taken v ≡ p
-  pub session : joined state.Session (width ms) v ≡ front (session_payload id ms.profile) (width ms) a
-  pub connection : joined state.Connection (width ms) v ≡ front (connection_payload ms.conn ms.address) (width ms) b
-  pub parameters : joined state.Parameter (width ms) v ≡ front (parameter_payload ms.watchdog ms.profile ms.app) (width ms) d
-  pub ids : count_in state.Session (taken v) ≡ a
-  pub conn : first_conn ms.lengths.master (taken v) ≡ conn_after ms.conn b
+-- a slave in this phase, which joined these bytes from these frames, took so many pieces in its session
+pub record HasTaken (ms : MasterSettings) (id : ℕ) (now : State) (uploads : State → List ℕ) (frames : List (List ℕ)) (p : State) (a b d : ℕ) : Type 0 where
+  pub phase : now ≡ p
+  pub session : uploads state.Session ≡ front (session_payload id ms.profile) (width ms) a
+  pub connection : uploads state.Connection ≡ front (connection_payload ms.conn ms.address) (width ms) b
+  pub parameters : uploads state.Parameter ≡ front (parameter_payload ms.watchdog ms.profile ms.app) (width ms) d
+  pub ids : count_in state.Session frames ≡ a
+  pub conn : first_conn ms.lengths.master frames ≡ conn_after ms.conn b
 
--- a master sent these pieces in its session
-pub record MasterAt (ms : MasterSettings) (id : ℕ) (e : List Deed) (p : State) (a b d : ℕ) : Type 0 where
-  pub phase : phase_sent (own (since e)) ≡ p
-  pub session : count_in state.Session (own (since e)) ≡ a
-  pub connection : count_in state.Connection (own (since e)) ≡ b
-  pub parameters : count_in state.Parameter (own (since e)) ≡ d
-  pub id_is : id_sent (OfMaster ms) e ≡ Some id
+abbrev pub SlaveAt : MasterSettings → ℕ → List Deed → State → ℕ → ℕ → ℕ → Type 0
+SlaveAt ms id v p a b d = HasTaken ms id (phase_taken v) (λ phase. joined phase (width ms) v) (taken v) p a b d
+
+-- a master that sent these frames and this session id sent so many pieces in its session
+pub record HasSent (id : ℕ) (frames : List (List ℕ)) (id_known : Option ℕ) (p : State) (a b d : ℕ) : Type 0 where
+  pub phase : phase_sent frames ≡ p
+  pub session : count_in state.Session frames ≡ a
+  pub connection : count_in state.Connection frames ≡ b
+  pub parameters : count_in state.Parameter frames ≡ d
+  pub id_is : id_known ≡ Some id
+
+abbrev pub MasterAt : MasterSettings → ℕ → List Deed → State → ℕ → ℕ → ℕ → Type 0
+MasterAt ms id e p a b d = HasSent id (own (since e)) (id_sent (OfMaster ms) e) p a b d
