@@ -4,19 +4,15 @@ use Rattle.std.specs.Prelude.{IsTrue, Result, Ok, Err, IfOk, OnOk, nat_le, if◌
 use Rattle.std.proofs.lemmas.Bool.{false≢true, and_parts, leb-true}
 use Rattle.std.proofs.lemmas.Bool.Decides.{nat_tests}
 use Rattle.std.proofs.lemmas.Result.{IfOk-at_ok, IfOk-weaker}
-use Rattle.fsoe_base.specs.declared.command.End.TheVariants as side
 use Rattle.param_load.specs.AppRule.{rule_len}
-use Rattle.param_load.specs.Profile.{allows_id}
 use Rattle.param_load.specs.declared.app_rule.AppRule.{AppRule}
 use Rattle.param_load.specs.declared.app_rule.AppRule.TheVariants as app_rule
-use Rattle.param_load.specs.declared.profile.Profile.TheVariants as profile
-use Rattle.schedule_file.specs.Fields.{◌>>=◌, Becomes}
-use Rattle.schedule_file.specs.Header.{Heading, rule_place, taken}
-use Rattle.schedule_file.specs.HeaderKind.{has_end}
-use Rattle.schedule_file.specs.HeaderLine.{InRange, word_of_line}
+use Rattle.schedule_file.specs.Fields.{◌>>=◌, map_ok, no_field, Becomes}
+use Rattle.schedule_file.specs.Header.{Heading, profile_taken, rule_place, taken}
+use Rattle.schedule_file.specs.HeaderLine.{hex_field, lengths_line, master_line, profile_line, slave_line, rule_line, range_line, header_line}
 use Rattle.schedule_file.specs.HeaderPart.{list_with, lows_of, highs_of, ranges_with, rule_begun, rule_with_bytes, rule_with_pairs, master_with_app, slave_with_bytes, slave_with_pairs}
 use Rattle.schedule_file.specs.LinesLeft.{left_after, lines_left}
-use Rattle.schedule_file.specs.Place.{is_title, is_lengths, is_at_master, is_after_master, is_at_slave, is_after_slave, is_exact, is_ranges, is_after_rule, may_begin_slave, may_stand}
+use Rattle.schedule_file.specs.Place.{may_stand}
 use Rattle.schedule_file.specs.declared.header_line.HeaderLine.{HeaderLine}
 use Rattle.schedule_file.specs.declared.header_line.HeaderLine.TheVariants as says
 use Rattle.schedule_file.specs.declared.header_line.RuleLine.{RuleLine}
@@ -25,76 +21,53 @@ use Rattle.schedule_file.specs.declared.line_cause.LineCause.{LineCause}
 use Rattle.schedule_file.specs.declared.line_cause.LineCause.TheVariants as cause
 use Rattle.schedule_file.specs.declared.place.Place.{Place}
 use Rattle.schedule_file.specs.declared.place.Place.TheVariants as place
+use Rattle.schedule_file.specs.declared.header_kind.HeaderKind.{HeaderKind}
+use Rattle.schedule_file.specs.declared.place.Word.{Word}
+use Rattle.schedule_file.specs.declared.place.Word.TheVariants as word
+use Rattle.schedule_file.proofs.Sound.{IfOk-bind, hex_sound, range_sound}
 
--- a fact of the value of two steps
-pub IfOk-bind : {A B : Type 0} (r : Result A LineCause) (f : A → Result B LineCause) (P : B → Type 0) → IfOk r (λ x. IfOk (f x) P) → IfOk (r >>= f) P
-IfOk-bind (Ok x) f P h = h
-IfOk-bind (Err e) f P h = h
+-- how many lines may be left, at least, where a line with this word may stand
+abbrev least : Word → ℕ → ℕ → ℕ
+least word.Lengths app listed = 1031
+least word.Master app listed = 1030
+least word.Profile app listed = 0
+least word.App app listed = 516 + (512 - app)
+least word.Slave app listed = 516
+least word.Rule app listed = 514
+least word.Bytes app listed = 1 + (512 - listed)
+least word.Range app listed = 1 + (512 - listed)
+least word.Go app listed = 1
 
--- how many lines may be left, at least, at each kind of place
-low-title : (p : Place) (app listed : ℕ) → IsTrue (is_title p) → 1031 ≤ left_after p app listed
-low-title place.Title app listed h = omega arith
-low-title other app listed h = absurd (false≢true h)
+left-least : (kind : HeaderKind) (p : Place) (w : Word) (app listed : ℕ) → IsTrue (may_stand kind p w) → least w app listed ≤ left_after p app listed
+left-least kind place.Title word.Lengths app listed h = omega arith
+left-least kind place.Lengths word.Master app listed h = omega arith
+left-least kind place.Lengths word.Slave app listed h = omega arith
+left-least kind place.Master word.App app listed h = omega arith
+left-least kind place.Master word.Slave app listed h = omega arith
+left-least kind place.Master word.Go app listed h = omega arith
+left-least kind place.App word.App app listed h = omega arith
+left-least kind place.App word.Slave app listed h = omega arith
+left-least kind place.App word.Go app listed h = omega arith
+left-least kind place.Slave word.Rule app listed h = omega arith
+left-least kind place.SlaveProfile word.Rule app listed h = omega arith
+left-least kind place.RuleAny word.Go app listed h = omega arith
+left-least kind place.RuleExact word.Bytes app listed h = omega arith
+left-least kind place.RuleExact word.Go app listed h = omega arith
+left-least kind place.RuleRanges word.Range app listed h = omega arith
+left-least kind place.RuleRanges word.Go app listed h = omega arith
+left-least kind p word.Profile app listed h = omega arith
+left-least kind p w app listed h = absurd (false≢true h)
 
-low-lengths : (p : Place) (app listed : ℕ) → IsTrue (is_lengths p) → 1030 ≤ left_after p app listed
-low-lengths place.Lengths app listed h = omega arith
-low-lengths other app listed h = absurd (false≢true h)
-
-low-after_master : (p : Place) (app listed : ℕ) → IsTrue (is_after_master p) → 516 + (512 - app) ≤ left_after p app listed
-low-after_master place.Master app listed h = omega arith
-low-after_master place.MasterOfTwo app listed h = omega arith
-low-after_master place.App app listed h = omega arith
-low-after_master other app listed h = absurd (false≢true h)
-
-low-after_slave : (p : Place) (app listed : ℕ) → IsTrue (is_after_slave p) → 514 ≤ left_after p app listed
-low-after_slave place.Slave app listed h = omega arith
-low-after_slave place.SlaveOfTwo app listed h = omega arith
-low-after_slave place.SlaveProfile app listed h = omega arith
-low-after_slave other app listed h = absurd (false≢true h)
-
-low-exact : (p : Place) (app listed : ℕ) → IsTrue (is_exact p) → 1 + (512 - listed) ≤ left_after p app listed
-low-exact place.RuleExact app listed h = omega arith
-low-exact other app listed h = absurd (false≢true h)
-
-low-ranges : (p : Place) (app listed : ℕ) → IsTrue (is_ranges p) → 1 + (512 - listed) ≤ left_after p app listed
-low-ranges place.RuleRanges app listed h = omega arith
-low-ranges other app listed h = absurd (false≢true h)
-
-low-after_rule : (p : Place) (app listed : ℕ) → IsTrue (is_after_rule p) → 1 ≤ left_after p app listed
-low-after_rule place.RuleAny app listed h = omega arith
-low-after_rule place.RuleExact app listed h = omega arith
-low-after_rule place.RuleRanges app listed h = omega arith
-low-after_rule other app listed h = absurd (false≢true h)
-
-low-before_slave : (b : Bool) (p : Place) (app listed : ℕ) → IsTrue (if b then is_after_master p else is_lengths p) → 516 ≤ left_after p app listed
-low-before_slave true p app listed h = let low = low-after_master p app listed h in omega (arith, low)
-low-before_slave false p app listed h = let low = low-lengths p app listed h in omega (arith, low)
-
-low-before_go : (b : Bool) (p : Place) (app listed : ℕ) → IsTrue (if b then is_after_rule p else is_after_master p) → 1 ≤ left_after p app listed
-low-before_go true p app listed h = low-after_rule p app listed h
-low-before_go false p app listed h = let low = low-after_master p app listed h in omega (arith, low)
-
--- how many lines are left after the line of an end
-left-master : (b : Bool) (app listed : ℕ) → left_after (if b then place.Master else place.MasterOfTwo) app listed ≡ 1029
-left-master true app listed = refl
-left-master false app listed = refl
-
-left-slave : (b : Bool) (app listed : ℕ) → left_after (if b then place.Slave else place.SlaveOfTwo) app listed ≡ 515
-left-slave true app listed = refl
-left-slave false app listed = refl
-
-left-rule : (line : RuleLine) (app : ℕ) → left_after (rule_place line) app (rule_len (rule_begun line)) ≤ 513
+left-rule : (line : RuleLine) (app : ℕ) → left_after (rule_place line) app (rule_len (rule_begun line)) < 514
 left-rule (rule.Any n) app = omega arith
 left-rule rule.Exact app = omega arith
 left-rule rule.Ranges app = omega arith
 
-left-profile : (p : Place) (app listed : ℕ) → IsTrue (if is_at_master p then true else is_at_slave p)
-    → left_after (if is_at_slave p then place.SlaveProfile else place.App) app listed < left_after p app listed
-left-profile place.Master app listed h = omega arith
-left-profile place.MasterOfTwo app listed h = omega arith
-left-profile place.Slave app listed h = omega arith
-left-profile place.SlaveOfTwo app listed h = omega arith
-left-profile other app listed h = absurd (false≢true h)
+-- a `profile` line follows `master` or `slave`
+profile-fewer : (p : Place) (h : Heading) (n : ℕ) → IsTrue (may_stand h.kind p word.Profile) → lines_left (profile_taken p h n) < left_after p (length h.master.app) (rule_len h.slave.rule)
+profile-fewer place.Master h n stands = omega arith
+profile-fewer place.Slave h n stands = omega arith
+profile-fewer other h n stands = absurd (false≢true stands)
 
 -- lists with what one more line adds
 list_with-at : (list bytes : List ℕ) (b : Bool) → b ≡ nat_le (length list + length bytes) 512
@@ -134,42 +107,40 @@ rule_with_pairs-longer (app_rule.Any n) pairs some = tt
 rule_with_pairs-longer (app_rule.Exact want) pairs some = tt
 rule_with_pairs-longer (app_rule.Ranges low high) pairs some = ranges_with-longer low high pairs some
 
-left-profile_taken : (h : Heading) (word : ℕ) (b : Bool) → lines_left (if b then record h { place = place.SlaveProfile; slave = record h.slave { profile = profile.Two word } } else record h { place = place.App; master = record h.master { profile = profile.Two word } })
-    ≡ left_after (if b then place.SlaveProfile else place.App) (length h.master.app) (rule_len h.slave.rule)
-left-profile_taken h word true = refl
-left-profile_taken h word false = refl
+-- what is taken of a line, whatever it says, or of which something is known
+taken_each : {A : Type 0} (r : Result A LineCause) (f : A → HeaderLine) (h : Heading) (P : Heading → Type 0) → ((x : A) → IfOk (taken h (f x)) P) → IfOk (map_ok f r >>= taken h) P
+taken_each (Ok x) f h P all = all x
+taken_each (Err e) f h P all = tt
+
+taken_known : {A : Type 0} (r : Result A LineCause) (f : A → HeaderLine) (h : Heading) (Q : A → Type 0) (P : Heading → Type 0) → IfOk r Q → ((x : A) → Q x → IfOk (taken h (f x)) P) → IfOk (map_ok f r >>= taken h) P
+taken_known (Ok x) f h Q P known all = all x known
+taken_known (Err e) f h Q P known all = tt
 
 -- a line that may stand leaves fewer to come
-taken-fewer : (h : Heading) (line : HeaderLine) → InRange line → IsTrue (may_stand h.kind h.place (word_of_line line)) → IfOk (taken h line) (λ h'. lines_left h' < lines_left h)
-taken-fewer h (says.Lengths line) range stands = let low = low-title h.place (length h.master.app) (rule_len h.slave.rule) stands in omega (arith, low)
-taken-fewer h (says.Master line) range stands =
-    let low = low-lengths h.place (length h.master.app) (rule_len h.slave.rule) (and_parts (has_end h.kind side.Master) (is_lengths h.place) stands).1 in
-    omega (arith, low, left-master (allows_id profile.One line.nonce) 0 (rule_len h.slave.rule))
-taken-fewer h (says.Profile word) range stands =
-    rw (left-profile_taken h word (is_at_slave h.place)) (left-profile h.place (length h.master.app) (rule_len h.slave.rule) stands)
-taken-fewer h (says.App bytes) range stands =
-    let low = low-after_master h.place (length h.master.app) (rule_len h.slave.rule) stands in
-    IfOk-bind (master_with_app h.master bytes) _ _ (IfOk-bind (list_with h.master.app bytes) _ _
-    (IfOk-weaker (list_with h.master.app bytes) _ _ (λ all longer. omega (arith, low, longer.0, longer.1)) (list_with-longer h.master.app bytes)))
-taken-fewer h (says.Slave line) range stands =
-    let low = low-before_slave (has_end h.kind side.Master) h.place (length h.master.app) (rule_len h.slave.rule) (and_parts (has_end h.kind side.Slave) (may_begin_slave h.kind h.place) stands).1 in
-    omega (arith, low, left-slave (allows_id profile.One line.nonce) (length h.master.app) 0)
-taken-fewer h (says.Rule line) range stands =
-    let low = low-after_slave h.place (length h.master.app) (rule_len h.slave.rule) stands in
-    omega (arith, low, left-rule line (length h.master.app))
-taken-fewer h (says.Bytes bytes) range stands =
-    let low = low-exact h.place (length h.master.app) (rule_len h.slave.rule) stands in
-    IfOk-bind (slave_with_bytes h.slave bytes) _ _ (IfOk-bind (rule_with_bytes h.slave.rule bytes) _ _
-    (IfOk-weaker (rule_with_bytes h.slave.rule bytes) _ _ (λ r longer. omega (arith, low, longer.0, longer.1)) (rule_with_bytes-longer h.slave.rule bytes range)))
-taken-fewer h (says.Range pairs) range stands =
-    let low = low-ranges h.place (length h.master.app) (rule_len h.slave.rule) stands in
-    IfOk-bind (slave_with_pairs h.slave pairs) _ _ (IfOk-bind (rule_with_pairs h.slave.rule pairs) _ _
-    (IfOk-weaker (rule_with_pairs h.slave.rule pairs) _ _ (λ r longer. omega (arith, low, longer.0, longer.1)) (rule_with_pairs-longer h.slave.rule pairs range)))
-taken-fewer h says.Go range stands =
-    low-before_go (has_end h.kind side.Slave) h.place (length h.master.app) (rule_len h.slave.rule) stands
+line_fewer : (h : Heading) (w : Word) (fields : List (List ℕ)) → IsTrue (may_stand h.kind h.place w) → least w (length h.master.app) (rule_len h.slave.rule) ≤ lines_left h
+    → IfOk (header_line w fields >>= taken h) (λ h'. lines_left h' < lines_left h)
+line_fewer h word.Lengths fields stands low = taken_each (lengths_line fields) says.Lengths h _ (λ line. omega (arith, low))
+line_fewer h word.Master fields stands low = taken_each (master_line fields) says.Master h _ (λ line. omega (arith, low))
+line_fewer h word.Profile fields stands low = taken_each (profile_line fields) says.Profile h _ (λ n. profile-fewer h.place h n stands)
+line_fewer h word.App fields stands low =
+    taken_known (hex_field fields) says.App h _ _ (hex_sound fields) (λ bytes some. IfOk-bind (master_with_app h.master bytes) _ _ (IfOk-bind (list_with h.master.app bytes) _ _
+    (IfOk-weaker (list_with h.master.app bytes) _ _ (λ all longer. omega (arith, low, some, longer.0, longer.1)) (list_with-longer h.master.app bytes))))
+line_fewer h word.Slave fields stands low = taken_each (slave_line fields) says.Slave h _ (λ line. omega (arith, low))
+line_fewer h word.Rule fields stands low = taken_each (rule_line fields) says.Rule h _ (λ line. omega (arith, low, left-rule line (length h.master.app)))
+line_fewer h word.Bytes fields stands low =
+    taken_known (hex_field fields) says.Bytes h _ _ (hex_sound fields) (λ bytes some. IfOk-bind (slave_with_bytes h.slave bytes) _ _ (IfOk-bind (rule_with_bytes h.slave.rule bytes) _ _
+    (IfOk-weaker (rule_with_bytes h.slave.rule bytes) _ _ (λ r longer. omega (arith, low, longer.0, longer.1)) (rule_with_bytes-longer h.slave.rule bytes some))))
+line_fewer h word.Range fields stands low =
+    taken_known (range_line fields) says.Range h _ _ (range_sound fields) (λ pairs some. IfOk-bind (slave_with_pairs h.slave pairs) _ _ (IfOk-bind (rule_with_pairs h.slave.rule pairs) _ _
+    (IfOk-weaker (rule_with_pairs h.slave.rule pairs) _ _ (λ r longer. omega (arith, low, longer.0, longer.1)) (rule_with_pairs-longer h.slave.rule pairs some))))
+line_fewer h word.Go fields stands low = taken_each (no_field fields) (λ _. says.Go) h _ (λ none. low)
+
+taken-fewer : (h : Heading) (w : Word) (fields : List (List ℕ)) (line : HeaderLine) → IsTrue (may_stand h.kind h.place w) → Ok line ≡ header_line w fields → IfOk (taken h line) (λ h'. lines_left h' < lines_left h)
+taken-fewer h w fields line stands e =
+    rw (← e) at (line_fewer h w fields stands (left-least h.kind h.place w (length h.master.app) (rule_len h.slave.rule) stands))
 
 -- the same of a call that takes the line
-pub Becomes-taken-fewer : (result : Result (Unit {0}) LineCause) (h h' : Heading) (line : HeaderLine) → InRange line → IsTrue (may_stand h.kind h.place (word_of_line line)) → Becomes result h' (taken h line)
+pub Becomes-taken-fewer : (result : Result (Unit {0}) LineCause) (h h' : Heading) (w : Word) (fields : List (List ℕ)) (line : HeaderLine) → IsTrue (may_stand h.kind h.place w) → Ok line ≡ header_line w fields → Becomes result h' (taken h line)
     → OnOk result (lines_left h' < lines_left h)
-Becomes-taken-fewer (Ok u) h h' line range stands said = IfOk-at_ok (λ x. lines_left x < lines_left h) said (taken-fewer h line range stands)
-Becomes-taken-fewer (Err e) h h' line range stands said = tt
+Becomes-taken-fewer (Ok u) h h' w fields line stands e said = IfOk-at_ok (λ x. lines_left x < lines_left h) said (taken-fewer h w fields line stands e)
+Becomes-taken-fewer (Err e') h h' w fields line stands e said = tt

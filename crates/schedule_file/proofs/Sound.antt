@@ -1,12 +1,12 @@
 -- What a header says once it is done is such as settings may have.
-use Rattle.std.proofs.Common.{◌≡◌, ℕ, ◌+◌, ◌/◌, ◌%◌, ◌≤◌, ◌<◌, Bool, true, false, List, [], ◌∷◌, ◌++◌, length, arith, refl}
+use Rattle.std.proofs.Common.{◌≡◌, ℕ, ◌+◌, ◌/◌, ◌%◌, ◌≤◌, ◌<◌, Bool, true, false, List, [], ◌∷◌, ◌++◌, length, arith, refl, sym}
 use Rattle.std.specs.Prelude.{IsTrue, Result, Ok, Err, Some, None, IfOk, IfSome, ◌&&◌, ◌||◌, ◌==◌, nat_le, nat_lt, codes, if◌then◌else◌}
 use Rattle.std.specs.Str.{bytes_eq}
 use Rattle.std.specs.Cmp.Lexicographic.{pointwise}
 use Rattle.std.proofs.lemmas.Bool.{and_parts, or_parts, leb-true, ltb-true}
 use Rattle.std.proofs.lemmas.Bool.Decides.{nat_tests}
 use Rattle.std.proofs.lemmas.Option.{IfSome_then}
-use Rattle.std.proofs.lemmas.Result.{IfOk-weaker}
+use Rattle.std.proofs.lemmas.Result.{IfOk-at_ok, IfOk-weaker}
 use Rattle.hex.specs.declared.error.FromHexError.{FromHexError}
 use Rattle.hex.specs.Hex.{decode_of}
 use Rattle.fsoe_base.specs.Lengths.{is_length}
@@ -19,13 +19,13 @@ use Rattle.param_load.specs.declared.master_settings.MasterSettings.{MasterSetti
 use Rattle.param_load.specs.declared.profile.Profile.TheVariants as profile
 use Rattle.param_load.specs.declared.slave_settings.SlaveSettings.{SlaveSettings}
 use Rattle.schedule_file.specs.Field.{fields_of, some_bytes}
-use Rattle.schedule_file.specs.Fields.{◌>>=◌, value_or, next_field, no_field, one_field}
-use Rattle.schedule_file.specs.Header.{Heading, heading_new, heading_after, is_done, taken, title_taken, fields_taken, rule_place, IsMasterOf, IsSlaveOf}
+use Rattle.schedule_file.specs.Fields.{◌>>=◌, map_ok, value_or, next_field, no_field, one_field}
+use Rattle.schedule_file.specs.Header.{Heading, heading_new, heading_after, is_done, profile_given, profile_taken, taken, title_taken, fields_taken, rule_place, IsMasterOf, IsSlaveOf}
 use Rattle.schedule_file.specs.HeaderKind.{title_of}
-use Rattle.schedule_file.specs.HeaderLine.{InRange, RuleInRange, number_16, number_32, profile_line, hex_field, lengths_line, master_line, slave_line, any_line, listed_line, rule_line, range_line, header_line}
+use Rattle.schedule_file.specs.HeaderLine.{InRange, RuleInRange, number_16, profile_line, hex_field, lengths_line, end_numbers, master_line, slave_line, any_line, listed_line, rule_line, range_line, header_line}
 use Rattle.schedule_file.specs.HeaderPart.{MasterValues, SlaveValues, lows_of, highs_of, list_with, rule_begun, rule_with_bytes, rule_with_pairs, master_with_app, slave_with_bytes, slave_with_pairs, profile_for}
 use Rattle.schedule_file.specs.Input.{InputCause, Stop, WholeHeader, header_step, header_in, lines_of, header_of, input_by, input_of}
-use Rattle.schedule_file.specs.Place.{is_start, is_at_slave, admitted, header_word_of, profile_given}
+use Rattle.schedule_file.specs.Place.{is_start, admitted, header_word_of}
 use Rattle.schedule_file.specs.declared.header_kind.HeaderKind.{HeaderKind}
 use Rattle.schedule_file.specs.declared.header_line.HeaderLine.{HeaderLine}
 use Rattle.schedule_file.specs.declared.header_line.HeaderLine.TheVariants as says
@@ -37,7 +37,6 @@ use Rattle.schedule_file.specs.declared.place.Place.{Place}
 use Rattle.schedule_file.specs.declared.place.Place.TheVariants as place
 use Rattle.schedule_file.specs.declared.place.Word.{Word}
 use Rattle.schedule_file.specs.declared.place.Word.TheVariants as word
-use Rattle.schedule_file.proofs.LinesLeft.{IfOk-bind}
 
 -- values that settings of a master may have
 record SoundMaster (m : MasterValues) : Type 0 where
@@ -64,6 +63,16 @@ pub each : {A B : Type 0} (r : Result A LineCause) (f : A → Result B LineCause
 each (Ok x) f P h = h x
 each (Err e) f P h = tt
 
+-- a fact of the value of two steps
+pub IfOk-bind : {A B : Type 0} (r : Result A LineCause) (f : A → Result B LineCause) (P : B → Type 0) → IfOk r (λ x. IfOk (f x) P) → IfOk (r >>= f) P
+IfOk-bind (Ok x) f P h = h
+IfOk-bind (Err e) f P h = h
+
+-- a fact of what is made of a value
+IfOk-map : {A B : Type 0} (r : Result A LineCause) (f : A → B) (P : B → Type 0) → IfOk r (λ x. P (f x)) → IfOk (map_ok f r) P
+IfOk-map (Ok x) f P h = h
+IfOk-map (Err e) f P h = h
+
 pub ok_if : {A : Type 0} (b : Bool) (x : A) (e : LineCause) (P : A → Type 0) → (b ≡ true → P x) → IfOk (if b then Ok x else Err e) P
 ok_if true x e P h = h refl
 ok_if false x e P h = tt
@@ -82,15 +91,11 @@ lengths_sound fields =
 
 master_sound : (fields : List (List ℕ)) → IfOk (master_line fields) (λ line. (0 < line.conn) × (0 < line.watchdog))
 master_sound fields =
-    each (next_field fields) _ _ (λ first. each (next_field first.1) _ _ (λ second. each (next_field second.1) _ _ (λ third. each (one_field third.1) _ _ (λ fourth.
-    each (number_16 first.0) _ _ (λ conn. each (number_16 second.0) _ _ (λ address. each (number_16 third.0) _ _ (λ watchdog. each (number_32 fourth) _ _ (λ nonce.
-    ok_unless (conn == 0 || watchdog == 0) _ cause.Range _ (λ e. let some = or_parts (conn == 0) (watchdog == 0) e in (not_zero conn some.0, not_zero watchdog some.1))))))))))
+    each (end_numbers fields) _ _ (λ n. ok_unless (n.0 == 0 || n.2 == 0) _ cause.Range _ (λ e. let some = or_parts (n.0 == 0) (n.2 == 0) e in (not_zero n.0 some.0, not_zero n.2 some.1)))
 
 slave_sound : (fields : List (List ℕ)) → IfOk (slave_line fields) (λ line. (0 < line.hand) × (0 < line.most))
 slave_sound fields =
-    each (next_field fields) _ _ (λ first. each (next_field first.1) _ _ (λ second. each (next_field second.1) _ _ (λ third. each (one_field third.1) _ _ (λ fourth.
-    each (number_16 first.0) _ _ (λ address. each (number_16 second.0) _ _ (λ hand. each (number_16 third.0) _ _ (λ most. each (number_32 fourth) _ _ (λ nonce.
-    ok_unless (hand == 0 || most == 0) _ cause.Range _ (λ e. let some = or_parts (hand == 0) (most == 0) e in (not_zero hand some.0, not_zero most some.1))))))))))
+    each (end_numbers fields) _ _ (λ n. ok_unless (n.1 == 0 || n.2 == 0) _ cause.Range _ (λ e. let some = or_parts (n.1 == 0) (n.2 == 0) e in (not_zero n.1 some.0, not_zero n.2 some.1)))
 
 any_sound : (fields : List (List ℕ)) → IfOk (any_line fields) RuleInRange
 any_sound fields = each (one_field fields) _ _ (λ field. each (number_16 field) _ _ (λ n. ok_if (nat_le n 512) (rule.Any n) cause.Range _ (λ e. leb-true n 512 e)))
@@ -119,27 +124,35 @@ some_sound most (Ok bytes) =
     some_if (nat_lt 0 (length bytes) && nat_le (length bytes) most) bytes (λ e. ltb-true 0 (length bytes) (and_parts (nat_lt 0 (length bytes)) (nat_le (length bytes) most) e).0)
 some_sound most (Err e) = tt
 
-hex_sound : (fields : List (List ℕ)) → IfOk (hex_field fields) (λ bytes. 0 < length bytes)
+pub hex_sound : (fields : List (List ℕ)) → IfOk (hex_field fields) (λ bytes. 0 < length bytes)
 hex_sound fields = each (one_field fields) _ _ (λ field. some_sound 256 (decode_of field))
 
 not_one : (n : ℕ) → 0 < n → (n == 1) ≡ false → 2 ≤ n
 not_one n some e = grind (arith, nat_tests)
 
-range_sound : (fields : List (List ℕ)) → IfOk (range_line fields) (λ pairs. 2 ≤ length pairs)
+pub range_sound : (fields : List (List ℕ)) → IfOk (range_line fields) (λ pairs. 2 ≤ length pairs)
 range_sound fields =
     IfOk-bind (hex_field fields) _ _ (IfOk-weaker (hex_field fields) _ _ (λ pairs some. ok_unless (length pairs == 1) pairs cause.Hex _ (λ e. not_one (length pairs) some e)) (hex_sound fields))
 
+any_value : {A : Type 0} (r : Result A LineCause) → IfOk r (λ x. Unit {0})
+any_value (Ok x) = tt
+any_value (Err e) = tt
+
 -- a line that is read is in range
 line_sound : (word : Word) (fields : List (List ℕ)) → IfOk (header_line word fields) InRange
-line_sound word.Lengths fields = IfOk-bind (lengths_line fields) _ _ (lengths_sound fields)
-line_sound word.Master fields = IfOk-bind (master_line fields) _ _ (master_sound fields)
-line_sound word.Profile fields = each (profile_line fields) _ _ (λ word. tt)
-line_sound word.App fields = IfOk-bind (hex_field fields) _ _ (hex_sound fields)
-line_sound word.Slave fields = IfOk-bind (slave_line fields) _ _ (slave_sound fields)
-line_sound word.Rule fields = IfOk-bind (rule_line fields) _ _ (rule_sound fields)
-line_sound word.Bytes fields = IfOk-bind (hex_field fields) _ _ (hex_sound fields)
-line_sound word.Range fields = IfOk-bind (range_line fields) _ _ (range_sound fields)
-line_sound word.Go fields = each (no_field fields) _ _ (λ none. tt)
+line_sound word.Lengths fields = IfOk-map (lengths_line fields) says.Lengths InRange (lengths_sound fields)
+line_sound word.Master fields = IfOk-map (master_line fields) says.Master InRange (master_sound fields)
+line_sound word.Profile fields = IfOk-map (profile_line fields) says.Profile InRange (any_value (profile_line fields))
+line_sound word.App fields = IfOk-map (hex_field fields) says.App InRange (hex_sound fields)
+line_sound word.Slave fields = IfOk-map (slave_line fields) says.Slave InRange (slave_sound fields)
+line_sound word.Rule fields = IfOk-map (rule_line fields) says.Rule InRange (rule_sound fields)
+line_sound word.Bytes fields = IfOk-map (hex_field fields) says.Bytes InRange (hex_sound fields)
+line_sound word.Range fields = IfOk-map (range_line fields) says.Range InRange (range_sound fields)
+line_sound word.Go fields = IfOk-map (no_field fields) (λ _. says.Go) InRange (any_value (no_field fields))
+
+-- the same of a line that was read
+pub said_in_range : (word : Word) (fields : List (List ℕ)) (line : HeaderLine) → Ok line ≡ header_line word fields → InRange line
+said_in_range word fields line e = IfOk-at_ok InRange (sym e) (line_sound word fields)
 
 -- the profile for a nonce allows it
 allows_by : (b : Bool) (nonce : ℕ) → allows_id profile.One nonce ≡ b → IsTrue (allows_id (if b then profile.One else profile.Two 0) nonce)
@@ -173,15 +186,14 @@ pairs_acceptable (app_rule.Ranges low high) pairs is =
     ok_if (length pairs % 2 == 0 && pointwise nat_le (lows_of pairs) (highs_of pairs) && nat_le (length low + length pairs / 2) 512) (app_rule.Ranges (low ++ lows_of pairs) (high ++ highs_of pairs)) cause.Range _ (λ e. pointwise_append low high (lows_of pairs) (highs_of pairs) is (and_parts _ _ (and_parts _ _ e).0).1)
 
 -- a header after one more line
-profile_sound : (b : Bool) (h : Heading) (n : ℕ) → Sound h
-    → Sound (if b then record h { place = place.SlaveProfile; slave = record h.slave { profile = profile.Two n } } else record h { place = place.App; master = record h.master { profile = profile.Two n } })
-profile_sound true h n s = record {
+profile_sound : (p : Place) (h : Heading) (n : ℕ) → Sound h → Sound (profile_taken p h n)
+profile_sound place.Slave h n s = record {
   master_length = s.master_length;
   slave_length = s.slave_length;
   master = s.master;
   slave = record { hand = s.slave.hand; most = s.slave.most; acceptable = s.slave.acceptable; allowed = refl };
 }
-profile_sound false h n s = record {
+profile_sound other h n s = record {
   master_length = s.master_length;
   slave_length = s.slave_length;
   master = record { conn = s.master.conn; watchdog = s.master.watchdog; allowed = refl };
@@ -212,7 +224,7 @@ taken_sound h (says.Master line) range s = record {
   master = record { conn = range.0; watchdog = range.1; allowed = profile_allows line.nonce };
   slave = s.slave;
 }
-taken_sound h (says.Profile n) range s = profile_sound (is_at_slave h.place) h n s
+taken_sound h (says.Profile n) range s = profile_sound h.place h n s
 taken_sound h (says.App bytes) range s =
     IfOk-bind (master_with_app h.master bytes) _ _ (each (list_with h.master.app bytes) _ _ (λ app. with_app h app s))
 taken_sound h (says.Slave line) range s = record {
@@ -234,7 +246,7 @@ title_sound b h s = ok_if b (record h { place = place.Title }) cause.Header _ (�
 fields_sound : (h : Heading) (fields : List (List ℕ)) → Sound h → IfOk (fields_taken h fields) Sound
 fields_sound h [] s = tt
 fields_sound h (first ∷ fields) s =
-    each (admitted h.kind h.place (header_word_of first)) _ _ (λ word. IfOk-bind (header_line word fields) _ _ (IfOk-weaker (header_line word fields) _ _ (λ line range. each (profile_given h.place word) _ _ (λ given. taken_sound h line range s)) (line_sound word fields)))
+    each (admitted h.kind h.place (header_word_of first)) _ _ (λ word. IfOk-bind (header_line word fields) _ _ (IfOk-weaker (header_line word fields) _ _ (λ line range. each (profile_given h word) _ _ (λ given. taken_sound h line range s)) (line_sound word fields)))
 
 after_by : (b : Bool) (h : Heading) (text : List ℕ) → Sound h → IfOk (if b then title_taken h text else fields_taken h (fields_of text)) Sound
 after_by true h text s = title_sound (bytes_eq text (title_of h.kind)) h s

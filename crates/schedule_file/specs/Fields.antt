@@ -11,6 +11,11 @@ abbrev pub ◌>>=◌ : {A B : Type 0} → Result A LineCause → (A → Result B
 Ok x >>= f = f x
 Err e >>= f = Err e
 
+-- what is made of the value, where there is one
+abbrev pub map_ok : {A B : Type 0} → (A → B) → Result A LineCause → Result B LineCause
+map_ok f (Ok x) = Ok (f x)
+map_ok f (Err e) = Err e
+
 -- a call answers as a definition says: what it changed is then the value that is said, or it gives the cause
 abbrev pub Becomes : {A B : Type 0} → Result B LineCause → A → Result A LineCause → Type 0
 Becomes result new said = MatchResult result (λ _. said ≡ Ok new) (λ cause. said ≡ Err cause)

@@ -1,7 +1,6 @@
 -- A header as far as it is read.
-use Rattle.std.specs.Prelude.{◌≡◌, ℕ, Bool, List, [], ◌∷◌, Result, Ok, Err, if◌then◌else◌}
+use Rattle.std.specs.Prelude.{◌≡◌, ℕ, Bool, false, List, [], ◌∷◌, Result, Ok, Err, if◌then◌else◌}
 use Rattle.std.specs.Str.{bytes_eq}
-use Rattle.param_load.specs.Profile.{allows_id}
 use Rattle.param_load.specs.declared.profile.Profile.TheVariants as profile
 use Rattle.param_load.specs.MasterSettings.{IsMasterSetTo}
 use Rattle.param_load.specs.SlaveSettings.{IsSlaveSetTo}
@@ -11,8 +10,8 @@ use Rattle.schedule_file.specs.Field.{fields_of}
 use Rattle.schedule_file.specs.Fields.{◌>>=◌}
 use Rattle.schedule_file.specs.HeaderKind.{title_of}
 use Rattle.schedule_file.specs.HeaderLine.{header_line}
-use Rattle.schedule_file.specs.HeaderPart.{MasterValues, SlaveValues, master_begun, slave_begun, master_with_app, rule_begun, slave_with_bytes, slave_with_pairs}
-use Rattle.schedule_file.specs.Place.{header_word_of, is_start, is_at_slave, is_last, admitted, profile_given}
+use Rattle.schedule_file.specs.HeaderPart.{MasterValues, SlaveValues, is_two, master_begun, slave_begun, master_with_app, rule_begun, slave_with_bytes, slave_with_pairs}
+use Rattle.schedule_file.specs.Place.{header_word_of, is_start, is_last, admitted}
 use Rattle.schedule_file.specs.declared.header_kind.HeaderKind.{HeaderKind}
 use Rattle.schedule_file.specs.declared.header_line.HeaderLine.{HeaderLine}
 use Rattle.schedule_file.specs.declared.header_line.HeaderLine.TheVariants as says
@@ -23,6 +22,8 @@ use Rattle.schedule_file.specs.declared.line_cause.LineCause.{LineCause}
 use Rattle.schedule_file.specs.declared.line_cause.LineCause.TheVariants as cause
 use Rattle.schedule_file.specs.declared.place.Place.{Place}
 use Rattle.schedule_file.specs.declared.place.Place.TheVariants as place
+use Rattle.schedule_file.specs.declared.place.Word.{Word}
+use Rattle.schedule_file.specs.declared.place.Word.TheVariants as word
 
 -- what it describes, the line that was read last, and what the lines say
 pub record Heading : Type 0 where
@@ -50,36 +51,38 @@ kind_of h = h.kind
 abbrev pub is_done : Heading → Bool
 is_done h = is_last h.place
 
--- where a header is after a `master` line with this nonce
-abbrev pub master_place : ℕ → Place
-master_place nonce = if allows_id profile.One nonce then place.Master else place.MasterOfTwo
-
--- where a header is after a `slave` line with this nonce
-abbrev pub slave_place : ℕ → Place
-slave_place nonce = if allows_id profile.One nonce then place.Slave else place.SlaveOfTwo
-
 -- where a header is after a `rule` line
 abbrev pub rule_place : RuleLine → Place
 rule_place (rule.Any n) = place.RuleAny
 rule_place rule.Exact = place.RuleExact
 rule_place rule.Ranges = place.RuleRanges
 
+-- the end whose line was read last is in profile Two for its nonce, so that its `profile` line has to come next
+abbrev pub wants_profile : Place → MasterValues → SlaveValues → Bool
+wants_profile place.Master master slave = is_two master.profile
+wants_profile place.Slave master slave = is_two slave.profile
+wants_profile other master slave = false
+
+-- where a `profile` line has to come, any other line is out of range
+abbrev pub profile_given : Heading → Word → Result (Unit {0}) LineCause
+profile_given h word.Profile = Ok tt
+profile_given h other = if wants_profile h.place h.master h.slave then Err cause.Range else Ok tt
+
 -- a `profile` line is that of the end whose line stands before it; after a master's the same may follow as after an `app`,
 -- so it is the same place
-abbrev pub profile_taken : Heading → ℕ → Heading
-profile_taken h word =
-    if is_at_slave h.place then record h { place = place.SlaveProfile; slave = record h.slave { profile = profile.Two word } }
-    else record h { place = place.App; master = record h.master { profile = profile.Two word } }
+abbrev pub profile_taken : Place → Heading → ℕ → Heading
+profile_taken place.Slave h word = record h { place = place.SlaveProfile; slave = record h.slave { profile = profile.Two word } }
+profile_taken other h word = record h { place = place.App; master = record h.master { profile = profile.Two word } }
 
 -- a header after a line that says this
 abbrev pub taken : Heading → HeaderLine → Result Heading LineCause
 taken h (says.Lengths line) = Ok (record h { place = place.Lengths; lengths = line })
-taken h (says.Master line) = Ok (record h { place = master_place line.nonce; master = master_begun line })
-taken h (says.Profile word) = Ok (profile_taken h word)
+taken h (says.Master line) = Ok (record h { place = place.Master; master = master_begun line })
+taken h (says.Profile word) = Ok (profile_taken h.place h word)
 taken h (says.App bytes) = do
   master ← master_with_app h.master bytes
   Ok (record h { place = place.App; master = master })
-taken h (says.Slave line) = Ok (record h { place = slave_place line.nonce; slave = slave_begun line })
+taken h (says.Slave line) = Ok (record h { place = place.Slave; slave = slave_begun line })
 taken h (says.Rule line) = Ok (record h { place = rule_place line; slave = record h.slave { rule = rule_begun line } })
 taken h (says.Bytes bytes) = do
   slave ← slave_with_bytes h.slave bytes
@@ -99,7 +102,7 @@ fields_taken h [] = Err cause.Header
 fields_taken h (first ∷ fields) = do
   word ← admitted h.kind h.place (header_word_of first)
   line ← header_line word fields
-  given ← profile_given h.place word
+  given ← profile_given h word
   taken h line
 
 -- a header after its next line, or why that line is refused

@@ -4,7 +4,7 @@ use Rattle.std.specs.Prelude.{◌<◌, ◌≤◌, ℕ, ◌==◌, ◌&&◌, ◌||
 use Rattle.std.specs.Str.{bytes_eq}
 use Rattle.fsoe_base.specs.Lengths.{is_length}
 use Rattle.schedule_file.specs.Field.{number_of, bytes_of}
-use Rattle.schedule_file.specs.Fields.{◌>>=◌, value_or, next_field, no_field, one_field}
+use Rattle.schedule_file.specs.Fields.{◌>>=◌, map_ok, value_or, next_field, no_field, one_field}
 use Rattle.schedule_file.specs.declared.header_line.HeaderLine.{HeaderLine}
 use Rattle.schedule_file.specs.declared.header_line.HeaderLine.TheVariants as says
 use Rattle.schedule_file.specs.declared.header_line.LengthsLine.{LengthsLine}
@@ -40,33 +40,30 @@ lengths_line fields = do
   slave ← number_16 second
   if is_length master && is_length slave then Ok (record { master = master; slave = slave }) else Err cause.Length
 
--- the connection id and the watchdog of a master aren't 0
-abbrev pub master_line : List (List ℕ) → Result MasterLine LineCause
-master_line fields = do
+-- the four numbers of an end: three of 16 bits, and its session id
+abbrev pub end_numbers : List (List ℕ) → Result (ℕ × ℕ × ℕ × ℕ) LineCause
+end_numbers fields = do
   first ← next_field fields
   second ← next_field first.1
   third ← next_field second.1
   fourth ← one_field third.1
-  conn ← number_16 first.0
-  address ← number_16 second.0
-  watchdog ← number_16 third.0
+  a ← number_16 first.0
+  b ← number_16 second.0
+  c ← number_16 third.0
   nonce ← number_32 fourth
-  if conn == 0 || watchdog == 0 then Err cause.Range
-      else Ok (record { conn = conn; address = address; watchdog = watchdog; nonce = nonce })
+  Ok (a, b, c, nonce)
+
+-- the connection id and the watchdog of a master aren't 0
+abbrev pub master_line : List (List ℕ) → Result MasterLine LineCause
+master_line fields = do
+  n ← end_numbers fields
+  if n.0 == 0 || n.2 == 0 then Err cause.Range else Ok (record { conn = n.0; address = n.1; watchdog = n.2; nonce = n.3 })
 
 -- the limit of a handshake and the longest watchdog of a slave aren't 0
 abbrev pub slave_line : List (List ℕ) → Result SlaveLine LineCause
 slave_line fields = do
-  first ← next_field fields
-  second ← next_field first.1
-  third ← next_field second.1
-  fourth ← one_field third.1
-  address ← number_16 first.0
-  hand ← number_16 second.0
-  most ← number_16 third.0
-  nonce ← number_32 fourth
-  if hand == 0 || most == 0 then Err cause.Range
-      else Ok (record { address = address; hand = hand; most = most; nonce = nonce })
+  n ← end_numbers fields
+  if n.1 == 0 || n.2 == 0 then Err cause.Range else Ok (record { address = n.0; hand = n.1; most = n.2; nonce = n.3 })
 
 -- the word of profile Two
 abbrev pub profile_line : List (List ℕ) → Result ℕ LineCause
@@ -103,33 +100,15 @@ range_line fields = do
 
 -- what the fields of a line say that begins with a word
 abbrev pub header_line : Word → List (List ℕ) → Result HeaderLine LineCause
-header_line word.Lengths fields = do
-  line ← lengths_line fields
-  Ok (says.Lengths line)
-header_line word.Master fields = do
-  line ← master_line fields
-  Ok (says.Master line)
-header_line word.Profile fields = do
-  line ← profile_line fields
-  Ok (says.Profile line)
-header_line word.App fields = do
-  bytes ← hex_field fields
-  Ok (says.App bytes)
-header_line word.Slave fields = do
-  line ← slave_line fields
-  Ok (says.Slave line)
-header_line word.Rule fields = do
-  line ← rule_line fields
-  Ok (says.Rule line)
-header_line word.Bytes fields = do
-  bytes ← hex_field fields
-  Ok (says.Bytes bytes)
-header_line word.Range fields = do
-  pairs ← range_line fields
-  Ok (says.Range pairs)
-header_line word.Go fields = do
-  none ← no_field fields
-  Ok says.Go
+header_line word.Lengths fields = map_ok says.Lengths (lengths_line fields)
+header_line word.Master fields = map_ok says.Master (master_line fields)
+header_line word.Profile fields = map_ok says.Profile (profile_line fields)
+header_line word.App fields = map_ok says.App (hex_field fields)
+header_line word.Slave fields = map_ok says.Slave (slave_line fields)
+header_line word.Rule fields = map_ok says.Rule (rule_line fields)
+header_line word.Bytes fields = map_ok says.Bytes (hex_field fields)
+header_line word.Range fields = map_ok says.Range (range_line fields)
+header_line word.Go fields = map_ok (λ _. says.Go) (no_field fields)
 
 -- a rule for any bytes is for at most 512
 abbrev pub RuleInRange : RuleLine → Type 0
@@ -148,15 +127,3 @@ InRange (says.Rule line) = RuleInRange line
 InRange (says.Bytes bytes) = 0 < length bytes
 InRange (says.Range pairs) = 2 ≤ length pairs
 InRange says.Go = Unit {0}
-
--- the word that begins a line
-abbrev pub word_of_line : HeaderLine → Word
-word_of_line (says.Lengths line) = word.Lengths
-word_of_line (says.Master line) = word.Master
-word_of_line (says.Profile line) = word.Profile
-word_of_line (says.App bytes) = word.App
-word_of_line (says.Slave line) = word.Slave
-word_of_line (says.Rule line) = word.Rule
-word_of_line (says.Bytes bytes) = word.Bytes
-word_of_line (says.Range pairs) = word.Range
-word_of_line says.Go = word.Go

@@ -1,5 +1,5 @@
 -- What the lines of one end say together.
-use Rattle.std.specs.Prelude.{ℕ, ◌+◌, ◌/◌, ◌%◌, ◌==◌, ◌&&◌, nat_le, length, List, [], ◌∷◌, ◌++◌, Result, Ok, Err, if◌then◌else◌}
+use Rattle.std.specs.Prelude.{ℕ, ◌+◌, ◌/◌, ◌%◌, ◌==◌, ◌&&◌, nat_le, Bool, true, false, length, List, [], ◌∷◌, ◌++◌, Result, Ok, Err, if◌then◌else◌}
 use Rattle.std.specs.Cmp.Lexicographic.{pointwise}
 use Rattle.param_load.specs.Profile.{allows_id}
 use Rattle.param_load.specs.declared.app_rule.AppRule.{AppRule}
@@ -25,6 +25,11 @@ pub record SlaveValues : Type 0 where
   pub line : SlaveLine
   pub profile : Profile
   pub rule : AppRule
+
+-- a profile is Two
+abbrev pub is_two : Profile → Bool
+is_two profile.One = false
+is_two (profile.Two word) = true
 
 -- an end is in profile One, but one with a nonce that One does not allow is in Two, whose word is to come
 abbrev pub profile_for : ℕ → Profile

@@ -1,7 +1,7 @@
 //! The header of an input, line by line.
 ghost use Rattle.std.specs.Prelude.{◌≡◌, ◌<◌, IsTrue, IfOk, OnOk, OnErr};
 ghost use Rattle.schedule_file.specs.Fields.{Becomes};
-ghost use Rattle.schedule_file.specs.Header.{heading_new, heading_after, taken, profile_taken, title_taken, is_done, kind_of, master_place, slave_place, rule_place, IsMasterOf, IsSlaveOf};
+ghost use Rattle.schedule_file.specs.Header.{heading_new, heading_after, wants_profile, profile_given, taken, profile_taken, title_taken, is_done, kind_of, rule_place, IsMasterOf, IsSlaveOf};
 ghost use Rattle.schedule_file.specs.HeaderKind.{has_end};
 ghost use Rattle.schedule_file.specs.HeaderLine.{InRange};
 ghost use Rattle.schedule_file.specs.LinesLeft.{lines_left};
@@ -14,9 +14,9 @@ use crate::header_line::{
 };
 use crate::header_part::{MasterPart, SlavePart};
 use crate::line_cause::LineCause;
-use crate::place::Place;
+use crate::place::{Place, Word};
 use fsoe_base::{End, Lengths};
-use param_load::{MasterSettings, Profile, SlaveSettings};
+use param_load::{MasterSettings, SlaveSettings};
 use std::marker::Model;
 
 /// A header that is read line by line, without newlines, from its first line to `go`. The fields of a line are
@@ -126,7 +126,7 @@ impl Header {
         let (first, fields) = cut(line);
         let word = self.place.admit(self.kind, first)?;
         let says = read_header_line(word, fields)?;
-        self.place.accept_after_nonce(word)?;
+        self.accept_after_nonce(word)?;
         self.take(says)
     }
 
@@ -144,6 +144,28 @@ impl Header {
         }
     }
 
+    /// Whether the end whose line was read last is in profile Two for its nonce, so that its `profile` has to come next.
+    fn wants_profile(&self) -> bool
+        ensures { result ≡ wants_profile self.now.place self.now.master self.now.slave }
+    {
+        match self.place {
+            Place::Master => self.master.is_two(),
+            Place::Slave => self.slave.is_two(),
+            _ => false,
+        }
+    }
+
+    /// Whether a line with this word may stand after the nonce that was read last. Else it is refused as `Range`.
+    fn accept_after_nonce(&self, word: Word) -> Result<(), LineCause>
+        ensures { result ≡ profile_given self.now word }
+    {
+        match word {
+            Word::Profile => Ok(()),
+            _ if self.wants_profile() => Err(LineCause::Range),
+            _ => Ok(()),
+        }
+    }
+
     /// Takes what a line says.
     fn take(&mut self, says: HeaderLine) -> Result<(), LineCause>
         requires { InRange says }
@@ -156,7 +178,7 @@ impl Header {
                 self.place = Place::Lengths;
             }
             HeaderLine::Master(line) => {
-                self.place = master_place(line.nonce);
+                self.place = Place::Master;
                 self.master = MasterPart::of(line);
             }
             HeaderLine::Profile(word) => self.take_profile(word),
@@ -165,7 +187,7 @@ impl Header {
                 self.place = Place::App;
             }
             HeaderLine::Slave(line) => {
-                self.place = slave_place(line.nonce);
+                self.place = Place::Slave;
                 self.slave = SlavePart::of(line);
             }
             HeaderLine::Rule(line) => {
@@ -187,14 +209,17 @@ impl Header {
 
     /// Takes the word of a `profile` line for the end whose line stands before it.
     fn take_profile(&mut self, word: u16)
-        ensures { self.new ≡ profile_taken self.old word }
+        ensures { self.new ≡ profile_taken self.old.place self.old word }
     {
-        if self.place.is_at_slave() {
-            self.slave.set_profile(word);
-            self.place = Place::SlaveProfile;
-        } else {
-            self.master.set_profile(word);
-            self.place = Place::App;
+        match self.place {
+            Place::Slave => {
+                self.slave.set_profile(word);
+                self.place = Place::SlaveProfile;
+            }
+            _ => {
+                self.master.set_profile(word);
+                self.place = Place::App;
+            }
         }
     }
 
@@ -223,28 +248,6 @@ impl Header {
         ensures { IsSlaveOf self.now result }
     {
         self.slave.settings(self.lengths())
-    }
-}
-
-/// Where a header is after a `master` line with this nonce.
-fn master_place(nonce: u32) -> Place
-    ensures { result ≡ master_place nonce }
-{
-    if Profile::One.allows_id(nonce) {
-        Place::Master
-    } else {
-        Place::MasterOfTwo
-    }
-}
-
-/// Where a header is after a `slave` line with this nonce.
-fn slave_place(nonce: u32) -> Place
-    ensures { result ≡ slave_place nonce }
-{
-    if Profile::One.allows_id(nonce) {
-        Place::Slave
-    } else {
-        Place::SlaveOfTwo
     }
 }
 

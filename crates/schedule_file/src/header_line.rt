@@ -1,8 +1,7 @@
 //! What one header line says, by its fields.
-ghost use Rattle.std.specs.Prelude.{◌≡◌, ◌≤◌, ◌<◌, IsTrue, IfOk, length};
-ghost use Rattle.fsoe_base.specs.Lengths.{is_length};
+ghost use Rattle.std.specs.Prelude.{◌≡◌};
 ghost use Rattle.schedule_file.specs.Field.{fields_after};
-ghost use Rattle.schedule_file.specs.HeaderLine.{InRange, RuleInRange, number_16, number_32, hex_field, lengths_line, master_line, slave_line, profile_line, any_line, listed_line, rule_line, range_line, header_line, word_of_line};
+ghost use Rattle.schedule_file.specs.HeaderLine.{number_16, number_32, hex_field, lengths_line, end_numbers, master_line, slave_line, profile_line, any_line, listed_line, rule_line, range_line, header_line};
 
 use crate::field::{HexBytes, next_field, no_field, number, one_field};
 use crate::line_cause::LineCause;
@@ -60,7 +59,7 @@ pub enum HeaderLine {
 fn number_16(text: &[u8]) -> Result<u16, LineCause>
     ensures { result ≡ number_16 text.now }
 {
-    let n = number(text, 65_535).ok_or(LineCause::Number)?;
+    let n = number(text, u32::from(u16::MAX)).ok_or(LineCause::Number)?;
     Ok(n as u16)
 }
 
@@ -73,16 +72,14 @@ fn number_32(text: &[u8]) -> Result<u32, LineCause>
 
 /// The only field, which is hexadecimal with from 1 to 256 bytes.
 fn hex_field(fields: Option<&[u8]>) -> Result<HexBytes, LineCause>
-    ensures value { result ≡ hex_field (fields_after fields.entry) }
-    ensures some { IfOk result (λ bytes. 0 < length bytes) }
+    ensures { result ≡ hex_field (fields_after fields.entry) }
 {
     let field = one_field(fields)?;
     HexBytes::read(field, 256).ok_or(LineCause::Hex)
 }
 
 fn read_lengths(fields: Option<&[u8]>) -> Result<LengthsLine, LineCause>
-    ensures value { result ≡ lengths_line (fields_after fields.entry) }
-    ensures range { IfOk result (λ line. IsTrue (is_length line.master) × IsTrue (is_length line.slave)) }
+    ensures { result ≡ lengths_line (fields_after fields.entry) }
 {
     let (master, rest) = next_field(fields)?;
     let slave = one_field(rest)?;
@@ -94,18 +91,26 @@ fn read_lengths(fields: Option<&[u8]>) -> Result<LengthsLine, LineCause>
     }
 }
 
-fn read_master(fields: Option<&[u8]>) -> Result<MasterLine, LineCause>
-    ensures value { result ≡ master_line (fields_after fields.entry) }
-    ensures range { IfOk result (λ line. (0 < line.conn) × (0 < line.watchdog)) }
+/// The four numbers of an end: three of 16 bits, and its session id.
+fn read_end_numbers(fields: Option<&[u8]>) -> Result<(u16, u16, u16, u32), LineCause>
+    ensures { result ≡ end_numbers (fields_after fields.entry) }
 {
-    let (conn, rest) = next_field(fields)?;
-    let (address, rest) = next_field(rest)?;
-    let (watchdog, rest) = next_field(rest)?;
+    let (first, rest) = next_field(fields)?;
+    let (second, rest) = next_field(rest)?;
+    let (third, rest) = next_field(rest)?;
     let nonce = one_field(rest)?;
-    let conn = number_16(conn)?;
-    let address = number_16(address)?;
-    let watchdog = number_16(watchdog)?;
-    let nonce = number_32(nonce)?;
+    Ok((
+        number_16(first)?,
+        number_16(second)?,
+        number_16(third)?,
+        number_32(nonce)?,
+    ))
+}
+
+fn read_master(fields: Option<&[u8]>) -> Result<MasterLine, LineCause>
+    ensures { result ≡ master_line (fields_after fields.entry) }
+{
+    let (conn, address, watchdog, nonce) = read_end_numbers(fields)?;
     if conn == 0 || watchdog == 0 {
         return Err(LineCause::Range);
     }
@@ -118,17 +123,9 @@ fn read_master(fields: Option<&[u8]>) -> Result<MasterLine, LineCause>
 }
 
 fn read_slave(fields: Option<&[u8]>) -> Result<SlaveLine, LineCause>
-    ensures value { result ≡ slave_line (fields_after fields.entry) }
-    ensures range { IfOk result (λ line. (0 < line.hand) × (0 < line.most)) }
+    ensures { result ≡ slave_line (fields_after fields.entry) }
 {
-    let (address, rest) = next_field(fields)?;
-    let (hand, rest) = next_field(rest)?;
-    let (most, rest) = next_field(rest)?;
-    let nonce = one_field(rest)?;
-    let address = number_16(address)?;
-    let hand = number_16(hand)?;
-    let most = number_16(most)?;
-    let nonce = number_32(nonce)?;
+    let (address, hand, most, nonce) = read_end_numbers(fields)?;
     if hand == 0 || most == 0 {
         return Err(LineCause::Range);
     }
@@ -149,8 +146,7 @@ fn read_profile(fields: Option<&[u8]>) -> Result<u16, LineCause>
 
 /// What stands after `rule any`.
 fn read_any(fields: Option<&[u8]>) -> Result<RuleLine, LineCause>
-    ensures value { result ≡ any_line (fields_after fields.entry) }
-    ensures range { IfOk result RuleInRange }
+    ensures { result ≡ any_line (fields_after fields.entry) }
 {
     let field = one_field(fields)?;
     let n = number_16(field)?;
@@ -163,8 +159,7 @@ fn read_any(fields: Option<&[u8]>) -> Result<RuleLine, LineCause>
 
 /// What stands after `rule` and another form than `any`.
 fn read_listed(form: &[u8], fields: Option<&[u8]>) -> Result<RuleLine, LineCause>
-    ensures value { result ≡ listed_line form.now (fields_after fields.entry) }
-    ensures range { IfOk result RuleInRange }
+    ensures { result ≡ listed_line form.now (fields_after fields.entry) }
 {
     no_field(fields)?;
     if form == b"exact".as_slice() {
@@ -177,8 +172,7 @@ fn read_listed(form: &[u8], fields: Option<&[u8]>) -> Result<RuleLine, LineCause
 }
 
 fn read_rule(fields: Option<&[u8]>) -> Result<RuleLine, LineCause>
-    ensures value { result ≡ rule_line (fields_after fields.entry) }
-    ensures range { IfOk result RuleInRange }
+    ensures { result ≡ rule_line (fields_after fields.entry) }
 {
     let (form, rest) = next_field(fields)?;
     if form == b"any".as_slice() {
@@ -190,8 +184,7 @@ fn read_rule(fields: Option<&[u8]>) -> Result<RuleLine, LineCause>
 
 /// Pairs of a lowest and a highest value, at least one.
 fn read_range(fields: Option<&[u8]>) -> Result<HexBytes, LineCause>
-    ensures value { result ≡ range_line (fields_after fields.entry) }
-    ensures some { IfOk result (λ pairs. 2 ≤ length pairs) }
+    ensures { result ≡ range_line (fields_after fields.entry) }
 {
     let pairs = hex_field(fields)?;
     if pairs.bytes().len() == 1 {
@@ -202,9 +195,7 @@ fn read_range(fields: Option<&[u8]>) -> Result<HexBytes, LineCause>
 
 /// What the fields of a line say that begins with this word.
 pub fn read_header_line(word: Word, fields: Option<&[u8]>) -> Result<HeaderLine, LineCause>
-    ensures value { result ≡ header_line word (fields_after fields.entry) }
-    ensures range { IfOk result InRange }
-    ensures begins { IfOk result (λ line. word_of_line line ≡ word) }
+    ensures { result ≡ header_line word (fields_after fields.entry) }
 {
     match word {
         Word::Lengths => Ok(HeaderLine::Lengths(read_lengths(fields)?)),
