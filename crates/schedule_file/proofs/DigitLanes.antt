@@ -150,17 +150,6 @@ pair text n room fits digits i lt =
     let low = read text n room fits digits (i + 1) lt in
     byte_of (slice_index text i) (slice_index text (i + 1)) (slice_index lanes i) (slice_index lanes (i + 1)) high.0 high.1 low.0 low.1
 
-abbrev four_bytes : List ℕ → List ℕ
-four_bytes lanes = byte_at lanes 0 ∷ byte_at lanes 2 ∷ byte_at lanes 4 ∷ byte_at lanes 6 ∷ []
-
-pub four_decoded : (text : List ℕ) → 8 ≤ length text → Each1 (Fits w8) (take 8 text) → list_all is_hex_digit (take 8 text) ≡ true
-    → HasDigitsOf text (four_bytes (twice 8 text)) 4
-four_decoded text room fits digits zero lt = pair text 8 room fits digits 0 (lit< tt)
-four_decoded text room fits digits (suc zero) lt = pair text 8 room fits digits 2 (lit< tt)
-four_decoded text room fits digits (suc (suc zero)) lt = pair text 8 room fits digits 4 (lit< tt)
-four_decoded text room fits digits (suc (suc (suc zero))) lt = pair text 8 room fits digits 6 (lit< tt)
-four_decoded text room fits digits (suc (suc (suc (suc k)))) lt = absurd (omega arith)
-
 abbrev eight_bytes : List ℕ → List ℕ
 eight_bytes lanes =
     byte_at lanes 0 ∷ byte_at lanes 2 ∷ byte_at lanes 4 ∷ byte_at lanes 6

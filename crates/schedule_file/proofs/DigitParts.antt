@@ -1,15 +1,16 @@
 -- A text of digits, part after part.
-use Rattle.std.proofs.Common.{◌≡◌, ℕ, zero, suc, ◌+◌, ◌-◌, ◌*◌, ◌/◌, ◌%◌, ◌≤◌, Bool, true, false, List, length, take, drop, slice_index, slice_set, refl, sym, ap, ◌∙◌, arith, add-one, inl, inr, ◌<◌}
+use Rattle.std.proofs.Common.{◌≡◌, ℕ, zero, suc, ◌+◌, ◌-◌, ◌*◌, ◌/◌, ◌%◌, ◌≤◌, Bool, true, false, List, length, [], ◌∷◌, ◌++◌, take, drop, slice_index, slice_set, refl, sym, ap, ◌∙◌, arith, add-one, zero-add, lit<, lit≤, inl, inr, ◌<◌}
 use Rattle.std.specs.Prelude.{◌&&◌, Ok}
 use Rattle.std.specs.List.{list_all}
+use Rattle.std.proofs.Math.Bool.{and_comm}
 use Rattle.std.proofs.lemmas.Bool.{and_parts, cases_lt}
-use Rattle.std.proofs.lemmas.List.{drop-drop, drop-take, get_or-drop, get_or-take, set-get_or, take-append-drop, take-take}
+use Rattle.std.proofs.lemmas.List.{drop-drop, drop-take, get_or-append_right, get_or_append_left, get_or-drop, get_or-take, length-append, length-drop, length-take-le, set-get_or, take-append-drop, take-take, take_all}
 use Rattle.std.proofs.lemmas.List.Folds.{list_all-append}
 use Rattle.std.proofs.lemmas.Simd.{get_or-put_chunk_at, get_or-put_chunk_below}
 use Rattle.hex.specs.Hex.{decode_of, decode_pairs, hex_digit_value, is_hex_digit}
 use Rattle.hex.proofs.HexLemmas.{decode_of-even}
 use Rattle.hex.proofs.Pairs.{decode_done, decode_start, decode_step, prepend}
-use Rattle.schedule_file.specs.HexDigits.{HasDigitsOf}
+use Rattle.schedule_file.specs.HexDigits.{AreDigitsOf, HasDigitsOf}
 use Rattle.schedule_file.proofs.HexDigits.{pair_read}
 use lib.Lanes.{put_chunk}
 
@@ -74,6 +75,55 @@ all_tested text from to le =
     ∙ overlap (list_all is_hex_digit (take from text)) (list_all is_hex_digit mid) (list_all is_hex_digit (drop to text))
     ∙ ap (λ b. b && list_all is_hex_digit (drop to text)) (sym early)
     ∙ sym (split_at text to)
+
+-- the first eight digits and the last eight, which are all where there are no more than sixteen
+abbrev pub both_ends : List ℕ → List ℕ
+both_ends text = take 8 text ++ drop (length text - 8) text
+
+ends_first : (text : List ℕ) → 8 ≤ length text → (j : ℕ) → j < 8 → slice_index text j ≡ slice_index (both_ends text) j
+ends_first text room j lt =
+    let long = length-take-le 8 text room in
+    sym (get_or_append_left (take 8 text) (drop (length text - 8) text) 0 j (omega arith) ∙ get_or-take 8 text j 0 lt)
+
+ends_last : (text : List ℕ) → 8 ≤ length text → (j : ℕ) → j < 8 → slice_index (drop (length text - 8) text) j ≡ slice_index (both_ends text) (8 + j)
+ends_last text room j lt =
+    let e : 8 + j - 8 ≡ j = omega arith in
+    sym (get_or-append_right (take 8 text) (drop (length text - 8) text) 8 (8 + j) 0 (length-take-le 8 text room) (omega arith) ∙ ap (slice_index (drop (length text - 8) text)) e)
+
+pub ends_tested : (text : List ℕ) → 8 ≤ length text → length text ≤ 16 → list_all is_hex_digit (take 16 (both_ends text)) ≡ list_all is_hex_digit text
+ends_tested text room few =
+    let from : ℕ = length text - 8 in
+    ap (list_all is_hex_digit) (take_all 16 (both_ends text) (omega (arith, length-append (take 8 text) (drop from text), length-take-le 8 text room, length-drop from text)))
+    ∙ list_all-append is_hex_digit (take 8 text) (drop from text)
+    ∙ and_comm (list_all is_hex_digit (take 8 text)) (list_all is_hex_digit (drop from text))
+    ∙ all_tested text from 8 (omega arith)
+
+-- four of eight bytes, as a shuffle gives them
+abbrev pub four_of : List ℕ → ℕ → List ℕ
+four_of bytes at = slice_index (bytes ++ bytes) (at + 0) ∷ slice_index (bytes ++ bytes) (at + 1) ∷ slice_index (bytes ++ bytes) (at + 2) ∷ slice_index (bytes ++ bytes) (at + 3) ∷ []
+
+one_of_eight : (text some bytes : List ℕ) (at : ℕ) → length bytes ≡ 8 → at ≤ 4 → HasDigitsOf text bytes 8 → ((j : ℕ) → j < 8 → slice_index some j ≡ slice_index text (2 * at + j))
+    → (k : ℕ) → k < 4 → AreDigitsOf (slice_index some (2 * k)) (slice_index some (2 * k + 1)) (slice_index (bytes ++ bytes) (at + k))
+one_of_eight text some bytes at eight few digits same k lt =
+    let here = digits (at + k) (omega arith) in
+    let byte = get_or_append_left bytes bytes 0 (at + k) (omega arith) in
+    let high : slice_index some (2 * k) ≡ slice_index text (2 * (at + k)) = same (2 * k) (omega arith) ∙ ap (slice_index text) (omega arith) in
+    let low : slice_index some (2 * k + 1) ≡ slice_index text (2 * (at + k) + 1) = same (2 * k + 1) (omega arith) ∙ ap (slice_index text) (omega arith) in
+    rw byte (ap hex_digit_value high ∙ here.0, ap hex_digit_value low ∙ here.1)
+
+four_of_eight : (text some bytes : List ℕ) (at : ℕ) → length bytes ≡ 8 → at ≤ 4 → HasDigitsOf text bytes 8 → ((j : ℕ) → j < 8 → slice_index some j ≡ slice_index text (2 * at + j))
+    → HasDigitsOf some (four_of bytes at) 4
+four_of_eight text some bytes at eight few digits same zero lt = one_of_eight text some bytes at eight few digits same 0 (lit< tt)
+four_of_eight text some bytes at eight few digits same (suc zero) lt = one_of_eight text some bytes at eight few digits same 1 (lit< tt)
+four_of_eight text some bytes at eight few digits same (suc (suc zero)) lt = one_of_eight text some bytes at eight few digits same 2 (lit< tt)
+four_of_eight text some bytes at eight few digits same (suc (suc (suc zero))) lt = one_of_eight text some bytes at eight few digits same 3 (lit< tt)
+four_of_eight text some bytes at eight few digits same (suc (suc (suc (suc k)))) lt = absurd (omega arith)
+
+pub first_four : (text bytes : List ℕ) → 8 ≤ length text → length bytes ≡ 8 → HasDigitsOf (both_ends text) bytes 8 → HasDigitsOf text (four_of bytes 0) 4
+first_four text bytes room eight digits = four_of_eight (both_ends text) text bytes 0 eight (lit≤ tt) digits (λ j lt. ends_first text room j lt ∙ ap (slice_index (both_ends text)) (sym (zero-add j)))
+
+pub last_four : (text bytes : List ℕ) → 8 ≤ length text → length bytes ≡ 8 → HasDigitsOf (both_ends text) bytes 8 → HasDigitsOf (drop (length text - 8) text) (four_of bytes 4) 4
+last_four text bytes room eight digits = four_of_eight (both_ends text) (drop (length text - 8) text) bytes 4 eight (lit≤ tt) digits (ends_last text room)
 
 -- bytes are written from this place on, before which all are written
 pub more_written : (text out bytes part : List ℕ) (written at count from to : ℕ) → HasDigitsOf text out written → at ≤ written

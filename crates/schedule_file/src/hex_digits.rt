@@ -1,6 +1,6 @@
-//! Bytes from hexadecimal digits. Sixteen digits are taken at once, or eight where there are fewer than sixteen. The last ones
-//! are taken as well, though some of them were taken before, so that from eight digits on none is taken alone.
-ghost use Rattle.std.specs.Prelude.{◌≡◌, ◌*◌, ◌+◌, ◌≤◌, ◌<◌, IsTrue, Some, Ok, length, take};
+//! Bytes from hexadecimal digits. Sixteen digits are taken at once; where there are fewer, from eight on, the first eight and the
+//! last eight together. The last ones are taken as well, though some of them were taken before, so that none is taken alone.
+ghost use Rattle.std.specs.Prelude.{◌≡◌, ◌*◌, ◌+◌, ◌-◌, ◌++◌, ◌≤◌, ◌<◌, IsTrue, Some, Ok, length, take, drop};
 ghost use Rattle.std.specs.List.{list_all};
 ghost use Rattle.hex.specs.Hex.{decode_of, hex_digit_value, is_hex_digit};
 ghost use Rattle.schedule_file.specs.HexDigits.{HasDigitsOf};
@@ -14,21 +14,15 @@ fn is_digit(c: u8) -> bool
     matches!(c, b'0'..=b'9' | b'A'..=b'F' | b'a'..=b'f')
 }
 
-/// Whether the first eight are digits.
-fn are_eight(text: &[u8]) -> bool
+/// The first eight bytes and the last eight, some of which may be the same.
+fn both_ends(text: &[u8]) -> [u8; 16]
     requires { 8 ≤ length text.now }
-    ensures { result ≡ list_all is_hex_digit (take 8 text.now) }
+    ensures { result ≡ take 8 text.now ++ drop (length text.now - 8) text.now }
 {
-    let digits = u8x8::from_slice(text);
-    let numbers = digits - u8x8::splat(b'0');
-    let letters = (digits | u8x8::splat(b'a' - b'A')) - u8x8::splat(b'a');
-    // How far each is past the last of ten numbers, and past the last of six letters.
-    let past_numbers = numbers.saturating_sub(u8x8::splat(9));
-    let past_letters = letters.saturating_sub(u8x8::splat(5));
-    past_numbers
-        .simd_min(past_letters)
-        .simd_eq(u8x8::splat(0))
-        .all()
+    let mut both = [0; 16];
+    both[..8].copy_from_slice(&text[..8]);
+    both[8..].copy_from_slice(&text[text.len() - 8..]);
+    both
 }
 
 /// Whether the first sixteen are digits.
@@ -57,8 +51,7 @@ pub(crate) fn are_digits(text: &[u8]) -> bool
         return text.iter().all(|c| is_digit(*c));
     }
     if count < 16 {
-        // Both are tested, with no branch between them.
-        return are_eight(&text[count - 8..]) & are_eight(text);
+        return are_sixteen(&both_ends(text));
     }
     let mut all = are_sixteen(&text[count - 16..]);
     for i in 0..(count - 1) / 16 {
@@ -84,23 +77,6 @@ fn decode_each(text: &[u8], out: &mut [u8])
     for i in 0..out.len() {
         out[i] = value(text[2 * i]) * 16 + value(text[2 * i + 1]);
     }
-}
-
-/// The bytes of the first eight digits.
-fn decode_eight(text: &[u8]) -> u8x4
-    requires room { 8 ≤ length text.now }
-    requires digits { IsTrue (list_all is_hex_digit (take 8 text.now)) }
-    ensures count { length result ≡ 4 }
-    ensures digits { HasDigitsOf text.now result 4 }
-{
-    let digits = u8x8::from_slice(text);
-    let numbers = digits - u8x8::splat(b'0');
-    let letters = (digits | u8x8::splat(b'a' - b'A')) - u8x8::splat(b'a' - 10);
-    // A letter is large as a number, and a number as a letter.
-    let values = numbers.simd_min(letters);
-    let high = values.swizzle([0, 2, 4, 6]);
-    let low = values.swizzle([1, 3, 5, 7]);
-    high * u8x4::splat(16) + low
 }
 
 /// The bytes of the first sixteen digits.
@@ -132,8 +108,11 @@ pub(crate) fn decode(text: &[u8], out: &mut [u8])
         return;
     }
     if count < 8 {
-        decode_eight(text).copy_to_slice(out);
-        decode_eight(&text[2 * count - 8..]).copy_to_slice(&mut out[count - 4..]);
+        let bytes = decode_sixteen(&both_ends(text));
+        bytes.swizzle([0, 1, 2, 3]).copy_to_slice(out);
+        bytes
+            .swizzle([4, 5, 6, 7])
+            .copy_to_slice(&mut out[count - 4..]);
         return;
     }
     for i in 0..(count - 1) / 8 {

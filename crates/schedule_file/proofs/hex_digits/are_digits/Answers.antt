@@ -1,9 +1,9 @@
 use Rattle.std.proofs.Common.{◌≡◌, ℕ, ◌+◌, ◌-◌, ◌*◌, List, length, take, drop, ap, ◌∙◌, arith}
 use Rattle.std.specs.Prelude.{◌&&◌}
 use Rattle.std.specs.List.{list_all}
-use Rattle.std.proofs.lemmas.List.{length-drop, take-take, take_all}
+use Rattle.std.proofs.lemmas.List.{length-drop, take_all}
 use Rattle.hex.specs.Hex.{is_hex_digit}
-use Rattle.schedule_file.proofs.DigitParts.{more_tested, all_tested}
+use Rattle.schedule_file.proofs.DigitParts.{ends_tested, more_tested, all_tested}
 use Rattle.schedule_file.proofs.hex_digits.are_digits.Goals as goal
 
 pub loop-i-preserved : goal.loop-i-preserved
@@ -22,11 +22,4 @@ returns c =
     ∙ all_tested text from (16 * c.loop-i.i) (omega arith)
 
 pub returns-then-count-lt16 : goal.returns-then-count-lt16
-returns-then-count-lt16 c =
-    let text : List ℕ = c.args.text.now in
-    let from : ℕ = length text - 8 in
-    let last : take 8 (take (length text - from) (drop from text)) ≡ drop from text =
-    take-take 8 (length text - from) (drop from text) (omega arith) ∙ take_all 8 (drop from text) (omega (arith, length-drop from text)) in
-    ap (λ b. b && c.are_eight-then-count-lt16.result) (c.are_eight.ensures ∙ ap (list_all is_hex_digit) last)
-    ∙ ap (λ b. list_all is_hex_digit (drop from text) && b) c.are_eight-then-count-lt16.ensures
-    ∙ all_tested text from 8 (omega arith)
+returns-then-count-lt16 c = rw c.both_ends.ensures at c.are_sixteen.ensures ∙ ends_tested c.args.text.now (omega arith) (omega arith)
