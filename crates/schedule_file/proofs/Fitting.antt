@@ -5,15 +5,13 @@ use Rattle.std.specs.Str.Parse.{digits_value}
 use Rattle.std.proofs.lemmas.Bool.{and_parts, leb-true, ltb-true, eqb-true}
 use Rattle.std.proofs.lemmas.Bool.Decides.{nat_tests}
 use Rattle.std.proofs.lemmas.List.Elements.{All-cons, All-nil, All-take}
-use Rattle.hex.specs.Hex.{decode_of}
-use Rattle.hex.specs.declared.error.FromHexError.{FromHexError}
 use Rattle.fsoe_base.specs.declared.command.End.{End}
 use Rattle.param_load.specs.Profile.{allows_id}
 use Rattle.param_load.specs.declared.profile.Profile.{Profile}
 use Rattle.schedule_file.specs.Event.{Fits, FitsEnd, OnStep}
 use Rattle.schedule_file.specs.EventLine.{not_zero, reference_of, switch_of, delivered_len, altered_line}
-use Rattle.schedule_file.specs.Field.{fields_of, is_number, number_of, some_bytes, bytes_of}
-use Rattle.schedule_file.specs.Fields.{◌>>=◌, value_or, next_field, no_field, one_field}
+use Rattle.schedule_file.specs.Field.{fields_of, is_number, number_of, bytes_of}
+use Rattle.schedule_file.specs.Fields.{◌>>=◌, value_or, next_field, no_field, one_field, number_16, number_32, one_hex_field}
 use Rattle.schedule_file.specs.Header.{Heading}
 use Rattle.schedule_file.specs.Input.{Stop, WholeHeader, header_of, own_length, heading_profile, said_after, steps, texts, input_by, input_of}
 use Rattle.schedule_file.specs.NodeEvent.{word_of, node_said, node_said_by}
@@ -30,7 +28,7 @@ use Rattle.schedule_file.specs.declared.node_event.Word.{Word}
 use Rattle.schedule_file.specs.declared.node_event.Word.TheVariants as node_word
 use Rattle.schedule_file.specs.declared.pair_event.PairWord.{PairWord}
 use Rattle.schedule_file.specs.declared.pair_event.PairWord.TheVariants as word
-use Rattle.schedule_file.proofs.Sound.{each, ok_if}
+use Rattle.schedule_file.proofs.Sound.{each, known, hex_within, ok_if}
 
 -- the next step gives such a value, whatever is given here
 given : {A B : Type 0} (o : Option A) (cause : LineCause) (f : A → Result B LineCause) (Q : A → Type 0) (P : B → Type 0) → IfSome o Q → ((x : A) → Q x → IfOk (f x) P) → IfOk (value_or cause o >>= f) P
@@ -63,20 +61,10 @@ reference_within : (text : List ℕ) → IfSome (reference_of text) IsReference
 reference_within [] = tt
 reference_within (sign ∷ digits) = signed (sign == 45) digits
 
--- bytes are at least one
-some_within : (most : ℕ) (r : Result (List ℕ) FromHexError) → IfSome (some_bytes most r) (λ bytes. (0 < length bytes) × (length bytes ≤ most))
-some_within most (Ok bytes) =
-    some_if (nat_lt 0 (length bytes) && nat_le (length bytes) most) bytes _
-    (λ e. let parts = and_parts (nat_lt 0 (length bytes)) (nat_le (length bytes) most) e in (ltb-true 0 (length bytes) parts.0, leb-true (length bytes) most parts.1))
-some_within most (Err e) = tt
-
-bytes_within : (most : ℕ) (text : List ℕ) → IfSome (bytes_of most text) (λ bytes. (0 < length bytes) × (length bytes ≤ most))
-bytes_within most text = some_within most (decode_of text)
-
 -- the event of a line fits
 altered_fits : (sends : End → ℕ) (profiles : End → Profile) (to : End) (fields : List (List ℕ)) → IfOk (altered_line to sends fields) (OnStep (Fits sends profiles))
 altered_fits sends profiles to fields =
-    each (next_field fields) _ _ (λ reference. each (next_field reference.1) _ _ (λ place. each (one_field place.1) _ _ (λ digits. each (value_or cause.Number (number_of 65535 place.0)) _ _ (λ pos.
+    each (next_field fields) _ _ (λ reference. each (next_field reference.1) _ _ (λ place. each (one_field place.1) _ _ (λ digits. each (number_16 place.0) _ _ (λ pos.
     given (reference_of reference.0) cause.Reference _ _ _ (reference_within reference.0) (λ back range. each (value_or cause.Hex (bytes_of 1 digits)) _ _ (λ mask.
     ok_if (nat_lt pos (delivered_len sends to)) _ cause.Position _ (λ e. (range, ltb-true pos (delivered_len sends to) e))))))))
 
@@ -86,14 +74,14 @@ said_fits sends profiles (Some (word.Deliver to)) fields =
     each (one_field fields) _ _ (λ field. given (reference_of field) cause.Reference _ _ _ (reference_within field) (λ back range. (range, tt)))
 said_fits sends profiles (Some (word.Altered to)) fields = altered_fits sends profiles to fields
 said_fits sends profiles (Some (word.Raw to)) fields =
-    each (one_field fields) _ _ (λ field. given (bytes_of 255 field) cause.Hex _ _ _ (bytes_within 255 field) (λ bytes range. (range, tt)))
+    known (one_hex_field 255 fields) _ _ _ (hex_within 255 fields) (λ bytes range. (range, tt))
 said_fits sends profiles (Some (word.Tick at)) fields = each (no_field fields) _ _ (λ none. (tt, tt))
 said_fits sends profiles (Some (word.Put at)) fields =
-    each (one_field fields) _ _ (λ field. given (bytes_of 126 field) cause.Hex _ _ _ (bytes_within 126 field) (λ bytes range.
-    ok_if (length bytes == sends at) _ cause.Length _ (λ e. (range, eqb-true (length bytes) (sends at) e))))
+    known (one_hex_field 126 fields) _ _ _ (hex_within 126 fields) (λ bytes range.
+    ok_if (length bytes == sends at) _ cause.Length _ (λ e. (range, eqb-true (length bytes) (sends at) e)))
 said_fits sends profiles (Some (word.Hold at)) fields = each (one_field fields) _ _ (λ field. each (value_or cause.Number (switch_of field)) _ _ (λ on. (tt, tt)))
 said_fits sends profiles (Some (word.Nonce at)) fields =
-    each (one_field fields) _ _ (λ field. each (value_or cause.Number (number_of 4294967295 field)) _ _ (λ id. ok_if (allows_id (profiles at) id) _ cause.Number _ (λ e. (tt, e))))
+    each (one_field fields) _ _ (λ field. each (number_32 field) _ _ (λ id. ok_if (allows_id (profiles at) id) _ cause.Number _ (λ e. (tt, e))))
 said_fits sends profiles (Some (word.Local at)) fields = each (no_field fields) _ _ (λ none. (tt, tt))
 said_fits sends profiles (Some word.End) fields = each (no_field fields) _ _ (λ none. tt)
 
@@ -102,12 +90,12 @@ node_said_fits : (end : End) (count : ℕ) (profile : Profile) (word : Option Wo
 node_said_fits end count profile None fields = tt
 node_said_fits end count profile (Some node_word.Tick) fields = each (no_field fields) _ _ (λ none. refl)
 node_said_fits end count profile (Some node_word.Deliver) fields =
-    each (one_field fields) _ _ (λ field. given (bytes_of 255 field) cause.Hex _ _ _ (bytes_within 255 field) (λ bytes range. (refl, range.0, range.1)))
+    known (one_hex_field 255 fields) _ _ _ (hex_within 255 fields) (λ bytes range. (refl, range.0, range.1))
 node_said_fits end count profile (Some node_word.Put) fields =
-    each (one_field fields) _ _ (λ field. each (value_or cause.Hex (bytes_of 126 field)) _ _ (λ bytes. ok_if (length bytes == count) _ cause.Length _ (λ e. (refl, eqb-true (length bytes) count e))))
+    each (one_hex_field 126 fields) _ _ (λ bytes. ok_if (length bytes == count) _ cause.Length _ (λ e. (refl, eqb-true (length bytes) count e)))
 node_said_fits end count profile (Some node_word.Hold) fields = each (one_field fields) _ _ (λ field. each (value_or cause.Number (switch_of field)) _ _ (λ on. refl))
 node_said_fits end count profile (Some node_word.Nonce) fields =
-    each (one_field fields) _ _ (λ field. each (value_or cause.Number (number_of 4294967295 field)) _ _ (λ id. ok_if (allows_id profile id) _ cause.Number _ (λ e. (refl, e))))
+    each (one_field fields) _ _ (λ field. each (number_32 field) _ _ (λ id. ok_if (allows_id profile id) _ cause.Number _ (λ e. (refl, e))))
 node_said_fits end count profile (Some node_word.Local) fields = each (no_field fields) _ _ (λ none. refl)
 node_said_fits end count profile (Some node_word.End) fields = each (no_field fields) _ _ (λ none. tt)
 

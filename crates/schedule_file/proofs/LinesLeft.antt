@@ -7,9 +7,9 @@ use Rattle.std.proofs.lemmas.Result.{IfOk-at_ok, IfOk-weaker}
 use Rattle.param_load.specs.AppRule.{rule_len}
 use Rattle.param_load.specs.declared.app_rule.AppRule.{AppRule}
 use Rattle.param_load.specs.declared.app_rule.AppRule.TheVariants as app_rule
-use Rattle.schedule_file.specs.Fields.{◌>>=◌, map_ok, no_field, Becomes}
+use Rattle.schedule_file.specs.Fields.{◌>>=◌, map_ok, no_field, one_hex_field, Becomes}
 use Rattle.schedule_file.specs.Header.{Heading, profile_taken, rule_place, taken}
-use Rattle.schedule_file.specs.HeaderLine.{hex_field, lengths_line, master_line, profile_line, slave_line, rule_line, range_line, header_line}
+use Rattle.schedule_file.specs.HeaderLine.{lengths_line, master_line, profile_line, slave_line, rule_line, range_line, header_line}
 use Rattle.schedule_file.specs.HeaderPart.{list_with, lows_of, highs_of, ranges_with, rule_begun, rule_with_bytes, rule_with_pairs, master_with_app, slave_with_bytes, slave_with_pairs}
 use Rattle.schedule_file.specs.LinesLeft.{left_after, lines_left}
 use Rattle.schedule_file.specs.Place.{may_stand}
@@ -123,12 +123,12 @@ line_fewer h word.Lengths fields stands low = taken_each (lengths_line fields) s
 line_fewer h word.Master fields stands low = taken_each (master_line fields) says.Master h _ (λ line. omega (arith, low))
 line_fewer h word.Profile fields stands low = taken_each (profile_line fields) says.Profile h _ (λ n. profile-fewer h.place h n stands)
 line_fewer h word.App fields stands low =
-    taken_known (hex_field fields) says.App h _ _ (hex_sound fields) (λ bytes some. IfOk-bind (master_with_app h.master bytes) _ _ (IfOk-bind (list_with h.master.app bytes) _ _
+    taken_known (one_hex_field 256 fields) says.App h _ _ (hex_sound fields) (λ bytes some. IfOk-bind (master_with_app h.master bytes) _ _ (IfOk-bind (list_with h.master.app bytes) _ _
     (IfOk-weaker (list_with h.master.app bytes) _ _ (λ all longer. omega (arith, low, some, longer.0, longer.1)) (list_with-longer h.master.app bytes))))
 line_fewer h word.Slave fields stands low = taken_each (slave_line fields) says.Slave h _ (λ line. omega (arith, low))
 line_fewer h word.Rule fields stands low = taken_each (rule_line fields) says.Rule h _ (λ line. omega (arith, low, left-rule line (length h.master.app)))
 line_fewer h word.Bytes fields stands low =
-    taken_known (hex_field fields) says.Bytes h _ _ (hex_sound fields) (λ bytes some. IfOk-bind (slave_with_bytes h.slave bytes) _ _ (IfOk-bind (rule_with_bytes h.slave.rule bytes) _ _
+    taken_known (one_hex_field 256 fields) says.Bytes h _ _ (hex_sound fields) (λ bytes some. IfOk-bind (slave_with_bytes h.slave bytes) _ _ (IfOk-bind (rule_with_bytes h.slave.rule bytes) _ _
     (IfOk-weaker (rule_with_bytes h.slave.rule bytes) _ _ (λ r longer. omega (arith, low, longer.0, longer.1)) (rule_with_bytes-longer h.slave.rule bytes some))))
 line_fewer h word.Range fields stands low =
     taken_known (range_line fields) says.Range h _ _ (range_sound fields) (λ pairs some. IfOk-bind (slave_with_pairs h.slave pairs) _ _ (IfOk-bind (rule_with_pairs h.slave.rule pairs) _ _

@@ -19,10 +19,10 @@ use Rattle.param_load.specs.declared.master_settings.MasterSettings.{MasterSetti
 use Rattle.param_load.specs.declared.profile.Profile.TheVariants as profile
 use Rattle.param_load.specs.declared.slave_settings.SlaveSettings.{SlaveSettings}
 use Rattle.schedule_file.specs.Field.{fields_of, some_bytes}
-use Rattle.schedule_file.specs.Fields.{◌>>=◌, map_ok, value_or, next_field, no_field, one_field}
+use Rattle.schedule_file.specs.Fields.{◌>>=◌, map_ok, value_or, next_field, no_field, one_field, number_16, one_hex_field}
 use Rattle.schedule_file.specs.Header.{Heading, heading_new, heading_after, is_done, profile_given, profile_taken, taken, title_taken, fields_taken, rule_place, IsMasterOf, IsSlaveOf}
 use Rattle.schedule_file.specs.HeaderKind.{title_of}
-use Rattle.schedule_file.specs.HeaderLine.{InRange, RuleInRange, number_16, profile_line, hex_field, lengths_line, end_numbers, master_line, slave_line, any_line, listed_line, rule_line, range_line, header_line}
+use Rattle.schedule_file.specs.HeaderLine.{InRange, RuleInRange, profile_line, lengths_line, end_numbers, master_line, slave_line, any_line, listed_line, rule_line, range_line, header_line}
 use Rattle.schedule_file.specs.HeaderPart.{MasterValues, SlaveValues, lows_of, highs_of, list_with, rule_begun, rule_with_bytes, rule_with_pairs, master_with_app, slave_with_bytes, slave_with_pairs, profile_for}
 use Rattle.schedule_file.specs.Input.{InputCause, Stop, WholeHeader, header_step, header_in, lines_of, header_of, input_by, input_of}
 use Rattle.schedule_file.specs.Place.{is_start, admitted, header_word_of}
@@ -62,6 +62,11 @@ record Sound (h : Heading) : Type 0 where
 pub each : {A B : Type 0} (r : Result A LineCause) (f : A → Result B LineCause) (P : B → Type 0) → ((x : A) → IfOk (f x) P) → IfOk (r >>= f) P
 each (Ok x) f P h = h x
 each (Err e) f P h = tt
+
+-- the next step gives such a value, where something is known of what this one gave
+pub known : {A B : Type 0} (r : Result A LineCause) (f : A → Result B LineCause) (Q : A → Type 0) (P : B → Type 0) → IfOk r Q → ((x : A) → Q x → IfOk (f x) P) → IfOk (r >>= f) P
+known (Ok x) f Q P q h = h x q
+known (Err e) f Q P q h = tt
 
 -- a fact of the value of two steps
 pub IfOk-bind : {A B : Type 0} (r : Result A LineCause) (f : A → Result B LineCause) (P : B → Type 0) → IfOk r (λ x. IfOk (f x) P) → IfOk (r >>= f) P
@@ -115,24 +120,29 @@ rule_by false form fields = listed_sound form fields
 rule_sound : (fields : List (List ℕ)) → IfOk (rule_line fields) RuleInRange
 rule_sound fields = each (next_field fields) _ _ (λ form. rule_by (bytes_eq form.0 (codes "any")) form.0 form.1)
 
-some_if : (b : Bool) (bytes : List ℕ) → (b ≡ true → 0 < length bytes) → IfOk (value_or cause.Hex (if b then Some bytes else None)) (λ bytes. 0 < length bytes)
-some_if true bytes h = h refl
-some_if false bytes h = tt
+-- hexadecimal bytes are at least one, and no more than there may be
+bytes_if : (b : Bool) (bytes : List ℕ) (P : List ℕ → Type 0) → (b ≡ true → P bytes) → IfOk (value_or cause.Hex (if b then Some bytes else None)) P
+bytes_if true bytes P h = h refl
+bytes_if false bytes P h = tt
 
-some_sound : (most : ℕ) (r : Result (List ℕ) FromHexError) → IfOk (value_or cause.Hex (some_bytes most r)) (λ bytes. 0 < length bytes)
-some_sound most (Ok bytes) =
-    some_if (nat_lt 0 (length bytes) && nat_le (length bytes) most) bytes (λ e. ltb-true 0 (length bytes) (and_parts (nat_lt 0 (length bytes)) (nat_le (length bytes) most) e).0)
-some_sound most (Err e) = tt
+bytes_within : (most : ℕ) (r : Result (List ℕ) FromHexError) → IfOk (value_or cause.Hex (some_bytes most r)) (λ bytes. (0 < length bytes) × (length bytes ≤ most))
+bytes_within most (Ok bytes) =
+    bytes_if (nat_lt 0 (length bytes) && nat_le (length bytes) most) bytes _
+    (λ e. let parts = and_parts (nat_lt 0 (length bytes)) (nat_le (length bytes) most) e in (ltb-true 0 (length bytes) parts.0, leb-true (length bytes) most parts.1))
+bytes_within most (Err e) = tt
 
-pub hex_sound : (fields : List (List ℕ)) → IfOk (hex_field fields) (λ bytes. 0 < length bytes)
-hex_sound fields = each (one_field fields) _ _ (λ field. some_sound 256 (decode_of field))
+pub hex_within : (most : ℕ) (fields : List (List ℕ)) → IfOk (one_hex_field most fields) (λ bytes. (0 < length bytes) × (length bytes ≤ most))
+hex_within most fields = each (one_field fields) _ _ (λ field. bytes_within most (decode_of field))
+
+pub hex_sound : (fields : List (List ℕ)) → IfOk (one_hex_field 256 fields) (λ bytes. 0 < length bytes)
+hex_sound fields = IfOk-weaker (one_hex_field 256 fields) _ _ (λ bytes within. within.0) (hex_within 256 fields)
 
 not_one : (n : ℕ) → 0 < n → (n == 1) ≡ false → 2 ≤ n
 not_one n some e = grind (arith, nat_tests)
 
 pub range_sound : (fields : List (List ℕ)) → IfOk (range_line fields) (λ pairs. 2 ≤ length pairs)
 range_sound fields =
-    IfOk-bind (hex_field fields) _ _ (IfOk-weaker (hex_field fields) _ _ (λ pairs some. ok_unless (length pairs == 1) pairs cause.Hex _ (λ e. not_one (length pairs) some e)) (hex_sound fields))
+    known (one_hex_field 256 fields) _ _ _ (hex_sound fields) (λ pairs some. ok_unless (length pairs == 1) pairs cause.Hex _ (λ e. not_one (length pairs) some e))
 
 any_value : {A : Type 0} (r : Result A LineCause) → IfOk r (λ x. Unit {0})
 any_value (Ok x) = tt
@@ -143,10 +153,10 @@ line_sound : (word : Word) (fields : List (List ℕ)) → IfOk (header_line word
 line_sound word.Lengths fields = IfOk-map (lengths_line fields) says.Lengths InRange (lengths_sound fields)
 line_sound word.Master fields = IfOk-map (master_line fields) says.Master InRange (master_sound fields)
 line_sound word.Profile fields = IfOk-map (profile_line fields) says.Profile InRange (any_value (profile_line fields))
-line_sound word.App fields = IfOk-map (hex_field fields) says.App InRange (hex_sound fields)
+line_sound word.App fields = IfOk-map (one_hex_field 256 fields) says.App InRange (hex_sound fields)
 line_sound word.Slave fields = IfOk-map (slave_line fields) says.Slave InRange (slave_sound fields)
 line_sound word.Rule fields = IfOk-map (rule_line fields) says.Rule InRange (rule_sound fields)
-line_sound word.Bytes fields = IfOk-map (hex_field fields) says.Bytes InRange (hex_sound fields)
+line_sound word.Bytes fields = IfOk-map (one_hex_field 256 fields) says.Bytes InRange (hex_sound fields)
 line_sound word.Range fields = IfOk-map (range_line fields) says.Range InRange (range_sound fields)
 line_sound word.Go fields = IfOk-map (no_field fields) (λ _. says.Go) InRange (any_value (no_field fields))
 

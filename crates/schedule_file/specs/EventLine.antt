@@ -8,7 +8,7 @@ use Rattle.fsoe_base.specs.declared.command.End.TheVariants as side
 use Rattle.param_load.specs.Profile.{allows_id}
 use Rattle.param_load.specs.declared.profile.Profile.{Profile}
 use Rattle.schedule_file.specs.Field.{number_of, bytes_of}
-use Rattle.schedule_file.specs.Fields.{◌>>=◌, value_or, next_field, no_field, one_field}
+use Rattle.schedule_file.specs.Fields.{◌>>=◌, value_or, next_field, no_field, one_field, number_16, number_32, one_hex_field}
 use Rattle.schedule_file.specs.declared.event.Event.TheVariants as event
 use Rattle.schedule_file.specs.declared.event.TheConstants.{MAX_BACK}
 use Rattle.schedule_file.specs.declared.event.ScheduleLine.{ScheduleLine}
@@ -51,29 +51,27 @@ altered_line to sends fields = do
   reference ← next_field fields
   place ← next_field reference.1
   digits ← one_field place.1
-  pos ← value_or cause.Number (number_of 65535 place.0)
+  pos ← number_16 place.0
   back ← value_or cause.Reference (reference_of reference.0)
   mask ← value_or cause.Hex (bytes_of 1 digits)
   if nat_lt pos (delivered_len sends to) then Ok (line.Step (event.Altered to back pos (slice_index mask 0))) else Err cause.Position
 
--- a tick
-abbrev pub tick_line : End → List (List ℕ) → Result ScheduleLine LineCause
-tick_line at fields = do
+-- a word says this by itself
+abbrev pub bare_line : ScheduleLine → List (List ℕ) → Result ScheduleLine LineCause
+bare_line says fields = do
   none ← no_field fields
-  Ok (line.Step (event.Tick at))
+  Ok says
 
 -- a frame of 1 to 255 bytes
 abbrev pub raw_line : End → List (List ℕ) → Result ScheduleLine LineCause
 raw_line to fields = do
-  field ← one_field fields
-  bytes ← value_or cause.Hex (bytes_of 255 field)
+  bytes ← one_hex_field 255 fields
   Ok (line.Step (event.Raw to bytes))
 
 -- safe data bytes, exactly as many as the end sends
 abbrev pub put_line : End → ℕ → List (List ℕ) → Result ScheduleLine LineCause
 put_line at count fields = do
-  field ← one_field fields
-  bytes ← value_or cause.Hex (bytes_of 126 field)
+  bytes ← one_hex_field 126 fields
   if length bytes == count then Ok (line.Step (event.Put at bytes)) else Err cause.Length
 
 -- fail-safe data on or off
@@ -87,17 +85,5 @@ hold_line at fields = do
 abbrev pub nonce_line : End → Profile → List (List ℕ) → Result ScheduleLine LineCause
 nonce_line at profile fields = do
   field ← one_field fields
-  id ← value_or cause.Number (number_of 4294967295 field)
+  id ← number_32 field
   if allows_id profile id then Ok (line.Step (event.Nonce at id)) else Err cause.Number
-
--- a local reset
-abbrev pub local_line : End → List (List ℕ) → Result ScheduleLine LineCause
-local_line at fields = do
-  none ← no_field fields
-  Ok (line.Step (event.Local at))
-
--- the end of the schedule
-abbrev pub end_line : List (List ℕ) → Result ScheduleLine LineCause
-end_line fields = do
-  none ← no_field fields
-  Ok line.End

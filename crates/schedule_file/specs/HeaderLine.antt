@@ -3,8 +3,7 @@
 use Rattle.std.specs.Prelude.{◌<◌, ◌≤◌, ℕ, ◌==◌, ◌&&◌, ◌||◌, nat_le, length, IsTrue, List, codes, Result, Ok, Err, if◌then◌else◌}
 use Rattle.std.specs.Str.{bytes_eq}
 use Rattle.fsoe_base.specs.Lengths.{is_length}
-use Rattle.schedule_file.specs.Field.{number_of, bytes_of}
-use Rattle.schedule_file.specs.Fields.{◌>>=◌, map_ok, value_or, next_field, no_field, one_field}
+use Rattle.schedule_file.specs.Fields.{◌>>=◌, map_ok, next_field, no_field, one_field, number_16, number_32, one_hex_field}
 use Rattle.schedule_file.specs.declared.header_line.HeaderLine.{HeaderLine}
 use Rattle.schedule_file.specs.declared.header_line.HeaderLine.TheVariants as says
 use Rattle.schedule_file.specs.declared.header_line.LengthsLine.{LengthsLine}
@@ -16,20 +15,6 @@ use Rattle.schedule_file.specs.declared.line_cause.LineCause.{LineCause}
 use Rattle.schedule_file.specs.declared.line_cause.LineCause.TheVariants as cause
 use Rattle.schedule_file.specs.declared.place.Word.{Word}
 use Rattle.schedule_file.specs.declared.place.Word.TheVariants as word
-
--- a number field of 16 bits
-abbrev pub number_16 : List ℕ → Result ℕ LineCause
-number_16 text = value_or cause.Number (number_of 65535 text)
-
--- a number field of 32 bits
-abbrev pub number_32 : List ℕ → Result ℕ LineCause
-number_32 text = value_or cause.Number (number_of 4294967295 text)
-
--- an only field of hexadecimal digits, for 1 to 256 bytes
-abbrev pub hex_field : List (List ℕ) → Result (List ℕ) LineCause
-hex_field fields = do
-  field ← one_field fields
-  value_or cause.Hex (bytes_of 256 field)
 
 -- the number of safe data bytes that each end sends
 abbrev pub lengths_line : List (List ℕ) → Result LengthsLine LineCause
@@ -95,7 +80,7 @@ rule_line fields = do
 -- a line of ranges has at least one low and its high
 abbrev pub range_line : List (List ℕ) → Result (List ℕ) LineCause
 range_line fields = do
-  pairs ← hex_field fields
+  pairs ← one_hex_field 256 fields
   if length pairs == 1 then Err cause.Hex else Ok pairs
 
 -- what the fields of a line say that begins with a word
@@ -103,10 +88,10 @@ abbrev pub header_line : Word → List (List ℕ) → Result HeaderLine LineCaus
 header_line word.Lengths fields = map_ok says.Lengths (lengths_line fields)
 header_line word.Master fields = map_ok says.Master (master_line fields)
 header_line word.Profile fields = map_ok says.Profile (profile_line fields)
-header_line word.App fields = map_ok says.App (hex_field fields)
+header_line word.App fields = map_ok says.App (one_hex_field 256 fields)
 header_line word.Slave fields = map_ok says.Slave (slave_line fields)
 header_line word.Rule fields = map_ok says.Rule (rule_line fields)
-header_line word.Bytes fields = map_ok says.Bytes (hex_field fields)
+header_line word.Bytes fields = map_ok says.Bytes (one_hex_field 256 fields)
 header_line word.Range fields = map_ok says.Range (range_line fields)
 header_line word.Go fields = map_ok (λ _. says.Go) (no_field fields)
 

@@ -3,9 +3,11 @@ use Rattle.std.specs.Prelude.{List, [], ◌∷◌, ℕ, codes, Option, Some, Non
 use Rattle.std.specs.Str.{bytes_eq}
 use Rattle.fsoe_base.specs.declared.command.End.{End}
 use Rattle.param_load.specs.declared.profile.Profile.{Profile}
-use Rattle.schedule_file.specs.EventLine.{tick_line, raw_line, put_line, hold_line, nonce_line, local_line, end_line}
+use Rattle.schedule_file.specs.EventLine.{bare_line, raw_line, put_line, hold_line, nonce_line}
 use Rattle.schedule_file.specs.Field.{fields_of}
+use Rattle.schedule_file.specs.declared.event.Event.TheVariants as event
 use Rattle.schedule_file.specs.declared.event.ScheduleLine.{ScheduleLine}
+use Rattle.schedule_file.specs.declared.event.ScheduleLine.TheVariants as line
 use Rattle.schedule_file.specs.declared.line_cause.LineCause.{LineCause}
 use Rattle.schedule_file.specs.declared.line_cause.LineCause.TheVariants as cause
 use Rattle.schedule_file.specs.declared.node_event.Word.{Word}
@@ -26,13 +28,13 @@ word_of text =
 -- what a word says with its fields
 abbrev pub node_said : End → ℕ → Profile → Option Word → List (List ℕ) → Result ScheduleLine LineCause
 node_said end count profile None fields = Err cause.Word
-node_said end count profile (Some word.Tick) fields = tick_line end fields
+node_said end count profile (Some word.Tick) fields = bare_line (line.Step (event.Tick end)) fields
 node_said end count profile (Some word.Deliver) fields = raw_line end fields
 node_said end count profile (Some word.Put) fields = put_line end count fields
 node_said end count profile (Some word.Hold) fields = hold_line end fields
 node_said end count profile (Some word.Nonce) fields = nonce_line end profile fields
-node_said end count profile (Some word.Local) fields = local_line end fields
-node_said end count profile (Some word.End) fields = end_line fields
+node_said end count profile (Some word.Local) fields = bare_line (line.Step (event.Local end)) fields
+node_said end count profile (Some word.End) fields = bare_line line.End fields
 
 -- what the fields of a line say, of which the first is its word
 abbrev pub node_said_by : End → ℕ → Profile → List (List ℕ) → Result ScheduleLine LineCause

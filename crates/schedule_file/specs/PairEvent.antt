@@ -4,9 +4,11 @@ use Rattle.std.specs.Str.{bytes_eq}
 use Rattle.fsoe_base.specs.declared.command.End.{End}
 use Rattle.fsoe_base.specs.declared.command.End.TheVariants as side
 use Rattle.param_load.specs.declared.profile.Profile.{Profile}
-use Rattle.schedule_file.specs.EventLine.{deliver_line, altered_line, tick_line, raw_line, put_line, hold_line, nonce_line, local_line, end_line}
+use Rattle.schedule_file.specs.EventLine.{bare_line, deliver_line, altered_line, raw_line, put_line, hold_line, nonce_line}
 use Rattle.schedule_file.specs.Field.{fields_of}
+use Rattle.schedule_file.specs.declared.event.Event.TheVariants as event
 use Rattle.schedule_file.specs.declared.event.ScheduleLine.{ScheduleLine}
+use Rattle.schedule_file.specs.declared.event.ScheduleLine.TheVariants as line
 use Rattle.schedule_file.specs.declared.line_cause.LineCause.{LineCause}
 use Rattle.schedule_file.specs.declared.line_cause.LineCause.TheVariants as cause
 use Rattle.schedule_file.specs.declared.pair_event.PairWord.{PairWord}
@@ -40,12 +42,12 @@ pair_said sends profiles None fields = Err cause.Word
 pair_said sends profiles (Some (word.Deliver to)) fields = deliver_line to fields
 pair_said sends profiles (Some (word.Altered to)) fields = altered_line to sends fields
 pair_said sends profiles (Some (word.Raw to)) fields = raw_line to fields
-pair_said sends profiles (Some (word.Tick at)) fields = tick_line at fields
+pair_said sends profiles (Some (word.Tick at)) fields = bare_line (line.Step (event.Tick at)) fields
 pair_said sends profiles (Some (word.Put at)) fields = put_line at (sends at) fields
 pair_said sends profiles (Some (word.Hold at)) fields = hold_line at fields
 pair_said sends profiles (Some (word.Nonce at)) fields = nonce_line at (profiles at) fields
-pair_said sends profiles (Some (word.Local at)) fields = local_line at fields
-pair_said sends profiles (Some word.End) fields = end_line fields
+pair_said sends profiles (Some (word.Local at)) fields = bare_line (line.Step (event.Local at)) fields
+pair_said sends profiles (Some word.End) fields = bare_line line.End fields
 
 -- what the fields of a line say, of which the first is its word
 abbrev pub pair_said_by : (End → ℕ) → (End → Profile) → List (List ℕ) → Result ScheduleLine LineCause

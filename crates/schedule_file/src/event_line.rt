@@ -5,12 +5,12 @@ ghost use Rattle.fsoe_base.specs.LengthsOf.{length_of};
 ghost use Rattle.fsoe_base.specs.declared.command.End.{End};
 ghost use Rattle.param_load.specs.declared.profile.Profile.{Profile};
 ghost use Rattle.schedule_file.specs.Event.{PairLineFits};
-ghost use Rattle.schedule_file.specs.EventLine.{switch_of, reference_of, delivered_len, deliver_line, altered_line, tick_line, raw_line, put_line, hold_line, nonce_line, local_line, end_line};
+ghost use Rattle.schedule_file.specs.EventLine.{switch_of, reference_of, delivered_len, bare_line, deliver_line, altered_line, raw_line, put_line, hold_line, nonce_line};
 ghost use Rattle.schedule_file.specs.Field.{fields_after};
 ghost use Rattle.schedule_file.specs.Fields.{Becomes};
 
 use crate::event::{Event, MAX_BACK, ScheduleLine};
-use crate::field::{HexBytes, frame_field, next_field, no_field, number, one_field, one_hex_field};
+use crate::field::{HexBytes, frame_field, next_field, no_field, number, number_16, number_32, one_field, one_hex_field};
 use crate::line_cause::LineCause;
 use fsoe_base::{End, FrameBuf, Image, Lengths};
 use param_load::Profile;
@@ -82,10 +82,10 @@ pub fn read_altered(
     let (reference, rest) = next_field(fields)?;
     let (place, rest) = next_field(rest)?;
     let digits = one_field(rest)?;
-    let pos = number(place, 65_535).ok_or(LineCause::Number)?;
+    let pos = number_16(place)?;
     let back = read_reference(reference).ok_or(LineCause::Reference)?;
     let mask = HexBytes::read(digits, 1).ok_or(LineCause::Hex)?;
-    if pos as usize >= delivered_len(to, lengths) {
+    if usize::from(pos) >= delivered_len(to, lengths) {
         return Err(LineCause::Position);
     }
     *says = ScheduleLine::Step(Event::Altered {
@@ -98,7 +98,7 @@ pub fn read_altered(
 }
 
 pub fn read_tick(at: End, fields: Option<&[u8]>, says: &mut ScheduleLine) -> Result<(), LineCause>
-    ensures value { Becomes result says.new (tick_line at (fields_after fields.entry)) }
+    ensures value { Becomes result says.new (bare_line (ScheduleLine.Step (Event.Tick at)) (fields_after fields.entry)) }
     ensures unwritten { OnErr result (says.new ≡ says.old) }
 {
     no_field(fields)?;
@@ -194,7 +194,7 @@ pub fn read_nonce(
     ensures unwritten { OnErr result (says.new ≡ says.old) }
 {
     let field = one_field(fields)?;
-    let id = number(field, u32::MAX).ok_or(LineCause::Number)?;
+    let id = number_32(field)?;
     if !profile.allows_id(id) {
         return Err(LineCause::Number);
     }
@@ -203,7 +203,7 @@ pub fn read_nonce(
 }
 
 pub fn read_local(at: End, fields: Option<&[u8]>, says: &mut ScheduleLine) -> Result<(), LineCause>
-    ensures value { Becomes result says.new (local_line at (fields_after fields.entry)) }
+    ensures value { Becomes result says.new (bare_line (ScheduleLine.Step (Event.Local at)) (fields_after fields.entry)) }
     ensures unwritten { OnErr result (says.new ≡ says.old) }
 {
     no_field(fields)?;
@@ -212,7 +212,7 @@ pub fn read_local(at: End, fields: Option<&[u8]>, says: &mut ScheduleLine) -> Re
 }
 
 pub fn read_end(fields: Option<&[u8]>, says: &mut ScheduleLine) -> Result<(), LineCause>
-    ensures value { Becomes result says.new (end_line (fields_after fields.entry)) }
+    ensures value { Becomes result says.new (bare_line ScheduleLine.End (fields_after fields.entry)) }
     ensures unwritten { OnErr result (says.new ≡ says.old) }
 {
     no_field(fields)?;

@@ -1,6 +1,6 @@
 //! The fields of a line, and what one field says.
 ghost use Rattle.std.specs.Prelude.{◌≡◌, ◌≤◌, ◌<◌, ◌∷◌, length, IfSome, IfOk, OnOk, OnErr};
-ghost use Rattle.schedule_file.specs.Fields.{next_field, no_field, one_field, one_hex_field, not_hex, IsField, AreFields, Becomes};
+ghost use Rattle.schedule_file.specs.Fields.{next_field, no_field, one_field, number_16, number_32, one_hex_field, not_hex, IsField, AreFields, Becomes};
 ghost use Rattle.schedule_file.specs.Field.{FindsSpace, CountsBytes, fields_of, fields_after, number_of, bytes_of};
 
 use crate::hex_digits::{are_digits, decode};
@@ -47,7 +47,7 @@ pub fn read_number(text: &[u8], most: u64) -> Option<u64>
     Some(value as u64)
 }
 
-/// The same of 32 bits.
+/// The same with at most 32 bits.
 pub fn number(text: &[u8], most: u32) -> Option<u32>
     ensures { result ≡ number_of most text.now }
 {
@@ -107,6 +107,21 @@ impl HexBytes {
     {
         &self.bytes[..self.len]
     }
+}
+
+/// A field that is a number of 16 bits. `Number` where it isn't.
+pub fn number_16(text: &[u8]) -> Result<u16, LineCause>
+    ensures { result ≡ number_16 text.now }
+{
+    let n = number(text, u32::from(u16::MAX)).ok_or(LineCause::Number)?;
+    Ok(n as u16)
+}
+
+/// The same of 32 bits.
+pub fn number_32(text: &[u8]) -> Result<u32, LineCause>
+    ensures { result ≡ number_32 text.now }
+{
+    number(text, u32::MAX).ok_or(LineCause::Number)
 }
 
 /// The next field, and what follows the space after it. `Fields` where there is none.

@@ -1,9 +1,9 @@
 //! What one header line says, by its fields.
 ghost use Rattle.std.specs.Prelude.{◌≡◌};
 ghost use Rattle.schedule_file.specs.Field.{fields_after};
-ghost use Rattle.schedule_file.specs.HeaderLine.{number_16, number_32, hex_field, lengths_line, end_numbers, master_line, slave_line, profile_line, any_line, listed_line, rule_line, range_line, header_line};
+ghost use Rattle.schedule_file.specs.HeaderLine.{lengths_line, end_numbers, master_line, slave_line, profile_line, any_line, listed_line, rule_line, range_line, header_line};
 
-use crate::field::{HexBytes, next_field, no_field, number, one_field};
+use crate::field::{HexBytes, next_field, no_field, number_16, number_32, one_field, one_hex_field};
 use crate::line_cause::LineCause;
 use crate::place::Word;
 use fsoe_base::Lengths;
@@ -53,29 +53,6 @@ pub enum HeaderLine {
     Bytes(HexBytes),
     Range(HexBytes),
     Go,
-}
-
-/// A number field of 16 bits.
-fn number_16(text: &[u8]) -> Result<u16, LineCause>
-    ensures { result ≡ number_16 text.now }
-{
-    let n = number(text, u32::from(u16::MAX)).ok_or(LineCause::Number)?;
-    Ok(n as u16)
-}
-
-/// A number field of 32 bits.
-fn number_32(text: &[u8]) -> Result<u32, LineCause>
-    ensures { result ≡ number_32 text.now }
-{
-    number(text, u32::MAX).ok_or(LineCause::Number)
-}
-
-/// The only field, which is hexadecimal with from 1 to 256 bytes.
-fn hex_field(fields: Option<&[u8]>) -> Result<HexBytes, LineCause>
-    ensures { result ≡ hex_field (fields_after fields.entry) }
-{
-    let field = one_field(fields)?;
-    HexBytes::read(field, 256).ok_or(LineCause::Hex)
 }
 
 fn read_lengths(fields: Option<&[u8]>) -> Result<LengthsLine, LineCause>
@@ -186,7 +163,7 @@ fn read_rule(fields: Option<&[u8]>) -> Result<RuleLine, LineCause>
 fn read_range(fields: Option<&[u8]>) -> Result<HexBytes, LineCause>
     ensures { result ≡ range_line (fields_after fields.entry) }
 {
-    let pairs = hex_field(fields)?;
+    let pairs = one_hex_field(fields, 256)?;
     if pairs.bytes().len() == 1 {
         return Err(LineCause::Hex);
     }
@@ -201,10 +178,10 @@ pub fn read_header_line(word: Word, fields: Option<&[u8]>) -> Result<HeaderLine,
         Word::Lengths => Ok(HeaderLine::Lengths(read_lengths(fields)?)),
         Word::Master => Ok(HeaderLine::Master(read_master(fields)?)),
         Word::Profile => Ok(HeaderLine::Profile(read_profile(fields)?)),
-        Word::App => Ok(HeaderLine::App(hex_field(fields)?)),
+        Word::App => Ok(HeaderLine::App(one_hex_field(fields, 256)?)),
         Word::Slave => Ok(HeaderLine::Slave(read_slave(fields)?)),
         Word::Rule => Ok(HeaderLine::Rule(read_rule(fields)?)),
-        Word::Bytes => Ok(HeaderLine::Bytes(hex_field(fields)?)),
+        Word::Bytes => Ok(HeaderLine::Bytes(one_hex_field(fields, 256)?)),
         Word::Range => Ok(HeaderLine::Range(read_range(fields)?)),
         Word::Go => {
             no_field(fields)?;
