@@ -1,6 +1,6 @@
 -- The line of an event is read as that event.
 use Rattle.std.proofs.Common.{◌≡◌, ℕ, ◌<◌, ◌≤◌, ◌^◌, Bool, true, false, List, [], ◌∷◌, length, get_or, All, inl, inr, refl, sym, ap, ◌∙◌, arith}
-use Rattle.std.specs.Prelude.{◌⊎◌, decimal, Some, Ok}
+use Rattle.std.specs.Prelude.{◌⊎◌, decimal, Option, Some, Ok}
 use Rattle.std.specs.Char.{is_ascii_digit}
 use Rattle.std.specs.List.{join_with_byte}
 use Rattle.std.specs.Str.{all_ascii_digits}
@@ -21,7 +21,9 @@ use Rattle.schedule_file.specs.Event.{Fits}
 use Rattle.schedule_file.specs.EventLine.{switch_of, reference_of, delivered_len, deliver_line, altered_line, raw_line, put_line, hold_line, nonce_line}
 use Rattle.schedule_file.specs.EventText.{IsOfTypes, end_letter, event_text, reference_text, switch_text}
 use Rattle.schedule_file.specs.Field.{is_space, fields_of, number_of, bytes_of, some_bytes}
-use Rattle.schedule_file.specs.PairEvent.{pair_line, pair_said_by}
+use Rattle.schedule_file.specs.PairEvent.{pair_line, pair_said, pair_said_by, pair_word_of}
+use Rattle.schedule_file.specs.declared.pair_event.PairWord.{PairWord}
+use Rattle.schedule_file.specs.declared.pair_event.PairWord.TheVariants as word
 use Rattle.schedule_file.specs.declared.event.Event.{Event}
 use Rattle.schedule_file.specs.declared.event.Event.TheVariants as event
 use Rattle.schedule_file.specs.declared.event.ScheduleLine.TheVariants as line
@@ -137,79 +139,46 @@ hold_read at on field e = rw e refl
 nonce_read : (at : End) (profile : Profile) (id : ℕ) (field : List ℕ) → number_of 4294967295 field ≡ Some id → allows_id profile id ≡ true → nonce_line at profile (field ∷ []) ≡ Ok (line.Step (event.Nonce at id))
 nonce_read at profile id field e allowed = rw (e, allowed) refl
 
--- a line whose fields have no spaces says what its fields say
-said_of_fields : (sends : End → ℕ) (profiles : End → Profile) (first : List ℕ) (fields : List (List ℕ)) → HaveNoSpaces (first ∷ fields)
-    → pair_line sends profiles (join_with_byte 32 (first ∷ fields)) ≡ pair_said_by sends profiles (first ∷ fields)
-said_of_fields sends profiles first fields none = ap (pair_said_by sends profiles) (fields_joined first fields none)
-
 word_spaceless : (first : ℕ) (end : End) → is_space first ≡ false → HasNoSpace (first ∷ end_letter end)
 word_spaceless first side.Master e = two_letters first 109 e refl
 word_spaceless first side.Slave e = two_letters first 115 e refl
 
--- what is said with each word
-said_deliver : (sends : End → ℕ) (profiles : End → Profile) (to : End) (fields : List (List ℕ)) → pair_said_by sends profiles ((100 ∷ end_letter to) ∷ fields) ≡ deliver_line to fields
-said_deliver sends profiles side.Master fields = refl
-said_deliver sends profiles side.Slave fields = refl
+-- what holds of both ends holds of each
+of_both : (P : End → Type 0) → P side.Master → P side.Slave → (end : End) → P end
+of_both P master slave side.Master = master
+of_both P master slave side.Slave = slave
 
-said_altered : (sends : End → ℕ) (profiles : End → Profile) (to : End) (fields : List (List ℕ)) → pair_said_by sends profiles ((97 ∷ end_letter to) ∷ fields) ≡ altered_line to sends fields
-said_altered sends profiles side.Master fields = refl
-said_altered sends profiles side.Slave fields = refl
-
-said_raw : (sends : End → ℕ) (profiles : End → Profile) (to : End) (fields : List (List ℕ)) → pair_said_by sends profiles ((114 ∷ end_letter to) ∷ fields) ≡ raw_line to fields
-said_raw sends profiles side.Master fields = refl
-said_raw sends profiles side.Slave fields = refl
-
-said_put : (sends : End → ℕ) (profiles : End → Profile) (at : End) (fields : List (List ℕ)) → pair_said_by sends profiles ((112 ∷ end_letter at) ∷ fields) ≡ put_line at (sends at) fields
-said_put sends profiles side.Master fields = refl
-said_put sends profiles side.Slave fields = refl
-
-said_hold : (sends : End → ℕ) (profiles : End → Profile) (at : End) (fields : List (List ℕ)) → pair_said_by sends profiles ((104 ∷ end_letter at) ∷ fields) ≡ hold_line at fields
-said_hold sends profiles side.Master fields = refl
-said_hold sends profiles side.Slave fields = refl
-
-said_nonce : (sends : End → ℕ) (profiles : End → Profile) (at : End) (fields : List (List ℕ)) → pair_said_by sends profiles ((110 ∷ end_letter at) ∷ fields) ≡ nonce_line at (profiles at) fields
-said_nonce sends profiles side.Master fields = refl
-said_nonce sends profiles side.Slave fields = refl
-
-said_tick : (sends : End → ℕ) (profiles : End → Profile) (at : End) → pair_said_by sends profiles ((116 ∷ end_letter at) ∷ []) ≡ Ok (line.Step (event.Tick at))
-said_tick sends profiles side.Master = refl
-said_tick sends profiles side.Slave = refl
-
-said_local : (sends : End → ℕ) (profiles : End → Profile) (at : End) → pair_said_by sends profiles ((122 ∷ end_letter at) ∷ []) ≡ Ok (line.Step (event.Local at))
-said_local sends profiles side.Master = refl
-said_local sends profiles side.Slave = refl
+-- a line says what its word says with the fields after it
+line_said : (sends : End → ℕ) (profiles : End → Profile) (first : ℕ) (named : End → PairWord) (at : End) (fields : List (List ℕ)) → is_space first ≡ false
+    → pair_word_of (first ∷ end_letter side.Master) ≡ Some (named side.Master) → pair_word_of (first ∷ end_letter side.Slave) ≡ Some (named side.Slave) → HaveNoSpaces fields
+    → pair_line sends profiles (join_with_byte 32 ((first ∷ end_letter at) ∷ fields)) ≡ pair_said sends profiles (Some (named at)) fields
+line_said sends profiles first named at fields letter master slave none =
+    ap (pair_said_by sends profiles) (fields_joined (first ∷ end_letter at) fields (word_spaceless first at letter, none))
+    ∙ ap (λ (w : Option PairWord). pair_said sends profiles w fields) (of_both (λ end. pair_word_of (first ∷ end_letter end) ≡ Some (named end)) master slave at)
 
 pub read_back : (sends : End → ℕ) (profiles : End → Profile) (event : Event) → IsOfTypes event → Fits sends profiles event → pair_line sends profiles (event_text event) ≡ Ok (line.Step event)
 read_back sends profiles (event.Deliver to back) typed fits =
-    said_of_fields sends profiles (100 ∷ end_letter to) (reference_text back ∷ []) (word_spaceless 100 to refl, (no_space-reference back fits.0.1, tt))
-    ∙ said_deliver sends profiles to (reference_text back ∷ [])
+    line_said sends profiles 100 word.Deliver to (reference_text back ∷ []) refl refl refl (no_space-reference back fits.0.1, tt)
     ∙ deliver_read to back (reference_text back) (reference_of-text back fits.0.0 fits.0.1)
 read_back sends profiles (event.Altered to back pos mask) typed fits =
     let place : List ℕ = decimal pos in
     let digits : List ℕ = encode_lower (mask ∷ []) in
     let is_byte = one_byte mask typed.2 in
-    said_of_fields sends profiles (97 ∷ end_letter to) (reference_text back ∷ place ∷ digits ∷ [])
-    (word_spaceless 97 to refl, (no_space-reference back fits.0.1, (no_space-decimal pos (omega (arith, typed.1)), (no_space-hex (mask ∷ []) is_byte, tt))))
-    ∙ said_altered sends profiles to (reference_text back ∷ place ∷ digits ∷ [])
+    line_said sends profiles 97 word.Altered to (reference_text back ∷ place ∷ digits ∷ []) refl refl refl
+    (no_space-reference back fits.0.1, (no_space-decimal pos (omega (arith, typed.1)), (no_space-hex (mask ∷ []) is_byte, tt)))
     ∙ altered_read sends to back pos mask (reference_text back) place digits (number_of-decimal 65535 pos (omega (arith, typed.1)) (omega (arith, typed.1)))
     (reference_of-text back fits.0.0 fits.0.1) (bytes_of-hex 1 (mask ∷ []) is_byte (omega arith) (omega arith)) fits.1
 read_back sends profiles (event.Raw to frame) typed fits =
-    said_of_fields sends profiles (114 ∷ end_letter to) (encode_lower frame ∷ []) (word_spaceless 114 to refl, (no_space-hex frame typed, tt))
-    ∙ said_raw sends profiles to (encode_lower frame ∷ [])
+    line_said sends profiles 114 word.Raw to (encode_lower frame ∷ []) refl refl refl (no_space-hex frame typed, tt)
     ∙ raw_read to frame (encode_lower frame) (bytes_of-hex 255 frame typed fits.0.0 fits.0.1)
-read_back sends profiles (event.Tick at) typed fits =
-    said_of_fields sends profiles (116 ∷ end_letter at) [] (word_spaceless 116 at refl, tt) ∙ said_tick sends profiles at
+read_back sends profiles (event.Tick at) typed fits = line_said sends profiles 116 word.Tick at [] refl refl refl tt
 read_back sends profiles (event.Put at load) typed fits =
-    said_of_fields sends profiles (112 ∷ end_letter at) (encode_lower load ∷ []) (word_spaceless 112 at refl, (no_space-hex load typed, tt))
-    ∙ said_put sends profiles at (encode_lower load ∷ [])
+    line_said sends profiles 112 word.Put at (encode_lower load ∷ []) refl refl refl (no_space-hex load typed, tt)
     ∙ put_read at (sends at) load (encode_lower load) (bytes_of-hex 126 load typed fits.0.0 fits.0.1) fits.1
 read_back sends profiles (event.Hold at failsafe) typed fits =
-    said_of_fields sends profiles (104 ∷ end_letter at) (switch_text failsafe ∷ []) (word_spaceless 104 at refl, (no_space-switch failsafe, tt))
-    ∙ said_hold sends profiles at (switch_text failsafe ∷ [])
+    line_said sends profiles 104 word.Hold at (switch_text failsafe ∷ []) refl refl refl (no_space-switch failsafe, tt)
     ∙ hold_read at failsafe (switch_text failsafe) (switch_of-text failsafe)
 read_back sends profiles (event.Nonce at id) typed fits =
-    said_of_fields sends profiles (110 ∷ end_letter at) (decimal id ∷ []) (word_spaceless 110 at refl, (no_space-decimal id (omega (arith, typed)), tt))
-    ∙ said_nonce sends profiles at (decimal id ∷ [])
+    line_said sends profiles 110 word.Nonce at (decimal id ∷ []) refl refl refl (no_space-decimal id (omega (arith, typed)), tt)
     ∙ nonce_read at (profiles at) id (decimal id) (number_of-decimal 4294967295 id (omega (arith, typed)) (omega (arith, typed))) fits.1
-read_back sends profiles (event.Local at) typed fits =
-    said_of_fields sends profiles (122 ∷ end_letter at) [] (word_spaceless 122 at refl, tt) ∙ said_local sends profiles at
+read_back sends profiles (event.Local at) typed fits = line_said sends profiles 122 word.Local at [] refl refl refl tt

@@ -16,20 +16,24 @@ use Rattle.param_load.specs.Profile.{allows_id}
 use Rattle.param_load.specs.declared.app_rule.AppRule.{AppRule}
 use Rattle.param_load.specs.declared.app_rule.AppRule.TheVariants as app_rule
 use Rattle.param_load.specs.declared.master_settings.MasterSettings.{MasterSettings}
+use Rattle.param_load.specs.declared.profile.Profile.{Profile}
 use Rattle.param_load.specs.declared.profile.Profile.TheVariants as profile
 use Rattle.param_load.specs.declared.slave_settings.SlaveSettings.{SlaveSettings}
 use Rattle.schedule_file.specs.Field.{fields_of, some_bytes}
 use Rattle.schedule_file.specs.Fields.{◌>>=◌, map_ok, value_or, next_field, no_field, one_field, number_16, one_hex_field}
-use Rattle.schedule_file.specs.Header.{Heading, heading_new, heading_after, is_done, profile_given, profile_taken, taken, title_taken, fields_taken, rule_place, IsMasterOf, IsSlaveOf}
+use Rattle.schedule_file.specs.Header.{Heading, heading_new, heading_after, is_done, profile_given, profile_taken, taken, title_taken, fields_taken, IsMasterOf, IsSlaveOf}
 use Rattle.schedule_file.specs.HeaderKind.{title_of}
 use Rattle.schedule_file.specs.HeaderLine.{InRange, RuleInRange, profile_line, lengths_line, end_numbers, master_line, slave_line, any_line, listed_line, rule_line, range_line, header_line}
-use Rattle.schedule_file.specs.HeaderPart.{MasterValues, SlaveValues, lows_of, highs_of, list_with, rule_begun, rule_with_bytes, rule_with_pairs, master_with_app, slave_with_bytes, slave_with_pairs, profile_for}
+use Rattle.schedule_file.specs.HeaderPart.{lows_of, highs_of, list_with, rule_begun, rule_with_bytes, rule_with_pairs, master_with_app, slave_with_bytes, slave_with_pairs, profile_for}
 use Rattle.schedule_file.specs.Input.{InputCause, Stop, WholeHeader, header_step, header_in, lines_of, header_of, input_by, input_of}
 use Rattle.schedule_file.specs.Place.{is_start, admitted, header_word_of}
 use Rattle.schedule_file.specs.declared.header_kind.HeaderKind.{HeaderKind}
 use Rattle.schedule_file.specs.declared.header_line.HeaderLine.{HeaderLine}
 use Rattle.schedule_file.specs.declared.header_line.HeaderLine.TheVariants as says
+use Rattle.schedule_file.specs.declared.header_line.LengthsLine.{LengthsLine}
+use Rattle.schedule_file.specs.declared.header_line.MasterLine.{MasterLine}
 use Rattle.schedule_file.specs.declared.header_line.RuleLine.{RuleLine}
+use Rattle.schedule_file.specs.declared.header_line.SlaveLine.{SlaveLine}
 use Rattle.schedule_file.specs.declared.header_line.RuleLine.TheVariants as rule
 use Rattle.schedule_file.specs.declared.line_cause.LineCause.{LineCause}
 use Rattle.schedule_file.specs.declared.line_cause.LineCause.TheVariants as cause
@@ -38,25 +42,27 @@ use Rattle.schedule_file.specs.declared.place.Place.TheVariants as place
 use Rattle.schedule_file.specs.declared.place.Word.{Word}
 use Rattle.schedule_file.specs.declared.place.Word.TheVariants as word
 
+-- lengths that settings may have
+record AreLengths (line : LengthsLine) : Type 0 where
+  master : IsTrue (is_length line.master)
+  slave : IsTrue (is_length line.slave)
+
 -- values that settings of a master may have
-record SoundMaster (m : MasterValues) : Type 0 where
-  conn : 0 < m.line.conn
-  watchdog : 0 < m.line.watchdog
-  allowed : IsTrue (allows_id m.profile m.line.nonce)
+record SoundMaster (line : MasterLine) (profile : Profile) : Type 0 where
+  conn : 0 < line.conn
+  watchdog : 0 < line.watchdog
+  allowed : IsTrue (allows_id profile line.nonce)
 
 -- values that settings of a slave may have
-record SoundSlave (s : SlaveValues) : Type 0 where
-  hand : 0 < s.line.hand
-  most : 0 < s.line.most
-  acceptable : IsTrue (is_acceptable s.rule)
-  allowed : IsTrue (allows_id s.profile s.line.nonce)
+record SoundSlave (line : SlaveLine) (profile : Profile) (rule : AppRule) : Type 0 where
+  hand : 0 < line.hand
+  most : 0 < line.most
+  acceptable : IsTrue (is_acceptable rule)
+  allowed : IsTrue (allows_id profile line.nonce)
 
--- a header whose values are such
-record Sound (h : Heading) : Type 0 where
-  master_length : IsTrue (is_length h.lengths.master)
-  slave_length : IsTrue (is_length h.lengths.slave)
-  master : SoundMaster h.master
-  slave : SoundSlave h.slave
+-- a header whose lengths and values of both ends are such
+abbrev Sound : Heading → Type 0
+Sound h = AreLengths h.lengths × SoundMaster h.master.line h.master.profile × SoundSlave h.slave.line h.slave.profile h.slave.rule
 
 -- the next step gives such a value, whatever this one gave
 pub each : {A B : Type 0} (r : Result A LineCause) (f : A → Result B LineCause) (P : B → Type 0) → ((x : A) → IfOk (f x) P) → IfOk (r >>= f) P
@@ -197,66 +203,32 @@ pairs_acceptable (app_rule.Ranges low high) pairs is =
 
 -- a header after one more line
 profile_sound : (p : Place) (h : Heading) (n : ℕ) → Sound h → Sound (profile_taken p h n)
-profile_sound place.Slave h n s = record {
-  master_length = s.master_length;
-  slave_length = s.slave_length;
-  master = s.master;
-  slave = record { hand = s.slave.hand; most = s.slave.most; acceptable = s.slave.acceptable; allowed = refl };
-}
-profile_sound other h n s = record {
-  master_length = s.master_length;
-  slave_length = s.slave_length;
-  master = record { conn = s.master.conn; watchdog = s.master.watchdog; allowed = refl };
-  slave = s.slave;
-}
+profile_sound place.Slave h n s = (s.0, s.1, record { hand = s.2.hand; most = s.2.most; acceptable = s.2.acceptable; allowed = refl })
+profile_sound other h n s = (s.0, record { conn = s.1.conn; watchdog = s.1.watchdog; allowed = refl }, s.2)
 
-with_app : (h : Heading) (app : List ℕ) → Sound h → Sound (record h { place = place.App; master = record h.master { app = app } })
-with_app h app s = record {
-  master_length = s.master_length;
-  slave_length = s.slave_length;
-  master = record { conn = s.master.conn; watchdog = s.master.watchdog; allowed = s.master.allowed };
-  slave = s.slave;
-}
-
-with_rule : (h : Heading) (p : Place) (r : AppRule) → Sound h → IsTrue (is_acceptable r) → Sound (record h { place = p; slave = record h.slave { rule = r } })
-with_rule h p r s is = record {
-  master_length = s.master_length;
-  slave_length = s.slave_length;
-  master = s.master;
-  slave = record { hand = s.slave.hand; most = s.slave.most; acceptable = is; allowed = s.slave.allowed };
-}
+with_rule : (h : Heading) (r : AppRule) → Sound h → IsTrue (is_acceptable r) → Sound (record h { slave = record h.slave { rule = r } })
+with_rule h r s is = (s.0, s.1, record { hand = s.2.hand; most = s.2.most; acceptable = is; allowed = s.2.allowed })
 
 taken_sound : (h : Heading) (line : HeaderLine) → InRange line → Sound h → IfOk (taken h line) Sound
-taken_sound h (says.Lengths line) range s = record { master_length = range.0; slave_length = range.1; master = s.master; slave = s.slave }
-taken_sound h (says.Master line) range s = record {
-  master_length = s.master_length;
-  slave_length = s.slave_length;
-  master = record { conn = range.0; watchdog = range.1; allowed = profile_allows line.nonce };
-  slave = s.slave;
-}
+taken_sound h (says.Lengths line) range s = (record { master = range.0; slave = range.1 }, s.1, s.2)
+taken_sound h (says.Master line) range s = (s.0, record { conn = range.0; watchdog = range.1; allowed = profile_allows line.nonce }, s.2)
 taken_sound h (says.Profile n) range s = profile_sound h.place h n s
-taken_sound h (says.App bytes) range s =
-    IfOk-bind (master_with_app h.master bytes) _ _ (each (list_with h.master.app bytes) _ _ (λ app. with_app h app s))
-taken_sound h (says.Slave line) range s = record {
-  master_length = s.master_length;
-  slave_length = s.slave_length;
-  master = s.master;
-  slave = record { hand = range.0; most = range.1; acceptable = refl; allowed = profile_allows line.nonce };
-}
-taken_sound h (says.Rule line) range s = with_rule h (rule_place line) (rule_begun line) s (begun_acceptable line range)
+taken_sound h (says.App bytes) range s = IfOk-bind (master_with_app h.master bytes) _ _ (each (list_with h.master.app bytes) _ _ (λ app. s))
+taken_sound h (says.Slave line) range s = (s.0, s.1, record { hand = range.0; most = range.1; acceptable = refl; allowed = profile_allows line.nonce })
+taken_sound h (says.Rule line) range s = with_rule h (rule_begun line) s (begun_acceptable line range)
 taken_sound h (says.Bytes bytes) range s =
-    IfOk-bind (slave_with_bytes h.slave bytes) _ _ (IfOk-bind (rule_with_bytes h.slave.rule bytes) _ _ (IfOk-weaker (rule_with_bytes h.slave.rule bytes) _ _ (λ r is. with_rule h place.RuleExact r s is) (bytes_acceptable h.slave.rule bytes)))
+    IfOk-bind (slave_with_bytes h.slave bytes) _ _ (known (rule_with_bytes h.slave.rule bytes) _ _ _ (bytes_acceptable h.slave.rule bytes) (λ r is. with_rule h r s is))
 taken_sound h (says.Range pairs) range s =
-    IfOk-bind (slave_with_pairs h.slave pairs) _ _ (IfOk-bind (rule_with_pairs h.slave.rule pairs) _ _ (IfOk-weaker (rule_with_pairs h.slave.rule pairs) _ _ (λ r is. with_rule h place.RuleRanges r s is) (pairs_acceptable h.slave.rule pairs s.slave.acceptable)))
-taken_sound h says.Go range s = record { master_length = s.master_length; slave_length = s.slave_length; master = s.master; slave = s.slave }
+    IfOk-bind (slave_with_pairs h.slave pairs) _ _ (known (rule_with_pairs h.slave.rule pairs) _ _ _ (pairs_acceptable h.slave.rule pairs s.2.acceptable) (λ r is. with_rule h r s is))
+taken_sound h says.Go range s = s
 
 title_sound : (b : Bool) (h : Heading) → Sound h → IfOk (if b then Ok (record h { place = place.Title }) else Err cause.Header) Sound
-title_sound b h s = ok_if b (record h { place = place.Title }) cause.Header _ (λ e. record { master_length = s.master_length; slave_length = s.slave_length; master = s.master; slave = s.slave })
+title_sound b h s = ok_if b (record h { place = place.Title }) cause.Header _ (λ e. s)
 
 fields_sound : (h : Heading) (fields : List (List ℕ)) → Sound h → IfOk (fields_taken h fields) Sound
 fields_sound h [] s = tt
 fields_sound h (first ∷ fields) s =
-    each (admitted h.kind h.place (header_word_of first)) _ _ (λ word. IfOk-bind (header_line word fields) _ _ (IfOk-weaker (header_line word fields) _ _ (λ line range. each (profile_given h word) _ _ (λ given. taken_sound h line range s)) (line_sound word fields)))
+    each (admitted h.kind h.place (header_word_of first)) _ _ (λ word. known (header_line word fields) _ _ _ (line_sound word fields) (λ line range. each (profile_given h word) _ _ (λ given. taken_sound h line range s)))
 
 after_by : (b : Bool) (h : Heading) (text : List ℕ) → Sound h → IfOk (if b then title_taken h text else fields_taken h (fields_of text)) Sound
 after_by true h text s = title_sound (bytes_eq text (title_of h.kind)) h s
@@ -283,49 +255,49 @@ lines_sound number h (Ok text ∷ rest) s =
     step_sound (heading_after h text) number rest (λ next. header_in (number + 1) next rest) (after_sound h text s) (λ next sound. lines_sound (number + 1) next rest sound)
 
 new_sound : (kind : HeaderKind) → Sound (heading_new kind)
-new_sound kind = record {
-  master_length = refl;
-  slave_length = refl;
-  master = record { conn = omega arith; watchdog = omega arith; allowed = profile_allows 0 };
-  slave = record { hand = omega arith; most = omega arith; acceptable = refl; allowed = profile_allows 0 };
-}
+new_sound kind = (
+    record { master = refl; slave = refl },
+    record { conn = omega arith; watchdog = omega arith; allowed = profile_allows 0 },
+    record { hand = omega arith; most = omega arith; acceptable = refl; allowed = profile_allows 0 },
+)
 
 header_sound : (kind : HeaderKind) (lines : List (Result (List ℕ) InputCause)) → IfOk (header_in 1 (heading_new kind) lines) (λ whole. Sound whole.heading)
 header_sound kind lines = lines_sound 1 (heading_new kind) lines (new_sound kind)
 
 -- there are settings with these values
+abbrev lengths_of : (h : Heading) → Sound h → Lengths
+lengths_of h s = record { master = h.lengths.master; slave = h.lengths.slave; valid_master = s.0.master; valid_slave = s.0.slave }
+
 master_settings : (h : Heading) → Sound h → (ms : MasterSettings) × IsMasterOf h ms
 master_settings h s =
-    let lengths : Lengths = record { master = h.lengths.master; slave = h.lengths.slave; valid_master = s.master_length; valid_slave = s.slave_length } in
     let ms : MasterSettings = record {
-      lengths = lengths;
+      lengths = lengths_of h s;
       conn = h.master.line.conn;
       address = h.master.line.address;
       watchdog = h.master.line.watchdog;
       app = h.master.app;
       nonce = h.master.line.nonce;
       profile = h.master.profile;
-      some_conn = s.master.conn;
-      some_watchdog = s.master.watchdog;
-      allowed = s.master.allowed;
+      some_conn = s.1.conn;
+      some_watchdog = s.1.watchdog;
+      allowed = s.1.allowed;
     } in
     (ms, (refl, refl, record { lengths_are = refl; conn_is = refl; address_is = refl; watchdog_is = refl; app_is = refl; nonce_is = refl; profile_is = refl }))
 
 slave_settings : (h : Heading) → Sound h → (ss : SlaveSettings) × IsSlaveOf h ss
 slave_settings h s =
-    let lengths : Lengths = record { master = h.lengths.master; slave = h.lengths.slave; valid_master = s.master_length; valid_slave = s.slave_length } in
     let ss : SlaveSettings = record {
-      lengths = lengths;
+      lengths = lengths_of h s;
       address = h.slave.line.address;
       hand = h.slave.line.hand;
       most = h.slave.line.most;
       rule = h.slave.rule;
       nonce = h.slave.line.nonce;
       profile = h.slave.profile;
-      some_hand = s.slave.hand;
-      some_most = s.slave.most;
-      acceptable = s.slave.acceptable;
-      allowed = s.slave.allowed;
+      some_hand = s.2.hand;
+      some_most = s.2.most;
+      acceptable = s.2.acceptable;
+      allowed = s.2.allowed;
     } in
     (ss, (refl, refl, record { lengths_are = refl; address_is = refl; hand_is = refl; most_is = refl; rule_is = refl; nonce_is = refl; profile_is = refl }))
 
