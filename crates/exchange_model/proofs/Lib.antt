@@ -6,6 +6,5 @@ pub mod Alone
 pub mod Terms
 pub mod Fairness
 pub mod Honest
--- Beside it: what monitors keep, and the worked runs.
+-- Beside it: what monitors keep.
 pub mod Monitors
-pub mod Worked

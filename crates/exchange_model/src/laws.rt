@@ -96,7 +96,6 @@ pub fn honest_schedules()
 
 /// Worked handshakes of both ends, over frames of several lengths and in both profiles: the lines of the report, and the number
 /// of the first other entry.
-#[tactic(auto, using(crate::proofs::Worked::WorkedRuns::first_data, crate::proofs::Worked::WorkedRuns::byte_by_byte, crate::proofs::Worked::WorkedRuns::longest_frames, crate::proofs::Worked::WorkedRuns::profile_two, crate::proofs::Worked::WorkedRuns::number_stepped, crate::proofs::Worked::WorkedRuns::no_frame))]
 pub fn worked_handshakes()
     ensures first_data { FirstData }
     ensures byte_by_byte { ByteByByte }
@@ -107,7 +106,6 @@ pub fn worked_handshakes()
 {}
 
 /// Worked handshakes that a slave ends, in the same way.
-#[tactic(auto, using(crate::proofs::Worked::WorkedRuns::other_address, crate::proofs::Worked::WorkedRuns::long_watchdog, crate::proofs::Worked::WorkedRuns::no_parameters, crate::proofs::Worked::WorkedRuns::high_parameter, crate::proofs::Worked::WorkedRuns::forged_watchdog, crate::proofs::Worked::WorkedRuns::other_word, crate::proofs::Worked::WorkedRuns::other_profile, crate::proofs::Worked::WorkedRuns::other_profile_later))]
 pub fn worked_refusals()
     ensures other_address { OtherAddress }
     ensures long_watchdog { LongWatchdog }
@@ -120,7 +118,6 @@ pub fn worked_refusals()
 {}
 
 /// Worked exchanges of data, with frames that come again, late, altered or forged, and with resets and ticks.
-#[tactic(auto, using(crate::proofs::Worked::WorkedRuns::repeated, crate::proofs::Worked::WorkedRuns::altered_group, crate::proofs::Worked::WorkedRuns::old_data, crate::proofs::Worked::WorkedRuns::five_ticks, crate::proofs::Worked::WorkedRuns::answer_under_way, crate::proofs::Worked::WorkedRuns::old_session, crate::proofs::Worked::WorkedRuns::forged_data, crate::proofs::Worked::WorkedRuns::held_slave, crate::proofs::Worked::WorkedRuns::old_connection))]
 pub fn worked_data()
     ensures repeated { Repeated }
     ensures altered_group { AlteredGroup }
@@ -134,7 +131,6 @@ pub fn worked_data()
 {}
 
 /// The items of worked runs: what they answer and carry, which is awaited, and which gave data.
-#[tactic(auto, using(crate::proofs::Worked::WorkedItems::answering, crate::proofs::Worked::WorkedItems::answering_late, crate::proofs::Worked::WorkedItems::carrying, crate::proofs::Worked::WorkedItems::awaiting, crate::proofs::Worked::WorkedItems::taking))]
 pub fn worked_items()
     ensures answering { Answering }
     ensures answering_late { AnsweringLate }
@@ -144,7 +140,6 @@ pub fn worked_items()
 {}
 
 /// Worked runs that are fair, those with an other entry before it.
-#[tactic(auto, using(crate::proofs::Worked::FairRuns::first_data_fair, crate::proofs::Worked::FairRuns::answer_under_way_fair, crate::proofs::Worked::FairRuns::old_session_fair, crate::proofs::Worked::FairRuns::held_slave_fair, crate::proofs::Worked::FairRuns::profile_two_fair, crate::proofs::Worked::FairRuns::forged_data_fair, crate::proofs::Worked::FairRuns::old_connection_fair))]
 pub fn fair_runs()
     ensures first_data { FirstDataFair }
     ensures answer_under_way { AnswerUnderWayFair }
@@ -156,7 +151,6 @@ pub fn fair_runs()
 {}
 
 /// Worked schedules that are honest, the exchanges before the first data, and when both ends of one are in Data.
-#[tactic(auto, using(crate::proofs::Worked::HonestRuns::honest, crate::proofs::Worked::HonestRuns::honest_ticks, crate::proofs::Worked::HonestRuns::exchanges, crate::proofs::Worked::WorkedServing::reaches_data))]
 pub fn honest_runs()
     ensures honest { Honest }
     ensures ticks { HonestTicks }
@@ -165,7 +159,6 @@ pub fn honest_runs()
 {}
 
 /// Settings that don't match and schedules that aren't honest, each by one thing alone.
-#[tactic(auto, using(crate::proofs::Worked::WorkedSchedules::mismatches, crate::proofs::Worked::WorkedSchedules::not_plain, crate::proofs::Worked::WorkedSchedules::out_of_turn, crate::proofs::Worked::WorkedSchedules::ticked_late))]
 pub fn dishonest_runs()
     ensures mismatches { Mismatches }
     ensures not_plain { NotPlain }

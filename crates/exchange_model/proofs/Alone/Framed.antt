@@ -75,16 +75,16 @@ pub record IsFrame (l : ℕ) (c : Command) (load f : List ℕ) : Type 0 where
   pub is : f ≡ command_byte c ∷ rest
   pub carries : (frame_of l f).load ≡ load
 
-command-back : (c : Command) → command_of (command_byte c) ≡ Some c
-command-back command.Reset = refl
-command-back command.Session = refl
-command-back command.Connection = refl
-command-back command.Parameter = refl
-command-back command.FailSafeData = refl
-command-back command.ProcessData = refl
+pub command_back : (c : Command) → command_of (command_byte c) ≡ Some c
+command_back command.Reset = refl
+command_back command.Session = refl
+command_back command.Connection = refl
+command_back command.Parameter = refl
+command_back command.FailSafeData = refl
+command_back command.ProcessData = refl
 
 pub command_framed : (l : ℕ) (c : Command) (load f : List ℕ) → IsFrame l c load f → command_in f ≡ Some c
-command_framed l c load f h = ap command_in h.is ∙ command-back c
+command_framed l c load f h = ap command_in h.is ∙ command_back c
 
 pub phase_framed : (l : ℕ) (c : Command) (load f : List ℕ) → IsFrame l c load f → phase_of_frame f ≡ phase_of c
 phase_framed l c load f h = phase_by f c (command_framed l c load f h)

@@ -23,6 +23,7 @@ use Rattle.end_model.specs.Readiness.{phase_sent}
 use Rattle.end_model.specs.Step.{takes_frame, IsRun}
 use Rattle.end_model.specs.Reactions.{OfSession, OfConnection, OfParameter, AfterSession, AfterConnection, with_answer, Taking, MasterStarts, MasterGoesOn, MasterNextPhase, MasterFirstData, MasterMoreData, Reaction, Expires, SendsAgain, ResetsItself, Refuses, PeerResets, Answers}
 use Rattle.end_model.proofs.Heads.{IsInSession}
+use Rattle.end_model.proofs.SealedFrames.{padded_len}
 use Rattle.end_model.proofs.SoundRuns.{reacted}
 use Rattle.end_model.proofs.Taken.{master_answers}
 use Rattle.exchange_model.proofs.Joint.Joint.{is_guarded_in, session, carried_by}
@@ -55,6 +56,13 @@ take_padded q c l h k =
 
 pub piece_short : (p : List ℕ) (c k : ℕ) → length (piece p c k) ≤ c
 piece_short p c k = omega (arith, length-take c (drop ((k - 1) * c) p))
+
+-- a piece has room in a frame, and fills its safe data with zeros after it
+pub piece_in : (s : Setup) (p : List ℕ) (k : ℕ) → length (piece p (piece_len s) k) ≤ sends s
+piece_in s p k = omega (arith, piece_short p (piece_len s) k, piece_fits s)
+
+pub piece_filled : (s : Setup) (p : List ℕ) (k : ℕ) → length (padded (piece p (piece_len s) k) (sends s)) ≡ sends s
+piece_filled s p k = padded_len (piece p (piece_len s) k) (sends s) (piece_in s p k)
 
 -- the part of a frame with a piece
 part-is : (ms : MasterSettings) (c : Command) (p : List ℕ) (k : ℕ) (f : List ℕ) → IsPiece ms c p k f → take (piece_len (OfMaster ms)) (frame_of (sends (OfMaster ms)) f).load ≡ padded (piece p (piece_len (OfMaster ms)) k) (piece_len (OfMaster ms))

@@ -58,21 +58,21 @@ state-taken x e command.Parameter load h n = simp h
 state-taken x e command.FailSafeData load h n = simp h
 state-taken x e command.ProcessData load h n = simp h
 
-since-more : (x : Deed) (e : List Deed) → has_command command.Reset x.sent ≡ false → since (x ∷ e) ≡ x ∷ since e
-since-more x e h = simp h
+pub since_on : (x : Deed) (e : List Deed) → has_command command.Reset x.sent ≡ false → since (x ∷ e) ≡ x ∷ since e
+since_on x e h = simp h
 
 -- a slave that takes a frame of a session uploads its part, and is in the frame's phase
 pub uploads_next : (ss : SlaveSettings) (e : List Deed) (bytes load f : List ℕ) (c : Command) → c ≢ command.Reset → has_command command.Reset f ≡ false → command_in bytes ≡ Some c → (frame_of (receives (OfSlave ss)) bytes).load ≡ load
     → Uploads (receives (OfSlave ss)) (piece_len (OfSlave ss)) bytes (λ phase. uploaded ss phase e) (λ phase. uploaded ss phase (deed (move.Deliver bytes) (takes_frame c load) f ∷ e))
 uploads_next ss e bytes load f c n b head is =
     λ phase k.
-    ap (joined phase (piece_len (OfSlave ss))) (since-more (deed (move.Deliver bytes) (takes_frame c load) f) e b)
+    ap (joined phase (piece_len (OfSlave ss))) (since_on (deed (move.Deliver bytes) (takes_frame c load) f) e b)
     ∙ (joined-taken phase (piece_len (OfSlave ss)) c load (uploaded ss phase e) n
     ∙ part-taken phase (receives (OfSlave ss)) (piece_len (OfSlave ss)) bytes load (uploaded ss phase e) c (phase_by bytes c head) is)
 
 pub state_next : (ss : SlaveSettings) (e : List Deed) (bytes load f : List ℕ) (c : Command) → c ≢ command.Reset → has_command command.Reset f ≡ false → state_of (OfSlave ss) (deed (move.Deliver bytes) (takes_frame c load) f ∷ e) ≡ phase_of c
 state_next ss e bytes load f c n b =
-    ap phase_taken (since-more (deed (move.Deliver bytes) (takes_frame c load) f) e b) ∙ state-taken (deed (move.Deliver bytes) (takes_frame c load) f) (since e) c load refl n
+    ap phase_taken (since_on (deed (move.Deliver bytes) (takes_frame c load) f) e b) ∙ state-taken (deed (move.Deliver bytes) (takes_frame c load) f) (since e) c load refl n
 
 -- what the tests tell of uploaded parameters: they begin with the length of the slave's profile, and have its word
 pub record Tested (ss : SlaveSettings) (u : List ℕ) : Type 0 where

@@ -1,26 +1,21 @@
 -- Honest schedules bring matching ends into Data and keep them there.
-use Rattle.std.proofs.Common.{◌≡◌, ℕ, IsTrue, List, [], ◌∷◌, true, All, refl, sym, subst, ◌∙◌, arith}
-use Rattle.std.specs.List.{list_all}
-use Rattle.std.proofs.lemmas.List.Elements.{All-head, All-tail, All-nil}
-use Rattle.fsoe_base.specs.declared.command.End.TheVariants as end_name
+use Rattle.std.proofs.Common.{◌≡◌, ℕ, IsTrue, List, [], All, refl, sym, subst, ◌∙◌, arith}
+use Rattle.std.proofs.lemmas.List.Elements.{All-nil}
 use Rattle.fsoe_base.specs.Lengths.{is_length}
-use Rattle.param_load.specs.declared.entry.Entry.{Entry}
 use Rattle.param_load.specs.declared.master_settings.MasterSettings.{MasterSettings}
 use Rattle.param_load.specs.declared.slave_settings.SlaveSettings.{SlaveSettings}
 use Rattle.param_load.specs.declared.profile.Profile.{Profile}
 use Rattle.param_load.specs.Profile.{allows_id}
 use Rattle.schedule_file.specs.declared.event.Event.{Event}
-use Rattle.schedule_file.specs.declared.event.Event.TheVariants as event
 use Rattle.exchange_model.specs.World.{world, IsProperEvent}
 use Rattle.exchange_model.specs.Fair.{Fair}
-use Rattle.exchange_model.specs.Honest.{Match, is_plain, in_turn, ticks_first, keeps_time, IsHonest}
+use Rattle.exchange_model.specs.Honest.{Match, IsHonest}
 use Rattle.exchange_model.specs.Serving.{HasNoReset, TakesDelivery, Serves}
 use Rattle.exchange_model.proofs.Fairness.Headline.{fair_run}
 use Rattle.exchange_model.proofs.Honest.OnItsWay.{fresh}
 use Rattle.exchange_model.proofs.Honest.QuietEvents.{AtIdle}
 use Rattle.exchange_model.proofs.Honest.ServingRuns.{Served, ServesOn, Waits, idle_opens, serves_on}
 use Rattle.exchange_model.proofs.Honest.SlaveTurn.{Accepts}
-use Rattle.exchange_model.proofs.Honest.StageSteps.{Enters, Goes}
 use Rattle.exchange_model.proofs.Honest.Turns.{Partner, partner}
 
 at-first : (ms : MasterSettings) (r : Partner ms) → AtIdle ms r []

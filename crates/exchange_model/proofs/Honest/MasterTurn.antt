@@ -22,13 +22,13 @@ use Rattle.end_model.specs.Readiness.{offer, held, master_allows}
 use Rattle.end_model.specs.Verdict.{has_conn, contents}
 use Rattle.end_model.specs.Step.{sealed, with_data, answer, download_frame, after_phase}
 use Rattle.end_model.specs.Reactions.{received, IsValid}
-use Rattle.exchange_model.proofs.Alone.Pieces.{piece_short}
-use Rattle.exchange_model.proofs.Alone.Framed.{piece_fits}
+use Rattle.exchange_model.proofs.Alone.Pieces.{piece_in, piece_filled}
+use Rattle.exchange_model.proofs.Alone.Framed.{command_back}
 use Rattle.end_model.proofs.SealedFrames.{padded_len}
 use Rattle.exchange_model.proofs.Honest.OnItsWay.{OnItsWay, fits_on, answering}
 use Rattle.exchange_model.proofs.Honest.ResetFrames.{zeros_all}
 use Rattle.exchange_model.proofs.Honest.SlaveReplies.{Replies}
-use Rattle.exchange_model.proofs.Honest.SlaveTurn.{Carries, command_back, parts_with}
+use Rattle.exchange_model.proofs.Honest.SlaveTurn.{Carries, parts_with}
 use Rattle.exchange_model.proofs.Honest.UploadTests.{session_long, parameters_long}
 use Rattle.exchange_model.proofs.Honest.Turns.{Partner, master_of, slave_of, width, session_pieces, connection_pieces, parameter_pieces, more, Turn, MoreSession, FirstConnection, MoreConnection, FirstParameter, MoreParameter, FirstZeros, FirstValues, MoreZeros, MoreValues, Spot, InSession, InConnection, InParameter, InData, MasterAt}
 
@@ -67,16 +67,10 @@ contents-right ms r id e command.Session p a b d conn load crcs h k =
     unless-true _ 0x07 (ap₂ (λ (i n : ℕ). is_padded (piece (session_payload i ms.profile) (width ms) n) load) (id_of ms id e h.id_is) h.session ∙ k.1)
 contents-right ms r id e command.Connection p a b d conn load crcs h k =
     unless-true _ 0x07 (ap (λ n. is_echo (piece (connection_payload ms.conn ms.address) (width ms) n) load) h.connection
-    ∙ echoes (piece (connection_payload ms.conn ms.address) (width ms) b) load ms.lengths.slave (short (connection_payload ms.conn ms.address) b) k.1)
-  where
-    short : (p : List ℕ) (n : ℕ) → length (piece p (width ms) n) ≤ ms.lengths.slave
-    short p n = let s : length (piece p (width ms) n) ≤ width ms = piece_short p (width ms) n in let w : width ms ≤ ms.lengths.slave = piece_fits (slave_of ms r) in omega arith
+    ∙ echoes (piece (connection_payload ms.conn ms.address) (width ms) b) load ms.lengths.slave (piece_in (slave_of ms r) (connection_payload ms.conn ms.address) b) k.1)
 contents-right ms r id e command.Parameter p a b d conn load crcs h k =
     unless-true _ 0x07 (ap (λ n. is_echo (piece (parameter_payload ms.watchdog ms.profile ms.app) (width ms) n) load) h.parameters
-    ∙ echoes (piece (parameter_payload ms.watchdog ms.profile ms.app) (width ms) d) load ms.lengths.slave (short (parameter_payload ms.watchdog ms.profile ms.app) d) k.1)
-  where
-    short : (p : List ℕ) (n : ℕ) → length (piece p (width ms) n) ≤ ms.lengths.slave
-    short p n = let s : length (piece p (width ms) n) ≤ width ms = piece_short p (width ms) n in let w : width ms ≤ ms.lengths.slave = piece_fits (slave_of ms r) in omega arith
+    ∙ echoes (piece (parameter_payload ms.watchdog ms.profile ms.app) (width ms) d) load ms.lengths.slave (piece_in (slave_of ms r) (parameter_payload ms.watchdog ms.profile ms.app) d) k.1)
 contents-right ms r id e command.FailSafeData p a b d conn load crcs h k = unless-true _ 0x07 k.1
 contents-right ms r id e command.ProcessData p a b d conn load crcs h k = refl
 
@@ -103,9 +97,6 @@ pub record Next (ms : MasterSettings) (id : ℕ) (e : List Deed) (g : List ℕ) 
   pub long : length made ≡ ms.lengths.master
   pub is : next ≡ seal (master_of ms) (answering g c load [] ∷ since e) conn command made
   pub carries : Carries ms id command a b d conn made
-
-piece-made : (ms : MasterSettings) (p : List ℕ) (k : ℕ) → length (padded (piece p (width ms) k) ms.lengths.master) ≡ ms.lengths.master
-piece-made ms p k = padded_len (piece p (width ms) k) ms.lengths.master (let s : length (piece p (width ms) k) ≤ width ms = piece_short p (width ms) k in let w : width ms ≤ ms.lengths.master = piece_fits (OfMaster ms) in omega arith)
 
 session-count : (ms : MasterSettings) (id : ℕ) → pieces (session_payload id ms.profile) (width ms) ≡ session_pieces ms
 session-count ms id = ap (λ n. pieces_for n (width ms)) (session_long id ms.profile)
@@ -156,7 +147,7 @@ session-next ms id e g load a true h most k =
       made = padded (piece (session_payload (session_id (OfMaster ms) e) ms.profile) (width ms) (suc (count_in state.Session (own (since e))))) ms.lengths.master;
       in_session = refl;
       turn = MoreSession a (below _ _ a (session_pieces ms) h.session (session-count ms (session_id (OfMaster ms) e)) k);
-      long = piece-made ms _ _;
+      long = piece_filled (OfMaster ms) _ _;
       is = refl;
       carries = (refl, ap₂ (λ (i n : ℕ). padded (piece (session_payload i ms.profile) (width ms) (suc n)) ms.lengths.master) (id_of ms id e h.id_is) h.session);
     }
@@ -168,7 +159,7 @@ session-next ms id e g load a false h most k =
       made = padded (piece (connection_payload ms.conn ms.address) (width ms) 1) ms.lengths.master;
       in_session = refl;
       turn = subst (λ (a : ℕ). Turn (session_pieces ms) (connection_pieces ms) (parameter_pieces ms) command.Connection state.Session a 0 0 a) (sym all) FirstConnection;
-      long = piece-made ms (connection_payload ms.conn ms.address) 1;
+      long = piece_filled (OfMaster ms) (connection_payload ms.conn ms.address) 1;
       is = refl;
       carries = (refl, refl);
     }
@@ -183,7 +174,7 @@ connection-next ms id e g load b m true h most at k =
       made = padded (piece (connection_payload ms.conn ms.address) (width ms) (suc (count_in state.Connection (own (since e))))) ms.lengths.master;
       in_session = refl;
       turn = MoreConnection b m (below _ _ b (connection_pieces ms) h.connection refl k) at;
-      long = piece-made ms _ _;
+      long = piece_filled (OfMaster ms) _ _;
       is = refl;
       carries = (refl, ap (λ n. padded (piece (connection_payload ms.conn ms.address) (width ms) (suc n)) ms.lengths.master) h.connection);
     }
@@ -195,7 +186,7 @@ connection-next ms id e g load b m false h most at k =
       made = padded (piece (parameter_payload ms.watchdog ms.profile ms.app) (width ms) 1) ms.lengths.master;
       in_session = refl;
       turn = subst (λ (b : ℕ). Turn (session_pieces ms) (connection_pieces ms) (parameter_pieces ms) command.Parameter state.Connection (session_pieces ms) b 0 m) (sym all) (FirstParameter m (at ∙ ap (λ n. session_pieces ms + n) all));
-      long = piece-made ms (parameter_payload ms.watchdog ms.profile ms.app) 1;
+      long = piece_filled (OfMaster ms) (parameter_payload ms.watchdog ms.profile ms.app) 1;
       is = refl;
       carries = (refl, refl);
     }
@@ -210,7 +201,7 @@ parameter-next ms id e g load d m true long h most at k =
       made = padded (piece (parameter_payload ms.watchdog ms.profile ms.app) (width ms) (suc (count_in state.Parameter (own (since e))))) ms.lengths.master;
       in_session = refl;
       turn = MoreParameter d m (below _ _ d (parameter_pieces ms) h.parameters (parameter-count ms) k) at;
-      long = piece-made ms _ _;
+      long = piece_filled (OfMaster ms) _ _;
       is = refl;
       carries = (refl, ap (λ n. padded (piece (parameter_payload ms.watchdog ms.profile ms.app) (width ms) (suc n)) ms.lengths.master) h.parameters);
     }

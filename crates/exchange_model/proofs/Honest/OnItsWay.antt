@@ -107,21 +107,11 @@ abbrev pub answering : List ℕ → Command → List ℕ → List ℕ → Deed
 answering f c load g = record { what = move.Deliver f; did = takes_frame c load; sent = g }
 
 taken-more : (f : List ℕ) (c : Command) (load g : List ℕ) (v : List Deed) → is_reset c ≡ false → taken (answering f c load g ∷ v) ≡ f ∷ taken v
-taken-more f command.Reset load g v n = cc
-taken-more f command.Session load g v n = refl
-taken-more f command.Connection load g v n = refl
-taken-more f command.Parameter load g v n = refl
-taken-more f command.FailSafeData load g v n = refl
-taken-more f command.ProcessData load g v n = refl
+taken-more f c load g v n = simp n
 
 link-more : (r : Setup) (f : List ℕ) (c : Command) (load g : List ℕ) (v : List Deed) → is_reset c ≡ false
     → taken_link r (answering f c load g ∷ v) ≡ Some (sealing.noted (newest_crc (sends r) (own v)) (taken_link r v) (frame_of (receives r) f))
-link-more r f command.Reset load g v n = cc
-link-more r f command.Session load g v n = refl
-link-more r f command.Connection load g v n = refl
-link-more r f command.Parameter load g v n = refl
-link-more r f command.FailSafeData load g v n = refl
-link-more r f command.ProcessData load g v n = refl
+link-more r f c load g v n = simp n
 
 pub head_on : (c : Command) → is_reset c ≡ false → has_command command.Reset (command_byte c ∷ []) ≡ false
 head_on command.Reset n = cc

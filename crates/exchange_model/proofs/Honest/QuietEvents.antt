@@ -27,7 +27,7 @@ use Rattle.exchange_model.specs.Honest.{exchanges, had_tick, is_counted, may_tic
 use Rattle.exchange_model.specs.Serving.{is_delivery, deliveries_to}
 use Rattle.exchange_model.proofs.Honest.OnItsWay.{fresh}
 use Rattle.exchange_model.proofs.Honest.StageSteps.{Enters, AtStage}
-use Rattle.exchange_model.proofs.Honest.Stages.{Both, both, Asked, IsIdle}
+use Rattle.exchange_model.proofs.Honest.Stages.{both, Asked, IsIdle}
 use Rattle.exchange_model.proofs.Honest.Turns.{Partner, partner, master_of, slave_of}
 
 -- a deed in which an end takes and sends nothing
@@ -124,21 +124,22 @@ first_tick ms r w h none idle =
     let reaches : reaches_limit (master_of ms) em ≡ true = if-not-ticked (had_tick em) (reaches_limit (master_of ms) em) none h in
     let stepped : step (master_of ms) em move.Tick ≡ d =
     ap (λ (b : Bool). deed_of (master_of ms) em move.Tick (if b then on_expiry (state_of (master_of ms) em) (master_of ms) else nothing)) reaches
-    ∙ ap (λ (p : State). deed_of (master_of ms) em move.Tick (on_expiry p (master_of ms))) (ap phase_sent idle.outside.master.none_sent) in
-    (entry_of (master_of ms) em d,
-    record {
-      is = ap (λ d. Some (entry_of (master_of ms) em d)) stepped;
-      follows = record { proper = tt; stepped = ap (entry_of (master_of ms) em) (sym stepped) };
-      not_other = refl;
-      no_reset = refl;
-      taken = λ k. cc;
-      takes_data = refl;
-    },
-    refl,
-    Asked (record {
-      outside = record { master = fresh; slave = idle.outside.slave; no_id = refl; phase = idle.outside.phase; none_joined = idle.outside.none_joined };
-      last = record { older = own em; is = refl };
-      newest = record { item = _; older = items_of end_name.Master (items w); is = refl; bytes_are = refl };
-      master_count = idle.master_count;
-      slave_count = idle.slave_count;
-    }))
+    ∙ ap (λ (p : State). deed_of (master_of ms) em move.Tick (on_expiry p (master_of ms))) (ap phase_sent idle.outside.master.none_sent) in (
+      entry_of (master_of ms) em d,
+      record {
+        is = ap (λ d. Some (entry_of (master_of ms) em d)) stepped;
+        follows = record { proper = tt; stepped = ap (entry_of (master_of ms) em) (sym stepped) };
+        not_other = refl;
+        no_reset = refl;
+        taken = λ k. cc;
+        takes_data = refl;
+      },
+      refl,
+      Asked (record {
+        outside = record { master = fresh; slave = idle.outside.slave; no_id = refl; phase = idle.outside.phase; none_joined = idle.outside.none_joined };
+        last = record { older = own em; is = refl };
+        newest = record { item = _; older = items_of end_name.Master (items w); is = refl; bytes_are = refl };
+        master_count = idle.master_count;
+        slave_count = idle.slave_count;
+      }),
+    )

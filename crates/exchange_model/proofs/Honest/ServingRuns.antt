@@ -1,5 +1,5 @@
 -- Under an honest schedule a run of matching ends serves.
-use Rattle.std.proofs.Common.{◌≡◌, ℕ, suc, ◌+◌, ◌≤◌, ◌==◌, nat_le, nat_lt, List, [], ◌∷◌, length, Bool, true, false, ◌&&◌, ◌||◌, All, Option, if◌then◌else◌, refl, sym, ap, ap₂, subst, ◌∙◌, arith}
+use Rattle.std.proofs.Common.{◌≡◌, ℕ, suc, ◌+◌, ◌≤◌, nat_le, nat_lt, List, [], ◌∷◌, length, Bool, true, false, ◌&&◌, ◌||◌, All, Option, if◌then◌else◌, refl, sym, ap, ap₂, subst, ◌∙◌, arith}
 use Rattle.std.specs.List.{list_all}
 use Rattle.std.proofs.lemmas.Bool.{and_parts, eqb-true}
 use Rattle.std.proofs.lemmas.Bool.Decides.{nat_tests}
@@ -23,7 +23,7 @@ use Rattle.exchange_model.specs.Other.{first_of_both, NoOther}
 use Rattle.exchange_model.specs.Honest.{exchanges, is_plain, in_turn, ticks_first, is_tick, had_tick, may_happen, if_on, keeps_time}
 use Rattle.exchange_model.specs.Serving.{is_delivery, deliveries_to, state_told, InDataAfter, InDataThroughout, HasNoReset, TakesDelivery, TakesDataThroughout}
 use Rattle.exchange_model.proofs.Worlds.Projection.{same, next_told}
-use Rattle.exchange_model.proofs.Honest.QuietEvents.{quiet_entry, IsQuiet, quiet_enters, both_kept, quiet_tick, quiet_put, quiet_hold, quiet_nonce, AtIdle, first_tick}
+use Rattle.exchange_model.proofs.Honest.QuietEvents.{quiet_entry, quiet_enters, both_kept, quiet_tick, quiet_put, quiet_hold, quiet_nonce, AtIdle, first_tick}
 use Rattle.exchange_model.proofs.Honest.SlaveTurn.{Accepts}
 use Rattle.exchange_model.proofs.Honest.StageSteps.{AtStage, Enters, Goes, asked_delivered, replied_delivered}
 use Rattle.exchange_model.proofs.Honest.StageTurns.{down_delivered, up_delivered, some_session, some_connection, some_parameter}
@@ -145,6 +145,7 @@ ticked-more x w h = by-end (same_end end_name.Master x.end)
     or-true : (a b : Bool) → b ≡ true → (a || b) ≡ true
     or-true true b h = refl
     or-true false b h = h
+
     by-end : (mine : Bool) → had_tick (if mine then deed_in x ∷ deeds end_name.Master w else deeds end_name.Master w) ≡ true
     by-end true = or-true (is_tick x.what) (had_tick (deeds end_name.Master w)) h
     by-end false = h

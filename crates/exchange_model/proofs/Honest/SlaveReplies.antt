@@ -21,10 +21,9 @@ use Rattle.end_model.specs.Readiness.{offer, held}
 use Rattle.end_model.specs.Step.{sealed, with_data, answer, id_piece}
 use Rattle.end_model.specs.Reactions.{received}
 use Rattle.exchange_model.proofs.Alone.Framed.{piece_fits}
-use Rattle.end_model.proofs.SealedFrames.{padded_len}
 use Rattle.exchange_model.proofs.Honest.Fronts.{drop_padded, padded_twice}
 use Rattle.exchange_model.proofs.Honest.OnItsWay.{answering}
-use Rattle.exchange_model.proofs.Alone.Pieces.{front, piece_short, take_padded}
+use Rattle.exchange_model.proofs.Alone.Pieces.{front, piece_short, piece_filled, take_padded}
 use Rattle.exchange_model.proofs.Honest.ResetFrames.{zeros_all}
 use Rattle.exchange_model.proofs.Honest.UploadTests.{session_long}
 use Rattle.exchange_model.proofs.Honest.SlaveTurn.{Carries}
@@ -38,6 +37,15 @@ same-conn : (conn b : ℕ) → option_or (conn_after conn b) (Some conn) ≡ Som
 same-conn conn zero = refl
 same-conn conn (suc b) = refl
 
+-- one more piece of a payload was joined
+joined-more : (ms : MasterSettings) (p : List ℕ) (k : ℕ) (before load : List ℕ) → before ≡ front p (width ms) k → load ≡ padded (piece p (width ms) (suc k)) ms.lengths.master → before ++ take (width ms) load ≡ front p (width ms) (suc k)
+joined-more ms p k before load h is = ap₂ (λ (t u : List ℕ). t ++ take (width ms) u) h is ∙ ap (λ t. front p (width ms) k ++ t) (take_padded (piece p (width ms) (suc k)) (width ms) ms.lengths.master (piece_short p (width ms) (suc k)) (piece_fits (OfMaster ms)))
+
+-- frames past the connection id tell no other one
+same-first : (ms : MasterSettings) (v : List Deed) (b : ℕ) (c : Command) (f tail : List ℕ) → first_conn ms.lengths.master (taken v) ≡ conn_after ms.conn b → f ≡ command_byte c ∷ tail → conn_in ms.lengths.master (command_byte c ∷ tail) ≡ None
+    → first_conn ms.lengths.master (f ∷ taken v) ≡ conn_after ms.conn b
+same-first ms v b c f tail h head none = ap (λ f. first_conn ms.lengths.master (f ∷ taken v)) head ∙ (ap (option_or (first_conn ms.lengths.master (taken v))) none ∙ (some-none (first_conn ms.lengths.master (taken v)) ∙ h))
+
 -- what a slave took with one more frame
 pub slave_after : (ms : MasterSettings) (id : ℕ) (v : List Deed) (c : Command) (p : State) (a b d conn : ℕ) (load f g tail : List ℕ) → SlaveAt ms id v p a b d → f ≡ command_byte c ∷ tail
     → (frame_of ms.lengths.master f).conn ≡ conn → Carries ms id c a b d conn load
@@ -46,17 +54,17 @@ slave_after ms id v command.Reset p a b d conn load f g tail h head n k = absurd
 slave_after ms id v command.Session p a b d conn load f g tail h head n k =
     record {
       phase = refl;
-      session = ap₂ (λ (t u : List ℕ). t ++ take (width ms) u) h.session k.1 ∙ ap (λ t. front (session_payload id ms.profile) (width ms) a ++ t) (take_padded (piece (session_payload id ms.profile) (width ms) (suc a)) (width ms) ms.lengths.master (piece_short (session_payload id ms.profile) (width ms) (suc a)) (piece_fits (OfMaster ms)));
+      session = joined-more ms (session_payload id ms.profile) a _ load h.session k.1;
       connection = h.connection;
       parameters = h.parameters;
       ids = ap (λ f. count_in state.Session (f ∷ taken v)) head ∙ ap suc h.ids;
-      conn = ap (λ f. first_conn ms.lengths.master (f ∷ taken v)) head ∙ (some-none (first_conn ms.lengths.master (taken v)) ∙ h.conn);
+      conn = same-first ms v b command.Session f tail h.conn head refl;
     }
 slave_after ms id v command.Connection p a b d conn load f g tail h head n k =
     record {
       phase = refl;
       session = h.session;
-      connection = ap₂ (λ (t u : List ℕ). t ++ take (width ms) u) h.connection k.1 ∙ ap (λ t. front (connection_payload ms.conn ms.address) (width ms) b ++ t) (take_padded (piece (connection_payload ms.conn ms.address) (width ms) (suc b)) (width ms) ms.lengths.master (piece_short (connection_payload ms.conn ms.address) (width ms) (suc b)) (piece_fits (OfMaster ms)));
+      connection = joined-more ms (connection_payload ms.conn ms.address) b _ load h.connection k.1;
       parameters = h.parameters;
       ids = ap (λ f. count_in state.Session (f ∷ taken v)) head ∙ h.ids;
       conn = ap₂ option_or h.conn (guarded-conn f tail head ∙ ap Some (n ∙ k.0)) ∙ same-conn ms.conn b;
@@ -69,28 +77,14 @@ slave_after ms id v command.Parameter p a b d conn load f g tail h head n k =
       phase = refl;
       session = h.session;
       connection = h.connection;
-      parameters = ap₂ (λ (t u : List ℕ). t ++ take (width ms) u) h.parameters k.1 ∙ ap (λ t. front (parameter_payload ms.watchdog ms.profile ms.app) (width ms) d ++ t) (take_padded (piece (parameter_payload ms.watchdog ms.profile ms.app) (width ms) (suc d)) (width ms) ms.lengths.master (piece_short (parameter_payload ms.watchdog ms.profile ms.app) (width ms) (suc d)) (piece_fits (OfMaster ms)));
+      parameters = joined-more ms (parameter_payload ms.watchdog ms.profile ms.app) d _ load h.parameters k.1;
       ids = ap (λ f. count_in state.Session (f ∷ taken v)) head ∙ h.ids;
-      conn = ap (λ f. first_conn ms.lengths.master (f ∷ taken v)) head ∙ (some-none (first_conn ms.lengths.master (taken v)) ∙ h.conn);
+      conn = same-first ms v b command.Parameter f tail h.conn head refl;
     }
 slave_after ms id v command.FailSafeData p a b d conn load f g tail h head n k =
-    record {
-      phase = refl;
-      session = h.session;
-      connection = h.connection;
-      parameters = h.parameters;
-      ids = ap (λ f. count_in state.Session (f ∷ taken v)) head ∙ h.ids;
-      conn = ap (λ f. first_conn ms.lengths.master (f ∷ taken v)) head ∙ (some-none (first_conn ms.lengths.master (taken v)) ∙ h.conn);
-    }
+    record { phase = refl; session = h.session; connection = h.connection; parameters = h.parameters; ids = ap (λ f. count_in state.Session (f ∷ taken v)) head ∙ h.ids; conn = same-first ms v b command.FailSafeData f tail h.conn head refl }
 slave_after ms id v command.ProcessData p a b d conn load f g tail h head n k =
-    record {
-      phase = refl;
-      session = h.session;
-      connection = h.connection;
-      parameters = h.parameters;
-      ids = ap (λ f. count_in state.Session (f ∷ taken v)) head ∙ h.ids;
-      conn = ap (λ f. first_conn ms.lengths.master (f ∷ taken v)) head ∙ (some-none (first_conn ms.lengths.master (taken v)) ∙ h.conn);
-    }
+    record { phase = refl; session = h.session; connection = h.connection; parameters = h.parameters; ids = ap (λ f. count_in state.Session (f ∷ taken v)) head ∙ h.ids; conn = same-first ms v b command.ProcessData f tail h.conn head refl }
 
 -- what an answer carries, after these pieces
 abbrev pub Replies : MasterSettings → ℕ → Command → ℕ → ℕ → ℕ → ℕ → List ℕ → Type 0
@@ -184,7 +178,6 @@ reply ms r id e f load command.Reset a b d conn long some k h = absurd k
 reply ms r id e f load command.Session a b d conn long some k h =
     let sid : ℕ = session_id (slave_of ms r) (received f command.Session load e) in
     let q : List ℕ = id_piece (partner ms r) (received f command.Session load e) in
-    let short : length q ≤ width ms = piece_short (session_payload sid ms.profile) (width ms) (count_in state.Session (f ∷ taken (since e))) in
     let same : length (piece (session_payload id ms.profile) (width ms) (suc a)) ≡ length q =
     piece-long (session_payload id ms.profile) (session_payload sid ms.profile) (width ms) (suc a) (session_long id ms.profile ∙ sym (session_long sid ms.profile)) ∙ ap (λ n. length (piece (session_payload sid ms.profile) (width ms) n)) (sym h.ids) in
     record {
@@ -193,7 +186,7 @@ reply ms r id e f load command.Session a b d conn long some k h =
       made = padded q ms.lengths.slave;
       in_session = refl;
       same = refl;
-      long = padded_len q ms.lengths.slave (let w : width ms ≤ ms.lengths.slave = piece_fits (slave_of ms r) in omega arith);
+      long = piece_filled (slave_of ms r) (session_payload sid ms.profile) (count_in state.Session (f ∷ taken (since e)));
       is = refl;
       replies = (refl, ap (λ n. all_zero (drop n (padded q ms.lengths.slave))) same ∙ drop_padded q (length q) ms.lengths.slave (omega arith));
     }
@@ -206,7 +199,7 @@ reply ms r id e f load command.Connection a b d conn long some k h =
       made = padded (take (width ms) load) ms.lengths.slave;
       in_session = refl;
       same = refl;
-      long = ap length same ∙ padded_len q ms.lengths.slave (let s : length q ≤ width ms = piece_short (connection_payload ms.conn ms.address) (width ms) (suc b) in let w : width ms ≤ ms.lengths.slave = piece_fits (slave_of ms r) in omega arith);
+      long = ap length same ∙ piece_filled (slave_of ms r) (connection_payload ms.conn ms.address) (suc b);
       is = refl;
       replies = (known ms r id e f load command.Connection state.Connection a b d refl h, same);
     }
@@ -219,7 +212,7 @@ reply ms r id e f load command.Parameter a b d conn long some k h =
       made = padded (take (width ms) load) ms.lengths.slave;
       in_session = refl;
       same = refl;
-      long = ap length same ∙ padded_len q ms.lengths.slave (let s : length q ≤ width ms = piece_short (parameter_payload ms.watchdog ms.profile ms.app) (width ms) (suc d) in let w : width ms ≤ ms.lengths.slave = piece_fits (slave_of ms r) in omega arith);
+      long = ap length same ∙ piece_filled (slave_of ms r) (parameter_payload ms.watchdog ms.profile ms.app) (suc d);
       is = refl;
       replies = (conn-known ms r id e f load command.Parameter state.Parameter a b (suc d) refl some h, same);
     }

@@ -24,7 +24,7 @@ use Rattle.end_model.specs.Readiness.{slave_allows}
 use Rattle.end_model.specs.Verdict.{is_slave_conn, has_conn, contents}
 use Rattle.end_model.proofs.WholeUploads.{by_count}
 use Rattle.exchange_model.proofs.Honest.Fronts.{front_long, front_begun, drop_padded, not_yet, all_come, IsBegun}
-use Rattle.exchange_model.proofs.Alone.Framed.{piece_fits}
+use Rattle.exchange_model.proofs.Alone.Framed.{piece_fits, command_back}
 use Rattle.exchange_model.proofs.Honest.OnItsWay.{OnItsWay, fits_on}
 use Rattle.exchange_model.proofs.Alone.Pieces.{front, piece_short, take_padded}
 use Rattle.exchange_model.proofs.Honest.ResetFrames.{some_bytes}
@@ -135,14 +135,6 @@ has-conn ms r id e command.Connection p a b d conn load h k = conn-fits ms id (s
 has-conn ms r id e command.Parameter p a b d conn load h k = conn-fits ms id (since e) p a b d conn h k.0
 has-conn ms r id e command.FailSafeData p a b d conn load h k = conn-fits ms id (since e) p a b d conn h k.0
 has-conn ms r id e command.ProcessData p a b d conn load h k = conn-fits ms id (since e) p a b d conn h k
-
-pub command_back : (c : Command) → command_of (command_byte c) ≡ Some c
-command_back command.Reset = refl
-command_back command.Session = refl
-command_back command.Connection = refl
-command_back command.Parameter = refl
-command_back command.FailSafeData = refl
-command_back command.ProcessData = refl
 
 -- the frame in turn passes all tests of the slave
 pub slave_valid : (ms : MasterSettings) (r : Partner ms) (id : ℕ) (u e : List Deed) (c : Command) (p : State) (a b d k conn : ℕ) (load f : List ℕ) → Accepts ms r → OnItsWay (master_of ms) (slave_of ms r) u (since e) conn c load f

@@ -1,5 +1,5 @@
 -- Each delivery of an honest run brings the next stage.
-use Rattle.std.proofs.Common.{◌≡◌, ℕ, suc, ◌≤◌, List, [], ◌∷◌, length, Bool, true, false, not, ◌&&◌, Option, Some, None, if◌then◌else◌, refl, sym, ap, ap₂, ◌∙◌, arith, nat_le, is_some, unwrap_or}
+use Rattle.std.proofs.Common.{◌≡◌, ℕ, suc, List, [], ◌∷◌, length, Bool, true, false, not, ◌&&◌, Option, Some, None, if◌then◌else◌, refl, sym, ap, ap₂, ◌∙◌, nat_le, is_some, unwrap_or}
 use Rattle.std.specs.Option.{option_or}
 use Rattle.std.proofs.lemmas.Bool.{eq-eqb}
 use Rattle.std.specs.Cmp.Lexicographic.{bytes_decides}
@@ -28,12 +28,10 @@ use Rattle.black_channel.specs.Window.{back_th}
 use Rattle.exchange_model.specs.World.{setup_of, deeds, delivery, entry_on, entry_at, IsNextEntry}
 use Rattle.exchange_model.specs.Items.{Item, items_of, items, newest, answers_to, answer_among, has_bytes, number_if}
 use Rattle.exchange_model.specs.Other.{is_other}
-use Rattle.exchange_model.specs.Serving.{deliveries_to, TakesDelivery, HasNoReset, TakesDataAfter}
+use Rattle.exchange_model.specs.Serving.{TakesDelivery, HasNoReset, TakesDataAfter}
 use Rattle.exchange_model.specs.Honest.{exchanges}
 use Rattle.exchange_model.specs.Fair.{data_taken}
-use Rattle.end_model.proofs.SealedFrames.{padded_len}
-use Rattle.exchange_model.proofs.Alone.Pieces.{piece_short}
-use Rattle.exchange_model.proofs.Alone.Framed.{piece_fits}
+use Rattle.exchange_model.proofs.Alone.Pieces.{piece_filled}
 use Rattle.exchange_model.proofs.Honest.MasterTurn.{next}
 use Rattle.exchange_model.proofs.Honest.OnItsWay.{answering, fresh, first_on_its_way}
 use Rattle.exchange_model.proofs.Honest.Passing.{slave_rejoins, master_starts}
@@ -93,9 +91,6 @@ none_other a b mine theirs f h = all-three a b (has_bytes f (answer_among mine (
     all-three false b true h = refl
     all-three a b false h = cc
 
-pub since_on : (x : Deed) (e : List Deed) → has_command command.Reset x.sent ≡ false → since (x ∷ e) ≡ x ∷ since e
-since_on x e h = simp h
-
 -- a frame that is taken is of data exactly where its phase is Data
 pub data_phase_taken : (c : Command) (load : List ℕ) → is_some (data_taken (Some (record { command = c; load = load }))) ≡ same_phase state.Data (phase_of c)
 data_phase_taken command.Reset load = refl
@@ -116,29 +111,30 @@ asked_delivered ms r w h =
     let f : List ℕ = reset_frame 0 ms.lengths.master in
     let d : Deed = answering f command.Reset (zero_load ms.lengths.master) (reset_frame 0 ms.lengths.slave) in
     let stepped : step (slave_of ms r) es (move.Deliver f) ≡ d =
-    slave_rejoins (partner ms r) es f (zero_load ms.lengths.master) h.outside.phase (is_reset_frame (slave_of ms r) es ms.lengths.valid_master h.outside.slave.none_kept) in
-    (entry_of (slave_of ms r) es d,
-    record {
-      is = delivered_entry (slave_of ms r) es (own (deeds end_name.Master w)) h.last.older f d h.last.is stepped;
-      follows = record { proper = tt; stepped = ap (entry_of (slave_of ms r) es) (sym stepped) };
-      not_other = refl;
-      no_reset = refl;
-      taken = λ k. refl;
-      takes_data = sym (ap (nat_le (exchanges ms)) h.slave_count ∙ none_yet (session_pieces ms) (connection_pieces ms) (parameter_pieces ms));
-    },
-    Replied (record {
-      outside = record {
-        master = h.outside.master;
-        slave = fresh;
-        no_id = h.outside.no_id;
-        phase = refl;
-        none_joined = λ phase. refl;
-      };
-      last = record { older = own es; is = refl };
-      newest = record { item = _; older = items_of end_name.Slave (items w); is = refl; bytes_are = refl };
-      master_count = h.master_count;
-      slave_count = ap suc h.slave_count;
-    }))
+    slave_rejoins (partner ms r) es f (zero_load ms.lengths.master) h.outside.phase (is_reset_frame (slave_of ms r) es ms.lengths.valid_master h.outside.slave.none_kept) in (
+      entry_of (slave_of ms r) es d,
+      record {
+        is = delivered_entry (slave_of ms r) es (own (deeds end_name.Master w)) h.last.older f d h.last.is stepped;
+        follows = record { proper = tt; stepped = ap (entry_of (slave_of ms r) es) (sym stepped) };
+        not_other = refl;
+        no_reset = refl;
+        taken = λ k. refl;
+        takes_data = sym (ap (nat_le (exchanges ms)) h.slave_count ∙ none_yet (session_pieces ms) (connection_pieces ms) (parameter_pieces ms));
+      },
+      Replied (record {
+        outside = record {
+          master = h.outside.master;
+          slave = fresh;
+          no_id = h.outside.no_id;
+          phase = refl;
+          none_joined = λ phase. refl;
+        };
+        last = record { older = own es; is = refl };
+        newest = record { item = _; older = items_of end_name.Slave (items w); is = refl; bytes_are = refl };
+        master_count = h.master_count;
+        slave_count = ap suc h.slave_count;
+      }),
+    )
 
 -- the slave's Reset frame comes to the master
 pub replied_delivered : (ms : MasterSettings) (r : Partner ms) (w : List Entry) → IsReplied ms r (both ms r w) → Goes ms r w (event.Deliver end_name.Master 1) end_name.Slave
@@ -149,59 +145,60 @@ replied_delivered ms r w h =
     let load : List ℕ = zero_load ms.lengths.slave in
     let id : ℕ = session_id (OfMaster ms) (received f command.Reset load em) in
     let made : List ℕ = padded (piece (session_payload id ms.profile) (width ms) 1) ms.lengths.master in
-    let long : length made ≡ ms.lengths.master = padded_len (piece (session_payload id ms.profile) (width ms) 1) ms.lengths.master (let s : length (piece (session_payload id ms.profile) (width ms) 1) ≤ width ms = piece_short (session_payload id ms.profile) (width ms) 1 in let t : width ms ≤ ms.lengths.master = piece_fits (OfMaster ms) in omega arith) in
+    let long : length made ≡ ms.lengths.master = piece_filled (OfMaster ms) (session_payload id ms.profile) 1 in
     let g : List ℕ = seal (master_of ms) (answering f command.Reset load [] ∷ since em) 0 command.Session made in
     let d : Deed = answering f command.Reset load g in
     let stepped : step (master_of ms) em (move.Deliver f) ≡ d =
-    master_starts ms em f _ (ap phase_sent h.outside.master.none_sent) (is_reset_frame (master_of ms) em ms.lengths.valid_slave h.outside.master.none_kept) in
-    (entry_of (master_of ms) em d,
-    record {
-      is = delivered_entry (master_of ms) em (own es) h.last.older f d h.last.is stepped;
-      follows = record { proper = tt; stepped = ap (entry_of (master_of ms) em) (sym stepped) };
-      not_other = refl;
-      no_reset = refl;
-      taken = λ k. refl;
-      takes_data = sym (ap (nat_le (exchanges ms)) h.master_count ∙ none_yet (session_pieces ms) (connection_pieces ms) (parameter_pieces ms));
-    },
-    Down (record {
-      id = id;
-      command = command.Session;
-      p = state.Reset;
-      a = 0;
-      b = 0;
-      d = 0;
-      k = 0;
-      conn = 0;
-      load = made;
-      frame = g;
-      last = record { older = own em; is = refl };
-      in_session = refl;
-      way = first_on_its_way (master_of ms) (slave_of ms r) (since em) (since es) f load 0 command.Session made long refl h.outside.master h.outside.slave;
-      turn = Starts;
-      carries = (refl, refl);
-      master = record {
-        phase = refl;
-        session = ap (λ t. suc (count_in state.Session t)) h.outside.master.none_sent;
-        connection = ap (count_in state.Connection) h.outside.master.none_sent;
-        parameters = ap (count_in state.Parameter) h.outside.master.none_sent;
-        id_is = ap (λ o. option_or o (Some (nonce (OfMaster ms) em))) h.outside.no_id ∙ ap Some (sym (ap (λ o. unwrap_or o (nonce (OfMaster ms) em)) h.outside.no_id));
-      };
-      slave = record {
-        phase = h.outside.phase;
-        session = h.outside.none_joined state.Session;
-        connection = h.outside.none_joined state.Connection;
-        parameters = h.outside.none_joined state.Parameter;
-        ids = ap (count_in state.Session) h.outside.slave.none_taken;
-        conn = ap (first_conn ms.lengths.master) h.outside.slave.none_taken;
-      };
-      newest = record {
-        newest = record { item = _; older = items_of end_name.Master (items w); is = refl; bytes_are = refl };
-        answered = h.newest.item;
-        theirs_older = h.newest.older;
-        theirs_are = h.newest.is;
-        answers = ap (λ xs. number_if f (newest xs)) h.newest.is ∙ number-found f h.newest.item h.newest.bytes_are;
+    master_starts ms em f _ (ap phase_sent h.outside.master.none_sent) (is_reset_frame (master_of ms) em ms.lengths.valid_slave h.outside.master.none_kept) in (
+      entry_of (master_of ms) em d,
+      record {
+        is = delivered_entry (master_of ms) em (own es) h.last.older f d h.last.is stepped;
+        follows = record { proper = tt; stepped = ap (entry_of (master_of ms) em) (sym stepped) };
+        not_other = refl;
+        no_reset = refl;
+        taken = λ k. refl;
+        takes_data = sym (ap (nat_le (exchanges ms)) h.master_count ∙ none_yet (session_pieces ms) (connection_pieces ms) (parameter_pieces ms));
+      },
+      Down (record {
+        id = id;
+        command = command.Session;
+        p = state.Reset;
+        a = 0;
+        b = 0;
+        d = 0;
+        k = 0;
+        conn = 0;
+        load = made;
+        frame = g;
+        last = record { older = own em; is = refl };
         in_session = refl;
-      };
-      master_count = ap suc h.master_count;
-      slave_count = h.slave_count;
-    }))
+        way = first_on_its_way (master_of ms) (slave_of ms r) (since em) (since es) f load 0 command.Session made long refl h.outside.master h.outside.slave;
+        turn = Starts;
+        carries = (refl, refl);
+        master = record {
+          phase = refl;
+          session = ap (λ t. suc (count_in state.Session t)) h.outside.master.none_sent;
+          connection = ap (count_in state.Connection) h.outside.master.none_sent;
+          parameters = ap (count_in state.Parameter) h.outside.master.none_sent;
+          id_is = ap (λ o. option_or o (Some (nonce (OfMaster ms) em))) h.outside.no_id ∙ ap Some (sym (ap (λ o. unwrap_or o (nonce (OfMaster ms) em)) h.outside.no_id));
+        };
+        slave = record {
+          phase = h.outside.phase;
+          session = h.outside.none_joined state.Session;
+          connection = h.outside.none_joined state.Connection;
+          parameters = h.outside.none_joined state.Parameter;
+          ids = ap (count_in state.Session) h.outside.slave.none_taken;
+          conn = ap (first_conn ms.lengths.master) h.outside.slave.none_taken;
+        };
+        newest = record {
+          newest = record { item = _; older = items_of end_name.Master (items w); is = refl; bytes_are = refl };
+          answered = h.newest.item;
+          theirs_older = h.newest.older;
+          theirs_are = h.newest.is;
+          answers = ap (λ xs. number_if f (newest xs)) h.newest.is ∙ number-found f h.newest.item h.newest.bytes_are;
+          in_session = refl;
+        };
+        master_count = ap suc h.master_count;
+        slave_count = h.slave_count;
+      }),
+    )

@@ -25,15 +25,15 @@ use Rattle.end_model.proofs.Neighbours.{neighbours}
 use Rattle.end_model.proofs.SealedFrames.{offer_len}
 use Rattle.exchange_model.specs.World.{deeds, IsWorld}
 use Rattle.exchange_model.specs.Items.{items_of, items}
-use Rattle.exchange_model.specs.Serving.{deliveries_to}
 use Rattle.exchange_model.proofs.Worlds.Projection.{deeds_are_run}
+use Rattle.exchange_model.proofs.Alone.Uploads.{since_on}
 use Rattle.exchange_model.proofs.Honest.Fronts.{some_piece}
 use Rattle.exchange_model.proofs.Honest.MasterTurn.{Next, next, master_valid, master_after}
 use Rattle.exchange_model.proofs.Honest.OnItsWay.{OnItsWay, answering, next_on_its_way, head_on}
 use Rattle.exchange_model.proofs.Honest.Passing.{takes_valid}
 use Rattle.exchange_model.proofs.Honest.SlaveReplies.{Reply, reply, slave_after, some_conn}
 use Rattle.exchange_model.proofs.Honest.SlaveTurn.{Accepts, slave_valid, some_width}
-use Rattle.exchange_model.proofs.Honest.StageSteps.{Goes, taken_number, none_other, since_on, delivered_entry, data_phase_taken}
+use Rattle.exchange_model.proofs.Honest.StageSteps.{Goes, taken_number, none_other, delivered_entry, data_phase_taken}
 use Rattle.exchange_model.specs.Honest.{exchanges}
 use Rattle.exchange_model.proofs.Honest.Stages.{both, IsDown, IsUp, Down, Up}
 use Rattle.exchange_model.proofs.Honest.Turns.{Partner, partner, master_of, slave_of, width, session_pieces, connection_pieces, parameter_pieces, more, Spot, spot_after, SlaveAt, MasterAt, at_least, spot_data}
@@ -80,47 +80,48 @@ down_delivered ms r w accepts world h =
     takes_valid (slave_of ms r) es f h.load c (other-command c h.in_session) valid ∙ ap (answering f c h.load) x.is in
     let in_session : has_command command.Reset g ≡ false = head_on x.command x.in_session in
     let spot : Spot (session_pieces ms) (connection_pieces ms) (parameter_pieces ms) (phase_of c) (more state.Session c h.a) (more state.Connection c h.b) (more state.Parameter c h.d) (suc h.k) =
-    spot_after _ _ _ c h.p h.a h.b h.d h.k (some_session ms) (some_connection ms) (some_parameter ms) h.turn in
-    (entry_of (slave_of ms r) es d,
-    record {
-      is = delivered_entry (slave_of ms r) es (own em) h.last.older f d h.last.is stepped;
-      follows = record { proper = tt; stepped = ap (entry_of (slave_of ms r) es) (sym stepped) };
-      not_other = none_other (not (is_reset c)) (is_guarded_frame f) (items_of end_name.Master (items w)) (items_of end_name.Slave (items w)) f h.newest;
-      no_reset = refl;
-      taken = λ k. refl;
-      takes_data = data_phase_taken c h.load
-          ∙ (spot_data _ _ _ (phase_of c) _ _ _ (suc h.k) spot ∙ (at_least (session_pieces ms) (connection_pieces ms) (parameter_pieces ms) (suc h.k) ∙ ap (nat_le (exchanges ms)) (sym h.slave_count)));
-    },
-    Up (record {
-      id = h.id;
-      command = x.command;
-      a = more state.Session c h.a;
-      b = more state.Connection c h.b;
-      d = more state.Parameter c h.d;
-      k = suc h.k;
-      conn = x.conn;
-      load = x.made;
-      frame = g;
-      last = record { older = own es; is = refl };
-      in_session = x.in_session;
-      way = subst (λ (v : List Deed). OnItsWay (slave_of ms r) (master_of ms) v (since em) x.conn x.command x.made g) (sym (since_on d es in_session))
-          (next_on_its_way (master_of ms) (slave_of ms r) (since em) (since es) h.conn c h.load f x.conn x.command x.made h.load refl h.in_session x.in_session x.long h.way (differ (slave_of ms r) es f d run stepped refl in_session));
-      spot = subst (λ (p : State). Spot (session_pieces ms) (connection_pieces ms) (parameter_pieces ms) p (more state.Session c h.a) (more state.Connection c h.b) (more state.Parameter c h.d) (suc h.k)) (sym x.same) spot;
-      replies = x.replies;
-      master = subst (λ (p : State). MasterAt ms h.id em p (more state.Session c h.a) (more state.Connection c h.b) (more state.Parameter c h.d)) (sym x.same) h.master;
-      slave = subst (λ (v : List Deed). SlaveAt ms h.id v (phase_of x.command) (more state.Session c h.a) (more state.Connection c h.b) (more state.Parameter c h.d)) (sym (since_on d es in_session))
-          (subst (λ (p : State). SlaveAt ms h.id (d ∷ since es) p (more state.Session c h.a) (more state.Connection c h.b) (more state.Parameter c h.d)) (sym x.same) (after g));
-      newest = record {
-        newest = record { item = _; older = items_of end_name.Slave (items w); is = refl; bytes_are = refl };
-        answered = h.newest.newest.item;
-        theirs_older = h.newest.newest.older;
-        theirs_are = h.newest.newest.is;
-        answers = taken_number (items_of end_name.Master (items w)) (items_of end_name.Slave (items w)) f c h.newest;
-        in_session = in_session;
-      };
-      master_count = h.master_count;
-      slave_count = ap suc h.slave_count;
-    }))
+    spot_after _ _ _ c h.p h.a h.b h.d h.k (some_session ms) (some_connection ms) (some_parameter ms) h.turn in (
+      entry_of (slave_of ms r) es d,
+      record {
+        is = delivered_entry (slave_of ms r) es (own em) h.last.older f d h.last.is stepped;
+        follows = record { proper = tt; stepped = ap (entry_of (slave_of ms r) es) (sym stepped) };
+        not_other = none_other (not (is_reset c)) (is_guarded_frame f) (items_of end_name.Master (items w)) (items_of end_name.Slave (items w)) f h.newest;
+        no_reset = refl;
+        taken = λ k. refl;
+        takes_data = data_phase_taken c h.load
+            ∙ (spot_data _ _ _ (phase_of c) _ _ _ (suc h.k) spot ∙ (at_least (session_pieces ms) (connection_pieces ms) (parameter_pieces ms) (suc h.k) ∙ ap (nat_le (exchanges ms)) (sym h.slave_count)));
+      },
+      Up (record {
+        id = h.id;
+        command = x.command;
+        a = more state.Session c h.a;
+        b = more state.Connection c h.b;
+        d = more state.Parameter c h.d;
+        k = suc h.k;
+        conn = x.conn;
+        load = x.made;
+        frame = g;
+        last = record { older = own es; is = refl };
+        in_session = x.in_session;
+        way = subst (λ (v : List Deed). OnItsWay (slave_of ms r) (master_of ms) v (since em) x.conn x.command x.made g) (sym (since_on d es in_session))
+            (next_on_its_way (master_of ms) (slave_of ms r) (since em) (since es) h.conn c h.load f x.conn x.command x.made h.load refl h.in_session x.in_session x.long h.way (differ (slave_of ms r) es f d run stepped refl in_session));
+        spot = subst (λ (p : State). Spot (session_pieces ms) (connection_pieces ms) (parameter_pieces ms) p (more state.Session c h.a) (more state.Connection c h.b) (more state.Parameter c h.d) (suc h.k)) (sym x.same) spot;
+        replies = x.replies;
+        master = subst (λ (p : State). MasterAt ms h.id em p (more state.Session c h.a) (more state.Connection c h.b) (more state.Parameter c h.d)) (sym x.same) h.master;
+        slave = subst (λ (v : List Deed). SlaveAt ms h.id v (phase_of x.command) (more state.Session c h.a) (more state.Connection c h.b) (more state.Parameter c h.d)) (sym (since_on d es in_session))
+            (subst (λ (p : State). SlaveAt ms h.id (d ∷ since es) p (more state.Session c h.a) (more state.Connection c h.b) (more state.Parameter c h.d)) (sym x.same) (after g));
+        newest = record {
+          newest = record { item = _; older = items_of end_name.Slave (items w); is = refl; bytes_are = refl };
+          answered = h.newest.newest.item;
+          theirs_older = h.newest.newest.older;
+          theirs_are = h.newest.newest.is;
+          answers = taken_number (items_of end_name.Master (items w)) (items_of end_name.Slave (items w)) f c h.newest;
+          in_session = in_session;
+        };
+        master_count = h.master_count;
+        slave_count = ap suc h.slave_count;
+      }),
+    )
 
 -- the slave's answer comes to the master
 pub up_delivered : (ms : MasterSettings) (r : Partner ms) (w : List Entry) → IsWorld ms (partner ms r) w → IsUp ms r (both ms r w) → Goes ms r w (event.Deliver end_name.Master 1) end_name.Slave
@@ -137,44 +138,45 @@ up_delivered ms r w world h =
     let d : Deed = answering f c h.load g in
     let stepped : step (master_of ms) em (move.Deliver f) ≡ d =
     takes_valid (master_of ms) em f h.load c (other-command c h.in_session) valid ∙ ap (answering f c h.load) x.is in
-    let in_session : has_command command.Reset g ≡ false = head_on x.command x.in_session in
-    (entry_of (master_of ms) em d,
-    record {
-      is = delivered_entry (master_of ms) em (own es) h.last.older f d h.last.is stepped;
-      follows = record { proper = tt; stepped = ap (entry_of (master_of ms) em) (sym stepped) };
-      not_other = none_other (not (is_reset c)) (is_guarded_frame f) (items_of end_name.Slave (items w)) (items_of end_name.Master (items w)) f h.newest;
-      no_reset = refl;
-      taken = λ k. refl;
-      takes_data = data_phase_taken c h.load
-          ∙ (spot_data _ _ _ (phase_of c) _ _ _ h.k h.spot ∙ (at_least (session_pieces ms) (connection_pieces ms) (parameter_pieces ms) h.k ∙ ap (nat_le (exchanges ms)) (sym h.master_count)));
-    },
-    Down (record {
-      id = h.id;
-      command = x.command;
-      p = phase_of c;
-      a = h.a;
-      b = h.b;
-      d = h.d;
-      k = h.k;
-      conn = x.conn;
-      load = x.made;
-      frame = g;
-      last = record { older = own em; is = refl };
-      in_session = x.in_session;
-      way = subst (λ (v : List Deed). OnItsWay (master_of ms) (slave_of ms r) v (since es) x.conn x.command x.made g) (sym (since_on d em in_session))
-          (next_on_its_way (slave_of ms r) (master_of ms) (since es) (since em) h.conn c h.load f x.conn x.command x.made h.load refl h.in_session x.in_session x.long h.way (differ (master_of ms) em f d run stepped refl in_session));
-      turn = x.turn;
-      carries = x.carries;
-      master = master_after ms h.id em (answering f c h.load [] ∷ since em) f c x.command h.load x.made (phase_of c) h.a h.b h.d x.conn x.in_session h.master;
-      slave = h.slave;
-      newest = record {
-        newest = record { item = _; older = items_of end_name.Master (items w); is = refl; bytes_are = refl };
-        answered = h.newest.newest.item;
-        theirs_older = h.newest.newest.older;
-        theirs_are = h.newest.newest.is;
-        answers = taken_number (items_of end_name.Slave (items w)) (items_of end_name.Master (items w)) f c h.newest;
-        in_session = in_session;
-      };
-      master_count = ap suc h.master_count;
-      slave_count = h.slave_count;
-    }))
+    let in_session : has_command command.Reset g ≡ false = head_on x.command x.in_session in (
+      entry_of (master_of ms) em d,
+      record {
+        is = delivered_entry (master_of ms) em (own es) h.last.older f d h.last.is stepped;
+        follows = record { proper = tt; stepped = ap (entry_of (master_of ms) em) (sym stepped) };
+        not_other = none_other (not (is_reset c)) (is_guarded_frame f) (items_of end_name.Slave (items w)) (items_of end_name.Master (items w)) f h.newest;
+        no_reset = refl;
+        taken = λ k. refl;
+        takes_data = data_phase_taken c h.load
+            ∙ (spot_data _ _ _ (phase_of c) _ _ _ h.k h.spot ∙ (at_least (session_pieces ms) (connection_pieces ms) (parameter_pieces ms) h.k ∙ ap (nat_le (exchanges ms)) (sym h.master_count)));
+      },
+      Down (record {
+        id = h.id;
+        command = x.command;
+        p = phase_of c;
+        a = h.a;
+        b = h.b;
+        d = h.d;
+        k = h.k;
+        conn = x.conn;
+        load = x.made;
+        frame = g;
+        last = record { older = own em; is = refl };
+        in_session = x.in_session;
+        way = subst (λ (v : List Deed). OnItsWay (master_of ms) (slave_of ms r) v (since es) x.conn x.command x.made g) (sym (since_on d em in_session))
+            (next_on_its_way (slave_of ms r) (master_of ms) (since es) (since em) h.conn c h.load f x.conn x.command x.made h.load refl h.in_session x.in_session x.long h.way (differ (master_of ms) em f d run stepped refl in_session));
+        turn = x.turn;
+        carries = x.carries;
+        master = master_after ms h.id em (answering f c h.load [] ∷ since em) f c x.command h.load x.made (phase_of c) h.a h.b h.d x.conn x.in_session h.master;
+        slave = h.slave;
+        newest = record {
+          newest = record { item = _; older = items_of end_name.Master (items w); is = refl; bytes_are = refl };
+          answered = h.newest.newest.item;
+          theirs_older = h.newest.newest.older;
+          theirs_are = h.newest.newest.is;
+          answers = taken_number (items_of end_name.Slave (items w)) (items_of end_name.Master (items w)) f c h.newest;
+          in_session = in_session;
+        };
+        master_count = ap suc h.master_count;
+        slave_count = h.slave_count;
+      }),
+    )

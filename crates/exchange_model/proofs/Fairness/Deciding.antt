@@ -1,6 +1,7 @@
 -- A test of fairness that computes: where it says yes, a run is fair.
 use Rattle.std.proofs.Common.{◌≡◌, ℕ, ◌==◌, nat_eq, List, [], ◌∷◌, Bool, true, false, ◌&&◌, not, Option, Some, None, refl, ap, sym, IsSome, eqb-true}
 use Rattle.std.specs.Cmp.Lexicographic.{pointwise, same_text, other_text}
+use Rattle.std.proofs.lemmas.Bool.{and_parts}
 use Rattle.std.specs.List.{IsDistinct, AllByRecursion}
 use Rattle.fsoe_base.specs.declared.command.End.TheVariants as end_name
 use Rattle.fsoe_base.specs.declared.command.Command.{Command}
@@ -14,14 +15,6 @@ use Rattle.param_load.specs.declared.entry.Entry.{Entry}
 use Rattle.exchange_model.specs.Ends.{of_end}
 use Rattle.exchange_model.specs.Items.{Item, items, awaited}
 use Rattle.exchange_model.specs.Fair.{received_len, data_taken, frame_if, IsTakenFrom, TakesAwaited, numbers_taken, outputs_due, ShowsDue, Fair}
-
-left : (a b : Bool) → (a && b) ≡ true → a ≡ true
-left true b h = refl
-left false b h = cc
-
-right : (a b : Bool) → (a && b) ≡ true → b ≡ true
-right true b h = h
-right false b h = cc
 
 abbrev same_profile : Profile → Profile → Bool
 same_profile profile.One profile.One = true
@@ -46,15 +39,15 @@ same_terms a b = (a.conn == b.conn) && ((a.address == b.address) && ((a.watchdog
 
 equal_terms : (a b : Terms) → same_terms a b ≡ true → a ≡ b
 equal_terms a b h =
-    let from_address = right (a.conn == b.conn) _ h in
-    let from_watchdog = right (a.address == b.address) _ from_address in
-    let from_app = right (a.watchdog == b.watchdog) _ from_watchdog in
+    let from_address = (and_parts (a.conn == b.conn) _ h).1 in
+    let from_watchdog = (and_parts (a.address == b.address) _ from_address).1 in
+    let from_app = (and_parts (a.watchdog == b.watchdog) _ from_watchdog).1 in
     made a.conn b.conn a.address b.address a.watchdog b.watchdog a.app b.app a.profile b.profile
-    (eqb-true a.conn b.conn (left _ _ h))
-    (eqb-true a.address b.address (left _ _ from_address))
-    (eqb-true a.watchdog b.watchdog (left _ _ from_watchdog))
-    (same_text a.app b.app (sym (left _ _ from_app)))
-    (profiles a.profile b.profile (right (pointwise nat_eq a.app b.app) _ from_app))
+    (eqb-true a.conn b.conn (and_parts _ _ h).0)
+    (eqb-true a.address b.address (and_parts _ _ from_address).0)
+    (eqb-true a.watchdog b.watchdog (and_parts _ _ from_watchdog).0)
+    (same_text a.app b.app (sym (and_parts _ _ from_app).0))
+    (profiles a.profile b.profile (and_parts (pointwise nat_eq a.app b.app) _ from_app).1)
 
 -- whether both ends told terms, and equal ones
 abbrev told_equal : Option Terms → Option Terms → Bool
@@ -90,7 +83,7 @@ is_frame (Some made) t = same_data made.command t.command && pointwise nat_eq ma
 framed : (made : Option Took) (t : Took) → is_frame made t ≡ true → made ≡ Some t
 framed None t h = cc
 framed (Some f) t h =
-    same_took f.command t.command f.load t.load (data_commands f.command t.command (left _ _ h)) (same_text f.load t.load (sym (right (same_data f.command t.command) _ h)))
+    same_took f.command t.command f.load t.load (data_commands f.command t.command (and_parts _ _ h).0) (same_text f.load t.load (sym (and_parts (same_data f.command t.command) _ h).1))
 
 abbrev is_taken_from : ℕ → Option Took → Option Terms → Option Item → Bool
 is_taken_from l None told i = true
@@ -101,8 +94,8 @@ taken_from : (l : ℕ) (t : Option Took) (told_after : Option Terms) (i : Option
 taken_from l None told_after i h = tt
 taken_from l (Some t) told_after None h = cc
 taken_from l (Some t) told_after (Some i) h =
-    let both = told i.terms told_after (right (is_frame (frame_if l i.load) t) _ h) in
-    record { same_load = framed (frame_if l i.load) t (left _ _ h); some_terms = both.0; equal_terms = both.1 }
+    let both = told i.terms told_after (and_parts (is_frame (frame_if l i.load) t) _ h).1 in
+    record { same_load = framed (frame_if l i.load) t (and_parts _ _ h).0; some_terms = both.0; equal_terms = both.1 }
 
 abbrev takes_awaited : Lengths → List Entry → Bool
 takes_awaited lengths [] = true
@@ -112,7 +105,7 @@ takes : (lengths : Lengths) (w : List Entry) → takes_awaited lengths w ≡ tru
 takes lengths [] h = tt
 takes lengths (x ∷ w) h =
     let here = is_taken_from (received_len lengths x.end) (data_taken x.did.took) x.terms (awaited (items w) x.end) in
-    (taken_from (received_len lengths x.end) (data_taken x.did.took) x.terms (awaited (items w) x.end) (left _ _ h), takes lengths w (right here _ h))
+    (taken_from (received_len lengths x.end) (data_taken x.did.took) x.terms (awaited (items w) x.end) (and_parts _ _ h).0, takes lengths w (and_parts here _ h).1)
 
 abbrev shows_due : Lengths → List Entry → Bool
 shows_due lengths [] = true
@@ -122,7 +115,7 @@ shows : (lengths : Lengths) (w : List Entry) → shows_due lengths w ≡ true �
 shows lengths [] h = tt
 shows lengths (x ∷ w) h =
     let due : List ℕ = outputs_due (received_len lengths x.end) (x ∷ of_end x.end w) in
-    (same_text x.outputs due (sym (left _ _ h)), shows lengths w (right (pointwise nat_eq x.outputs due) _ h))
+    (same_text x.outputs due (sym (and_parts _ _ h).0), shows lengths w (and_parts (pointwise nat_eq x.outputs due) _ h).1)
 
 abbrev no_number : ℕ → List ℕ → Bool
 no_number n [] = true
@@ -138,12 +131,12 @@ is_not true h = cc
 
 apart : (n : ℕ) (numbers : List ℕ) → no_number n numbers ≡ true → AllByRecursion (λ m. nat_eq n m ≡ false) numbers
 apart n [] h = tt
-apart n (m ∷ numbers) h = (is_not (nat_eq n m) (left _ _ h), apart n numbers (right (not (nat_eq n m)) _ h))
+apart n (m ∷ numbers) h = (is_not (nat_eq n m) (and_parts _ _ h).0, apart n numbers (and_parts (not (nat_eq n m)) _ h).1)
 
 distinct : (numbers : List ℕ) → are_distinct numbers ≡ true → IsDistinct nat_eq numbers
 unfolding IsDistinct
 distinct [] h = tt
-distinct (n ∷ numbers) h = (apart n numbers (left _ _ h), distinct numbers (right (no_number n numbers) _ h))
+distinct (n ∷ numbers) h = (apart n numbers (and_parts _ _ h).0, distinct numbers (and_parts (no_number n numbers) _ h).1)
 
 -- the tests of a fair run together
 abbrev pub is_fair : Lengths → List Entry → Bool
@@ -153,13 +146,13 @@ is_fair lengths w =
 
 pub fair : (lengths : Lengths) (w : List Entry) → is_fair lengths w ≡ true → Fair lengths w
 fair lengths w h =
-    let more = right (takes_awaited lengths w) _ h in
-    let most = right (are_distinct (numbers_taken end_name.Master w)) _ more in
+    let more = (and_parts (takes_awaited lengths w) _ h).1 in
+    let most = (and_parts (are_distinct (numbers_taken end_name.Master w)) _ more).1 in
     record {
-      from_awaited = takes lengths w (left _ _ h);
-      master_once = distinct (numbers_taken end_name.Master w) (left _ _ more);
-      slave_once = distinct (numbers_taken end_name.Slave w) (left _ _ most);
-      outputs = shows lengths w (right (are_distinct (numbers_taken end_name.Slave w)) _ most);
+      from_awaited = takes lengths w (and_parts _ _ h).0;
+      master_once = distinct (numbers_taken end_name.Master w) (and_parts _ _ more).0;
+      slave_once = distinct (numbers_taken end_name.Slave w) (and_parts _ _ most).0;
+      outputs = shows lengths w (and_parts (are_distinct (numbers_taken end_name.Slave w)) _ most).1;
     }
 
 -- the load of a frame, if there is one
