@@ -18,7 +18,7 @@ use Rattle.schedule_file.specs.declared.header_kind.HeaderKind.TheVariants as ki
 use Rattle.schedule_file.proofs.Fitting.{events_fit}
 use Rattle.exchange_model.specs.World.{SameLengths, IsProperEvent}
 use Rattle.exchange_model.proofs.Fairness.Headline.{fair_before}
-use Rattle.exchange_model.proofs.Honest.HonestSchedules.{honest_serves}
+use Rattle.exchange_model.proofs.Honest.ServingRuns.{honest_serves}
 use Rattle.duo_run.specs.Replay.{AreSetTo, RunsFairly, ServesIfHonest}
 
 -- ends that are set to a header have the same lengths

@@ -15,7 +15,7 @@ use Rattle.exchange_model.specs.Ends.{peer}
 use Rattle.exchange_model.specs.World.{entry_at, IsProperEvent}
 use Rattle.exchange_model.specs.Honest.{Match, is_plain, in_turn, if_on, keeps_time, IsHonest}
 use Rattle.exchange_model.specs.Serving.{Serves}
-use Rattle.exchange_model.proofs.Honest.HonestSchedules.{honest_serves}
+use Rattle.exchange_model.proofs.Honest.ServingRuns.{honest_serves}
 use Rattle.duo_run.specs.Bulk.{entries_of}
 
 -- so many times the peer's last frame comes to an end, this one first, and to its peer in turn

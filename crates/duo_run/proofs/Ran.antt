@@ -14,7 +14,7 @@ use Rattle.exchange_model.specs.Other.{before_other}
 use Rattle.exchange_model.specs.Serving.{Serves}
 use Rattle.exchange_model.specs.World.{setup_of, moves, going_on, world_after, world, SameLengths, IsProperEvent}
 use Rattle.exchange_model.proofs.Fairness.Headline.{fair_world}
-use Rattle.exchange_model.proofs.Honest.HonestSchedules.{honest_serves, honest_fair}
+use Rattle.exchange_model.proofs.Honest.ServingRuns.{honest_serves, honest_fair}
 use Rattle.exchange_model.proofs.Worlds.Others.{before_is_clean, before_is_world}
 use Rattle.exchange_model.proofs.Worlds.Projection as alone
 use Rattle.duo_run.specs.Duo.{DuoView, DuoStands}

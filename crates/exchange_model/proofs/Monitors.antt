@@ -1,5 +1,3 @@
--- What a monitor keeps after an entry: the one without lists (Noted), and the one with lists (ListNoted), by the newest of their items
--- (Lasts).
+-- What a monitor keeps after an entry: the one without lists (Noted), and the one with lists (ListNoted).
 pub mod Noted
-pub mod Lasts
 pub mod ListNoted

@@ -80,7 +80,7 @@ pub fn others()
 
 /// The exchanges before the first data are one of Reset frames and one for each piece of a payload that the master
 /// downloads.
-#[tactic(auto, using(crate::proofs::Honest::Exchanges::are_pieces))]
+#[tactic(auto, using(crate::proofs::Honest::Turns::are_pieces))]
 pub fn exchanges_before_data()
     ensures { (ms : MasterSettings) (id : ℕ) → exchanges ms ≡ 1 + pieces (pay ms id state.Session) (piece_len (OfMaster ms)) + pieces (pay ms id state.Connection) (piece_len (OfMaster ms)) + pieces (pay ms id state.Parameter) (piece_len (OfMaster ms)) }
 {}

@@ -68,7 +68,7 @@ fn side(mine: &[Listed], theirs: &[Listed]) -> Side
 
 /// Appends the item of an entry of the end with the first of these lists, where it sent a frame. True exactly where the entry
 /// is other. Unchanged after `Memory`.
-#[tactic(auto, using(crate::proofs::Monitors::Lasts::last_sent_more))]
+#[tactic(auto, using(crate::proofs::Monitors::ListNoted::last_sent_more))]
 fn add(mine: &mut Vec<Listed>, theirs: &[Listed], entry: &Entry) -> Result<bool, Memory>
     requires { next_number (last_sent mine.old.items) < 2 ^ 64 }
     ensures other { IfOk result (λ other. other ≡ is_other_to (side_in mine.old.items theirs.now) entry.now) }

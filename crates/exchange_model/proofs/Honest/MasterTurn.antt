@@ -27,10 +27,8 @@ use Rattle.exchange_model.proofs.Alone.Framed.{command_back}
 use Rattle.end_model.proofs.SealedFrames.{padded_len}
 use Rattle.exchange_model.proofs.Honest.OnItsWay.{OnItsWay, fits_on, answering}
 use Rattle.exchange_model.proofs.Honest.ResetFrames.{zeros_all}
-use Rattle.exchange_model.proofs.Honest.SlaveReplies.{Replies}
-use Rattle.exchange_model.proofs.Honest.SlaveTurn.{Carries, parts_with}
-use Rattle.exchange_model.proofs.Honest.UploadTests.{session_long, parameters_long}
-use Rattle.exchange_model.proofs.Honest.Turns.{Partner, master_of, slave_of, width, session_pieces, connection_pieces, parameter_pieces, more, Turn, MoreSession, FirstConnection, MoreConnection, FirstParameter, MoreParameter, FirstZeros, FirstValues, MoreZeros, MoreValues, Spot, InSession, InConnection, InParameter, InData, MasterAt}
+use Rattle.exchange_model.proofs.Honest.SlaveTurn.{Replies, Carries, parts_with}
+use Rattle.exchange_model.proofs.Honest.Turns.{session_long, parameters_long, Partner, master_of, slave_of, width, session_pieces, connection_pieces, parameter_pieces, more, Turn, MoreSession, FirstConnection, MoreConnection, FirstParameter, MoreParameter, FirstZeros, FirstValues, MoreZeros, MoreValues, Spot, InSession, InConnection, InParameter, InData, MasterAt}
 
 answers-allowed : (c : Command) → is_reset c ≡ false → master_allows (phase_of c) c ≡ true
 answers-allowed command.Reset n = cc

@@ -1,5 +1,6 @@
--- A slave takes the master's frame that is on its way, and answers it.
-use Rattle.std.proofs.Common.{◌≡◌, ℕ, zero, suc, ◌+◌, ◌*◌, ◌<◌, ◌≤◌, nat_le, List, ◌++◌, length, take, drop, true, false, not, Some, None, if◌then◌else◌, refl, sym, ap, ap₂, subst, ◌∙◌, arith}
+-- A slave takes the master's frame that is on its way, and answers it: the frame passes all tests, and what the slave took after it
+-- tells the answer that it seals.
+use Rattle.std.proofs.Common.{◌≡◌, ℕ, zero, suc, ◌+◌, ◌*◌, ◌<◌, ◌≤◌, nat_le, List, ◌++◌, length, take, drop, true, false, not, Some, None, if◌then◌else◌, refl, sym, ap, ap₂, subst, ◌∙◌, arith, ◌-◌, [], ◌∷◌, min, replicate, Bool, Option, unwrap_or}
 use Rattle.std.proofs.lemmas.Bool.{eq-eqb}
 use Rattle.std.proofs.lemmas.Bool.Decides.{nat_tests}
 use Rattle.fsoe_base.specs.declared.command.State.{State}
@@ -8,7 +9,7 @@ use Rattle.fsoe_base.specs.declared.command.Command.{Command}
 use Rattle.fsoe_base.specs.declared.command.Command.TheVariants as command
 use Rattle.fsoe_base.specs.Bytes.{all_zero}
 use Rattle.fsoe_base.specs.Command.{command_byte, command_of, code}
-use Rattle.fsoe_frame.specs.Parts.{Frame}
+use Rattle.fsoe_frame.specs.Parts.{Frame, frame_of}
 use Rattle.param_load.specs.declared.contents.Expected.TheVariants as expected
 use Rattle.param_load.specs.declared.profile.Profile.{Profile}
 use Rattle.param_load.specs.declared.master_settings.MasterSettings.{MasterSettings}
@@ -18,19 +19,24 @@ use Rattle.param_load.specs.Payload.{session_payload, connection_payload, parame
 use Rattle.param_load.specs.Profile.{id_len}
 use Rattle.end_model.specs.Setup.{OfMaster}
 use Rattle.end_model.specs.Deed.{Deed}
-use Rattle.end_model.specs.Chain.{since, taken}
-use Rattle.end_model.specs.Payloads.{piece, pieces_for, joined, first_conn, whole}
-use Rattle.end_model.specs.Readiness.{slave_allows}
+use Rattle.end_model.specs.Chain.{since, taken, seal}
+use Rattle.end_model.specs.Payloads.{piece, pieces_for, joined, first_conn, whole, count_in, conn_in, session_id, conn_id}
+use Rattle.end_model.specs.Readiness.{slave_allows, offer, held}
 use Rattle.end_model.specs.Verdict.{is_slave_conn, has_conn, contents}
 use Rattle.end_model.proofs.WholeUploads.{by_count}
-use Rattle.exchange_model.proofs.Honest.Fronts.{front_long, front_begun, drop_padded, not_yet, all_come, IsBegun}
+use Rattle.exchange_model.proofs.Honest.Fronts.{front_long, front_begun, drop_padded, not_yet, all_come, IsBegun, padded_twice}
 use Rattle.exchange_model.proofs.Alone.Framed.{piece_fits, command_back}
-use Rattle.exchange_model.proofs.Honest.OnItsWay.{OnItsWay, fits_on}
-use Rattle.exchange_model.proofs.Alone.Pieces.{front, piece_short, take_padded}
-use Rattle.exchange_model.proofs.Honest.ResetFrames.{some_bytes}
-use Rattle.exchange_model.proofs.Honest.Turns.{Partner, master_of, slave_of, width, session_pieces, connection_pieces, parameter_pieces, Turn, Starts, MoreSession, FirstConnection, MoreConnection, FirstParameter, MoreParameter, FirstZeros, FirstValues, MoreZeros, MoreValues, conn_after, SlaveAt}
+use Rattle.exchange_model.proofs.Honest.OnItsWay.{OnItsWay, fits_on, answering}
+use Rattle.exchange_model.proofs.Alone.Pieces.{front, piece_short, take_padded, piece_filled}
+use Rattle.exchange_model.proofs.Honest.ResetFrames.{some_bytes, zeros_all}
+use Rattle.exchange_model.proofs.Honest.Turns.{session_long, Partner, master_of, slave_of, width, session_pieces, connection_pieces, parameter_pieces, Turn, Starts, MoreSession, FirstConnection, MoreConnection, FirstParameter, MoreParameter, FirstZeros, FirstValues, MoreZeros, MoreValues, conn_after, SlaveAt, partner, more}
 use Rattle.exchange_model.proofs.Honest.UploadTests.{session_passes, connection_passes, parameters_pass, parameters_count}
-use Rattle.end_model.specs.Reactions.{IsValid}
+use Rattle.end_model.specs.Reactions.{IsValid, received}
+use Rattle.std.specs.Option.{option_or}
+use Rattle.std.proofs.lemmas.List.{length-replicate, length-take, length-drop}
+use Rattle.param_load.specs.Download.{is_padded}
+use Rattle.end_model.specs.Phases.{phase_of, is_reset}
+use Rattle.end_model.specs.Step.{sealed, with_data, answer, id_piece}
 
 -- what a frame of the master carries in its turn
 abbrev pub Carries : MasterSettings → ℕ → Command → ℕ → ℕ → ℕ → ℕ → List ℕ → Type 0
@@ -148,3 +154,195 @@ slave_valid ms r id u e c p a b d k conn load f m o h t carries =
       does_fit = fits_on (master_of ms) (slave_of ms r) u (since e) conn c load f refl o;
       is_sound = ap (contents (slave_of ms r) e c) o.frame ∙ passes-contents ms r id e c p a b d conn load _ m h carries;
     }
+
+some-none : (o : Option ℕ) → option_or o None ≡ o
+some-none None = refl
+some-none (Some n) = refl
+
+same-conn : (conn b : ℕ) → option_or (conn_after conn b) (Some conn) ≡ Some conn
+same-conn conn zero = refl
+same-conn conn (suc b) = refl
+
+-- one more piece of a payload was joined
+joined-more : (ms : MasterSettings) (p : List ℕ) (k : ℕ) (before load : List ℕ) → before ≡ front p (width ms) k → load ≡ padded (piece p (width ms) (suc k)) ms.lengths.master → before ++ take (width ms) load ≡ front p (width ms) (suc k)
+joined-more ms p k before load h is = ap₂ (λ (t u : List ℕ). t ++ take (width ms) u) h is ∙ ap (λ t. front p (width ms) k ++ t) (take_padded (piece p (width ms) (suc k)) (width ms) ms.lengths.master (piece_short p (width ms) (suc k)) (piece_fits (OfMaster ms)))
+
+-- frames past the connection id tell no other one
+same-first : (ms : MasterSettings) (v : List Deed) (b : ℕ) (c : Command) (f tail : List ℕ) → first_conn ms.lengths.master (taken v) ≡ conn_after ms.conn b → f ≡ command_byte c ∷ tail → conn_in ms.lengths.master (command_byte c ∷ tail) ≡ None
+    → first_conn ms.lengths.master (f ∷ taken v) ≡ conn_after ms.conn b
+same-first ms v b c f tail h head none = ap (λ f. first_conn ms.lengths.master (f ∷ taken v)) head ∙ (ap (option_or (first_conn ms.lengths.master (taken v))) none ∙ (some-none (first_conn ms.lengths.master (taken v)) ∙ h))
+
+-- what a slave took with one more frame
+pub slave_after : (ms : MasterSettings) (id : ℕ) (v : List Deed) (c : Command) (p : State) (a b d conn : ℕ) (load f g tail : List ℕ) → SlaveAt ms id v p a b d → f ≡ command_byte c ∷ tail
+    → (frame_of ms.lengths.master f).conn ≡ conn → Carries ms id c a b d conn load
+    → SlaveAt ms id (answering f c load g ∷ v) (phase_of c) (more state.Session c a) (more state.Connection c b) (more state.Parameter c d)
+slave_after ms id v command.Reset p a b d conn load f g tail h head n k = absurd k
+slave_after ms id v command.Session p a b d conn load f g tail h head n k =
+    record {
+      phase = refl;
+      session = joined-more ms (session_payload id ms.profile) a _ load h.session k.1;
+      connection = h.connection;
+      parameters = h.parameters;
+      ids = ap (λ f. count_in state.Session (f ∷ taken v)) head ∙ ap suc h.ids;
+      conn = same-first ms v b command.Session f tail h.conn head refl;
+    }
+slave_after ms id v command.Connection p a b d conn load f g tail h head n k =
+    record {
+      phase = refl;
+      session = h.session;
+      connection = joined-more ms (connection_payload ms.conn ms.address) b _ load h.connection k.1;
+      parameters = h.parameters;
+      ids = ap (λ f. count_in state.Session (f ∷ taken v)) head ∙ h.ids;
+      conn = ap₂ option_or h.conn (guarded-conn f tail head ∙ ap Some (n ∙ k.0)) ∙ same-conn ms.conn b;
+    }
+  where
+    guarded-conn : (f tail : List ℕ) → f ≡ 0x64 ∷ tail → conn_in ms.lengths.master f ≡ Some (frame_of ms.lengths.master f).conn
+    guarded-conn f tail head = subst (λ (f : List ℕ). conn_in ms.lengths.master f ≡ Some (frame_of ms.lengths.master f).conn) (sym head) refl
+slave_after ms id v command.Parameter p a b d conn load f g tail h head n k =
+    record {
+      phase = refl;
+      session = h.session;
+      connection = h.connection;
+      parameters = joined-more ms (parameter_payload ms.watchdog ms.profile ms.app) d _ load h.parameters k.1;
+      ids = ap (λ f. count_in state.Session (f ∷ taken v)) head ∙ h.ids;
+      conn = same-first ms v b command.Parameter f tail h.conn head refl;
+    }
+slave_after ms id v command.FailSafeData p a b d conn load f g tail h head n k =
+    record { phase = refl; session = h.session; connection = h.connection; parameters = h.parameters; ids = ap (λ f. count_in state.Session (f ∷ taken v)) head ∙ h.ids; conn = same-first ms v b command.FailSafeData f tail h.conn head refl }
+slave_after ms id v command.ProcessData p a b d conn load f g tail h head n k =
+    record { phase = refl; session = h.session; connection = h.connection; parameters = h.parameters; ids = ap (λ f. count_in state.Session (f ∷ taken v)) head ∙ h.ids; conn = same-first ms v b command.ProcessData f tail h.conn head refl }
+
+-- what an answer carries, after these pieces
+abbrev pub Replies : MasterSettings → ℕ → Command → ℕ → ℕ → ℕ → ℕ → List ℕ → Type 0
+Replies ms id command.Reset a b d conn load = ⊥
+Replies ms id command.Session a b d conn load = (conn ≡ 0) × (is_padded (piece (session_payload id ms.profile) (width ms) a) load ≡ true)
+Replies ms id command.Connection a b d conn load = (conn ≡ ms.conn) × (load ≡ padded (piece (connection_payload ms.conn ms.address) (width ms) b) ms.lengths.slave)
+Replies ms id command.Parameter a b d conn load = (conn ≡ ms.conn) × (load ≡ padded (piece (parameter_payload ms.watchdog ms.profile ms.app) (width ms) d) ms.lengths.slave)
+Replies ms id command.FailSafeData a b d conn load = (conn ≡ ms.conn) × (all_zero load ≡ true)
+Replies ms id command.ProcessData a b d conn load = conn ≡ ms.conn
+
+-- an answer that a slave seals
+pub record Reply (ms : MasterSettings) (r : Partner ms) (id : ℕ) (e : List Deed) (f : List ℕ) (c : Command) (load : List ℕ) (a b d : ℕ) : Type 0 where
+  pub conn : ℕ
+  pub command : Command
+  pub made : List ℕ
+  pub in_session : is_reset command ≡ false
+  pub same : phase_of command ≡ phase_of c
+  pub long : length made ≡ ms.lengths.slave
+  pub is : answer (slave_of ms r) (received f c load e) (record { command = c; load = load }) ≡ seal (slave_of ms r) (answering f c load [] ∷ since e) conn command made
+  pub replies : Replies ms id command a b d conn made
+
+-- the bytes of a piece are as many as those of the same piece of a payload that is as long
+piece-long : (p q : List ℕ) (c k : ℕ) → length p ≡ length q → length (piece p c k) ≡ length (piece q c k)
+piece-long p q c k h =
+    length-take c (drop ((k - 1) * c) p)
+    ∙ (ap (min c) (length-drop ((k - 1) * c) p ∙ (ap (λ n. n - (k - 1) * c) h ∙ sym (length-drop ((k - 1) * c) q))) ∙ sym (length-take c (drop ((k - 1) * c) q)))
+
+echo-long : (q : List ℕ) (c l m : ℕ) (load : List ℕ) → length q ≤ c → c ≤ l → c ≤ m → load ≡ padded q l → padded (take c load) m ≡ padded q m
+echo-long q c l m load h i j e = ap (λ t. padded (take c t) m) e ∙ (ap (λ t. padded t m) (take_padded q c l h i) ∙ padded_twice q c m h j)
+
+-- where a connection id came, it is the session's
+known : (ms : MasterSettings) (r : Partner ms) (id : ℕ) (e : List Deed) (f load : List ℕ) (c : Command) (p : State) (a b d : ℕ) → is_reset c ≡ false → SlaveAt ms id (answering f c load [] ∷ since e) p a (suc b) d
+    → conn_id (slave_of ms r) (received f c load e) ≡ ms.conn
+known ms r id e f load c p a b d n h = ap (λ o. unwrap_or o 0) h.conn
+
+data-reply : (ms : MasterSettings) (r : Partner ms) (id : ℕ) (e : List Deed) (f load : List ℕ) (c : Command) (a b d : ℕ) (hold : Bool) → is_reset c ≡ false → phase_of c ≡ state.Data
+    → answer (slave_of ms r) (received f c load e) (record { command = c; load = load }) ≡ with_data (slave_of ms r) (received f c load e)
+    → conn_id (slave_of ms r) (received f c load e) ≡ ms.conn → length (offer (slave_of ms r) e) ≡ ms.lengths.slave → held e ≡ hold → Reply ms r id e f c load a b d
+data-reply ms r id e f load c a b d true n p is conn long h =
+    record {
+      conn = conn_id (slave_of ms r) (received f c load e);
+      command = command.FailSafeData;
+      made = replicate ms.lengths.slave 0;
+      in_session = refl;
+      same = sym p;
+      long = length-replicate ms.lengths.slave 0;
+      is = is ∙ ap (λ (b : Bool). if b then sealed (slave_of ms r) (received f c load e) command.FailSafeData (replicate ms.lengths.slave 0) else sealed (slave_of ms r) (received f c load e) command.ProcessData (offer (slave_of ms r) e)) h;
+      replies = (conn, zeros_all ms.lengths.slave);
+    }
+data-reply ms r id e f load c a b d false n p is conn long h =
+    record {
+      conn = conn_id (slave_of ms r) (received f c load e);
+      command = command.ProcessData;
+      made = offer (slave_of ms r) e;
+      in_session = refl;
+      same = sym p;
+      long = long;
+      is = is ∙ ap (λ (b : Bool). if b then sealed (slave_of ms r) (received f c load e) command.FailSafeData (replicate ms.lengths.slave 0) else sealed (slave_of ms r) (received f c load e) command.ProcessData (offer (slave_of ms r) e)) h;
+      replies = conn;
+    }
+
+-- past the session id a connection id has come
+abbrev SomeConn : Command → ℕ → Type 0
+SomeConn command.Reset b = Unit {0}
+SomeConn command.Session b = Unit {0}
+SomeConn command.Connection b = Unit {0}
+SomeConn _ b = 0 < b
+
+pub some_conn : (n n' n'' : ℕ) (c : Command) (p : State) (a b d k : ℕ) → 0 < n' → Turn n n' n'' c p a b d k → SomeConn c b
+some_conn n n' n'' c p a b d k h Starts = tt
+some_conn n n' n'' c p a b d k h (MoreSession _ g) = tt
+some_conn n n' n'' c p a b d k h FirstConnection = tt
+some_conn n n' n'' c p a b d k h (MoreConnection _ _ g e) = tt
+some_conn n n' n'' c p a b d k h (FirstParameter _ e) = h
+some_conn n n' n'' c p a b d k h (MoreParameter _ _ g e) = h
+some_conn n n' n'' c p a b d k h (FirstZeros _ e) = h
+some_conn n n' n'' c p a b d k h (FirstValues _ e) = h
+some_conn n n' n'' c p a b d k h (MoreZeros _ e) = h
+some_conn n n' n'' c p a b d k h (MoreValues _ e) = h
+
+conn-known : (ms : MasterSettings) (r : Partner ms) (id : ℕ) (e : List Deed) (f load : List ℕ) (c : Command) (p : State) (a b d : ℕ) → is_reset c ≡ false → 0 < b → SlaveAt ms id (answering f c load [] ∷ since e) p a b d
+    → conn_id (slave_of ms r) (received f c load e) ≡ ms.conn
+conn-known ms r id e f load c p a zero d n some h = absurd (omega arith)
+conn-known ms r id e f load c p a (suc b) d n some h = known ms r id e f load c p a b d n h
+
+-- the answer to the frame in turn
+pub reply : (ms : MasterSettings) (r : Partner ms) (id : ℕ) (e : List Deed) (f load : List ℕ) (c : Command) (a b d conn : ℕ) → length (offer (slave_of ms r) e) ≡ ms.lengths.slave → SomeConn c b → Carries ms id c a b d conn load
+    → SlaveAt ms id (answering f c load [] ∷ since e) (phase_of c) (more state.Session c a) (more state.Connection c b) (more state.Parameter c d)
+    → Reply ms r id e f c load (more state.Session c a) (more state.Connection c b) (more state.Parameter c d)
+reply ms r id e f load command.Reset a b d conn long some k h = absurd k
+reply ms r id e f load command.Session a b d conn long some k h =
+    let sid : ℕ = session_id (slave_of ms r) (received f command.Session load e) in
+    let q : List ℕ = id_piece (partner ms r) (received f command.Session load e) in
+    let same : length (piece (session_payload id ms.profile) (width ms) (suc a)) ≡ length q =
+    piece-long (session_payload id ms.profile) (session_payload sid ms.profile) (width ms) (suc a) (session_long id ms.profile ∙ sym (session_long sid ms.profile)) ∙ ap (λ n. length (piece (session_payload sid ms.profile) (width ms) n)) (sym h.ids) in
+    record {
+      conn = 0;
+      command = command.Session;
+      made = padded q ms.lengths.slave;
+      in_session = refl;
+      same = refl;
+      long = piece_filled (slave_of ms r) (session_payload sid ms.profile) (count_in state.Session (f ∷ taken (since e)));
+      is = refl;
+      replies = (refl, ap (λ n. all_zero (drop n (padded q ms.lengths.slave))) same ∙ drop_padded q (length q) ms.lengths.slave (omega arith));
+    }
+reply ms r id e f load command.Connection a b d conn long some k h =
+    let q : List ℕ = piece (connection_payload ms.conn ms.address) (width ms) (suc b) in
+    let same : padded (take (width ms) load) ms.lengths.slave ≡ padded q ms.lengths.slave = echo-long q (width ms) ms.lengths.master ms.lengths.slave load (piece_short (connection_payload ms.conn ms.address) (width ms) (suc b)) (piece_fits (OfMaster ms)) (piece_fits (slave_of ms r)) k.1 in
+    record {
+      conn = conn_id (slave_of ms r) (received f command.Connection load e);
+      command = command.Connection;
+      made = padded (take (width ms) load) ms.lengths.slave;
+      in_session = refl;
+      same = refl;
+      long = ap length same ∙ piece_filled (slave_of ms r) (connection_payload ms.conn ms.address) (suc b);
+      is = refl;
+      replies = (known ms r id e f load command.Connection state.Connection a b d refl h, same);
+    }
+reply ms r id e f load command.Parameter a b d conn long some k h =
+    let q : List ℕ = piece (parameter_payload ms.watchdog ms.profile ms.app) (width ms) (suc d) in
+    let same : padded (take (width ms) load) ms.lengths.slave ≡ padded q ms.lengths.slave = echo-long q (width ms) ms.lengths.master ms.lengths.slave load (piece_short (parameter_payload ms.watchdog ms.profile ms.app) (width ms) (suc d)) (piece_fits (OfMaster ms)) (piece_fits (slave_of ms r)) k.1 in
+    record {
+      conn = conn_id (slave_of ms r) (received f command.Parameter load e);
+      command = command.Parameter;
+      made = padded (take (width ms) load) ms.lengths.slave;
+      in_session = refl;
+      same = refl;
+      long = ap length same ∙ piece_filled (slave_of ms r) (parameter_payload ms.watchdog ms.profile ms.app) (suc d);
+      is = refl;
+      replies = (conn-known ms r id e f load command.Parameter state.Parameter a b (suc d) refl some h, same);
+    }
+reply ms r id e f load command.FailSafeData a b d conn long some k h =
+    data-reply ms r id e f load command.FailSafeData a b d (held e) refl refl refl (conn-known ms r id e f load command.FailSafeData state.Data a b d refl some h) long refl
+reply ms r id e f load command.ProcessData a b d conn long some k h =
+    data-reply ms r id e f load command.ProcessData a b d (held e) refl refl refl (conn-known ms r id e f load command.ProcessData state.Data a b d refl some h) long refl

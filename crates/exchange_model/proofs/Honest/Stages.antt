@@ -18,8 +18,7 @@ use Rattle.exchange_model.specs.World.{deeds}
 use Rattle.exchange_model.specs.Items.{Item, items_of, items}
 use Rattle.exchange_model.specs.Serving.{deliveries_to}
 use Rattle.exchange_model.proofs.Honest.OnItsWay.{Chained, chained, Carried, IsFresh}
-use Rattle.exchange_model.proofs.Honest.SlaveReplies.{Replies}
-use Rattle.exchange_model.proofs.Honest.SlaveTurn.{Carries}
+use Rattle.exchange_model.proofs.Honest.SlaveTurn.{Replies, Carries}
 use Rattle.exchange_model.proofs.Honest.Turns.{Partner, master_of, slave_of, width, session_pieces, connection_pieces, parameter_pieces, more, Turn, Spot, HasTaken, HasSent}
 
 -- the newest item of an end has these bytes

@@ -1,5 +1,5 @@
 -- Where a handshake stands: the pieces of each payload that were sent and taken so far, and whose turn it is.
-use Rattle.std.proofs.Common.{◌≡◌, ℕ, zero, suc, ◌+◌, ◌<◌, ◌≤◌, List, length, Bool, true, false, nat_lt, Option, Some, None, IsTrue, if◌then◌else◌, arith, nat_le}
+use Rattle.std.proofs.Common.{◌≡◌, ℕ, zero, suc, ◌+◌, ◌<◌, ◌≤◌, List, length, Bool, true, false, nat_lt, Option, Some, None, IsTrue, if◌then◌else◌, arith, nat_le, refl}
 use Rattle.std.proofs.lemmas.Bool.Decides.{nat_tests}
 use Rattle.std.proofs.lemmas.Bool.{lt-ltb, le-ltb}
 use Rattle.fsoe_base.specs.declared.command.State.{State}
@@ -17,9 +17,12 @@ use Rattle.end_model.specs.Setup.{Setup, OfMaster, OfSlave, piece_len}
 use Rattle.end_model.specs.Phases.{phase_of, same_phase}
 use Rattle.end_model.specs.Deed.{Deed}
 use Rattle.end_model.specs.Chain.{since, own, taken}
-use Rattle.end_model.specs.Payloads.{pieces_for, joined, count_in, first_conn, id_sent}
+use Rattle.end_model.specs.Payloads.{pieces_for, joined, count_in, first_conn, id_sent, pay, pieces}
 use Rattle.end_model.specs.Readiness.{phase_sent, phase_taken}
 use Rattle.exchange_model.proofs.Alone.Pieces.{front}
+use Rattle.param_load.specs.declared.profile.Profile.{Profile}
+use Rattle.param_load.specs.declared.profile.Profile.TheVariants as profile
+use Rattle.exchange_model.specs.Honest.{exchanges}
 
 -- what a slave whose settings match a master's has of its own
 pub record Partner (ms : MasterSettings) : Type 0 where
@@ -163,3 +166,17 @@ pub record HasSent (id : ℕ) (frames : List (List ℕ)) (id_known : Option ℕ)
 
 abbrev pub MasterAt : MasterSettings → ℕ → List Deed → State → ℕ → ℕ → ℕ → Type 0
 MasterAt ms id e p a b d = HasSent id (own (since e)) (id_sent (OfMaster ms) e) p a b d
+
+-- how long the payloads are
+pub session_long : (id : ℕ) (p : Profile) → length (session_payload id p) ≡ id_len p
+session_long id profile.One = refl
+session_long id (profile.Two word) = refl
+
+pub parameters_long : (w : ℕ) (p : Profile) (app : List ℕ) → length (parameter_payload w p app) ≡ id_len p + 4 + length app
+parameters_long w profile.One app = omega arith
+parameters_long w (profile.Two word) app = omega arith
+
+-- the exchanges before the first data are one of Reset frames and one for each piece
+pub are_pieces : (ms : MasterSettings) (id : ℕ)
+    → exchanges ms ≡ 1 + pieces (pay ms id state.Session) (piece_len (OfMaster ms)) + pieces (pay ms id state.Connection) (piece_len (OfMaster ms)) + pieces (pay ms id state.Parameter) (piece_len (OfMaster ms))
+are_pieces ms id = simp (session_long id ms.profile, parameters_long ms.watchdog ms.profile ms.app) refl

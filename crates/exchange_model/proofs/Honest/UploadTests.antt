@@ -15,6 +15,7 @@ use Rattle.param_load.specs.AppRule.{rule_len, allows}
 use Rattle.param_load.specs.Contents.{fails, word_is, expected_len, padding_fault, contents_fault}
 use Rattle.param_load.specs.Payload.{session_payload, connection_payload, parameter_payload, number_at}
 use Rattle.param_load.specs.Profile.{id_len}
+use Rattle.exchange_model.proofs.Honest.Turns.{session_long, parameters_long}
 use Rattle.exchange_model.proofs.Honest.Fronts.{IsBegun, number_in, part_in, padding_in}
 
 number-back : (n : ℕ) → n % 256 + 256 * (n / 256) ≡ n
@@ -53,14 +54,6 @@ both-zero false b x h i = cc
 
 none-of : (a b : Option Code) → a ≡ None → b ≡ None → option_or a b ≡ None
 none-of a b h i = ap₂ option_or h i
-
-pub session_long : (id : ℕ) (p : Profile) → length (session_payload id p) ≡ id_len p
-session_long id profile.One = refl
-session_long id (profile.Two word) = refl
-
-pub parameters_long : (w : ℕ) (p : Profile) (app : List ℕ) → length (parameter_payload w p app) ≡ id_len p + 4 + length app
-parameters_long w profile.One app = omega arith
-parameters_long w (profile.Two word) app = omega arith
 
 -- the padding of a frame whose bytes begin the payload
 padding-passes : (e : Expected) (u p rest : List ℕ) → length p ≡ expected_len e → IsBegun u p → all_zero rest ≡ true → padding_fault e u rest ≡ None

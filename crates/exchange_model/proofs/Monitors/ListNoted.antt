@@ -1,5 +1,5 @@
--- What a monitor with lists has after an entry is what the definitions say of the entries with it.
-use Rattle.std.proofs.Common.{◌≡◌, ℕ, suc, List, [], ◌∷◌, ◌++◌, length, Bool, true, false, Option, Some, None, if◌then◌else◌, refl, sym, ap, ap₂, ◌∙◌}
+-- What a monitor with lists has after an entry is what the definitions say of the entries with it, by the newest of listed items.
+use Rattle.std.proofs.Common.{◌≡◌, ℕ, suc, List, [], ◌∷◌, ◌++◌, length, Bool, true, false, Option, Some, None, if◌then◌else◌, refl, sym, ap, ap₂, ◌∙◌, ◌+◌, ◌<◌, take, get_or, arith, take_all}
 use Rattle.fsoe_base.specs.declared.command.End.{End}
 use Rattle.fsoe_base.specs.declared.command.End.TheVariants as end_name
 use Rattle.param_load.specs.declared.entry.Entry.{Entry}
@@ -11,10 +11,36 @@ use Rattle.exchange_model.specs.Ends.{peer}
 use Rattle.exchange_model.specs.Items.{Item, newest, newest_answer, answer_among, items_of, items, item_of, item_taken}
 use Rattle.exchange_model.specs.Other.{first_of_both, first_other}
 use Rattle.exchange_model.specs.Noting.{sent_of, kept_of, next_sent, is_other_to, answered}
-use Rattle.exchange_model.specs.Listing.{listing, listed, ListView, list_of, Lists, last_sent, is_answer_to, last_answer, answer_in, side_in, looked_up, list_after, lists_after, listed_next}
+use Rattle.exchange_model.specs.Listing.{listing, listed, ListView, list_of, Lists, last_sent, is_answer_to, last_answer, answer_in, side_in, looked_up, list_after, lists_after, listed_next, later}
 use Rattle.exchange_model.proofs.Worlds.Numbered.{numbered}
-use Rattle.exchange_model.proofs.Monitors.Lasts.{last_sent_more, last_answer_more}
 use Rattle.exchange_model.proofs.Monitors.Noted.{newest_next, answered_is, other_is}
+use Rattle.std.proofs.lemmas.List.{take_more}
+
+-- one more item
+pub last_sent_more : (found : List Listed) (i : Listed) → last_sent (found ++ (i ∷ [])) ≡ Some i.sent
+last_sent_more [] i = refl
+last_sent_more (j ∷ found) i = ap (λ o. later o j.sent) (last_sent_more found i)
+
+chosen-later : (b c : Bool) (o : Option Sent) (s t : Sent) → (if b then later (if c then Some s else o) t else (if c then Some s else o)) ≡ (if c then Some s else (if b then later o t else o))
+chosen-later true true o s t = refl
+chosen-later true false o s t = refl
+chosen-later false true o s t = refl
+chosen-later false false o s t = refl
+
+pub last_answer_more : (n : ℕ) (found : List Listed) (i : Listed) → last_answer n (found ++ (i ∷ [])) ≡ (if is_answer_to n i then Some i.sent else last_answer n found)
+last_answer_more n [] i = refl
+last_answer_more n (j ∷ found) i =
+    ap (λ o. if is_answer_to n j then later o j.sent else o) (last_answer_more n found i) ∙ chosen-later (is_answer_to n j) (is_answer_to n i) (last_answer n found) i.sent j.sent
+
+-- the newest of the first items, by the last of them
+pub last_answer_at : (n k : ℕ) (found : List Listed) (i : Listed) (b : Bool) → k < length found → i ≡ get_or found k i → is_answer_to n i ≡ b
+    → last_answer n (take (k + 1) found) ≡ (if b then Some i.sent else last_answer n (take k found))
+last_answer_at n k found i b h is e =
+    ap (last_answer n) (take_more found k i h ∙ ap (λ (j : Listed). take k found ++ (j ∷ [])) (sym is))
+    ∙ (last_answer_more n (take k found) i ∙ ap (λ (b : Bool). if b then Some i.sent else last_answer n (take k found)) e)
+
+pub last_sent_at : (k : ℕ) (found : List Listed) (i : Listed) → k < length found → k + 1 ≡ length found → last_sent found ≡ Some (get_or found k i).sent
+last_sent_at k found i h n = ap last_sent (sym (take_all (k + 1) found (omega arith))) ∙ (ap last_sent (take_more found k i h) ∙ last_sent_more (take k found) (get_or found k i))
 
 -- the newest of an end's items
 last-is : (found : List Item) → last_sent (listed found) ≡ sent_of (newest found)

@@ -1,4 +1,4 @@
-use Rattle.exchange_model.proofs.Honest.HonestSchedules.{honest_serves, honest_fair}
+use Rattle.exchange_model.proofs.Honest.ServingRuns.{honest_serves, honest_fair}
 use Rattle.exchange_model.proofs.laws.honest_schedules.Goals as goal
 
 pub returns : goal.returns

@@ -1,6 +1,6 @@
 use Rattle.std.proofs.Common.{◌≡◌, ◌+◌, ◌-◌, take, true, false, sym, ap, Some, ◌∙◌, arith}
 use Rattle.exchange_model.specs.Listing.{last_answer}
-use Rattle.exchange_model.proofs.Monitors.Lasts.{last_answer_at}
+use Rattle.exchange_model.proofs.Monitors.ListNoted.{last_answer_at}
 use Rattle.exchange_model.proofs.list_monitor.last_answer.Goals as goal
 
 pub returns-then-is_answer_to : goal.returns-then-is_answer_to

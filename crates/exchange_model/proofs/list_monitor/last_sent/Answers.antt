@@ -1,5 +1,5 @@
 use Rattle.std.proofs.Common.{◌-◌, length, sym, ap, Some, ◌∙◌, arith}
-use Rattle.exchange_model.proofs.Monitors.Lasts.{last_sent_at}
+use Rattle.exchange_model.proofs.Monitors.ListNoted.{last_sent_at}
 use Rattle.exchange_model.proofs.list_monitor.last_sent.Goals as goal
 
 pub returns : goal.returns
