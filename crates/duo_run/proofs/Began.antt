@@ -6,7 +6,7 @@ use Rattle.black_channel.specs.Window.{window_of}
 use Rattle.end_model.specs.Setup.{OfMaster, OfSlave}
 use Rattle.end_model.specs.Standing.{Stands}
 use Rattle.exchange_model.specs.World.{SameLengths}
-use Rattle.exchange_model.specs.Noting as monitor
+use Rattle.exchange_model.specs.Monitor as monitor
 use Rattle.master_core.specs.Now.{is_due}
 use Rattle.master_core.specs.ViewOf as master_core
 use Rattle.slave_core.specs.SlaveView.{SlaveView}

@@ -13,12 +13,12 @@ use Rattle.schedule_file.specs.declared.event.Event.{Event}
 use Rattle.schedule_file.specs.declared.event.Event.TheVariants as event
 use Rattle.end_model.specs.Setup.{OfMaster, OfSlave}
 use Rattle.end_model.specs.Step.{IsProper}
-use Rattle.exchange_model.specs.World.{delivery, altered_delivery, move_of, end_of_event}
+use Rattle.exchange_model.specs.World.{delivery, altered_delivery, move_from, end_of_event}
 use Rattle.duo_run.specs.Duo.{DuoView, lengths_of, profiles_of, IsDuo}
 use Rattle.duo_run.specs.Acts.{heard_at, IsProperAt}
 
 -- the frames of a window are enough
-pub moved_within : (v : WindowView) (frames : List (List ℕ)) (event : Event) → IsWritable event → v ≡ window_of frames → move_of v.frames event ≡ move_of frames event
+pub moved_within : (v : WindowView) (frames : List (List ℕ)) (event : Event) → IsWritable event → v ≡ window_of frames → move_from v.frames event ≡ move_from frames event
 moved_within v frames (event.Deliver to back) writable h = ap delivery (ap (λ (v : WindowView). back_th back v.frames) h ∙ back_within 64 back frames writable.1)
 moved_within v frames (event.Altered to back pos mask) writable h = ap (altered_delivery pos mask) (ap (λ (v : WindowView). back_th back v.frames) h ∙ back_within 64 back frames writable.1)
 moved_within v frames (event.Raw to frame) writable h = refl
@@ -40,7 +40,7 @@ altered-proper : (at : End) (v : DuoView) (pos mask : ℕ) (frame : Option (List
 altered-proper at v pos mask None what h = absurd (cc)
 altered-proper at v pos mask (Some frame) what h = as-move at v (move.Deliver (altered pos mask frame)) what h tt
 
-proper-of : (v : DuoView) (frames : List (List ℕ)) (event : Event) (what : Move) → Fits (length_of (lengths_of v)) (profile_of (profiles_of v)) event → move_of frames event ≡ Some what → IsProperAt (end_of_event event) v what
+proper-of : (v : DuoView) (frames : List (List ℕ)) (event : Event) (what : Move) → Fits (length_of (lengths_of v)) (profile_of (profiles_of v)) event → move_from frames event ≡ Some what → IsProperAt (end_of_event event) v what
 proper-of v frames (event.Deliver to back) what fits h = delivery-proper to v (back_th back frames) what h
 proper-of v frames (event.Altered to back pos mask) what fits h = altered-proper to v pos mask (back_th back frames) what h
 proper-of v frames (event.Raw to frame) what fits h = as-move to v (move.Deliver frame) what h tt
@@ -50,7 +50,7 @@ proper-of v frames (event.Hold at failsafe) what fits h = as-move at v (move.Hol
 proper-of v frames (event.Nonce at id) what fits h = as-move at v (move.Nonce id) what h fits.1
 proper-of v frames (event.Local at) what fits h = as-move at v move.Local what h tt
 
-pub proper_at : (at : End) (v : DuoView) (event : Event) (what : Move) → at ≡ end_of_event event → Fits (length_of (lengths_of v)) (profile_of (profiles_of v)) event → move_of (heard_at event v) event ≡ Some what → IsProperAt at v what
+pub proper_at : (at : End) (v : DuoView) (event : Event) (what : Move) → at ≡ end_of_event event → Fits (length_of (lengths_of v)) (profile_of (profiles_of v)) event → move_from (heard_at event v) event ≡ Some what → IsProperAt at v what
 proper_at at v event what here fits h = subst (λ (at : End). IsProperAt at v what) (sym here) (proper-of v (heard_at event v) event what fits h)
 
 -- and so it is for the end's own settings

@@ -14,8 +14,8 @@ use Rattle.end_model.specs.Deed.{Deed, is_empty}
 use Rattle.end_model.specs.Step.{step}
 use Rattle.end_model.specs.Standing.{Stands}
 use Rattle.exchange_model.specs.Ends.{peer}
-use Rattle.exchange_model.specs.Noting as monitor
-use Rattle.exchange_model.specs.World.{setup_of, deeds, frames_of, end_of_event, move_of, next_entry, entry_on, entry_at}
+use Rattle.exchange_model.specs.Monitor as monitor
+use Rattle.exchange_model.specs.World.{setup_of, deeds, frames_of, end_of_event, move_from, next_entry, entry_on, entry_at}
 use Rattle.master_core.specs.MasterView.{MasterView}
 use Rattle.master_core.specs.ViewOf as master_core
 use Rattle.slave_core.specs.SlaveView.{SlaveView}
@@ -30,17 +30,17 @@ window-is end_name.Slave ms ss v w h = h.slave_sent
 
 -- what an event is by the windows, it is by all frames
 moved-is : (ms : MasterSettings) (ss : SlaveSettings) (v : DuoView) (w : List Entry) (event : Event) → IsWritable event → DuoStands ms ss v w
-    → move_of (frames_of (peer (end_of_event event)) w) event ≡ move_of (heard_at event v) event
+    → move_from (frames_of (peer (end_of_event event)) w) event ≡ move_from (heard_at event v) event
 moved-is ms ss v w event writable h =
     let from : End = peer (end_of_event event) in
     sym (moved_within (sent_by from v) (frames_of from w) event writable (window-is from ms ss v w h))
 
 entry-is : (ms : MasterSettings) (ss : SlaveSettings) (v : DuoView) (w : List Entry) (event : Event) (what : Option Move) → IsWritable event → DuoStands ms ss v w
-    → move_of (heard_at event v) event ≡ what → entry_at ms ss w event ≡ entry_on (setup_of ms ss (end_of_event event)) (deeds (end_of_event event) w) what
+    → move_from (heard_at event v) event ≡ what → entry_at ms ss w event ≡ entry_on (setup_of ms ss (end_of_event event)) (deeds (end_of_event event) w) what
 entry-is ms ss v w event what writable h is =
     ap (entry_on (setup_of ms ss (end_of_event event)) (deeds (end_of_event event) w)) (moved-is ms ss v w event writable h ∙ is)
 
-pub misses_by : (v : DuoView) (event : Event) → IsWritable event → move_of (heard_at event v) event ≡ None → Misses v event
+pub misses_by : (v : DuoView) (event : Event) → IsWritable event → move_from (heard_at event v) event ≡ None → Misses v event
 misses_by v event writable is = record { misses = λ ms ss w h. entry-is ms ss v w event None writable h is }
 
 -- the master's next deed
@@ -86,7 +86,7 @@ stands-next : (at : End) (old new : DuoView) (what : Move) (x : Entry) → Acts 
 stands-next end_name.Master old new what x acts ms ss w h = master-stands old new what x acts ms ss w h
 stands-next end_name.Slave old new what x acts ms ss w h = slave-stands old new what x acts ms ss w h
 
-pub steps_by : (old : DuoView) (event : Event) (what : Move) (x : Entry) (new : DuoView) → IsWritable event → move_of (heard_at event old) event ≡ Some what → Acts (end_of_event event) old what x new → Steps old event x new
+pub steps_by : (old : DuoView) (event : Event) (what : Move) (x : Entry) (new : DuoView) → IsWritable event → move_from (heard_at event old) event ≡ Some what → Acts (end_of_event event) old what x new → Steps old event x new
 steps_by old event what x new writable is acts = record {
   entry = λ ms ss w h.
       entry-is ms ss old w event (Some what) writable h is ∙ ap Some (sym (told (end_of_event event) old new what x acts ms ss w h));

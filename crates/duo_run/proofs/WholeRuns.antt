@@ -14,7 +14,7 @@ use Rattle.schedule_file.specs.Made.{event_at, event_by, word_after, place_of, m
 use Rattle.end_model.specs.Deed.{is_empty}
 use Rattle.end_model.specs.Chain.{own}
 use Rattle.exchange_model.specs.Ends.{same_end, peer}
-use Rattle.exchange_model.specs.World.{setup_of, deed_in, deeds, frames_of, end_of_event, delivery, altered_delivery, move_of, next_entry, entry_on, entry_at}
+use Rattle.exchange_model.specs.World.{setup_of, deed_in, deeds, frames_of, end_of_event, delivery, altered_delivery, move_from, next_entry, entry_on, entry_at}
 use Rattle.exchange_model.proofs.Worlds.Longer.{world_next}
 use Rattle.duo_run.specs.Bulk.{entries_of}
 
@@ -54,7 +54,7 @@ pub record Goes (w : List Entry) (event : Event) : Type 0 where
   pub entry : Entry
   pub next : entry_at made_master made_slave w event ≡ Some entry
 
-goes_by : (w : List Entry) (event : Event) (what : Move) → move_of (frames_of (peer (end_of_event event)) w) event ≡ Some what → Goes w event
+goes_by : (w : List Entry) (event : Event) (what : Move) → move_from (frames_of (peer (end_of_event event)) w) event ≡ Some what → Goes w event
 goes_by w event what is = record {
   entry = next_entry (setup_of made_master made_slave (end_of_event event)) (deeds (end_of_event event) w) what;
   next = ap (entry_on (setup_of made_master made_slave (end_of_event event)) (deeds (end_of_event event) w)) is;

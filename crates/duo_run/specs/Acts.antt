@@ -14,7 +14,7 @@ use Rattle.end_model.specs.Setup.{Setup, OfMaster, OfSlave}
 use Rattle.end_model.specs.Deed.{Deed, is_empty}
 use Rattle.end_model.specs.Standing.{Stands, Follows}
 use Rattle.exchange_model.specs.Ends.{peer}
-use Rattle.exchange_model.specs.Noting.{Notes}
+use Rattle.exchange_model.specs.Monitor.{NotesEntry}
 use Rattle.exchange_model.specs.World.{end_of_event, next_entry}
 use Rattle.master_core.specs.ViewOf as master_core
 use Rattle.slave_core.specs.ViewOf as slave_core
@@ -43,7 +43,7 @@ pub record MasterActs (old : DuoView) (what : Move) (x : Entry) (new : DuoView) 
   pub follows : Follows OfMaster master_core.view_of old.master what new.master
   pub tells : Tells OfMaster master_core.view_of old.master what x
   pub heard : Hears old.master_sent x.sent new.master_sent
-  pub noted : Notes old.monitor x new.monitor
+  pub noted : NotesEntry old.monitor x new.monitor
   pub slave : new.slave ≡ old.slave
   pub slave_sent : new.slave_sent ≡ old.slave_sent
 
@@ -52,7 +52,7 @@ pub record SlaveActs (old : DuoView) (what : Move) (x : Entry) (new : DuoView) :
   pub follows : Follows OfSlave slave_core.view_of old.slave what new.slave
   pub tells : Tells OfSlave slave_core.view_of old.slave what x
   pub heard : Hears old.slave_sent x.sent new.slave_sent
-  pub noted : Notes old.monitor x new.monitor
+  pub noted : NotesEntry old.monitor x new.monitor
   pub master : new.master ≡ old.master
   pub master_sent : new.master_sent ≡ old.master_sent
 

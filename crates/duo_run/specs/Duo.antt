@@ -12,8 +12,8 @@ use Rattle.schedule_file.specs.declared.event.Event.{Event}
 use Rattle.end_model.specs.Setup.{OfMaster, OfSlave}
 use Rattle.end_model.specs.Standing.{Stands}
 use Rattle.exchange_model.specs.World.{deeds, frames_of, entry_at, SameLengths, IsWorld}
-use Rattle.exchange_model.specs.Noting as monitor
-use Rattle.exchange_model.specs.Noting.{MonitorView}
+use Rattle.exchange_model.specs.Monitor as monitor
+use Rattle.exchange_model.specs.Monitor.{MonitorView}
 use Rattle.master_core.specs.MasterView.{MasterView}
 use Rattle.master_core.specs.Now.{is_due}
 use Rattle.master_core.specs.ViewOf as master_core

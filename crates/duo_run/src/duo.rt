@@ -42,7 +42,7 @@ impl Duo {
     ghost use Rattle.black_channel.specs.Window.{back_th};
     ghost use Rattle.schedule_file.specs.Event.{Fits, profile_of};
     ghost use Rattle.exchange_model.specs.Ends.{peer};
-    ghost use Rattle.exchange_model.specs.World.{move_of, SameLengths};
+    ghost use Rattle.exchange_model.specs.World.{move_from, SameLengths};
     ghost use Rattle.exchange_model.specs.Other.{first_other};
     ghost use Rattle.duo_run.specs.Duo.{sent_by, lengths_of, profiles_of, steps_done, DuoStands, Steps, Misses};
     ghost use Rattle.duo_run.specs.Acts.{heard_at, IsProperAt, MasterActs, SlaveActs, Acts};
@@ -104,8 +104,8 @@ impl Duo {
     /// What an event is to its end.
     fn moved(&self, event: &Event) -> Result<Move, StepFault>
         requires { Fits (length_of (lengths_of self.now)) (profile_of (profiles_of self.now)) event.now }
-        ensures found { IfOk result (λ what. move_of (heard_at event.now self.now) event.now ≡ Some what) }
-        ensures missed { OnErr result (move_of (heard_at event.now self.now) event.now ≡ None) }
+        ensures found { IfOk result (λ what. move_from (heard_at event.now self.now) event.now ≡ Some what) }
+        ensures missed { OnErr result (move_from (heard_at event.now self.now) event.now ≡ None) }
     {
         match event {
             Event::Deliver { to, back } => Ok(Move::Deliver(self.heard(*to, *back)?)),

@@ -14,7 +14,7 @@ use Rattle.param_load.specs.declared.terms.Terms.{Terms}
 use Rattle.param_load.specs.declared.entry.Entry.{Entry}
 use Rattle.end_model.specs.Deed.{ticked}
 use Rattle.exchange_model.specs.Ends.{same_end, peer, of_end}
-use Rattle.exchange_model.specs.Items.{Load, FailSafe, Values, Unset, Item, items, awaited}
+use Rattle.exchange_model.specs.Items.{Offered, FailSafe, Values, Unset, Item, items, awaited}
 
 -- the number of safe data bytes that an end receives
 abbrev pub received_len : Lengths → End → ℕ
@@ -25,21 +25,21 @@ abbrev pub data_taken : Option Took → Option Took
 data_taken None = None
 data_taken (Some t) = if is_data t.command then Some t else None
 
--- the frame with l bytes of safe data that a load makes: FailSafeData with zeros, or ProcessData with the bytes that were put, zeros where none were
-abbrev pub frame_with : ℕ → Load → Took
+-- the frame with l bytes of safe data that an offer makes: FailSafeData with zeros, or ProcessData with the bytes that were put, zeros where none were
+abbrev pub frame_with : ℕ → Offered → Took
 frame_with l FailSafe = record { command = command.FailSafeData; load = replicate l 0 }
 frame_with l (Values bytes) = record { command = command.ProcessData; load = bytes }
 frame_with l Unset = record { command = command.ProcessData; load = replicate l 0 }
 
--- the same of an item, if it has a load
-abbrev pub frame_if : ℕ → Option Load → Option Took
+-- the same of an item, if it offers something
+abbrev pub frame_if : ℕ → Option Offered → Option Took
 frame_if l None = None
-frame_if l (Some load) = Some (frame_with l load)
+frame_if l (Some offered) = Some (frame_with l offered)
 
 -- a data frame that was taken is what an item was to carry, and the terms told when the item was sent are those told after it was
 -- taken
 pub record IsFromItem (l : ℕ) (t : Took) (told : Option Terms) (i : Item) : Type 0 where
-  pub same_load : frame_if l i.load ≡ Some t
+  pub same_load : frame_if l i.offered ≡ Some t
   pub some_terms : IsSome i.terms
   pub equal_terms : i.terms ≡ told
 

@@ -15,23 +15,23 @@ use Rattle.end_model.specs.Deed.{delivered, is_empty}
 use Rattle.end_model.specs.Readiness.{held_after}
 use Rattle.exchange_model.specs.Ends.{same_end, peer, of_end}
 
--- what a data frame is to carry, by the events of its end
-pub data Load : Type 0 where
+-- what a data frame is to carry: what its end offered, by the events of that end
+pub data Offered : Type 0 where
   -- fail-safe data, as the end was held
-  FailSafe : Load
+  FailSafe : Offered
   -- the bytes that were put last
-  Values : List ℕ → Load
+  Values : List ℕ → Offered
   -- zeros, as nothing was put yet
-  Unset : Load
+  Unset : Offered
 
 -- a frame that was sent: its end, its number among those of this end, from 1, its bytes, the terms that its end told then,
--- its load if it is a data frame, and the number of the peer's item that it answers, if it answers one
+-- what it offers if it is a data frame, and the number of the peer's item that it answers, if it answers one
 pub record Item : Type 0 where
   pub end : End
   pub number : ℕ
   pub bytes : List ℕ
   pub terms : Option Terms
-  pub load : Option Load
+  pub offered : Option Offered
   pub answers : Option ℕ
 
 -- the bytes put last, after an event
@@ -49,18 +49,18 @@ abbrev pub is_held : List Entry → Bool
 is_held [] = false
 is_held (x ∷ e) = held_after x.what (is_held e)
 
--- the load of what was put last, if something was
-abbrev pub load_put : Option (List ℕ) → Load
-load_put None = Unset
-load_put (Some bytes) = Values bytes
+-- what is offered by what was put last, if something was
+abbrev pub offered_put : Option (List ℕ) → Offered
+offered_put None = Unset
+offered_put (Some bytes) = Values bytes
 
--- the load of the next data frame of an end, by its own entries
-abbrev pub next_load : List Entry → Load
-next_load e = if is_held e then FailSafe else load_put (last_put e)
+-- what the next data frame of an end offers, by its own entries
+abbrev pub next_offered : List Entry → Offered
+next_offered e = if is_held e then FailSafe else offered_put (last_put e)
 
--- the load of a frame, where e are the entries of its end before it: a data frame alone has one
-abbrev pub load_of : List ℕ → List Entry → Option Load
-load_of frame e = if is_data_frame frame then Some (next_load e) else None
+-- what a frame offers, where e are the entries of its end before it: a data frame alone offers something
+abbrev pub offered_of : List ℕ → List Entry → Option Offered
+offered_of frame e = if is_data_frame frame then Some (next_offered e) else None
 
 -- the items of one end
 abbrev pub items_of : End → List Item → List Item
@@ -116,7 +116,7 @@ item_of x w before = record {
   number = suc (length (items_of x.end before));
   bytes = x.sent;
   terms = x.terms;
-  load = load_of x.sent (of_end x.end w);
+  offered = offered_of x.sent (of_end x.end w);
   answers = item_taken before x.end (delivered x.what) x.did.took;
 }
 

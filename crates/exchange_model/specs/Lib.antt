@@ -8,7 +8,7 @@ pub mod Schedules
 pub mod WorkedRuns
 pub mod WorkedItems
 pub mod WorkedSchedules
-pub mod Noting
-pub mod Listing
+pub mod Monitor
+pub mod ListMonitor
 pub mod Serving
 pub mod WorkedServing

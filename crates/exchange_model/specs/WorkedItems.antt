@@ -7,7 +7,7 @@ use Rattle.schedule_file.specs.declared.event.Event.{Event}
 use Rattle.end_model.specs.WorkedRuns.{slave_values}
 use Rattle.exchange_model.specs.World.{world}
 use Rattle.exchange_model.specs.Schedules.{master_values, dm, ds, tm, zs, ns, hs, rounds}
-use Rattle.exchange_model.specs.Items.{Load, FailSafe, Values, Unset, Item, items_of, newest, awaited, items}
+use Rattle.exchange_model.specs.Items.{Offered, FailSafe, Values, Unset, Item, items_of, newest, awaited, items}
 use Rattle.exchange_model.specs.Fair.{numbers_taken}
 use Rattle.exchange_model.specs.WorkedRuns.{first_data_run, answer_under_way_run, old_session_run, held_slave_run, profile_two_run}
 
@@ -16,8 +16,8 @@ abbrev pub items_in : End → List Entry → List Item
 items_in which w = items_of which (items w)
 
 -- the load of an end's newest item
-abbrev pub newest_load : End → List Entry → Option (Option Load)
-newest_load which w = option_map (λ i. i.load) (newest (items_in which w))
+abbrev pub newest_offered : End → List Entry → Option (Option Offered)
+newest_offered which w = option_map (λ i. i.offered) (newest (items_in which w))
 
 -- the number of the item that an end awaits after a run
 abbrev pub awaited_in : End → List Entry → Option ℕ
@@ -48,13 +48,13 @@ AnsweringLate =
 -- its first put, and zeros where nothing was put
 unfoldable pub Carrying : Type 0
 Carrying =
-    (map (λ i. i.load) (items_in end_name.Master first_data_run)
+    (map (λ i. i.offered) (items_in end_name.Master first_data_run)
     ≡ Some (Values (1 ∷ 0 ∷ [])) ∷ Some (Values (1 ∷ 0 ∷ [])) ∷ replicate 7 None)
     × (map (λ i. is_some i.terms) (items_in end_name.Master first_data_run) ≡ true ∷ true ∷ replicate 7 false)
-    × (map (λ i. i.load) (items_in end_name.Slave first_data_run) ≡ Some (Values (128 ∷ 0 ∷ [])) ∷ replicate 7 None)
-    × (newest_load end_name.Slave held_slave_run ≡ Some (Some FailSafe))
-    × (newest_load end_name.Slave (world master_values slave_values (hs true ∷ tm ∷ rounds 8)) ≡ Some (Some FailSafe))
-    × (newest_load end_name.Slave profile_two_run ≡ Some (Some Unset))
+    × (map (λ i. i.offered) (items_in end_name.Slave first_data_run) ≡ Some (Values (128 ∷ 0 ∷ [])) ∷ replicate 7 None)
+    × (newest_offered end_name.Slave held_slave_run ≡ Some (Some FailSafe))
+    × (newest_offered end_name.Slave (world master_values slave_values (hs true ∷ tm ∷ rounds 8)) ≡ Some (Some FailSafe))
+    × (newest_offered end_name.Slave profile_two_run ≡ Some (Some Unset))
 
 -- the slave answered the master's first Reset frame
 abbrev pub reset_answered_run : List Entry

@@ -11,16 +11,16 @@ use Rattle.param_load.specs.declared.master_settings.MasterSettings.{MasterSetti
 use Rattle.param_load.specs.declared.slave_settings.SlaveSettings.{SlaveSettings}
 use Rattle.end_model.specs.Setup.{OfSlave}
 use Rattle.end_model.specs.Readiness.{age}
-use Rattle.end_model.specs.WorkedRuns.{two_and_two, slave_values}
+use Rattle.end_model.specs.WorkedRuns.{two_and_two, four_and_four, slave_values}
 use Rattle.exchange_model.specs.World.{deeds, entry_at, world}
 use Rattle.exchange_model.specs.Other.{first_other, before_other}
 use Rattle.exchange_model.specs.Fair.{Fair}
 use Rattle.exchange_model.specs.Honest.{Match, exchanges, keeps_time, IsHonest}
 use Rattle.exchange_model.specs.Schedules.{master_values, dm, ds, altered_ds, rs, tm, ts, pm, hs, zs, rounds, until_data, lines, short_lines, sizes, begin_with}
 
--- the lines of a run from a place on, and the number of its first other entry
+-- the lines of a run after the first so many, and the number of its first other entry
 abbrev pub told_from : ℕ → List Entry → List (List ℕ) × Option ℕ
-told_from place w = (drop place (lines w), first_other w)
+told_from skipped w = (drop skipped (lines w), first_other w)
 
 -- a handshake and the first data of both ends
 abbrev pub first_data_run : List Entry
@@ -303,10 +303,6 @@ OtherProfile =
     drop 5 (lines (world master_values (slave_of_two 7) (tm ∷ rounds 2 ++ ds 1 ∷ [])))
     ≡ codes "s reset found 01 Reset 0000 > 2a010047b70000"
     ∷ []
-
--- four bytes of safe data in each direction
-abbrev pub four_and_four : Lengths
-four_and_four = record { master = 4; slave = 4; valid_master = refl; valid_slave = refl }
 
 -- where frames have room for a whole session id of either profile, the length of the communication parameters tells them apart
 unfoldable pub OtherProfileLater : Type 0

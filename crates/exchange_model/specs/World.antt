@@ -64,15 +64,15 @@ altered_delivery pos mask None = None
 altered_delivery pos mask (Some frame) = Some (move.Deliver (altered pos mask frame))
 
 -- what an event means for its end, by the frames that the peer sent; None where it names one that the peer didn't send
-abbrev pub move_of : List (List ℕ) → Event → Option Move
-move_of frames (event.Deliver to back) = delivery (back_th back frames)
-move_of frames (event.Altered to back pos mask) = altered_delivery pos mask (back_th back frames)
-move_of frames (event.Raw to frame) = Some (move.Deliver frame)
-move_of frames (event.Tick at) = Some move.Tick
-move_of frames (event.Put at load) = Some (move.Put load)
-move_of frames (event.Hold at failsafe) = Some (move.Hold failsafe)
-move_of frames (event.Nonce at id) = Some (move.Nonce id)
-move_of frames (event.Local at) = Some move.Local
+abbrev pub move_from : List (List ℕ) → Event → Option Move
+move_from frames (event.Deliver to back) = delivery (back_th back frames)
+move_from frames (event.Altered to back pos mask) = altered_delivery pos mask (back_th back frames)
+move_from frames (event.Raw to frame) = Some (move.Deliver frame)
+move_from frames (event.Tick at) = Some move.Tick
+move_from frames (event.Put at load) = Some (move.Put load)
+move_from frames (event.Hold at failsafe) = Some (move.Hold failsafe)
+move_from frames (event.Nonce at id) = Some (move.Nonce id)
+move_from frames (event.Local at) = Some move.Local
 
 -- the next entry of an end, where e are its deeds
 abbrev pub next_entry : Setup → List Deed → Move → Entry
@@ -87,7 +87,7 @@ entry_on s e (Some what) = Some (next_entry s e what)
 abbrev pub entry_at : MasterSettings → SlaveSettings → List Entry → Event → Option Entry
 entry_at ms ss w event =
     let at : End = end_of_event event in
-    entry_on (setup_of ms ss at) (deeds at w) (move_of (frames_of (peer at) w) event)
+    entry_on (setup_of ms ss at) (deeds at w) (move_from (frames_of (peer at) w) event)
 
 -- the entries that follow an entry, if there is one; else the run stops
 abbrev pub going_on : List Entry → Option Entry → (List Entry → List Entry) → List Entry

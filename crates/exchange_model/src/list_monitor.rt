@@ -1,7 +1,7 @@
 //! The plain monitor of a run, which lists all items.
 ghost use Rattle.std.specs.Prelude.{◌≡◌, ◌<◌, ◌≤◌, ◌+◌, ◌^◌, [], OnOk, OnErr, IfOk};
-ghost use Rattle.exchange_model.specs.Noting.{next_number, is_other_to};
-ghost use Rattle.exchange_model.specs.Listing.{is_answer_to, last_sent, last_answer, side_in, list_after};
+ghost use Rattle.exchange_model.specs.Monitor.{next_number, is_other_to};
+ghost use Rattle.exchange_model.specs.ListMonitor.{is_answer_to, last_sent, last_answer, side_in, list_after};
 
 use crate::reading::{delivered, is_reset_frame};
 use crate::side::{Sent, Side};
@@ -84,7 +84,7 @@ fn add(mine: &mut Vec<Listed>, theirs: &[Listed], entry: &Entry) -> Result<bool,
                 number: own.next_number(),
                 bytes: entry.sent.copy(),
             },
-            answers: own.answered(&peer, delivered(&entry.what), &entry.did.took),
+            answers: own.number_taken(&peer, delivered(&entry.what), &entry.did.took),
         };
         if mine.push(item).is_err() {
             return Err(Memory);
@@ -105,8 +105,8 @@ pub struct ListMonitor {
 
 impl Model for ListMonitor {
     ghost use Rattle.std.specs.Prelude.{◌≤◌, suc};
-    ghost use Rattle.exchange_model.specs.Noting.{next_number};
-    ghost use Rattle.exchange_model.specs.Listing.{last_sent, ListView};
+    ghost use Rattle.exchange_model.specs.Monitor.{next_number};
+    ghost use Rattle.exchange_model.specs.ListMonitor.{last_sent, ListView};
 
     ghost Value = { ListView };
 
@@ -119,7 +119,7 @@ impl ListMonitor {
     ghost use Rattle.std.specs.Prelude.{List};
     ghost use Rattle.param_load.specs.declared.entry.Entry.{Entry};
     ghost use Rattle.exchange_model.specs.Other.{first_other};
-    ghost use Rattle.exchange_model.specs.Listing.{list_of, listed_next, Lists};
+    ghost use Rattle.exchange_model.specs.ListMonitor.{list_of, listed_next, ListsEntry};
 
     /// A monitor that noted no entry.
     pub fn new(alloc: Global) -> ListMonitor
@@ -138,7 +138,7 @@ impl ListMonitor {
     #[tactic(auto, using(crate::proofs::Monitors::ListNoted::lists_by))]
     pub fn note(&mut self, entry: &Entry) -> Result<(), Memory>
         requires { self.old.noted + 1 < 2 ^ 64 }
-        ensures ok { OnOk result (Lists self.old entry.now self.new) }
+        ensures ok { OnOk result (ListsEntry self.old entry.now self.new) }
         ensures noted { OnOk result (self.new.noted ≡ self.old.noted + 1) }
         ensures err { OnErr result (self.new ≡ self.old) }
     {

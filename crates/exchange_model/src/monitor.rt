@@ -18,7 +18,7 @@ pub struct Monitor {
 
 impl Model for Monitor {
     ghost use Rattle.std.specs.Prelude.{◌≤◌, suc};
-    ghost use Rattle.exchange_model.specs.Noting.{MonitorView, next_number};
+    ghost use Rattle.exchange_model.specs.Monitor.{MonitorView, next_number};
 
     ghost Value = { MonitorView };
 
@@ -32,7 +32,7 @@ impl Monitor {
     ghost use Rattle.param_load.specs.declared.entry.Entry.{Entry};
     ghost use Rattle.exchange_model.specs.Items.{items, awaited};
     ghost use Rattle.exchange_model.specs.Other.{first_other};
-    ghost use Rattle.exchange_model.specs.Noting.{item_number, noted_next, view_of, Notes};
+    ghost use Rattle.exchange_model.specs.Monitor.{item_number, noted_next, view_of, NotesEntry};
 
     /// A monitor that noted no entry.
     pub fn new() -> Monitor
@@ -50,7 +50,7 @@ impl Monitor {
     #[tactic(auto, using(crate::proofs::Monitors::Noted::notes_by))]
     pub fn note(&mut self, entry: &Entry)
         requires { self.old.noted + 1 < 2 ^ 64 }
-        ensures notes { Notes self.old entry.now self.new }
+        ensures notes { NotesEntry self.old entry.now self.new }
         ensures noted { self.new.noted ≡ self.old.noted + 1 }
     {
         self.step(entry);

@@ -1,6 +1,6 @@
 //! What a monitor keeps of one end.
 ghost use Rattle.std.specs.Prelude.{◌≡◌, ◌<◌, ◌^◌, Some};
-ghost use Rattle.exchange_model.specs.Noting.{first_side, sent_number, has, number_of, next_number, is_answer, is_other_to, answered, sent_next, heard_next, own_after, peer_after};
+ghost use Rattle.exchange_model.specs.Monitor.{first_side, sent_number, has, number_of, next_number, is_answer, is_other_to, number_taken, sent_next, heard_next, own_after, peer_after};
 
 use crate::reading::{delivered, is_guarded, is_guarded_frame, is_reset_frame};
 use fsoe_base::{FrameBuf, Took};
@@ -89,8 +89,8 @@ impl Side {
     }
 
     /// The number of the peer's item that was taken from these bytes, if one was.
-    pub(crate) fn answered(&self, peer: &Side, bytes: &[u8], took: &Option<Took>) -> Option<u64>
-        ensures { result ≡ answered self.now peer.now bytes.now took.now }
+    pub(crate) fn number_taken(&self, peer: &Side, bytes: &[u8], took: &Option<Took>) -> Option<u64>
+        ensures { result ≡ number_taken self.now peer.now bytes.now took.now }
     {
         match took {
             Some(took) if is_guarded(took.command) => number_of(&self.awaited, bytes),
@@ -151,7 +151,7 @@ pub(crate) fn note(own: &mut Side, peer: &mut Side, entry: &Entry) -> bool
 {
     let other = own.is_other(entry);
     if !entry.sent.is_empty() {
-        let answer = own.answered(peer, delivered(&entry.what), &entry.did.took);
+        let answer = own.number_taken(peer, delivered(&entry.what), &entry.did.took);
         send(own, peer, &entry.sent, answer);
     }
     other

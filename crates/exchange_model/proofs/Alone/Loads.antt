@@ -19,7 +19,7 @@ use Rattle.end_model.specs.Reactions.{OfSession, OfConnection, OfParameter, Afte
 use Rattle.end_model.proofs.Taken.{answer_is}
 use Rattle.exchange_model.specs.Ends.{same_end, of_end}
 use Rattle.exchange_model.specs.World.{setup_of, deed_in, deeds, IsWorld}
-use Rattle.exchange_model.specs.Items.{put_after, last_put, is_held, load_put, load_of, Item, item_of, items_of, items}
+use Rattle.exchange_model.specs.Items.{put_after, last_put, is_held, offered_put, offered_of, Item, item_of, items_of, items}
 use Rattle.fsoe_base.specs.Data.{is_data}
 use Rattle.end_model.specs.Phases.{is_data_if, is_data_frame}
 use Rattle.exchange_model.specs.Fair.{frame_with, frame_if}
@@ -28,7 +28,7 @@ use Rattle.exchange_model.proofs.Alone.Framed.{command_in, IsFrame, command_fram
 
 -- an item of data is of the frame that its load makes
 pub record Carries (l : ℕ) (i : Item) : Type 0 where
-  pub carries : (c : Command) → command_in i.bytes ≡ Some c → is_data c ≡ true → frame_if l i.load ≡ Some (record { command = c; load = (frame_of l i.bytes).load })
+  pub carries : (c : Command) → command_in i.bytes ≡ Some c → is_data c ≡ true → frame_if l i.offered ≡ Some (record { command = c; load = (frame_of l i.bytes).load })
 
 -- what was put last, zeros where nothing was
 abbrev offer_by : ℕ → Option (List ℕ) → List ℕ
@@ -62,7 +62,7 @@ held-is : (which : End) (w : List Entry) → held (deeds which w) ≡ is_held (o
 held-is which [] = refl
 held-is which (x ∷ w) = held-head which x w (same_end which x.end) (held-is which w)
 
-put-frame : (l : ℕ) (put : Option (List ℕ)) → frame_with l (load_put put) ≡ record { command = command.ProcessData; load = offer_by l put }
+put-frame : (l : ℕ) (put : Option (List ℕ)) → frame_with l (offered_put put) ≡ record { command = command.ProcessData; load = offer_by l put }
 put-frame l None = refl
 put-frame l (Some bytes) = refl
 
@@ -71,7 +71,7 @@ same-command f c c' h k = let e : Some c ≡ Some c' = sym h ∙ k in cc
 
 -- a data frame carries what its end put
 data-carries : (s : Setup) (which : End) (w : List Entry) (f : List ℕ) (c : Command) → IsData s (deeds which w) f → command_in f ≡ Some c
-    → frame_if (sends s) (load_of f (of_end which w)) ≡ Some (record { command = c; load = (frame_of (sends s) f).load })
+    → frame_if (sends s) (offered_of f (of_end which w)) ≡ Some (record { command = c; load = (frame_of (sends s) f).load })
 data-carries s which w f c (Zeros h g) k =
     let a : command.FailSafeData ≡ c = same-command f command.FailSafeData c (command_framed _ command.FailSafeData _ f g) k in
     let b : (frame_of (sends s) f).load ≡ replicate (sends s) 0 = g.carries in
@@ -122,7 +122,7 @@ sending s e m d f r (Answers bytes load c answer taking) = answering s e bytes l
 sending s e m d f r _ = Plain refl
 
 carries-by : (s : Setup) (which : End) (w : List Entry) (f : List ℕ) → Sending s (deeds which w) f → (c : Command) → command_in f ≡ Some c → is_data c ≡ true
-    → frame_if (sends s) (load_of f (of_end which w)) ≡ Some (record { command = c; load = (frame_of (sends s) f).load })
+    → frame_if (sends s) (offered_of f (of_end which w)) ≡ Some (record { command = c; load = (frame_of (sends s) f).load })
 carries-by s which w f (Plain h) c k d = absurd (let q : false ≡ true = sym h ∙ (ap is_data_if k ∙ d) in cc)
 carries-by s which w f (OfData g) c k d = data-carries s which w f c g k
 

@@ -27,11 +27,11 @@ profiles (profile.Two a) (profile.Two b) h = ap profile.Two (eqb-true a b h)
 profiles profile.One (profile.Two b) h = cc
 profiles (profile.Two a) profile.One h = cc
 
-abbrev terms_of : ℕ → ℕ → ℕ → List ℕ → Profile → Terms
-terms_of conn address watchdog app profile = record { conn = conn; address = address; watchdog = watchdog; app = app; profile = profile }
+abbrev terms_with : ℕ → ℕ → ℕ → List ℕ → Profile → Terms
+terms_with conn address watchdog app profile = record { conn = conn; address = address; watchdog = watchdog; app = app; profile = profile }
 
 made : (c c' a a' w w' : ℕ) (app app' : List ℕ) (p p' : Profile) → c ≡ c' → a ≡ a' → w ≡ w' → app ≡ app' → p ≡ p'
-    → terms_of c a w app p ≡ terms_of c' a' w' app' p'
+    → terms_with c a w app p ≡ terms_with c' a' w' app' p'
 made c c' a a' w w' app app' p p' h i j k l = cc
 
 abbrev same_terms : Terms → Terms → Bool
@@ -88,14 +88,14 @@ framed (Some f) t h =
 abbrev is_taken_from : ℕ → Option Took → Option Terms → Option Item → Bool
 is_taken_from l None told i = true
 is_taken_from l (Some t) told None = false
-is_taken_from l (Some t) told (Some i) = is_frame (frame_if l i.load) t && told_equal i.terms told
+is_taken_from l (Some t) told (Some i) = is_frame (frame_if l i.offered) t && told_equal i.terms told
 
 taken_from : (l : ℕ) (t : Option Took) (told_after : Option Terms) (i : Option Item) → is_taken_from l t told_after i ≡ true → IsTakenFrom l t told_after i
 taken_from l None told_after i h = tt
 taken_from l (Some t) told_after None h = cc
 taken_from l (Some t) told_after (Some i) h =
-    let both = told i.terms told_after (and_parts (is_frame (frame_if l i.load) t) _ h).1 in
-    record { same_load = framed (frame_if l i.load) t (and_parts _ _ h).0; some_terms = both.0; equal_terms = both.1 }
+    let both = told i.terms told_after (and_parts (is_frame (frame_if l i.offered) t) _ h).1 in
+    record { same_load = framed (frame_if l i.offered) t (and_parts _ _ h).0; some_terms = both.0; equal_terms = both.1 }
 
 abbrev takes_awaited : Lengths → List Entry → Bool
 takes_awaited lengths [] = true
@@ -162,12 +162,12 @@ load_in (Some t) = t.load
 
 -- whether a data frame that was taken has another load than the item that was awaited
 abbrev has_other_load : ℕ → Option Took → Option Item → Bool
-has_other_load l (Some t) (Some i) = not (pointwise nat_eq (load_in (frame_if l i.load)) t.load)
+has_other_load l (Some t) (Some i) = not (pointwise nat_eq (load_in (frame_if l i.offered)) t.load)
 has_other_load l _ _ = false
 
 not_from : (l : ℕ) (t : Option Took) (told_after : Option Terms) (i : Option Item) → has_other_load l t i ≡ true → IsTakenFrom l t told_after i → ⊥
 not_from l (Some t) told_after (Some i) h from =
-    other_text (load_in (frame_if l i.load)) t.load (sym (is_not (pointwise nat_eq (load_in (frame_if l i.load)) t.load) h)) (ap load_in from.same_load)
+    other_text (load_in (frame_if l i.offered)) t.load (sym (is_not (pointwise nat_eq (load_in (frame_if l i.offered)) t.load) h)) (ap load_in from.same_load)
 not_from l (Some t) told_after None h from = cc
 not_from l None told_after i h from = cc
 

@@ -16,6 +16,7 @@ use Rattle.param_load.specs.declared.entry.Move.TheVariants as move
 use Rattle.param_load.specs.declared.entry.Entry.{Entry}
 use Rattle.param_load.specs.declared.terms.Terms.{Terms}
 use Rattle.param_load.specs.declared.master_settings.MasterSettings.{MasterSettings}
+use Rattle.param_load.specs.MasterSettings.{terms_of}
 use Rattle.param_load.specs.declared.slave_settings.SlaveSettings.{SlaveSettings}
 use Rattle.schedule_file.specs.declared.event.Event.{Event}
 use Rattle.end_model.specs.Setup.{Setup, OfSlave, sends, receives}
@@ -42,7 +43,7 @@ use Rattle.exchange_model.proofs.Alone.Pieces.{deed}
 use Rattle.exchange_model.proofs.Alone.Loads.{Carries, all_carry, all_items}
 use Rattle.exchange_model.proofs.Joint.Taking.{TakesItem, takes_item, data_guarded, NoneOther, none_other}
 use Rattle.exchange_model.proofs.Joint.Related.{Related, related}
-use Rattle.exchange_model.proofs.Terms.Told.{terms_of, Tells, master_state, master_told, slave_told}
+use Rattle.exchange_model.proofs.Terms.Told.{Tells, master_state, master_told, slave_told}
 
 -- each item of a master that is of data was sent under its terms
 tells-master : (ms : MasterSettings) (ss : SlaveSettings) (x : Entry) (w : List Entry) → end_name.Master ≡ x.end → IsNextEntry (setup_of ms ss x.end) x (deeds x.end w) → Tells (terms_of ms) (item_of x w (items w))
@@ -127,7 +128,7 @@ taken-from : (l : ℕ) (c : Command) (bytes load : List ℕ) (told : Option Term
 taken-from l c bytes load told t o j d is same_bytes head load_is carry tell now =
     let e : data_taken (Some (record { command = c; load = load })) ≡ Some (record { command = c; load = load }) = simp d in
     let its : command_in j.bytes ≡ Some c = ap command_in same_bytes ∙ head in
-    let load_too : frame_if l j.load ≡ Some (record { command = c; load = load }) =
+    let load_too : frame_if l j.offered ≡ Some (record { command = c; load = load }) =
     carry.carries c its d ∙ (ap (λ b. Some (record { command = c; load = (frame_of l b).load })) same_bytes ∙ ap (λ v. Some (record { command = c; load = v })) load_is) in
     let terms_are : j.terms ≡ Some t = tell.tells c its d in
     subst (λ (took : Option Took). IsTakenFrom l took told o) (sym e)

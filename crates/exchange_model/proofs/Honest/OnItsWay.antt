@@ -46,7 +46,7 @@ abbrev pub chained : Setup → List Deed → Chained
 chained s u = record { sent = own u; taken = taken u; kept = kept u; own_link = own_link s u; taken_link = taken_link s u }
 
 -- the newest frame of s, with the chain u, is on its way, and both chains agree but for it
-pub record Carried (s r : Setup) (u v : Chained) (conn : ℕ) (c : Command) (load f : List ℕ) : Type 0 where
+pub record IsBetween (s r : Setup) (u v : Chained) (conn : ℕ) (c : Command) (load f : List ℕ) : Type 0 where
   pub tail : List ℕ
   pub head : f ≡ command_byte c ∷ tail
   pub older : List (List ℕ)
@@ -60,7 +60,7 @@ pub record Carried (s r : Setup) (u v : Chained) (conn : ℕ) (c : Command) (loa
   pub answer_kept : IsNewestIfAny u.kept v.sent
 
 abbrev pub OnItsWay : Setup → Setup → List Deed → List Deed → ℕ → Command → List ℕ → List ℕ → Type 0
-OnItsWay s r u v conn c load f = Carried s r (chained s u) (chained r v) conn c load f
+OnItsWay s r u v conn c load f = IsBetween s r (chained s u) (chained r v) conn c load f
 
 -- the frame passes the test of its CRCs
 pub fits_on : (s r : Setup) (u v : List Deed) (conn : ℕ) (c : Command) (load f : List ℕ) → sends s ≡ receives r → OnItsWay s r u v conn c load f → fits r v (frame_of (receives r) f) ≡ true

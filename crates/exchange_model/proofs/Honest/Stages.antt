@@ -17,7 +17,7 @@ use Rattle.param_load.specs.declared.entry.Entry.{Entry}
 use Rattle.exchange_model.specs.World.{deeds}
 use Rattle.exchange_model.specs.Items.{Item, items_of, items}
 use Rattle.exchange_model.specs.Serving.{deliveries_to}
-use Rattle.exchange_model.proofs.Honest.OnItsWay.{Chained, chained, Carried, IsFresh}
+use Rattle.exchange_model.proofs.Honest.OnItsWay.{Chained, chained, IsBetween, IsFresh}
 use Rattle.exchange_model.proofs.Honest.SlaveTurn.{Replies, Carries}
 use Rattle.exchange_model.proofs.Honest.Turns.{Partner, master_of, slave_of, width, session_pieces, connection_pieces, parameter_pieces, more, Turn, Spot, HasTaken, HasSent}
 
@@ -113,7 +113,7 @@ pub record IsDown (ms : MasterSettings) (r : Partner ms) (x : Both) : Type 0 whe
   pub frame : List ℕ
   pub last : LastIs x.master_sent frame
   pub in_session : is_reset command ≡ false
-  pub way : Carried (master_of ms) (slave_of ms r) x.master x.slave conn command load frame
+  pub way : IsBetween (master_of ms) (slave_of ms r) x.master x.slave conn command load frame
   pub turn : Turn (session_pieces ms) (connection_pieces ms) (parameter_pieces ms) command p a b d k
   pub carries : Carries ms id command a b d conn load
   pub master : HasSent id x.master.sent x.id (phase_of command) (more state.Session command a) (more state.Connection command b) (more state.Parameter command d)
@@ -135,7 +135,7 @@ pub record IsUp (ms : MasterSettings) (r : Partner ms) (x : Both) : Type 0 where
   pub frame : List ℕ
   pub last : LastIs x.slave_sent frame
   pub in_session : is_reset command ≡ false
-  pub way : Carried (slave_of ms r) (master_of ms) x.slave x.master conn command load frame
+  pub way : IsBetween (slave_of ms r) (master_of ms) x.slave x.master conn command load frame
   pub spot : Spot (session_pieces ms) (connection_pieces ms) (parameter_pieces ms) (phase_of command) a b d k
   pub replies : Replies ms id command a b d conn load
   pub master : HasSent id x.master.sent x.id (phase_of command) a b d

@@ -15,7 +15,7 @@ use Rattle.exchange_model.specs.declared.side.Side.{Side}
 use Rattle.exchange_model.specs.Ends.{same_end, peer}
 use Rattle.exchange_model.specs.Items.{Item, newest, items_of, items, item_of, item_taken, awaited, answers_to, newest_answer, answer_among, has_bytes, number_if}
 use Rattle.exchange_model.specs.Other.{is_other, first_of_both, first_other}
-use Rattle.exchange_model.specs.Noting.{sent_of, kept_of, MonitorView, view_of, Notes, sent_number, item_number, has, number_of, next_number, is_answer, is_other_to, answered, sent_next, heard_next, own_after, peer_after, side_of, master_after, slave_after, noted_next}
+use Rattle.exchange_model.specs.Monitor.{sent_of, kept_of, MonitorView, view_of, NotesEntry, sent_number, item_number, has, number_of, next_number, is_answer, is_other_to, number_taken, sent_next, heard_next, own_after, peer_after, side_of, master_after, slave_after, noted_next}
 use Rattle.exchange_model.proofs.Worlds.Projection.{same}
 use Rattle.exchange_model.proofs.Worlds.Numbered.{Numbered, Grown, Same, More, grown, numbered}
 use Rattle.exchange_model.proofs.Joint.Awaited.{awaited_found}
@@ -147,21 +147,21 @@ if-sent : (b : Bool) (o p : Option Item) → (if b then sent_of o else sent_of p
 if-sent true o p = refl
 if-sent false o p = refl
 
-pub answered_is : (which : End) (found : List Item) (bytes : List ℕ) (took : Option Took) → answered (kept_of which found) (kept_of (peer which) found) bytes took ≡ item_taken found which bytes took
-answered_is which found bytes None = refl
-answered_is which found bytes (Some t) =
+pub number_taken_is : (which : End) (found : List Item) (bytes : List ℕ) (took : Option Took) → number_taken (kept_of which found) (kept_of (peer which) found) bytes took ≡ item_taken found which bytes took
+number_taken_is which found bytes None = refl
+number_taken_is which found bytes (Some t) =
     ap (number_of bytes) (if-sent (is_guarded t.command) (awaited found which) (newest (items_of (peer which) found)))
     ∙ number-is bytes (if is_guarded t.command then awaited found which else newest (items_of (peer which) found))
 
 peer-kept-by : (which : End) (x : Entry) (w : List Entry) (none : Bool) → x.end ≡ which → is_empty x.sent ≡ none
-    → (if none then kept_of (peer which) (items w) else heard_next (kept_of which (items w)) (kept_of (peer which) (items w)) x.sent (answered (kept_of which (items w)) (kept_of (peer which) (items w)) (delivered x.what) x.did.took))
+    → (if none then kept_of (peer which) (items w) else heard_next (kept_of which (items w)) (kept_of (peer which) (items w)) x.sent (number_taken (kept_of which (items w)) (kept_of (peer which) (items w)) (delivered x.what) x.did.took))
     ≡ kept_of (peer which) (if none then items w else item_of x w (items w) ∷ items w)
 peer-kept-by which x w true h k = refl
 peer-kept-by which x w false h k =
     let i : Item = item_of x w (items w) in
     let its : List Item = items w in
     let n : next_number (kept_of which (items w)).newest ≡ suc (length (items_of x.end (items w))) = newest_next (items_of which (items w)) (numbered which w) ∙ ap (λ (it : End). suc (length (items_of it (items w)))) (sym h) in
-    let a : answered (kept_of which (items w)) (kept_of (peer which) (items w)) (delivered x.what) x.did.took ≡ item_taken (items w) x.end (delivered x.what) x.did.took = answered_is which (items w) (delivered x.what) x.did.took ∙ ap (λ (it : End). item_taken (items w) it (delivered x.what) x.did.took) (sym h) in
+    let a : number_taken (kept_of which (items w)) (kept_of (peer which) (items w)) (delivered x.what) x.did.took ≡ item_taken (items w) x.end (delivered x.what) x.did.took = number_taken_is which (items w) (delivered x.what) x.did.took ∙ ap (λ (it : End). item_taken (items w) it (delivered x.what) x.did.took) (sym h) in
     ap₂ (λ (n : ℕ) (answer : Option ℕ). side (kept_of (peer which) (items w)).newest (if not (has_command command.Reset x.sent) && is_answer (kept_of (peer which) (items w)).newest answer then Some (record { number = n; bytes = x.sent }) else (kept_of (peer which) (items w)).awaited)) n a
     ∙ sym (peer-items which i (items w) h)
 
@@ -188,7 +188,7 @@ next-is end_name.Slave x w h =
     same-view (suc (length w)) _ _ _ _ _ _ (ap (λ (b : Bool). first_of_both (first_other w) b (suc (length w))) (other_is end_name.Slave x w h)) (peer-kept end_name.Slave x w h) (own-kept end_name.Slave x w h)
 
 -- a monitor that steps so notes the entry
-pub notes_by : {old new : MonitorView} {x : Entry} → new ≡ noted_next old x → Notes old x new
+pub notes_by : {old new : MonitorView} {x : Entry} → new ≡ noted_next old x → NotesEntry old x new
 notes_by {old} {new} {x} h = record { notes = λ w is. h ∙ (ap (λ (v : MonitorView). noted_next v x) is ∙ next-is x.end x w refl) }
 
 number-of-item : (o : Option Item) → sent_number (sent_of o) ≡ item_number o

@@ -10,6 +10,7 @@ use Rattle.fsoe_base.specs.Lengths.{is_length}
 use Rattle.param_load.specs.declared.entry.Entry.{Entry}
 use Rattle.param_load.specs.declared.terms.Terms.{Terms}
 use Rattle.param_load.specs.declared.master_settings.MasterSettings.{MasterSettings}
+use Rattle.param_load.specs.MasterSettings.{terms_of}
 use Rattle.param_load.specs.declared.slave_settings.SlaveSettings.{SlaveSettings}
 use Rattle.end_model.specs.Setup.{OfMaster, OfSlave, receives, piece_len}
 use Rattle.end_model.specs.Deed.{Deed}
@@ -30,10 +31,6 @@ use Rattle.exchange_model.proofs.Alone.Pieces.{order_at, Sent, AllSent, all_sent
 use Rattle.exchange_model.proofs.Alone.Uploads.{Tested, tested}
 use Rattle.exchange_model.proofs.Terms.Agree.{agree, front_whole}
 use Rattle.exchange_model.proofs.Joint.Related.{Related, carried_is}
-
--- the terms of a master's settings
-abbrev pub terms_of : MasterSettings → Terms
-terms_of ms = terms (OfMaster ms) []
 
 -- an item of data was sent under these terms
 pub record Tells (t : Terms) (i : Item) : Type 0 where

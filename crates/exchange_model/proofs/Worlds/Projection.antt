@@ -18,7 +18,7 @@ use Rattle.end_model.specs.Entries.{entry_of, entries}
 use Rattle.end_model.proofs.Runs.{run_append}
 use Rattle.end_model.proofs.SoundRuns.{reacted}
 use Rattle.exchange_model.specs.Ends.{same_end, peer, of_end}
-use Rattle.exchange_model.specs.World.{setup_of, deed_in, deeds, frames_of, moves, end_of_event, delivery, altered_delivery, move_of, entry_on, entry_at, going_on, world_after, world, IsProperEvent, IsNextEntry, IsWorld}
+use Rattle.exchange_model.specs.World.{setup_of, deed_in, deeds, frames_of, moves, end_of_event, delivery, altered_delivery, move_from, entry_on, entry_at, going_on, world_after, world, IsProperEvent, IsNextEntry, IsWorld}
 
 pub same : (a b : End) → same_end a b ≡ true → b ≡ a
 same end_name.Master end_name.Master h = refl
@@ -110,7 +110,7 @@ altered_proper s pos mask None = tt
 altered_proper s pos mask (Some frame) = tt
 
 move_proper : (ms : MasterSettings) (ss : SlaveSettings) (frames : List (List ℕ)) (event : Event) → IsProperEvent ms ss event
-    → IsProperIfAny (setup_of ms ss (end_of_event event)) (move_of frames event)
+    → IsProperIfAny (setup_of ms ss (end_of_event event)) (move_from frames event)
 move_proper ms ss frames (event.Deliver to back) proper = delivery_proper (setup_of ms ss to) (back_th back frames)
 move_proper ms ss frames (event.Altered to back pos mask) proper = altered_proper (setup_of ms ss to) pos mask (back_th back frames)
 move_proper ms ss frames (event.Raw to frame) proper = tt
@@ -137,7 +137,7 @@ after_is_world ms ss [] w proper so_far = so_far
 after_is_world ms ss (event ∷ events) w proper so_far =
     let at : End = end_of_event event in
     let frames : List (List ℕ) = frames_of (peer at) w in
-    let next = entry_is_next ms ss at w (move_of frames event) (move_proper ms ss frames event (All-head (IsProperEvent ms ss) event events proper)) in
+    let next = entry_is_next ms ss at w (move_from frames event) (move_proper ms ss frames event (All-head (IsProperEvent ms ss) event events proper)) in
     after_entry ms ss events w (entry_at ms ss w event) next so_far
     (λ (x : Entry) (here : IsWorld ms ss (x ∷ w)). after_is_world ms ss events (x ∷ w) (All-tail (IsProperEvent ms ss) event events proper) here)
 

@@ -12,7 +12,7 @@ use Rattle.exchange_model.specs.declared.list_monitor.Listed.{Listed}
 use Rattle.exchange_model.specs.Ends.{peer}
 use Rattle.exchange_model.specs.Items.{Item, items_of, items, answers_to}
 use Rattle.exchange_model.specs.Other.{first_of_both, first_other}
-use Rattle.exchange_model.specs.Noting.{next_sent, is_other_to, answered}
+use Rattle.exchange_model.specs.Monitor.{next_sent, is_other_to, number_taken}
 
 -- what is listed of an item
 abbrev pub listing : Item → Listed
@@ -35,7 +35,7 @@ abbrev pub list_of : List Entry → ListView
 list_of w = record { noted = length w; other = first_other w; master = listed (items_of end_name.Master (items w)); slave = listed (items_of end_name.Slave (items w)) }
 
 -- a monitor that had noted some entries has noted this one too
-pub record Lists (old : ListView) (x : Entry) (new : ListView) : Type 0 where
+pub record ListsEntry (old : ListView) (x : Entry) (new : ListView) : Type 0 where
   pub lists : (w : List Entry) → old ≡ list_of w → new ≡ list_of (x ∷ w)
 
 -- a later item where there is one, else this one
@@ -79,7 +79,7 @@ looked_up which v = side_in (list_in which v) (list_in (peer which) v)
 abbrev pub list_after : Side → Side → Entry → List Listed → List Listed
 list_after own other_side x found =
     if is_empty x.sent then found
-    else found ++ (record { sent = next_sent own x.sent; answers = answered own other_side (delivered x.what) x.did.took } ∷ [])
+    else found ++ (record { sent = next_sent own x.sent; answers = number_taken own other_side (delivered x.what) x.did.took } ∷ [])
 
 -- the lists after an entry of this end
 abbrev pub lists_after : End → ListView → Entry → ListView

@@ -34,7 +34,7 @@ abbrev pub view_of : List Entry → MonitorView
 view_of w = record { noted = length w; other = first_other w; master = kept_of end_name.Master (items w); slave = kept_of end_name.Slave (items w) }
 
 -- a monitor that had noted some entries has noted this one too
-pub record Notes (old : MonitorView) (x : Entry) (new : MonitorView) : Type 0 where
+pub record NotesEntry (old : MonitorView) (x : Entry) (new : MonitorView) : Type 0 where
   pub notes : (w : List Entry) → old ≡ view_of w → new ≡ view_of (x ∷ w)
 
 -- an end that sent nothing
@@ -76,9 +76,9 @@ abbrev pub is_other_to : Side → Entry → Bool
 is_other_to own x = x.did.passed && is_guarded_frame (delivered x.what) && not (has (delivered x.what) own.awaited)
 
 -- the number of the peer's item that an end took from these bytes
-abbrev pub answered : Side → Side → List ℕ → Option Took → Option ℕ
-answered own peer bytes None = None
-answered own peer bytes (Some t) = number_of bytes (if is_guarded t.command then own.awaited else peer.newest)
+abbrev pub number_taken : Side → Side → List ℕ → Option Took → Option ℕ
+number_taken own peer bytes None = None
+number_taken own peer bytes (Some t) = number_of bytes (if is_guarded t.command then own.awaited else peer.newest)
 
 -- the next item of an end
 abbrev pub next_sent : Side → List ℕ → Sent
@@ -102,7 +102,7 @@ own_after own x = if is_empty x.sent then own else sent_next own x.sent
 -- what is kept of its peer then
 abbrev pub peer_after : Side → Side → Entry → Side
 peer_after own peer x =
-    if is_empty x.sent then peer else heard_next own peer x.sent (answered own peer (delivered x.what) x.did.took)
+    if is_empty x.sent then peer else heard_next own peer x.sent (number_taken own peer (delivered x.what) x.did.took)
 
 -- what is kept of an end
 abbrev pub side_of : End → MonitorView → Side
