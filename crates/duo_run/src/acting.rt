@@ -1,5 +1,5 @@
 //! One step of either end, and the entry that tells it.
-ghost use Rattle.std.specs.Prelude.{◌≡◌, ◌≤◌, false, length, option_copied};
+ghost use Rattle.std.specs.Prelude.{◌≡◌, ◌≤◌, [], false, length, option_copied};
 ghost use Rattle.end_model.specs.Setup.{OfMaster, OfSlave};
 ghost use Rattle.end_model.specs.Standing.{Follows, Answers};
 ghost use Rattle.end_model.specs.Step.{IsProper};
@@ -30,11 +30,12 @@ pub(crate) fn end_of(event: &Event) -> End
     }
 }
 
-/// A move at a master. The frame that it sends is written to `sent`, which is empty where it sends none.
+/// A move at a master. The frame that it sends is written to `sent`, which is new, and stays empty where it sends none.
 #[tactic(auto, using(end_model::proofs::Settings::put_answers, end_model::proofs::Settings::hold_answers, end_model::proofs::Settings::nonce_answers))]
 fn move_master(master: &mut Master, what: &Move, sent: &mut FrameBuf) -> Did
     requires proper { IsProper (OfMaster master.old.kit.settings) what.now }
     requires rest { is_due master.old.state ≡ false }
+    requires empty { sent.old ≡ [] }
     ensures follows { Follows OfMaster master_core.view_of master.old what.now master.new }
     ensures answers { Answers OfMaster master_core.view_of master.old what.now result sent.new }
     ensures rest { is_due master.new.state ≡ false }
@@ -46,17 +47,14 @@ fn move_master(master: &mut Master, what: &Move, sent: &mut FrameBuf) -> Did
         Move::Local => master.reset(sent),
         Move::Put(load) => {
             master.put(load.bytes());
-            sent.clear();
             Did::nothing()
         }
         Move::Hold(failsafe) => {
             master.hold(*failsafe);
-            sent.clear();
             Did::nothing()
         }
         Move::Nonce(id) => {
             master.nonce(*id);
-            sent.clear();
             Did::nothing()
         }
     }
@@ -65,7 +63,8 @@ fn move_master(master: &mut Master, what: &Move, sent: &mut FrameBuf) -> Did
 /// The same at a slave.
 #[tactic(auto, using(end_model::proofs::Settings::put_answers, end_model::proofs::Settings::hold_answers, end_model::proofs::Settings::nonce_answers))]
 fn move_slave(slave: &mut Slave, what: &Move, sent: &mut FrameBuf) -> Did
-    requires { IsProper (OfSlave slave.old.kit.settings) what.now }
+    requires proper { IsProper (OfSlave slave.old.kit.settings) what.now }
+    requires empty { sent.old ≡ [] }
     ensures follows { Follows OfSlave slave_core.view_of slave.old what.now slave.new }
     ensures answers { Answers OfSlave slave_core.view_of slave.old what.now result sent.new }
     ensures settings { slave.new.kit.settings ≡ slave.old.kit.settings }
@@ -76,17 +75,14 @@ fn move_slave(slave: &mut Slave, what: &Move, sent: &mut FrameBuf) -> Did
         Move::Local => slave.reset(sent),
         Move::Put(load) => {
             slave.put(load.bytes());
-            sent.clear();
             Did::nothing()
         }
         Move::Hold(failsafe) => {
             slave.hold(*failsafe);
-            sent.clear();
             Did::nothing()
         }
         Move::Nonce(id) => {
             slave.nonce(*id);
-            sent.clear();
             Did::nothing()
         }
     }
