@@ -1,5 +1,5 @@
 -- How the tests of a frame that came end. The order of the tests is this profile's own, the codes are those of the public standard.
-use Rattle.std.specs.Prelude.{ℕ, ◌==◌, nat_eq, List, ◌++◌, length, take, drop, Bool, false, not, Option, Some, None, if◌then◌else◌}
+use Rattle.std.specs.Prelude.{ℕ, ◌==◌, nat_eq, List, Bool, false, not, Option, Some, None, if◌then◌else◌}
 use Rattle.std.specs.Cmp.Lexicographic.{pointwise}
 use Rattle.fsoe_base.specs.declared.command.State.{State}
 use Rattle.fsoe_base.specs.declared.command.State.TheVariants as state
@@ -18,8 +18,8 @@ use Rattle.param_load.specs.declared.contents.Expected.TheVariants as expected
 use Rattle.param_load.specs.declared.master_settings.MasterSettings.{MasterSettings}
 use Rattle.param_load.specs.declared.slave_settings.SlaveSettings.{SlaveSettings}
 use Rattle.fsoe_base.specs.Data.{data_holds}
-use Rattle.param_load.specs.Contents.{contents_fault}
 use Rattle.param_load.specs.Download.{is_echo, is_padded}
+use Rattle.param_load.specs.Upload.{upload_fault}
 use Rattle.end_model.specs.Setup.{Setup, OfMaster, OfSlave, receives, piece_len}
 use Rattle.end_model.specs.Phases.{is_guarded}
 use Rattle.end_model.specs.Deed.{Deed}
@@ -58,10 +58,7 @@ has_conn s e c field = if is_guarded c then is_conn s e field else field == 0
 
 -- the contents of a frame of an upload: the fields that it ends, in order, then the padding
 abbrev pub slave_upload_fault : SlaveSettings → List Deed → State → Expected → List ℕ → Option Code
-slave_upload_fault ss e phase expects load =
-    let c : ℕ = piece_len (OfSlave ss) in
-    let before : List ℕ = uploaded ss phase e in
-    contents_fault expects (length before) (before ++ take c load) (drop c load)
+slave_upload_fault ss e phase expects load = upload_fault (record { expected = expects; piece = piece_len (OfSlave ss); joined = uploaded ss phase e }) load
 
 -- the contents of a frame of state Data: a FailSafeData frame carries zeros
 abbrev pub data_fault : Command → List ℕ → Option Code

@@ -346,8 +346,8 @@ MasterStepsNumber =
     ∷ []
 
 -- what is wrong with the contents of a frame that comes after these moves, in hexadecimal; its CRCs aren't tested
-abbrev pub fault_after : Setup → List Move → Command → List ℕ → Option Code
-fault_after s moves c text = contents s (run s moves) c (frame_of (receives s) (if_bytes (decode_of text)))
+abbrev pub contents_after : Setup → List Move → Command → List ℕ → Option Code
+contents_after s moves c text = contents s (run s moves) c (frame_of (receives s) (if_bytes (decode_of text)))
 
 -- four bytes of safe data in each direction
 abbrev pub four_and_four : Lengths
@@ -357,14 +357,14 @@ four_and_four = record { master = 4; slave = 4; valid_master = refl; valid_slave
 -- data that are zeros
 unfoldable pub MasterContents : Type 0
 MasterContents =
-    fault_after (OfMaster (record master_values { lengths = four_and_four })) (t ∷ d (codes "2a0000c42d0000b9140000") ∷ []) command.Session (codes "4e0700000000000000000000")
-    ∷ fault_after (OfMaster (record master_values { lengths = four_and_four })) (t ∷ d (codes "2a0000c42d0000b9140000") ∷ []) command.Session (codes "4e0700000001000000000000")
-    ∷ fault_after a_master (take 4 to_master) command.Connection (codes "64010000000100")
-    ∷ fault_after a_master (take 4 to_master) command.Connection (codes "64010100000100")
-    ∷ fault_after a_master (take 6 to_master) command.Parameter (codes "52020000000100")
-    ∷ fault_after a_master (take 6 to_master) command.Parameter (codes "52030000000100")
-    ∷ fault_after a_master to_master command.FailSafeData (codes "08000000000100")
-    ∷ fault_after a_master to_master command.FailSafeData (codes "08000100000100")
+    contents_after (OfMaster (record master_values { lengths = four_and_four })) (t ∷ d (codes "2a0000c42d0000b9140000") ∷ []) command.Session (codes "4e0700000000000000000000")
+    ∷ contents_after (OfMaster (record master_values { lengths = four_and_four })) (t ∷ d (codes "2a0000c42d0000b9140000") ∷ []) command.Session (codes "4e0700000001000000000000")
+    ∷ contents_after a_master (take 4 to_master) command.Connection (codes "64010000000100")
+    ∷ contents_after a_master (take 4 to_master) command.Connection (codes "64010100000100")
+    ∷ contents_after a_master (take 6 to_master) command.Parameter (codes "52020000000100")
+    ∷ contents_after a_master (take 6 to_master) command.Parameter (codes "52030000000100")
+    ∷ contents_after a_master to_master command.FailSafeData (codes "08000000000100")
+    ∷ contents_after a_master to_master command.FailSafeData (codes "08000100000100")
     ∷ []
     ≡ None ∷ Some (code 0x07) ∷ None ∷ Some (code 0x07) ∷ None ∷ Some (code 0x07) ∷ None ∷ Some (code 0x07) ∷ []
 
