@@ -3,24 +3,22 @@ use Rattle.std.proofs.Common.{◌≡◌, false, [], sym, ap, ◌∙◌}
 use Rattle.param_load.specs.declared.master_settings.MasterSettings.{MasterSettings}
 use Rattle.param_load.specs.declared.slave_settings.SlaveSettings.{SlaveSettings}
 use Rattle.black_channel.specs.Window.{window_of}
-use Rattle.end_model.specs.Setup.{OfMaster, OfSlave}
-use Rattle.end_model.specs.Standing.{Stands}
 use Rattle.exchange_model.specs.World.{SameLengths}
 use Rattle.exchange_model.specs.Monitor as monitor
 use Rattle.master_core.specs.Now.{is_due}
-use Rattle.master_core.specs.ViewOf as master_core
+use Rattle.master_core.specs.Standing.{MasterIsAfter}
 use Rattle.slave_core.specs.SlaveView.{SlaveView}
-use Rattle.slave_core.specs.ViewOf as slave_core
+use Rattle.slave_core.specs.Standing.{SlaveIsAfter}
 use Rattle.duo_run.specs.Duo.{DuoView, DuoStands, IsDuo}
 
-pub stands_new : (ms : MasterSettings) (ss : SlaveSettings) (v : DuoView) → Stands OfMaster master_core.view_of ms v.master [] → Stands OfSlave slave_core.view_of ss v.slave []
+pub stands_new : (ms : MasterSettings) (ss : SlaveSettings) (v : DuoView) → MasterIsAfter ms v.master [] → SlaveIsAfter ss v.slave []
     → v.master_sent ≡ window_of [] → v.slave_sent ≡ window_of [] → v.monitor ≡ monitor.view_of [] → DuoStands ms ss v []
 stands_new ms ss v m s a b n = record { master = m; slave = s; master_sent = a; slave_sent = b; monitor = n; world = tt }
 
-pub slave_settings : (ss : SlaveSettings) (v : SlaveView) → Stands OfSlave slave_core.view_of ss v [] → v.kit.settings ≡ ss
+pub slave_settings : (ss : SlaveSettings) (v : SlaveView) → SlaveIsAfter ss v [] → v.kit.settings ≡ ss
 slave_settings ss v h = ap (λ (v : SlaveView). v.kit.settings) h.is
 
-pub is_duo : (ms : MasterSettings) (ss : SlaveSettings) (v : DuoView) → SameLengths ms ss → is_due v.master.state ≡ false → v.master.kit.settings ≡ ms → Stands OfSlave slave_core.view_of ss v.slave [] → IsDuo v
+pub is_duo : (ms : MasterSettings) (ss : SlaveSettings) (v : DuoView) → SameLengths ms ss → is_due v.master.state ≡ false → v.master.kit.settings ≡ ms → SlaveIsAfter ss v.slave [] → IsDuo v
 is_duo ms ss v same rest m s =
     let k : v.slave.kit.settings ≡ ss = slave_settings ss v.slave s in
     record {

@@ -12,14 +12,13 @@ use Rattle.schedule_file.specs.declared.event.Event.{Event}
 use Rattle.end_model.specs.Setup.{OfMaster, OfSlave}
 use Rattle.end_model.specs.Deed.{Deed, is_empty}
 use Rattle.end_model.specs.Step.{step}
-use Rattle.end_model.specs.Standing.{Stands}
 use Rattle.exchange_model.specs.Ends.{peer}
 use Rattle.exchange_model.specs.Monitor as monitor
 use Rattle.exchange_model.specs.World.{setup_of, deeds, frames_of, end_of_event, move_from, next_entry, entry_on, entry_at}
 use Rattle.master_core.specs.MasterView.{MasterView}
-use Rattle.master_core.specs.ViewOf as master_core
+use Rattle.master_core.specs.Standing.{MasterIsAfter}
 use Rattle.slave_core.specs.SlaveView.{SlaveView}
-use Rattle.slave_core.specs.ViewOf as slave_core
+use Rattle.slave_core.specs.Standing.{SlaveIsAfter}
 use Rattle.duo_run.specs.Duo.{DuoView, sent_by, DuoStands, Steps, Misses}
 use Rattle.duo_run.specs.Acts.{heard_at, MasterActs, SlaveActs, Acts}
 use Rattle.duo_run.proofs.Moved.{moved_within}
@@ -49,10 +48,10 @@ master-stands : (old new : DuoView) (what : Move) (x : Entry) → MasterActs old
 master-stands old new what x acts ms ss w h =
     let e : List Deed = deeds end_name.Master w in
     let t : x ≡ next_entry (OfMaster ms) e what = acts.tells.tells ms e h.master in
-    let after : Stands OfMaster master_core.view_of ms new.master (step (OfMaster ms) e what ∷ e) = acts.follows.stands ms e h.master in
+    let after : MasterIsAfter ms new.master (step (OfMaster ms) e what ∷ e) = acts.follows.goes_on ms e h.master in
     record {
       master = after;
-      slave = subst (λ (s : SlaveView). Stands OfSlave slave_core.view_of ss s (deeds end_name.Slave w)) (sym acts.slave) h.slave;
+      slave = subst (λ (s : SlaveView). SlaveIsAfter ss s (deeds end_name.Slave w)) (sym acts.slave) h.slave;
       master_sent = acts.heard.hears (frames_of end_name.Master w) h.master_sent
           ∙ ap (λ (x : Entry). window_of (if is_empty x.sent then frames_of end_name.Master w else x.sent ∷ frames_of end_name.Master w)) t;
       slave_sent = acts.slave_sent ∙ h.slave_sent;
@@ -65,9 +64,9 @@ slave-stands : (old new : DuoView) (what : Move) (x : Entry) → SlaveActs old w
 slave-stands old new what x acts ms ss w h =
     let e : List Deed = deeds end_name.Slave w in
     let t : x ≡ next_entry (OfSlave ss) e what = acts.tells.tells ss e h.slave in
-    let after : Stands OfSlave slave_core.view_of ss new.slave (step (OfSlave ss) e what ∷ e) = acts.follows.stands ss e h.slave in
+    let after : SlaveIsAfter ss new.slave (step (OfSlave ss) e what ∷ e) = acts.follows.goes_on ss e h.slave in
     record {
-      master = subst (λ (m : MasterView). Stands OfMaster master_core.view_of ms m (deeds end_name.Master w)) (sym acts.master) h.master;
+      master = subst (λ (m : MasterView). MasterIsAfter ms m (deeds end_name.Master w)) (sym acts.master) h.master;
       slave = after;
       master_sent = acts.master_sent ∙ h.master_sent;
       slave_sent = acts.heard.hears (frames_of end_name.Slave w) h.slave_sent

@@ -9,16 +9,14 @@ use Rattle.param_load.specs.declared.profile.Profiles.{Profiles}
 use Rattle.param_load.specs.declared.slave_settings.SlaveSettings.{SlaveSettings}
 use Rattle.black_channel.specs.Window.{WindowView, window_of}
 use Rattle.schedule_file.specs.declared.event.Event.{Event}
-use Rattle.end_model.specs.Setup.{OfMaster, OfSlave}
-use Rattle.end_model.specs.Standing.{Stands}
 use Rattle.exchange_model.specs.World.{deeds, frames_of, entry_at, SameLengths, IsWorld}
 use Rattle.exchange_model.specs.Monitor as monitor
 use Rattle.exchange_model.specs.Monitor.{MonitorView}
 use Rattle.master_core.specs.MasterView.{MasterView}
 use Rattle.master_core.specs.Now.{is_due}
-use Rattle.master_core.specs.ViewOf as master_core
+use Rattle.master_core.specs.Standing.{MasterIsAfter}
 use Rattle.slave_core.specs.SlaveView.{SlaveView}
-use Rattle.slave_core.specs.ViewOf as slave_core
+use Rattle.slave_core.specs.Standing.{SlaveIsAfter}
 
 -- what contracts see of a pair: both ends, the last frames that each sent, and the monitor
 pub record DuoView : Type 0 where
@@ -53,8 +51,8 @@ pub record IsDuo (v : DuoView) : Type 0 where
 -- a pair stands for these entries: they are a world, each end is where its own deeds among them leave it, each window has the last
 -- of the frames that its end sent, and the monitor has noted them all
 pub record DuoStands (ms : MasterSettings) (ss : SlaveSettings) (v : DuoView) (w : List Entry) : Type 0 where
-  pub master : Stands OfMaster master_core.view_of ms v.master (deeds end_name.Master w)
-  pub slave : Stands OfSlave slave_core.view_of ss v.slave (deeds end_name.Slave w)
+  pub master : MasterIsAfter ms v.master (deeds end_name.Master w)
+  pub slave : SlaveIsAfter ss v.slave (deeds end_name.Slave w)
   pub master_sent : v.master_sent ≡ window_of (frames_of end_name.Master w)
   pub slave_sent : v.slave_sent ≡ window_of (frames_of end_name.Slave w)
   pub monitor : v.monitor ≡ monitor.view_of w

@@ -1,13 +1,12 @@
 //! One step of either end, and the entry that tells it.
 ghost use Rattle.std.specs.Prelude.{◌≡◌, ◌≤◌, [], false, length, option_copied};
 ghost use Rattle.end_model.specs.Setup.{OfMaster, OfSlave};
-ghost use Rattle.end_model.specs.Standing.{Follows, Answers};
 ghost use Rattle.end_model.specs.Step.{IsProper};
 ghost use Rattle.exchange_model.specs.World.{end_of_event};
 ghost use Rattle.master_core.specs.Now.{is_due};
-ghost use Rattle.master_core.specs.ViewOf as master_core;
-ghost use Rattle.slave_core.specs.ViewOf as slave_core;
-ghost use Rattle.duo_run.specs.Acts.{Tells, Hears};
+ghost use Rattle.master_core.specs.Standing as master_core;
+ghost use Rattle.slave_core.specs.Standing as slave_core;
+ghost use Rattle.duo_run.specs.Acts.{MasterTells, SlaveTells, Hears};
 
 use black_channel::Window;
 use fsoe_base::{Did, End, FrameBuf, Image};
@@ -31,13 +30,13 @@ pub(crate) fn end_of(event: &Event) -> End
 }
 
 /// A move at a master. The frame that it sends is written to `sent`, which is new, and stays empty where it sends none.
-#[tactic(auto, using(end_model::proofs::Settings::put_answers, end_model::proofs::Settings::hold_answers, end_model::proofs::Settings::nonce_answers))]
+#[tactic(auto, using(master_core::proofs::Law::set_answers))]
 fn move_master(master: &mut Master, what: &Move, sent: &mut FrameBuf) -> Did
     requires proper { IsProper (OfMaster master.old.kit.settings) what.now }
     requires rest { is_due master.old.state ≡ false }
     requires empty { sent.old ≡ [] }
-    ensures follows { Follows OfMaster master_core.view_of master.old what.now master.new }
-    ensures answers { Answers OfMaster master_core.view_of master.old what.now result sent.new }
+    ensures follows { master_core.Follows master.old what.now master.new }
+    ensures answers { master_core.Answers master.old what.now result sent.new }
     ensures rest { is_due master.new.state ≡ false }
     ensures settings { master.new.kit.settings ≡ master.old.kit.settings }
 {
@@ -61,12 +60,12 @@ fn move_master(master: &mut Master, what: &Move, sent: &mut FrameBuf) -> Did
 }
 
 /// The same at a slave.
-#[tactic(auto, using(end_model::proofs::Settings::put_answers, end_model::proofs::Settings::hold_answers, end_model::proofs::Settings::nonce_answers))]
+#[tactic(auto, using(slave_core::proofs::Law::set_answers))]
 fn move_slave(slave: &mut Slave, what: &Move, sent: &mut FrameBuf) -> Did
     requires proper { IsProper (OfSlave slave.old.kit.settings) what.now }
     requires empty { sent.old ≡ [] }
-    ensures follows { Follows OfSlave slave_core.view_of slave.old what.now slave.new }
-    ensures answers { Answers OfSlave slave_core.view_of slave.old what.now result sent.new }
+    ensures follows { slave_core.Follows slave.old what.now slave.new }
+    ensures answers { slave_core.Answers slave.old what.now result sent.new }
     ensures settings { slave.new.kit.settings ≡ slave.old.kit.settings }
 {
     match what {
@@ -107,11 +106,12 @@ fn copied(terms: Option<&Terms>) -> Option<Terms>
 }
 
 /// A move at a master, and the entry that tells it.
+#[tactic(auto, using(crate::proofs::Told::master_tells))]
 pub(crate) fn act_master(master: &mut Master, what: Move) -> Entry
     requires proper { IsProper (OfMaster master.old.kit.settings) what }
     requires rest { is_due master.old.state ≡ false }
-    ensures follows { Follows OfMaster master_core.view_of master.old what master.new }
-    ensures tells { Tells OfMaster master_core.view_of master.old what result }
+    ensures follows { master_core.Follows master.old what master.new }
+    ensures tells { MasterTells master.old what result }
     ensures rest { is_due master.new.state ≡ false }
     ensures settings { master.new.kit.settings ≡ master.old.kit.settings }
 {
@@ -129,10 +129,11 @@ pub(crate) fn act_master(master: &mut Master, what: Move) -> Entry
 }
 
 /// The same at a slave.
+#[tactic(auto, using(crate::proofs::Told::slave_tells))]
 pub(crate) fn act_slave(slave: &mut Slave, what: Move) -> Entry
     requires { IsProper (OfSlave slave.old.kit.settings) what }
-    ensures follows { Follows OfSlave slave_core.view_of slave.old what slave.new }
-    ensures tells { Tells OfSlave slave_core.view_of slave.old what result }
+    ensures follows { slave_core.Follows slave.old what slave.new }
+    ensures tells { SlaveTells slave.old what result }
     ensures settings { slave.new.kit.settings ≡ slave.old.kit.settings }
 {
     let mut sent = FrameBuf::new();

@@ -19,5 +19,3 @@ pub mod SealedFrames
 pub mod Neighbours
 pub mod Repeats
 pub mod WholeUploads
-pub mod Calls
-pub mod Settings

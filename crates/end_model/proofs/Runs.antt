@@ -1,10 +1,28 @@
 -- Runs of an end.
-use Rattle.std.proofs.Common.{◌≡◌, List, [], ◌∷◌, ◌++◌, refl, All}
+use Rattle.std.proofs.Common.{◌≡◌, ℕ, List, [], ◌∷◌, ◌++◌, refl, sym, ap, ◌∙◌, All}
 use Rattle.std.proofs.lemmas.List.Elements.{All-head, All-tail}
+use Rattle.fsoe_base.specs.declared.did.Did.{Did}
+use Rattle.fsoe_base.specs.Did.{nothing}
 use Rattle.param_load.specs.declared.entry.Move.{Move}
+use Rattle.param_load.specs.declared.entry.Move.TheVariants as move
 use Rattle.end_model.specs.Setup.{Setup}
-use Rattle.end_model.specs.Deed.{Deed}
-use Rattle.end_model.specs.Step.{step, run, continued, IsProper, IsRun}
+use Rattle.end_model.specs.Deed.{Deed, IsSetting, events_of}
+use Rattle.end_model.specs.Step.{begun, step, run, continued, IsProper, IsRun}
+
+abbrev pub deed : Move → Did → List ℕ → Deed
+deed what did sent = record { what = what; did = did; sent = sent }
+
+pub same_deed : (what : Move) (did did' : Did) (sent sent' : List ℕ) → did ≡ did' → sent ≡ sent' → deed what did sent ≡ deed what did' sent'
+same_deed what did did' sent sent' h i = rw (h, i) refl
+
+-- a put, a hold and a nonce are noted alone: nothing is done, and no frame is sent
+pub set_deed : (s : Setup) (e : List Deed) (m : Move) → IsSetting m → begun m nothing ≡ step s e m
+set_deed s e (move.Put load) k = refl
+set_deed s e (move.Hold failsafe) k = refl
+set_deed s e (move.Nonce id) k = refl
+set_deed s e (move.Deliver bytes) k = absurd k
+set_deed s e move.Tick k = absurd k
+set_deed s e move.Local k = absurd k
 
 continued_append : (s : Setup) (front rest : List Move) (e : List Deed) → continued s e (front ++ rest) ≡ continued s (continued s e front) rest
 continued_append s [] rest e = refl
@@ -20,3 +38,11 @@ continued_is_run s (what ∷ moves) e proper so_far =
 
 pub run_is_run : (s : Setup) (moves : List Move) → All (IsProper s) moves → IsRun s (run s moves)
 run_is_run s moves proper = continued_is_run s moves [] proper tt
+
+-- a run is that of its events
+pub run_of_events : (s : Setup) (e : List Deed) → IsRun s e → e ≡ run s (events_of e)
+run_of_events s [] r = refl
+run_of_events s (x ∷ e) r =
+    ap (λ (y : Deed). y ∷ e) r.0.stepped
+    ∙ ap (λ (e : List Deed). step s e x.what ∷ e) (run_of_events s e r.1)
+    ∙ sym (run_append s (events_of e) (x.what ∷ []))

@@ -9,7 +9,6 @@ pub mod Step
 pub mod Reactions
 pub mod Codes
 pub mod Outputs
-pub mod Standing
 pub mod Entries
 pub mod WorkedRuns
 pub mod Neighbours

@@ -6,21 +6,20 @@ use Rattle.param_load.specs.declared.entry.Move.{Move}
 use Rattle.param_load.specs.declared.entry.Move.TheVariants as move
 use Rattle.param_load.specs.declared.master_settings.MasterSettings.{MasterSettings}
 use Rattle.end_model.specs.Setup.{Setup, OfMaster}
-use Rattle.end_model.specs.Deed.{Deed}
-use Rattle.end_model.specs.Standing.{Stands, events_of}
+use Rattle.end_model.specs.Deed.{Deed, events_of}
 use Rattle.end_model.specs.Step.{begun, step, run, IsRun}
-use Rattle.end_model.proofs.Calls.{run_of_events}
+use Rattle.end_model.proofs.Runs.{deed, same_deed, set_deed, run_of_events}
 use Rattle.end_model.specs.Reactions.{Reaction, Puts, Holds, SetsNonce, Rests, Ages, Expires, SendsAgain, ResetsItself, DropsLength, DropsRepeat, DropsInReset, DropsReset, Refuses, PeerResets, Answers}
 use Rattle.end_model.proofs.SoundRuns.{reacts}
 use Rattle.master_core.specs.MasterView.{MasterView}
 use Rattle.master_core.specs.Now.{is_due}
-use Rattle.master_core.specs.ViewOf.{view_of}
+use Rattle.master_core.specs.Standing.{MasterIsAfter}
 use Rattle.master_core.specs.Waiting.{Waits}
-use Rattle.master_core.specs.Calls.{Call, Event, Setting, Accept, Reply, IsSetting, MadeEvent, MadeSetting, MadeAccept, MadeReply, Calls, Pending, tells_due, left_by, pending, ended_by, deeds_of}
+use Rattle.master_core.specs.Calls.{Call, Event, Setting, Accept, Reply, MadeEvent, MadeSetting, MadeAccept, MadeReply, Calls, Pending, tells_due, left_by, pending, ended_by, deeds_of}
 
 -- where these deeds leave a master: it stands for them, or waits after them with this delivery
 pub record AtRest (ms : MasterSettings) (v : MasterView) (e : List Deed) : Type 0 where
-  pub stands : Stands OfMaster view_of ms v e
+  pub stands : MasterIsAfter ms v e
   pub rest : is_due v.state ≡ false
 
 pub record InDelivery (ms : MasterSettings) (v : MasterView) (e : List Deed) (p : Pending) : Type 0 where
@@ -30,12 +29,6 @@ pub record InDelivery (ms : MasterSettings) (v : MasterView) (e : List Deed) (p 
 abbrev Reached : MasterSettings → MasterView → List Deed → Option Pending → Type 0
 Reached ms v e None = AtRest ms v e
 Reached ms v e (Some p) = InDelivery ms v e p
-
-abbrev deed : Move → Did → List ℕ → Deed
-deed m d f = record { what = m; did = d; sent = f }
-
-same-deed : (m : Move) (d d' : Did) (f f' : List ℕ) → d ≡ d' → f ≡ f' → deed m d f ≡ deed m d' f'
-same-deed m d d' f f' h i = rw (h, i) refl
 
 -- a delivery in which nothing was taken and no session ended sent nothing
 abbrev IsDelivery : Move → Type 0
@@ -66,42 +59,33 @@ quiet-delivery s e bytes did run h i =
     ap (λ (d : Did). begun (move.Deliver bytes) d) h
     ∙ quiet s e (move.Deliver bytes) x.did x.sent tt (sym (ap (λ (d : Did). tells_due d) h) ∙ i) (reacts s e (move.Deliver bytes) run tt)
 
--- a setting does nothing else
-set-deed : (s : Setup) (e : List Deed) (m : Move) → IsSetting m → begun m nothing ≡ step s e m
-set-deed s e (move.Put load) k = refl
-set-deed s e (move.Hold failsafe) k = refl
-set-deed s e (move.Nonce id) k = refl
-set-deed s e (move.Deliver bytes) k = absurd k
-set-deed s e move.Tick k = absurd k
-set-deed s e move.Local k = absurd k
-
 -- each call
 at-event : (ms : MasterSettings) (old new : MasterView) (x : Deed) (e : List Deed) (p : Option Pending) → Reached ms old e p → MadeEvent old x new → Reached ms new (x ∷ e) p
 at-event ms old new x e None r made = record {
   stands =
-      subst (λ (y : Deed). Stands OfMaster view_of ms new (y ∷ e))
-      (sym (same-deed x.what x.did _ x.sent _ (made.answers.did ms e r.stands) (made.answers.sent ms e r.stands)))
-      (made.follows.stands ms e r.stands);
+      subst (λ (y : Deed). MasterIsAfter ms new (y ∷ e))
+      (sym (same_deed x.what x.did _ x.sent _ (made.answers.did ms e r.stands) (made.answers.sent ms e r.stands)))
+      (made.follows.goes_on ms e r.stands);
   rest = made.done;
 }
 at-event ms old new x e (Some p) r made = absurd (cc (r.due, made.rest))
 
 at-setting : (ms : MasterSettings) (old new : MasterView) (m : Move) (e : List Deed) (p : Option Pending) → Reached ms old e p → MadeSetting old m new → Reached ms new (begun m nothing ∷ e) p
 at-setting ms old new m e None r made = record {
-  stands = subst (λ (y : Deed). Stands OfMaster view_of ms new (y ∷ e)) (sym (set-deed (OfMaster ms) e m made.sets)) (made.follows.stands ms e r.stands);
+  stands = subst (λ (y : Deed). MasterIsAfter ms new (y ∷ e)) (sym (set_deed (OfMaster ms) e m made.sets)) (made.follows.goes_on ms e r.stands);
   rest = made.due ∙ r.rest;
 }
 at-setting ms old new m e (Some p) r made = record {
-  waits = subst (λ (y : Deed). Waits ms new (y ∷ e) p.bytes p.did) (sym (set-deed (OfMaster ms) e m made.sets)) (made.keeps.waits ms e p.bytes p.did r.waits);
+  waits = subst (λ (y : Deed). Waits ms new (y ∷ e) p.bytes p.did) (sym (set_deed (OfMaster ms) e m made.sets)) (made.keeps.waits ms e p.bytes p.did r.waits);
   due = made.due ∙ r.due;
 }
 
-accepted-so : (ms : MasterSettings) (old new : MasterView) (bytes : List ℕ) (did : Did) (e : List Deed) (b : Bool) → tells_due did ≡ b → Stands OfMaster view_of ms old e → MadeAccept old bytes did new
+accepted-so : (ms : MasterSettings) (old new : MasterView) (bytes : List ℕ) (did : Did) (e : List Deed) (b : Bool) → tells_due did ≡ b → MasterIsAfter ms old e → MadeAccept old bytes did new
     → Reached ms new (if b then e else begun (move.Deliver bytes) did ∷ e) (if b then Some (record { bytes = bytes; did = did }) else None)
 accepted-so ms old new bytes did e true b h made = record { waits = made.accepts.waits ms e h; due = made.due ∙ b }
 accepted-so ms old new bytes did e false b h made = record {
   stands =
-      subst (λ (y : Deed). Stands OfMaster view_of ms new (y ∷ e))
+      subst (λ (y : Deed). MasterIsAfter ms new (y ∷ e))
       (sym (quiet-delivery (OfMaster ms) e bytes did h.reached (made.accepts.did ms e h) b))
       (made.accepts.stands ms e h (made.due ∙ b));
   rest = made.due ∙ b;
@@ -118,14 +102,14 @@ at-reply ms old new frame e (Some p) r made =
     let done = made.replies.did ms e p.bytes p.did r.waits ∙ ap (λ (b : Bool). record p.did { sent = b }) r.due in
     record {
       stands =
-          subst (λ (y : Deed). Stands OfMaster view_of ms new (y ∷ e))
-          (same-deed (move.Deliver p.bytes) _ _ _ _ done (sym (made.replies.sent ms e p.bytes p.did r.waits)))
+          subst (λ (y : Deed). MasterIsAfter ms new (y ∷ e))
+          (same_deed (move.Deliver p.bytes) _ _ _ _ done (sym (made.replies.sent ms e p.bytes p.did r.waits)))
           (made.replies.stands ms e p.bytes p.did r.waits);
       rest = made.done;
     }
 
 -- all calls
-reached : (ms : MasterSettings) (first last : MasterView) (calls : List Call) → Stands OfMaster view_of ms first [] → Calls first calls last → Reached ms last (deeds_of calls) (pending calls)
+reached : (ms : MasterSettings) (first last : MasterView) (calls : List Call) → MasterIsAfter ms first [] → Calls first calls last → Reached ms last (deeds_of calls) (pending calls)
 reached ms first last [] h c = subst (λ (v : MasterView). AtRest ms v []) c (record { stands = h; rest = ap (λ (v : MasterView). is_due v.state) h.is })
 reached ms first last (Event x ∷ calls) h c = at-event ms c.0 last x (deeds_of calls) (pending calls) (reached ms first c.0 calls h c.1) c.2
 reached ms first last (Setting m ∷ calls) h c = at-setting ms c.0 last m (deeds_of calls) (pending calls) (reached ms first c.0 calls h c.1) c.2
@@ -136,14 +120,14 @@ is-run : (ms : MasterSettings) (v : MasterView) (e : List Deed) (p : Option Pend
 is-run ms v e None r = r.stands.reached
 is-run ms v e (Some p) r = r.waits.reached
 
-pub calls_run : (ms : MasterSettings) (first last : MasterView) (calls : List Call) → Stands OfMaster view_of ms first [] → Calls first calls last → deeds_of calls ≡ run (OfMaster ms) (events_of (deeds_of calls))
+pub calls_run : (ms : MasterSettings) (first last : MasterView) (calls : List Call) → MasterIsAfter ms first [] → Calls first calls last → deeds_of calls ≡ run (OfMaster ms) (events_of (deeds_of calls))
 calls_run ms first last calls h c = run_of_events (OfMaster ms) (deeds_of calls) (is-run ms last (deeds_of calls) (pending calls) (reached ms first last calls h c))
 
-pub calls_stand : (ms : MasterSettings) (first last : MasterView) (calls : List Call) → Stands OfMaster view_of ms first [] → Calls first calls last → pending calls ≡ None → Stands OfMaster view_of ms last (deeds_of calls)
+pub calls_stand : (ms : MasterSettings) (first last : MasterView) (calls : List Call) → MasterIsAfter ms first [] → Calls first calls last → pending calls ≡ None → MasterIsAfter ms last (deeds_of calls)
 calls_stand ms first last calls h c k =
     let r : Reached ms last (deeds_of calls) None = subst (λ (p : Option Pending). Reached ms last (deeds_of calls) p) k (reached ms first last calls h c) in r.stands
 
-pub calls_wait : (ms : MasterSettings) (first last : MasterView) (calls : List Call) → Stands OfMaster view_of ms first [] → Calls first calls last → (p : Pending) → pending calls ≡ Some p
+pub calls_wait : (ms : MasterSettings) (first last : MasterView) (calls : List Call) → MasterIsAfter ms first [] → Calls first calls last → (p : Pending) → pending calls ≡ Some p
     → Waits ms last (deeds_of calls) p.bytes p.did
 calls_wait ms first last calls h c p k =
     let r : Reached ms last (deeds_of calls) (Some p) = subst (λ (q : Option Pending). Reached ms last (deeds_of calls) q) k (reached ms first last calls h c) in r.waits

@@ -1,33 +1,35 @@
--- The law: a master that stands for some deeds stands after an event for these and the next one, and answers as that one does.
+-- The law: a master that is after some deeds is, after an event, after these and the next one, and answers as that one does.
 use Rattle.std.proofs.Common.{◌≡◌, ◌≢◌, ℕ, List, [], Bool, Option, refl, sym, ap, subst, ◌∙◌}
 use Rattle.fsoe_base.specs.declared.command.State.{State}
 use Rattle.fsoe_base.specs.declared.command.State.TheVariants as state
 use Rattle.fsoe_base.specs.declared.did.Did.{Did}
+use Rattle.fsoe_base.specs.Did.{nothing}
 use Rattle.param_load.specs.declared.entry.Move.{Move}
 use Rattle.param_load.specs.declared.master_settings.MasterSettings.{MasterSettings}
 use Rattle.param_load.specs.declared.terms.Terms.{Terms}
 use Rattle.end_model.specs.Setup.{OfMaster}
-use Rattle.end_model.specs.Deed.{Deed}
+use Rattle.end_model.specs.Deed.{Deed, IsSetting}
 use Rattle.end_model.specs.Payloads.{terms}
 use Rattle.end_model.specs.Readiness.{state_of, age, told_in, told_terms, offer, held}
 use Rattle.end_model.specs.Step.{did_on, IsProper}
 use Rattle.end_model.specs.Outputs.{zeros, outputs, out}
-use Rattle.end_model.specs.Standing.{Stands, Follows, Answers, Shows}
+use Rattle.end_model.proofs.Runs.{set_deed}
 use Rattle.end_model.proofs.Shown.{looking_back, fail_safe}
 use Rattle.master_core.specs.Now as machine
 use Rattle.master_core.specs.After.{after}
 use Rattle.master_core.specs.Master.{first_master}
 use Rattle.master_core.specs.MasterView.{MasterView}
+use Rattle.master_core.specs.Standing.{MasterIsAfter, Follows, Answers, Shows}
 use Rattle.master_core.specs.ViewOf.{Notes, notes_of, now_in, view_of}
 use Rattle.master_core.proofs.Agrees.{Agrees, AreRead}
 use Rattle.master_core.proofs.Agreed.{agrees, run-sound}
 
-next : (ms : MasterSettings) (e : List Deed) (old : MasterView) (m : Move) → IsProper (OfMaster old.kit.settings) m → Stands OfMaster view_of ms old e → Agrees ms e m (did_on (OfMaster ms) e m) (after (view_of ms e) m)
+next : (ms : MasterSettings) (e : List Deed) (old : MasterView) (m : Move) → IsProper (OfMaster old.kit.settings) m → MasterIsAfter ms old e → Agrees ms e m (did_on (OfMaster ms) e m) (after (view_of ms e) m)
 next ms e old m p h = agrees ms e m (run-sound ms e h.reached) (subst (λ (v : MasterView). IsProper (OfMaster v.kit.settings) m) h.is p)
 
-pub follows_by : (old : MasterView) (m : Move) (new : MasterView) → IsProper (OfMaster old.kit.settings) m → AreRead m → new ≡ (after old m).master → Follows OfMaster view_of old m new
+pub follows_by : (old : MasterView) (m : Move) (new : MasterView) → IsProper (OfMaster old.kit.settings) m → AreRead m → new ≡ (after old m).master → Follows old m new
 follows_by old m new p bytes n = record {
-  stands = λ ms e h.
+  goes_on = λ ms e h.
       let a = next ms e old m p h in
       record {
         is = n ∙ ap (λ (v : MasterView). (after v m).master) h.is ∙ sym (a.view bytes);
@@ -35,15 +37,22 @@ follows_by old m new p bytes n = record {
       };
 }
 
-pub answers_by : (old : MasterView) (m : Move) (d : Did) (f : List ℕ) → IsProper (OfMaster old.kit.settings) m → d ≡ (after old m).did → f ≡ (after old m).sent → Answers OfMaster view_of old m d f
+pub answers_by : (old : MasterView) (m : Move) (d : Did) (f : List ℕ) → IsProper (OfMaster old.kit.settings) m → d ≡ (after old m).did → f ≡ (after old m).sent → Answers old m d f
 answers_by old m d f p i j = record {
   did = λ ms e h. let a = next ms e old m p h in i ∙ ap (λ (v : MasterView). (after v m).did) h.is ∙ sym a.did;
   sent = λ ms e h. let a = next ms e old m p h in j ∙ ap (λ (v : MasterView). (after v m).sent) h.is ∙ sym a.sent;
 }
 
--- a new master stands for no deed
-pub new_stands : (ms : MasterSettings) (v : MasterView) → v ≡ first_master ms → Stands OfMaster view_of ms v []
+-- a new master is after no deed
+pub new_stands : (ms : MasterSettings) (v : MasterView) → v ≡ first_master ms → MasterIsAfter ms v []
 new_stands ms v h = record { is = h; reached = tt }
+
+-- a put, a hold and a nonce do nothing else
+pub set_answers : (old : MasterView) (m : Move) (d : Did) (f : List ℕ) → IsSetting m → d ≡ nothing → f ≡ [] → Answers old m d f
+set_answers old m d f k i j = record {
+  did = λ ms e h. i ∙ ap (λ (x : Deed). x.did) (set_deed (OfMaster ms) e m k);
+  sent = λ ms e h. j ∙ ap (λ (x : Deed). x.sent) (set_deed (OfMaster ms) e m k);
+}
 
 -- what the readers show
 state-in : (p : State) (ms : MasterSettings) (n : Notes) → machine.state_of (now_in p ms n) ≡ p
@@ -53,7 +62,7 @@ state-in state.Connection ms n = refl
 state-in state.Parameter ms n = refl
 state-in state.Data ms n = refl
 
-pub state_shown : (v : MasterView) (shown : State) → shown ≡ machine.state_of v.state → Shows OfMaster view_of v shown state_of
+pub state_shown : (v : MasterView) (shown : State) → shown ≡ machine.state_of v.state → Shows v shown state_of
 state_shown v shown i = record { shows = λ ms e h. i ∙ ap (λ (v : MasterView). machine.state_of v.state) h.is ∙ state-in (state_of (OfMaster ms) e) ms (notes_of ms e) }
 
 terms-in : (p : State) (ms : MasterSettings) (e : List Deed) → machine.terms_shown_in (now_in p ms (notes_of ms e)) ≡ told_in p (terms (OfMaster ms) e)
@@ -63,7 +72,7 @@ terms-in state.Connection ms e = refl
 terms-in state.Parameter ms e = refl
 terms-in state.Data ms e = refl
 
-pub terms_shown : (v : MasterView) (shown : Option Terms) → shown ≡ machine.terms_shown_in v.state → Shows OfMaster view_of v shown told_terms
+pub terms_shown : (v : MasterView) (shown : Option Terms) → shown ≡ machine.terms_shown_in v.state → Shows v shown told_terms
 terms_shown v shown i = record { shows = λ ms e h. i ∙ ap (λ (v : MasterView). machine.terms_shown_in v.state) h.is ∙ terms-in (state_of (OfMaster ms) e) ms e }
 
 outputs-in : (p : State) (ms : MasterSettings) (e : List Deed) → (p ≢ state.Data → outputs (OfMaster ms) e ≡ zeros (OfMaster ms)) → machine.outputs_in ms (now_in p ms (notes_of ms e)) ≡ outputs (OfMaster ms) e
@@ -73,7 +82,7 @@ outputs-in state.Connection ms e h = sym (h (λ k. cc))
 outputs-in state.Parameter ms e h = sym (h (λ k. cc))
 outputs-in state.Data ms e h = refl
 
-pub outputs_shown : (v : MasterView) (shown : List ℕ) → shown ≡ machine.outputs_in v.kit.settings v.state → Shows OfMaster view_of v shown out
+pub outputs_shown : (v : MasterView) (shown : List ℕ) → shown ≡ machine.outputs_in v.kit.settings v.state → Shows v shown out
 outputs_shown v shown i = record {
   shows = λ ms e h.
       i
@@ -82,11 +91,11 @@ outputs_shown v shown i = record {
       ∙ looking_back (OfMaster ms) e h.reached;
 }
 
-pub age_shown : (v : MasterView) (shown : ℕ) → shown ≡ v.timer.age → Shows OfMaster view_of v shown age
+pub age_shown : (v : MasterView) (shown : ℕ) → shown ≡ v.timer.age → Shows v shown age
 age_shown v shown i = record { shows = λ ms e h. i ∙ ap (λ (v : MasterView). v.timer.age) h.is }
 
-pub offer_shown : (v : MasterView) (shown : List ℕ) → shown ≡ v.kit.offer.load → Shows OfMaster view_of v shown offer
+pub offer_shown : (v : MasterView) (shown : List ℕ) → shown ≡ v.kit.offer.load → Shows v shown offer
 offer_shown v shown i = record { shows = λ ms e h. i ∙ ap (λ (v : MasterView). v.kit.offer.load) h.is }
 
-pub held_shown : (v : MasterView) (shown : Bool) → shown ≡ v.kit.offer.held → Shows OfMaster view_of v shown (λ s e. held e)
+pub held_shown : (v : MasterView) (shown : Bool) → shown ≡ v.kit.offer.held → Shows v shown (λ s e. held e)
 held_shown v shown i = record { shows = λ ms e h. i ∙ ap (λ (v : MasterView). v.kit.offer.held) h.is }

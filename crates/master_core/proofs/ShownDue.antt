@@ -22,7 +22,6 @@ use Rattle.end_model.specs.Setup.{Setup, OfMaster, receives}
 use Rattle.end_model.specs.Deed.{Deed}
 use Rattle.end_model.specs.Outputs.{out}
 use Rattle.end_model.specs.Readiness.{state_of, age, told_terms, offer, held}
-use Rattle.end_model.specs.Standing.{Shows}
 use Rattle.end_model.specs.Step.{step}
 use Rattle.end_model.specs.Verdict.{is_repeat}
 use Rattle.master_core.specs.declared.due.Next.{Next}
@@ -34,13 +33,14 @@ use Rattle.master_core.specs.Master.{Accepted, drops, makes_due, ends, begins, s
 use Rattle.master_core.specs.MasterView.{MasterView}
 use Rattle.master_core.specs.Now as machine
 use Rattle.master_core.specs.Now.{is_reset, is_due, kept_in, fault, next_state}
+use Rattle.master_core.specs.Standing.{Shows}
 use Rattle.master_core.specs.ViewOf.{Notes, notes_of, now_in, view_of}
 use Rattle.master_core.specs.Waiting.{Waits, ShowsDue}
 use Rattle.master_core.proofs.Law.{state_shown, terms_shown, outputs_shown, age_shown, offer_shown, held_shown}
 use Rattle.master_core.proofs.Waiting.{replies_by}
 
 -- what the master after the reply shows
-shows-due : {X : Type 0} (v : MasterView) (shown : X) (word : Setup → List Deed → X) → Shows OfMaster view_of (replies v) shown word → ShowsDue v shown word
+shows-due : {X : Type 0} (v : MasterView) (shown : X) (word : Setup → List Deed → X) → Shows (replies v) shown word → ShowsDue v shown word
 shows-due v shown word h = record {
   shows = λ ms e bytes done w. h.shows ms (step (OfMaster ms) e (move.Deliver bytes) ∷ e) ((replies_by v (replies v) (machine.reply v.kit v.state) refl refl).stands ms e bytes done w);
 }

@@ -24,7 +24,6 @@ use Rattle.seq_chain.specs.Opened.{opened}
 use Rattle.seq_chain.specs.SessionFrame.{SessionFrameView}
 use Rattle.end_model.specs.Setup.{OfMaster, receives}
 use Rattle.end_model.specs.Deed.{Deed}
-use Rattle.end_model.specs.Standing.{Stands}
 use Rattle.end_model.specs.Step.{did_on, IsProper}
 use Rattle.master_core.specs.declared.due.Next.{Next}
 use Rattle.master_core.specs.declared.due.Next.TheVariants as next
@@ -39,6 +38,7 @@ use Rattle.master_core.specs.MasterView.{MasterView}
 use Rattle.master_core.specs.Now.{is_reset, is_due, kept_in, fault, next_state, replied, reply}
 use Rattle.master_core.specs.States.{answered, session_by, connection_by, parameter_by}
 use Rattle.master_core.specs.Views.{ExchangeView}
+use Rattle.master_core.specs.Standing.{MasterIsAfter}
 use Rattle.master_core.specs.ViewOf.{kit_of, view_of}
 use Rattle.master_core.specs.Waiting.{Accepts, Keeps, Replies}
 use Rattle.master_core.proofs.Agrees.{Agrees, AreRead}
@@ -126,7 +126,7 @@ unsent took passed sent reset dropped h = ap (λ (b : Bool). did_at took passed 
 same_state : (v : MasterView) (s : Now) → s ≡ v.state → record v { state = s } ≡ v
 same_state v s h = rw h refl
 
-delivery : (ms : MasterSettings) (e : List Deed) (old : MasterView) (bytes : List ℕ) → Stands OfMaster view_of ms old e → Agrees ms e (move.Deliver bytes) (did_on (OfMaster ms) e (move.Deliver bytes)) (after (view_of ms e) (move.Deliver bytes))
+delivery : (ms : MasterSettings) (e : List Deed) (old : MasterView) (bytes : List ℕ) → MasterIsAfter ms old e → Agrees ms e (move.Deliver bytes) (did_on (OfMaster ms) e (move.Deliver bytes)) (after (view_of ms e) (move.Deliver bytes))
 delivery ms e old bytes h = agrees ms e (move.Deliver bytes) (run-sound ms e h.reached) tt
 
 pub accepts_by : (old : MasterView) (bytes : List ℕ) (done : Did) (new : MasterView) → AreBytes bytes → new ≡ (accepted old bytes).master → done ≡ (accepted old bytes).did → done.sent ≡ false → Accepts old bytes done new

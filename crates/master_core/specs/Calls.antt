@@ -4,13 +4,11 @@ use Rattle.fsoe_base.specs.declared.did.Did.{Did}
 use Rattle.fsoe_base.specs.Did.{nothing}
 use Rattle.param_load.specs.declared.entry.Move.{Move}
 use Rattle.param_load.specs.declared.entry.Move.TheVariants as move
-use Rattle.end_model.specs.Setup.{OfMaster}
-use Rattle.end_model.specs.Deed.{Deed}
-use Rattle.end_model.specs.Standing.{Follows, Answers}
+use Rattle.end_model.specs.Deed.{Deed, IsSetting}
 use Rattle.end_model.specs.Step.{begun}
 use Rattle.master_core.specs.MasterView.{MasterView}
 use Rattle.master_core.specs.Now.{is_due}
-use Rattle.master_core.specs.ViewOf.{view_of}
+use Rattle.master_core.specs.Standing.{Follows, Answers}
 use Rattle.master_core.specs.Waiting.{Accepts, Keeps, Replies}
 
 -- a call of a master, with what it told: `deliver`, `tick` or `reset` with its deed; `put`, `hold` or `nonce`; `accept` of these bytes;
@@ -21,24 +19,17 @@ pub data Call : Type 0 where
   Accept : List ℕ → Did → Call
   Reply : List ℕ → Call
 
--- an event sets the offer, the hold or the nonce
-abbrev pub IsSetting : Move → Type 0
-IsSetting (move.Put load) = Unit {0}
-IsSetting (move.Hold failsafe) = Unit {0}
-IsSetting (move.Nonce id) = Unit {0}
-IsSetting _ = ⊥
-
 -- what `deliver`, `tick` and `reset` ensure: while no frame is due the master goes on by this deed, and none is due then
 pub record MadeEvent (old : MasterView) (x : Deed) (new : MasterView) : Type 0 where
   pub rest : is_due old.state ≡ false
-  pub follows : Follows OfMaster view_of old x.what new
-  pub answers : Answers OfMaster view_of old x.what x.did x.sent
+  pub follows : Follows old x.what new
+  pub answers : Answers old x.what x.did x.sent
   pub done : is_due new.state ≡ false
 
 -- what `put`, `hold` and `nonce` ensure: the event counts now, or before the delivery whose frame is due, which stays due
 pub record MadeSetting (old : MasterView) (event : Move) (new : MasterView) : Type 0 where
   pub sets : IsSetting event
-  pub follows : Follows OfMaster view_of old event new
+  pub follows : Follows old event new
   pub keeps : Keeps old event new
   pub due : is_due new.state ≡ is_due old.state
 

@@ -7,11 +7,11 @@ use Rattle.param_load.specs.declared.entry.Move.TheVariants as move
 use Rattle.param_load.specs.declared.master_settings.MasterSettings.{MasterSettings}
 use Rattle.end_model.specs.Setup.{Setup, OfMaster}
 use Rattle.end_model.specs.Deed.{Deed}
-use Rattle.end_model.specs.Standing.{Stands}
 use Rattle.end_model.specs.Step.{step, IsRun}
 use Rattle.master_core.specs.Master.{accepted}
 use Rattle.master_core.specs.MasterView.{MasterView}
 use Rattle.master_core.specs.Now.{is_due}
+use Rattle.master_core.specs.Standing.{MasterIsAfter}
 use Rattle.master_core.specs.ViewOf.{view_of}
 
 -- a master that accepted these bytes after these deeds, and then told this
@@ -24,10 +24,10 @@ pub record Waits (settings : MasterSettings) (v : MasterView) (e : List Deed) (b
 -- a master that stood for some deeds accepted these bytes: it did what the delivery does but for the sending; it waits, or stands for
 -- these deeds and the delivery where nothing is due
 pub record Accepts (old : MasterView) (bytes : List ℕ) (done : Did) (new : MasterView) : Type 0 where
-  pub did : (settings : MasterSettings) (e : List Deed) → Stands OfMaster view_of settings old e → done ≡ record (step (OfMaster settings) e (move.Deliver bytes)).did { sent = false }
-  pub waits : (settings : MasterSettings) (e : List Deed) → Stands OfMaster view_of settings old e → Waits settings new e bytes done
-  pub stands : (settings : MasterSettings) (e : List Deed) → Stands OfMaster view_of settings old e → is_due new.state ≡ false
-      → Stands OfMaster view_of settings new (step (OfMaster settings) e (move.Deliver bytes) ∷ e)
+  pub did : (settings : MasterSettings) (e : List Deed) → MasterIsAfter settings old e → done ≡ record (step (OfMaster settings) e (move.Deliver bytes)).did { sent = false }
+  pub waits : (settings : MasterSettings) (e : List Deed) → MasterIsAfter settings old e → Waits settings new e bytes done
+  pub stands : (settings : MasterSettings) (e : List Deed) → MasterIsAfter settings old e → is_due new.state ≡ false
+      → MasterIsAfter settings new (step (OfMaster settings) e (move.Deliver bytes) ∷ e)
 
 -- a master that waited after some deeds waits after these and this event, as if the event had come before the frame
 pub record Keeps (old : MasterView) (event : Move) (new : MasterView) : Type 0 where
@@ -36,7 +36,7 @@ pub record Keeps (old : MasterView) (event : Move) (new : MasterView) : Type 0 w
 -- a master that waited after some deeds stands for these and the delivery of the bytes, and did and sent what the delivery does and sends
 pub record Replies (old : MasterView) (new : MasterView) (frame : List ℕ) : Type 0 where
   pub stands : (settings : MasterSettings) (e : List Deed) (bytes : List ℕ) (done : Did) → Waits settings old e bytes done
-      → Stands OfMaster view_of settings new (step (OfMaster settings) e (move.Deliver bytes) ∷ e)
+      → MasterIsAfter settings new (step (OfMaster settings) e (move.Deliver bytes) ∷ e)
   pub did : (settings : MasterSettings) (e : List Deed) (bytes : List ℕ) (done : Did) → Waits settings old e bytes done
       → (step (OfMaster settings) e (move.Deliver bytes)).did ≡ record done { sent = is_due old.state }
   pub sent : (settings : MasterSettings) (e : List Deed) (bytes : List ℕ) (done : Did) → Waits settings old e bytes done → frame ≡ (step (OfMaster settings) e (move.Deliver bytes)).sent

@@ -37,7 +37,6 @@ impl Master {
     ghost use Rattle.param_load.specs.Profile.{allows_id};
     ghost use Rattle.master_core.specs.Master.{makes_due, ends, refuses, on_reset_view, settles, accepted, replies, on_frame, falls, tick_of};
     ghost use Rattle.master_core.specs.Now.{NextUnder, chain_of, is_due, next_state, reply};
-    ghost use Rattle.master_core.specs.ViewOf.{view_of};
     ghost use Rattle.param_load.specs.declared.entry.Move.TheVariants as event;
     ghost use Rattle.fsoe_base.specs.declared.did.Did.{Did};
     ghost use Rattle.seq_chain.specs.SessionFrame.{HasPassed};
@@ -47,14 +46,14 @@ impl Master {
     ghost use Rattle.end_model.specs.Setup.{OfMaster, sends, receives};
     ghost use Rattle.end_model.specs.Readiness as model;
     ghost use Rattle.end_model.specs.Outputs.{out};
-    ghost use Rattle.end_model.specs.Standing.{Stands, Follows, Answers, Shows};
+    ghost use Rattle.master_core.specs.Standing.{MasterIsAfter, Follows, Answers, Shows};
     ghost use Rattle.master_core.specs.Waiting.{Waits, Accepts, Keeps, Replies, ShowsDue};
 
     /// A master with these settings: in state Reset, with zeros to offer and to give, and not held. Its first tick
     /// reaches its limit.
     #[tactic(auto, using(crate::proofs::Law::new_stands))]
     pub fn new(settings: MasterSettings) -> Master
-        ensures stands { Stands OfMaster view_of settings result [] }
+        ensures stands { MasterIsAfter settings result [] }
         ensures settings { result.kit.settings ≡ settings }
         ensures rest { is_due result.state ≡ false }
     {
@@ -288,8 +287,8 @@ impl Master {
     /// `out` is empty where nothing is sent.
     pub fn deliver(&mut self, frame: &[u8], out: &mut FrameBuf) -> Did
         requires { is_due self.old.state ≡ false }
-        ensures follows { Follows OfMaster view_of self.old (event.Deliver frame.now) self.new }
-        ensures answers { Answers OfMaster view_of self.old (event.Deliver frame.now) result out.new }
+        ensures follows { Follows self.old (event.Deliver frame.now) self.new }
+        ensures answers { Answers self.old (event.Deliver frame.now) result out.new }
         ensures kit { self.new.kit ≡ self.old.kit }
         ensures done { is_due self.new.state ≡ false }
     {
@@ -340,8 +339,8 @@ impl Master {
     #[tactic(auto, using(crate::proofs::Law::follows_by, crate::proofs::Law::answers_by))]
     pub fn tick(&mut self, out: &mut FrameBuf) -> Did
         requires { is_due self.old.state ≡ false }
-        ensures follows { Follows OfMaster view_of self.old event.Tick self.new }
-        ensures answers { Answers OfMaster view_of self.old event.Tick result out.new }
+        ensures follows { Follows self.old event.Tick self.new }
+        ensures answers { Answers self.old event.Tick result out.new }
         ensures kit { self.new.kit ≡ self.old.kit }
         ensures done { is_due self.new.state ≡ false }
     {
@@ -352,8 +351,8 @@ impl Master {
     #[tactic(auto, using(crate::proofs::Law::follows_by, crate::proofs::Law::answers_by))]
     pub fn reset(&mut self, out: &mut FrameBuf) -> Did
         requires { is_due self.old.state ≡ false }
-        ensures follows { Follows OfMaster view_of self.old event.Local self.new }
-        ensures answers { Answers OfMaster view_of self.old event.Local result out.new }
+        ensures follows { Follows self.old event.Local self.new }
+        ensures answers { Answers self.old event.Local result out.new }
         ensures kit { self.new.kit ≡ self.old.kit }
         ensures done { is_due self.new.state ≡ false }
     {
@@ -365,7 +364,7 @@ impl Master {
     #[tactic(auto, using(crate::proofs::Law::follows_by, crate::proofs::Waiting::put_keeps))]
     pub fn put(&mut self, load: &[u8])
         requires { length load.now ≡ sends (OfMaster self.old.kit.settings) }
-        ensures follows { Follows OfMaster view_of self.old (event.Put load.now) self.new }
+        ensures follows { Follows self.old (event.Put load.now) self.new }
         ensures keeps { Keeps self.old (event.Put load.now) self.new }
         ensures settings { self.new.kit.settings ≡ self.old.kit.settings }
         ensures due { is_due self.new.state ≡ is_due self.old.state }
@@ -376,7 +375,7 @@ impl Master {
     /// Whether zeros are sent in place of the offer from now on, also in a frame that is due. It outlasts resets.
     #[tactic(auto, using(crate::proofs::Law::follows_by, crate::proofs::Waiting::hold_keeps))]
     pub fn hold(&mut self, failsafe: bool)
-        ensures follows { Follows OfMaster view_of self.old (event.Hold failsafe) self.new }
+        ensures follows { Follows self.old (event.Hold failsafe) self.new }
         ensures keeps { Keeps self.old (event.Hold failsafe) self.new }
         ensures settings { self.new.kit.settings ≡ self.old.kit.settings }
         ensures due { is_due self.new.state ≡ is_due self.old.state }
@@ -389,7 +388,7 @@ impl Master {
     #[tactic(auto, using(crate::proofs::Law::follows_by, crate::proofs::Waiting::nonce_keeps))]
     pub fn nonce(&mut self, id: u32)
         requires { IsTrue (allows_id self.old.kit.settings.profile id) }
-        ensures follows { Follows OfMaster view_of self.old (event.Nonce id) self.new }
+        ensures follows { Follows self.old (event.Nonce id) self.new }
         ensures keeps { Keeps self.old (event.Nonce id) self.new }
         ensures settings { self.new.kit.settings ≡ self.old.kit.settings }
         ensures due { is_due self.new.state ≡ is_due self.old.state }
@@ -408,7 +407,7 @@ impl Master {
     /// is due it counts as sent.
     #[tactic(auto, using(crate::proofs::Law::state_shown, crate::proofs::ShownDue::state_due))]
     pub fn state(&self) -> State
-        ensures shown { Shows OfMaster view_of self.now result model.state_of }
+        ensures shown { Shows self.now result model.state_of }
         ensures shown_due { ShowsDue self.now result model.state_of }
     {
         self.state.state()
@@ -418,7 +417,7 @@ impl Master {
     /// zeros after a FailSafeData frame, and zeros in every state but Data.
     #[tactic(auto, using(crate::proofs::Law::outputs_shown, crate::proofs::ShownDue::outputs_due))]
     pub fn outputs(&self) -> &[u8]
-        ensures shown { Shows OfMaster view_of self.now result.now out }
+        ensures shown { Shows self.now result.now out }
         ensures shown_due { ShowsDue self.now result.now out }
         ensures len { length result.now ≡ receives (OfMaster self.now.kit.settings) }
         ensures most { length result.now ≤ 126 }
@@ -429,7 +428,7 @@ impl Master {
     /// The terms of the session, exactly in state Data.
     #[tactic(auto, using(crate::proofs::Law::terms_shown, crate::proofs::ShownDue::terms_due))]
     pub fn terms(&self) -> Option<&Terms>
-        ensures shown { Shows OfMaster view_of self.now (option_copied result) model.told_terms }
+        ensures shown { Shows self.now (option_copied result) model.told_terms }
         ensures shown_due { ShowsDue self.now (option_copied result) model.told_terms }
     {
         self.state.terms()
@@ -438,7 +437,7 @@ impl Master {
     /// The ticks since the last frame was sent, 0 while a frame is due. That of a new master is its watchdog less 1.
     #[tactic(auto, using(crate::proofs::Law::age_shown, crate::proofs::ShownDue::age_due))]
     pub fn age(&self) -> u16
-        ensures shown { Shows OfMaster view_of self.now result model.age }
+        ensures shown { Shows self.now result model.age }
         ensures shown_due { ShowsDue self.now result model.age }
         ensures zero_while_due { (settings : MasterSettings) (e : List Deed) (bytes : List ℕ) (done : Did) → Waits settings self.now e bytes done → IsTrue (is_due self.now.state) → result ≡ 0 }
     {
@@ -448,7 +447,7 @@ impl Master {
     /// The safe data that were put last, zeros at first.
     #[tactic(auto, using(crate::proofs::Law::offer_shown, crate::proofs::ShownDue::offer_due))]
     pub fn offer(&self) -> &[u8]
-        ensures shown { Shows OfMaster view_of self.now result.now model.offer }
+        ensures shown { Shows self.now result.now model.offer }
         ensures shown_due { ShowsDue self.now result.now model.offer }
         ensures len { length result.now ≡ sends (OfMaster self.now.kit.settings) }
     {
@@ -458,7 +457,7 @@ impl Master {
     /// Whether zeros are sent in place of the offer.
     #[tactic(auto, using(crate::proofs::Law::held_shown, crate::proofs::ShownDue::held_due))]
     pub fn held(&self) -> bool
-        ensures shown { Shows OfMaster view_of self.now result (λ s e. model.held e) }
+        ensures shown { Shows self.now result (λ s e. model.held e) }
         ensures shown_due { ShowsDue self.now result (λ s e. model.held e) }
     {
         self.kit.offer().held()

@@ -13,10 +13,9 @@ use Rattle.file_run.specs.declared.event.Grammar.{Grammar}
 use Rattle.end_model.specs.Setup.{Setup, OfMaster, OfSlave}
 use Rattle.end_model.specs.Deed.{Deed}
 use Rattle.end_model.specs.Step.{step}
-use Rattle.end_model.specs.Standing.{Stands}
 use Rattle.master_core.specs.Now.{is_due}
-use Rattle.master_core.specs.ViewOf as master_core
-use Rattle.slave_core.specs.ViewOf as slave_core
+use Rattle.master_core.specs.Standing.{MasterIsAfter}
+use Rattle.slave_core.specs.Standing.{SlaveIsAfter}
 use Rattle.node_runner.specs.declared.node.Node.{Node}
 use Rattle.node_runner.specs.declared.node.Node.TheVariants as node
 
@@ -47,8 +46,8 @@ IsReady (node.Slave slave) = Unit {0}
 
 -- a node stands for these deeds of an end that is set so
 abbrev pub NodeStands : Node → Setup → List Deed → Type 0
-NodeStands (node.Master master) (OfMaster ms) e = Stands OfMaster master_core.view_of ms master e
-NodeStands (node.Slave slave) (OfSlave ss) e = Stands OfSlave slave_core.view_of ss slave e
+NodeStands (node.Master master) (OfMaster ms) e = MasterIsAfter ms master e
+NodeStands (node.Slave slave) (OfSlave ss) e = SlaveIsAfter ss slave e
 NodeStands (node.Master master) (OfSlave ss) e = ⊥
 NodeStands (node.Slave slave) (OfMaster ms) e = ⊥
 

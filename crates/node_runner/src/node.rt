@@ -8,11 +8,9 @@ ghost use Rattle.node_runner.specs.Report.{entry_line};
 ghost use Rattle.node_runner.specs.Move.{move_of};
 ghost use Rattle.end_model.specs.Outputs.{out};
 ghost use Rattle.end_model.specs.Readiness.{state_of};
-ghost use Rattle.end_model.specs.Setup.{OfMaster, OfSlave};
-ghost use Rattle.end_model.specs.Standing.{Follows, Answers};
 ghost use Rattle.master_core.specs.Now.{is_due};
-ghost use Rattle.master_core.specs.ViewOf as master_core;
-ghost use Rattle.slave_core.specs.ViewOf as slave_core;
+ghost use Rattle.master_core.specs.Standing as master_core;
+ghost use Rattle.slave_core.specs.Standing as slave_core;
 
 use entry_text::push_entry;
 use file_run::Grammar;
@@ -31,12 +29,12 @@ pub enum Node {
 }
 
 /// One event at a master. The frame that it sends is written to `sent`, which is empty where it sends none.
-#[tactic(auto, using(end_model::proofs::Settings::put_answers, end_model::proofs::Settings::hold_answers, end_model::proofs::Settings::nonce_answers))]
+#[tactic(auto, using(master_core::proofs::Law::set_answers))]
 fn step_master(master: &mut Master, event: &Event, sent: &mut FrameBuf) -> Did
     requires fits { FitsNode side.Master master.old.kit.settings.lengths master.old.kit.settings.profile event.now }
     requires rest { is_due master.old.state ≡ false }
-    ensures follows { Follows OfMaster master_core.view_of master.old (move_of event.now) master.new }
-    ensures answers { Answers OfMaster master_core.view_of master.old (move_of event.now) result sent.new }
+    ensures follows { master_core.Follows master.old (move_of event.now) master.new }
+    ensures answers { master_core.Answers master.old (move_of event.now) result sent.new }
     ensures rest { is_due master.new.state ≡ false }
 {
     match event {
@@ -63,11 +61,11 @@ fn step_master(master: &mut Master, event: &Event, sent: &mut FrameBuf) -> Did
 }
 
 /// The same at a slave.
-#[tactic(auto, using(end_model::proofs::Settings::put_answers, end_model::proofs::Settings::hold_answers, end_model::proofs::Settings::nonce_answers))]
+#[tactic(auto, using(slave_core::proofs::Law::set_answers))]
 fn step_slave(slave: &mut Slave, event: &Event, sent: &mut FrameBuf) -> Did
     requires { FitsNode side.Slave slave.old.kit.settings.lengths slave.old.kit.settings.profile event.now }
-    ensures follows { Follows OfSlave slave_core.view_of slave.old (move_of event.now) slave.new }
-    ensures answers { Answers OfSlave slave_core.view_of slave.old (move_of event.now) result sent.new }
+    ensures follows { slave_core.Follows slave.old (move_of event.now) slave.new }
+    ensures answers { slave_core.Answers slave.old (move_of event.now) result sent.new }
 {
     match event {
         Event::Raw { frame, .. } => slave.deliver(frame.bytes(), sent),

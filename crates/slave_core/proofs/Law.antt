@@ -1,34 +1,35 @@
--- The law: a slave that stands for some deeds stands after an event for these and the next one, and answers as that one does.
-use Rattle.std.proofs.Common.{◌≡◌, ◌≢◌, ℕ, List, [], Bool, Option, refl, sym, ap, subst, ◌∙◌}
+-- The law: a slave that is after some deeds is, after an event, after these and the next one, and answers as that one does.
+use Rattle.std.proofs.Common.{◌≡◌, ◌≢◌, ℕ, List, [], ◌∷◌, Bool, Option, refl, sym, ap, subst, ◌∙◌}
 use Rattle.fsoe_base.specs.declared.command.State.{State}
 use Rattle.fsoe_base.specs.declared.command.State.TheVariants as state
 use Rattle.fsoe_base.specs.declared.did.Did.{Did}
+use Rattle.fsoe_base.specs.Did.{nothing}
 use Rattle.param_load.specs.declared.entry.Move.{Move}
 use Rattle.param_load.specs.declared.slave_settings.SlaveSettings.{SlaveSettings}
 use Rattle.param_load.specs.declared.terms.Terms.{Terms}
 use Rattle.end_model.specs.Setup.{OfSlave}
-use Rattle.end_model.specs.Deed.{Deed}
+use Rattle.end_model.specs.Deed.{Deed, IsSetting, events_of}
 use Rattle.end_model.specs.Payloads.{terms}
 use Rattle.end_model.specs.Readiness.{state_of, age, told_in, told_terms, offer, held}
 use Rattle.end_model.specs.Step.{did_on, run, IsProper}
 use Rattle.end_model.specs.Outputs.{zeros, outputs, out}
-use Rattle.end_model.specs.Standing.{Stands, Follows, Answers, Shows, Called, events_of}
-use Rattle.end_model.proofs.Calls.{stands_called, run_called}
+use Rattle.end_model.proofs.Runs.{same_deed, set_deed, run_of_events}
 use Rattle.end_model.proofs.Shown.{looking_back, fail_safe}
 use Rattle.slave_core.specs.Now as machine
 use Rattle.slave_core.specs.After.{after}
 use Rattle.slave_core.specs.Slave.{first_slave}
 use Rattle.slave_core.specs.SlaveView.{SlaveView}
+use Rattle.slave_core.specs.Standing.{SlaveIsAfter, Follows, Answers, Shows, Called}
 use Rattle.slave_core.specs.ViewOf.{Notes, notes_of, now_in, view_of}
 use Rattle.slave_core.proofs.Agrees.{Agrees, AreRead, same_slave, fresh_limit}
 use Rattle.slave_core.proofs.Agreed.{agrees, run-sound}
 
-next : (ss : SlaveSettings) (e : List Deed) (old : SlaveView) (m : Move) → IsProper (OfSlave old.kit.settings) m → Stands OfSlave view_of ss old e → Agrees ss e m (did_on (OfSlave ss) e m) (after (view_of ss e) m)
+next : (ss : SlaveSettings) (e : List Deed) (old : SlaveView) (m : Move) → IsProper (OfSlave old.kit.settings) m → SlaveIsAfter ss old e → Agrees ss e m (did_on (OfSlave ss) e m) (after (view_of ss e) m)
 next ss e old m p h = agrees ss e m (run-sound ss e h.reached) h.reached (subst (λ (v : SlaveView). IsProper (OfSlave v.kit.settings) m) h.is p)
 
-pub follows_by : (old : SlaveView) (m : Move) (new : SlaveView) → IsProper (OfSlave old.kit.settings) m → AreRead m → new ≡ (after old m).slave → Follows OfSlave view_of old m new
+pub follows_by : (old : SlaveView) (m : Move) (new : SlaveView) → IsProper (OfSlave old.kit.settings) m → AreRead m → new ≡ (after old m).slave → Follows old m new
 follows_by old m new p bytes n = record {
-  stands = λ ss e h.
+  goes_on = λ ss e h.
       let a = next ss e old m p h in
       record {
         is = n ∙ ap (λ (v : SlaveView). (after v m).slave) h.is ∙ sym (a.view bytes);
@@ -36,14 +37,14 @@ follows_by old m new p bytes n = record {
       };
 }
 
-pub answers_by : (old : SlaveView) (m : Move) (d : Did) (f : List ℕ) → IsProper (OfSlave old.kit.settings) m → d ≡ (after old m).did → f ≡ (after old m).sent → Answers OfSlave view_of old m d f
+pub answers_by : (old : SlaveView) (m : Move) (d : Did) (f : List ℕ) → IsProper (OfSlave old.kit.settings) m → d ≡ (after old m).did → f ≡ (after old m).sent → Answers old m d f
 answers_by old m d f p i j = record {
   did = λ ss e h. let a = next ss e old m p h in i ∙ ap (λ (v : SlaveView). (after v m).did) h.is ∙ sym a.did;
   sent = λ ss e h. let a = next ss e old m p h in j ∙ ap (λ (v : SlaveView). (after v m).sent) h.is ∙ sym a.sent;
 }
 
--- a new slave stands for no deed
-pub new_stands : (ss : SlaveSettings) (v : SlaveView) → v ≡ first_slave ss → Stands OfSlave view_of ss v []
+-- a new slave is after no deed
+pub new_stands : (ss : SlaveSettings) (v : SlaveView) → v ≡ first_slave ss → SlaveIsAfter ss v []
 new_stands ss v h = record { is = h ∙ same_slave _ _ _ _ _ _ _ _ refl refl (sym (fresh_limit ss)) refl; reached = tt }
 
 -- what the readers show
@@ -54,7 +55,7 @@ state-in state.Connection ss n = refl
 state-in state.Parameter ss n = refl
 state-in state.Data ss n = refl
 
-pub state_shown : (v : SlaveView) (shown : State) → shown ≡ machine.state_of v.state → Shows OfSlave view_of v shown state_of
+pub state_shown : (v : SlaveView) (shown : State) → shown ≡ machine.state_of v.state → Shows v shown state_of
 state_shown v shown i = record { shows = λ ss e h. i ∙ ap (λ (v : SlaveView). machine.state_of v.state) h.is ∙ state-in (state_of (OfSlave ss) e) ss (notes_of ss e) }
 
 terms-in : (p : State) (ss : SlaveSettings) (e : List Deed) → machine.terms_shown_in (now_in p ss (notes_of ss e)) ≡ told_in p (terms (OfSlave ss) e)
@@ -64,7 +65,7 @@ terms-in state.Connection ss e = refl
 terms-in state.Parameter ss e = refl
 terms-in state.Data ss e = refl
 
-pub terms_shown : (v : SlaveView) (shown : Option Terms) → shown ≡ machine.terms_shown_in v.state → Shows OfSlave view_of v shown told_terms
+pub terms_shown : (v : SlaveView) (shown : Option Terms) → shown ≡ machine.terms_shown_in v.state → Shows v shown told_terms
 terms_shown v shown i = record { shows = λ ss e h. i ∙ ap (λ (v : SlaveView). machine.terms_shown_in v.state) h.is ∙ terms-in (state_of (OfSlave ss) e) ss e }
 
 outputs-in : (p : State) (ss : SlaveSettings) (e : List Deed) → (p ≢ state.Data → outputs (OfSlave ss) e ≡ zeros (OfSlave ss)) → machine.outputs_in ss (now_in p ss (notes_of ss e)) ≡ outputs (OfSlave ss) e
@@ -74,7 +75,7 @@ outputs-in state.Connection ss e h = sym (h (λ k. cc))
 outputs-in state.Parameter ss e h = sym (h (λ k. cc))
 outputs-in state.Data ss e h = refl
 
-pub outputs_shown : (v : SlaveView) (shown : List ℕ) → shown ≡ machine.outputs_in v.kit.settings v.state → Shows OfSlave view_of v shown out
+pub outputs_shown : (v : SlaveView) (shown : List ℕ) → shown ≡ machine.outputs_in v.kit.settings v.state → Shows v shown out
 outputs_shown v shown i = record {
   shows = λ ss e h.
       i
@@ -83,18 +84,30 @@ outputs_shown v shown i = record {
       ∙ looking_back (OfSlave ss) e h.reached;
 }
 
-pub age_shown : (v : SlaveView) (shown : ℕ) → shown ≡ v.timer.age → Shows OfSlave view_of v shown age
+pub age_shown : (v : SlaveView) (shown : ℕ) → shown ≡ v.timer.age → Shows v shown age
 age_shown v shown i = record { shows = λ ss e h. i ∙ ap (λ (v : SlaveView). v.timer.age) h.is }
 
-pub offer_shown : (v : SlaveView) (shown : List ℕ) → shown ≡ v.kit.offer.load → Shows OfSlave view_of v shown offer
+pub offer_shown : (v : SlaveView) (shown : List ℕ) → shown ≡ v.kit.offer.load → Shows v shown offer
 offer_shown v shown i = record { shows = λ ss e h. i ∙ ap (λ (v : SlaveView). v.kit.offer.load) h.is }
 
-pub held_shown : (v : SlaveView) (shown : Bool) → shown ≡ v.kit.offer.held → Shows OfSlave view_of v shown (λ s e. held e)
+pub held_shown : (v : SlaveView) (shown : Bool) → shown ≡ v.kit.offer.held → Shows v shown (λ s e. held e)
 held_shown v shown i = record { shows = λ ss e h. i ∙ ap (λ (v : SlaveView). v.kit.offer.held) h.is }
 
--- all calls of a slave
-pub slave_stands : (ss : SlaveSettings) (first last : SlaveView) (e : List Deed) → Stands OfSlave view_of ss first [] → Called OfSlave view_of first e last → Stands OfSlave view_of ss last e
-slave_stands ss first last e h c = stands_called OfSlave view_of ss first last e h c
+-- a put, a hold and a nonce do nothing else
+pub set_answers : (old : SlaveView) (m : Move) (d : Did) (f : List ℕ) → IsSetting m → d ≡ nothing → f ≡ [] → Answers old m d f
+set_answers old m d f k i j = record {
+  did = λ ss e h. i ∙ ap (λ (x : Deed). x.did) (set_deed (OfSlave ss) e m k);
+  sent = λ ss e h. j ∙ ap (λ (x : Deed). x.sent) (set_deed (OfSlave ss) e m k);
+}
 
-pub slave_run : (ss : SlaveSettings) (first last : SlaveView) (e : List Deed) → Stands OfSlave view_of ss first [] → Called OfSlave view_of first e last → e ≡ run (OfSlave ss) (events_of e)
-slave_run ss first last e h c = run_called OfSlave view_of ss first last e h c
+-- all calls of a slave
+pub called_is_after : (ss : SlaveSettings) (first last : SlaveView) (e : List Deed) → SlaveIsAfter ss first [] → Called first e last → SlaveIsAfter ss last e
+called_is_after ss first last [] h c = subst (λ (v : SlaveView). SlaveIsAfter ss v []) c h
+called_is_after ss first last (x ∷ e) h c =
+    let before : SlaveIsAfter ss c.0 e = called_is_after ss first c.0 e h c.1 in
+    subst (λ (y : Deed). SlaveIsAfter ss last (y ∷ e))
+    (sym (same_deed x.what x.did _ x.sent _ (c.3.did ss e before) (c.3.sent ss e before)))
+    (c.2.goes_on ss e before)
+
+pub called_run : (ss : SlaveSettings) (first last : SlaveView) (e : List Deed) → SlaveIsAfter ss first [] → Called first e last → e ≡ run (OfSlave ss) (events_of e)
+called_run ss first last e h c = run_of_events (OfSlave ss) e (called_is_after ss first last e h c).reached

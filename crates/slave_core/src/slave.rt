@@ -39,17 +39,16 @@ impl Slave {
     ghost use Rattle.slave_core.specs.Now.{allows, chain_of, outputs_in};
     ghost use Rattle.slave_core.specs.Slave.{fallen, falls, refuses, reset_by_peer, settles, on_frame, tick_of};
     ghost use Rattle.slave_core.specs.Taken.{next_state, reply};
-    ghost use Rattle.slave_core.specs.ViewOf.{view_of};
     ghost use Rattle.param_load.specs.declared.entry.Move.TheVariants as event;
     ghost use Rattle.end_model.specs.Setup.{OfSlave, sends, receives};
     ghost use Rattle.end_model.specs.Readiness as model;
     ghost use Rattle.end_model.specs.Outputs as looking_back;
-    ghost use Rattle.end_model.specs.Standing.{Stands, Follows, Answers, Shows};
+    ghost use Rattle.slave_core.specs.Standing.{SlaveIsAfter, Follows, Answers, Shows};
 
     /// A slave with these settings: in state Reset, with zeros to offer and to give, and not held.
     #[tactic(auto, using(crate::proofs::Law::new_stands))]
     pub fn new(settings: SlaveSettings) -> Slave
-        ensures { Stands OfSlave view_of settings result [] }
+        ensures { SlaveIsAfter settings result [] }
     {
         let hand = settings.hand();
         Slave {
@@ -202,8 +201,8 @@ impl Slave {
     /// that fails a test ends the session with the test's code, and is dropped in state Reset. Every other frame is
     /// taken and answered.
     pub fn deliver(&mut self, frame: &[u8], out: &mut FrameBuf) -> Did
-        ensures follows { Follows OfSlave view_of self.old (event.Deliver frame.now) self.new }
-        ensures answers { Answers OfSlave view_of self.old (event.Deliver frame.now) result out.new }
+        ensures follows { Follows self.old (event.Deliver frame.now) self.new }
+        ensures answers { Answers self.old (event.Deliver frame.now) result out.new }
         ensures kit { self.new.kit ≡ self.old.kit }
     {
         self.receive(frame, out)
@@ -227,8 +226,8 @@ impl Slave {
     /// outputs are zeros from this tick on, and the Reset frame is written to `out`.
     #[tactic(auto, using(crate::proofs::Law::follows_by, crate::proofs::Law::answers_by))]
     pub fn tick(&mut self, out: &mut FrameBuf) -> Did
-        ensures follows { Follows OfSlave view_of self.old event.Tick self.new }
-        ensures answers { Answers OfSlave view_of self.old event.Tick result out.new }
+        ensures follows { Follows self.old event.Tick self.new }
+        ensures answers { Answers self.old event.Tick result out.new }
         ensures kit { self.new.kit ≡ self.old.kit }
     {
         self.count(out)
@@ -237,8 +236,8 @@ impl Slave {
     /// Ends the session, if there is one, and writes Reset(0) to `out`.
     #[tactic(auto, using(crate::proofs::Law::follows_by, crate::proofs::Law::answers_by))]
     pub fn reset(&mut self, out: &mut FrameBuf) -> Did
-        ensures follows { Follows OfSlave view_of self.old event.Local self.new }
-        ensures answers { Answers OfSlave view_of self.old event.Local result out.new }
+        ensures follows { Follows self.old event.Local self.new }
+        ensures answers { Answers self.old event.Local result out.new }
         ensures kit { self.new.kit ≡ self.old.kit }
     {
         self.fall(false, Cause::Local, Code(0x00), out)
@@ -248,7 +247,7 @@ impl Slave {
     #[tactic(auto, using(crate::proofs::Law::follows_by))]
     pub fn put(&mut self, load: &[u8])
         requires { length load.now ≡ sends (OfSlave self.old.kit.settings) }
-        ensures follows { Follows OfSlave view_of self.old (event.Put load.now) self.new }
+        ensures follows { Follows self.old (event.Put load.now) self.new }
         ensures settings { self.new.kit.settings ≡ self.old.kit.settings }
     {
         self.kit.put(load);
@@ -257,7 +256,7 @@ impl Slave {
     /// Whether zeros are sent in place of the offer from now on. It outlasts resets.
     #[tactic(auto, using(crate::proofs::Law::follows_by))]
     pub fn hold(&mut self, failsafe: bool)
-        ensures follows { Follows OfSlave view_of self.old (event.Hold failsafe) self.new }
+        ensures follows { Follows self.old (event.Hold failsafe) self.new }
         ensures settings { self.new.kit.settings ≡ self.old.kit.settings }
     {
         self.kit.hold(failsafe);
@@ -267,7 +266,7 @@ impl Slave {
     #[tactic(auto, using(crate::proofs::Law::follows_by))]
     pub fn nonce(&mut self, id: u32)
         requires { IsTrue (allows_id self.old.kit.settings.profile id) }
-        ensures follows { Follows OfSlave view_of self.old (event.Nonce id) self.new }
+        ensures follows { Follows self.old (event.Nonce id) self.new }
         ensures settings { self.new.kit.settings ≡ self.old.kit.settings }
     {
         self.kit.set_nonce(id);
@@ -283,7 +282,7 @@ impl Slave {
     /// The state: the phase of the frame that was taken last in this session, Reset without a session.
     #[tactic(auto, using(crate::proofs::Law::state_shown))]
     pub fn state(&self) -> State
-        ensures { Shows OfSlave view_of self.now result model.state_of }
+        ensures { Shows self.now result model.state_of }
     {
         self.state.state()
     }
@@ -292,7 +291,7 @@ impl Slave {
     /// zeros after a FailSafeData frame, and zeros in every state but Data.
     #[tactic(auto, using(crate::proofs::Law::outputs_shown))]
     pub fn outputs(&self) -> &[u8]
-        ensures shown { Shows OfSlave view_of self.now result.now looking_back.out }
+        ensures shown { Shows self.now result.now looking_back.out }
         ensures len { length result.now ≡ receives (OfSlave self.now.kit.settings) }
         ensures most { length result.now ≤ 126 }
     {
@@ -315,7 +314,7 @@ impl Slave {
     /// The terms of the session, exactly in state Data.
     #[tactic(auto, using(crate::proofs::Law::terms_shown))]
     pub fn terms(&self) -> Option<&Terms>
-        ensures { Shows OfSlave view_of self.now (option_copied result) model.told_terms }
+        ensures { Shows self.now (option_copied result) model.told_terms }
     {
         self.state.terms()
     }
@@ -323,7 +322,7 @@ impl Slave {
     /// The ticks since the last frame was sent, 0 in state Reset.
     #[tactic(auto, using(crate::proofs::Law::age_shown))]
     pub fn age(&self) -> u16
-        ensures { Shows OfSlave view_of self.now result model.age }
+        ensures { Shows self.now result model.age }
     {
         self.watchdog.age()
     }
@@ -331,7 +330,7 @@ impl Slave {
     /// The safe data that were put last, zeros at first.
     #[tactic(auto, using(crate::proofs::Law::offer_shown))]
     pub fn offer(&self) -> &[u8]
-        ensures shown { Shows OfSlave view_of self.now result.now model.offer }
+        ensures shown { Shows self.now result.now model.offer }
         ensures len { length result.now ≡ sends (OfSlave self.now.kit.settings) }
     {
         self.kit.offer().bytes()
@@ -340,7 +339,7 @@ impl Slave {
     /// Whether zeros are sent in place of the offer.
     #[tactic(auto, using(crate::proofs::Law::held_shown))]
     pub fn held(&self) -> bool
-        ensures { Shows OfSlave view_of self.now result (λ s e. model.held e) }
+        ensures { Shows self.now result (λ s e. model.held e) }
     {
         self.kit.offer().held()
     }

@@ -1,5 +1,5 @@
-use Rattle.slave_core.proofs.Law.{slave_stands}
+use Rattle.slave_core.proofs.Law.{called_is_after}
 use Rattle.slave_core.proofs.laws.calls.Goals as goal
 
-pub returns-clause-stands : goal.returns-clause-stands
-returns-clause-stands c = slave_stands
+pub returns-clause-is_after : goal.returns-clause-is_after
+returns-clause-is_after c = called_is_after
