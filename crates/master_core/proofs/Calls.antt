@@ -14,8 +14,8 @@ use Rattle.end_model.proofs.SoundRuns.{reacts}
 use Rattle.master_core.specs.MasterView.{MasterView}
 use Rattle.master_core.specs.Now.{is_due}
 use Rattle.master_core.specs.Standing.{MasterIsAfter}
-use Rattle.master_core.specs.Waiting.{Waits}
-use Rattle.master_core.specs.Calls.{Call, Event, Setting, Accept, Reply, MadeEvent, MadeSetting, MadeAccept, MadeReply, Calls, Pending, tells_due, left_by, pending, ended_by, deeds_of}
+use Rattle.master_core.specs.Waiting.{Delivery, Waits}
+use Rattle.master_core.specs.Calls.{Call, Event, Setting, Accept, Reply, MadeEvent, MadeSetting, MadeAccept, MadeReply, Called, Pending, delivery_after, tells_due, left_by, pending, with_reply, deeds_of}
 
 -- where these deeds leave a master: it stands for them, or waits after them with this delivery
 pub record AtRest (ms : MasterSettings) (v : MasterView) (e : List Deed) : Type 0 where
@@ -23,7 +23,7 @@ pub record AtRest (ms : MasterSettings) (v : MasterView) (e : List Deed) : Type 
   pub rest : is_due v.state ≡ false
 
 pub record InDelivery (ms : MasterSettings) (v : MasterView) (e : List Deed) (p : Pending) : Type 0 where
-  pub waits : Waits ms v e p.bytes p.did
+  pub waits : Waits v (delivery_after ms e p)
   pub due : is_due v.state ≡ true
 
 abbrev Reached : MasterSettings → MasterView → List Deed → Option Pending → Type 0
@@ -76,18 +76,18 @@ at-setting ms old new m e None r made = record {
   rest = made.due ∙ r.rest;
 }
 at-setting ms old new m e (Some p) r made = record {
-  waits = subst (λ (y : Deed). Waits ms new (y ∷ e) p.bytes p.did) (sym (set_deed (OfMaster ms) e m made.sets)) (made.keeps.waits ms e p.bytes p.did r.waits);
+  waits = subst (λ (y : Deed). Waits new (delivery_after ms (y ∷ e) p)) (sym (set_deed (OfMaster ms) e m made.sets)) (made.keeps.waits (delivery_after ms e p) r.waits);
   due = made.due ∙ r.due;
 }
 
 accepted-so : (ms : MasterSettings) (old new : MasterView) (bytes : List ℕ) (did : Did) (e : List Deed) (b : Bool) → tells_due did ≡ b → MasterIsAfter ms old e → MadeAccept old bytes did new
     → Reached ms new (if b then e else begun (move.Deliver bytes) did ∷ e) (if b then Some (record { bytes = bytes; did = did }) else None)
-accepted-so ms old new bytes did e true b h made = record { waits = made.accepts.waits ms e h; due = made.due ∙ b }
+accepted-so ms old new bytes did e true b h made = record { waits = (made.accepts.begins ms e h).waits; due = made.due ∙ b }
 accepted-so ms old new bytes did e false b h made = record {
   stands =
       subst (λ (y : Deed). MasterIsAfter ms new (y ∷ e))
-      (sym (quiet-delivery (OfMaster ms) e bytes did h.reached (made.accepts.did ms e h) b))
-      (made.accepts.stands ms e h (made.due ∙ b));
+      (sym (quiet-delivery (OfMaster ms) e bytes did h.reached (made.accepts.begins ms e h).did b))
+      ((made.accepts.begins ms e h).is_after (made.due ∙ b));
   rest = made.due ∙ b;
 }
 
@@ -96,20 +96,21 @@ at-accept : (ms : MasterSettings) (old new : MasterView) (bytes : List ℕ) (did
 at-accept ms old new bytes did e None r made = accepted-so ms old new bytes did e (tells_due did) refl r.stands made
 at-accept ms old new bytes did e (Some p) r made = absurd (cc (r.due, made.rest))
 
-at-reply : (ms : MasterSettings) (old new : MasterView) (frame : List ℕ) (e : List Deed) (p : Option Pending) → Reached ms old e p → MadeReply old frame new → Reached ms new (ended_by frame p e) None
+at-reply : (ms : MasterSettings) (old new : MasterView) (frame : List ℕ) (e : List Deed) (p : Option Pending) → Reached ms old e p → MadeReply old frame new → Reached ms new (with_reply frame p e) None
 at-reply ms old new frame e None r made = absurd (cc (r.rest, made.due))
 at-reply ms old new frame e (Some p) r made =
-    let done = made.replies.did ms e p.bytes p.did r.waits ∙ ap (λ (b : Bool). record p.did { sent = b }) r.due in
+    let d : Delivery = delivery_after ms e p in
+    let done = made.replies.did d r.waits ∙ ap (λ (b : Bool). record p.did { sent = b }) r.due in
     record {
       stands =
           subst (λ (y : Deed). MasterIsAfter ms new (y ∷ e))
-          (same_deed (move.Deliver p.bytes) _ _ _ _ done (sym (made.replies.sent ms e p.bytes p.did r.waits)))
-          (made.replies.stands ms e p.bytes p.did r.waits);
+          (same_deed (move.Deliver p.bytes) _ _ _ _ done (sym (made.replies.sent d r.waits)))
+          (made.replies.is_after d r.waits);
       rest = made.done;
     }
 
 -- all calls
-reached : (ms : MasterSettings) (first last : MasterView) (calls : List Call) → MasterIsAfter ms first [] → Calls first calls last → Reached ms last (deeds_of calls) (pending calls)
+reached : (ms : MasterSettings) (first last : MasterView) (calls : List Call) → MasterIsAfter ms first [] → Called first calls last → Reached ms last (deeds_of calls) (pending calls)
 reached ms first last [] h c = subst (λ (v : MasterView). AtRest ms v []) c (record { stands = h; rest = ap (λ (v : MasterView). is_due v.state) h.is })
 reached ms first last (Event x ∷ calls) h c = at-event ms c.0 last x (deeds_of calls) (pending calls) (reached ms first c.0 calls h c.1) c.2
 reached ms first last (Setting m ∷ calls) h c = at-setting ms c.0 last m (deeds_of calls) (pending calls) (reached ms first c.0 calls h c.1) c.2
@@ -120,14 +121,14 @@ is-run : (ms : MasterSettings) (v : MasterView) (e : List Deed) (p : Option Pend
 is-run ms v e None r = r.stands.reached
 is-run ms v e (Some p) r = r.waits.reached
 
-pub calls_run : (ms : MasterSettings) (first last : MasterView) (calls : List Call) → MasterIsAfter ms first [] → Calls first calls last → deeds_of calls ≡ run (OfMaster ms) (events_of (deeds_of calls))
+pub calls_run : (ms : MasterSettings) (first last : MasterView) (calls : List Call) → MasterIsAfter ms first [] → Called first calls last → deeds_of calls ≡ run (OfMaster ms) (events_of (deeds_of calls))
 calls_run ms first last calls h c = run_of_events (OfMaster ms) (deeds_of calls) (is-run ms last (deeds_of calls) (pending calls) (reached ms first last calls h c))
 
-pub calls_stand : (ms : MasterSettings) (first last : MasterView) (calls : List Call) → MasterIsAfter ms first [] → Calls first calls last → pending calls ≡ None → MasterIsAfter ms last (deeds_of calls)
+pub calls_stand : (ms : MasterSettings) (first last : MasterView) (calls : List Call) → MasterIsAfter ms first [] → Called first calls last → pending calls ≡ None → MasterIsAfter ms last (deeds_of calls)
 calls_stand ms first last calls h c k =
     let r : Reached ms last (deeds_of calls) None = subst (λ (p : Option Pending). Reached ms last (deeds_of calls) p) k (reached ms first last calls h c) in r.stands
 
-pub calls_wait : (ms : MasterSettings) (first last : MasterView) (calls : List Call) → MasterIsAfter ms first [] → Calls first calls last → (p : Pending) → pending calls ≡ Some p
-    → Waits ms last (deeds_of calls) p.bytes p.did
+pub calls_wait : (ms : MasterSettings) (first last : MasterView) (calls : List Call) → MasterIsAfter ms first [] → Called first calls last → (p : Pending) → pending calls ≡ Some p
+    → Waits last (delivery_after ms (deeds_of calls) p)
 calls_wait ms first last calls h c p k =
     let r : Reached ms last (deeds_of calls) (Some p) = subst (λ (q : Option Pending). Reached ms last (deeds_of calls) q) k (reached ms first last calls h c) in r.waits

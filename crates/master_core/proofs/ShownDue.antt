@@ -1,11 +1,10 @@
 -- What a master shows while a frame is due is what it shows after the reply.
-use Rattle.std.proofs.Common.{◌≡◌, ℕ, ◌==◌, List, ◌∷◌, Bool, true, false, Option, Some, None, Result, Ok, Err, if◌then◌else◌, IsTrue, refl, sym, ap, ◌∙◌}
+use Rattle.std.proofs.Common.{◌≡◌, ℕ, ◌==◌, List, Bool, true, false, Option, Some, None, Result, Ok, Err, if◌then◌else◌, IsTrue, refl, sym, ap, ◌∙◌}
 use Rattle.fsoe_base.specs.declared.command.Code.{Code}
 use Rattle.fsoe_base.specs.declared.command.Command.TheVariants as command
 use Rattle.fsoe_base.specs.declared.command.State.{State}
 use Rattle.fsoe_base.specs.declared.command.State.TheVariants as state
 use Rattle.fsoe_base.specs.declared.did.Cause.TheVariants as cause
-use Rattle.fsoe_base.specs.declared.did.Did.{Did}
 use Rattle.fsoe_base.specs.declared.did.Dropped.{Dropped}
 use Rattle.fsoe_base.specs.declared.did.Dropped.TheVariants as dropped
 use Rattle.fsoe_base.specs.Command.{code}
@@ -15,14 +14,12 @@ use Rattle.seq_chain.specs.declared.opened.Opened.{Opened}
 use Rattle.seq_chain.specs.declared.opened.Opened.TheVariants as opened_as
 use Rattle.seq_chain.specs.Opened.{opened}
 use Rattle.seq_chain.specs.SessionFrame.{SessionFrameView}
-use Rattle.param_load.specs.declared.entry.Move.TheVariants as move
 use Rattle.param_load.specs.declared.master_settings.MasterSettings.{MasterSettings}
 use Rattle.param_load.specs.declared.terms.Terms.{Terms}
-use Rattle.end_model.specs.Setup.{Setup, OfMaster, receives}
 use Rattle.end_model.specs.Deed.{Deed}
+use Rattle.end_model.specs.Setup.{Setup, OfMaster, receives}
 use Rattle.end_model.specs.Outputs.{out}
 use Rattle.end_model.specs.Readiness.{state_of, age, told_terms, offer, held}
-use Rattle.end_model.specs.Step.{step}
 use Rattle.end_model.specs.Verdict.{is_repeat}
 use Rattle.master_core.specs.declared.due.Next.{Next}
 use Rattle.master_core.specs.declared.due.Next.TheVariants as next
@@ -35,14 +32,14 @@ use Rattle.master_core.specs.Now as machine
 use Rattle.master_core.specs.Now.{is_reset, is_due, kept_in, fault, next_state}
 use Rattle.master_core.specs.Standing.{Shows}
 use Rattle.master_core.specs.ViewOf.{Notes, notes_of, now_in, view_of}
-use Rattle.master_core.specs.Waiting.{Waits, ShowsDue}
+use Rattle.master_core.specs.Waiting.{Delivery, with_delivery, Waits, ShowsDue}
 use Rattle.master_core.proofs.Law.{state_shown, terms_shown, outputs_shown, age_shown, offer_shown, held_shown}
 use Rattle.master_core.proofs.Waiting.{replies_by}
 
 -- what the master after the reply shows
 shows-due : {X : Type 0} (v : MasterView) (shown : X) (word : Setup → List Deed → X) → Shows (replies v) shown word → ShowsDue v shown word
 shows-due v shown word h = record {
-  shows = λ ms e bytes done w. h.shows ms (step (OfMaster ms) e (move.Deliver bytes) ∷ e) ((replies_by v (replies v) (machine.reply v.kit v.state) refl refl).stands ms e bytes done w);
+  shows = λ d w. h.shows d.settings (with_delivery d) ((replies_by v (replies v) (machine.reply v.kit v.state) refl refl).is_after d w);
 }
 
 -- the reply changes none of what the state shows
@@ -153,8 +150,9 @@ none-due state.Parameter ms n = refl
 none-due state.Data ms n = refl
 
 -- while a frame is due the age is 0
-pub age_zero : (v : MasterView) (shown : ℕ) → shown ≡ v.timer.age → (ms : MasterSettings) (e : List Deed) (bytes : List ℕ) (done : Did) → Waits ms v e bytes done → IsTrue (is_due v.state) → shown ≡ 0
-age_zero v shown i ms e bytes done w k =
-    let rest = none-due (state_of (OfMaster ms) e) ms (notes_of ms e) in
-    let start = opened-starts (opened (receives (OfMaster ms)) (is_repeat (kept_in (view_of ms e).state) bytes) bytes) (view_of ms e) rest in
+pub age_zero : (v : MasterView) (shown : ℕ) → shown ≡ v.timer.age → (d : Delivery) → Waits v d → IsTrue (is_due v.state) → shown ≡ 0
+age_zero v shown i d w k =
+    let before : MasterView = view_of d.settings d.before in
+    let rest = none-due (state_of (OfMaster d.settings) d.before) d.settings (notes_of d.settings d.before) in
+    let start = opened-starts (opened (receives (OfMaster d.settings)) (is_repeat (kept_in before.state) d.bytes) d.bytes) before rest in
     i ∙ ap (λ (v : MasterView). v.timer.age) w.is ∙ start (sym (ap (λ (v : MasterView). is_due v.state) w.is) ∙ k)

@@ -24,7 +24,7 @@ use Rattle.seq_chain.specs.Opened.{opened}
 use Rattle.seq_chain.specs.SessionFrame.{SessionFrameView}
 use Rattle.end_model.specs.Setup.{OfMaster, receives}
 use Rattle.end_model.specs.Deed.{Deed}
-use Rattle.end_model.specs.Step.{did_on, IsProper}
+use Rattle.end_model.specs.Step.{IsProper, IsRun}
 use Rattle.master_core.specs.declared.due.Next.{Next}
 use Rattle.master_core.specs.declared.due.Next.TheVariants as next
 use Rattle.master_core.specs.declared.now.Now.{Now}
@@ -38,9 +38,8 @@ use Rattle.master_core.specs.MasterView.{MasterView}
 use Rattle.master_core.specs.Now.{is_reset, is_due, kept_in, fault, next_state, replied, reply}
 use Rattle.master_core.specs.States.{answered, session_by, connection_by, parameter_by}
 use Rattle.master_core.specs.Views.{ExchangeView}
-use Rattle.master_core.specs.Standing.{MasterIsAfter}
 use Rattle.master_core.specs.ViewOf.{kit_of, view_of}
-use Rattle.master_core.specs.Waiting.{Accepts, Keeps, Replies}
+use Rattle.master_core.specs.Waiting.{Delivery, its_deed, Accepts, Keeps, Replies}
 use Rattle.master_core.proofs.Agrees.{Agrees, AreRead}
 use Rattle.master_core.proofs.Agreed.{agrees, run-sound}
 
@@ -126,28 +125,19 @@ unsent took passed sent reset dropped h = ap (λ (b : Bool). did_at took passed 
 same_state : (v : MasterView) (s : Now) → s ≡ v.state → record v { state = s } ≡ v
 same_state v s h = rw h refl
 
-delivery : (ms : MasterSettings) (e : List Deed) (old : MasterView) (bytes : List ℕ) → MasterIsAfter ms old e → Agrees ms e (move.Deliver bytes) (did_on (OfMaster ms) e (move.Deliver bytes)) (after (view_of ms e) (move.Deliver bytes))
-delivery ms e old bytes h = agrees ms e (move.Deliver bytes) (run-sound ms e h.reached) tt
-
 pub accepts_by : (old : MasterView) (bytes : List ℕ) (done : Did) (new : MasterView) → AreBytes bytes → new ≡ (accepted old bytes).master → done ≡ (accepted old bytes).did → done.sent ≡ false → Accepts old bytes done new
 accepts_by old bytes done new read n d u = record {
-  did = λ ms e h.
-      let a = delivery ms e old bytes h in
-      unsent done.took done.passed done.sent done.reset done.dropped u
-      ∙ (ap (λ (d : Did). record d { sent = false }) (d ∙ ap (λ (v : MasterView). (accepted v bytes).did) h.is)
-      ∙ ap (λ (d : Did). record d { sent = false }) (sym a.did));
-  waits = λ ms e h. record {
-    is = n ∙ ap (λ (v : MasterView). (accepted v bytes).master) h.is;
-    told = d ∙ ap (λ (v : MasterView). (accepted v bytes).did) h.is;
-    reached = h.reached;
-    read = read;
-  };
-  stands = λ ms e h r.
-      let a = delivery ms e old bytes h in
+  begins = λ ms e h.
+      let a = agrees ms e (move.Deliver bytes) (run-sound ms e h.reached) tt in
       let same : new ≡ (accepted (view_of ms e) bytes).master = n ∙ ap (λ (v : MasterView). (accepted v bytes).master) h.is in
+      let told : done ≡ (accepted (view_of ms e) bytes).did = d ∙ ap (λ (v : MasterView). (accepted v bytes).did) h.is in
       record {
-        is = sym (same_state new (replied new.kit new.state) (at-rest new.kit new.state r)) ∙ (ap (λ (v : MasterView). replies v) same ∙ sym (a.view read));
-        reached = (record { proper = tt; stepped = refl }, h.reached);
+        did = unsent done.took done.passed done.sent done.reset done.dropped u ∙ (ap (λ (d : Did). record d { sent = false }) told ∙ ap (λ (d : Did). record d { sent = false }) (sym a.did));
+        waits = record { is = same; told = told; reached = h.reached; read = read };
+        is_after = λ r. record {
+          is = sym (same_state new (replied new.kit new.state) (at-rest new.kit new.state r)) ∙ (ap (λ (v : MasterView). replies v) same ∙ sym (a.view read));
+          reached = (record { proper = tt; stepped = refl }, h.reached);
+        };
       };
 }
 
@@ -204,7 +194,10 @@ nonce-commutes id = record {
 
 keeps : (old : MasterView) (m : Move) (new : MasterView) → Commutes m → IsProper (OfMaster old.kit.settings) m → AreRead m → new ≡ (after old m).master → Keeps old m new
 keeps old m new commutes p read n = record {
-  waits = λ ms e bytes done w.
+  waits = λ d w.
+      let ms : MasterSettings = d.settings in
+      let e : List Deed = d.before in
+      let bytes : List ℕ = d.bytes in
       let same : old.kit ≡ kit_of ms e = ap (λ (v : MasterView). v.kit) w.is ∙ kit-kept (view_of ms e) bytes in
       let proper : IsProper (OfMaster ms) m = subst (λ (k : KitView). IsProper (OfMaster k.settings) m) same p in
       let a = agrees ms e m (run-sound ms e w.reached) proper in
@@ -229,17 +222,16 @@ nonce_keeps old id new p n = keeps old (move.Nonce id) new (nonce-commutes id) p
 sent-at : (a a' : Did) (b b' : Bool) → a ≡ a' → b ≡ b' → record a { sent = b } ≡ record a' { sent = b' }
 sent-at a a' b b' h i = rw (h, i) refl
 
+its-outcome : (d : Delivery) → IsRun (OfMaster d.settings) d.before → Agrees d.settings d.before (move.Deliver d.bytes) (its_deed d).did (after (view_of d.settings d.before) (move.Deliver d.bytes))
+its-outcome d run = agrees d.settings d.before (move.Deliver d.bytes) (run-sound d.settings d.before run) tt
+
 pub replies_by : (old new : MasterView) (frame : List ℕ) → new ≡ replies old → frame ≡ reply old.kit old.state → Replies old new frame
 replies_by old new frame n f = record {
-  stands = λ ms e bytes done w.
-      let a = agrees ms e (move.Deliver bytes) (run-sound ms e w.reached) tt in
+  is_after = λ d w.
+      let a = its-outcome d w.reached in
       record { is = n ∙ (ap (λ (v : MasterView). replies v) w.is ∙ sym (a.view w.read)); reached = (record { proper = tt; stepped = refl }, w.reached) };
-  did = λ ms e bytes done w.
-      let a = agrees ms e (move.Deliver bytes) (run-sound ms e w.reached) tt in
-      a.did ∙ sent-at (accepted (view_of ms e) bytes).did done (is_due (accepted (view_of ms e) bytes).master.state) (is_due old.state) (sym w.told) (sym (ap (λ (v : MasterView). is_due v.state) w.is));
-  sent = λ ms e bytes done w.
-      let a = agrees ms e (move.Deliver bytes) (run-sound ms e w.reached) tt in
-      f ∙ (ap (λ (v : MasterView). reply v.kit v.state) w.is ∙ sym a.sent);
+  did = λ d w. (its-outcome d w.reached).did ∙ sent-at _ d.did _ (is_due old.state) (sym w.told) (sym (ap (λ (v : MasterView). is_due v.state) w.is));
+  sent = λ d w. f ∙ (ap (λ (v : MasterView). reply v.kit v.state) w.is ∙ sym (its-outcome d w.reached).sent);
 }
 
 -- a frame is due exactly where something was taken or a reset came

@@ -4,12 +4,13 @@ use Rattle.fsoe_base.specs.declared.did.Did.{Did}
 use Rattle.fsoe_base.specs.Did.{nothing}
 use Rattle.param_load.specs.declared.entry.Move.{Move}
 use Rattle.param_load.specs.declared.entry.Move.TheVariants as move
+use Rattle.param_load.specs.declared.master_settings.MasterSettings.{MasterSettings}
 use Rattle.end_model.specs.Deed.{Deed, IsSetting}
 use Rattle.end_model.specs.Step.{begun}
 use Rattle.master_core.specs.MasterView.{MasterView}
 use Rattle.master_core.specs.Now.{is_due}
 use Rattle.master_core.specs.Standing.{Follows, Answers}
-use Rattle.master_core.specs.Waiting.{Accepts, Keeps, Replies}
+use Rattle.master_core.specs.Waiting.{Delivery, Accepts, Keeps, Replies}
 
 -- a call of a master, with what it told: `deliver`, `tick` or `reset` with its deed; `put`, `hold` or `nonce`; `accept` of these bytes;
 -- and `reply` with the frame that it wrote
@@ -57,14 +58,18 @@ Made old (Accept bytes did) new = MadeAccept old bytes did new
 Made old (Reply frame) new = MadeReply old frame new
 
 -- a master was called so, in any order of calls, the newest first
-abbrev pub Calls : MasterView → List Call → MasterView → Type 0
-Calls first [] last = first ≡ last
-Calls first (call ∷ calls) last = (v : MasterView) × Calls first calls v × Made v call last
+abbrev pub Called : MasterView → List Call → MasterView → Type 0
+Called first [] last = first ≡ last
+Called first (call ∷ calls) last = (v : MasterView) × Called first calls v × Made v call last
 
 -- a delivery whose frame is due: the bytes that were accepted, and what that told
 pub record Pending : Type 0 where
   pub bytes : List ℕ
   pub did : Did
+
+-- this delivery at a master with these settings, after these deeds
+abbrev pub delivery_after : MasterSettings → List Deed → Pending → Delivery
+delivery_after settings deeds p = record { settings = settings; before = deeds; bytes = p.bytes; did = p.did }
 
 -- the delivery that `accept` leaves, if a frame is due then
 abbrev pub left_by : List ℕ → Did → Option Pending
@@ -78,10 +83,10 @@ pending (Setting event ∷ calls) = pending calls
 pending (Accept bytes did ∷ calls) = left_by bytes did
 pending (Reply frame ∷ calls) = None
 
--- a reply ends the delivery that is pending: its deed is done and has sent the frame
-abbrev pub ended_by : List ℕ → Option Pending → List Deed → List Deed
-ended_by frame None e = e
-ended_by frame (Some p) e = record { what = move.Deliver p.bytes; did = record p.did { sent = true }; sent = frame } ∷ e
+-- a reply ends the delivery that is pending: its deed has sent the frame
+abbrev pub with_reply : List ℕ → Option Pending → List Deed → List Deed
+with_reply frame None e = e
+with_reply frame (Some p) e = record { what = move.Deliver p.bytes; did = record p.did { sent = true }; sent = frame } ∷ e
 
 -- the deeds of these calls, newest first: a delivery in two calls counts at its reply, and at `accept` where no frame is due then
 abbrev pub deeds_of : List Call → List Deed
@@ -89,4 +94,4 @@ deeds_of [] = []
 deeds_of (Event x ∷ calls) = x ∷ deeds_of calls
 deeds_of (Setting event ∷ calls) = begun event nothing ∷ deeds_of calls
 deeds_of (Accept bytes did ∷ calls) = if tells_due did then deeds_of calls else begun (move.Deliver bytes) did ∷ deeds_of calls
-deeds_of (Reply frame ∷ calls) = ended_by frame (pending calls) (deeds_of calls)
+deeds_of (Reply frame ∷ calls) = with_reply frame (pending calls) (deeds_of calls)

@@ -1,4 +1,4 @@
--- A master that accepted a frame, and hasn't sent the frame that is due then.
+-- A delivery in two calls: a master that accepted a frame, and hasn't sent the frame that is due then.
 use Rattle.std.specs.Prelude.{◌≡◌, ℕ, false, List, ◌∷◌}
 use Rattle.fsoe_base.specs.declared.did.Did.{Did}
 use Rattle.fsoe_frame.specs.Parts.{AreBytes}
@@ -14,33 +14,53 @@ use Rattle.master_core.specs.Now.{is_due}
 use Rattle.master_core.specs.Standing.{MasterIsAfter}
 use Rattle.master_core.specs.ViewOf.{view_of}
 
--- a master that accepted these bytes after these deeds, and then told this
-pub record Waits (settings : MasterSettings) (v : MasterView) (e : List Deed) (bytes : List ℕ) (done : Did) : Type 0 where
-  pub is : v ≡ (accepted (view_of settings e) bytes).master
-  pub told : done ≡ (accepted (view_of settings e) bytes).did
-  pub reached : IsRun (OfMaster settings) e
-  pub read : AreBytes bytes
+-- a delivery in progress: a master with these settings accepted these bytes after these deeds, and did this
+pub record Delivery : Type 0 where
+  pub settings : MasterSettings
+  pub before : List Deed
+  pub bytes : List ℕ
+  pub did : Did
 
--- a master that stood for some deeds accepted these bytes: it did what the delivery does but for the sending; it waits, or stands for
--- these deeds and the delivery where nothing is due
+-- its deed, which does and sends what a delivery in one call does and sends
+abbrev pub its_deed : Delivery → Deed
+its_deed d = step (OfMaster d.settings) d.before (move.Deliver d.bytes)
+
+-- the deeds with the delivery
+abbrev pub with_delivery : Delivery → List Deed
+with_delivery d = its_deed d ∷ d.before
+
+-- the same delivery with this event before it
+abbrev pub preceded_by : Move → Delivery → Delivery
+preceded_by event d = record d { before = step (OfMaster d.settings) d.before event ∷ d.before }
+
+-- a master waits in a delivery: it is, and did, what accepting the bytes makes of a master after the deeds before
+pub record Waits (master : MasterView) (d : Delivery) : Type 0 where
+  pub is : master ≡ (accepted (view_of d.settings d.before) d.bytes).master
+  pub told : d.did ≡ (accepted (view_of d.settings d.before) d.bytes).did
+  pub reached : IsRun (OfMaster d.settings) d.before
+  pub read : AreBytes d.bytes
+
+-- a delivery has begun: it did what its deed does but for the sending; the master waits in it, or is after it where no frame is due
+pub record Begins (master : MasterView) (d : Delivery) : Type 0 where
+  pub did : d.did ≡ record (its_deed d).did { sent = false }
+  pub waits : Waits master d
+  pub is_after : is_due master.state ≡ false → MasterIsAfter d.settings master (with_delivery d)
+
+-- a master that was after some deeds accepted these bytes and did this: their delivery has begun
 pub record Accepts (old : MasterView) (bytes : List ℕ) (done : Did) (new : MasterView) : Type 0 where
-  pub did : (settings : MasterSettings) (e : List Deed) → MasterIsAfter settings old e → done ≡ record (step (OfMaster settings) e (move.Deliver bytes)).did { sent = false }
-  pub waits : (settings : MasterSettings) (e : List Deed) → MasterIsAfter settings old e → Waits settings new e bytes done
-  pub stands : (settings : MasterSettings) (e : List Deed) → MasterIsAfter settings old e → is_due new.state ≡ false
-      → MasterIsAfter settings new (step (OfMaster settings) e (move.Deliver bytes) ∷ e)
+  pub begins : (settings : MasterSettings) (deeds : List Deed) → MasterIsAfter settings old deeds
+      → Begins new (record { settings = settings; before = deeds; bytes = bytes; did = done })
 
--- a master that waited after some deeds waits after these and this event, as if the event had come before the frame
+-- a master that waited in a delivery waits in it still, as if this event had come before it
 pub record Keeps (old : MasterView) (event : Move) (new : MasterView) : Type 0 where
-  pub waits : (settings : MasterSettings) (e : List Deed) (bytes : List ℕ) (done : Did) → Waits settings old e bytes done → Waits settings new (step (OfMaster settings) e event ∷ e) bytes done
+  pub waits : (d : Delivery) → Waits old d → Waits new (preceded_by event d)
 
--- a master that waited after some deeds stands for these and the delivery of the bytes, and did and sent what the delivery does and sends
-pub record Replies (old : MasterView) (new : MasterView) (frame : List ℕ) : Type 0 where
-  pub stands : (settings : MasterSettings) (e : List Deed) (bytes : List ℕ) (done : Did) → Waits settings old e bytes done
-      → MasterIsAfter settings new (step (OfMaster settings) e (move.Deliver bytes) ∷ e)
-  pub did : (settings : MasterSettings) (e : List Deed) (bytes : List ℕ) (done : Did) → Waits settings old e bytes done
-      → (step (OfMaster settings) e (move.Deliver bytes)).did ≡ record done { sent = is_due old.state }
-  pub sent : (settings : MasterSettings) (e : List Deed) (bytes : List ℕ) (done : Did) → Waits settings old e bytes done → frame ≡ (step (OfMaster settings) e (move.Deliver bytes)).sent
+-- a master that waited in a delivery is after it, and did and sent what its deed does and sends
+pub record Replies (old new : MasterView) (frame : List ℕ) : Type 0 where
+  pub is_after : (d : Delivery) → Waits old d → MasterIsAfter d.settings new (with_delivery d)
+  pub did : (d : Delivery) → Waits old d → (its_deed d).did ≡ record d.did { sent = is_due old.state }
+  pub sent : (d : Delivery) → Waits old d → frame ≡ (its_deed d).sent
 
--- what a master that waits shows is this word of the deeds after the delivery, as if its frame had been sent
-pub record ShowsDue {X : Type 0} (v : MasterView) (shown : X) (word : Setup → List Deed → X) : Type 0 where
-  pub shows : (settings : MasterSettings) (e : List Deed) (bytes : List ℕ) (done : Did) → Waits settings v e bytes done → shown ≡ word (OfMaster settings) (step (OfMaster settings) e (move.Deliver bytes) ∷ e)
+-- what a master that waits in a delivery shows is this word of the deeds with it, as if its frame had been sent
+pub record ShowsDue {X : Type 0} (master : MasterView) (shown : X) (word : Setup → List Deed → X) : Type 0 where
+  pub shows : (d : Delivery) → Waits master d → shown ≡ word (OfMaster d.settings) (with_delivery d)

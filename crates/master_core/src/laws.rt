@@ -5,7 +5,7 @@ ghost use Rattle.param_load.specs.declared.master_settings.MasterSettings.{Maste
 ghost use Rattle.end_model.specs.Setup.{OfMaster};
 ghost use Rattle.end_model.specs.Deed.{events_of};
 ghost use Rattle.end_model.specs.Step.{run};
-ghost use Rattle.master_core.specs.Calls.{Call, Calls, Pending, deeds_of, pending};
+ghost use Rattle.master_core.specs.Calls.{Call, Called, Pending, delivery_after, deeds_of, pending};
 ghost use Rattle.master_core.specs.MasterView.{MasterView};
 ghost use Rattle.master_core.specs.Standing.{MasterIsAfter};
 ghost use Rattle.master_core.specs.Waiting.{Waits};
@@ -16,7 +16,7 @@ ghost use Rattle.master_core.specs.Waiting.{Waits};
 /// delivery, and its readers show those of the run and the delivery.
 #[tactic(auto, using(crate::proofs::Calls::calls_run))]
 pub fn calls()
-    ensures run { (settings : MasterSettings) (first last : MasterView) (calls : List Call) → MasterIsAfter settings first [] → Calls first calls last → deeds_of calls ≡ run (OfMaster settings) (events_of (deeds_of calls)) }
-    ensures is_after { (settings : MasterSettings) (first last : MasterView) (calls : List Call) → MasterIsAfter settings first [] → Calls first calls last → pending calls ≡ None → MasterIsAfter settings last (deeds_of calls) }
-    ensures waits { (settings : MasterSettings) (first last : MasterView) (calls : List Call) → MasterIsAfter settings first [] → Calls first calls last → (p : Pending) → pending calls ≡ Some p → Waits settings last (deeds_of calls) p.bytes p.did }
+    ensures run { (settings : MasterSettings) (first last : MasterView) (calls : List Call) → MasterIsAfter settings first [] → Called first calls last → deeds_of calls ≡ run (OfMaster settings) (events_of (deeds_of calls)) }
+    ensures is_after { (settings : MasterSettings) (first last : MasterView) (calls : List Call) → MasterIsAfter settings first [] → Called first calls last → pending calls ≡ None → MasterIsAfter settings last (deeds_of calls) }
+    ensures waits { (settings : MasterSettings) (first last : MasterView) (calls : List Call) → MasterIsAfter settings first [] → Called first calls last → (p : Pending) → pending calls ≡ Some p → Waits last (delivery_after settings (deeds_of calls) p) }
 {}

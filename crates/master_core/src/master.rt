@@ -38,16 +38,13 @@ impl Master {
     ghost use Rattle.master_core.specs.Master.{makes_due, ends, refuses, on_reset_view, settles, accepted, replies, on_frame, falls, tick_of};
     ghost use Rattle.master_core.specs.Now.{NextUnder, chain_of, is_due, next_state, reply};
     ghost use Rattle.param_load.specs.declared.entry.Move.TheVariants as event;
-    ghost use Rattle.fsoe_base.specs.declared.did.Did.{Did};
     ghost use Rattle.seq_chain.specs.SessionFrame.{HasPassed};
     ghost use Rattle.seq_chain.specs.Tested.{Notes};
-    ghost use Rattle.param_load.specs.declared.master_settings.MasterSettings.{MasterSettings};
-    ghost use Rattle.end_model.specs.Deed.{Deed};
     ghost use Rattle.end_model.specs.Setup.{OfMaster, sends, receives};
     ghost use Rattle.end_model.specs.Readiness as model;
     ghost use Rattle.end_model.specs.Outputs.{out};
     ghost use Rattle.master_core.specs.Standing.{MasterIsAfter, Follows, Answers, Shows};
-    ghost use Rattle.master_core.specs.Waiting.{Waits, Accepts, Keeps, Replies, ShowsDue};
+    ghost use Rattle.master_core.specs.Waiting.{Delivery, Waits, Accepts, Keeps, Replies, ShowsDue};
 
     /// A master with these settings: in state Reset, with zeros to offer and to give, and not held. Its first tick
     /// reaches its limit.
@@ -439,7 +436,7 @@ impl Master {
     pub fn age(&self) -> u16
         ensures shown { Shows self.now result model.age }
         ensures shown_due { ShowsDue self.now result model.age }
-        ensures zero_while_due { (settings : MasterSettings) (e : List Deed) (bytes : List ℕ) (done : Did) → Waits settings self.now e bytes done → IsTrue (is_due self.now.state) → result ≡ 0 }
+        ensures zero_while_due { (delivery : Delivery) → Waits self.now delivery → IsTrue (is_due self.now.state) → result ≡ 0 }
     {
         self.watchdog.age()
     }
