@@ -9,9 +9,5 @@ pub fn altered(frame: &mut FrameBuf, pos: u8, mask: u8)
     requires { pos < length frame.old }
     ensures { frame.new ≡ altered pos mask frame.old }
 {
-    let len = frame.len();
-    let mut bytes = [0; 255];
-    bytes[..len].copy_from_slice(frame.bytes());
-    bytes[pos as usize] ^= mask;
-    frame.set(&bytes[..len]);
+    frame.bytes_mut()[usize::from(pos)] ^= mask;
 }

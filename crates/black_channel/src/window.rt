@@ -3,7 +3,7 @@ ghost use Rattle.std.specs.Prelude.{◌≡◌, ◌≤◌, ◌↔◌, ◌+◌, �
 ghost use Rattle.black_channel.specs.Window.{back_th, found, window_of, Pushes, Tells};
 
 use arrayvec::ArrayVec;
-use fsoe_base::FrameBuf;
+use fsoe_base::{FrameBuf, MOST_FRAME};
 use std::marker::Model;
 
 /// The last 64 frames of one end, of which a channel may bring any again. It takes no memory.
@@ -41,7 +41,7 @@ impl Window {
     /// Takes the next frame, of at most 255 bytes, and forgets the oldest one where it has 64.
     #[tactic(auto, using(crate::proofs::Pushed::pushes_by))]
     pub fn push(&mut self, frame: &[u8])
-        requires { length frame.now ≤ 255 }
+        requires { length frame.now ≤ MOST_FRAME }
         ensures { Pushes self.old frame.now self.new }
     {
         self.note(frame);
@@ -49,7 +49,7 @@ impl Window {
 
     #[tactic(auto, using(crate::proofs::Pushed::turned, crate::proofs::Pushed::grown))]
     fn note(&mut self, frame: &[u8])
-        requires { length frame.now ≤ 255 }
+        requires { length frame.now ≤ MOST_FRAME }
         ensures frames { self.new.frames ≡ take 64 (frame.now ∷ self.old.frames) }
         ensures sent { self.new.sent ≡ min (self.old.sent + 1) (2 ^ 64 - 1) }
     {

@@ -5,7 +5,7 @@ ghost use Rattle.std.specs.Prelude.{◌≡◌, ◌+◌, ◌*◌, ◌≤◌, ◌+
 ghost use Rattle.fsoe_base.specs.Command.{command_name};
 ghost use Rattle.entry_text.specs.EntryText.{code_text, cause_text, dropped_text, did_text, sent_text, entry_text};
 
-use fsoe_base::{Cause, Code, Command, Did, Dropped, State};
+use fsoe_base::{Cause, Code, Command, Did, Dropped, MOST_DATA, MOST_FRAME, State};
 use fsoe_io::LineText;
 
 #[cfg(test)]
@@ -73,7 +73,7 @@ fn push_did(did: &Did, text: &mut LineText)
 }
 
 fn push_sent(sent: &[u8], text: &mut LineText)
-    requires bytes { length sent.now ≤ 255 }
+    requires bytes { length sent.now ≤ MOST_FRAME }
     requires room { length text.old ≤ 500 }
     ensures text { text.new ≡ text.old ++ sent_text sent.now }
     ensures most { length text.new ≤ length text.old + 3 + 2 * length sent.now }
@@ -88,8 +88,8 @@ fn push_sent(sent: &[u8], text: &mut LineText)
 /// Session 0000 > 4e020090470000`. Outputs and frames are lower-case hexadecimal, two digits a byte. There are at
 /// most 126 output bytes and 255 bytes sent, and the text holds at most 80 bytes before.
 pub fn push_entry(did: &Did, state: State, outputs: &[u8], sent: &[u8], text: &mut LineText)
-    requires outputs { length outputs.now ≤ 126 }
-    requires sent { length sent.now ≤ 255 }
+    requires outputs { length outputs.now ≤ MOST_DATA }
+    requires sent { length sent.now ≤ MOST_FRAME }
     requires room { length text.old ≤ 80 }
     ensures text { text.new ≡ text.old ++ entry_text did.now state outputs.now sent.now }
     ensures most { length text.new ≤ length text.old + 900 }

@@ -2,11 +2,11 @@
 //! data stand, and the offer that is zeros while the end is held; and what decides the outputs of all connections.
 #![tactic(auto)]
 
-pub mod application;
-pub mod bit;
-pub mod offer;
-pub mod outputs;
-pub mod watchdog;
+mod application;
+mod bit;
+mod offer;
+mod outputs;
+mod watchdog;
 
 pub use application::Application;
 pub use bit::Bit;

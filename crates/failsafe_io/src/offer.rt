@@ -2,15 +2,15 @@
 ghost use Rattle.std.specs.Prelude.{◌≡◌, ◌≤◌, replicate};
 ghost use Rattle.fsoe_base.specs.Data.{data_holds};
 
-use fsoe_base::{Command, Image, is_all_zero};
+use fsoe_base::{Command, Image, MOST_DATA, is_all_zero};
 use std::marker::Model;
 
 /// The fail-safe value of the longest safe data.
-const ZEROS: [u8; 126] = [0; 126];
+const ZEROS: [u8; MOST_DATA] = [0; MOST_DATA];
 
 /// The fail-safe value of `len` bytes, at most 126: zeros.
 pub fn zeros(len: usize) -> &'static [u8]
-    requires { len ≤ 126 }
+    requires { len ≤ MOST_DATA }
     ensures { result.now ≡ replicate len 0 }
 {
     &ZEROS[..len]

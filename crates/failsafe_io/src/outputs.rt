@@ -3,7 +3,7 @@ ghost use Rattle.std.specs.Prelude.{◌≡◌, ◌≤◌, ◌<◌, ◌*◌, leng
 ghost use Rattle.fsoe_base.specs.Image.{bit_of};
 ghost use Rattle.failsafe_io.specs.Outputs.{outputs_of};
 
-use fsoe_base::{Command, Image};
+use fsoe_base::{Command, Image, MOST_DATA};
 use std::marker::Model;
 
 /// The outputs of an end: the load of the ProcessData frame taken last, or zeros. Contracts see them as a
@@ -26,7 +26,7 @@ impl Model for Outputs {
 impl Outputs {
     /// `l` zeros, at most 126.
     pub fn new(l: usize) -> Outputs
-        requires { l ≤ 126 }
+        requires { l ≤ MOST_DATA }
         ensures { result ≡ replicate l 0 }
     {
         Outputs {
@@ -56,7 +56,7 @@ impl Outputs {
     /// The bytes.
     pub fn bytes(&self) -> &[u8]
         ensures value { result.now ≡ self.now }
-        ensures most { length result.now ≤ 126 }
+        ensures most { length result.now ≤ MOST_DATA }
     {
         self.image.bytes()
     }

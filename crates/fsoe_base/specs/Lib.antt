@@ -1,8 +1,9 @@
+pub mod ByteList
 pub mod Bytes
+pub mod Codes
 pub mod Command
 pub mod Data
 pub mod Did
-pub mod FrameBuf
 pub mod Image
 pub mod Lengths
 pub mod LengthsOf

@@ -99,3 +99,30 @@ impl Command {
 /// The code of a Reset frame: why it was sent. An end sends 00h to 0Bh; it takes and reports any code.
 #[derive(Clone, Copy, Debug, PartialEq, Eq)]
 pub struct Code(pub u8);
+
+impl Code {
+    /// A local reset, or the answer to a reset.
+    pub const LOCAL_RESET: Code = Code(0x00);
+    /// The command isn't allowed in this state.
+    pub const COMMAND_NOT_ALLOWED: Code = Code(0x01);
+    /// No command has this byte.
+    pub const UNKNOWN_COMMAND: Code = Code(0x02);
+    /// Another connection id.
+    pub const WRONG_CONNECTION: Code = Code(0x03);
+    /// A CRC is wrong.
+    pub const WRONG_CRC: Code = Code(0x04);
+    /// The watchdog expired.
+    pub const WATCHDOG_EXPIRED: Code = Code(0x05);
+    /// Another slave address.
+    pub const WRONG_ADDRESS: Code = Code(0x06);
+    /// Wrong safe data: padding that isn't 0, or an answer that doesn't repeat its piece.
+    pub const WRONG_DATA: Code = Code(0x07);
+    /// Another length of the communication parameters.
+    pub const WRONG_COMMUNICATION_LENGTH: Code = Code(0x08);
+    /// A communication parameter that isn't accepted: the watchdog or the profile word.
+    pub const WRONG_COMMUNICATION: Code = Code(0x09);
+    /// Another length of the application parameters.
+    pub const WRONG_APPLICATION_LENGTH: Code = Code(0x0A);
+    /// Application parameters that the rule doesn't accept.
+    pub const WRONG_APPLICATION: Code = Code(0x0B);
+}

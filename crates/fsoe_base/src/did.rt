@@ -1,7 +1,8 @@
 //! What one step of an end did.
 
+use crate::byte_list::Image;
 use crate::command::{Code, Command};
-use crate::image::Image;
+use crate::lengths::MOST_DATA;
 
 /// A frame that an end took: its command and its safe data.
 #[derive(Drop)]
@@ -74,10 +75,10 @@ impl Did {
     /// A frame with these safe data, at most 126 bytes, was taken, and one was sent. `passed` says whether it passed
     /// the CRC test of a session.
     pub fn took(command: Command, load: &[u8], passed: bool) -> Did
-        requires { length load.now ≤ 126 }
+        requires { length load.now ≤ MOST_DATA }
         ensures { result ≡ takes command load.now passed }
     {
-        let mut image = Image::zeros(0);
+        let mut image = Image::new();
         image.set(load);
         Did::taken(
             Took {

@@ -5,6 +5,12 @@ ghost use Rattle.fsoe_base.specs.Lengths.{is_length, frame_len};
 use crate::command::End;
 use thiserror::Error;
 
+/// The most safe data bytes of a frame.
+pub const MOST_DATA: usize = 126;
+
+/// The most bytes of a frame.
+pub const MOST_FRAME: usize = 255;
+
 /// The number of bytes of a frame that carries `l` safe data bytes: 6 for 1, else 3 + 2l, so 7 to 255.
 pub fn frame_len(l: usize) -> usize
     requires { IsTrue (is_length l) }
@@ -17,7 +23,7 @@ pub fn frame_len(l: usize) -> usize
 fn is_length(l: usize) -> bool
     ensures { result ≡ is_length l }
 {
-    l == 1 || (l.is_multiple_of(2) && (2..=126).contains(&l))
+    l == 1 || (l.is_multiple_of(2) && (2..=MOST_DATA).contains(&l))
 }
 
 /// A number of safe data bytes is neither 1 nor even and from 2 to 126.

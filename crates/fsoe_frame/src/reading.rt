@@ -4,7 +4,7 @@ ghost use Rattle.std.specs.Prelude.{◌≡◌, ◌↔◌, ◌≤◌, ◌<◌, �
 ghost use Rattle.fsoe_base.specs.Lengths.{is_length, group_count, frame_len};
 ghost use Rattle.fsoe_frame.specs.Parts.{frame_of, bytes_of};
 
-use fsoe_base::Image;
+use fsoe_base::{Image, MOST_FRAME};
 use std::marker::Model;
 
 /// The bytes of a frame with a known number of safe data bytes, read in place. Contracts see it as the
@@ -89,7 +89,7 @@ impl<'a> FrameView<'a> {
     /// The bytes, at most 255.
     pub fn bytes(&self) -> &'a [u8]
         ensures value { result.now ≡ bytes_of self.now }
-        ensures most { length result.now ≤ 255 }
+        ensures most { length result.now ≤ MOST_FRAME }
     {
         self.bytes
     }

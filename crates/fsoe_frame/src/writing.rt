@@ -6,7 +6,7 @@ ghost use Rattle.fsoe_base.specs.Lengths.{is_length, group_count};
 ghost use Rattle.fsoe_base.specs.Bytes.{low_high};
 ghost use Rattle.fsoe_frame.specs.Layout.{layout};
 
-use fsoe_base::{Command, FrameBuf};
+use fsoe_base::{Command, FrameBuf, MOST_FRAME};
 
 /// Writes into `out` the frame of a command with this load of safe data, these CRCs and this connection
 /// id, in place of what `out` held. The load has a valid number of bytes, 1 or an even number from
@@ -32,7 +32,7 @@ pub fn write(command: Command, load: &[u8], crcs: &[u16], conn: u16, out: &mut F
 
 /// Appends a number of 16 bits, low byte first.
 fn push_number(out: &mut FrameBuf, n: u16)
-    requires { length out.old + 2 ≤ 255 }
+    requires { length out.old + 2 ≤ MOST_FRAME }
     ensures { out.new ≡ out.old ++ low_high n }
 {
     out.push_all(&n.to_le_bytes());

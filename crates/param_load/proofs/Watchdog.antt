@@ -9,7 +9,7 @@ use Rattle.param_load.specs.declared.contents.Expected.TheVariants as expected
 use Rattle.param_load.specs.declared.app_rule.AppRule.{AppRule}
 use Rattle.param_load.specs.declared.profile.Profile.{Profile}
 use Rattle.param_load.specs.AppRule.{rule_len}
-use Rattle.fsoe_base.specs.Command.{code}
+use Rattle.fsoe_base.specs.Codes.{wrong_communication_length, wrong_communication, wrong_application_length}
 use Rattle.param_load.specs.Contents.{fails, word_is, communication_fault, app_fault, app_part, field_fault, padding_fault, contents_fault}
 use Rattle.param_load.specs.Profile.{id_len}
 use Rattle.param_load.specs.Payload.{number_at}
@@ -31,9 +31,9 @@ watchdog-tested most rule profile before u rest f =
     let fields = first (field_fault (expected.Parameter most rule profile) before u) (padding_fault (expected.Parameter most rule profile) u rest) f in
     let communication = first (communication_fault most rule profile before u)
     (app_fault rule (id_len profile + 3 + rule_len rule) before u (app_part (expected.Parameter most rule profile) u)) fields in
-    second (fails before u 1 (number_at 0 u == id_len profile)) (fails before u 3 (nat_lt 0 (number_at 2 u) && nat_le (number_at 2 u) most)) (code 0x08) (code 0x09)
-    (if fails before u (id_len profile + 1) (word_is profile u) then Some (code 0x09)
-    else if fails before u (id_len profile + 3) (number_at (id_len profile + 2) u == rule_len rule) then Some (code 0x0A) else None) communication
+    second (fails before u 1 (number_at 0 u == id_len profile)) (fails before u 3 (nat_lt 0 (number_at 2 u) && nat_le (number_at 2 u) most)) wrong_communication_length wrong_communication
+    (if fails before u (id_len profile + 1) (word_is profile u) then Some wrong_communication
+    else if fails before u (id_len profile + 3) (number_at (id_len profile + 2) u == rule_len rule) then Some wrong_application_length else None) communication
 
 stays : (u p : List ℕ) → 3 < length u → number_at 2 (u ++ p) ≡ number_at 2 u
 stays u p h = grind (arith, get_or_append_left u p 0 2 (omega arith), get_or_append_left u p 0 3 h)

@@ -5,7 +5,7 @@ use Rattle.std.specs.Prelude.{ℕ, ◌+◌, ◌==◌, nat_le, nat_lt, Bool, true
 use Rattle.std.specs.Option.{option_or}
 use Rattle.fsoe_base.specs.declared.command.Code.{Code}
 use Rattle.fsoe_base.specs.Bytes.{all_zero}
-use Rattle.fsoe_base.specs.Command.{code}
+use Rattle.fsoe_base.specs.Codes.{wrong_connection, wrong_address, wrong_data, wrong_communication_length, wrong_communication, wrong_application_length, wrong_application}
 use Rattle.param_load.specs.declared.app_rule.AppRule.{AppRule}
 use Rattle.param_load.specs.declared.contents.Expected.{Expected}
 use Rattle.param_load.specs.declared.contents.Expected.TheVariants as expected
@@ -53,22 +53,22 @@ word_is (profile.Two word) u = number_at 4 u == word
 -- the connection id and the slave address
 abbrev pub connection_fault : ℕ → ℕ → ℕ → List ℕ → Option Code
 connection_fault conn address before u =
-    if fails before u 1 (number_at 0 u == conn) then Some (code 0x03)
-    else if fails before u 3 (number_at 2 u == address) then Some (code 0x06)
+    if fails before u 1 (number_at 0 u == conn) then Some wrong_connection
+    else if fails before u 3 (number_at 2 u == address) then Some wrong_address
     else None
 
 -- the length of the communication parameters, the watchdog, the profile word, and the number of application parameters
 abbrev pub communication_fault : ℕ → AppRule → Profile → ℕ → List ℕ → Option Code
 communication_fault most rule profile before u =
-    if fails before u 1 (number_at 0 u == id_len profile) then Some (code 0x08)
-    else if fails before u 3 (nat_lt 0 (number_at 2 u) && nat_le (number_at 2 u) most) then Some (code 0x09)
-    else if fails before u (id_len profile + 1) (word_is profile u) then Some (code 0x09)
-    else if fails before u (id_len profile + 3) (number_at (id_len profile + 2) u == rule_len rule) then Some (code 0x0A)
+    if fails before u 1 (number_at 0 u == id_len profile) then Some wrong_communication_length
+    else if fails before u 3 (nat_lt 0 (number_at 2 u) && nat_le (number_at 2 u) most) then Some wrong_communication
+    else if fails before u (id_len profile + 1) (word_is profile u) then Some wrong_communication
+    else if fails before u (id_len profile + 3) (number_at (id_len profile + 2) u == rule_len rule) then Some wrong_application_length
     else None
 
 -- the application parameters, when all have come
 abbrev pub app_fault : AppRule → ℕ → ℕ → List ℕ → List ℕ → Option Code
-app_fault rule last before u app = if fails before u last (allows rule app) then Some (code 0x0B) else None
+app_fault rule last before u app = if fails before u last (allows rule app) then Some wrong_application else None
 
 -- the first field that fails its test
 abbrev pub field_fault : Expected → ℕ → List ℕ → Option Code
@@ -80,7 +80,7 @@ field_fault (expected.Parameter most rule profile) before u =
 
 -- the padding: the joined bytes past the payload's end, and the data of the frame past its piece
 abbrev pub padding_fault : Expected → List ℕ → List ℕ → Option Code
-padding_fault e u rest = if all_zero (drop (expected_len e) u) && all_zero rest then None else Some (code 0x07)
+padding_fault e u rest = if all_zero (drop (expected_len e) u) && all_zero rest then None else Some wrong_data
 
 -- the first test of the contents that fails: of the fields, then of the padding
 abbrev pub contents_fault : Expected → ℕ → List ℕ → List ℕ → Option Code

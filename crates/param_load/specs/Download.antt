@@ -3,7 +3,7 @@ use Rattle.std.specs.Prelude.{ℕ, ◌+◌, nat_le, nat_eq, Bool, List, length, 
 use Rattle.std.specs.Cmp.Lexicographic.{pointwise}
 use Rattle.fsoe_base.specs.declared.command.Code.{Code}
 use Rattle.fsoe_base.specs.Bytes.{all_zero}
-use Rattle.fsoe_base.specs.Command.{code}
+use Rattle.fsoe_base.specs.Codes.{wrong_data}
 use Rattle.param_load.specs.declared.upload.Progress.{Progress}
 use Rattle.param_load.specs.declared.upload.Progress.TheVariants as progress
 use Rattle.param_load.specs.DownloadView.{DownloadView}
@@ -41,4 +41,4 @@ advanced v = record v { from = v.from + v.piece }
 abbrev pub outcome : DownloadView → List ℕ → Result Progress Code
 outcome v bytes =
     if is_answer v bytes then Ok (if is_whole (advanced v) then progress.Whole else progress.More)
-    else Err (code 0x07)
+    else Err wrong_data

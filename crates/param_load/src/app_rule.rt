@@ -3,7 +3,13 @@ ghost use Rattle.std.specs.Prelude.{◌≡◌, ◌≤◌, nat_le, IsTrue};
 ghost use Rattle.std.specs.Cmp.Lexicographic.{pointwise};
 ghost use Rattle.param_load.specs.AppRule.{rule_len, allows, is_acceptable};
 
-use crate::app_bytes::AppBytes;
+use fsoe_base::ByteList;
+
+/// The most bytes of application parameters.
+const MOST_APPLICATION: usize = 512;
+
+/// Application parameters: at most 512 bytes that the application gives a meaning. Contracts see them as a list.
+pub type AppBytes = ByteList<MOST_APPLICATION>;
 
 /// Which application parameters a slave accepts.
 #[derive(Debug, Drop)]
@@ -63,7 +69,7 @@ impl AppRule {
         ensures { result ≡ is_acceptable self.now }
     {
         match self {
-            AppRule::Any(n) => *n <= 512,
+            AppRule::Any(n) => usize::from(*n) <= MOST_APPLICATION,
             AppRule::Exact(_) => true,
             AppRule::Ranges(low, high) => each_at_most(low.bytes(), high.bytes()),
         }

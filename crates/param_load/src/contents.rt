@@ -4,7 +4,7 @@ ghost use Rattle.param_load.specs.Contents.{is_expectable, expected_len, app_par
 ghost use Rattle.param_load.specs.Profile.{id_len};
 
 use crate::app_rule::AppRule;
-use crate::joined::Joined;
+use crate::joined::{Joined, number_at, past};
 use crate::profile::Profile;
 use fsoe_base::{Code, is_all_zero};
 
@@ -39,18 +39,18 @@ fn word_is(profile: Profile, joined: &Joined) -> bool
 {
     match profile {
         Profile::One => true,
-        Profile::Two(word) => joined.number_at(4) == word,
+        Profile::Two(word) => number_at(joined.bytes(), 4) == word,
     }
 }
 
 fn connection_fault(conn: u16, address: u16, joined: &Joined, before: usize) -> Option<Code>
     ensures { result ≡ connection_fault conn address before joined.now }
 {
-    if comes(joined, before, 1) && joined.number_at(0) != conn {
-        return Some(Code(0x03));
+    if comes(joined, before, 1) && number_at(joined.bytes(), 0) != conn {
+        return Some(Code::WRONG_CONNECTION);
     }
-    if comes(joined, before, 3) && joined.number_at(2) != address {
-        return Some(Code(0x06));
+    if comes(joined, before, 3) && number_at(joined.bytes(), 2) != address {
+        return Some(Code::WRONG_ADDRESS);
     }
     None
 }
@@ -65,19 +65,19 @@ fn communication_fault(
     ensures { result ≡ communication_fault most rule.now profile before joined.now }
 {
     let id_len = profile.id_len();
-    if comes(joined, before, 1) && usize::from(joined.number_at(0)) != id_len {
-        return Some(Code(0x08));
+    if comes(joined, before, 1) && usize::from(number_at(joined.bytes(), 0)) != id_len {
+        return Some(Code::WRONG_COMMUNICATION_LENGTH);
     }
-    if comes(joined, before, 3) && !(1..=most).contains(&joined.number_at(2)) {
-        return Some(Code(0x09));
+    if comes(joined, before, 3) && !(1..=most).contains(&number_at(joined.bytes(), 2)) {
+        return Some(Code::WRONG_COMMUNICATION);
     }
     if comes(joined, before, id_len + 1) && !word_is(profile, joined) {
-        return Some(Code(0x09));
+        return Some(Code::WRONG_COMMUNICATION);
     }
     if comes(joined, before, id_len + 3)
-        && usize::from(joined.number_at(id_len + 2)) != rule.len()
+        && usize::from(number_at(joined.bytes(), id_len + 2)) != rule.len()
     {
-        return Some(Code(0x0A));
+        return Some(Code::WRONG_APPLICATION_LENGTH);
     }
     None
 }
@@ -133,7 +133,7 @@ impl Expected {
                 }
                 let last = profile.id_len() + 3 + rule.len();
                 if comes(joined, before, last) && !rule.allows(self.app_part(joined)) {
-                    return Some(Code(0x0B));
+                    return Some(Code::WRONG_APPLICATION);
                 }
                 None
             }
@@ -149,7 +149,11 @@ impl Expected {
         if let Some(code) = self.field_fault(joined, before) {
             return Some(code);
         }
-        let is_padded = is_all_zero(joined.past(self.len())) && is_all_zero(rest);
-        if is_padded { None } else { Some(Code(0x07)) }
+        let is_padded = is_all_zero(past(joined.bytes(), self.len())) && is_all_zero(rest);
+        if is_padded {
+            None
+        } else {
+            Some(Code::WRONG_DATA)
+        }
     }
 }

@@ -1,7 +1,7 @@
 //! What a master sends piece by piece in a handshake.
 use crate::payload::{Payload, padded};
 use crate::upload::Progress;
-use fsoe_base::{Code, Image, is_all_zero};
+use fsoe_base::{Code, Image, MOST_DATA, is_all_zero};
 use std::marker::Model;
 
 /// A payload that a master sends piece by piece, one a frame, until each piece is answered. Contracts see the
@@ -33,7 +33,7 @@ impl Download {
     /// The download of this payload in pieces of `piece` bytes, at most 126. With `echo` each answer repeats its
     /// piece; without it the answers carry data of the slave's own.
     pub fn new(payload: Payload, piece: usize, echo: bool) -> Download
-        requires { piece ≤ 126 }
+        requires { piece ≤ MOST_DATA }
         ensures { result ≡ download payload piece echo }
     {
         Download {
@@ -54,7 +54,7 @@ impl Download {
     /// The piece in turn, then zeros up to `len` bytes, from a piece to 126. Of a whole download zeros alone.
     pub fn load(&self, len: usize) -> Image
         requires piece { self.now.piece ≤ len }
-        requires most { len ≤ 126 }
+        requires most { len ≤ MOST_DATA }
         ensures value { result ≡ padded (piece_in_turn self.now) len }
         ensures len { length result ≡ len }
     {
@@ -64,7 +64,7 @@ impl Download {
     /// Whether these bytes answer the piece in turn.
     fn is_answer(&self, bytes: &[u8]) -> bool
         requires piece { self.now.piece ≤ length bytes.now }
-        requires most { length bytes.now ≤ 126 }
+        requires most { length bytes.now ≤ MOST_DATA }
         ensures { result ≡ is_answer self.now bytes.now }
     {
         if self.echo {
@@ -80,13 +80,13 @@ impl Download {
     pub fn check(&mut self, bytes: &[u8]) -> Result<Progress, Code>
         requires more { is_whole self.old ≡ false }
         requires piece { self.old.piece ≤ length bytes.now }
-        requires most { length bytes.now ≤ 126 }
+        requires most { length bytes.now ≤ MOST_DATA }
         ensures outcome { result ≡ outcome self.old bytes.now }
         ensures advanced { OnOk result (self.new ≡ advanced self.old) }
         ensures refused { OnErr result (self.new ≡ self.old) }
     {
         if !self.is_answer(bytes) {
-            return Err(Code(0x07));
+            return Err(Code::WRONG_DATA);
         }
         let len = self.payload.bytes().len();
         self.from += self.piece;

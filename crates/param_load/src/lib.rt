@@ -2,22 +2,20 @@
 //! payloads that the master sends piece by piece, and the upload that tests them.
 #![tactic(auto)]
 
-pub mod app_bytes;
 pub mod app_rule;
-pub mod bad_setting;
+mod bad_setting;
 mod contents;
-pub mod download;
-pub mod entry;
+mod download;
+mod entry;
 mod joined;
-pub mod master_settings;
-pub mod payload;
-pub mod profile;
-pub mod slave_settings;
-pub mod terms;
-pub mod upload;
+mod master_settings;
+mod payload;
+mod profile;
+mod slave_settings;
+mod terms;
+mod upload;
 
-pub use app_bytes::AppBytes;
-pub use app_rule::AppRule;
+pub use app_rule::{AppBytes, AppRule};
 pub use bad_setting::BadSetting;
 pub use download::Download;
 pub use entry::{Entry, Move};

@@ -2,11 +2,11 @@
 ghost use Rattle.std.specs.Prelude.{◌≡◌, ◌<◌, IsTrue, IsOk, IfOk};
 ghost use Rattle.param_load.specs.Profile.{allows_id};
 
-use crate::app_bytes::AppBytes;
+use crate::app_rule::AppBytes;
 use crate::bad_setting::BadSetting;
 use crate::profile::Profile;
 use crate::terms::Terms;
-use fsoe_base::{End, Lengths};
+use fsoe_base::{End, Lengths, MOST_DATA};
 
 /// What a master is set to. The connection id and the watchdog aren't 0, and the nonce is one that the profile
 /// allows.
@@ -96,7 +96,7 @@ impl MasterSettings {
     pub fn own_len(&self) -> usize
         ensures value { result ≡ self.now.lengths.master }
         ensures valid { IsTrue (is_length result) }
-        ensures most { result ≤ 126 }
+        ensures most { result ≤ MOST_DATA }
     {
         self.lengths.of(End::Master)
     }
@@ -105,7 +105,7 @@ impl MasterSettings {
     pub fn peer_len(&self) -> usize
         ensures value { result ≡ self.now.lengths.slave }
         ensures valid { IsTrue (is_length result) }
-        ensures most { result ≤ 126 }
+        ensures most { result ≤ MOST_DATA }
     {
         self.lengths.of(End::Slave)
     }
@@ -115,7 +115,7 @@ impl MasterSettings {
         ensures value { result ≡ min self.now.lengths.master self.now.lengths.slave }
         ensures own { result ≤ self.now.lengths.master }
         ensures peer { result ≤ self.now.lengths.slave }
-        ensures most { result ≤ 126 }
+        ensures most { result ≤ MOST_DATA }
     {
         self.own_len().min(self.peer_len())
     }

@@ -4,16 +4,16 @@ ghost use Rattle.fsoe_base.specs.Bytes.{low_high};
 ghost use Rattle.param_load.specs.Profile.{allows_id};
 ghost use Rattle.param_load.specs.Payload.{session_payload, connection_payload, parameter_payload, piece_from, padded};
 
-use crate::app_bytes::AppBytes;
+use crate::app_rule::AppBytes;
+use crate::joined::past;
 use crate::profile::Profile;
-use arrayvec::ArrayVec;
-use fsoe_base::Image;
+use fsoe_base::{ByteList, Image, MOST_DATA};
 use std::marker::Model;
 
 /// A payload of a handshake, at most 520 bytes, which is sent in pieces, one a frame. Contracts see it as a list.
 #[derive(Debug, Drop)]
 pub struct Payload {
-    inner: ArrayVec<u8, 520>,
+    inner: ByteList<520>,
 }
 
 impl Model for Payload {
@@ -21,7 +21,7 @@ impl Model for Payload {
 
     ghost Value = { List ℕ };
 
-    ghost view = { λ p. p.inner.items };
+    ghost view = { λ p. p.inner };
 }
 
 impl Payload {
@@ -29,7 +29,7 @@ impl Payload {
         ensures { result ≡ [] }
     {
         Payload {
-            inner: ArrayVec::new(),
+            inner: ByteList::new(),
         }
     }
 
@@ -38,7 +38,7 @@ impl Payload {
         requires { length self.old + length bytes.now ≤ 520 }
         ensures { self.new ≡ self.old ++ bytes.now }
     {
-        let _fits = self.inner.try_extend_from_slice(bytes);
+        self.inner.push_all(bytes);
     }
 
     /// Appends a number in 2 bytes, low byte first, for which there is room.
@@ -101,37 +101,29 @@ impl Payload {
         ensures value { result.now ≡ self.now }
         ensures most { length result.now ≤ 520 }
     {
-        self.inner.as_slice()
+        self.inner.bytes()
     }
 
+    #[tactic(auto, using(std::proofs::lemmas::List::take_min))]
     /// The piece that begins at this place: `piece` bytes, or those up to the payload's end.
     pub fn piece_from(&self, from: usize, piece: usize) -> &[u8]
         ensures value { result.now ≡ piece_from self.now from piece }
         ensures most { length result.now ≤ piece }
     {
-        let rest = if from < self.inner.len() {
-            &self.inner.as_slice()[from..]
-        } else {
-            &[]
-        };
-        if piece < rest.len() {
-            &rest[..piece]
-        } else {
-            rest
-        }
+        let rest = past(self.bytes(), from);
+        &rest[..piece.min(rest.len())]
     }
 }
 
 /// A piece of a payload as the safe data of a frame: its bytes, then zeros up to `len` bytes, at most 126.
 pub fn padded(piece: &[u8], len: usize) -> Image
     requires fits { length piece.now ≤ len }
-    requires most { len ≤ 126 }
+    requires most { len ≤ MOST_DATA }
     ensures value { result ≡ padded piece.now len }
     ensures len { length result ≡ len }
 {
-    let mut bytes = [0; 126];
-    bytes[..piece.len()].copy_from_slice(piece);
-    let mut load = Image::zeros(0);
-    load.set(&bytes[..len]);
+    let mut load = Image::new();
+    load.push_all(piece);
+    load.push_all(&[0; MOST_DATA][..len - piece.len()]);
     load
 }

@@ -6,7 +6,7 @@ ghost use Rattle.param_load.specs.Profile.{allows_id};
 use crate::app_rule::AppRule;
 use crate::bad_setting::BadSetting;
 use crate::profile::Profile;
-use fsoe_base::{End, Lengths};
+use fsoe_base::{End, Lengths, MOST_DATA};
 
 /// What a slave is set to. The limits `hand` and `most` aren't 0, the rule is acceptable, and the nonce is one
 /// that the profile allows.
@@ -99,7 +99,7 @@ impl SlaveSettings {
     pub fn own_len(&self) -> usize
         ensures value { result ≡ self.now.lengths.slave }
         ensures valid { IsTrue (is_length result) }
-        ensures most { result ≤ 126 }
+        ensures most { result ≤ MOST_DATA }
     {
         self.lengths.of(End::Slave)
     }
@@ -108,7 +108,7 @@ impl SlaveSettings {
     pub fn peer_len(&self) -> usize
         ensures value { result ≡ self.now.lengths.master }
         ensures valid { IsTrue (is_length result) }
-        ensures most { result ≤ 126 }
+        ensures most { result ≤ MOST_DATA }
     {
         self.lengths.of(End::Master)
     }
@@ -118,7 +118,7 @@ impl SlaveSettings {
         ensures value { result ≡ min self.now.lengths.master self.now.lengths.slave }
         ensures own { result ≤ self.now.lengths.slave }
         ensures peer { result ≤ self.now.lengths.master }
-        ensures most { result ≤ 126 }
+        ensures most { result ≤ MOST_DATA }
     {
         self.own_len().min(self.peer_len())
     }

@@ -1,7 +1,7 @@
 //! What the ends of a connection agreed on.
 ghost use Rattle.std.specs.Prelude.{◌≡◌};
 
-use crate::app_bytes::AppBytes;
+use crate::app_rule::AppBytes;
 use crate::profile::Profile;
 
 /// What the ends of a connection agreed on in a handshake, and exchange data under.

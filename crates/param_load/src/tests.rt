@@ -38,15 +38,27 @@ fn parameters_are_tested_field_by_field(rt: HostRuntime) {
     for (frames, want) in [
         ([[2, 0], [100, 0], [1, 0], [0x20, 0]].as_slice(), whole),
         (&[[2, 0], [100, 0], [1, 0]], Ok(Progress::More)),
-        (&[[2, 0], [100, 0], [1, 0], [0x30, 0]], Err(Code(0x0B))),
-        (&[[2, 0], [100, 0], [1, 0], [0x0F, 0]], Err(Code(0x0B))),
-        (&[[2, 0], [100, 0], [1, 0], [0x20, 1]], Err(Code(0x07))),
-        (&[[2, 0], [100, 0], [2, 0]], Err(Code(0x0A))),
+        (
+            &[[2, 0], [100, 0], [1, 0], [0x30, 0]],
+            Err(Code::WRONG_APPLICATION),
+        ),
+        (
+            &[[2, 0], [100, 0], [1, 0], [0x0F, 0]],
+            Err(Code::WRONG_APPLICATION),
+        ),
+        (
+            &[[2, 0], [100, 0], [1, 0], [0x20, 1]],
+            Err(Code::WRONG_DATA),
+        ),
+        (
+            &[[2, 0], [100, 0], [2, 0]],
+            Err(Code::WRONG_APPLICATION_LENGTH),
+        ),
         (&[[2, 0], [0xE8, 3], [1, 0]], Ok(Progress::More)),
-        (&[[2, 0], [0xE9, 3]], Err(Code(0x09))),
-        (&[[2, 0], [0, 0]], Err(Code(0x09))),
-        (&[[4, 0]], Err(Code(0x08))),
-        (&[[2, 1]], Err(Code(0x08))),
+        (&[[2, 0], [0xE9, 3]], Err(Code::WRONG_COMMUNICATION)),
+        (&[[2, 0], [0, 0]], Err(Code::WRONG_COMMUNICATION)),
+        (&[[4, 0]], Err(Code::WRONG_COMMUNICATION_LENGTH)),
+        (&[[2, 1]], Err(Code::WRONG_COMMUNICATION_LENGTH)),
     ] {
         let mut upload = Upload::parameter(2, 1000, &one_byte(), Profile::One);
         assert_eq!(rt; outcome(&mut upload, frames), want, "after {frames:?}");
@@ -56,16 +68,16 @@ fn parameters_are_tested_field_by_field(rt: HostRuntime) {
             [[4, 0], [100, 0], [7, 0], [1, 0], [0x10, 0]].as_slice(),
             whole,
         ),
-        (&[[4, 0], [100, 0], [8, 0]], Err(Code(0x09))),
-        (&[[2, 0]], Err(Code(0x08))),
+        (&[[4, 0], [100, 0], [8, 0]], Err(Code::WRONG_COMMUNICATION)),
+        (&[[2, 0]], Err(Code::WRONG_COMMUNICATION_LENGTH)),
     ] {
         let mut upload = Upload::parameter(2, 1000, &one_byte(), Profile::Two(7));
         assert_eq!(rt; outcome(&mut upload, frames), want, "after {frames:?}");
     }
     for (frames, want) in [
         ([[1, 0], [2, 0]].as_slice(), whole),
-        (&[[1, 1]], Err(Code(0x03))),
-        (&[[1, 0], [3, 0]], Err(Code(0x06))),
+        (&[[1, 1]], Err(Code::WRONG_CONNECTION)),
+        (&[[1, 0], [3, 0]], Err(Code::WRONG_ADDRESS)),
     ] {
         let mut upload = Upload::connection(2, 1, 2);
         assert_eq!(rt; outcome(&mut upload, frames), want, "after {frames:?}");
@@ -113,11 +125,11 @@ fn answers_to_a_download_are_tested(rt: HostRuntime) {
     for (echo, answers, want) in [
         (true, [[1, 0, 0, 0]].as_slice(), Ok(Progress::More)),
         (true, &[[1, 0, 0, 0], [2, 0, 0, 0]], Ok(Progress::Whole)),
-        (true, &[[1, 0, 0, 0], [3, 0, 0, 0]], Err(Code(0x07))),
-        (true, &[[1, 0, 0, 1]], Err(Code(0x07))),
-        (true, &[[0, 0, 0, 0]], Err(Code(0x07))),
+        (true, &[[1, 0, 0, 0], [3, 0, 0, 0]], Err(Code::WRONG_DATA)),
+        (true, &[[1, 0, 0, 1]], Err(Code::WRONG_DATA)),
+        (true, &[[0, 0, 0, 0]], Err(Code::WRONG_DATA)),
         (false, &[[9, 9, 0, 0], [9, 9, 0, 0]], Ok(Progress::Whole)),
-        (false, &[[9, 9, 1, 0]], Err(Code(0x07))),
+        (false, &[[9, 9, 1, 0]], Err(Code::WRONG_DATA)),
     ] {
         let mut download = Download::new(Payload::connection(1, 2), 2, echo);
         assert_eq!(rt; download.load(4).bytes(), [1, 0, 0, 0].as_slice());
@@ -126,7 +138,7 @@ fn answers_to_a_download_are_tested(rt: HostRuntime) {
     let mut download = Download::new(Payload::connection(1, 2), 2, true);
     assert_eq!(rt;
         answered(&mut download, &[[1, 0, 0, 0], [3, 0, 0, 0]]),
-        Err(Code(0x07))
+        Err(Code::WRONG_DATA)
     );
     assert_eq!(rt; download.load(4).bytes(), [2, 0, 0, 0].as_slice());
 }

@@ -1,11 +1,10 @@
 //! What a slave takes piece by piece in a handshake.
-use crate::app_bytes::AppBytes;
-use crate::app_rule::AppRule;
+use crate::app_rule::{AppBytes, AppRule};
 use crate::contents::Expected;
-use crate::joined::Joined;
+use crate::joined::{Joined, number_at, past};
 use crate::payload::padded;
 use crate::profile::Profile;
-use fsoe_base::{Code, Image};
+use fsoe_base::{Code, Image, MOST_DATA};
 use std::marker::Model;
 
 /// How far a payload has come.
@@ -46,7 +45,7 @@ impl Upload {
 
     /// The upload of a session id of this profile, in pieces of `piece` bytes, at most 126.
     pub fn session(piece: usize, profile: Profile) -> Upload
-        requires { piece ≤ 126 }
+        requires { piece ≤ MOST_DATA }
         ensures { result ≡ session_upload piece profile }
     {
         Upload {
@@ -59,7 +58,7 @@ impl Upload {
 
     /// The upload of this connection id and this slave address, in pieces of `piece` bytes, at most 126.
     pub fn connection(piece: usize, conn: u16, address: u16) -> Upload
-        requires { piece ≤ 126 }
+        requires { piece ≤ MOST_DATA }
         ensures { result ≡ connection_upload piece conn address }
     {
         Upload {
@@ -73,7 +72,7 @@ impl Upload {
     /// The upload of parameters of this profile, with a watchdog of 1 to `most` ticks and application parameters
     /// after a rule that settings may have, in pieces of `piece` bytes, at most 126.
     pub fn parameter(piece: usize, most: u16, rule: &AppRule, profile: Profile) -> Upload
-        requires most { piece ≤ 126 }
+        requires most { piece ≤ MOST_DATA }
         requires acceptable { IsTrue (is_acceptable rule.now) }
         ensures { result ≡ parameter_upload piece most rule.now profile }
     {
@@ -119,7 +118,7 @@ impl Upload {
     {
         let whole = self.expected.len();
         let before = self.joined.len();
-        self.joined.add(&bytes[..self.piece]);
+        self.joined.push_all(&bytes[..self.piece]);
         if let Some(code) = self
             .expected
             .contents_fault(&self.joined, before, &bytes[self.piece..])
@@ -137,12 +136,12 @@ impl Upload {
     /// The piece that came last, then zeros up to `len` bytes, from a piece to 126.
     pub fn echo(&self, len: usize) -> Image
         requires piece { self.now.piece ≤ len }
-        requires most { len ≤ 126 }
+        requires most { len ≤ MOST_DATA }
         ensures value { result ≡ padded (last_piece self.now) len }
         ensures len { length result ≡ len }
     {
         let from = self.joined.len().saturating_sub(self.piece);
-        padded(self.joined.past(from), len)
+        padded(past(self.joined.bytes(), from), len)
     }
 
     /// The session id of a whole upload of one.
@@ -151,10 +150,10 @@ impl Upload {
         requires session { IsTrue (is_session self.now.expected) }
         ensures { result ≡ id_of self.now.expected self.now.joined }
     {
-        let low = u32::from(self.joined.number_at(0));
+        let low = u32::from(number_at(self.joined.bytes(), 0));
         match &self.expected {
             Expected::Session(Profile::Two(_)) => low
-                + 65_536 * u32::from(self.joined.number_at(2)),
+                + 65_536 * u32::from(number_at(self.joined.bytes(), 2)),
             _ => low,
         }
     }
@@ -166,7 +165,7 @@ impl Upload {
         ensures value { result ≡ number_at 2 self.now.joined }
         ensures some { 0 < result }
     {
-        self.joined.number_at(2)
+        number_at(self.joined.bytes(), 2)
     }
 
     /// The application parameters of a whole upload of parameters.
