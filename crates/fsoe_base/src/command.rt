@@ -5,17 +5,24 @@ ghost use Rattle.fsoe_base.specs.Command.{command_byte, command_of, command_name
 /// One of the two ends of a connection.
 #[derive(Clone, Copy, Debug, PartialEq, Eq)]
 pub enum End {
+    /// Begins sessions, and sends its parameters to the slave.
     Master,
+    /// Answers each frame of its master, and takes parameters.
     Slave,
 }
 
 /// The state of an end. Its outputs are zeros in every state but `Data`.
 #[derive(Clone, Copy, Debug, PartialEq, Eq)]
 pub enum State {
+    /// There is no session.
     Reset,
+    /// Session ids are exchanged.
     Session,
+    /// The connection id and the slave's address are exchanged.
     Connection,
+    /// The watchdog and the application parameters are exchanged.
     Parameter,
+    /// Safe data are exchanged.
     Data,
 }
 

@@ -7,7 +7,9 @@ use crate::lengths::MOST_DATA;
 /// A frame that an end took: its command and its safe data.
 #[derive(Drop)]
 pub struct Took {
+    /// What the frame is for.
     pub command: Command,
+    /// Its safe data, at most 126 bytes.
     pub load: Image,
 }
 
@@ -36,12 +38,15 @@ pub enum Dropped {
 /// What one step of an end did. At most one of `took`, `reset` and `dropped` is there.
 #[derive(Drop)]
 pub struct Did {
+    /// The frame that was taken.
     pub took: Option<Took>,
     /// A frame that is no Reset frame came as far as the test of its CRCs and passed it.
     pub passed: bool,
     /// A frame was sent.
     pub sent: bool,
+    /// Why the end went to state Reset.
     pub reset: Option<Cause>,
+    /// Why a frame was dropped.
     pub dropped: Option<Dropped>,
 }
 

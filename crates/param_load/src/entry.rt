@@ -20,15 +20,21 @@ pub enum Move {
     Local,
 }
 
-/// One step of an end: the event, what it did, the frame that it sent, empty for none, and the state, the
-/// outputs and the terms after it. There are terms exactly in state Data.
+/// One step of an end.
 #[derive(Drop)]
 pub struct Entry {
+    /// Which end it is.
     pub end: End,
+    /// The event.
     pub what: Move,
+    /// What the end did.
     pub did: Did,
+    /// The frame that it sent, no bytes where it sent none.
     pub sent: FrameBuf,
+    /// The state after it.
     pub state: State,
+    /// The outputs after it.
     pub outputs: Image,
+    /// The terms after it, which there are exactly in state Data.
     pub terms: Option<Terms>,
 }

@@ -37,6 +37,8 @@ impl Profile {
 /// The profiles of both ends of a connection.
 #[derive(Clone, Copy, Debug, PartialEq, Eq)]
 pub struct Profiles {
+    /// The master's.
     pub master: Profile,
+    /// The slave's.
     pub slave: Profile,
 }

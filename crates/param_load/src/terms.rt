@@ -15,6 +15,7 @@ pub struct Terms {
     pub watchdog: u16,
     /// The application parameters.
     pub app: AppBytes,
+    /// The profile of parameters.
     pub profile: Profile,
 }
 
