@@ -256,9 +256,9 @@ lines_sound number h (Ok text ∷ rest) s =
 
 new_sound : (kind : HeaderKind) → Sound (heading_new kind)
 new_sound kind = (
-    record { master = refl; slave = refl },
-    record { conn = omega arith; watchdog = omega arith; allowed = profile_allows 0 },
-    record { hand = omega arith; most = omega arith; acceptable = refl; allowed = profile_allows 0 },
+  record { master = refl; slave = refl },
+  record { conn = omega arith; watchdog = omega arith; allowed = profile_allows 0 },
+  record { hand = omega arith; most = omega arith; acceptable = refl; allowed = profile_allows 0 },
 )
 
 header_sound : (kind : HeaderKind) (lines : List (Result (List ℕ) InputCause)) → IfOk (header_in 1 (heading_new kind) lines) (λ whole. Sound whole.heading)

@@ -55,6 +55,7 @@ pub enum Event {
 /// What a line after the header says.
 #[derive(Debug, Drop)]
 pub enum ScheduleLine {
+    /// An event.
     Step(Event),
     /// The end of the schedule.
     End,

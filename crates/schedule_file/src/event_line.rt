@@ -10,7 +10,10 @@ ghost use Rattle.schedule_file.specs.Field.{fields_after};
 ghost use Rattle.schedule_file.specs.Fields.{Becomes};
 
 use crate::event::{Event, MAX_BACK, ScheduleLine};
-use crate::field::{HexBytes, frame_field, next_field, no_field, number, number_16, number_32, one_field, one_hex_field};
+use crate::field::{
+    HexBytes, frame_field, next_field, no_field, number, number_16, number_32, one_field,
+    one_hex_field,
+};
 use crate::line_cause::LineCause;
 use fsoe_base::{End, FrameBuf, Image, Lengths};
 use param_load::Profile;
@@ -55,6 +58,7 @@ fn delivered_len(to: End, lengths: &Lengths) -> usize
     }
 }
 
+/// `-<back>`: a frame that the peer sent.
 pub fn read_deliver(
     to: End,
     fields: Option<&[u8]>,
@@ -69,6 +73,7 @@ pub fn read_deliver(
     Ok(())
 }
 
+/// `-<back> <place> <mask>`: the same with one byte altered.
 pub fn read_altered(
     to: End,
     lengths: &Lengths,
@@ -97,6 +102,7 @@ pub fn read_altered(
     Ok(())
 }
 
+/// No field: a tick.
 pub fn read_tick(at: End, fields: Option<&[u8]>, says: &mut ScheduleLine) -> Result<(), LineCause>
     ensures value { Becomes result says.new (bare_line (ScheduleLine.Step (Event.Tick at)) (fields_after fields.entry)) }
     ensures unwritten { OnErr result (says.new ≡ says.old) }
@@ -106,6 +112,7 @@ pub fn read_tick(at: End, fields: Option<&[u8]>, says: &mut ScheduleLine) -> Res
     Ok(())
 }
 
+/// `<hex>`: a frame of from 1 to 255 bytes.
 pub fn read_raw(to: End, fields: Option<&[u8]>, says: &mut ScheduleLine) -> Result<(), LineCause>
     ensures value { Becomes result says.new (raw_line to (fields_after fields.entry)) }
     ensures unwritten { OnErr result (says.new ≡ says.old) }
@@ -155,6 +162,7 @@ fn read_first_raw(to: End, fields: Option<&[u8]>, says: &mut ScheduleLine) -> Re
     Ok(())
 }
 
+/// `<hex>`: so many safe data bytes.
 pub fn read_put(
     at: End,
     count: usize,
@@ -174,6 +182,7 @@ pub fn read_put(
     Ok(())
 }
 
+/// `0` or `1`: fail-safe data off or on.
 pub fn read_hold(at: End, fields: Option<&[u8]>, says: &mut ScheduleLine) -> Result<(), LineCause>
     ensures value { Becomes result says.new (hold_line at (fields_after fields.entry)) }
     ensures unwritten { OnErr result (says.new ≡ says.old) }
@@ -184,6 +193,7 @@ pub fn read_hold(at: End, fields: Option<&[u8]>, says: &mut ScheduleLine) -> Res
     Ok(())
 }
 
+/// `<id>`: a session id that the profile allows.
 pub fn read_nonce(
     at: End,
     profile: Profile,
@@ -202,6 +212,7 @@ pub fn read_nonce(
     Ok(())
 }
 
+/// No field: a local reset.
 pub fn read_local(at: End, fields: Option<&[u8]>, says: &mut ScheduleLine) -> Result<(), LineCause>
     ensures value { Becomes result says.new (bare_line (ScheduleLine.Step (Event.Local at)) (fields_after fields.entry)) }
     ensures unwritten { OnErr result (says.new ≡ says.old) }
@@ -211,6 +222,7 @@ pub fn read_local(at: End, fields: Option<&[u8]>, says: &mut ScheduleLine) -> Re
     Ok(())
 }
 
+/// No field: the end of the schedule.
 pub fn read_end(fields: Option<&[u8]>, says: &mut ScheduleLine) -> Result<(), LineCause>
     ensures value { Becomes result says.new (bare_line ScheduleLine.End (fields_after fields.entry)) }
     ensures unwritten { OnErr result (says.new ≡ says.old) }

@@ -71,39 +71,44 @@ fn count_bytes(text: &[u8], most: usize) -> Option<usize>
     Some(len)
 }
 
-/// The bytes of a hexadecimal field, from 1 to 256.
+/// The most bytes of a hexadecimal field in a header.
+pub const MAX_HEX: usize = 256;
+
+/// The bytes of a hexadecimal field, from one to `MAX_HEX`.
 #[derive(Drop)]
 pub struct HexBytes {
-    bytes: [u8; 256],
+    bytes: [u8; MAX_HEX],
     len: usize,
 }
 
 impl Model for HexBytes {
     ghost use Rattle.std.specs.Prelude.{◌≤◌, List, ℕ, take};
+    ghost use Rattle.schedule_file.specs.declared.field.TheConstants.{MAX_HEX};
 
     ghost Value = { List ℕ };
 
     ghost view = { λ h. take h.len h.bytes };
 
-    ghost invariant = { λ h. h.len ≤ 256 };
+    ghost invariant = { λ h. h.len ≤ MAX_HEX };
 }
 
 impl HexBytes {
     /// The bytes that a field says in digits of either case, from one to `most`.
     pub fn read(text: &[u8], most: usize) -> Option<HexBytes>
-        requires { most ≤ 256 }
+        requires { most ≤ MAX_HEX }
         ensures value { result ≡ bytes_of most text.now }
         ensures count { IfSome result (λ bytes. (0 < length bytes) × (length bytes ≤ most)) }
     {
         let len = count_bytes(text, most)?;
-        let mut bytes = [0; 256];
+        let mut bytes = [0; MAX_HEX];
         decode(text, &mut bytes[..len]);
         Some(HexBytes { bytes, len })
     }
 
+    /// Its bytes.
     pub fn bytes(&self) -> &[u8]
         ensures value { result.now ≡ self.now }
-        ensures most { length result.now ≤ 256 }
+        ensures most { length result.now ≤ MAX_HEX }
     {
         &self.bytes[..self.len]
     }
@@ -161,7 +166,7 @@ pub fn one_field(fields: Option<&[u8]>) -> Result<&[u8], LineCause>
 /// have no space among them, so one is sought only where they aren't digits.
 #[tactic(auto, using(crate::proofs::HexAlone::hex_said, crate::proofs::HexAlone::hex_unsaid))]
 pub fn one_hex_field(fields: Option<&[u8]>, most: usize) -> Result<HexBytes, LineCause>
-    requires { most ≤ 256 }
+    requires { most ≤ MAX_HEX }
     ensures value { result ≡ one_hex_field most (fields_after fields.entry) }
     ensures count { IfOk result (λ bytes. (0 < length bytes) × (length bytes ≤ most)) }
 {

@@ -6,7 +6,9 @@ use fsoe_base::End;
 /// What a header describes: both ends of a pair, or the node at one end.
 #[derive(Clone, Copy, Debug, PartialEq, Eq)]
 pub enum HeaderKind {
+    /// Both ends of a pair.
     Pair,
+    /// The node at this end.
     Node(End),
 }
 

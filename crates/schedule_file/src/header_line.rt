@@ -3,7 +3,10 @@ ghost use Rattle.std.specs.Prelude.{◌≡◌};
 ghost use Rattle.schedule_file.specs.Field.{fields_after};
 ghost use Rattle.schedule_file.specs.HeaderLine.{lengths_line, end_numbers, master_line, slave_line, profile_line, any_line, listed_line, rule_line, range_line, header_line};
 
-use crate::field::{HexBytes, next_field, no_field, number_16, number_32, one_field, one_hex_field};
+use crate::field::{
+    HexBytes, MAX_HEX, next_field, no_field, number_16, number_32, one_field, one_hex_field,
+};
+use crate::header_part::MAX_APP;
 use crate::line_cause::LineCause;
 use crate::place::Word;
 use fsoe_base::Lengths;
@@ -15,7 +18,7 @@ pub struct LengthsLine {
     pub slave: u16,
 }
 
-/// The numbers of a `master` line.
+/// The numbers of a `master` line: the connection id, the slave's address, the watchdog in ticks and the session id.
 #[derive(Clone, Copy, Debug)]
 pub struct MasterLine {
     pub conn: u16,
@@ -24,7 +27,8 @@ pub struct MasterLine {
     pub nonce: u32,
 }
 
-/// The numbers of a `slave` line.
+/// The numbers of a `slave` line: its address, the limit in ticks until a watchdog is downloaded, the longest watchdog in ticks
+/// that it accepts, and the session id.
 #[derive(Clone, Copy, Debug)]
 pub struct SlaveLine {
     pub address: u16,
@@ -55,6 +59,7 @@ pub enum HeaderLine {
     Go,
 }
 
+/// `<master> <slave>`: how many safe data bytes each end sends.
 fn read_lengths(fields: Option<&[u8]>) -> Result<LengthsLine, LineCause>
     ensures { result ≡ lengths_line (fields_after fields.entry) }
 {
@@ -84,6 +89,7 @@ fn read_end_numbers(fields: Option<&[u8]>) -> Result<(u16, u16, u16, u32), LineC
     ))
 }
 
+/// `<conn> <address> <watchdog> <nonce>`: the connection id and the watchdog aren't 0.
 fn read_master(fields: Option<&[u8]>) -> Result<MasterLine, LineCause>
     ensures { result ≡ master_line (fields_after fields.entry) }
 {
@@ -99,6 +105,7 @@ fn read_master(fields: Option<&[u8]>) -> Result<MasterLine, LineCause>
     })
 }
 
+/// `<address> <hand> <most> <nonce>`: neither limit is 0.
 fn read_slave(fields: Option<&[u8]>) -> Result<SlaveLine, LineCause>
     ensures { result ≡ slave_line (fields_after fields.entry) }
 {
@@ -114,6 +121,7 @@ fn read_slave(fields: Option<&[u8]>) -> Result<SlaveLine, LineCause>
     })
 }
 
+/// `<word>`: the word of profile Two.
 fn read_profile(fields: Option<&[u8]>) -> Result<u16, LineCause>
     ensures { result ≡ profile_line (fields_after fields.entry) }
 {
@@ -127,7 +135,7 @@ fn read_any(fields: Option<&[u8]>) -> Result<RuleLine, LineCause>
 {
     let field = one_field(fields)?;
     let n = number_16(field)?;
-    if n <= 512 {
+    if usize::from(n) <= MAX_APP {
         Ok(RuleLine::Any(n))
     } else {
         Err(LineCause::Range)
@@ -148,6 +156,7 @@ fn read_listed(form: &[u8], fields: Option<&[u8]>) -> Result<RuleLine, LineCause
     }
 }
 
+/// `any <n>`, `exact` or `ranges`.
 fn read_rule(fields: Option<&[u8]>) -> Result<RuleLine, LineCause>
     ensures { result ≡ rule_line (fields_after fields.entry) }
 {
@@ -163,7 +172,7 @@ fn read_rule(fields: Option<&[u8]>) -> Result<RuleLine, LineCause>
 fn read_range(fields: Option<&[u8]>) -> Result<HexBytes, LineCause>
     ensures { result ≡ range_line (fields_after fields.entry) }
 {
-    let pairs = one_hex_field(fields, 256)?;
+    let pairs = one_hex_field(fields, MAX_HEX)?;
     if pairs.bytes().len() == 1 {
         return Err(LineCause::Hex);
     }
@@ -178,10 +187,10 @@ pub fn read_header_line(word: Word, fields: Option<&[u8]>) -> Result<HeaderLine,
         Word::Lengths => Ok(HeaderLine::Lengths(read_lengths(fields)?)),
         Word::Master => Ok(HeaderLine::Master(read_master(fields)?)),
         Word::Profile => Ok(HeaderLine::Profile(read_profile(fields)?)),
-        Word::App => Ok(HeaderLine::App(one_hex_field(fields, 256)?)),
+        Word::App => Ok(HeaderLine::App(one_hex_field(fields, MAX_HEX)?)),
         Word::Slave => Ok(HeaderLine::Slave(read_slave(fields)?)),
         Word::Rule => Ok(HeaderLine::Rule(read_rule(fields)?)),
-        Word::Bytes => Ok(HeaderLine::Bytes(one_hex_field(fields, 256)?)),
+        Word::Bytes => Ok(HeaderLine::Bytes(one_hex_field(fields, MAX_HEX)?)),
         Word::Range => Ok(HeaderLine::Range(read_range(fields)?)),
         Word::Go => {
             no_field(fields)?;

@@ -12,6 +12,9 @@ use fsoe_base::Lengths;
 use param_load::{AppBytes, AppRule, MasterSettings, Profile, SlaveSettings};
 use std::marker::Model;
 
+/// The most application bytes of a master, and the most bytes or ranges of a slave's rule.
+pub const MAX_APP: usize = 512;
+
 /// What the lines of the master say together.
 #[derive(Debug, Drop)]
 pub struct MasterPart {
@@ -69,11 +72,11 @@ fn profile_for(nonce: u32) -> Profile
     }
 }
 
-/// Appends the bytes of a line to a list of at most 512. `Range` where there are more in all.
+/// Appends the bytes of a line to a list of at most `MAX_APP`. `Range` where there are more in all.
 fn append(list: &mut AppBytes, bytes: &[u8]) -> Result<(), LineCause>
     ensures { Becomes result list.new (list_with list.old bytes.now) }
 {
-    if bytes.len() > 512 - list.len() {
+    if bytes.len() > MAX_APP - list.len() {
         return Err(LineCause::Range);
     }
     for b in bytes {
@@ -150,14 +153,14 @@ impl MasterPart {
 }
 
 /// Appends the pairs of a line, each a lowest and a highest value, to their lists. `Range` where the number
-/// of bytes is odd, a low is above its high, or there are more than 512 pairs in all.
+/// of bytes is odd, a low is above its high, or there are more than `MAX_APP` pairs in all.
 fn append_pairs(low: &mut AppBytes, high: &mut AppBytes, pairs: &[u8]) -> Result<(), LineCause>
     requires { IsTrue (is_acceptable (AppRule.Ranges low.old high.old)) }
     ensures value { Becomes result (AppRule.Ranges low.new high.new) (ranges_with low.old high.old pairs.now) }
     ensures acceptable { IsTrue (is_acceptable (AppRule.Ranges low.new high.new)) }
 {
     let count = pairs.len() / 2;
-    if !pairs.len().is_multiple_of(2) || count > 512 - low.len() {
+    if !pairs.len().is_multiple_of(2) || count > MAX_APP - low.len() {
         return Err(LineCause::Range);
     }
     for k in 0..count {

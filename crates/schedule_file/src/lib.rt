@@ -3,21 +3,21 @@
 //! A `Maker` makes the schedule of a number, without lines.
 #![tactic(auto)]
 
-pub mod event;
+mod event;
 mod event_line;
-pub mod event_text;
+mod event_text;
 mod field;
-pub mod header;
-pub mod header_kind;
+mod header;
+mod header_kind;
 mod header_line;
 mod header_part;
 mod hex_digits;
 pub mod laws;
-pub mod line_buf;
-pub mod line_cause;
-pub mod maker;
-pub mod node_event;
-pub mod pair_event;
+mod line_buf;
+mod line_cause;
+mod maker;
+mod node_event;
+mod pair_event;
 mod place;
 #[cfg(test)]
 mod tests;

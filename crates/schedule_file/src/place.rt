@@ -81,12 +81,14 @@ pub enum Place {
 impl Place {
     ghost use Rattle.schedule_file.specs.Place.{header_word_of, is_start, is_last, may_stand, admitted};
 
+    /// Whether no line is read.
     pub fn is_start(self) -> bool
         ensures { result ≡ is_start self }
     {
         matches!(self, Place::Start)
     }
 
+    /// Whether `go` is read.
     pub fn is_last(self) -> bool
         ensures { result ≡ is_last self }
     {
