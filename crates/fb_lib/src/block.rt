@@ -6,7 +6,7 @@ ghost use Rattle.fb_lib.specs.Guarded.{IsOffIfGuarded};
 ghost use Rattle.fb_lib.specs.Steps.{next_block, told};
 
 use crate::held::Held;
-use crate::kind::BlockKind;
+use crate::kind::{BlockKind, MOST_INPUTS};
 use std::marker::Model;
 
 /// A function block. It keeps no cycles, but the few values that its output depends on, and takes no memory.
@@ -49,7 +49,7 @@ impl Block {
     {
         match self.kind() {
             BlockKind::Const0 | BlockKind::Const1 => n == 0,
-            BlockKind::And | BlockKind::Or => (1..=8).contains(&n),
+            BlockKind::And | BlockKind::Or => (1..=MOST_INPUTS).contains(&n),
             BlockKind::Latch | BlockKind::Estop => n == 2,
             BlockKind::TwoHand | BlockKind::Feedback => n == 2,
             BlockKind::OnDelay | BlockKind::OffDelay => n == 1,

@@ -1,5 +1,8 @@
 //! The kinds of blocks.
 
+/// The most inputs that a block may have.
+pub const MOST_INPUTS: usize = 8;
+
 /// What a block does with its inputs, which stand here in their order. `n` is the block's number.
 #[derive(Clone, Copy, Debug, PartialEq, Eq)]
 pub enum BlockKind {
@@ -7,9 +10,9 @@ pub enum BlockKind {
     Const0,
     /// No inputs. True.
     Const1,
-    /// 1 to 8 inputs. True where all of them are.
+    /// 1 to `MOST_INPUTS` inputs. True where all of them are.
     And,
-    /// 1 to 8 inputs. True where at least one of them is.
+    /// 1 to `MOST_INPUTS` inputs. True where at least one of them is.
     Or,
     /// Inputs `set` and `enable`. True from a cycle with `set` on, while `enable` is true.
     Latch,

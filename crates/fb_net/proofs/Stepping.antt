@@ -7,14 +7,15 @@ use Rattle.fb_lib.specs.Kind.{takes}
 use Rattle.fb_lib.specs.Cycle.{Cycle}
 use Rattle.fb_lib.specs.Steps.{BlockView, next_held, next_block, told}
 use Rattle.fb_lib.specs.Standing.{BlockStands, BlockFollows, BlockGives}
+use Rattle.fb_lib.specs.declared.kind.TheConstants.{MOST_INPUTS}
 use Rattle.fb_lib.proofs.Looking.{follows_by, gives_by}
 use Rattle.fb_net.specs.declared.spec.BlockSpec.{BlockSpec}
 use Rattle.fb_net.specs.Values.{NetCycle, wire_value}
 use Rattle.fb_net.specs.Steps.{cycle_of, stepped, given}
 use Rattle.fb_net.specs.Ready.{IsReady}
 
--- no kind has more than 8 inputs
-most-inputs : (k : BlockKind) (n : ℕ) → IsTrue (takes k n) → n ≤ 8
+-- no kind has more inputs
+most-inputs : (k : BlockKind) (n : ℕ) → IsTrue (takes k n) → n ≤ MOST_INPUTS
 most-inputs kind.Const0 n h = grind (arith, nat_tests)
 most-inputs kind.Const1 n h = grind (arith, nat_tests)
 most-inputs kind.And n h = grind (arith, nat_tests)
@@ -26,7 +27,7 @@ most-inputs kind.OnDelay n h = grind (arith, nat_tests)
 most-inputs kind.OffDelay n h = grind (arith, nat_tests)
 most-inputs kind.Feedback n h = grind (arith, nat_tests)
 
-pub most_wires : (b : BlockSpec) → IsReady b → length b.ins ≤ 8
+pub most_wires : (b : BlockSpec) → IsReady b → length b.ins ≤ MOST_INPUTS
 most_wires b r = most-inputs b.block.kind (length b.ins) r.takes
 
 -- a block that stands for some cycles is stepped as its contract says

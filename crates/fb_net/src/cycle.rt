@@ -1,6 +1,7 @@
 //! One cycle of a net.
 ghost use Rattle.std.specs.Prelude.{◌≡◌, ◌≤◌, false, [], map, length};
 ghost use Rattle.failsafe_io.specs.Bits.{at_number};
+ghost use Rattle.fb_lib.specs.declared.kind.TheConstants.{MOST_INPUTS};
 ghost use Rattle.fb_net.specs.Values.{wire_value};
 ghost use Rattle.fb_net.specs.Outputs.{outputs_of};
 ghost use Rattle.fb_net.specs.Ready.{IsReady, AllReady};
@@ -10,6 +11,7 @@ use crate::images::{bit_at, clear, set_bit};
 use crate::spec::{BlockSpec, Drive};
 use crate::wire::Wire;
 use arrayvec::ArrayVec;
+use fb_lib::MOST_INPUTS;
 use fsoe_base::Image;
 
 /// What a wire reads, by the values of the blocks in their order.
@@ -37,9 +39,9 @@ pub(crate) fn number_value(values: &[bool], number: u16) -> bool
     }
 }
 
-/// What the wires of a block read, at most 8.
-fn read_wires(wires: &[Wire], inputs: &[Image], values: &[bool]) -> ArrayVec<bool, 8>
-    requires { length wires.now ≤ 8 }
+/// What the wires of a block read.
+fn read_wires(wires: &[Wire], inputs: &[Image], values: &[bool]) -> ArrayVec<bool, MOST_INPUTS>
+    requires { length wires.now ≤ MOST_INPUTS }
     ensures { result.items ≡ map (wire_value values.now inputs.now) wires.now }
 {
     let mut ins = ArrayVec::new();

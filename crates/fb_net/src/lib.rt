@@ -3,17 +3,17 @@
 #![tactic(auto)]
 
 mod cycle;
-pub mod fault;
+mod fault;
 mod guards;
 mod images;
-pub mod kind_of;
+mod kind_of;
 pub mod laws;
 mod making;
-pub mod mirror;
-pub mod net;
-pub mod spec;
-pub mod wire;
-pub mod zeros;
+mod mirror;
+mod net;
+mod spec;
+mod wire;
+mod zeros;
 
 pub use fault::NetFault;
 pub use kind_of::{AppEntry, AppKind, KindOf};
