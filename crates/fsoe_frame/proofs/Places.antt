@@ -36,16 +36,23 @@ more_places cmd n d d' c c' bytes f h = record {
     more_crcs n d d' c c' bytes f h (suc k) lt =
         rw (past_four d d' c c' bytes (4 * k + 2) (4 * suc k + 2) (omega arith), past_four d d' c c' bytes (4 * k + 3) (4 * suc k + 3) (omega arith)) (h k (omega arith))
 
+-- what holds of two bytes, and stays so with four bytes in front, holds of the bytes of n groups and a connection id
+by_groups : (P : ℕ → List ℕ → Type 0) → ((k k' : ℕ) → P 0 (k ∷ k' ∷ [])) → ((n d d' c c' : ℕ) (bytes : List ℕ) → P n bytes → P (suc n) (d ∷ d' ∷ c ∷ c' ∷ bytes))
+    → (n : ℕ) (bytes : List ℕ) → length bytes ≡ 4 * n + 2 → P n bytes
+by_groups P last more zero (k ∷ k' ∷ []) h = last k k'
+by_groups P last more (suc n) (d ∷ d' ∷ c ∷ c' ∷ bytes) h = more n d d' c c' bytes (by_groups P last more n bytes (omega arith))
+by_groups P last more zero [] h = absurd (omega arith)
+by_groups P last more zero (a ∷ []) h = absurd (omega arith)
+by_groups P last more zero (a ∷ b ∷ c ∷ bytes) h = absurd (omega arith)
+by_groups P last more (suc n) [] h = absurd (omega arith)
+by_groups P last more (suc n) (a ∷ []) h = absurd (omega arith)
+by_groups P last more (suc n) (a ∷ b ∷ []) h = absurd (omega arith)
+by_groups P last more (suc n) (a ∷ b ∷ c ∷ []) h = absurd (omega arith)
+
 pub pairs_places : (cmd n : ℕ) (bytes : List ℕ) → length bytes ≡ 4 * n + 2 → AtPlaces cmd n bytes (pairs cmd bytes)
-pairs_places cmd zero (k ∷ k' ∷ []) h = record { cmd_is = refl; conn_is = refl; crc_is = λ i lt. absurd (omega arith) }
-pairs_places cmd (suc n) (d ∷ d' ∷ c ∷ c' ∷ bytes) h = more_places cmd n d d' c c' bytes (pairs cmd bytes) (pairs_places cmd n bytes (omega arith))
-pairs_places cmd zero [] h = absurd (omega arith)
-pairs_places cmd zero (a ∷ []) h = absurd (omega arith)
-pairs_places cmd zero (a ∷ b ∷ c ∷ bytes) h = absurd (omega arith)
-pairs_places cmd (suc n) [] h = absurd (omega arith)
-pairs_places cmd (suc n) (a ∷ []) h = absurd (omega arith)
-pairs_places cmd (suc n) (a ∷ b ∷ []) h = absurd (omega arith)
-pairs_places cmd (suc n) (a ∷ b ∷ c ∷ []) h = absurd (omega arith)
+pairs_places cmd =
+    by_groups (λ n bytes. AtPlaces cmd n bytes (pairs cmd bytes)) (λ k k'. record { cmd_is = refl; conn_is = refl; crc_is = λ i lt. absurd (omega arith) })
+    (λ n d d' c c' bytes at. more_places cmd n d d' c c' bytes (pairs cmd bytes) at)
 
 -- a number of 16 bits from its two bytes
 low_high_back : (n : ℕ) → n % 256 + 256 * (n / 256) ≡ n
@@ -66,14 +73,18 @@ pub record FrameAt (l : ℕ) (bytes : List ℕ) (f : Frame) : Type 0 where
   pub cmd_is : f.cmd ≡ slice_index bytes 0
   pub conn_is : f.conn ≡ slice_index bytes (length bytes - 2) + 256 * slice_index bytes (length bytes - 2 + 1)
 
+-- what holds of any five bytes holds of bytes that are five
+of_five : (P : List ℕ → Type 0) → ((d c c' k k' : ℕ) → P (d ∷ c ∷ c' ∷ k ∷ k' ∷ [])) → (bytes : List ℕ) → length bytes ≡ 5 → P bytes
+of_five P five (d ∷ c ∷ c' ∷ k ∷ k' ∷ []) h = five d c c' k k'
+of_five P five [] h = absurd (omega arith)
+of_five P five (x ∷ []) h = absurd (omega arith)
+of_five P five (x ∷ y ∷ []) h = absurd (omega arith)
+of_five P five (x ∷ y ∷ z ∷ []) h = absurd (omega arith)
+of_five P five (x ∷ y ∷ z ∷ u ∷ []) h = absurd (omega arith)
+of_five P five (x ∷ y ∷ z ∷ u ∷ v ∷ w ∷ more) h = absurd (omega arith)
+
 one_at : (b : ℕ) (bytes : List ℕ) → length bytes ≡ 5 → FrameAt 1 (b ∷ bytes) (one_byte b bytes)
-one_at b (d ∷ c ∷ c' ∷ k ∷ k' ∷ []) h = record { cmd_is = refl; conn_is = refl }
-one_at b [] h = absurd (omega arith)
-one_at b (x ∷ []) h = absurd (omega arith)
-one_at b (x ∷ y ∷ []) h = absurd (omega arith)
-one_at b (x ∷ y ∷ z ∷ []) h = absurd (omega arith)
-one_at b (x ∷ y ∷ z ∷ u ∷ []) h = absurd (omega arith)
-one_at b (x ∷ y ∷ z ∷ u ∷ v ∷ w ∷ more) h = absurd (omega arith)
+one_at b = of_five (λ bytes. FrameAt 1 (b ∷ bytes) (one_byte b bytes)) (λ d c c' k k'. record { cmd_is = refl; conn_is = refl })
 
 pairs_at : (l b : ℕ) (bytes : List ℕ) → l % 2 ≡ 0 → length bytes ≡ 2 + 2 * l → FrameAt l (b ∷ bytes) (pairs b bytes)
 pairs_at l b bytes even h =
@@ -210,15 +221,9 @@ reads_all l bytes out i valid other right le e =
 
 -- how many bytes and CRCs n pairs give
 pairs_counts : (cmd n : ℕ) (bytes : List ℕ) → length bytes ≡ 4 * n + 2 → (length (pairs cmd bytes).load ≡ 2 * n) × (length (pairs cmd bytes).crcs ≡ n)
-pairs_counts cmd zero (k ∷ k' ∷ []) h = (refl, refl)
-pairs_counts cmd (suc n) (d ∷ d' ∷ c ∷ c' ∷ bytes) h = let more = pairs_counts cmd n bytes (omega arith) in (omega (arith, more.0), omega (arith, more.1))
-pairs_counts cmd zero [] h = absurd (omega arith)
-pairs_counts cmd zero (a ∷ []) h = absurd (omega arith)
-pairs_counts cmd zero (a ∷ b ∷ c ∷ bytes) h = absurd (omega arith)
-pairs_counts cmd (suc n) [] h = absurd (omega arith)
-pairs_counts cmd (suc n) (a ∷ []) h = absurd (omega arith)
-pairs_counts cmd (suc n) (a ∷ b ∷ []) h = absurd (omega arith)
-pairs_counts cmd (suc n) (a ∷ b ∷ c ∷ []) h = absurd (omega arith)
+pairs_counts cmd =
+    by_groups (λ n bytes. (length (pairs cmd bytes).load ≡ 2 * n) × (length (pairs cmd bytes).crcs ≡ n)) (λ k k'. (refl, refl))
+    (λ n d d' c c' bytes more. (omega (arith, more.0), omega (arith, more.1)))
 
 -- two bytes from the number that they make
 low_high_of : (c c' : ℕ) → c < 256 → low_high (c + 256 * c') ≡ c ∷ c' ∷ []
@@ -227,24 +232,19 @@ low_high_of c c' h =
     let high : (c + 256 * c') / 256 ≡ c' = omega arith in
     rw (low, high) refl
 
+-- one more pair is laid out as it was read
+more_bytes : (cmd d d' c c' : ℕ) (bytes : List ℕ) (f : Frame) → c < 256 → f.cmd ≡ cmd → bytes_of f ≡ cmd ∷ bytes → bytes_of (add_group d d' (c + 256 * c') f) ≡ cmd ∷ d ∷ d' ∷ c ∷ c' ∷ bytes
+more_bytes cmd d d' c c' bytes f lt same e =
+    let rest : with_crcs (groups f.load) f.crcs ++ low_high f.conn ≡ bytes = ap (drop 1) e in
+    ap (λ xs. f.cmd ∷ d ∷ d' ∷ (xs ++ with_crcs (groups f.load) f.crcs) ++ low_high f.conn) (low_high_of c c' lt)
+    ∙ ap (λ xs. f.cmd ∷ d ∷ d' ∷ c ∷ c' ∷ xs) rest
+    ∙ ap (λ x. x ∷ d ∷ d' ∷ c ∷ c' ∷ bytes) same
+
 -- n pairs are laid out as they were read
-pairs_bytes : (cmd n : ℕ) (bytes : List ℕ) → length bytes ≡ 4 * n + 2 → AreBytes bytes → bytes_of (pairs cmd bytes) ≡ cmd ∷ bytes
-pairs_bytes cmd zero (k ∷ k' ∷ []) h b = rw (low_high_of k k' (b zero)) refl
-pairs_bytes cmd (suc n) (d ∷ d' ∷ c ∷ c' ∷ bytes) h b = more_bytes cmd d d' c c' bytes (pairs cmd bytes) (b (suc (suc zero))) (pairs_places cmd n bytes (omega arith)).cmd_is (pairs_bytes cmd n bytes (omega arith) (λ i. b (suc (suc (suc (suc i))))))
-  where
-    more_bytes : (cmd d d' c c' : ℕ) (bytes : List ℕ) (f : Frame) → c < 256 → f.cmd ≡ cmd → bytes_of f ≡ cmd ∷ bytes → bytes_of (add_group d d' (c + 256 * c') f) ≡ cmd ∷ d ∷ d' ∷ c ∷ c' ∷ bytes
-    more_bytes cmd d d' c c' bytes f lt same e =
-        let rest : with_crcs (groups f.load) f.crcs ++ low_high f.conn ≡ bytes = ap (drop 1) e in
-        ap (λ xs. f.cmd ∷ d ∷ d' ∷ (xs ++ with_crcs (groups f.load) f.crcs) ++ low_high f.conn) (low_high_of c c' lt)
-        ∙ ap (λ xs. f.cmd ∷ d ∷ d' ∷ c ∷ c' ∷ xs) rest
-        ∙ ap (λ x. x ∷ d ∷ d' ∷ c ∷ c' ∷ bytes) same
-pairs_bytes cmd zero [] h b = absurd (omega arith)
-pairs_bytes cmd zero (x ∷ []) h b = absurd (omega arith)
-pairs_bytes cmd zero (x ∷ y ∷ z ∷ bytes) h b = absurd (omega arith)
-pairs_bytes cmd (suc n) [] h b = absurd (omega arith)
-pairs_bytes cmd (suc n) (x ∷ []) h b = absurd (omega arith)
-pairs_bytes cmd (suc n) (x ∷ y ∷ []) h b = absurd (omega arith)
-pairs_bytes cmd (suc n) (x ∷ y ∷ z ∷ []) h b = absurd (omega arith)
+pairs_bytes : (cmd n : ℕ) (bytes : List ℕ) → length bytes ≡ 4 * n + 2 → ((pairs cmd bytes).cmd ≡ cmd) × (AreBytes bytes → bytes_of (pairs cmd bytes) ≡ cmd ∷ bytes)
+pairs_bytes cmd =
+    by_groups (λ n bytes. ((pairs cmd bytes).cmd ≡ cmd) × (AreBytes bytes → bytes_of (pairs cmd bytes) ≡ cmd ∷ bytes)) (λ k k'. (refl, λ are. rw (low_high_of k k' (are zero)) refl))
+    (λ n d d' c c' bytes more. (more.0, λ are. more_bytes cmd d d' c c' bytes (pairs cmd bytes) (are (suc (suc zero))) more.0 (more.1 (λ i. are (suc (suc (suc (suc i))))))))
 
 -- what a frame with l bytes of safe data comes to
 pub record Whole (l : ℕ) (bytes : List ℕ) (f : Frame) : Type 0 where
@@ -253,19 +253,14 @@ pub record Whole (l : ℕ) (bytes : List ℕ) (f : Frame) : Type 0 where
   pub back : AreBytes bytes → bytes_of f ≡ bytes
 
 one_whole : (b : ℕ) (bytes : List ℕ) → length bytes ≡ 5 → Whole 1 (b ∷ bytes) (one_byte b bytes)
-one_whole b (d ∷ c ∷ c' ∷ k ∷ k' ∷ []) h = record {
-  load = refl;
-  crcs = refl;
-  back = λ are.
-      ap (λ xs. b ∷ d ∷ (xs ++ []) ++ low_high (k + 256 * k')) (low_high_of c c' (are (suc (suc zero))))
-      ∙ ap (λ xs. b ∷ d ∷ c ∷ c' ∷ xs) (low_high_of k k' (are (suc (suc (suc (suc zero))))));
-}
-one_whole b [] h = absurd (omega arith)
-one_whole b (x ∷ []) h = absurd (omega arith)
-one_whole b (x ∷ y ∷ []) h = absurd (omega arith)
-one_whole b (x ∷ y ∷ z ∷ []) h = absurd (omega arith)
-one_whole b (x ∷ y ∷ z ∷ u ∷ []) h = absurd (omega arith)
-one_whole b (x ∷ y ∷ z ∷ u ∷ v ∷ w ∷ more) h = absurd (omega arith)
+one_whole b =
+    of_five (λ bytes. Whole 1 (b ∷ bytes) (one_byte b bytes)) (λ d c c' k k'. record {
+      load = refl;
+      crcs = refl;
+      back = λ are.
+          ap (λ xs. b ∷ d ∷ (xs ++ []) ++ low_high (k + 256 * k')) (low_high_of c c' (are (suc (suc zero))))
+          ∙ ap (λ xs. b ∷ d ∷ c ∷ c' ∷ xs) (low_high_of k k' (are (suc (suc (suc (suc zero))))));
+    })
 
 other_count : (l : ℕ) → l ≢ 1 → group_count l ≡ l / 2
 other_count l h = grind (arith, nat_tests)
@@ -277,7 +272,7 @@ pairs_whole l b bytes other even h =
     record {
       load = omega (arith, counts.0);
       crcs = counts.1 ∙ sym (other_count l other);
-      back = λ are. pairs_bytes b (l / 2) bytes right (λ i. are (suc i));
+      back = λ are. (pairs_bytes b (l / 2) bytes right).1 (λ i. are (suc i));
     }
 
 pub whole : (l : ℕ) (bytes : List ℕ) → IsTrue (is_length l) → length bytes ≡ frame_len l → Whole l bytes (frame_of l bytes)
