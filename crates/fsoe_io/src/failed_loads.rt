@@ -26,6 +26,7 @@ impl Model for FailedLoads {
 }
 
 impl FailedLoads {
+    /// No names.
     pub fn new(alloc: Global) -> FailedLoads
         ensures { result.names ≡ [] }
     {
@@ -51,11 +52,19 @@ impl FailedLoads {
     }
 
     /// Notes the name of a load that failed: the count of this name rises, and no other.
+    #[tactic(auto, using(crate::proofs::Shelves::failed_rose))]
     pub fn note(&mut self, name: String)
         requires { 0 < self.old.room }
         ensures names { self.new.names ≡ self.old.names ++ string_bytes name ∷ [] }
         ensures rose { Rose (failed_loads self.old.names (string_bytes name)) (failed_loads self.new.names (string_bytes name)) }
         ensures others { (other : List ℕ) → other ≢ string_bytes name → failed_loads self.new.names other ≡ failed_loads self.old.names other }
+    {
+        self.push(name);
+    }
+
+    fn push(&mut self, name: String)
+        requires { 0 < self.old.room }
+        ensures { self.new.names ≡ self.old.names ++ string_bytes name ∷ [] }
     {
         self.names.push_reserved(name);
     }

@@ -8,6 +8,7 @@ use crate::sink::Sink;
 /// How many bytes were written before the sink failed.
 #[derive(Clone, Copy, Debug, PartialEq, Eq)]
 pub struct Partial {
+    /// The number of bytes that were written.
     pub done: usize,
 }
 

@@ -44,10 +44,12 @@ impl Status {
     }
 }
 
-/// How a command ended, and where: the number of the other entry or of the refused line, the whole lines read, or
-/// the bytes written, by the status; 0 where the status has no place.
+/// How a command ended, and where.
 #[derive(Clone, Copy, Debug, PartialEq, Eq)]
 pub struct Ended {
+    /// How it ended.
     pub status: Status,
+    /// The number of the other entry with `Other` or of the refused line with `Line`, the whole lines read with `Read`,
+    /// the bytes written with `Write`; 0 where the status has no place.
     pub place: u64,
 }

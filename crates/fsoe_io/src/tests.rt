@@ -81,25 +81,6 @@ fn a_failed_read_comes_between_two_lines(rt: HostRuntime) -> Result<(), Fail> {
 }
 
 #[test]
-fn a_sink_in_memory_fails_as_planned(rt: HostRuntime) -> Result<(), Fail> {
-    let made = MemSink::new(rt.alloc(), 8, 3, vec![in rt.alloc(); 3]?);
-    let mut sink = made.ok().ok_or("no memory")?;
-    let rows: [(&[u8], Result<usize, Failed>); 6] = [
-        (b"abcdef", Ok(3)),
-        (b"def", Ok(3)),
-        (b"gh", Err(Failed)),
-        (b"ghi", Ok(2)),
-        (b"i", Err(Failed)),
-        (b"", Ok(0)),
-    ];
-    for (piece, taken) in rows {
-        assert_eq!(rt; sink.write(piece), taken);
-    }
-    assert_eq!(rt; sink.bytes(), b"abcdefgh".as_slice());
-    Ok(())
-}
-
-#[test]
 fn an_output_sends_what_waits(rt: HostRuntime) -> Result<(), Fail> {
     let made = MemSink::new(rt.alloc(), 100, 3, vec![in rt.alloc(); 3]?);
     let mut sink = made.ok().ok_or("no memory")?;
