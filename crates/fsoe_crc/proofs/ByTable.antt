@@ -1,17 +1,17 @@
--- The CRC by a table of what eight zero bits make of a high byte.
+-- The CRC by tables of what zero bytes make of a high byte.
 use Rattle.std.proofs.Common.{◌≡◌, ℕ, zero, suc, ◌*◌, ◌/◌, ◌%◌, ◌<◌, List, [], ◌∷◌, ◌++◌, bit_xor, refl, sym, ap, ◌∙◌, arith, lit<, add-zero, append_assoc, append-nil, subst, replicate}
 use Rattle.std.specs.Int.Bits.{xor_zero_r, xor_shifted, xor_lt, xor_comm}
-use Rattle.fsoe_crc.specs.Remainder.{fed_bits, bits_of, fed_bytes, sixteen_zeros, rem, table_entry, zeros_entry, eight_zeros}
+use Rattle.fsoe_crc.specs.Remainder.{fed_bits, bits_of, fed_bytes, sixteen_zeros, rem, zeros_entry}
 use Rattle.fsoe_crc.proofs.Linear.{byte_xor, byte-below, fed_bytes-append, fed_bytes-below}
 use Rattle.fsoe_crc.proofs.Adjacent.{first_byte, second_byte}
 
--- a CRC after one byte more
-pub stepped : ℕ → ℕ → ℕ
-stepped value byte = fed_bits (bit_xor value (256 * byte)) eight_zeros
-
 -- eight zero bits more
-eight : ℕ → ℕ
+pub eight : ℕ → ℕ
 eight v = fed_bits v (bits_of 0)
+
+-- a CRC after one byte more
+abbrev pub stepped : ℕ → ℕ → ℕ
+stepped value byte = eight (bit_xor value (256 * byte))
 
 eight_xor : (v w : ℕ) → v < 0x10000 → w < 0x10000 → eight (bit_xor v w) ≡ bit_xor (eight v) (eight w)
 unfolding eight
@@ -36,10 +36,6 @@ unfolding eight
 byte_adds v b hv hb =
     ap (λ x. fed_bits x (bits_of b)) (sym (xor_zero_r v)) ∙ byte_xor v 0 0 b hv (lit< tt) ∙ ap (bit_xor (fed_bits v (bits_of 0))) (first_byte b hb)
 
-stepped_is : (r b : ℕ) → stepped r b ≡ eight (bit_xor r (256 * b))
-unfolding stepped eight bits_of eight_zeros
-stepped_is r b = refl
-
 pub rem-step : (bytes : List ℕ) (b : ℕ) → b < 256 → rem (bytes ++ b ∷ []) ≡ stepped (rem bytes) b
 unfolding rem
 rem-step bytes b hb =
@@ -55,14 +51,13 @@ rem-step bytes b hb =
     ∙ ap eight (eight_xor (eight v) b (eight_below v hv) below)
     ∙ ap (λ x. eight (bit_xor (eight (eight v)) x)) (eight_of_byte b hb)
     ∙ ap (λ x. eight (bit_xor x (256 * b))) (sym (sixteen_twice v))
-    ∙ sym (stepped_is (fed_bits v sixteen_zeros) b)
 
-table_is : (h : ℕ) → table_entry h ≡ eight (256 * h)
-unfolding table_entry eight bits_of eight_zeros
-table_is h = refl
+one_is : (h : ℕ) → zeros_entry 1 h ≡ eight (256 * h)
+unfolding zeros_entry eight
+one_is h = refl
 
 -- eight zero bits by the table
-eight_by_table : (f : ℕ) → f < 0x10000 → eight f ≡ bit_xor (f * 256 % 0x10000) (table_entry (f / 256))
+eight_by_table : (f : ℕ) → f < 0x10000 → eight f ≡ bit_xor (f * 256 % 0x10000) (zeros_entry 1 (f / 256))
 eight_by_table f hf =
     let parts : bit_xor (f / 256 * 256) (f % 256) ≡ f = xor_shifted (f / 256) 8 (f % 256) (omega arith) ∙ (omega arith) in
     let low : 256 * (f % 256) ≡ f * 256 % 0x10000 = omega arith in
@@ -70,14 +65,14 @@ eight_by_table f hf =
     sym (ap eight parts)
     ∙ eight_xor (f / 256 * 256) (f % 256) (omega arith) (omega arith)
     ∙ ap (bit_xor (eight (f / 256 * 256))) (eight_of_byte (f % 256) (omega arith) ∙ low)
-    ∙ ap (λ x. bit_xor x (f * 256 % 0x10000)) (ap eight high ∙ sym (table_is (f / 256)))
-    ∙ xor_comm (table_entry (f / 256)) (f * 256 % 0x10000)
+    ∙ ap (λ x. bit_xor x (f * 256 % 0x10000)) (ap eight high ∙ sym (one_is (f / 256)))
+    ∙ xor_comm (zeros_entry 1 (f / 256)) (f * 256 % 0x10000)
 
 -- what the code computes
-pub stepped_by_table : (r b : ℕ) → r < 0x10000 → b < 256 → stepped r b ≡ bit_xor (bit_xor r (b * 256 % 0x10000) * 256 % 0x10000) (table_entry (bit_xor r (b * 256 % 0x10000) / 256))
+pub stepped_by_table : (r b : ℕ) → r < 0x10000 → b < 256 → stepped r b ≡ bit_xor (bit_xor r (b * 256 % 0x10000) * 256 % 0x10000) (zeros_entry 1 (bit_xor r (b * 256 % 0x10000) / 256))
 stepped_by_table r b hr hb =
     let e : 256 * b ≡ b * 256 % 0x10000 = omega arith in
-    stepped_is r b ∙ ap (λ x. eight (bit_xor r x)) e ∙ eight_by_table (bit_xor r (b * 256 % 0x10000)) (xor_lt 16 r (b * 256 % 0x10000) hr (omega arith))
+    ap (λ x. eight (bit_xor r x)) e ∙ eight_by_table (bit_xor r (b * 256 % 0x10000)) (xor_lt 16 r (b * 256 % 0x10000) hr (omega arith))
 
 -- n zero bytes more
 pub eights : ℕ → ℕ → ℕ
@@ -98,11 +93,6 @@ entry_is : (n h : ℕ) → zeros_entry n h ≡ eights n (256 * h)
 unfolding zeros_entry
 entry_is n h = eights_are n (256 * h)
 
--- the table of eight zero bits is that of one zero byte
-pub one_zero : (h : ℕ) → table_entry h ≡ zeros_entry 1 h
-unfolding table_entry zeros_entry eight_zeros bits_of
-one_zero h = refl
-
 -- zero bytes by two tables
 eights_by_tables : (n f : ℕ) → f < 0x10000 → eights (suc n) f ≡ bit_xor (zeros_entry (suc n) (f / 256)) (zeros_entry n (f % 256))
 unfolding eights
@@ -119,7 +109,7 @@ eights_by_tables n f hf =
 
 -- a zero byte more
 rem-zero : (bytes : List ℕ) → rem (bytes ++ 0 ∷ []) ≡ eight (rem bytes)
-rem-zero bytes = rem-step bytes 0 (lit< tt) ∙ stepped_is (rem bytes) 0 ∙ ap eight (xor_zero_r (rem bytes))
+rem-zero bytes = rem-step bytes 0 (lit< tt) ∙ ap eight (xor_zero_r (rem bytes))
 
 rem-zeros : (n : ℕ) (bytes : List ℕ) → rem (bytes ++ replicate n 0) ≡ eights n (rem bytes)
 unfolding eights
@@ -136,8 +126,6 @@ rem-two bytes a b hr ha hb =
     ap rem (sym (append_assoc bytes (a ∷ []) (b ∷ [])))
     ∙ rem-step (bytes ++ a ∷ []) b hb
     ∙ ap (λ y. stepped y b) (rem-step bytes a ha)
-    ∙ stepped_is (stepped r a) b
-    ∙ ap (λ y. eight (bit_xor y (256 * b))) (stepped_is r a)
     ∙ ap (λ y. eight (bit_xor (eight x) y)) (sym (eight_of_byte b hb))
     ∙ sym (ap eight (eight_xor x b hx (omega arith)))
 

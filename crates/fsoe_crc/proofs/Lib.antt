@@ -4,4 +4,3 @@ pub mod Linear
 pub mod Adjacent
 pub mod ByTable
 pub mod BitsLemmas
-pub mod TableLemmas

@@ -20,10 +20,6 @@ abbrev pub fed_bytes : ℕ → List ℕ → ℕ
 fed_bytes v [] = v
 fed_bytes v (b ∷ bytes) = fed_bytes (fed_bits v (bits_of b)) bytes
 
--- eight zero bits
-unfoldable pub eight_zeros : List ℕ
-eight_zeros = 0 ∷ 0 ∷ 0 ∷ 0 ∷ 0 ∷ 0 ∷ 0 ∷ 0 ∷ []
-
 -- sixteen zero bits
 unfoldable pub sixteen_zeros : List ℕ
 sixteen_zeros = 0 ∷ 0 ∷ 0 ∷ 0 ∷ 0 ∷ 0 ∷ 0 ∷ 0 ∷ 0 ∷ 0 ∷ 0 ∷ 0 ∷ 0 ∷ 0 ∷ 0 ∷ 0 ∷ []
@@ -31,10 +27,6 @@ sixteen_zeros = 0 ∷ 0 ∷ 0 ∷ 0 ∷ 0 ∷ 0 ∷ 0 ∷ 0 ∷ 0 ∷ 0 ∷ 0 �
 -- the CRC: the bytes from value 0, and then sixteen zero bits
 unfoldable pub rem : List ℕ → ℕ
 rem bytes = fed_bits (fed_bytes 0 bytes) sixteen_zeros
-
--- what eight zero bits make of a high byte over a low byte 0
-unfoldable pub table_entry : ℕ → ℕ
-table_entry high = fed_bits (256 * high) eight_zeros
 
 -- what n zero bytes make of a high byte over a low byte 0
 unfoldable pub zeros_entry : ℕ → ℕ → ℕ

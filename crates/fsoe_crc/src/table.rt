@@ -1,10 +1,10 @@
 //! The tables by which the register takes a byte, or two, at once.
 
 ghost use Rattle.std.specs.Prelude.{◌≡◌, ℕ, List, [], ◌∷◌, ◌++◌};
-ghost use Rattle.fsoe_crc.specs.Remainder.{rem, table_entry, zeros_entry};
+ghost use Rattle.fsoe_crc.specs.Remainder.{rem, zeros_entry};
 
-/// What eight zero bits make of each high byte over a low byte 0.
-static TABLE: [u16; 256] = [
+/// What one zero byte makes of each high byte over a low byte 0.
+static AFTER_ONE: [u16; 256] = [
     0x0000, 0x39B7, 0x736E, 0x4AD9, 0xE6DC, 0xDF6B, 0x95B2, 0xAC05, 0xF40F, 0xCDB8, 0x8761, 0xBED6,
     0x12D3, 0x2B64, 0x61BD, 0x580A, 0xD1A9, 0xE81E, 0xA2C7, 0x9B70, 0x3775, 0x0EC2, 0x441B, 0x7DAC,
     0x25A6, 0x1C11, 0x56C8, 0x6F7F, 0xC37A, 0xFACD, 0xB014, 0x89A3, 0x9AE5, 0xA352, 0xE98B, 0xD03C,
@@ -34,14 +34,14 @@ pub(crate) fn step(value: u16, b: u8) -> u16
     ensures { (bytes : List ℕ) → value ≡ rem bytes → result ≡ rem (bytes ++ b ∷ []) }
 {
     let folded = value ^ (b as u16) << 8;
-    (folded << 8) ^ after_eight_zeros((folded >> 8) as u8)
+    (folded << 8) ^ after_one((folded >> 8) as u8)
 }
 
-/// What eight zero bits make of the high byte `high` over a low byte 0.
-fn after_eight_zeros(high: u8) -> u16
-    ensures { result ≡ table_entry high }
+/// What one zero byte makes of the high byte `high` over a low byte 0.
+fn after_one(high: u8) -> u16
+    ensures { result ≡ zeros_entry 1 high }
 {
-    TABLE[high as usize]
+    AFTER_ONE[high as usize]
 }
 
 /// What two zero bytes make of each high byte over a low byte 0.
@@ -127,7 +127,7 @@ pub(crate) fn step_pair(value: u16, first: u8, second: u8) -> u16
     ensures { (bytes : List ℕ) → value ≡ rem bytes → result ≡ rem (bytes ++ first ∷ second ∷ []) }
 {
     let folded = value ^ (first as u16) << 8 ^ second as u16;
-    after_two((folded >> 8) as u8) ^ after_eight_zeros((folded & 0xFF) as u8)
+    after_two((folded >> 8) as u8) ^ after_one((folded & 0xFF) as u8)
 }
 
 /// The CRC after two bytes and three zero bytes more.

@@ -1,10 +1,10 @@
 -- The table is held against the definition at each of the 256 numbers, by computing.
-use Rattle.std.proofs.Common.{get_or, refl, arith}
+use Rattle.std.proofs.Common.{get_or, nat_eq, true, refl, arith}
+use Rattle.std.proofs.lemmas.Bool.{agree_below_at, eqb-true}
 use Rattle.fsoe_crc.specs.declared.table.TheConstants.{AFTER_TWO}
 use Rattle.fsoe_crc.specs.Remainder.{zeros_entry, bits_of, fed}
-use Rattle.fsoe_crc.proofs.TableLemmas.{agree_below, agree_at}
 use Rattle.fsoe_crc.proofs.table.after_two.Goals as goal
 
 pub returns : goal.returns
-unfolding agree_below zeros_entry bits_of fed
-returns c = agree_at (λ k. get_or AFTER_TWO k 0) (zeros_entry 2) 256 refl c.args.high (omega arith)
+unfolding zeros_entry bits_of fed
+returns c = eqb-true _ _ (agree_below_at (λ high. nat_eq (get_or AFTER_TWO high 0) (zeros_entry 2 high)) (λ _. true) 256 c.args.high refl (omega arith))

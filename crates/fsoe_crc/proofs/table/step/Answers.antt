@@ -5,7 +5,7 @@ use Rattle.fsoe_crc.proofs.table.step.Goals as goal
 pub returns : goal.returns
 returns c bytes e =
     let folded : ℕ = bit_xor c.args.value (c.args.b * 256 % 65536) in
-    ap (bit_xor (folded * 256 % 65536)) c.after_eight_zeros.ensures
+    ap (bit_xor (folded * 256 % 65536)) c.after_one.ensures
     ∙ sym (stepped_by_table c.args.value c.args.b (omega arith) (omega arith))
     ∙ ap (λ r. stepped r c.args.b) e
     ∙ sym (rem-step bytes c.args.b (omega arith))
