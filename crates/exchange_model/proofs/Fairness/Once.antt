@@ -1,5 +1,6 @@
 -- No awaited item gives data twice: an end that takes data sends a frame, so that the next item it awaits answers a newer one.
 use Rattle.std.proofs.Common.{◌≡◌, ℕ, suc, ◌<◌, ◌≤◌, ◌==◌, nat_eq, List, [], ◌∷◌, length, Bool, true, false, ◌&&◌, not, Option, Some, None, is_some, if◌then◌else◌, refl, ap, subst, sym, ◌∙◌, eqb-true, arith}
+use Rattle.std.proofs.lemmas.Bool.{and_parts, eq-eqb}
 use Rattle.std.proofs.lemmas.Bool.Decides.{nat_tests}
 use Rattle.std.specs.List.{IsDistinct, AllByRecursion}
 use Rattle.fsoe_base.specs.declared.command.End.{End}
@@ -62,22 +63,15 @@ is-answer : (k : ℕ) (o : Option ℕ) → answers_to k o ≡ true → o ≡ Som
 is-answer k None h = cc
 is-answer k (Some n) h = ap Some (eqb-true n k h)
 
-right : (a b : Bool) → (a && b) ≡ true → b ≡ true
-right true b h = h
-right false b h = cc
-
-itself : (n : ℕ) → (n == n) ≡ true
-itself n = grind (arith, nat_tests)
-
 answer-head : (k : ℕ) (i : Item) (theirs : List Item) (j : Item) (b : Bool) → (not (has_command command.Reset i.bytes) && answers_to k i.answers) ≡ b
     → Numbered (i ∷ theirs) → (newest_answer k theirs ≡ Some j → AnswersNewest k theirs j) → (if b then Some i else newest_answer k theirs) ≡ Some j → AnswersNewest k (i ∷ theirs) j
 answer-head k i theirs j true is numbered rest h =
     let it : i ≡ j = cc in
-    let same_number : (i.number == i.number) ≡ true = itself i.number in
+    let same_number : (i.number == i.number) ≡ true = eq-eqb i.number i.number refl in
     let number : i.number ≡ suc (length theirs) = numbered.0 in
     subst (AnswersNewest k (i ∷ theirs)) it (record {
       within = omega arith;
-      answered = simp same_number (is-answer k i.answers (right (not (has_command command.Reset i.bytes)) (answers_to k i.answers) is));
+      answered = simp same_number (is-answer k i.answers (and_parts (not (has_command command.Reset i.bytes)) (answers_to k i.answers) is).1);
     })
 answer-head k i theirs j false is numbered rest h =
     let older_one : AnswersNewest k theirs j = rest h in

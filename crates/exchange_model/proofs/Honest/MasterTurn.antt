@@ -102,6 +102,13 @@ session-count ms id = ap (λ n. pieces_for n (width ms)) (session_long id ms.pro
 parameter-count : (ms : MasterSettings) → pieces (parameter_payload ms.watchdog ms.profile ms.app) (width ms) ≡ parameter_pieces ms
 parameter-count ms = ap (λ n. pieces_for n (width ms)) (parameters_long ms.watchdog ms.profile ms.app)
 
+-- a frame with a piece of a payload
+piece-next : (ms : MasterSettings) (id : ℕ) (e : List Deed) (g load : List ℕ) (c c' : Command) (p : State) (a b d m conn : ℕ) (payload : List ℕ) (k : ℕ) → is_reset c' ≡ false → Turn (session_pieces ms) (connection_pieces ms) (parameter_pieces ms) c' p a b d m
+    → Carries ms id c' a b d conn (padded (piece payload (width ms) k) ms.lengths.master)
+    → Next ms id e g c load (seal (master_of ms) (answering g c load [] ∷ since e) conn c' (padded (piece payload (width ms) k) ms.lengths.master)) p a b d m
+piece-next ms id e g load c c' p a b d m conn payload k n turn carries =
+    record { conn = conn; command = c'; made = _; in_session = n; turn = turn; long = piece_filled (OfMaster ms) payload k; is = refl; carries = carries }
+
 -- the first data frame, or a further one
 data-next : (ms : MasterSettings) (id : ℕ) (e : List Deed) (g : List ℕ) (c : Command) (load : List ℕ) (p : State) (a b d m : ℕ) (hold : Bool) → length (offer (OfMaster ms) e) ≡ ms.lengths.master
     → Turn (session_pieces ms) (connection_pieces ms) (parameter_pieces ms) command.FailSafeData p a b d m → Turn (session_pieces ms) (connection_pieces ms) (parameter_pieces ms) command.ProcessData p a b d m
@@ -139,70 +146,33 @@ session-next : (ms : MasterSettings) (id : ℕ) (e : List Deed) (g load : List �
     → nat_lt (count_in state.Session (own (since e))) (pieces (session_payload (session_id (OfMaster ms) e) ms.profile) (width ms)) ≡ more
     → Next ms id e g command.Session load (if more then download_frame ms (received g command.Session load e) command.Session (suc (count_in state.Session (own (since e)))) else after_phase ms (received g command.Session load e) command.Session) state.Session a 0 0 a
 session-next ms id e g load a true h most k =
-    record {
-      conn = 0;
-      command = command.Session;
-      made = padded (piece (session_payload (session_id (OfMaster ms) e) ms.profile) (width ms) (suc (count_in state.Session (own (since e))))) ms.lengths.master;
-      in_session = refl;
-      turn = MoreSession a (below _ _ a (session_pieces ms) h.session (session-count ms (session_id (OfMaster ms) e)) k);
-      long = piece_filled (OfMaster ms) _ _;
-      is = refl;
-      carries = (refl, ap₂ (λ (i n : ℕ). padded (piece (session_payload i ms.profile) (width ms) (suc n)) ms.lengths.master) (id_of ms id e h.id_is) h.session);
-    }
+    piece-next ms id e g load command.Session command.Session state.Session a 0 0 a 0 (session_payload (session_id (OfMaster ms) e) ms.profile) (suc (count_in state.Session (own (since e)))) refl
+    (MoreSession a (below _ _ a (session_pieces ms) h.session (session-count ms (session_id (OfMaster ms) e)) k))
+    (refl, ap₂ (λ (i n : ℕ). padded (piece (session_payload i ms.profile) (width ms) (suc n)) ms.lengths.master) (id_of ms id e h.id_is) h.session)
 session-next ms id e g load a false h most k =
     let all : a ≡ session_pieces ms = reached _ _ a (session_pieces ms) h.session (session-count ms (session_id (OfMaster ms) e)) k most in
-    record {
-      conn = ms.conn;
-      command = command.Connection;
-      made = padded (piece (connection_payload ms.conn ms.address) (width ms) 1) ms.lengths.master;
-      in_session = refl;
-      turn = subst (λ (a : ℕ). Turn (session_pieces ms) (connection_pieces ms) (parameter_pieces ms) command.Connection state.Session a 0 0 a) (sym all) FirstConnection;
-      long = piece_filled (OfMaster ms) (connection_payload ms.conn ms.address) 1;
-      is = refl;
-      carries = (refl, refl);
-    }
+    piece-next ms id e g load command.Session command.Connection state.Session a 0 0 a ms.conn (connection_payload ms.conn ms.address) 1 refl
+    (subst (λ (a : ℕ). Turn (session_pieces ms) (connection_pieces ms) (parameter_pieces ms) command.Connection state.Session a 0 0 a) (sym all) FirstConnection) (refl, refl)
 
 connection-next : (ms : MasterSettings) (id : ℕ) (e : List Deed) (g load : List ℕ) (b m : ℕ) (more : Bool) → MasterAt ms id e state.Connection (session_pieces ms) b 0 → b ≤ connection_pieces ms → m ≡ session_pieces ms + b
     → nat_lt (count_in state.Connection (own (since e))) (connection_pieces ms) ≡ more
     → Next ms id e g command.Connection load (if more then download_frame ms (received g command.Connection load e) command.Connection (suc (count_in state.Connection (own (since e)))) else after_phase ms (received g command.Connection load e) command.Connection) state.Connection (session_pieces ms) b 0 m
 connection-next ms id e g load b m true h most at k =
-    record {
-      conn = ms.conn;
-      command = command.Connection;
-      made = padded (piece (connection_payload ms.conn ms.address) (width ms) (suc (count_in state.Connection (own (since e))))) ms.lengths.master;
-      in_session = refl;
-      turn = MoreConnection b m (below _ _ b (connection_pieces ms) h.connection refl k) at;
-      long = piece_filled (OfMaster ms) _ _;
-      is = refl;
-      carries = (refl, ap (λ n. padded (piece (connection_payload ms.conn ms.address) (width ms) (suc n)) ms.lengths.master) h.connection);
-    }
+    piece-next ms id e g load command.Connection command.Connection state.Connection (session_pieces ms) b 0 m ms.conn (connection_payload ms.conn ms.address) (suc (count_in state.Connection (own (since e)))) refl
+    (MoreConnection b m (below _ _ b (connection_pieces ms) h.connection refl k) at)
+    (refl, ap (λ n. padded (piece (connection_payload ms.conn ms.address) (width ms) (suc n)) ms.lengths.master) h.connection)
 connection-next ms id e g load b m false h most at k =
     let all : b ≡ connection_pieces ms = reached _ _ b (connection_pieces ms) h.connection refl k most in
-    record {
-      conn = ms.conn;
-      command = command.Parameter;
-      made = padded (piece (parameter_payload ms.watchdog ms.profile ms.app) (width ms) 1) ms.lengths.master;
-      in_session = refl;
-      turn = subst (λ (b : ℕ). Turn (session_pieces ms) (connection_pieces ms) (parameter_pieces ms) command.Parameter state.Connection (session_pieces ms) b 0 m) (sym all) (FirstParameter m (at ∙ ap (λ n. session_pieces ms + n) all));
-      long = piece_filled (OfMaster ms) (parameter_payload ms.watchdog ms.profile ms.app) 1;
-      is = refl;
-      carries = (refl, refl);
-    }
+    piece-next ms id e g load command.Connection command.Parameter state.Connection (session_pieces ms) b 0 m ms.conn (parameter_payload ms.watchdog ms.profile ms.app) 1 refl
+    (subst (λ (b : ℕ). Turn (session_pieces ms) (connection_pieces ms) (parameter_pieces ms) command.Parameter state.Connection (session_pieces ms) b 0 m) (sym all) (FirstParameter m (at ∙ ap (λ n. session_pieces ms + n) all))) (refl, refl)
 
 parameter-next : (ms : MasterSettings) (id : ℕ) (e : List Deed) (g load : List ℕ) (d m : ℕ) (more : Bool) → length (offer (OfMaster ms) e) ≡ ms.lengths.master → MasterAt ms id e state.Parameter (session_pieces ms) (connection_pieces ms) d
     → d ≤ parameter_pieces ms → m ≡ session_pieces ms + connection_pieces ms + d → nat_lt (count_in state.Parameter (own (since e))) (pieces (parameter_payload ms.watchdog ms.profile ms.app) (width ms)) ≡ more
     → Next ms id e g command.Parameter load (if more then download_frame ms (received g command.Parameter load e) command.Parameter (suc (count_in state.Parameter (own (since e)))) else after_phase ms (received g command.Parameter load e) command.Parameter) state.Parameter (session_pieces ms) (connection_pieces ms) d m
 parameter-next ms id e g load d m true long h most at k =
-    record {
-      conn = ms.conn;
-      command = command.Parameter;
-      made = padded (piece (parameter_payload ms.watchdog ms.profile ms.app) (width ms) (suc (count_in state.Parameter (own (since e))))) ms.lengths.master;
-      in_session = refl;
-      turn = MoreParameter d m (below _ _ d (parameter_pieces ms) h.parameters (parameter-count ms) k) at;
-      long = piece_filled (OfMaster ms) _ _;
-      is = refl;
-      carries = (refl, ap (λ n. padded (piece (parameter_payload ms.watchdog ms.profile ms.app) (width ms) (suc n)) ms.lengths.master) h.parameters);
-    }
+    piece-next ms id e g load command.Parameter command.Parameter state.Parameter (session_pieces ms) (connection_pieces ms) d m ms.conn (parameter_payload ms.watchdog ms.profile ms.app) (suc (count_in state.Parameter (own (since e)))) refl
+    (MoreParameter d m (below _ _ d (parameter_pieces ms) h.parameters (parameter-count ms) k) at)
+    (refl, ap (λ n. padded (piece (parameter_payload ms.watchdog ms.profile ms.app) (width ms) (suc n)) ms.lengths.master) h.parameters)
 parameter-next ms id e g load d m false long h most at k =
     let all : d ≡ parameter_pieces ms = reached _ _ d (parameter_pieces ms) h.parameters (parameter-count ms) k most in
     let whole : m ≡ session_pieces ms + connection_pieces ms + parameter_pieces ms = at ∙ ap (λ n. session_pieces ms + connection_pieces ms + n) all in

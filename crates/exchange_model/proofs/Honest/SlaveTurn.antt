@@ -296,6 +296,17 @@ conn-known : (ms : MasterSettings) (r : Partner ms) (id : ℕ) (e : List Deed) (
 conn-known ms r id e f load c p a zero d n some h = absurd (omega arith)
 conn-known ms r id e f load c p a (suc b) d n some h = known ms r id e f load c p a b d n h
 
+-- an answer that echoes the k-th piece of a payload
+echo-reply : (ms : MasterSettings) (r : Partner ms) (id : ℕ) (e : List Deed) (f load : List ℕ) (c : Command) (a b d : ℕ) (p : List ℕ) (k : ℕ) → is_reset c ≡ false
+    → answer (slave_of ms r) (received f c load e) (record { command = c; load = load }) ≡ seal (slave_of ms r) (answering f c load [] ∷ since e) (conn_id (slave_of ms r) (received f c load e)) c (padded (take (width ms) load) ms.lengths.slave)
+    → load ≡ padded (piece p (width ms) k) ms.lengths.master
+    → (padded (take (width ms) load) ms.lengths.slave ≡ padded (piece p (width ms) k) ms.lengths.slave → Replies ms id c a b d (conn_id (slave_of ms r) (received f c load e)) (padded (take (width ms) load) ms.lengths.slave))
+    → Reply ms r id e f c load a b d
+echo-reply ms r id e f load c a b d p k n is carried replies =
+    let same : padded (take (width ms) load) ms.lengths.slave ≡ padded (piece p (width ms) k) ms.lengths.slave =
+    echo-long (piece p (width ms) k) (width ms) ms.lengths.master ms.lengths.slave load (piece_short p (width ms) k) (piece_fits (OfMaster ms)) (piece_fits (slave_of ms r)) carried in
+    record { conn = _; command = c; made = _; in_session = n; same = refl; long = ap length same ∙ piece_filled (slave_of ms r) p k; is = is; replies = replies same }
+
 -- the answer to the frame in turn
 pub reply : (ms : MasterSettings) (r : Partner ms) (id : ℕ) (e : List Deed) (f load : List ℕ) (c : Command) (a b d conn : ℕ) → length (offer (slave_of ms r) e) ≡ ms.lengths.slave → SomeConn c b → Carries ms id c a b d conn load
     → SlaveAt ms id (answering f c load [] ∷ since e) (phase_of c) (more state.Session c a) (more state.Connection c b) (more state.Parameter c d)
@@ -317,31 +328,9 @@ reply ms r id e f load command.Session a b d conn long some k h =
       replies = (refl, ap (λ n. all_zero (drop n (padded q ms.lengths.slave))) same ∙ drop_padded q (length q) ms.lengths.slave (omega arith));
     }
 reply ms r id e f load command.Connection a b d conn long some k h =
-    let q : List ℕ = piece (connection_payload ms.conn ms.address) (width ms) (suc b) in
-    let same : padded (take (width ms) load) ms.lengths.slave ≡ padded q ms.lengths.slave = echo-long q (width ms) ms.lengths.master ms.lengths.slave load (piece_short (connection_payload ms.conn ms.address) (width ms) (suc b)) (piece_fits (OfMaster ms)) (piece_fits (slave_of ms r)) k.1 in
-    record {
-      conn = conn_id (slave_of ms r) (received f command.Connection load e);
-      command = command.Connection;
-      made = padded (take (width ms) load) ms.lengths.slave;
-      in_session = refl;
-      same = refl;
-      long = ap length same ∙ piece_filled (slave_of ms r) (connection_payload ms.conn ms.address) (suc b);
-      is = refl;
-      replies = (known ms r id e f load command.Connection state.Connection a b d refl h, same);
-    }
+    echo-reply ms r id e f load command.Connection a (suc b) d (connection_payload ms.conn ms.address) (suc b) refl refl k.1 (λ same. (known ms r id e f load command.Connection state.Connection a b d refl h, same))
 reply ms r id e f load command.Parameter a b d conn long some k h =
-    let q : List ℕ = piece (parameter_payload ms.watchdog ms.profile ms.app) (width ms) (suc d) in
-    let same : padded (take (width ms) load) ms.lengths.slave ≡ padded q ms.lengths.slave = echo-long q (width ms) ms.lengths.master ms.lengths.slave load (piece_short (parameter_payload ms.watchdog ms.profile ms.app) (width ms) (suc d)) (piece_fits (OfMaster ms)) (piece_fits (slave_of ms r)) k.1 in
-    record {
-      conn = conn_id (slave_of ms r) (received f command.Parameter load e);
-      command = command.Parameter;
-      made = padded (take (width ms) load) ms.lengths.slave;
-      in_session = refl;
-      same = refl;
-      long = ap length same ∙ piece_filled (slave_of ms r) (parameter_payload ms.watchdog ms.profile ms.app) (suc d);
-      is = refl;
-      replies = (conn-known ms r id e f load command.Parameter state.Parameter a b (suc d) refl some h, same);
-    }
+    echo-reply ms r id e f load command.Parameter a b (suc d) (parameter_payload ms.watchdog ms.profile ms.app) (suc d) refl refl k.1 (λ same. (conn-known ms r id e f load command.Parameter state.Parameter a b (suc d) refl some h, same))
 reply ms r id e f load command.FailSafeData a b d conn long some k h =
     data-reply ms r id e f load command.FailSafeData a b d (held e) refl refl refl (conn-known ms r id e f load command.FailSafeData state.Data a b d refl some h) long refl
 reply ms r id e f load command.ProcessData a b d conn long some k h =
