@@ -48,7 +48,7 @@ master-stands : (old new : DuoView) (what : Move) (x : Entry) → MasterActs old
 master-stands old new what x acts ms ss w h =
     let e : List Deed = deeds end_name.Master w in
     let t : x ≡ next_entry (OfMaster ms) e what = acts.tells.tells ms e h.master in
-    let after : MasterIsAfter ms new.master (step (OfMaster ms) e what ∷ e) = acts.follows.goes_on ms e h.master in
+    let after : MasterIsAfter ms new.master (step (OfMaster ms) e what ∷ e) = acts.follows.is_after ms e h.master in
     record {
       master = after;
       slave = subst (λ (s : SlaveView). SlaveIsAfter ss s (deeds end_name.Slave w)) (sym acts.slave) h.slave;
@@ -64,7 +64,7 @@ slave-stands : (old new : DuoView) (what : Move) (x : Entry) → SlaveActs old w
 slave-stands old new what x acts ms ss w h =
     let e : List Deed = deeds end_name.Slave w in
     let t : x ≡ next_entry (OfSlave ss) e what = acts.tells.tells ss e h.slave in
-    let after : SlaveIsAfter ss new.slave (step (OfSlave ss) e what ∷ e) = acts.follows.goes_on ss e h.slave in
+    let after : SlaveIsAfter ss new.slave (step (OfSlave ss) e what ∷ e) = acts.follows.is_after ss e h.slave in
     record {
       master = subst (λ (m : MasterView). MasterIsAfter ms m (deeds end_name.Master w)) (sym acts.master) h.master;
       slave = after;

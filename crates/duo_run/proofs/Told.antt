@@ -35,7 +35,7 @@ pub master_tells : (old new : MasterView) (what : Move) (did : Did) (sent : List
     → MasterTells old what (entry end_name.Master what did sent state outs terms)
 master_tells old new what did sent state shown outs shown_terms terms follows answers states i outputs j terms_are = record {
   tells = λ ms e h.
-      let after = follows.goes_on ms e h in
+      let after = follows.is_after ms e h in
       told (OfMaster ms) e what did sent state outs terms after.reached (answers.did ms e h) (answers.sent ms e h)
       (states.shows ms _ after) (i ∙ outputs.shows ms _ after) (j ∙ terms_are.shows ms _ after);
 }
@@ -46,7 +46,7 @@ pub slave_tells : (old new : SlaveView) (what : Move) (did : Did) (sent : List �
     → SlaveTells old what (entry end_name.Slave what did sent state outs terms)
 slave_tells old new what did sent state shown outs shown_terms terms follows answers states i outputs j terms_are = record {
   tells = λ ss e h.
-      let after = follows.goes_on ss e h in
+      let after = follows.is_after ss e h in
       told (OfSlave ss) e what did sent state outs terms after.reached (answers.did ss e h) (answers.sent ss e h)
       (states.shows ss _ after) (i ∙ outputs.shows ss _ after) (j ∙ terms_are.shows ss _ after);
 }

@@ -1,4 +1,4 @@
--- The law over all calls of a master: after any list of them it stands for their deeds, or waits after them while a frame is due.
+-- The law over all calls of a master: after any list of them it is after their deeds, or waits after them while a frame is due.
 use Rattle.std.proofs.Common.{◌≡◌, ℕ, List, [], ◌∷◌, Bool, true, false, Option, Some, None, if◌then◌else◌, refl, sym, ap, subst, ◌∙◌}
 use Rattle.fsoe_base.specs.declared.did.Did.{Did}
 use Rattle.fsoe_base.specs.Did.{nothing}
@@ -17,9 +17,9 @@ use Rattle.master_core.specs.Standing.{MasterIsAfter}
 use Rattle.master_core.specs.Waiting.{Delivery, Waits}
 use Rattle.master_core.specs.Calls.{Call, Event, Setting, Accept, Reply, MadeEvent, MadeSetting, MadeAccept, MadeReply, Called, Pending, delivery_after, tells_due, left_by, pending, with_reply, deeds_of}
 
--- where these deeds leave a master: it stands for them, or waits after them with this delivery
+-- where these deeds leave a master: it is after them, or waits after them in this delivery
 pub record AtRest (ms : MasterSettings) (v : MasterView) (e : List Deed) : Type 0 where
-  pub stands : MasterIsAfter ms v e
+  pub is_after : MasterIsAfter ms v e
   pub rest : is_due v.state ≡ false
 
 pub record InDelivery (ms : MasterSettings) (v : MasterView) (e : List Deed) (p : Pending) : Type 0 where
@@ -62,17 +62,17 @@ quiet-delivery s e bytes did run h i =
 -- each call
 at-event : (ms : MasterSettings) (old new : MasterView) (x : Deed) (e : List Deed) (p : Option Pending) → Reached ms old e p → MadeEvent old x new → Reached ms new (x ∷ e) p
 at-event ms old new x e None r made = record {
-  stands =
+  is_after =
       subst (λ (y : Deed). MasterIsAfter ms new (y ∷ e))
-      (sym (same_deed x.what x.did _ x.sent _ (made.answers.did ms e r.stands) (made.answers.sent ms e r.stands)))
-      (made.follows.goes_on ms e r.stands);
+      (sym (same_deed x.what x.did _ x.sent _ (made.answers.did ms e r.is_after) (made.answers.sent ms e r.is_after)))
+      (made.follows.is_after ms e r.is_after);
   rest = made.done;
 }
 at-event ms old new x e (Some p) r made = absurd (cc (r.due, made.rest))
 
 at-setting : (ms : MasterSettings) (old new : MasterView) (m : Move) (e : List Deed) (p : Option Pending) → Reached ms old e p → MadeSetting old m new → Reached ms new (begun m nothing ∷ e) p
 at-setting ms old new m e None r made = record {
-  stands = subst (λ (y : Deed). MasterIsAfter ms new (y ∷ e)) (sym (set_deed (OfMaster ms) e m made.sets)) (made.follows.goes_on ms e r.stands);
+  is_after = subst (λ (y : Deed). MasterIsAfter ms new (y ∷ e)) (sym (set_deed (OfMaster ms) e m made.sets)) (made.follows.is_after ms e r.is_after);
   rest = made.due ∙ r.rest;
 }
 at-setting ms old new m e (Some p) r made = record {
@@ -84,7 +84,7 @@ accepted-so : (ms : MasterSettings) (old new : MasterView) (bytes : List ℕ) (d
     → Reached ms new (if b then e else begun (move.Deliver bytes) did ∷ e) (if b then Some (record { bytes = bytes; did = did }) else None)
 accepted-so ms old new bytes did e true b h made = record { waits = (made.accepts.begins ms e h).waits; due = made.due ∙ b }
 accepted-so ms old new bytes did e false b h made = record {
-  stands =
+  is_after =
       subst (λ (y : Deed). MasterIsAfter ms new (y ∷ e))
       (sym (quiet-delivery (OfMaster ms) e bytes did h.reached (made.accepts.begins ms e h).did b))
       ((made.accepts.begins ms e h).is_after (made.due ∙ b));
@@ -93,7 +93,7 @@ accepted-so ms old new bytes did e false b h made = record {
 
 at-accept : (ms : MasterSettings) (old new : MasterView) (bytes : List ℕ) (did : Did) (e : List Deed) (p : Option Pending) → Reached ms old e p → MadeAccept old bytes did new
     → Reached ms new (if tells_due did then e else begun (move.Deliver bytes) did ∷ e) (left_by bytes did)
-at-accept ms old new bytes did e None r made = accepted-so ms old new bytes did e (tells_due did) refl r.stands made
+at-accept ms old new bytes did e None r made = accepted-so ms old new bytes did e (tells_due did) refl r.is_after made
 at-accept ms old new bytes did e (Some p) r made = absurd (cc (r.due, made.rest))
 
 at-reply : (ms : MasterSettings) (old new : MasterView) (frame : List ℕ) (e : List Deed) (p : Option Pending) → Reached ms old e p → MadeReply old frame new → Reached ms new (with_reply frame p e) None
@@ -102,7 +102,7 @@ at-reply ms old new frame e (Some p) r made =
     let d : Delivery = delivery_after ms e p in
     let done = made.replies.did d r.waits ∙ ap (λ (b : Bool). record p.did { sent = b }) r.due in
     record {
-      stands =
+      is_after =
           subst (λ (y : Deed). MasterIsAfter ms new (y ∷ e))
           (same_deed (move.Deliver p.bytes) _ _ _ _ done (sym (made.replies.sent d r.waits)))
           (made.replies.is_after d r.waits);
@@ -111,22 +111,22 @@ at-reply ms old new frame e (Some p) r made =
 
 -- all calls
 reached : (ms : MasterSettings) (first last : MasterView) (calls : List Call) → MasterIsAfter ms first [] → Called first calls last → Reached ms last (deeds_of calls) (pending calls)
-reached ms first last [] h c = subst (λ (v : MasterView). AtRest ms v []) c (record { stands = h; rest = ap (λ (v : MasterView). is_due v.state) h.is })
+reached ms first last [] h c = subst (λ (v : MasterView). AtRest ms v []) c (record { is_after = h; rest = ap (λ (v : MasterView). is_due v.state) h.is })
 reached ms first last (Event x ∷ calls) h c = at-event ms c.0 last x (deeds_of calls) (pending calls) (reached ms first c.0 calls h c.1) c.2
 reached ms first last (Setting m ∷ calls) h c = at-setting ms c.0 last m (deeds_of calls) (pending calls) (reached ms first c.0 calls h c.1) c.2
 reached ms first last (Accept bytes did ∷ calls) h c = at-accept ms c.0 last bytes did (deeds_of calls) (pending calls) (reached ms first c.0 calls h c.1) c.2
 reached ms first last (Reply frame ∷ calls) h c = at-reply ms c.0 last frame (deeds_of calls) (pending calls) (reached ms first c.0 calls h c.1) c.2
 
 is-run : (ms : MasterSettings) (v : MasterView) (e : List Deed) (p : Option Pending) → Reached ms v e p → IsRun (OfMaster ms) e
-is-run ms v e None r = r.stands.reached
+is-run ms v e None r = r.is_after.reached
 is-run ms v e (Some p) r = r.waits.reached
 
 pub calls_run : (ms : MasterSettings) (first last : MasterView) (calls : List Call) → MasterIsAfter ms first [] → Called first calls last → deeds_of calls ≡ run (OfMaster ms) (events_of (deeds_of calls))
 calls_run ms first last calls h c = run_of_events (OfMaster ms) (deeds_of calls) (is-run ms last (deeds_of calls) (pending calls) (reached ms first last calls h c))
 
-pub calls_stand : (ms : MasterSettings) (first last : MasterView) (calls : List Call) → MasterIsAfter ms first [] → Called first calls last → pending calls ≡ None → MasterIsAfter ms last (deeds_of calls)
-calls_stand ms first last calls h c k =
-    let r : Reached ms last (deeds_of calls) None = subst (λ (p : Option Pending). Reached ms last (deeds_of calls) p) k (reached ms first last calls h c) in r.stands
+pub calls_end : (ms : MasterSettings) (first last : MasterView) (calls : List Call) → MasterIsAfter ms first [] → Called first calls last → pending calls ≡ None → MasterIsAfter ms last (deeds_of calls)
+calls_end ms first last calls h c k =
+    let r : Reached ms last (deeds_of calls) None = subst (λ (p : Option Pending). Reached ms last (deeds_of calls) p) k (reached ms first last calls h c) in r.is_after
 
 pub calls_wait : (ms : MasterSettings) (first last : MasterView) (calls : List Call) → MasterIsAfter ms first [] → Called first calls last → (p : Pending) → pending calls ≡ Some p
     → Waits last (delivery_after ms (deeds_of calls) p)

@@ -11,16 +11,17 @@ use Rattle.end_model.specs.Setup.{OfMaster}
 use Rattle.end_model.specs.Deed.{Deed, IsSetting}
 use Rattle.end_model.specs.Payloads.{terms}
 use Rattle.end_model.specs.Readiness.{state_of, age, told_in, told_terms, offer, held}
-use Rattle.end_model.specs.Step.{did_on, IsProper}
+use Rattle.end_model.specs.Step.{did_on, IsProper, IsRun}
 use Rattle.end_model.specs.Outputs.{zeros, outputs, out}
 use Rattle.end_model.proofs.Runs.{set_deed}
 use Rattle.end_model.proofs.Shown.{looking_back, fail_safe}
+use Rattle.master_core.specs.declared.now.Now.{Now}
 use Rattle.master_core.specs.Now as machine
 use Rattle.master_core.specs.After.{after}
 use Rattle.master_core.specs.Master.{first_master}
 use Rattle.master_core.specs.MasterView.{MasterView}
 use Rattle.master_core.specs.Standing.{MasterIsAfter, Follows, Answers, Shows}
-use Rattle.master_core.specs.ViewOf.{Notes, notes_of, now_in, view_of}
+use Rattle.master_core.specs.ViewOf.{notes_of, now_in, view_of}
 use Rattle.master_core.proofs.Agrees.{Agrees, AreRead}
 use Rattle.master_core.proofs.Agreed.{agrees, run-sound}
 
@@ -29,7 +30,7 @@ next ms e old m p h = agrees ms e m (run-sound ms e h.reached) (subst (λ (v : M
 
 pub follows_by : (old : MasterView) (m : Move) (new : MasterView) → IsProper (OfMaster old.kit.settings) m → AreRead m → new ≡ (after old m).master → Follows old m new
 follows_by old m new p bytes n = record {
-  goes_on = λ ms e h.
+  is_after = λ ms e h.
       let a = next ms e old m p h in
       record {
         is = n ∙ ap (λ (v : MasterView). (after v m).master) h.is ∙ sym (a.view bytes);
@@ -44,8 +45,8 @@ answers_by old m d f p i j = record {
 }
 
 -- a new master is after no deed
-pub new_stands : (ms : MasterSettings) (v : MasterView) → v ≡ first_master ms → MasterIsAfter ms v []
-new_stands ms v h = record { is = h; reached = tt }
+pub new_is_after : (ms : MasterSettings) (v : MasterView) → v ≡ first_master ms → MasterIsAfter ms v []
+new_is_after ms v h = record { is = h; reached = tt }
 
 -- a put, a hold and a nonce do nothing else
 pub set_answers : (old : MasterView) (m : Move) (d : Did) (f : List ℕ) → IsSetting m → d ≡ nothing → f ≡ [] → Answers old m d f
@@ -55,39 +56,31 @@ set_answers old m d f k i j = record {
 }
 
 -- what the readers show
-state-in : (p : State) (ms : MasterSettings) (n : Notes) → machine.state_of (now_in p ms n) ≡ p
-state-in state.Reset ms n = refl
-state-in state.Session ms n = refl
-state-in state.Connection ms n = refl
-state-in state.Parameter ms n = refl
-state-in state.Data ms n = refl
+abbrev ShownIn : State → MasterSettings → List Deed → Now → Type 0
+ShownIn p ms e x = (machine.state_of x ≡ p) × (machine.terms_shown_in x ≡ told_in p (terms (OfMaster ms) e)) × (machine.outputs_in ms x ≡ outputs (OfMaster ms) e)
+
+shown-in : (p : State) (ms : MasterSettings) (e : List Deed) → (p ≢ state.Data → outputs (OfMaster ms) e ≡ zeros (OfMaster ms)) → ShownIn p ms e (now_in p ms (notes_of ms e))
+shown-in state.Reset ms e h = (refl, refl, sym (h (λ k. cc)))
+shown-in state.Session ms e h = (refl, refl, sym (h (λ k. cc)))
+shown-in state.Connection ms e h = (refl, refl, sym (h (λ k. cc)))
+shown-in state.Parameter ms e h = (refl, refl, sym (h (λ k. cc)))
+shown-in state.Data ms e h = (refl, refl, refl)
+
+shown-after : (ms : MasterSettings) (e : List Deed) → IsRun (OfMaster ms) e → ShownIn (state_of (OfMaster ms) e) ms e (view_of ms e).state
+shown-after ms e run = shown-in (state_of (OfMaster ms) e) ms e (fail_safe (OfMaster ms) e run)
 
 pub state_shown : (v : MasterView) (shown : State) → shown ≡ machine.state_of v.state → Shows v shown state_of
-state_shown v shown i = record { shows = λ ms e h. i ∙ ap (λ (v : MasterView). machine.state_of v.state) h.is ∙ state-in (state_of (OfMaster ms) e) ms (notes_of ms e) }
-
-terms-in : (p : State) (ms : MasterSettings) (e : List Deed) → machine.terms_shown_in (now_in p ms (notes_of ms e)) ≡ told_in p (terms (OfMaster ms) e)
-terms-in state.Reset ms e = refl
-terms-in state.Session ms e = refl
-terms-in state.Connection ms e = refl
-terms-in state.Parameter ms e = refl
-terms-in state.Data ms e = refl
+state_shown v shown i = record { shows = λ ms e h. i ∙ ap (λ (v : MasterView). machine.state_of v.state) h.is ∙ (shown-after ms e h.reached).0 }
 
 pub terms_shown : (v : MasterView) (shown : Option Terms) → shown ≡ machine.terms_shown_in v.state → Shows v shown told_terms
-terms_shown v shown i = record { shows = λ ms e h. i ∙ ap (λ (v : MasterView). machine.terms_shown_in v.state) h.is ∙ terms-in (state_of (OfMaster ms) e) ms e }
-
-outputs-in : (p : State) (ms : MasterSettings) (e : List Deed) → (p ≢ state.Data → outputs (OfMaster ms) e ≡ zeros (OfMaster ms)) → machine.outputs_in ms (now_in p ms (notes_of ms e)) ≡ outputs (OfMaster ms) e
-outputs-in state.Reset ms e h = sym (h (λ k. cc))
-outputs-in state.Session ms e h = sym (h (λ k. cc))
-outputs-in state.Connection ms e h = sym (h (λ k. cc))
-outputs-in state.Parameter ms e h = sym (h (λ k. cc))
-outputs-in state.Data ms e h = refl
+terms_shown v shown i = record { shows = λ ms e h. i ∙ ap (λ (v : MasterView). machine.terms_shown_in v.state) h.is ∙ (shown-after ms e h.reached).1 }
 
 pub outputs_shown : (v : MasterView) (shown : List ℕ) → shown ≡ machine.outputs_in v.kit.settings v.state → Shows v shown out
 outputs_shown v shown i = record {
   shows = λ ms e h.
       i
       ∙ ap (λ (v : MasterView). machine.outputs_in v.kit.settings v.state) h.is
-      ∙ outputs-in (state_of (OfMaster ms) e) ms e (fail_safe (OfMaster ms) e h.reached)
+      ∙ (shown-after ms e h.reached).2
       ∙ looking_back (OfMaster ms) e h.reached;
 }
 

@@ -16,7 +16,7 @@ pub record MasterIsAfter (settings : MasterSettings) (master : MasterView) (deed
 
 -- a master that was after some deeds is, after this event, after these and the next one
 pub record Follows (old : MasterView) (event : Move) (new : MasterView) : Type 0 where
-  pub goes_on : (settings : MasterSettings) (deeds : List Deed) → MasterIsAfter settings old deeds
+  pub is_after : (settings : MasterSettings) (deeds : List Deed) → MasterIsAfter settings old deeds
       → MasterIsAfter settings new (step (OfMaster settings) deeds event ∷ deeds)
 
 -- what a master does at this event, and the frame that it sends, are those of its next deed

@@ -48,7 +48,7 @@ impl Master {
 
     /// A master with these settings: in state Reset, with zeros to offer and to give, and not held. Its first tick
     /// reaches its limit.
-    #[tactic(auto, using(crate::proofs::Law::new_stands))]
+    #[tactic(auto, using(crate::proofs::Law::new_is_after))]
     pub fn new(settings: MasterSettings) -> Master
         ensures stands { MasterIsAfter settings result [] }
         ensures settings { result.kit.settings ≡ settings }
@@ -179,7 +179,7 @@ impl Master {
     /// state Reset where its code is 0; with another code it is dropped there. A frame that fails a test ends the
     /// session with the test's code, and is dropped in state Reset. Every other frame is taken. Where a frame was
     /// taken or the session ended, a frame is due then.
-    #[tactic(auto, using(crate::proofs::Waiting::due_told))]
+    #[tactic(auto, using(crate::proofs::Accepting::due_told))]
     pub fn accept(&mut self, frame: &[u8]) -> Did
         requires { is_due self.old.state ≡ false }
         ensures accepts { Accepts self.old frame.now result self.new }

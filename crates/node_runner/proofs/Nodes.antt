@@ -25,7 +25,7 @@ pub new_slave : (h : Heading) (v : SlaveView) (ss : SlaveSettings) → IsSlaveOf
 new_slave h v ss is stands = (OfSlave ss, is, stands)
 
 master_stands : (old new : MasterView) (m : Move) → master_core.Follows old m new → (s : Setup) (e : List Deed) → NodeStands (node.Master old) s e → NodeStands (node.Master new) s (step s e m ∷ e)
-master_stands old new m f (OfMaster ms) e h = f.goes_on ms e h
+master_stands old new m f (OfMaster ms) e h = f.is_after ms e h
 master_stands old new m f (OfSlave ss) e h = absurd h
 
 pub master_follows : (old : MasterView) (m : Move) (new : MasterView) → master_core.Follows old m new → NodeFollows (node.Master old) m (node.Master new)
@@ -33,7 +33,7 @@ master_follows old m new f = record { stands = master_stands old new m f }
 
 slave_stands : (old new : SlaveView) (m : Move) → slave_core.Follows old m new → (s : Setup) (e : List Deed) → NodeStands (node.Slave old) s e → NodeStands (node.Slave new) s (step s e m ∷ e)
 slave_stands old new m f (OfMaster ms) e h = absurd h
-slave_stands old new m f (OfSlave ss) e h = f.goes_on ss e h
+slave_stands old new m f (OfSlave ss) e h = f.is_after ss e h
 
 pub slave_follows : (old : SlaveView) (m : Move) (new : SlaveView) → slave_core.Follows old m new → NodeFollows (node.Slave old) m (node.Slave new)
 slave_follows old m new f = record { stands = slave_stands old new m f }

@@ -11,16 +11,17 @@ use Rattle.end_model.specs.Setup.{OfSlave}
 use Rattle.end_model.specs.Deed.{Deed, IsSetting, events_of}
 use Rattle.end_model.specs.Payloads.{terms}
 use Rattle.end_model.specs.Readiness.{state_of, age, told_in, told_terms, offer, held}
-use Rattle.end_model.specs.Step.{did_on, run, IsProper}
+use Rattle.end_model.specs.Step.{did_on, run, IsProper, IsRun}
 use Rattle.end_model.specs.Outputs.{zeros, outputs, out}
 use Rattle.end_model.proofs.Runs.{same_deed, set_deed, run_of_events}
 use Rattle.end_model.proofs.Shown.{looking_back, fail_safe}
+use Rattle.slave_core.specs.declared.now.Now.{Now}
 use Rattle.slave_core.specs.Now as machine
 use Rattle.slave_core.specs.After.{after}
 use Rattle.slave_core.specs.Slave.{first_slave}
 use Rattle.slave_core.specs.SlaveView.{SlaveView}
 use Rattle.slave_core.specs.Standing.{SlaveIsAfter, Follows, Answers, Shows, Called}
-use Rattle.slave_core.specs.ViewOf.{Notes, notes_of, now_in, view_of}
+use Rattle.slave_core.specs.ViewOf.{notes_of, now_in, view_of}
 use Rattle.slave_core.proofs.Agrees.{Agrees, AreRead, same_slave, fresh_limit}
 use Rattle.slave_core.proofs.Agreed.{agrees, run-sound}
 
@@ -29,7 +30,7 @@ next ss e old m p h = agrees ss e m (run-sound ss e h.reached) h.reached (subst 
 
 pub follows_by : (old : SlaveView) (m : Move) (new : SlaveView) → IsProper (OfSlave old.kit.settings) m → AreRead m → new ≡ (after old m).slave → Follows old m new
 follows_by old m new p bytes n = record {
-  goes_on = λ ss e h.
+  is_after = λ ss e h.
       let a = next ss e old m p h in
       record {
         is = n ∙ ap (λ (v : SlaveView). (after v m).slave) h.is ∙ sym (a.view bytes);
@@ -44,43 +45,35 @@ answers_by old m d f p i j = record {
 }
 
 -- a new slave is after no deed
-pub new_stands : (ss : SlaveSettings) (v : SlaveView) → v ≡ first_slave ss → SlaveIsAfter ss v []
-new_stands ss v h = record { is = h ∙ same_slave _ _ _ _ _ _ _ _ refl refl (sym (fresh_limit ss)) refl; reached = tt }
+pub new_is_after : (ss : SlaveSettings) (v : SlaveView) → v ≡ first_slave ss → SlaveIsAfter ss v []
+new_is_after ss v h = record { is = h ∙ same_slave _ _ _ _ _ _ _ _ refl refl (sym (fresh_limit ss)) refl; reached = tt }
 
 -- what the readers show
-state-in : (p : State) (ss : SlaveSettings) (n : Notes) → machine.state_of (now_in p ss n) ≡ p
-state-in state.Reset ss n = refl
-state-in state.Session ss n = refl
-state-in state.Connection ss n = refl
-state-in state.Parameter ss n = refl
-state-in state.Data ss n = refl
+abbrev ShownIn : State → SlaveSettings → List Deed → Now → Type 0
+ShownIn p ss e x = (machine.state_of x ≡ p) × (machine.terms_shown_in x ≡ told_in p (terms (OfSlave ss) e)) × (machine.outputs_in ss x ≡ outputs (OfSlave ss) e)
+
+shown-in : (p : State) (ss : SlaveSettings) (e : List Deed) → (p ≢ state.Data → outputs (OfSlave ss) e ≡ zeros (OfSlave ss)) → ShownIn p ss e (now_in p ss (notes_of ss e))
+shown-in state.Reset ss e h = (refl, refl, sym (h (λ k. cc)))
+shown-in state.Session ss e h = (refl, refl, sym (h (λ k. cc)))
+shown-in state.Connection ss e h = (refl, refl, sym (h (λ k. cc)))
+shown-in state.Parameter ss e h = (refl, refl, sym (h (λ k. cc)))
+shown-in state.Data ss e h = (refl, refl, refl)
+
+shown-after : (ss : SlaveSettings) (e : List Deed) → IsRun (OfSlave ss) e → ShownIn (state_of (OfSlave ss) e) ss e (view_of ss e).state
+shown-after ss e run = shown-in (state_of (OfSlave ss) e) ss e (fail_safe (OfSlave ss) e run)
 
 pub state_shown : (v : SlaveView) (shown : State) → shown ≡ machine.state_of v.state → Shows v shown state_of
-state_shown v shown i = record { shows = λ ss e h. i ∙ ap (λ (v : SlaveView). machine.state_of v.state) h.is ∙ state-in (state_of (OfSlave ss) e) ss (notes_of ss e) }
-
-terms-in : (p : State) (ss : SlaveSettings) (e : List Deed) → machine.terms_shown_in (now_in p ss (notes_of ss e)) ≡ told_in p (terms (OfSlave ss) e)
-terms-in state.Reset ss e = refl
-terms-in state.Session ss e = refl
-terms-in state.Connection ss e = refl
-terms-in state.Parameter ss e = refl
-terms-in state.Data ss e = refl
+state_shown v shown i = record { shows = λ ss e h. i ∙ ap (λ (v : SlaveView). machine.state_of v.state) h.is ∙ (shown-after ss e h.reached).0 }
 
 pub terms_shown : (v : SlaveView) (shown : Option Terms) → shown ≡ machine.terms_shown_in v.state → Shows v shown told_terms
-terms_shown v shown i = record { shows = λ ss e h. i ∙ ap (λ (v : SlaveView). machine.terms_shown_in v.state) h.is ∙ terms-in (state_of (OfSlave ss) e) ss e }
-
-outputs-in : (p : State) (ss : SlaveSettings) (e : List Deed) → (p ≢ state.Data → outputs (OfSlave ss) e ≡ zeros (OfSlave ss)) → machine.outputs_in ss (now_in p ss (notes_of ss e)) ≡ outputs (OfSlave ss) e
-outputs-in state.Reset ss e h = sym (h (λ k. cc))
-outputs-in state.Session ss e h = sym (h (λ k. cc))
-outputs-in state.Connection ss e h = sym (h (λ k. cc))
-outputs-in state.Parameter ss e h = sym (h (λ k. cc))
-outputs-in state.Data ss e h = refl
+terms_shown v shown i = record { shows = λ ss e h. i ∙ ap (λ (v : SlaveView). machine.terms_shown_in v.state) h.is ∙ (shown-after ss e h.reached).1 }
 
 pub outputs_shown : (v : SlaveView) (shown : List ℕ) → shown ≡ machine.outputs_in v.kit.settings v.state → Shows v shown out
 outputs_shown v shown i = record {
   shows = λ ss e h.
       i
       ∙ ap (λ (v : SlaveView). machine.outputs_in v.kit.settings v.state) h.is
-      ∙ outputs-in (state_of (OfSlave ss) e) ss e (fail_safe (OfSlave ss) e h.reached)
+      ∙ (shown-after ss e h.reached).2
       ∙ looking_back (OfSlave ss) e h.reached;
 }
 
@@ -107,7 +100,7 @@ called_is_after ss first last (x ∷ e) h c =
     let before : SlaveIsAfter ss c.0 e = called_is_after ss first c.0 e h c.1 in
     subst (λ (y : Deed). SlaveIsAfter ss last (y ∷ e))
     (sym (same_deed x.what x.did _ x.sent _ (c.3.did ss e before) (c.3.sent ss e before)))
-    (c.2.goes_on ss e before)
+    (c.2.is_after ss e before)
 
 pub called_run : (ss : SlaveSettings) (first last : SlaveView) (e : List Deed) → SlaveIsAfter ss first [] → Called first e last → e ≡ run (OfSlave ss) (events_of e)
 called_run ss first last e h c = run_of_events (OfSlave ss) e (called_is_after ss first last e h c).reached

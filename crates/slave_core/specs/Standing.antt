@@ -16,7 +16,7 @@ pub record SlaveIsAfter (settings : SlaveSettings) (slave : SlaveView) (deeds : 
 
 -- a slave that was after some deeds is, after this event, after these and the next one
 pub record Follows (old : SlaveView) (event : Move) (new : SlaveView) : Type 0 where
-  pub goes_on : (settings : SlaveSettings) (deeds : List Deed) → SlaveIsAfter settings old deeds
+  pub is_after : (settings : SlaveSettings) (deeds : List Deed) → SlaveIsAfter settings old deeds
       → SlaveIsAfter settings new (step (OfSlave settings) deeds event ∷ deeds)
 
 -- what a slave does at this event, and the frame that it sends, are those of its next deed

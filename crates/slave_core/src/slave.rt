@@ -46,7 +46,7 @@ impl Slave {
     ghost use Rattle.slave_core.specs.Standing.{SlaveIsAfter, Follows, Answers, Shows};
 
     /// A slave with these settings: in state Reset, with zeros to offer and to give, and not held.
-    #[tactic(auto, using(crate::proofs::Law::new_stands))]
+    #[tactic(auto, using(crate::proofs::Law::new_is_after))]
     pub fn new(settings: SlaveSettings) -> Slave
         ensures { SlaveIsAfter settings result [] }
     {

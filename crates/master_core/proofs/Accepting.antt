@@ -1,0 +1,120 @@
+-- What accepting a frame does to a master, whatever its offer and its nonce: the frame is dropped, or another one is due then.
+use Rattle.std.proofs.Common.{◌≡◌, ℕ, List, ◌==◌, Bool, true, false, ◌||◌, is_some, Option, Some, None, Result, Ok, Err, if◌then◌else◌, refl, sym, subst}
+use Rattle.fsoe_base.specs.declared.command.Code.{Code}
+use Rattle.fsoe_base.specs.declared.command.Command.TheVariants as command
+use Rattle.fsoe_base.specs.declared.did.Cause.TheVariants as cause
+use Rattle.fsoe_base.specs.declared.did.Dropped.TheVariants as dropped
+use Rattle.fsoe_base.specs.Command.{code}
+use Rattle.fsoe_base.specs.declared.did.Did.{Did}
+use Rattle.fsoe_base.specs.declared.did.Dropped.{Dropped}
+use Rattle.fsoe_frame.specs.Parts.{bytes_of}
+use Rattle.failsafe_io.specs.Offer.{OfferView}
+use Rattle.param_load.specs.declared.upload.Progress.{Progress}
+use Rattle.param_load.specs.declared.upload.Progress.TheVariants as progress
+use Rattle.param_load.specs.Download.{outcome}
+use Rattle.seq_chain.specs.declared.opened.Opened.{Opened}
+use Rattle.seq_chain.specs.declared.opened.Opened.TheVariants as opened_as
+use Rattle.seq_chain.specs.Opened.{opened}
+use Rattle.seq_chain.specs.SessionFrame.{SessionFrameView}
+use Rattle.end_model.specs.Setup.{OfMaster, receives}
+use Rattle.master_core.specs.declared.due.Next.{Next}
+use Rattle.master_core.specs.declared.due.Next.TheVariants as next
+use Rattle.master_core.specs.declared.now.Now.{Now}
+use Rattle.master_core.specs.declared.now.Now.TheVariants as now
+use Rattle.master_core.specs.Calls.{tells_due}
+use Rattle.master_core.specs.Kit.{KitView}
+use Rattle.fsoe_base.specs.Did.{takes, resets}
+use Rattle.end_model.specs.Verdict.{is_repeat}
+use Rattle.master_core.specs.Master.{Accepted, drops, makes_due, settles, refuses, on_session, accepted_by, accepted}
+use Rattle.master_core.specs.MasterView.{MasterView}
+use Rattle.master_core.specs.Now.{is_reset, is_due, kept_in, fault, next_state}
+use Rattle.master_core.specs.States.{answered, session_by, connection_by, parameter_by}
+use Rattle.master_core.specs.Views.{ExchangeView}
+
+-- a kit with another offer and another nonce
+abbrev with_both : KitView → OfferView → ℕ → KitView
+with_both k o n = record { settings = k.settings; offer = o; nonce = n }
+
+-- what a frame leads to doesn't depend on them
+session-with : (r : Result Progress Code) (k : KitView) (o : OfferView) (n : ℕ) (x : ExchangeView) → session_by r (with_both k o n) x ≡ session_by r k x
+session-with (Err e) k o n x = refl
+session-with (Ok progress.More) k o n x = refl
+session-with (Ok progress.Whole) k o n x = refl
+
+connection-with : (r : Result Progress Code) (k : KitView) (o : OfferView) (n : ℕ) (x : ExchangeView) → connection_by r (with_both k o n) x ≡ connection_by r k x
+connection-with (Err e) k o n x = refl
+connection-with (Ok progress.More) k o n x = refl
+connection-with (Ok progress.Whole) k o n x = refl
+
+parameter-with : (r : Result Progress Code) (k : KitView) (o : OfferView) (n : ℕ) (x : ExchangeView) → parameter_by r (with_both k o n) x ≡ parameter_by r k x
+parameter-with (Err e) k o n x = refl
+parameter-with (Ok progress.More) k o n x = refl
+parameter-with (Ok progress.Whole) k o n x = refl
+
+taken-with : (now : Now) (k : KitView) (o : OfferView) (n : ℕ) (f : SessionFrameView) → next_state (with_both k o n) now f ≡ next_state k now f
+taken-with (now.Reset s) k o n f = refl
+taken-with (now.Session s) k o n f = session-with (outcome s.download f.frame.load) k o n (answered s f)
+taken-with (now.Connection s) k o n f = connection-with (outcome s.download f.frame.load) k o n (answered s f)
+taken-with (now.Parameter s) k o n f = parameter-with (outcome s.download f.frame.load) k o n (answered s f)
+taken-with (now.Data s) k o n f = refl
+taken-with (now.Due due) k o n f = refl
+
+abbrev pub view_with : MasterView → OfferView → ℕ → MasterView
+view_with v o n = record { kit = with_both v.kit o n; state = v.state; timer = v.timer }
+
+-- both masters drop a frame, or the same frame is due at both, and is told to be
+pub data Alike (v w : MasterView) : Accepted → Accepted → Type 0 where
+  Drops : (why : Dropped) → Alike v w (drops v why) (drops w why)
+  MakesDue : (n : Next) (did : Did) → tells_due did ≡ true → Alike v w (makes_due v n did) (makes_due w n did)
+
+either : (b : Bool) (v w : MasterView) (x y x' y' : Accepted) → Alike v w x x' → Alike v w y y' → Alike v w (if b then x else y) (if b then x' else y')
+either true v w x y x' y' h i = h
+either false v w x y x' y' h i = i
+
+settled : (r : Result Next Code) (v w : MasterView) (f : SessionFrameView) → Alike v w (settles v f r) (settles w f r)
+settled (Ok n) v w f = MakesDue n (takes f.command f.frame.load true) refl
+settled (Err x) v w f = MakesDue (next.Reset x) (resets true (cause.Found x)) refl
+
+refused : (x : Code) (v : MasterView) (o : OfferView) (n : ℕ) → Alike v (view_with v o n) (refuses v x) (refuses (view_with v o n) x)
+refused x v o n = either (is_reset v.state) v (view_with v o n) _ _ _ _ (Drops dropped.InReset) (MakesDue (next.Reset x) (resets false (cause.Found x)) refl)
+
+in_session : (found : Option Code) (v : MasterView) (o : OfferView) (n : ℕ) (f : SessionFrameView) → Alike v (view_with v o n) (on_session v f found) (on_session (view_with v o n) f found)
+in_session None v o n f =
+    subst (λ (r : Result Next Code). Alike v (view_with v o n) (settles v f (next_state v.kit v.state f)) (settles (view_with v o n) f r))
+    (sym (taken-with v.state v.kit o n f)) (settled (next_state v.kit v.state f) v (view_with v o n) f)
+in_session (Some x) v o n f = refused x v o n
+
+by_opened : (w : Opened) (v : MasterView) (o : OfferView) (n : ℕ) → Alike v (view_with v o n) (accepted_by v w) (accepted_by (view_with v o n) w)
+by_opened (opened_as.Drop why) v o n = Drops why
+by_opened (opened_as.Refuse x) v o n = refused x v o n
+by_opened (opened_as.ResetFrame x f) v o n =
+    either (is_reset v.state) v (view_with v o n) _ _ _ _
+    (either (x.0 == 0) v (view_with v o n) _ _ _ _ (MakesDue (next.Begin (bytes_of f)) (takes command.Reset f.load false) refl) (Drops dropped.InReset))
+    (MakesDue (next.Reset (code 0)) (resets false (cause.Peer x)) refl)
+by_opened (opened_as.OfSession f) v o n = in_session (fault v.kit.settings v.state f) v o n f
+
+pub accepts_alike : (v : MasterView) (o : OfferView) (n : ℕ) (bytes : List ℕ) → Alike v (view_with v o n) (accepted v bytes) (accepted (view_with v o n) bytes)
+accepts_alike v o n bytes = by_opened (opened (receives (OfMaster v.kit.settings)) (is_repeat (kept_in v.state) bytes) bytes) v o n
+
+-- the kit stays
+pub kit_kept : (v w : MasterView) (a b : Accepted) → Alike v w a b → a.master.kit ≡ v.kit
+kit_kept v w a b (Drops why) = refl
+kit_kept v w a b (MakesDue n did told) = refl
+
+-- what sets the offer and the nonce may come before the frame as well as after it
+pub commutes : (o : OfferView → OfferView) (n : ℕ → ℕ) (v : MasterView) (a b : Accepted) → Alike v (view_with v (o v.kit.offer) (n v.kit.nonce)) a b
+    → (view_with a.master (o a.master.kit.offer) (n a.master.kit.nonce) ≡ b.master) × (a.did ≡ b.did)
+commutes o n v a b (Drops why) = (refl, refl)
+commutes o n v a b (MakesDue next did told) = (refl, refl)
+
+-- a frame is due exactly where something was taken or a reset came, and the age is 0 then
+due_by : (v w : MasterView) (a b : Accepted) → Alike v w a b → is_due v.state ≡ false → is_due a.master.state ≡ tells_due a.did
+due_by v w a b (Drops why) h = h
+due_by v w a b (MakesDue n did told) h = sym told
+
+pub due_told : (v : MasterView) (bytes : List ℕ) → is_due v.state ≡ false → is_due (accepted v bytes).master.state ≡ (is_some (accepted v bytes).did.took || is_some (accepted v bytes).did.reset)
+due_told v bytes h = due_by v _ _ _ (accepts_alike v v.kit.offer v.kit.nonce bytes) h
+
+pub age_by : (v w : MasterView) (a b : Accepted) → Alike v w a b → is_due v.state ≡ false → is_due a.master.state ≡ true → a.master.timer.age ≡ 0
+age_by v w a b (Drops why) h k = absurd (cc (h, k))
+age_by v w a b (MakesDue n did told) h k = refl
