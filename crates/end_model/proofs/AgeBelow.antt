@@ -12,13 +12,11 @@ use Rattle.end_model.specs.Deed.{Deed, is_empty}
 use Rattle.end_model.specs.Payloads.{whole}
 use Rattle.end_model.specs.Readiness.{state_of, ticks, slave_age, age, slave_limit, limit}
 use Rattle.end_model.specs.Step.{IsRun}
-use Rattle.end_model.specs.Reactions.{with_answer, Reaction, Puts, Holds, SetsNonce, Rests, Ages, Expires, SendsAgain, ResetsItself, DropsLength, DropsRepeat, DropsInReset, DropsReset, Refuses, PeerResets, Answers}
+use Rattle.end_model.specs.Reactions.{with_answer, Reaction, Rests, Ages, Expires, SendsAgain, ResetsItself, DropsReset, Refuses, PeerResets, Answers}
+use Rattle.end_model.proofs.Runs.{deed}
 use Rattle.end_model.proofs.Shown.{slave-run}
 use Rattle.end_model.proofs.SlaveShown.{SlaveShows, IsTested, Limits, limits, parameters}
 use Rattle.end_model.proofs.SoundRuns.{reacted, answer_sent}
-
-abbrev deed : Move → Did → List ℕ → Deed
-deed m d f = record { what = m; did = d; sent = f }
 
 some-limit : (ss : SlaveSettings) (u : List ℕ) (b : Bool) → IsTested ss u → whole ss.profile state.Parameter u ≡ b → 0 < slave_limit ss u
 some-limit ss u true t h = let l : Limits ss u = limits ss u t h in l.some
@@ -37,66 +35,46 @@ no-ticks : (s : Setup) (e : List Deed) (bytes load : List ℕ) (c : Command) (an
 no-ticks s e bytes load c answer h = simp h
 
 master-below : (ms : MasterSettings) (e : List Deed) (m : Move) (d : Did) (f : List ℕ) → ticks (OfMaster ms) e < ms.watchdog → Reaction (OfMaster ms) e m d f → ticks (OfMaster ms) (deed m d f ∷ e) < ms.watchdog
-master-below ms e m d f h (Puts load long) = h
-master-below ms e m d f h (Holds failsafe) = h
-master-below ms e m d f h (SetsNonce id allowed) = h
 master-below ms e m d f h (Rests slave now) = absurd slave
 master-below ms e m d f h (Ages counts young) = young
 master-below ms e m d f h (Expires now old) = ms.some_watchdog
 master-below ms e m d f h (SendsAgain master now old) = ms.some_watchdog
 master-below ms e m d f h ResetsItself = ms.some_watchdog
-master-below ms e m d f h (DropsLength bytes long) = h
-master-below ms e m d f h (DropsRepeat bytes long again now) = h
-master-below ms e m d f h (DropsInReset bytes passed found now fails test) = h
-master-below ms e m d f h (DropsReset bytes load master now frame other) = h
 master-below ms e m d f h (Refuses bytes passed found now fails test) = ms.some_watchdog
 master-below ms e m d f h (PeerResets bytes load now frame) = ms.some_watchdog
 master-below ms e m d f h (Answers bytes load c answer taken) =
     let none : ticks (OfMaster ms) (with_answer bytes c load answer e) ≡ 0 = no-ticks (OfMaster ms) e bytes load c answer (answer_sent e bytes load (OfMaster ms) c answer taken) in
     let p : 0 < ms.watchdog = ms.some_watchdog in
     omega arith
+master-below ms e m d f h _ = h
 
 -- the age of a slave, at a variable for its state
 resting : (now : State) (n l : ℕ) → now ≡ state.Reset → 0 < l → slave_age now n < l
 resting state.Reset n l h p = p
-resting state.Session n l h p = cc
-resting state.Connection n l h p = cc
-resting state.Parameter n l h p = cc
-resting state.Data n l h p = cc
+resting _ n l h p = cc
 
 older : (now : State) (n l : ℕ) → now ≢ state.Reset → suc (slave_age now n) < l → slave_age now (suc n) < l
 older state.Reset n l k h = absurd (k refl)
-older state.Session n l k h = h
-older state.Connection n l k h = h
-older state.Parameter n l k h = h
-older state.Data n l k h = h
+older _ n l k h = h
 
 fresh : (now : State) (n l : ℕ) → n ≡ 0 → 0 < l → slave_age now n < l
 fresh state.Reset n l h p = p
-fresh state.Session n l h p = omega arith
-fresh state.Connection n l h p = omega arith
-fresh state.Parameter n l h p = omega arith
-fresh state.Data n l h p = omega arith
+fresh _ n l h p = omega arith
 
 slave-below : (ss : SlaveSettings) (e : List Deed) (m : Move) (d : Did) (f : List ℕ) → age (OfSlave ss) e < limit (OfSlave ss) e → 0 < limit (OfSlave ss) (deed m d f ∷ e) → Reaction (OfSlave ss) e m d f
     → age (OfSlave ss) (deed m d f ∷ e) < limit (OfSlave ss) (deed m d f ∷ e)
-slave-below ss e m d f h p (Puts load long) = h
-slave-below ss e m d f h p (Holds failsafe) = h
-slave-below ss e m d f h p (SetsNonce id allowed) = h
 slave-below ss e m d f h p (Rests slave now) = resting (state_of (OfSlave ss) e) (suc (ticks (OfSlave ss) e)) (limit (OfSlave ss) e) now p
 slave-below ss e m d f h p (Ages counts young) = older (state_of (OfSlave ss) e) (ticks (OfSlave ss) e) (limit (OfSlave ss) e) counts young
 slave-below ss e m d f h p (Expires now old) = p
 slave-below ss e m d f h p (SendsAgain master now old) = absurd master
 slave-below ss e m d f h p ResetsItself = p
-slave-below ss e m d f h p (DropsLength bytes long) = h
-slave-below ss e m d f h p (DropsRepeat bytes long again now) = h
-slave-below ss e m d f h p (DropsInReset bytes passed found now fails test) = h
 slave-below ss e m d f h p (DropsReset bytes load master now frame other) = absurd master
 slave-below ss e m d f h p (Refuses bytes passed found now fails test) = p
 slave-below ss e m d f h p (PeerResets bytes load now frame) = p
 slave-below ss e m d f h p (Answers bytes load c answer taken) =
     fresh (state_of (OfSlave ss) (with_answer bytes c load answer e)) (ticks (OfSlave ss) (with_answer bytes c load answer e)) (limit (OfSlave ss) (with_answer bytes c load answer e))
     (no-ticks (OfSlave ss) e bytes load c answer (answer_sent e bytes load (OfSlave ss) c answer taken)) p
+slave-below ss e m d f h p _ = h
 
 -- the age doesn't reach the limit
 pub age_below : (s : Setup) (e : List Deed) → IsRun s e → age s e < limit s e

@@ -32,8 +32,9 @@ use Rattle.end_model.specs.Payloads.{uploaded}
 use Rattle.end_model.specs.Verdict.{slave_upload_fault, data_fault, slave_fault, master_fault, contents}
 use Rattle.end_model.specs.Step.{step, IsProper, IsRun}
 use Rattle.end_model.specs.Codes.{IsOwnReset}
-use Rattle.end_model.specs.Reactions.{parts, Fails, UnknownCommand, WrongReset, NotAllowed, WrongConnection, WrongCrc, WrongContents, Taking, SlaveRejoins, SlaveStarts, SlaveGoesOn, SlaveNextPhase, SlaveFirstData, SlaveMoreData, MasterStarts, MasterGoesOn, MasterNextPhase, MasterFirstData, MasterMoreData, Reaction, Puts, Holds, SetsNonce, Rests, Ages, Expires, SendsAgain, ResetsItself, DropsLength, DropsRepeat, DropsInReset, DropsReset, Refuses, PeerResets, Answers}
+use Rattle.end_model.specs.Reactions.{parts, Fails, WrongReset, WrongContents, Taking, Reaction, Expires, SendsAgain, ResetsItself, Refuses, PeerResets, Answers}
 use Rattle.end_model.proofs.SoundRuns.{reacts}
+use Rattle.end_model.proofs.Taken.{exchange_of, answer_is, master_answers}
 
 -- a code, if a test fails with one, is at most 0Bh
 record IsLow (o : Option Code) : Type 0 where
@@ -92,11 +93,9 @@ low-slave ss e command.ProcessData f = low-data command.ProcessData f.load
 
 low-master : (ms : MasterSettings) (e : List Deed) (c : Command) (f : Frame) → IsLow (master_fault ms e c f)
 low-master ms e command.Reset f = low-data command.Reset f.load
-low-master ms e command.Session f = unless-with _ 0x07 (omega arith)
-low-master ms e command.Connection f = unless-with _ 0x07 (omega arith)
-low-master ms e command.Parameter f = unless-with _ 0x07 (omega arith)
 low-master ms e command.FailSafeData f = low-data command.FailSafeData f.load
 low-master ms e command.ProcessData f = low-data command.ProcessData f.load
+low-master ms e _ f = unless-with _ 0x07 (omega arith)
 
 low-contents : (s : Setup) (e : List Deed) (c : Command) (f : Frame) → IsLow (contents s e c f)
 low-contents (OfMaster ms) e c f = low-master ms e c f
@@ -105,68 +104,35 @@ low-contents (OfSlave ss) e c f = low-slave ss e c f
 -- the tests of a Reset frame
 low-tests : (a b k : Bool) (said : Code) → IsLowErr (if not a then Err (code 0x03) else if not b then Err (code 0x04) else if not k then Err (code 0x07) else Ok said)
 low-tests true true true said = record { low = tt }
-low-tests true true false said = record { low = omega arith }
-low-tests true false k said = record { low = omega arith }
-low-tests false b k said = record { low = omega arith }
+low-tests _ _ _ said = record { low = omega arith }
 
 low-view : (f : Frame) → IsLowErr (reset_view f)
 low-view f = low-tests (f.conn == 0) (pointwise nat_eq f.crcs (reset_crcs f.load)) (zeros_follow f.load) (code (first_of f.load))
 
 low-test : (s : Setup) (e : List Deed) (bytes : List ℕ) (passed : Bool) (found : Code) → Fails s e bytes passed found → found.0 ≤ 0x0B
-low-test s e bytes passed found (UnknownCommand is) = omega arith
 low-test s e bytes passed found (WrongReset _ is h) = (subst IsLowErr h (low-view (parts s bytes))).low
-low-test s e bytes passed found (NotAllowed c n is h) = omega arith
-low-test s e bytes passed found (WrongConnection c n is h i) = omega arith
-low-test s e bytes passed found (WrongCrc c n is h i j) = omega arith
 low-test s e bytes passed found (WrongContents c _ n is h i j k) = (subst IsLow k (low-contents s e c (parts s bytes))).low
+low-test s e bytes passed found _ = omega arith
 
 low-cause : (s : Setup) (e : List Deed) (m : Move) (d : Did) (f : List ℕ) → Reaction s e m d f → IsLowCause d.reset
-low-cause s e m d f (Puts load long) = tt
-low-cause s e m d f (Holds failsafe) = tt
-low-cause s e m d f (SetsNonce id allowed) = tt
-low-cause s e m d f (Rests slave now) = tt
-low-cause s e m d f (Ages counts young) = tt
 low-cause s e m d f (Expires now old) = omega arith
-low-cause s e m d f (SendsAgain master now old) = tt
-low-cause s e m d f ResetsItself = tt
-low-cause s e m d f (DropsLength bytes long) = tt
-low-cause s e m d f (DropsRepeat bytes long again now) = tt
-low-cause s e m d f (DropsInReset bytes passed found now fails test) = tt
-low-cause s e m d f (DropsReset bytes load master now frame other) = tt
 low-cause s e m d f (Refuses bytes passed found now fails test) = low-test s e bytes passed found test
-low-cause s e m d f (PeerResets bytes load now frame) = tt
-low-cause s e m d f (Answers bytes load c answer taken) = tt
+low-cause s e m d f _ = tt
 
 -- an answer is of a session, or the slave's Reset frame with code 0
 resets-answer : (e : List Deed) (bytes load : List ℕ) (s : Setup) (c : Command) (f : List ℕ) → Taking e bytes load s c f → has_command command.Reset f ≡ true → IsOwnReset s f
-resets-answer e bytes load s c f (SlaveRejoins _ now none frame) h = record { said = 0; most = omega arith; is = refl }
-resets-answer e bytes load s c f (SlaveStarts _ _ now none x) h = let i = x.in_session.in_session in cc
-resets-answer e bytes load s c f (SlaveGoesOn _ _ _ is now part x) h = let i = x.in_session.in_session in cc
-resets-answer e bytes load s c f (SlaveNextPhase _ before _ _ is now whole x) h = let i = x.in_session.in_session in cc
-resets-answer e bytes load s c f (SlaveFirstData _ _ _ is now whole x) h = let i = x.in_session.in_session in cc
-resets-answer e bytes load s c f (SlaveMoreData _ _ _ is now whole x) h = let i = x.in_session.in_session in cc
-resets-answer e bytes load s c f (MasterStarts _ _ now none frame zero made sent after) h = let i = sent.in_session in cc
-resets-answer e bytes load s c f (MasterGoesOn _ _ _ is now part x) h = let i = x.in_session.in_session in cc
-resets-answer e bytes load s c f (MasterNextPhase _ _ next _ is now whole x) h = let i = x.in_session.in_session in cc
-resets-answer e bytes load s c f (MasterFirstData _ _ now whole x) h = let i = x.in_session.in_session in cc
-resets-answer e bytes load s c f (MasterMoreData _ _ _ is now x) h = let i = x.in_session.in_session in cc
+resets-answer e bytes load (OfMaster ms) c f taking h = let i = (master_answers e bytes load ms c f taking).in_session in cc
+resets-answer e bytes load (OfSlave ss) command.Reset f taking h = record { said = 0; most = omega arith; is = answer_is e bytes load (OfSlave ss) command.Reset f taking }
+resets-answer e bytes load (OfSlave ss) c f taking h = let i = (exchange_of e bytes load (OfSlave ss) c f taking (λ k. cc)).2.in_session.in_session in cc
 
 resets-low : (s : Setup) (e : List Deed) (m : Move) (d : Did) (f : List ℕ) → Reaction s e m d f → has_command command.Reset f ≡ true → IsOwnReset s f
-resets-low s e m d f (Puts load long) h = cc
-resets-low s e m d f (Holds failsafe) h = cc
-resets-low s e m d f (SetsNonce id allowed) h = cc
-resets-low s e m d f (Rests slave now) h = cc
-resets-low s e m d f (Ages counts young) h = cc
 resets-low s e m d f (Expires now old) h = record { said = 0x05; most = omega arith; is = refl }
 resets-low s e m d f (SendsAgain master now old) h = record { said = 0; most = omega arith; is = refl }
 resets-low s e m d f ResetsItself h = record { said = 0; most = omega arith; is = refl }
-resets-low s e m d f (DropsLength bytes long) h = cc
-resets-low s e m d f (DropsRepeat bytes long again now) h = cc
-resets-low s e m d f (DropsInReset bytes passed found now fails test) h = cc
-resets-low s e m d f (DropsReset bytes load master now frame other) h = cc
 resets-low s e m d f (Refuses bytes passed found now fails test) h = record { said = found.0; most = low-test s e bytes passed found test; is = refl }
 resets-low s e m d f (PeerResets bytes load now frame) h = record { said = 0; most = omega arith; is = refl }
 resets-low s e m d f (Answers bytes load c answer taken) h = resets-answer e bytes load s c answer taken h
+resets-low s e m d f _ h = cc
 
 -- a code that an end found
 pub found_low : (s : Setup) (e : List Deed) (event : Move) (found : Code) → IsRun s e → IsProper s event → (step s e event).did.reset ≡ Some (cause.Found found) → found.0 ≤ 0x0B

@@ -19,11 +19,8 @@ first None b e = refl
 first (Some x) b e = absurd (cc e)
 
 fourth : (t t' t'' t''' : Bool) (x y z w : Code) → (if t then Some x else if t' then Some y else if t'' then Some z else if t''' then Some w else None) ≡ None → t''' ≡ false
-fourth true t' t'' t''' x y z w e = absurd (cc e)
-fourth false true t'' t''' x y z w e = absurd (cc e)
-fourth false false true t''' x y z w e = absurd (cc e)
-fourth false false false true x y z w e = absurd (cc e)
 fourth false false false false x y z w e = refl
+fourth _ _ _ _ x y z w e = absurd (cc e)
 
 -- the test of the number is passed where no test fails
 number-tested : (most : ℕ) (rule : AppRule) (profile : Profile) (before : ℕ) (u rest : List ℕ) → contents_fault (expected.Parameter most rule profile) before u rest ≡ None

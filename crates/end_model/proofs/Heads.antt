@@ -22,12 +22,10 @@ data_frame : (s : Setup) (e : List Deed) → IsInSession (with_data s e)
 data_frame s e = in_session-if (held e) (sealed s e command.FailSafeData (replicate (sends s) 0)) (sealed s e command.ProcessData (offer s e)) (record { in_session = refl; sent = refl }) (record { in_session = refl; sent = refl })
 
 first_frame : (ms : MasterSettings) (e : List Deed) (c : Command) → IsInSession (after_phase ms e c)
-first_frame ms e command.Reset = record { in_session = refl; sent = refl }
-first_frame ms e command.Session = record { in_session = refl; sent = refl }
-first_frame ms e command.Connection = record { in_session = refl; sent = refl }
 first_frame ms e command.Parameter = data_frame (OfMaster ms) e
 first_frame ms e command.FailSafeData = data_frame (OfMaster ms) e
 first_frame ms e command.ProcessData = data_frame (OfMaster ms) e
+first_frame ms e _ = record { in_session = refl; sent = refl }
 
 next_frame : (ms : MasterSettings) (e : List Deed) (c : Command) (k : ℕ) → IsInSession (download_frame ms e c (suc k)) → IsInSession (after_pieces ms e c k)
 next_frame ms e c k h =
@@ -43,11 +41,9 @@ master_frame ms e command.ProcessData = data_frame (OfMaster ms) e
 
 pub slave_frame : (ss : SlaveSettings) (e : List Deed) (c : Command) (load : List ℕ) → is_reset c ≡ false → IsInSession (slave_answer ss e c load)
 slave_frame ss e command.Reset load h = cc
-slave_frame ss e command.Session load h = record { in_session = refl; sent = refl }
-slave_frame ss e command.Connection load h = record { in_session = refl; sent = refl }
-slave_frame ss e command.Parameter load h = record { in_session = refl; sent = refl }
 slave_frame ss e command.FailSafeData load h = data_frame (OfSlave ss) e
 slave_frame ss e command.ProcessData load h = data_frame (OfSlave ss) e
+slave_frame ss e _ load h = record { in_session = refl; sent = refl }
 
 phase-if : (b : Bool) (f g : List ℕ) → phase_of_frame f ≡ state.Data → phase_of_frame g ≡ state.Data → phase_of_frame (if b then f else g) ≡ state.Data
 phase-if true f g h k = h

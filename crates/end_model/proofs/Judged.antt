@@ -70,6 +70,4 @@ is_judged s e bytes = by-opened s e bytes _ (tested (receives s) (is_repeat (kep
 -- a frame that passes the tests of a session is allowed, has its connection id, and fits
 pub session_passed : (a h t : Bool) → session_fault a h t ≡ None → (a ≡ true) × (h ≡ true) × (t ≡ true)
 session_passed true true true e = (refl, refl, refl)
-session_passed true true false e = absurd (cc e)
-session_passed true false t e = absurd (cc e)
-session_passed false h t e = absurd (cc e)
+session_passed _ _ _ e = absurd (cc e)

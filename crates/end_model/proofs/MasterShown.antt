@@ -14,9 +14,10 @@ use Rattle.end_model.specs.Deed.{Deed}
 use Rattle.end_model.specs.Readiness.{state_of, ticks}
 use Rattle.end_model.specs.Step.{takes_frame, with_data}
 use Rattle.end_model.specs.Outputs.{zeros, outputs, out_after}
-use Rattle.end_model.specs.Reactions.{IsInSession, IsNextPhase, AfterSession, AfterConnection, received, Taking, MasterStarts, MasterGoesOn, MasterNextPhase, MasterFirstData, MasterMoreData, Reaction, Puts, Holds, SetsNonce, Rests, Ages, Expires, SendsAgain, ResetsItself, DropsLength, DropsRepeat, DropsInReset, DropsReset, Refuses, PeerResets, Answers}
+use Rattle.end_model.specs.Reactions.{IsInSession, received, Taking, MasterStarts, MasterGoesOn, MasterNextPhase, MasterFirstData, MasterMoreData, Reaction, Rests, Ages, Expires, SendsAgain, ResetsItself, Refuses, PeerResets, Answers}
+use Rattle.end_model.proofs.Runs.{deed}
 use Rattle.end_model.proofs.Heads.{data_phase}
-use Rattle.end_model.proofs.SoundRuns.{handshake-data}
+use Rattle.end_model.proofs.SoundRuns.{handshake-data, before-data}
 
 -- what is shown in a state, where the watchdog hasn't expired
 abbrev pub shown_in : Setup → State → Bool → List ℕ → List ℕ
@@ -25,11 +26,7 @@ shown_in s _ _ load = zeros s
 
 pub shown-zeros : (s : Setup) (now : State) (b : Bool) → shown_in s now b (zeros s) ≡ zeros s
 shown-zeros s state.Data true = refl
-shown-zeros s state.Data false = refl
-shown-zeros s state.Reset b = refl
-shown-zeros s state.Session b = refl
-shown-zeros s state.Connection b = refl
-shown-zeros s state.Parameter b = refl
+shown-zeros s _ _ = refl
 
 pub shown-data : (s : Setup) (b : Bool) (load : List ℕ) → (if b then load else zeros s) ≡ shown_in s state.Data b load
 shown-data s true load = refl
@@ -41,16 +38,8 @@ pub record MasterShows (ms : MasterSettings) (e : List Deed) : Type 0 where
   pub young : state_of (OfMaster ms) e ≡ state.Data → ticks (OfMaster ms) e < ms.watchdog
   pub none : state_of (OfMaster ms) e ≢ state.Data → outputs (OfMaster ms) e ≡ zeros (OfMaster ms)
 
-abbrev deed : Move → Did → List ℕ → Deed
-deed m d f = record { what = m; did = d; sent = f }
-
 -- a master takes a frame, and is in Data then where it took ProcessData
 master-taken : (ms : MasterSettings) (e : List Deed) (bytes load : List ℕ) (c : Command) (f : List ℕ) → IsInSession f → (phase_of c ≡ state.Data → phase_of_frame f ≡ state.Data) → MasterShows ms (deed (move.Deliver bytes) (takes_frame c load) f ∷ e)
-master-taken ms e bytes load command.Reset f h k = let a = h.in_session in let b = h.sent in let p : 0 < ms.watchdog = ms.some_watchdog in record { outs = λ n. simp (a, b) (sym (shown-zeros (OfMaster ms) (phase_of_frame f) _)); young = λ k. simp b p; none = λ k. simp a }
-master-taken ms e bytes load command.Session f h k = let a = h.in_session in let b = h.sent in let p : 0 < ms.watchdog = ms.some_watchdog in record { outs = λ n. simp (a, b) (sym (shown-zeros (OfMaster ms) (phase_of_frame f) _)); young = λ k. simp b p; none = λ k. simp a }
-master-taken ms e bytes load command.Connection f h k = let a = h.in_session in let b = h.sent in let p : 0 < ms.watchdog = ms.some_watchdog in record { outs = λ n. simp (a, b) (sym (shown-zeros (OfMaster ms) (phase_of_frame f) _)); young = λ k. simp b p; none = λ k. simp a }
-master-taken ms e bytes load command.Parameter f h k = let a = h.in_session in let b = h.sent in let p : 0 < ms.watchdog = ms.some_watchdog in record { outs = λ n. simp (a, b) (sym (shown-zeros (OfMaster ms) (phase_of_frame f) _)); young = λ k. simp b p; none = λ k. simp a }
-master-taken ms e bytes load command.FailSafeData f h k = let a = h.in_session in let b = h.sent in let p : 0 < ms.watchdog = ms.some_watchdog in record { outs = λ n. simp (a, b) (sym (shown-zeros (OfMaster ms) (phase_of_frame f) _)); young = λ k. simp b p; none = λ k. simp a }
 master-taken ms e bytes load command.ProcessData f h k =
     let a = h.in_session in
     let b = h.sent in
@@ -61,36 +50,27 @@ master-taken ms e bytes load command.ProcessData f h k =
       young = λ k. simp b p;
       none = λ k. absurd (k (simp (a, b) q));
     }
+master-taken ms e bytes load _ f h k = let a = h.in_session in let b = h.sent in let p : 0 < ms.watchdog = ms.some_watchdog in record { outs = λ n. simp (a, b) (sym (shown-zeros (OfMaster ms) (phase_of_frame f) _)); young = λ k. simp b p; none = λ k. simp a }
 
 -- data are answered by data
 data-answer : (ms : MasterSettings) (e : List Deed) (f : List ℕ) → f ≡ with_data (OfMaster ms) e → phase_of_frame f ≡ state.Data
 data-answer ms e f h = subst (λ (f : List ℕ). phase_of_frame f ≡ state.Data) (sym h) (data_phase (OfMaster ms) e)
 
-no-data-yet : (c next : Command) → IsNextPhase c next → phase_of c ≢ state.Data
-no-data-yet c next AfterSession = λ k. cc
-no-data-yet c next AfterConnection = λ k. cc
-
 master-took : (ms : MasterSettings) (e : List Deed) (bytes load : List ℕ) (c : Command) (f : List ℕ) → Taking e bytes load (OfMaster ms) c f → MasterShows ms (deed (move.Deliver bytes) (takes_frame c load) f ∷ e)
 master-took ms e bytes load c f (MasterStarts _ _ now none frame zero made sent after) = master-taken ms e bytes load command.Reset f sent (λ k. cc)
 master-took ms e bytes load c f (MasterGoesOn _ _ _ is now part x) = master-taken ms e bytes load c f x.in_session (λ k. absurd (handshake-data c is k))
-master-took ms e bytes load c f (MasterNextPhase _ _ next _ is now whole x) = master-taken ms e bytes load c f x.in_session (λ k. absurd (no-data-yet c next is k))
+master-took ms e bytes load c f (MasterNextPhase _ _ next _ is now whole x) = master-taken ms e bytes load c f x.in_session (λ k. absurd (before-data c next is k))
 master-took ms e bytes load c f (MasterFirstData _ _ now whole x) = master-taken ms e bytes load command.Parameter f x.in_session (λ k. cc)
 master-took ms e bytes load c f (MasterMoreData _ _ _ is now x) = master-taken ms e bytes load c f x.in_session (λ k. data-answer ms (received bytes c load e) f x.is_made)
 
 pub master-shows : (ms : MasterSettings) (e : List Deed) (m : Move) (d : Did) (f : List ℕ) → MasterShows ms e → Reaction (OfMaster ms) e m d f → MasterShows ms (deed m d f ∷ e)
-master-shows ms e m d f h (Puts load long) = record { outs = h.outs; young = h.young; none = h.none }
-master-shows ms e m d f h (Holds failsafe) = record { outs = h.outs; young = h.young; none = h.none }
-master-shows ms e m d f h (SetsNonce id allowed) = record { outs = h.outs; young = h.young; none = h.none }
 master-shows ms e m d f h (Rests slave now) = absurd slave
 master-shows ms e m d f h (Ages counts y) =
     record { outs = λ n. let q : suc n + ticks (OfMaster ms) e ≡ n + suc (ticks (OfMaster ms) e) = omega arith in rw (← q) (h.outs (suc n)); young = λ k. y; none = h.none }
 master-shows ms e m d f h (Expires now old) = record { outs = λ n. refl; young = λ k. cc; none = λ k. refl }
 master-shows ms e m d f h (SendsAgain master now old) = record { outs = λ n. h.outs (suc n) ∙ simp now; young = λ k. cc; none = λ k. refl }
 master-shows ms e m d f h ResetsItself = record { outs = λ n. refl; young = λ k. cc; none = λ k. refl }
-master-shows ms e m d f h (DropsLength bytes long) = record { outs = h.outs; young = h.young; none = h.none }
-master-shows ms e m d f h (DropsRepeat bytes long again now) = record { outs = h.outs; young = h.young; none = h.none }
-master-shows ms e m d f h (DropsInReset bytes passed found now fails test) = record { outs = h.outs; young = h.young; none = h.none }
-master-shows ms e m d f h (DropsReset bytes load master now frame other) = record { outs = h.outs; young = h.young; none = h.none }
 master-shows ms e m d f h (Refuses bytes passed found now fails test) = record { outs = λ n. refl; young = λ k. cc; none = λ k. refl }
 master-shows ms e m d f h (PeerResets bytes load now frame) = record { outs = λ n. refl; young = λ k. cc; none = λ k. refl }
 master-shows ms e m d f h (Answers bytes load c answer taken) = master-took ms e bytes load c f taken
+master-shows ms e m d f h _ = record { outs = h.outs; young = h.young; none = h.none }

@@ -42,11 +42,7 @@ elsewhere now p h n = λ k. n (sym h ∙ k)
 -- a slave is in the phase of the frame that it took
 slave-after : (ss : SlaveSettings) (e : List Deed) (bytes load : List ℕ) (c : Command) (answer : List ℕ) → is_reset c ≡ false → IsInSession answer → state_of (OfSlave ss) (with_answer bytes c load answer e) ≡ phase_of c
 slave-after ss e bytes load command.Reset answer n f = cc
-slave-after ss e bytes load command.Session answer n f = let a = f.in_session in simp a
-slave-after ss e bytes load command.Connection answer n f = let a = f.in_session in simp a
-slave-after ss e bytes load command.Parameter answer n f = let a = f.in_session in simp a
-slave-after ss e bytes load command.FailSafeData answer n f = let a = f.in_session in simp a
-slave-after ss e bytes load command.ProcessData answer n f = let a = f.in_session in simp a
+slave-after ss e bytes load _ answer n f = let a = f.in_session in simp a
 
 -- a master is in the phase of the frame that it sent
 master-after : (ms : MasterSettings) (e : List Deed) (bytes load : List ℕ) (c : Command) (answer : List ℕ) (p : State) → IsInSession answer → phase_of_frame answer ≡ p → state_of (OfMaster ms) (with_answer bytes c load answer e) ≡ p
@@ -54,19 +50,12 @@ master-after ms e bytes load c answer p f h = let a = f.in_session in let b = f.
 
 no-reset : (c : Command) → c ≢ command.Reset → is_reset c ≡ false
 no-reset command.Reset n = absurd (n refl)
-no-reset command.Session n = refl
-no-reset command.Connection n = refl
-no-reset command.Parameter n = refl
-no-reset command.FailSafeData n = refl
-no-reset command.ProcessData n = refl
+no-reset _ n = refl
 
 pub slave_data : (ss : SlaveSettings) (e : List Deed) (c : Command) (load : List ℕ) → is_data c ≡ true → slave_answer ss e c load ≡ with_data (OfSlave ss) e
-slave_data ss e command.Reset load h = cc
-slave_data ss e command.Session load h = cc
-slave_data ss e command.Connection load h = cc
-slave_data ss e command.Parameter load h = cc
 slave_data ss e command.FailSafeData load h = refl
 slave_data ss e command.ProcessData load h = refl
+slave_data ss e _ load h = cc
 
 -- a slave takes a frame of a session, and answers it
 slave-exchange : (ss : SlaveSettings) (e : List Deed) (bytes load : List ℕ) (c : Command) → c ≢ command.Reset → IsValid (OfSlave ss) e bytes c load
@@ -76,12 +65,9 @@ slave-exchange ss e bytes load c n valid =
     record { valid = valid; is_made = refl; in_session = f; after = slave-after ss e bytes load c (slave_answer ss (received bytes c load e) c load) (no-reset c n) f }
 
 pub phase_of_data : (c : Command) → is_data c ≡ true → phase_of c ≡ state.Data
-phase_of_data command.Reset h = cc
-phase_of_data command.Session h = cc
-phase_of_data command.Connection h = cc
-phase_of_data command.Parameter h = cc
 phase_of_data command.FailSafeData h = refl
 phase_of_data command.ProcessData h = refl
+phase_of_data _ h = cc
 
 -- a slave takes data, and answers with data
 slave-data-exchange : (ss : SlaveSettings) (e : List Deed) (bytes load : List ℕ) (c : Command) → c ≢ command.Reset → IsValid (OfSlave ss) e bytes c load → is_data c ≡ true
@@ -103,13 +89,11 @@ slave-takes ss e bytes load c n sound valid (Data is now) = SlaveMoreData ss c _
 -- a piece is a frame of its phase
 piece-in : (ms : MasterSettings) (e : List Deed) (c : Command) (k : ℕ) → IsHandshake c → IsInSession (download_frame ms e c k)
 piece-in ms e c k OfSession = record { in_session = refl; sent = refl }
-piece-in ms e c k OfConnection = record { in_session = refl; sent = refl }
-piece-in ms e c k OfParameter = record { in_session = refl; sent = refl }
+piece-in ms e c k _ = record { in_session = refl; sent = refl }
 
 piece-phase : (ms : MasterSettings) (e : List Deed) (c : Command) (k : ℕ) → IsHandshake c → phase_of_frame (download_frame ms e c k) ≡ phase_of c
 piece-phase ms e c k OfSession = refl
-piece-phase ms e c k OfConnection = refl
-piece-phase ms e c k OfParameter = refl
+piece-phase ms e c k _ = refl
 
 -- the state after a master sent a piece
 piece-after : (ms : MasterSettings) (e : List Deed) (bytes load : List ℕ) (c next : Command) (k : ℕ) → IsHandshake next
@@ -161,12 +145,9 @@ master-echo ms e bytes load c OfParameter now valid =
     Answers bytes load command.Parameter _ (master-next ms e bytes load command.Parameter (nat_lt (pieces_sent e state.Parameter) (all_pieces ms e state.Parameter)) OfParameter now valid refl)
 
 master-reply : (ms : MasterSettings) (e : List Deed) (bytes load : List ℕ) (c : Command) → is_data c ≡ true → state_of (OfMaster ms) e ≡ state.Data → IsValid (OfMaster ms) e bytes c load → is_next (OfMaster ms) e bytes load c
-master-reply ms e bytes load command.Reset h now valid = absurd (cc h)
-master-reply ms e bytes load command.Session h now valid = absurd (cc h)
-master-reply ms e bytes load command.Connection h now valid = absurd (cc h)
-master-reply ms e bytes load command.Parameter h now valid = absurd (cc h)
 master-reply ms e bytes load command.FailSafeData h now valid = Answers bytes load command.FailSafeData _ (MasterMoreData ms command.FailSafeData _ refl now (data-exchange ms e bytes load command.FailSafeData valid))
 master-reply ms e bytes load command.ProcessData h now valid = Answers bytes load command.ProcessData _ (MasterMoreData ms command.ProcessData _ refl now (data-exchange ms e bytes load command.ProcessData valid))
+master-reply ms e bytes load _ h now valid = absurd (cc h)
 
 master-takes : (ms : MasterSettings) (e : List Deed) (bytes load : List ℕ) (c : Command) → IsValid (OfMaster ms) e bytes c load → MasterWay (state_of (OfMaster ms) e) c → is_next (OfMaster ms) e bytes load c
 master-takes ms e bytes load c valid (Echo is now) = master-echo ms e bytes load c is now valid
@@ -179,10 +160,7 @@ by-valid (OfSlave ss) e bytes load c sound n valid =
 
 by-fault : (s : Setup) (e : List Deed) (bytes : List ℕ) (now : State) (passed : Bool) (found : Code) → state_of s e ≡ now → verdict s e bytes ≡ failed_with passed found → Fails s e bytes passed found → IsReaction s e (deed_of s e (move.Deliver bytes) (on_fault now passed found))
 by-fault s e bytes state.Reset passed found h v t = DropsInReset bytes passed found h v t
-by-fault s e bytes state.Session passed found h v t = Refuses bytes passed found (elsewhere _ _ h (λ k. cc)) v t
-by-fault s e bytes state.Connection passed found h v t = Refuses bytes passed found (elsewhere _ _ h (λ k. cc)) v t
-by-fault s e bytes state.Parameter passed found h v t = Refuses bytes passed found (elsewhere _ _ h (λ k. cc)) v t
-by-fault s e bytes state.Data passed found h v t = Refuses bytes passed found (elsewhere _ _ h (λ k. cc)) v t
+by-fault s e bytes _ passed found h v t = Refuses bytes passed found (elsewhere _ _ h (λ k. cc)) v t
 
 master-starts : (ms : MasterSettings) (e : List Deed) (bytes load : List ℕ) (b : Bool) → Sound (OfMaster ms) e → IsResetFrame (OfMaster ms) e bytes load → state_of (OfMaster ms) e ≡ state.Reset → (first_of load == 0) ≡ b
     → IsReaction (OfMaster ms) e (deed_of (OfMaster ms) e (move.Deliver bytes) (if b then takes_frame command.Reset load else dropped why.InReset))
@@ -193,10 +171,7 @@ master-starts ms e bytes load false sound frame now h = DropsReset bytes load tt
 by-reset : (s : Setup) (e : List Deed) (bytes load : List ℕ) (now : State) → Sound s e → IsResetFrame s e bytes load → state_of s e ≡ now → IsReaction s e (deed_of s e (move.Deliver bytes) (on_reset_frame now s load))
 by-reset (OfMaster ms) e bytes load state.Reset sound frame h = master-starts ms e bytes load (first_of load == 0) sound frame h refl
 by-reset (OfSlave ss) e bytes load state.Reset sound frame h = Answers bytes load command.Reset _ (SlaveRejoins ss h (sound.no_session h) frame)
-by-reset s e bytes load state.Session sound frame h = PeerResets bytes load (elsewhere _ _ h (λ k. cc)) frame
-by-reset s e bytes load state.Connection sound frame h = PeerResets bytes load (elsewhere _ _ h (λ k. cc)) frame
-by-reset s e bytes load state.Parameter sound frame h = PeerResets bytes load (elsewhere _ _ h (λ k. cc)) frame
-by-reset s e bytes load state.Data sound frame h = PeerResets bytes load (elsewhere _ _ h (λ k. cc)) frame
+by-reset s e bytes load _ sound frame h = PeerResets bytes load (elsewhere _ _ h (λ k. cc)) frame
 
 -- nothing is kept where there is no session
 repeats-outside : (s : Setup) (e : List Deed) (bytes : List ℕ) → Sound s e → kept (since e) ≡ Some bytes → state_of s e ≢ state.Reset
@@ -218,18 +193,12 @@ by-verdict s e bytes v sound h (IsNext command.ProcessData load n valid) = by-va
 by-expiry : (s : Setup) (e : List Deed) (now : State) → state_of s e ≡ now → nat_le (limit s e) (suc (age s e)) ≡ true → IsReaction s e (deed_of s e move.Tick (on_expiry now s))
 by-expiry (OfMaster ms) e state.Reset h t = SendsAgain tt h (leb-true (limit (OfMaster ms) e) (suc (age (OfMaster ms) e)) t)
 by-expiry (OfSlave ss) e state.Reset h t = Rests tt h
-by-expiry s e state.Session h t = Expires (elsewhere _ _ h (λ k. cc)) (leb-true (limit s e) (suc (age s e)) t)
-by-expiry s e state.Connection h t = Expires (elsewhere _ _ h (λ k. cc)) (leb-true (limit s e) (suc (age s e)) t)
-by-expiry s e state.Parameter h t = Expires (elsewhere _ _ h (λ k. cc)) (leb-true (limit s e) (suc (age s e)) t)
-by-expiry s e state.Data h t = Expires (elsewhere _ _ h (λ k. cc)) (leb-true (limit s e) (suc (age s e)) t)
+by-expiry s e _ h t = Expires (elsewhere _ _ h (λ k. cc)) (leb-true (limit s e) (suc (age s e)) t)
 
 below : (s : Setup) (e : List Deed) (now : State) → state_of s e ≡ now → nat_le (limit s e) (suc (age s e)) ≡ false → IsReaction s e (deed_of s e move.Tick nothing)
 below (OfMaster ms) e now h t = Ages tt (leb-false (limit (OfMaster ms) e) (suc (age (OfMaster ms) e)) t)
 below (OfSlave ss) e state.Reset h t = Rests tt h
-below (OfSlave ss) e state.Session h t = Ages (elsewhere _ _ h (λ k. cc)) (leb-false (limit (OfSlave ss) e) (suc (age (OfSlave ss) e)) t)
-below (OfSlave ss) e state.Connection h t = Ages (elsewhere _ _ h (λ k. cc)) (leb-false (limit (OfSlave ss) e) (suc (age (OfSlave ss) e)) t)
-below (OfSlave ss) e state.Parameter h t = Ages (elsewhere _ _ h (λ k. cc)) (leb-false (limit (OfSlave ss) e) (suc (age (OfSlave ss) e)) t)
-below (OfSlave ss) e state.Data h t = Ages (elsewhere _ _ h (λ k. cc)) (leb-false (limit (OfSlave ss) e) (suc (age (OfSlave ss) e)) t)
+below (OfSlave ss) e _ h t = Ages (elsewhere _ _ h (λ k. cc)) (leb-false (limit (OfSlave ss) e) (suc (age (OfSlave ss) e)) t)
 
 by-tick : (s : Setup) (e : List Deed) (b : Bool) → nat_le (limit s e) (suc (age s e)) ≡ b → IsReaction s e (deed_of s e move.Tick (if b then on_expiry (state_of s e) s else nothing))
 by-tick s e true t = by-expiry s e (state_of s e) refl t

@@ -65,9 +65,7 @@ first_sealed : (ms : MasterSettings) (e : List Deed) (c : Command) → length (o
 first_sealed ms e command.Reset h = download_sealed ms e command.Session 1
 first_sealed ms e command.Session h = download_sealed ms e command.Connection 1
 first_sealed ms e command.Connection h = download_sealed ms e command.Parameter 1
-first_sealed ms e command.Parameter h = data_sealed (OfMaster ms) e h
-first_sealed ms e command.FailSafeData h = data_sealed (OfMaster ms) e h
-first_sealed ms e command.ProcessData h = data_sealed (OfMaster ms) e h
+first_sealed ms e _ h = data_sealed (OfMaster ms) e h
 
 next_sealed : (ms : MasterSettings) (e : List Deed) (c : Command) (k : ℕ) → length (offer (OfMaster ms) e) ≡ sends (OfMaster ms) → IsSealed (OfMaster ms) e (after_pieces ms e c k)
 next_sealed ms e c k h =
@@ -93,11 +91,7 @@ slave_sealed ss e command.ProcessData load other h = data_sealed (OfSlave ss) e 
 -- an end offers as many safe data bytes as it sends
 offer_stays : (s : Setup) (m : Move) (before : List ℕ) → IsProper s m → length before ≡ sends s → length (offer_after m before) ≡ sends s
 offer_stays s (move.Put load) before proper h = proper
-offer_stays s (move.Deliver bytes) before proper h = h
-offer_stays s move.Tick before proper h = h
-offer_stays s (move.Hold failsafe) before proper h = h
-offer_stays s (move.Nonce id) before proper h = h
-offer_stays s move.Local before proper h = h
+offer_stays s _ before proper h = h
 
 pub offer_len : (s : Setup) (e : List Deed) → IsRun s e → length (offer s e) ≡ sends s
 offer_len s [] r = length-replicate (sends s) 0

@@ -26,10 +26,7 @@ slave-run ss (x ∷ e) r = slave-shows ss e x.what x.did x.sent (slave-run ss e 
 shown : (s : Setup) (now : State) (b : Bool) (load : List ℕ) → (now ≡ state.Data → b ≡ true) → (now ≢ state.Data → load ≡ zeros s) → load ≡ shown_in s now b load
 shown s state.Data true load y z = refl
 shown s state.Data false load y z = let k : false ≡ true = y refl in cc
-shown s state.Reset b load y z = z (λ k. cc)
-shown s state.Session b load y z = z (λ k. cc)
-shown s state.Connection b load y z = z (λ k. cc)
-shown s state.Parameter b load y z = z (λ k. cc)
+shown s _ b load y z = z (λ k. cc)
 
 pub looking_back : (s : Setup) (e : List Deed) → IsRun s e → outputs s e ≡ out s e
 looking_back (OfMaster ms) e r =

@@ -21,7 +21,8 @@ use Rattle.end_model.specs.Payloads.{uploaded, whole, has_all}
 use Rattle.end_model.specs.Readiness.{state_of, ticks, slave_limit, is_done}
 use Rattle.end_model.specs.Step.{takes_frame}
 use Rattle.end_model.specs.Outputs.{zeros, outputs, out_after}
-use Rattle.end_model.specs.Reactions.{parts, IsValid, IsInSession, Taking, SlaveRejoins, SlaveStarts, SlaveGoesOn, SlaveNextPhase, SlaveFirstData, SlaveMoreData, Reaction, Puts, Holds, SetsNonce, Rests, Ages, Expires, SendsAgain, ResetsItself, DropsLength, DropsRepeat, DropsInReset, DropsReset, Refuses, PeerResets, Answers}
+use Rattle.end_model.specs.Reactions.{parts, IsValid, IsInSession, Taking, SlaveRejoins, SlaveStarts, SlaveGoesOn, SlaveNextPhase, SlaveFirstData, SlaveMoreData, Reaction, Rests, Ages, Expires, SendsAgain, ResetsItself, DropsReset, Refuses, PeerResets, Answers}
+use Rattle.end_model.proofs.Runs.{deed}
 use Rattle.end_model.proofs.Counted.{joined_count}
 use Rattle.end_model.proofs.SoundRuns.{handshake-on, handshake-data, next-on, next-data, data-on}
 use Rattle.end_model.proofs.MasterShown.{shown_in, shown-zeros, shown-data}
@@ -44,9 +45,6 @@ pub record SlaveShows (ss : SlaveSettings) (e : List Deed) : Type 0 where
   pub young : state_of (OfSlave ss) e ≡ state.Data → ticks (OfSlave ss) e < slave_limit ss (parameters ss e)
   pub none : state_of (OfSlave ss) e ≢ state.Data → outputs (OfSlave ss) e ≡ zeros (OfSlave ss)
   pub tested : IsTested ss (parameters ss e)
-
-abbrev deed : Move → Did → List ℕ → Deed
-deed m d f = record { what = m; did = d; sent = f }
 
 whole-long : (p : Profile) (u : List ℕ) (b : Bool) → nat_le (id_len p + 4) (length u) ≡ b → has_all (if b then Some (id_len p + 4 + number_at (id_len p + 2) u) else None) (length u) ≡ true → 4 ≤ length u
 whole-long p u true h k = let q : id_len p + 4 ≤ length u = leb-true (id_len p + 4) (length u) h in omega arith
@@ -107,9 +105,6 @@ slave-took ss e bytes load c f h (SlaveFirstData _ _ _ is now whole x) = slave-t
 slave-took ss e bytes load c f h (SlaveMoreData _ _ _ is now whole x) = slave-taken ss e bytes load c f h x.valid x.in_session (λ d. whole) (data-on c is)
 
 pub slave-shows : (ss : SlaveSettings) (e : List Deed) (m : Move) (d : Did) (f : List ℕ) → SlaveShows ss e → Reaction (OfSlave ss) e m d f → SlaveShows ss (deed m d f ∷ e)
-slave-shows ss e m d f h (Puts load long) = record { outs = h.outs; young = h.young; none = h.none; tested = h.tested }
-slave-shows ss e m d f h (Holds failsafe) = record { outs = h.outs; young = h.young; none = h.none; tested = h.tested }
-slave-shows ss e m d f h (SetsNonce id allowed) = record { outs = h.outs; young = h.young; none = h.none; tested = h.tested }
 slave-shows ss e m d f h (Rests slave now) = record { outs = λ n. h.outs (suc n) ∙ simp now; young = simp now (λ k. cc); none = h.none; tested = h.tested }
 slave-shows ss e m d f h (Ages counts y) =
     record {
@@ -121,10 +116,8 @@ slave-shows ss e m d f h (Ages counts y) =
 slave-shows ss e m d f h (Expires now old) = record { outs = λ n. refl; young = λ k. cc; none = λ k. refl; tested = none_tested ss }
 slave-shows ss e m d f h (SendsAgain master now old) = absurd master
 slave-shows ss e m d f h ResetsItself = record { outs = λ n. refl; young = λ k. cc; none = λ k. refl; tested = none_tested ss }
-slave-shows ss e m d f h (DropsLength bytes long) = record { outs = h.outs; young = h.young; none = h.none; tested = h.tested }
-slave-shows ss e m d f h (DropsRepeat bytes long again now) = record { outs = h.outs; young = h.young; none = h.none; tested = h.tested }
-slave-shows ss e m d f h (DropsInReset bytes passed found now fails test) = record { outs = h.outs; young = h.young; none = h.none; tested = h.tested }
 slave-shows ss e m d f h (DropsReset bytes load master now frame other) = absurd master
 slave-shows ss e m d f h (Refuses bytes passed found now fails test) = record { outs = λ n. refl; young = λ k. cc; none = λ k. refl; tested = none_tested ss }
 slave-shows ss e m d f h (PeerResets bytes load now frame) = record { outs = λ n. refl; young = λ k. cc; none = λ k. refl; tested = none_tested ss }
 slave-shows ss e m d f h (Answers bytes load c answer taken) = slave-took ss e bytes load c f h taken
+slave-shows ss e m d f h _ = record { outs = h.outs; young = h.young; none = h.none; tested = h.tested }

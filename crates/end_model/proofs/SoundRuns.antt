@@ -1,5 +1,5 @@
 -- In each run nothing is of a session in state Reset, and in state Data a slave has the whole parameters.
-use Rattle.std.proofs.Common.{◌≡◌, ◌≢◌, ℕ, List, [], ◌∷◌, Bool, true, false, Option, Some, None, refl, sym, subst, ◌∙◌}
+use Rattle.std.proofs.Common.{◌≡◌, ◌≢◌, ℕ, List, [], ◌∷◌, Bool, true, false, Option, None, refl, sym, subst, ◌∙◌}
 use Rattle.fsoe_base.specs.declared.command.State.{State}
 use Rattle.fsoe_base.specs.declared.command.State.TheVariants as state
 use Rattle.fsoe_base.specs.declared.command.Command.{Command}
@@ -7,7 +7,6 @@ use Rattle.fsoe_base.specs.declared.command.Command.TheVariants as command
 use Rattle.fsoe_base.specs.declared.did.Cause.{Cause}
 use Rattle.fsoe_base.specs.declared.did.Did.{Did}
 use Rattle.fsoe_base.specs.declared.did.Dropped.{Dropped}
-use Rattle.fsoe_base.specs.declared.did.Dropped.TheVariants as why
 use Rattle.fsoe_base.specs.Data.{is_data}
 use Rattle.param_load.specs.declared.entry.Move.{Move}
 use Rattle.param_load.specs.declared.entry.Move.TheVariants as move
@@ -18,18 +17,15 @@ use Rattle.end_model.specs.Phases.{phase_of}
 use Rattle.end_model.specs.Deed.{Deed, is_empty}
 use Rattle.end_model.specs.Readiness.{state_of, is_done}
 use Rattle.end_model.specs.Step.{takes_frame, step, IsProper, IsRun}
-use Rattle.end_model.specs.Reactions.{HasNoSession, IsHandshake, OfSession, OfConnection, OfParameter, IsNextPhase, AfterSession, AfterConnection, with_answer, IsExchange, Taking, SlaveRejoins, SlaveStarts, SlaveGoesOn, SlaveNextPhase, SlaveFirstData, SlaveMoreData, MasterStarts, MasterGoesOn, MasterNextPhase, MasterFirstData, MasterMoreData, Reaction, Puts, Holds, SetsNonce, Rests, Ages, Expires, SendsAgain, ResetsItself, DropsLength, DropsRepeat, DropsInReset, DropsReset, Refuses, PeerResets, Answers, IsReaction}
+use Rattle.end_model.specs.Reactions.{HasNoSession, IsHandshake, OfSession, IsNextPhase, AfterSession, AfterConnection, with_answer, IsExchange, Taking, SlaveRejoins, SlaveStarts, SlaveGoesOn, SlaveNextPhase, SlaveFirstData, SlaveMoreData, MasterStarts, MasterGoesOn, MasterNextPhase, MasterFirstData, MasterMoreData, Reaction, Rests, Expires, SendsAgain, ResetsItself, DropsReset, Refuses, PeerResets, Answers, IsReaction}
+use Rattle.end_model.proofs.Runs.{deed}
 use Rattle.end_model.proofs.Heads.{IsInSession}
 use Rattle.end_model.proofs.Reactions.{Sound, next_reaction}
-
-abbrev deed : Move → Did → List ℕ → Deed
-deed m d f = record { what = m; did = d; sent = f }
 
 -- the phases of the frames of a handshake and of data
 pub handshake-on : (c : Command) → IsHandshake c → phase_of c ≢ state.Reset
 handshake-on c OfSession = λ k. cc
-handshake-on c OfConnection = λ k. cc
-handshake-on c OfParameter = λ k. cc
+handshake-on c _ = λ k. cc
 
 pub next-on : (before c : Command) → IsNextPhase before c → phase_of c ≢ state.Reset
 next-on before c AfterSession = λ k. cc
@@ -37,20 +33,19 @@ next-on before c AfterConnection = λ k. cc
 
 pub handshake-data : (c : Command) → IsHandshake c → phase_of c ≢ state.Data
 handshake-data c OfSession = λ k. cc
-handshake-data c OfConnection = λ k. cc
-handshake-data c OfParameter = λ k. cc
+handshake-data c _ = λ k. cc
 
 pub next-data : (before c : Command) → IsNextPhase before c → phase_of c ≢ state.Data
 next-data before c AfterSession = λ k. cc
 next-data before c AfterConnection = λ k. cc
 
+pub before-data : (c next : Command) → IsNextPhase c next → phase_of c ≢ state.Data
+before-data c next AfterSession = λ k. cc
+before-data c next AfterConnection = λ k. cc
+
 pub data-on : (c : Command) → is_data c ≡ true → phase_of c ≢ state.Reset
 data-on command.Reset h = λ k. cc
-data-on command.Session h = λ k. cc
-data-on command.Connection h = λ k. cc
-data-on command.Parameter h = λ k. cc
-data-on command.FailSafeData h = λ k. cc
-data-on command.ProcessData h = λ k. cc
+data-on _ h = λ k. cc
 
 -- a state that isn't this one
 other : (s : Setup) (e : List Deed) (p q : State) → state_of s e ≡ p → p ≢ q → state_of s e ≢ q
@@ -73,21 +68,14 @@ quiet : (m : Move) (passed sent : Bool) (reset : Option Cause) (because : Option
 quiet m passed sent reset because e h = record { none_sent = h.none_sent; none_taken = h.none_taken; none_kept = h.none_kept }
 
 pub master_sound : (ms : MasterSettings) (e : List Deed) (m : Move) (d : Did) (f : List ℕ) → Sound (OfMaster ms) e → Reaction (OfMaster ms) e m d f → Sound (OfMaster ms) (deed m d f ∷ e)
-master_sound ms e m d f h (Puts load long) = record { no_session = λ k. quiet m false false None None e (h.no_session k); is_loaded = tt }
-master_sound ms e m d f h (Holds failsafe) = record { no_session = λ k. quiet m false false None None e (h.no_session k); is_loaded = tt }
-master_sound ms e m d f h (SetsNonce id allowed) = record { no_session = λ k. quiet m false false None None e (h.no_session k); is_loaded = tt }
 master_sound ms e m d f h (Rests slave now) = absurd slave
-master_sound ms e m d f h (Ages counts young) = record { no_session = λ k. quiet m false false None None e (h.no_session k); is_loaded = tt }
 master_sound ms e m d f h (Expires now old) = record { no_session = λ k. record { none_sent = refl; none_taken = refl; none_kept = refl }; is_loaded = tt }
 master_sound ms e m d f h (SendsAgain master now old) = record { no_session = λ k. record { none_sent = refl; none_taken = refl; none_kept = refl }; is_loaded = tt }
 master_sound ms e m d f h ResetsItself = record { no_session = λ k. record { none_sent = refl; none_taken = refl; none_kept = refl }; is_loaded = tt }
-master_sound ms e m d f h (DropsLength bytes long) = record { no_session = λ k. quiet m false false None (Some why.Length) e (h.no_session k); is_loaded = tt }
-master_sound ms e m d f h (DropsRepeat bytes long again now) = record { no_session = λ k. quiet m false false None (Some why.Repeat) e (h.no_session k); is_loaded = tt }
-master_sound ms e m d f h (DropsInReset bytes passed found now fails test) = record { no_session = λ k. quiet m passed false None (Some why.InReset) e (h.no_session k); is_loaded = tt }
-master_sound ms e m d f h (DropsReset bytes load master now frame other) = record { no_session = λ k. quiet m false false None (Some why.InReset) e (h.no_session k); is_loaded = tt }
 master_sound ms e m d f h (Refuses bytes passed found now fails test) = record { no_session = λ k. record { none_sent = refl; none_taken = refl; none_kept = refl }; is_loaded = tt }
 master_sound ms e m d f h (PeerResets bytes load now frame) = record { no_session = λ k. record { none_sent = refl; none_taken = refl; none_kept = refl }; is_loaded = tt }
 master_sound ms e m d f h (Answers bytes load c answer taken) = master-took ms e bytes load answer c taken
+master_sound ms e m d f h _ = record { no_session = λ k. quiet _ _ _ _ _ e (h.no_session k); is_loaded = tt }
 
 -- a slave in a handshake
 slave-on : (ss : SlaveSettings) (e : List Deed) (p : State) → state_of (OfSlave ss) e ≡ p → p ≢ state.Reset → p ≢ state.Data → Sound (OfSlave ss) e
@@ -95,12 +83,9 @@ slave-on ss e p h n k = record { no_session = λ r. absurd (other (OfSlave ss) e
 
 -- data leave the parameters
 stays-loaded : (ss : SlaveSettings) (e : List Deed) (bytes load answer : List ℕ) (c : Command) → is_data c ≡ true → IsInSession answer → is_done ss state.Parameter e ≡ true → is_done ss state.Parameter (with_answer bytes c load answer e) ≡ true
-stays-loaded ss e bytes load answer command.Reset d f h = absurd (cc d)
-stays-loaded ss e bytes load answer command.Session d f h = absurd (cc d)
-stays-loaded ss e bytes load answer command.Connection d f h = absurd (cc d)
-stays-loaded ss e bytes load answer command.Parameter d f h = absurd (cc d)
 stays-loaded ss e bytes load answer command.FailSafeData d f h = let a = f.in_session in simp a h
 stays-loaded ss e bytes load answer command.ProcessData d f h = let a = f.in_session in simp a h
+stays-loaded ss e bytes load answer _ d f h = absurd (cc d)
 
 slave-in-data : (ss : SlaveSettings) (e : List Deed) (bytes load answer made : List ℕ) (c : Command) → is_data c ≡ true → is_done ss state.Parameter e ≡ true
     → IsExchange (OfSlave ss) e bytes load c answer made state.Data → Sound (OfSlave ss) (with_answer bytes c load answer e)
@@ -119,21 +104,14 @@ slave-took ss e bytes load answer c (SlaveFirstData _ _ _ is now whole x) = slav
 slave-took ss e bytes load answer c (SlaveMoreData _ _ _ is now whole x) = slave-in-data ss e bytes load answer _ c is whole x
 
 pub slave_sound : (ss : SlaveSettings) (e : List Deed) (m : Move) (d : Did) (f : List ℕ) → Sound (OfSlave ss) e → Reaction (OfSlave ss) e m d f → Sound (OfSlave ss) (deed m d f ∷ e)
-slave_sound ss e m d f h (Puts load long) = record { no_session = λ k. quiet m false false None None e (h.no_session k); is_loaded = h.is_loaded }
-slave_sound ss e m d f h (Holds failsafe) = record { no_session = λ k. quiet m false false None None e (h.no_session k); is_loaded = h.is_loaded }
-slave_sound ss e m d f h (SetsNonce id allowed) = record { no_session = λ k. quiet m false false None None e (h.no_session k); is_loaded = h.is_loaded }
-slave_sound ss e m d f h (Rests slave now) = record { no_session = λ k. quiet m false false None None e (h.no_session k); is_loaded = h.is_loaded }
-slave_sound ss e m d f h (Ages counts young) = record { no_session = λ k. quiet m false false None None e (h.no_session k); is_loaded = h.is_loaded }
 slave_sound ss e m d f h (Expires now old) = record { no_session = λ k. record { none_sent = refl; none_taken = refl; none_kept = refl }; is_loaded = λ k. cc }
 slave_sound ss e m d f h (SendsAgain master now old) = absurd master
 slave_sound ss e m d f h ResetsItself = record { no_session = λ k. record { none_sent = refl; none_taken = refl; none_kept = refl }; is_loaded = λ k. cc }
-slave_sound ss e m d f h (DropsLength bytes long) = record { no_session = λ k. quiet m false false None (Some why.Length) e (h.no_session k); is_loaded = h.is_loaded }
-slave_sound ss e m d f h (DropsRepeat bytes long again now) = record { no_session = λ k. quiet m false false None (Some why.Repeat) e (h.no_session k); is_loaded = h.is_loaded }
-slave_sound ss e m d f h (DropsInReset bytes passed found now fails test) = record { no_session = λ k. quiet m passed false None (Some why.InReset) e (h.no_session k); is_loaded = h.is_loaded }
 slave_sound ss e m d f h (DropsReset bytes load master now frame other) = absurd master
 slave_sound ss e m d f h (Refuses bytes passed found now fails test) = record { no_session = λ k. record { none_sent = refl; none_taken = refl; none_kept = refl }; is_loaded = λ k. cc }
 slave_sound ss e m d f h (PeerResets bytes load now frame) = record { no_session = λ k. record { none_sent = refl; none_taken = refl; none_kept = refl }; is_loaded = λ k. cc }
 slave_sound ss e m d f h (Answers bytes load c answer taken) = slave-took ss e bytes load answer c taken
+slave_sound ss e m d f h _ = record { no_session = λ k. quiet _ _ _ _ _ e (h.no_session k); is_loaded = h.is_loaded }
 
 -- each run is sound
 pub sound_run : (s : Setup) (e : List Deed) → IsRun s e → Sound s e

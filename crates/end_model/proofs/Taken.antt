@@ -12,10 +12,10 @@ use Rattle.end_model.specs.Phases.{phase_of}
 use Rattle.end_model.specs.Deed.{Deed}
 use Rattle.end_model.specs.Readiness.{state_of}
 use Rattle.end_model.specs.Step.{with_data, download_frame, after_phase, master_answer, answer}
-use Rattle.end_model.specs.Reactions.{IsHandshake, OfSession, OfConnection, OfParameter, IsNextPhase, AfterSession, AfterConnection, received, with_answer, pieces_sent, all_pieces, IsExchange, Taking, SlaveRejoins, SlaveStarts, SlaveGoesOn, SlaveNextPhase, SlaveFirstData, SlaveMoreData, MasterStarts, MasterGoesOn, MasterNextPhase, MasterFirstData, MasterMoreData}
+use Rattle.end_model.specs.Reactions.{IsHandshake, OfSession, OfConnection, OfParameter, AfterSession, AfterConnection, received, with_answer, pieces_sent, all_pieces, IsExchange, Taking, SlaveRejoins, SlaveStarts, SlaveGoesOn, SlaveNextPhase, SlaveFirstData, SlaveMoreData, MasterStarts, MasterGoesOn, MasterNextPhase, MasterFirstData, MasterMoreData}
 use Rattle.end_model.proofs.Heads.{IsInSession, master_frame}
 use Rattle.end_model.proofs.Reactions.{phase_of_data, slave_data}
-use Rattle.end_model.proofs.SoundRuns.{handshake-data, next-data}
+use Rattle.end_model.proofs.SoundRuns.{handshake-data, next-data, before-data}
 
 -- the exchange with a frame of a session: the frame is valid, and its answer is of the session too
 pub exchange_of : (e : List Deed) (bytes load : List ℕ) (s : Setup) (c : Command) (f : List ℕ) → Taking e bytes load s c f → c ≢ command.Reset
@@ -56,12 +56,9 @@ phase-ends ms e bytes load c OfConnection h = if-reached (pieces_sent e state.Co
 phase-ends ms e bytes load c OfParameter h = if-reached (pieces_sent e state.Parameter) (all_pieces ms e state.Parameter) _ _ h
 
 master-data : (ms : MasterSettings) (e : List Deed) (c : Command) → is_data c ≡ true → master_answer ms e c ≡ with_data (OfMaster ms) e
-master-data ms e command.Reset h = cc
-master-data ms e command.Session h = cc
-master-data ms e command.Connection h = cc
-master-data ms e command.Parameter h = cc
 master-data ms e command.FailSafeData h = refl
 master-data ms e command.ProcessData h = refl
+master-data ms e _ h = cc
 
 -- which answer was sent
 pub answer_is : (e : List Deed) (bytes load : List ℕ) (s : Setup) (c : Command) (f : List ℕ) → Taking e bytes load s c f → f ≡ answer_to s e bytes c load
@@ -90,10 +87,6 @@ master_phase e bytes load ms c f (MasterNextPhase _ _ next _ is now whole x) = n
 master_phase e bytes load ms c f (MasterFirstData _ _ now whole x) = now
 master_phase e bytes load ms c f (MasterMoreData _ _ _ is now x) = now ∙ sym (phase_of_data c is)
 
-next-no-data : (c next : Command) → IsNextPhase c next → phase_of c ≢ state.Data
-next-no-data c next AfterSession = λ k. cc
-next-no-data c next AfterConnection = λ k. cc
-
 -- an end that took data is in Data
 pub data_after : (e : List Deed) (bytes load : List ℕ) (s : Setup) (c : Command) (f : List ℕ) → Taking e bytes load s c f → is_data c ≡ true → state_of s (with_answer bytes c load f e) ≡ state.Data
 data_after e bytes load s c f (SlaveRejoins _ now none frame) d = absurd (cc d)
@@ -104,6 +97,6 @@ data_after e bytes load s c f (SlaveFirstData _ _ _ is now whole x) d = x.after
 data_after e bytes load s c f (SlaveMoreData _ _ _ is now whole x) d = x.after
 data_after e bytes load s c f (MasterStarts _ _ now none frame zero made sent after) d = absurd (cc d)
 data_after e bytes load s c f (MasterGoesOn _ _ _ is now part x) d = absurd (handshake-data c is (phase_of_data c d))
-data_after e bytes load s c f (MasterNextPhase _ _ next _ is now whole x) d = absurd (next-no-data c next is (phase_of_data c d))
+data_after e bytes load s c f (MasterNextPhase _ _ next _ is now whole x) d = absurd (before-data c next is (phase_of_data c d))
 data_after e bytes load s c f (MasterFirstData _ _ now whole x) d = x.after
 data_after e bytes load s c f (MasterMoreData _ _ _ is now x) d = x.after

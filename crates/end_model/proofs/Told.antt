@@ -6,42 +6,16 @@ use Rattle.param_load.specs.declared.entry.Move.{Move}
 use Rattle.end_model.specs.Setup.{Setup}
 use Rattle.end_model.specs.Deed.{Deed, is_empty}
 use Rattle.end_model.specs.Step.{step, IsProper, IsRun}
-use Rattle.end_model.specs.Reactions.{Reaction, Puts, Holds, SetsNonce, Rests, Ages, Expires, SendsAgain, ResetsItself, DropsLength, DropsRepeat, DropsInReset, DropsReset, Refuses, PeerResets, Answers}
+use Rattle.end_model.specs.Reactions.{Reaction, Answers}
 use Rattle.end_model.proofs.SoundRuns.{reacts, answer_sent}
 
 tells-sent : (s : Setup) (e : List Deed) (m : Move) (d : Did) (f : List ℕ) → Reaction s e m d f → d.sent ≡ not (is_empty f)
-tells-sent s e m d f (Puts load long) = refl
-tells-sent s e m d f (Holds failsafe) = refl
-tells-sent s e m d f (SetsNonce id allowed) = refl
-tells-sent s e m d f (Rests slave now) = refl
-tells-sent s e m d f (Ages counts young) = refl
-tells-sent s e m d f (Expires now old) = refl
-tells-sent s e m d f (SendsAgain master now old) = refl
-tells-sent s e m d f ResetsItself = refl
-tells-sent s e m d f (DropsLength bytes long) = refl
-tells-sent s e m d f (DropsRepeat bytes long again now) = refl
-tells-sent s e m d f (DropsInReset bytes passed found now fails test) = refl
-tells-sent s e m d f (DropsReset bytes load master now frame other) = refl
-tells-sent s e m d f (Refuses bytes passed found now fails test) = refl
-tells-sent s e m d f (PeerResets bytes load now frame) = refl
 tells-sent s e m d f (Answers bytes load c answer taken) = ap not (sym (answer_sent e bytes load s c answer taken))
+tells-sent s e m d f _ = refl
 
 tells-one : (s : Setup) (e : List Deed) (m : Move) (d : Did) (f : List ℕ) → Reaction s e m d f → at_most_one d ≡ true
-tells-one s e m d f (Puts load long) = refl
-tells-one s e m d f (Holds failsafe) = refl
-tells-one s e m d f (SetsNonce id allowed) = refl
-tells-one s e m d f (Rests slave now) = refl
-tells-one s e m d f (Ages counts young) = refl
-tells-one s e m d f (Expires now old) = refl
-tells-one s e m d f (SendsAgain master now old) = refl
-tells-one s e m d f ResetsItself = refl
-tells-one s e m d f (DropsLength bytes long) = refl
-tells-one s e m d f (DropsRepeat bytes long again now) = refl
-tells-one s e m d f (DropsInReset bytes passed found now fails test) = refl
-tells-one s e m d f (DropsReset bytes load master now frame other) = refl
-tells-one s e m d f (Refuses bytes passed found now fails test) = refl
-tells-one s e m d f (PeerResets bytes load now frame) = refl
 tells-one s e m d f (Answers bytes load c answer taken) = refl
+tells-one s e m d f _ = refl
 
 -- that a frame was sent
 pub told_sent : (s : Setup) (e : List Deed) (event : Move) → IsRun s e → IsProper s event → (step s e event).did.sent ≡ not (is_empty (step s e event).sent)

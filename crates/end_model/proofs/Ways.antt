@@ -25,29 +25,15 @@ pub slave_way : (done : State → Bool) (now : State) (c : Command) → c ≢ co
 slave_way done now command.Reset n h = absurd (n refl)
 slave_way done state.Reset command.Session n h = Start refl refl
 slave_way done state.Session command.Session n h = More OfSession refl (off (done state.Session) h)
-slave_way done state.Connection command.Session n h = cc
-slave_way done state.Parameter command.Session n h = cc
-slave_way done state.Data command.Session n h = cc
-slave_way done state.Reset command.Connection n h = cc
 slave_way done state.Session command.Connection n h = Next command.Session AfterSession refl h
 slave_way done state.Connection command.Connection n h = More OfConnection refl (off (done state.Connection) h)
-slave_way done state.Parameter command.Connection n h = cc
-slave_way done state.Data command.Connection n h = cc
-slave_way done state.Reset command.Parameter n h = cc
-slave_way done state.Session command.Parameter n h = cc
 slave_way done state.Connection command.Parameter n h = Next command.Connection AfterConnection refl h
 slave_way done state.Parameter command.Parameter n h = More OfParameter refl (off (done state.Parameter) h)
-slave_way done state.Data command.Parameter n h = cc
-slave_way done state.Reset command.FailSafeData n h = cc
-slave_way done state.Session command.FailSafeData n h = cc
-slave_way done state.Connection command.FailSafeData n h = cc
 slave_way done state.Parameter command.FailSafeData n h = First refl refl h
 slave_way done state.Data command.FailSafeData n h = Data refl refl
-slave_way done state.Reset command.ProcessData n h = cc
-slave_way done state.Session command.ProcessData n h = cc
-slave_way done state.Connection command.ProcessData n h = cc
 slave_way done state.Parameter command.ProcessData n h = First refl refl h
 slave_way done state.Data command.ProcessData n h = Data refl refl
+slave_way done _ _ n h = cc
 
 -- an answer at a master
 pub data MasterWay (now : State) (c : Command) : Type 0 where
@@ -56,28 +42,9 @@ pub data MasterWay (now : State) (c : Command) : Type 0 where
 
 pub master_way : (now : State) (c : Command) → c ≢ command.Reset → master_allows now c ≡ true → MasterWay now c
 master_way now command.Reset n h = absurd (n refl)
-master_way state.Reset command.Session n h = cc
 master_way state.Session command.Session n h = Echo OfSession refl
-master_way state.Connection command.Session n h = cc
-master_way state.Parameter command.Session n h = cc
-master_way state.Data command.Session n h = cc
-master_way state.Reset command.Connection n h = cc
-master_way state.Session command.Connection n h = cc
 master_way state.Connection command.Connection n h = Echo OfConnection refl
-master_way state.Parameter command.Connection n h = cc
-master_way state.Data command.Connection n h = cc
-master_way state.Reset command.Parameter n h = cc
-master_way state.Session command.Parameter n h = cc
-master_way state.Connection command.Parameter n h = cc
 master_way state.Parameter command.Parameter n h = Echo OfParameter refl
-master_way state.Data command.Parameter n h = cc
-master_way state.Reset command.FailSafeData n h = cc
-master_way state.Session command.FailSafeData n h = cc
-master_way state.Connection command.FailSafeData n h = cc
-master_way state.Parameter command.FailSafeData n h = cc
 master_way state.Data command.FailSafeData n h = Reply refl refl
-master_way state.Reset command.ProcessData n h = cc
-master_way state.Session command.ProcessData n h = cc
-master_way state.Connection command.ProcessData n h = cc
-master_way state.Parameter command.ProcessData n h = cc
 master_way state.Data command.ProcessData n h = Reply refl refl
+master_way _ _ n h = cc
