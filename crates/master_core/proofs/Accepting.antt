@@ -52,12 +52,10 @@ parameter-with (Ok progress.More) k o n x = refl
 parameter-with (Ok progress.Whole) k o n x = refl
 
 taken-with : (now : Now) (k : KitView) (o : OfferView) (n : ℕ) (f : SessionFrameView) → next_state (with_both k o n) now f ≡ next_state k now f
-taken-with (now.Reset s) k o n f = refl
 taken-with (now.Session s) k o n f = session-with (outcome s.download f.frame.load) k o n (answered s f)
 taken-with (now.Connection s) k o n f = connection-with (outcome s.download f.frame.load) k o n (answered s f)
 taken-with (now.Parameter s) k o n f = parameter-with (outcome s.download f.frame.load) k o n (answered s f)
-taken-with (now.Data s) k o n f = refl
-taken-with (now.Due due) k o n f = refl
+taken-with _ k o n f = refl
 
 abbrev pub view_with : MasterView → OfferView → ℕ → MasterView
 view_with v o n = record { kit = with_both v.kit o n; state = v.state; timer = v.timer }

@@ -38,27 +38,8 @@ passed-agrees state.Connection ms e bytes command.Connection h k a s = connectio
 passed-agrees state.Parameter ms e bytes command.Parameter h k a s = parameter-passed ms e bytes h a s
 passed-agrees state.Data ms e bytes command.ProcessData h k a s = process-passed ms e bytes a s
 passed-agrees state.Data ms e bytes command.FailSafeData h k a s = failsafe-passed ms e bytes a s
-passed-agrees state.Reset ms e bytes command.Session h k a s = absurd (cc k.is_allowed)
-passed-agrees state.Reset ms e bytes command.Connection h k a s = absurd (cc k.is_allowed)
-passed-agrees state.Reset ms e bytes command.Parameter h k a s = absurd (cc k.is_allowed)
-passed-agrees state.Reset ms e bytes command.FailSafeData h k a s = absurd (cc k.is_allowed)
-passed-agrees state.Reset ms e bytes command.ProcessData h k a s = absurd (cc k.is_allowed)
-passed-agrees state.Session ms e bytes command.Connection h k a s = absurd (cc k.is_allowed)
-passed-agrees state.Session ms e bytes command.Parameter h k a s = absurd (cc k.is_allowed)
-passed-agrees state.Session ms e bytes command.FailSafeData h k a s = absurd (cc k.is_allowed)
-passed-agrees state.Session ms e bytes command.ProcessData h k a s = absurd (cc k.is_allowed)
-passed-agrees state.Connection ms e bytes command.Session h k a s = absurd (cc k.is_allowed)
-passed-agrees state.Connection ms e bytes command.Parameter h k a s = absurd (cc k.is_allowed)
-passed-agrees state.Connection ms e bytes command.FailSafeData h k a s = absurd (cc k.is_allowed)
-passed-agrees state.Connection ms e bytes command.ProcessData h k a s = absurd (cc k.is_allowed)
-passed-agrees state.Parameter ms e bytes command.Session h k a s = absurd (cc k.is_allowed)
-passed-agrees state.Parameter ms e bytes command.Connection h k a s = absurd (cc k.is_allowed)
-passed-agrees state.Parameter ms e bytes command.FailSafeData h k a s = absurd (cc k.is_allowed)
-passed-agrees state.Parameter ms e bytes command.ProcessData h k a s = absurd (cc k.is_allowed)
-passed-agrees state.Data ms e bytes command.Session h k a s = absurd (cc k.is_allowed)
-passed-agrees state.Data ms e bytes command.Connection h k a s = absurd (cc k.is_allowed)
-passed-agrees state.Data ms e bytes command.Parameter h k a s = absurd (cc k.is_allowed)
 passed-agrees p ms e bytes command.Reset h k a s = absurd (k.is_session refl)
+passed-agrees _ ms e bytes _ h k a s = absurd (cc k.is_allowed)
 
 judged-agrees : (p : State) (ms : MasterSettings) (e : List Deed) (bytes : List ℕ) (v : model.Verdict) (w : Accepted) → Same p ms e bytes v w → state_of (OfMaster ms) e ≡ p → SoundAt p ms e → Sound ms e
     → Agrees ms e (move.Deliver bytes) (on_verdict p (OfMaster ms) v) (answered_by w)

@@ -9,7 +9,7 @@ use Rattle.end_model.specs.Setup.{Setup, OfMaster}
 use Rattle.end_model.specs.Deed.{Deed, events_of}
 use Rattle.end_model.specs.Step.{begun, step, run, IsRun}
 use Rattle.end_model.proofs.Runs.{deed, same_deed, set_deed, run_of_events}
-use Rattle.end_model.specs.Reactions.{Reaction, Puts, Holds, SetsNonce, Rests, Ages, Expires, SendsAgain, ResetsItself, DropsLength, DropsRepeat, DropsInReset, DropsReset, Refuses, PeerResets, Answers}
+use Rattle.end_model.specs.Reactions.{Reaction, Expires, SendsAgain, ResetsItself, Refuses, PeerResets, Answers}
 use Rattle.end_model.proofs.SoundRuns.{reacts}
 use Rattle.master_core.specs.MasterView.{MasterView}
 use Rattle.master_core.specs.Now.{is_due}
@@ -36,21 +36,13 @@ IsDelivery (move.Deliver bytes) = Unit {0}
 IsDelivery _ = ⊥
 
 quiet : (s : Setup) (e : List Deed) (m : Move) (d : Did) (f : List ℕ) → IsDelivery m → tells_due d ≡ false → Reaction s e m d f → deed m (record d { sent = false }) [] ≡ deed m d f
-quiet s e m d f k h (Puts load right) = absurd k
-quiet s e m d f k h (Holds failsafe) = absurd k
-quiet s e m d f k h (SetsNonce id right) = absurd k
-quiet s e m d f k h (Rests slave now) = absurd k
-quiet s e m d f k h (Ages counts young) = absurd k
-quiet s e m d f k h (Expires now old) = absurd k
+quiet s e m d f k h (Expires now old) = absurd (cc h)
 quiet s e m d f k h (SendsAgain master now old) = absurd k
-quiet s e m d f k h ResetsItself = absurd k
-quiet s e m d f k h (DropsLength bytes other) = refl
-quiet s e m d f k h (DropsRepeat bytes right same now) = refl
-quiet s e m d f k h (DropsInReset bytes passed found now told fails) = refl
-quiet s e m d f k h (DropsReset bytes load master now frame other) = refl
+quiet s e m d f k h ResetsItself = absurd (cc h)
 quiet s e m d f k h (Refuses bytes passed found now told fails) = absurd (cc h)
 quiet s e m d f k h (PeerResets bytes load now frame) = absurd (cc h)
 quiet s e m d f k h (Answers bytes load c answer taking) = absurd (cc h)
+quiet s e m d f k h _ = refl
 
 quiet-delivery : (s : Setup) (e : List Deed) (bytes : List ℕ) (did : Did) → IsRun s e → did ≡ record (step s e (move.Deliver bytes)).did { sent = false } → tells_due did ≡ false
     → begun (move.Deliver bytes) did ≡ step s e (move.Deliver bytes)

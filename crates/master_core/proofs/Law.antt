@@ -60,11 +60,8 @@ abbrev ShownIn : State → MasterSettings → List Deed → Now → Type 0
 ShownIn p ms e x = (machine.state_of x ≡ p) × (machine.terms_shown_in x ≡ told_in p (terms (OfMaster ms) e)) × (machine.outputs_in ms x ≡ outputs (OfMaster ms) e)
 
 shown-in : (p : State) (ms : MasterSettings) (e : List Deed) → (p ≢ state.Data → outputs (OfMaster ms) e ≡ zeros (OfMaster ms)) → ShownIn p ms e (now_in p ms (notes_of ms e))
-shown-in state.Reset ms e h = (refl, refl, sym (h (λ k. cc)))
-shown-in state.Session ms e h = (refl, refl, sym (h (λ k. cc)))
-shown-in state.Connection ms e h = (refl, refl, sym (h (λ k. cc)))
-shown-in state.Parameter ms e h = (refl, refl, sym (h (λ k. cc)))
 shown-in state.Data ms e h = (refl, refl, refl)
+shown-in _ ms e h = (refl, refl, sym (h (λ k. cc)))
 
 shown-after : (ms : MasterSettings) (e : List Deed) → IsRun (OfMaster ms) e → ShownIn (state_of (OfMaster ms) e) ms e (view_of ms e).state
 shown-after ms e run = shown-in (state_of (OfMaster ms) e) ms e (fail_safe (OfMaster ms) e run)

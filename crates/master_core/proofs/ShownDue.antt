@@ -36,19 +36,11 @@ ShowAlike settings x y = (machine.state_of x ≡ machine.state_of y) × (machine
 
 sent-alike : (kit : KitView) (n : Next) → ShowAlike kit.settings (machine.sent_state kit n) (now.Due (record { next = n }))
 sent-alike kit (next.Reset x) = (refl, refl, refl)
-sent-alike kit (next.Begin last) = (refl, refl, refl)
-sent-alike kit (next.Session s) = (refl, refl, refl)
-sent-alike kit (next.Connection s) = (refl, refl, refl)
-sent-alike kit (next.Parameter s) = (refl, refl, refl)
-sent-alike kit (next.Data s) = (refl, refl, refl)
+sent-alike kit _ = (refl, refl, refl)
 
 replied-alike : (kit : KitView) (n : Now) → ShowAlike kit.settings (machine.replied kit n) n
-replied-alike kit (now.Reset s) = (refl, refl, refl)
-replied-alike kit (now.Session s) = (refl, refl, refl)
-replied-alike kit (now.Connection s) = (refl, refl, refl)
-replied-alike kit (now.Parameter s) = (refl, refl, refl)
-replied-alike kit (now.Data s) = (refl, refl, refl)
 replied-alike kit (now.Due due) = sent-alike kit due.next
+replied-alike kit _ = (refl, refl, refl)
 
 -- the readers
 pub state_due : (v : MasterView) (shown : State) → shown ≡ machine.state_of v.state → ShowsDue v shown state_of
@@ -72,10 +64,7 @@ held_due v shown i = shows-due v shown (λ s e. held e) (held_shown (replies v) 
 -- no frame is due after deeds
 none-due : (p : State) (ms : MasterSettings) (n : Notes) → is_due (now_in p ms n) ≡ false
 none-due state.Reset ms n = refl
-none-due state.Session ms n = refl
-none-due state.Connection ms n = refl
-none-due state.Parameter ms n = refl
-none-due state.Data ms n = refl
+none-due _ ms n = refl
 
 -- while a frame is due the age is 0
 pub age_zero : (v : MasterView) (shown : ℕ) → shown ≡ v.timer.age → (d : Delivery) → Waits v d → IsTrue (is_due v.state) → shown ≡ 0

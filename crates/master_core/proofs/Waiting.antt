@@ -27,12 +27,8 @@ use Rattle.master_core.proofs.Agreed.{agrees, run-sound}
 
 -- a master at rest sends nothing
 at-rest : (k : KitView) (s : Now) → is_due s ≡ false → replied k s ≡ s
-at-rest k (now.Reset s) h = refl
-at-rest k (now.Session s) h = refl
-at-rest k (now.Connection s) h = refl
-at-rest k (now.Parameter s) h = refl
-at-rest k (now.Data s) h = refl
 at-rest k (now.Due due) h = absurd (cc h)
+at-rest k _ h = refl
 
 abbrev did_at : Option Took → Bool → Bool → Option Cause → Option Dropped → Did
 did_at took passed sent reset dropped = record { took = took; passed = passed; sent = sent; reset = reset; dropped = dropped }

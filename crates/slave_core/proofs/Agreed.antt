@@ -197,26 +197,7 @@ passed-agrees state.Parameter ss e bytes command.ProcessData at s h k a run next
 passed-agrees state.Parameter ss e bytes command.FailSafeData at s h k a run next = runs-passed ss e bytes _ command.FailSafeData run h k.is_allowed (λ w. failsafe-agrees (all_zero (came ss bytes).load) state.Parameter ss e bytes at s (connected ss e h) a w run)
 passed-agrees state.Data ss e bytes command.ProcessData at s h k a run next = process-agrees state.Data ss e bytes s (connected ss e h) a (loaded ss e run at) run
 passed-agrees state.Data ss e bytes command.FailSafeData at s h k a run next = failsafe-agrees (all_zero (came ss bytes).load) state.Data ss e bytes at s (connected ss e h) a (loaded ss e run at) run
-passed-agrees state.Reset ss e bytes command.Reset at s h k a run next = absurd (cc k.is_allowed)
-passed-agrees state.Reset ss e bytes command.Connection at s h k a run next = absurd (cc k.is_allowed)
-passed-agrees state.Reset ss e bytes command.Parameter at s h k a run next = absurd (cc k.is_allowed)
-passed-agrees state.Reset ss e bytes command.FailSafeData at s h k a run next = absurd (cc k.is_allowed)
-passed-agrees state.Reset ss e bytes command.ProcessData at s h k a run next = absurd (cc k.is_allowed)
-passed-agrees state.Session ss e bytes command.Reset at s h k a run next = absurd (cc k.is_allowed)
-passed-agrees state.Session ss e bytes command.Parameter at s h k a run next = absurd (cc k.is_allowed)
-passed-agrees state.Session ss e bytes command.FailSafeData at s h k a run next = absurd (cc k.is_allowed)
-passed-agrees state.Session ss e bytes command.ProcessData at s h k a run next = absurd (cc k.is_allowed)
-passed-agrees state.Connection ss e bytes command.Reset at s h k a run next = absurd (cc k.is_allowed)
-passed-agrees state.Connection ss e bytes command.Session at s h k a run next = absurd (cc k.is_allowed)
-passed-agrees state.Connection ss e bytes command.FailSafeData at s h k a run next = absurd (cc k.is_allowed)
-passed-agrees state.Connection ss e bytes command.ProcessData at s h k a run next = absurd (cc k.is_allowed)
-passed-agrees state.Parameter ss e bytes command.Reset at s h k a run next = absurd (cc k.is_allowed)
-passed-agrees state.Parameter ss e bytes command.Session at s h k a run next = absurd (cc k.is_allowed)
-passed-agrees state.Parameter ss e bytes command.Connection at s h k a run next = absurd (cc k.is_allowed)
-passed-agrees state.Data ss e bytes command.Reset at s h k a run next = absurd (cc k.is_allowed)
-passed-agrees state.Data ss e bytes command.Session at s h k a run next = absurd (cc k.is_allowed)
-passed-agrees state.Data ss e bytes command.Connection at s h k a run next = absurd (cc k.is_allowed)
-passed-agrees state.Data ss e bytes command.Parameter at s h k a run next = absurd (cc k.is_allowed)
+passed-agrees _ ss e bytes _ at s h k a run next = absurd (cc k.is_allowed)
 
 judged-agrees : (p : State) (ss : SlaveSettings) (e : List Deed) (bytes : List ℕ) (v : model.Verdict) (w : Outcome) → Same p ss e bytes v w → state_of (OfSlave ss) e ≡ p → Sound ss e → SoundAt p ss e → IsRun (OfSlave ss) e
     → IsRun (OfSlave ss) (deed_of (OfSlave ss) e (move.Deliver bytes) (on_verdict p (OfSlave ss) v) ∷ e)

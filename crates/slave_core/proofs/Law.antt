@@ -53,11 +53,8 @@ abbrev ShownIn : State → SlaveSettings → List Deed → Now → Type 0
 ShownIn p ss e x = (machine.state_of x ≡ p) × (machine.terms_shown_in x ≡ told_in p (terms (OfSlave ss) e)) × (machine.outputs_in ss x ≡ outputs (OfSlave ss) e)
 
 shown-in : (p : State) (ss : SlaveSettings) (e : List Deed) → (p ≢ state.Data → outputs (OfSlave ss) e ≡ zeros (OfSlave ss)) → ShownIn p ss e (now_in p ss (notes_of ss e))
-shown-in state.Reset ss e h = (refl, refl, sym (h (λ k. cc)))
-shown-in state.Session ss e h = (refl, refl, sym (h (λ k. cc)))
-shown-in state.Connection ss e h = (refl, refl, sym (h (λ k. cc)))
-shown-in state.Parameter ss e h = (refl, refl, sym (h (λ k. cc)))
 shown-in state.Data ss e h = (refl, refl, refl)
+shown-in _ ss e h = (refl, refl, sym (h (λ k. cc)))
 
 shown-after : (ss : SlaveSettings) (e : List Deed) → IsRun (OfSlave ss) e → ShownIn (state_of (OfSlave ss) e) ss e (view_of ss e).state
 shown-after ss e run = shown-in (state_of (OfSlave ss) e) ss e (fail_safe (OfSlave ss) e run)
