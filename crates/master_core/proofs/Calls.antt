@@ -74,12 +74,12 @@ at-setting ms old new m e (Some p) r made = record {
 
 accepted-so : (ms : MasterSettings) (old new : MasterView) (bytes : List ℕ) (did : Did) (e : List Deed) (b : Bool) → tells_due did ≡ b → MasterIsAfter ms old e → MadeAccept old bytes did new
     → Reached ms new (if b then e else begun (move.Deliver bytes) did ∷ e) (if b then Some (record { bytes = bytes; did = did }) else None)
-accepted-so ms old new bytes did e true b h made = record { waits = (made.accepts.begins ms e h).waits; due = made.due ∙ b }
+accepted-so ms old new bytes did e true b h made = record { waits = (made.accepts.under_way ms e h).waits; due = made.due ∙ b }
 accepted-so ms old new bytes did e false b h made = record {
   is_after =
       subst (λ (y : Deed). MasterIsAfter ms new (y ∷ e))
-      (sym (quiet-delivery (OfMaster ms) e bytes did h.reached (made.accepts.begins ms e h).did b))
-      ((made.accepts.begins ms e h).is_after (made.due ∙ b));
+      (sym (quiet-delivery (OfMaster ms) e bytes did h.reached (made.accepts.under_way ms e h).did b))
+      ((made.accepts.under_way ms e h).is_after (made.due ∙ b));
   rest = made.due ∙ b;
 }
 

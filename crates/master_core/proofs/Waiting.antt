@@ -41,7 +41,7 @@ same_state v s h = rw h refl
 
 pub accepts_by : (old : MasterView) (bytes : List ℕ) (done : Did) (new : MasterView) → AreBytes bytes → new ≡ (accepted old bytes).master → done ≡ (accepted old bytes).did → done.sent ≡ false → Accepts old bytes done new
 accepts_by old bytes done new read n d u = record {
-  begins = λ ms e h.
+  under_way = λ ms e h.
       let a = agrees ms e (move.Deliver bytes) (run-sound ms e h.reached) tt in
       let same : new ≡ (accepted (view_of ms e) bytes).master = n ∙ ap (λ (v : MasterView). (accepted v bytes).master) h.is in
       let told : done ≡ (accepted (view_of ms e) bytes).did = d ∙ ap (λ (v : MasterView). (accepted v bytes).did) h.is in

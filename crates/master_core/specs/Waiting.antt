@@ -40,16 +40,16 @@ pub record Waits (master : MasterView) (d : Delivery) : Type 0 where
   pub reached : IsRun (OfMaster d.settings) d.before
   pub read : AreBytes d.bytes
 
--- a delivery has begun: it did what its deed does but for the sending; the master waits in it, or is after it where no frame is due
-pub record Begins (master : MasterView) (d : Delivery) : Type 0 where
+-- a delivery is under way: it did what its deed does but for the sending; the master waits in it, or is after it where no frame is due
+pub record IsUnderWay (master : MasterView) (d : Delivery) : Type 0 where
   pub did : d.did ≡ record (its_deed d).did { sent = false }
   pub waits : Waits master d
   pub is_after : is_due master.state ≡ false → MasterIsAfter d.settings master (with_delivery d)
 
--- a master that was after some deeds accepted these bytes and did this: their delivery has begun
+-- a master that was after some deeds accepted these bytes and did this: their delivery is under way
 pub record Accepts (old : MasterView) (bytes : List ℕ) (done : Did) (new : MasterView) : Type 0 where
-  pub begins : (settings : MasterSettings) (deeds : List Deed) → MasterIsAfter settings old deeds
-      → Begins new (record { settings = settings; before = deeds; bytes = bytes; did = done })
+  pub under_way : (settings : MasterSettings) (deeds : List Deed) → MasterIsAfter settings old deeds
+      → IsUnderWay new (record { settings = settings; before = deeds; bytes = bytes; did = done })
 
 -- a master that waited in a delivery waits in it still, as if this event had come before it
 pub record Keeps (old : MasterView) (event : Move) (new : MasterView) : Type 0 where
