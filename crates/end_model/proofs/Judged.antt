@@ -66,8 +66,3 @@ by-opened s e bytes w (opens.IsOfSession c n is) =
 -- the verdict on a frame
 pub is_judged : (s : Setup) (e : List Deed) (bytes : List ℕ) → Judged s e bytes (verdict s e bytes)
 is_judged s e bytes = by-opened s e bytes _ (tested (receives s) (is_repeat (kept (since e)) bytes) bytes)
-
--- a frame that passes the tests of a session is allowed, has its connection id, and fits
-pub session_passed : (a h t : Bool) → session_fault a h t ≡ None → (a ≡ true) × (h ≡ true) × (t ≡ true)
-session_passed true true true e = (refl, refl, refl)
-session_passed _ _ _ e = absurd (cc e)

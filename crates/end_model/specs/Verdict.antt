@@ -1,6 +1,5 @@
 -- How the tests of a frame that came end. The order of the tests is this profile's own, the codes are those of the public standard.
-use Rattle.std.specs.Prelude.{ℕ, ◌==◌, nat_eq, List, Bool, false, not, Option, Some, None, if◌then◌else◌}
-use Rattle.std.specs.Cmp.Lexicographic.{pointwise}
+use Rattle.std.specs.Prelude.{ℕ, ◌==◌, List, Bool, not, Option, Some, None, if◌then◌else◌}
 use Rattle.fsoe_base.specs.declared.command.State.{State}
 use Rattle.fsoe_base.specs.declared.command.State.TheVariants as state
 use Rattle.fsoe_base.specs.declared.command.Command.{Command}
@@ -13,6 +12,7 @@ use Rattle.seq_chain.specs.declared.opened.Opened.{Opened}
 use Rattle.seq_chain.specs.declared.opened.Opened.TheVariants as opened_as
 use Rattle.seq_chain.specs.Opened.{opened}
 use Rattle.seq_chain.specs.SessionFrame.{SessionFrameView}
+pub use Rattle.seq_chain.specs.Session.{session_fault, is_repeat}
 use Rattle.param_load.specs.declared.contents.Expected.{Expected}
 use Rattle.param_load.specs.declared.contents.Expected.TheVariants as expected
 use Rattle.param_load.specs.declared.master_settings.MasterSettings.{MasterSettings}
@@ -96,15 +96,6 @@ abbrev pub judged_contents : Command → List ℕ → Option Code → Verdict
 judged_contents c load None = Valid c load
 judged_contents c load (Some found) = Wrong found
 
--- the code of the first of these tests of a session that a frame fails: whether its command is allowed, its connection id is
--- right, and its CRCs fit
-abbrev pub session_fault : Bool → Bool → Bool → Option Code
-session_fault is_allowed has_conn_id does_fit =
-    if not is_allowed then Some (code 0x01)
-    else if not has_conn_id then Some (code 0x03)
-    else if not does_fit then Some (code 0x04)
-    else None
-
 -- the tests of a session, at the end that these deeds leave
 abbrev pub fault_after : Setup → List Deed → SessionFrameView → Option Code
 fault_after s e f = session_fault (allowed s e f.command) (has_conn s e f.command f.frame.conn) (fits s (since e) f.frame)
@@ -120,11 +111,6 @@ judged s e (opened_as.Drop why) = Drop why
 judged s e (opened_as.Refuse found) = Refused found
 judged s e (opened_as.ResetFrame said f) = Valid command.Reset f.load
 judged s e (opened_as.OfSession f) = judged_session s e f (fault_after s e f)
-
--- whether these are the bytes of the frame that is kept as taken last
-abbrev pub is_repeat : Option (List ℕ) → List ℕ → Bool
-is_repeat None bytes = false
-is_repeat (Some last) bytes = pointwise nat_eq last bytes
 
 -- the first of the tests that these bytes fail: those that need no session, the length, the repeat, the command and what a
 -- Reset frame says; then those of the session, and the contents

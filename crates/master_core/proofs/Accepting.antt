@@ -29,24 +29,24 @@ use Rattle.master_core.specs.Master.{Accepted, drops, makes_due, settles, refuse
 use Rattle.master_core.specs.MasterView.{MasterView}
 use Rattle.master_core.specs.Now.{is_reset, is_due, kept_in, fault, next_state}
 use Rattle.master_core.specs.States.{answered, session_by, connection_by, parameter_by}
-use Rattle.master_core.specs.Views.{ExchangeView}
+use Rattle.master_core.specs.declared.states.Exchange.{Exchange}
 
 -- a kit with another offer and another nonce
 abbrev with_both : KitView → OfferView → ℕ → KitView
 with_both k o n = record { settings = k.settings; offer = o; nonce = n }
 
 -- what a frame leads to doesn't depend on them
-session-with : (r : Result Progress Code) (k : KitView) (o : OfferView) (n : ℕ) (x : ExchangeView) → session_by r (with_both k o n) x ≡ session_by r k x
+session-with : (r : Result Progress Code) (k : KitView) (o : OfferView) (n : ℕ) (x : Exchange) → session_by r (with_both k o n) x ≡ session_by r k x
 session-with (Err e) k o n x = refl
 session-with (Ok progress.More) k o n x = refl
 session-with (Ok progress.Whole) k o n x = refl
 
-connection-with : (r : Result Progress Code) (k : KitView) (o : OfferView) (n : ℕ) (x : ExchangeView) → connection_by r (with_both k o n) x ≡ connection_by r k x
+connection-with : (r : Result Progress Code) (k : KitView) (o : OfferView) (n : ℕ) (x : Exchange) → connection_by r (with_both k o n) x ≡ connection_by r k x
 connection-with (Err e) k o n x = refl
 connection-with (Ok progress.More) k o n x = refl
 connection-with (Ok progress.Whole) k o n x = refl
 
-parameter-with : (r : Result Progress Code) (k : KitView) (o : OfferView) (n : ℕ) (x : ExchangeView) → parameter_by r (with_both k o n) x ≡ parameter_by r k x
+parameter-with : (r : Result Progress Code) (k : KitView) (o : OfferView) (n : ℕ) (x : Exchange) → parameter_by r (with_both k o n) x ≡ parameter_by r k x
 parameter-with (Err e) k o n x = refl
 parameter-with (Ok progress.More) k o n x = refl
 parameter-with (Ok progress.Whole) k o n x = refl

@@ -5,7 +5,6 @@ pub mod Arrived
 pub mod Began
 pub mod Calls
 pub mod Law
-pub mod Passed
 pub mod Pieces
 pub mod SameVerdict
 pub mod ShownDue

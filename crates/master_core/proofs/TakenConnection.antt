@@ -20,7 +20,7 @@ use Rattle.master_core.specs.declared.now.Now.TheVariants as now
 use Rattle.master_core.specs.Master.{Outcome, settles, answered_by}
 use Rattle.master_core.specs.Now.{next_state}
 use Rattle.master_core.specs.States.{answered, connection_by}
-use Rattle.master_core.specs.Views.{ExchangeView}
+use Rattle.master_core.specs.declared.states.Exchange.{Exchange}
 use Rattle.master_core.specs.ViewOf.{notes_of, kit_of, exchange_of, now_in, view_in}
 use Rattle.master_core.proofs.Sound.{OfConnection, Sound}
 use Rattle.master_core.proofs.Pieces.{some_piece, piece_own, next_place}
@@ -41,7 +41,7 @@ abbrev id_of : MasterSettings → List Deed → ℕ
 id_of ms e = 0
 
 -- the phase before the frame, and after its answer
-abbrev before : MasterSettings → List Deed → ExchangeView
+abbrev before : MasterSettings → List Deed → Exchange
 before ms e = exchange_of ms (notes_of ms e) (payload ms (id_of ms e)) true (notes_of ms e).connection
 
 -- the next piece in a frame

@@ -21,8 +21,8 @@ use Rattle.master_core.specs.declared.now.Now.TheVariants as now
 use Rattle.master_core.specs.Master.{Outcome, settles, answered_by}
 use Rattle.master_core.specs.MasterView.{MasterView}
 use Rattle.master_core.specs.States.{data_answered}
-use Rattle.master_core.specs.Views.{DataView}
-use Rattle.master_core.specs.ViewOf.{notes_of, kit_of, view_in}
+use Rattle.master_core.specs.declared.states.InData.{InData}
+use Rattle.master_core.specs.ViewOf.{session_of, notes_of, kit_of, view_in}
 use Rattle.master_core.proofs.Sound.{Sound}
 use Rattle.master_core.proofs.SameVerdict.{came}
 use Rattle.master_core.proofs.Agrees.{Agrees, master_at, same_master, resets-agree}
@@ -38,7 +38,7 @@ use Rattle.param_load.specs.MasterSettings.{terms_of}
 
 -- state Data by its parts
 pub same_data : (t : Terms) (c c' : Chain) (o o' l l' : List ℕ) → c ≡ c' → o ≡ o' → l ≡ l'
-    → now.Data (record { chain = c; terms = t; outputs = o; last = l }) ≡ now.Data (record { chain = c'; terms = t; outputs = o'; last = l' })
+    → now.Data (record { session = record { chain = c; last = l }; terms = t; outputs = o }) ≡ now.Data (record { session = record { chain = c'; last = l' }; terms = t; outputs = o' })
 same_data t c c' o o' l l' h j g = rw (h, j, g) refl
 
 -- a data frame is the offer, or zeros while the master is held
@@ -61,7 +61,7 @@ data_sent ms e bytes command.ProcessData r s = by-held ms e bytes (held e) (leng
 abbrev gone_on : MasterSettings → List Deed → List ℕ → Command → Command → List ℕ → MasterView
 gone_on ms e bytes c c2 load =
     master_at (kit_of ms e)
-    (now.Data (record { chain = next_chain ms e bytes ms.conn c2 load; terms = terms_of ms; outputs = outputs_of c (came ms bytes).load; last = bytes_of (came ms bytes) }))
+    (now.Data (record { session = record { chain = next_chain ms e bytes ms.conn c2 load; last = bytes_of (came ms bytes) }; terms = terms_of ms; outputs = outputs_of c (came ms bytes).load }))
     ms.watchdog 0
 
 -- what holds after a data frame that is answered by one with this command and load
@@ -94,8 +94,8 @@ abbrev seen : MasterSettings → List ℕ → Command → SessionFrameView
 seen ms bytes c = record { command = c; frame = came ms bytes }
 
 -- state Data before the frame
-abbrev before : MasterSettings → List Deed → DataView
-before ms e = record { chain = (notes_of ms e).chain; terms = terms_of ms; outputs = (notes_of ms e).outputs; last = unwrap_or (notes_of ms e).kept [] }
+abbrev before : MasterSettings → List Deed → InData
+before ms e = record { session = session_of (notes_of ms e); terms = terms_of ms; outputs = (notes_of ms e).outputs }
 
 abbrev data_outcome : MasterSettings → List Deed → List ℕ → Command → Bool → Outcome
 data_outcome ms e bytes c b = answered_by (settles (view_in state.Data ms e) (seen ms bytes c) (if b then Ok (next.Data (data_answered (before ms e) (seen ms bytes c))) else Err (code 0x07)))

@@ -22,7 +22,7 @@ use Rattle.master_core.specs.declared.now.Now.TheVariants as now
 use Rattle.master_core.specs.Master.{Outcome, settles, answered_by}
 use Rattle.master_core.specs.Now.{next_state}
 use Rattle.master_core.specs.States.{answered, parameter_by}
-use Rattle.master_core.specs.Views.{ExchangeView}
+use Rattle.master_core.specs.declared.states.Exchange.{Exchange}
 use Rattle.master_core.specs.ViewOf.{notes_of, kit_of, exchange_of, now_in, view_in}
 use Rattle.master_core.proofs.Sound.{OfParameter, Sound}
 use Rattle.master_core.proofs.Pieces.{some_piece, piece_own, next_place}
@@ -47,7 +47,7 @@ abbrev id_of : MasterSettings → List Deed → ℕ
 id_of ms e = 0
 
 -- the phase before the frame, and after its answer
-abbrev before : MasterSettings → List Deed → ExchangeView
+abbrev before : MasterSettings → List Deed → Exchange
 before ms e = exchange_of ms (notes_of ms e) (payload ms (id_of ms e)) true (notes_of ms e).parameter
 
 -- the next piece in a frame
@@ -96,10 +96,9 @@ entered : (ms : MasterSettings) (e : List Deed) (bytes : List ℕ) (held : Bool)
     → After ms e bytes command.Parameter (next_frame ms e bytes ms.conn (if held then command.FailSafeData else command.ProcessData) (if held then replicate ms.lengths.master 0 else load))
     (master_at (kit_of ms e)
     (now.Data (record {
-      chain = next_chain ms e bytes ms.conn (if held then command.FailSafeData else command.ProcessData) (if held then replicate ms.lengths.master 0 else load);
+      session = record { chain = next_chain ms e bytes ms.conn (if held then command.FailSafeData else command.ProcessData) (if held then replicate ms.lengths.master 0 else load); last = bytes_of (came ms bytes) };
       terms = terms_of ms;
       outputs = replicate ms.lengths.slave 0;
-      last = bytes_of (came ms bytes);
     }))
     ms.watchdog 0)
 entered ms e bytes true load h a s = record {
@@ -117,10 +116,9 @@ begins-next ms e bytes h a s =
     (next_frame ms e bytes ms.conn (data_command (kit_of ms e).offer) (if held e then replicate n 0 else offer (OfMaster ms) e))
     (master_at (kit_of ms e)
     (now.Data (record {
-      chain = next_chain ms e bytes ms.conn (data_command (kit_of ms e).offer) (if held e then replicate n 0 else offer (OfMaster ms) e);
+      session = record { chain = next_chain ms e bytes ms.conn (data_command (kit_of ms e).offer) (if held e then replicate n 0 else offer (OfMaster ms) e); last = bytes_of (came ms bytes) };
       terms = terms_of ms;
       outputs = replicate ms.lengths.slave 0;
-      last = bytes_of (came ms bytes);
     }))
     ms.watchdog 0))
     (sym s.offer_len) (entered ms e bytes (held e) (offer (OfMaster ms) e) s.offer_len a s)

@@ -12,7 +12,7 @@ use Rattle.end_model.specs.Deed.{Deed}
 use Rattle.end_model.specs.Step.{takes_frame, deed_of}
 use Rattle.master_core.specs.Master.{Outcome}
 use Rattle.master_core.specs.MasterView.{MasterView}
-use Rattle.master_core.specs.Views.{ExchangeView}
+use Rattle.master_core.specs.declared.states.Exchange.{Exchange}
 use Rattle.master_core.specs.ViewOf.{view_of}
 use Rattle.master_core.proofs.Sound.{Sound}
 use Rattle.master_core.proofs.Pieces.{more_pieces}
@@ -36,8 +36,8 @@ takes-agree ms e bytes c o done d i = record {
 }
 
 -- a phase by its parts
-abbrev pub exchange_at : Chain → List ℕ → ℕ → Bool → ℕ → List ℕ → ExchangeView
-exchange_at chain payload piece echo from last = record { chain = chain; download = record { payload = payload; piece = piece; echo = echo; from = from }; last = last }
+abbrev pub exchange_at : Chain → List ℕ → ℕ → Bool → ℕ → List ℕ → Exchange
+exchange_at chain payload piece echo from last = record { session = record { chain = chain; last = last }; download = record { payload = payload; piece = piece; echo = echo; from = from } }
 
 pub same_exchange : (c c' : Chain) (u u' : List ℕ) (k : ℕ) (b : Bool) (f f' : ℕ) (l l' : List ℕ) → c ≡ c' → u ≡ u' → f ≡ f' → l ≡ l' → exchange_at c u k b f l ≡ exchange_at c' u' k b f' l'
 same_exchange c c' u u' k b f f' l l' h i j g = rw (h, i, j, g) refl

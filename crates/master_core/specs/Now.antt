@@ -7,14 +7,16 @@ use Rattle.fsoe_base.specs.declared.command.State.{State}
 use Rattle.fsoe_base.specs.declared.command.State.TheVariants as state
 use Rattle.fsoe_base.specs.Command.{code}
 use Rattle.seq_chain.specs.declared.chain.Chain.{Chain}
-use Rattle.seq_chain.specs.Chain.{fits_next, fresh}
+use Rattle.seq_chain.specs.declared.session.Session.{Session}
+use Rattle.seq_chain.specs.Chain.{fits_next}
 use Rattle.seq_chain.specs.Reset.{reset_frame}
+use Rattle.seq_chain.specs.Session.{chain_in, last_in, session_fault}
 use Rattle.seq_chain.specs.SessionFrame.{SessionFrameView}
 use Rattle.param_load.specs.declared.master_settings.MasterSettings.{MasterSettings}
 use Rattle.param_load.specs.declared.terms.Terms.{Terms}
 use Rattle.end_model.specs.Setup.{OfMaster, sends, receives}
 use Rattle.end_model.specs.Readiness.{master_allows}
-use Rattle.end_model.specs.Verdict.{has_conn, session_fault}
+use Rattle.end_model.specs.Verdict.{has_conn}
 use Rattle.master_core.specs.declared.due.Next.{Next}
 use Rattle.master_core.specs.declared.due.Next.TheVariants as next
 use Rattle.master_core.specs.declared.now.Now.{Now}
@@ -69,21 +71,21 @@ state_of (now.Parameter s) = state.Parameter
 state_of (now.Data s) = state.Data
 state_of (now.Due due) = state_of_next due.next
 
+-- the session: none in state Reset, and none that a frame is tested in while one is due
+abbrev pub session_of : Now → Option Session
+session_of (now.Session s) = Some s.session
+session_of (now.Connection s) = Some s.session
+session_of (now.Parameter s) = Some s.session
+session_of (now.Data s) = Some s.session
+session_of _ = None
+
 -- the frame that is kept as the one taken last: none in state Reset
 abbrev pub kept_in : Now → Option (List ℕ)
-kept_in (now.Session s) = Some s.last
-kept_in (now.Connection s) = Some s.last
-kept_in (now.Parameter s) = Some s.last
-kept_in (now.Data s) = Some s.last
-kept_in _ = None
+kept_in now = last_in (session_of now)
 
 -- the chain of the session, a new one in state Reset
 abbrev pub chain_of : Now → Chain
-chain_of (now.Session s) = s.chain
-chain_of (now.Connection s) = s.chain
-chain_of (now.Parameter s) = s.chain
-chain_of (now.Data s) = s.chain
-chain_of _ = fresh
+chain_of now = chain_in (session_of now)
 
 -- the commands of a session that are allowed: that of the phase, and none while a frame is due
 abbrev pub allows : Now → Command → Bool

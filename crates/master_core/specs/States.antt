@@ -3,8 +3,8 @@ use Rattle.std.specs.Prelude.{ℕ, List, Result, Ok, Err, replicate, if◌then�
 use Rattle.fsoe_base.specs.declared.command.Code.{Code}
 use Rattle.fsoe_base.specs.declared.command.Command.{Command}
 use Rattle.fsoe_base.specs.Command.{code}
-use Rattle.fsoe_frame.specs.Parts.{bytes_of}
-use Rattle.seq_chain.specs.Chain.{after_taken, fresh, chain_sent, frame_sent}
+use Rattle.seq_chain.specs.Chain.{frame_sent}
+use Rattle.seq_chain.specs.Session.{first_session, session_taken, session_sent}
 use Rattle.seq_chain.specs.SessionFrame.{SessionFrameView}
 use Rattle.param_load.specs.declared.upload.Progress.{Progress}
 use Rattle.param_load.specs.declared.upload.Progress.TheVariants as progress
@@ -17,90 +17,91 @@ use Rattle.failsafe_io.specs.Offer.{data_command, data_load}
 use Rattle.failsafe_io.specs.Outputs.{outputs_of}
 use Rattle.end_model.specs.Setup.{OfMaster, sends, receives}
 use Rattle.master_core.specs.declared.states.InReset.{InReset}
+use Rattle.master_core.specs.declared.states.Exchange.{Exchange}
+use Rattle.master_core.specs.declared.states.InData.{InData}
 use Rattle.master_core.specs.declared.due.Next.{Next}
 use Rattle.master_core.specs.declared.due.Next.TheVariants as next
 use Rattle.master_core.specs.Kit.{KitView, session_download, connection_download, parameter_download}
-use Rattle.master_core.specs.Views.{ExchangeView, DataView}
 
 -- state Reset keeps nothing
 abbrev pub no_session : InReset
 no_session = record { private = tt }
 
 -- the safe data of the frame with the piece in turn
-abbrev pub piece_load : KitView → ExchangeView → List ℕ
+abbrev pub piece_load : KitView → Exchange → List ℕ
 piece_load kit x = padded (piece_in_turn x.download) (sends (OfMaster kit.settings))
 
 -- a phase after the frame with the piece in turn is sent
-abbrev pub piece_sent : Command → ℕ → KitView → ExchangeView → ExchangeView
-piece_sent cmd conn kit x = record x { chain = chain_sent x.chain conn cmd (piece_load kit x) }
+abbrev pub piece_sent : Command → ℕ → KitView → Exchange → Exchange
+piece_sent cmd conn kit x = record x { session = session_sent x.session conn cmd (piece_load kit x) }
 
 -- the frame with the piece in turn
-abbrev pub piece_frame : Command → ℕ → KitView → ExchangeView → List ℕ
-piece_frame cmd conn kit x = frame_sent x.chain conn cmd (piece_load kit x)
+abbrev pub piece_frame : Command → ℕ → KitView → Exchange → List ℕ
+piece_frame cmd conn kit x = frame_sent x.session.chain conn cmd (piece_load kit x)
 
 -- a session begins with the session id's first piece; the Reset frame that answered the master's is kept
-abbrev pub first_exchange : KitView → List ℕ → ExchangeView
-first_exchange kit last = record { chain = fresh; download = session_download kit; last = last }
+abbrev pub first_exchange : KitView → List ℕ → Exchange
+first_exchange kit last = record { session = record first_session { last = last }; download = session_download kit }
 
 -- a phase after the piece in turn was answered
-abbrev pub answered : ExchangeView → SessionFrameView → ExchangeView
-answered x f = record { chain = after_taken x.chain f.frame; download = advanced x.download; last = bytes_of f.frame }
+abbrev pub answered : Exchange → SessionFrameView → Exchange
+answered x f = record { session = session_taken x.session f; download = advanced x.download }
 
 -- the next phase with its download
-abbrev pub with_download : ExchangeView → DownloadView → ExchangeView
+abbrev pub with_download : Exchange → DownloadView → Exchange
 with_download x d = record x { download = d }
 
 -- state Data as it is entered
-abbrev pub first_data : KitView → ExchangeView → DataView
-first_data kit x = record { chain = x.chain; terms = terms_of kit.settings; outputs = replicate (receives (OfMaster kit.settings)) 0; last = x.last }
+abbrev pub first_data : KitView → Exchange → InData
+first_data kit x = record { session = x.session; terms = terms_of kit.settings; outputs = replicate (receives (OfMaster kit.settings)) 0 }
 
 -- by what the download said of an answer, Session goes on, or Connection begins where the session id is whole
-abbrev pub session_by : Result Progress Code → KitView → ExchangeView → Result Next Code
+abbrev pub session_by : Result Progress Code → KitView → Exchange → Result Next Code
 session_by (Err x) kit e = Err x
 session_by (Ok progress.More) kit e = Ok (next.Session e)
 session_by (Ok progress.Whole) kit e = Ok (next.Connection (with_download e (connection_download kit.settings)))
 
 -- what an answer in Session leads to
-abbrev pub session_next : KitView → ExchangeView → SessionFrameView → Result Next Code
+abbrev pub session_next : KitView → Exchange → SessionFrameView → Result Next Code
 session_next kit x f = session_by (outcome x.download f.frame.load) kit (answered x f)
 
 -- in the same way Connection goes on, or Parameter begins
-abbrev pub connection_by : Result Progress Code → KitView → ExchangeView → Result Next Code
+abbrev pub connection_by : Result Progress Code → KitView → Exchange → Result Next Code
 connection_by (Err x) kit e = Err x
 connection_by (Ok progress.More) kit e = Ok (next.Connection e)
 connection_by (Ok progress.Whole) kit e = Ok (next.Parameter (with_download e (parameter_download kit.settings)))
 
 -- what an answer in Connection leads to
-abbrev pub connection_next : KitView → ExchangeView → SessionFrameView → Result Next Code
+abbrev pub connection_next : KitView → Exchange → SessionFrameView → Result Next Code
 connection_next kit x f = connection_by (outcome x.download f.frame.load) kit (answered x f)
 
 -- in the same way Parameter goes on, or Data begins
-abbrev pub parameter_by : Result Progress Code → KitView → ExchangeView → Result Next Code
+abbrev pub parameter_by : Result Progress Code → KitView → Exchange → Result Next Code
 parameter_by (Err x) kit e = Err x
 parameter_by (Ok progress.More) kit e = Ok (next.Parameter e)
 parameter_by (Ok progress.Whole) kit e = Ok (next.Data (first_data kit e))
 
 -- what an answer in Parameter leads to
-abbrev pub parameter_next : KitView → ExchangeView → SessionFrameView → Result Next Code
+abbrev pub parameter_next : KitView → Exchange → SessionFrameView → Result Next Code
 parameter_next kit x f = parameter_by (outcome x.download f.frame.load) kit (answered x f)
 
 -- state Data after a data frame of the slave
-abbrev pub data_answered : DataView → SessionFrameView → DataView
-data_answered s f = record { chain = after_taken s.chain f.frame; terms = s.terms; outputs = outputs_of f.command f.frame.load; last = bytes_of f.frame }
+abbrev pub data_answered : InData → SessionFrameView → InData
+data_answered s f = record s { session = session_taken s.session f; outputs = outputs_of f.command f.frame.load }
 
 -- what a data frame of the slave leads to: state Data goes on, and FailSafeData with other data than zeros has code 07h
-abbrev pub data_next : DataView → SessionFrameView → Result Next Code
+abbrev pub data_next : InData → SessionFrameView → Result Next Code
 data_next s f = if data_holds f.command f.frame.load then Ok (next.Data (data_answered s f)) else Err (code 0x07)
 
 -- a state that went on in place
-abbrev pub in_place : Result (Unit {0}) Code → DataView → Result Next Code
+abbrev pub in_place : Result (Unit {0}) Code → InData → Result Next Code
 in_place (Ok done) s = Ok (next.Data s)
 in_place (Err x) s = Err x
 
 -- state Data after a data frame is sent
-abbrev pub data_sent : KitView → DataView → DataView
-data_sent kit s = record s { chain = chain_sent s.chain s.terms.conn (data_command kit.offer) (data_load kit.offer) }
+abbrev pub data_sent : KitView → InData → InData
+data_sent kit s = record s { session = session_sent s.session s.terms.conn (data_command kit.offer) (data_load kit.offer) }
 
 -- that data frame: it carries the offer, or zeros while the master is held
-abbrev pub data_frame : KitView → DataView → List ℕ
-data_frame kit s = frame_sent s.chain s.terms.conn (data_command kit.offer) (data_load kit.offer)
+abbrev pub data_frame : KitView → InData → List ℕ
+data_frame kit s = frame_sent s.session.chain s.terms.conn (data_command kit.offer) (data_load kit.offer)

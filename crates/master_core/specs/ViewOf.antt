@@ -3,6 +3,7 @@ use Rattle.std.specs.Prelude.{ℕ, ◌-◌, ◌*◌, Bool, true, false, List, []
 use Rattle.fsoe_base.specs.declared.command.State.{State}
 use Rattle.fsoe_base.specs.declared.command.State.TheVariants as state
 use Rattle.seq_chain.specs.declared.chain.Chain.{Chain}
+use Rattle.seq_chain.specs.declared.session.Session.{Session}
 use Rattle.param_load.specs.declared.master_settings.MasterSettings.{MasterSettings}
 use Rattle.end_model.specs.Setup.{OfMaster, piece_len}
 use Rattle.end_model.specs.Deed.{Deed}
@@ -12,10 +13,10 @@ use Rattle.end_model.specs.Readiness.{state_of, offer, held, ticks}
 use Rattle.end_model.specs.Outputs.{outputs}
 use Rattle.master_core.specs.declared.now.Now.{Now}
 use Rattle.master_core.specs.declared.now.Now.TheVariants as now
+use Rattle.master_core.specs.declared.states.Exchange.{Exchange}
 use Rattle.master_core.specs.Kit.{KitView}
 use Rattle.master_core.specs.MasterView.{MasterView}
 use Rattle.master_core.specs.States.{no_session}
-use Rattle.master_core.specs.Views.{ExchangeView}
 
 -- the offer, the hold and the nonce outlast sessions
 abbrev pub kit_of : MasterSettings → List Deed → KitView
@@ -43,12 +44,15 @@ notes_of ms e = record {
   outputs = outputs (OfMaster ms) e;
 }
 
+-- the session that is noted
+abbrev pub session_of : Notes → Session
+session_of n = record { chain = n.chain; last = unwrap_or n.kept [] }
+
 -- a phase with this payload of which so many frames were sent: the piece of the last one is in turn
-abbrev pub exchange_of : MasterSettings → Notes → List ℕ → Bool → ℕ → ExchangeView
+abbrev pub exchange_of : MasterSettings → Notes → List ℕ → Bool → ℕ → Exchange
 exchange_of ms n payload echo count = record {
-  chain = n.chain;
+  session = session_of n;
   download = record { payload = payload; piece = piece_len (OfMaster ms); echo = echo; from = (count - 1) * piece_len (OfMaster ms) };
-  last = unwrap_or n.kept [];
 }
 
 -- the machine's state in each state, by what is noted
@@ -57,7 +61,7 @@ now_in state.Reset ms n = now.Reset no_session
 now_in state.Session ms n = now.Session (exchange_of ms n (pay ms (unwrap_or n.id 0) state.Session) false n.session)
 now_in state.Connection ms n = now.Connection (exchange_of ms n (pay ms 0 state.Connection) true n.connection)
 now_in state.Parameter ms n = now.Parameter (exchange_of ms n (pay ms 0 state.Parameter) true n.parameter)
-now_in state.Data ms n = now.Data (record { chain = n.chain; terms = terms (OfMaster ms) []; outputs = n.outputs; last = unwrap_or n.kept [] })
+now_in state.Data ms n = now.Data (record { session = session_of n; terms = terms (OfMaster ms) []; outputs = n.outputs })
 
 -- a master in this state after these deeds
 abbrev pub view_in : State → MasterSettings → List Deed → MasterView

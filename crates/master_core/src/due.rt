@@ -13,7 +13,7 @@ use seq_chain::reset_frame;
 
 /// The state after a step whose frame is still to be sent. Only `reply` leads on from it.
 #[derive(Debug, Drop)]
-pub struct Due {
+pub(crate) struct Due {
     next: Next,
 }
 
@@ -58,7 +58,7 @@ impl Due {
         ensures { option_copied result ≡ terms_shown_in_next self.now.next }
     {
         match &self.next {
-            Next::Data(state) => Some(state.terms()),
+            Next::Data(state) => Some(&state.terms),
             _ => None,
         }
     }
@@ -71,7 +71,7 @@ impl Due {
         ensures most { length result.now ≤ 126 }
     {
         match &self.next {
-            Next::Data(state) => state.outputs(),
+            Next::Data(state) => state.outputs.bytes(),
             _ => zeros(kit.settings().peer_len()),
         }
     }

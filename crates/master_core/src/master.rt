@@ -35,11 +35,11 @@ impl Model for Master {
 impl Master {
     ghost use Rattle.std.specs.Prelude.{◌≡◌, ◌≤◌, ◌||◌, ℕ, List, false, IsTrue, is_some, length, [], option_copied};
     ghost use Rattle.param_load.specs.Profile.{allows_id};
-    ghost use Rattle.master_core.specs.Master.{makes_due, ends, refuses, on_reset_view, settles, accepted, replies, on_frame, falls, tick_of};
+    ghost use Rattle.master_core.specs.Master.{makes_due, ends, refuses, on_reset_view, settles, accepted_by, accepted, replies, on_frame, falls, tick_of};
     ghost use Rattle.master_core.specs.Now.{NextUnder, chain_of, is_due, next_state, reply};
     ghost use Rattle.param_load.specs.declared.entry.Move.TheVariants as event;
-    ghost use Rattle.seq_chain.specs.SessionFrame.{HasPassed};
-    ghost use Rattle.seq_chain.specs.Tested.{Notes};
+    ghost use Rattle.seq_chain.specs.Opened.{HasLen};
+    ghost use Rattle.seq_chain.specs.Session.{HasPassed};
     ghost use Rattle.end_model.specs.Setup.{OfMaster, sends, receives};
     ghost use Rattle.end_model.specs.Readiness as model;
     ghost use Rattle.end_model.specs.Outputs.{out};
@@ -92,6 +92,7 @@ impl Master {
     fn refuse(&mut self, code: Code) -> Did
         ensures master { self.new ≡ (refuses self.old code).master }
         ensures did { result ≡ (refuses self.old code).did }
+        ensures kit { self.new.kit ≡ self.old.kit }
     {
         if self.state.is_reset() {
             return Did::dropped(Dropped::InReset);
@@ -128,8 +129,7 @@ impl Master {
 
     /// Takes a frame that passed the tests, with what the chain notes of it, unless its contents are wrong.
     fn take(&mut self, seen: &SessionFrame<'_>, link: Link) -> Did
-        requires passed { HasPassed (receives (OfMaster self.old.kit.settings)) (chain_of self.old.state) seen.now }
-        requires noted { Notes (chain_of self.old.state) seen.now.frame link }
+        requires passed { HasPassed (receives (OfMaster self.old.kit.settings)) (chain_of self.old.state) seen.now link }
         ensures master { self.new ≡ (settles self.old seen.now (next_state self.old.kit self.old.state seen.now)).master }
         ensures did { result ≡ (settles self.old seen.now (next_state self.old.kit self.old.state seen.now)).did }
         ensures kit { self.new.kit ≡ self.old.kit }
@@ -148,17 +148,15 @@ impl Master {
         }
     }
 
-    /// Tests a frame and takes it, or drops it, or leaves the session.
-    #[inline(never)]
-    fn receive(&mut self, frame: &[u8]) -> Did
-        requires { is_due self.old.state ≡ false }
-        ensures master { self.new ≡ (accepted self.old frame.now).master }
-        ensures did { result ≡ (accepted self.old frame.now).did }
+    /// Takes a frame, drops it, or leaves the session, by what the tests that need no session say of the frame.
+    fn settle(&mut self, opened: Opened<'_>) -> Did
+        requires len { HasLen (receives (OfMaster self.old.kit.settings)) opened }
+        ensures master { self.new ≡ (accepted_by self.old opened.entry).master }
+        ensures did { result ≡ (accepted_by self.old opened.entry).did }
         ensures kit { self.new.kit ≡ self.old.kit }
         ensures unsent { result.sent ≡ false }
     {
-        let repeats = self.state.is_repeat(frame);
-        match open(frame, self.kit.settings().peer_len(), repeats) {
+        match opened {
             Opened::Drop(why) => Did::dropped(why),
             Opened::Refuse(code) => self.refuse(code),
             Opened::ResetFrame(code, view) => self.acknowledge(code, &view),
@@ -172,6 +170,20 @@ impl Master {
                 }
             }
         }
+    }
+
+    /// Tests a frame and takes it, or drops it, or leaves the session.
+    #[inline(never)]
+    fn receive(&mut self, frame: &[u8]) -> Did
+        requires { is_due self.old.state ≡ false }
+        ensures master { self.new ≡ (accepted self.old frame.now).master }
+        ensures did { result ≡ (accepted self.old frame.now).did }
+        ensures kit { self.new.kit ≡ self.old.kit }
+        ensures unsent { result.sent ≡ false }
+    {
+        let repeats = self.state.is_repeat(frame);
+        let opened = open(frame, self.kit.settings().peer_len(), repeats);
+        self.settle(opened)
     }
 
     /// Accepts a frame of the slave, of any number of bytes, while no frame is due. A frame of another length, or
@@ -220,6 +232,20 @@ impl Master {
         self.send(out);
     }
 
+    /// Sends the frame that is due after a frame was accepted, if one is.
+    #[inline(never)]
+    fn send_after(&mut self, mut did: Did, out: &mut FrameBuf) -> Did
+        ensures master { self.new ≡ replies self.old }
+        ensures did { result ≡ record did { sent = is_due self.old.state } }
+        ensures sent { out.new ≡ reply self.old.kit self.old.state }
+        ensures kit { self.new.kit ≡ self.old.kit }
+        ensures done { is_due self.new.state ≡ false }
+    {
+        did.sent = self.due();
+        self.send(out);
+        did
+    }
+
     /// Tests a frame, and sends the frame that is due then. In state Data a data frame that passes all tests goes on in
     /// place, so that it doesn't bear the cost of a move of the state.
     #[inline(never)]
@@ -231,12 +257,14 @@ impl Master {
         ensures kit { self.new.kit ≡ self.old.kit }
         ensures done { is_due self.new.state ≡ false }
     {
-        if !matches!(self.state, Now::Data(_)) {
-            return self.exchange_by_move(frame, out);
-        }
         let repeats = self.state.is_repeat(frame);
-        let Opened::OfSession(unread) = open(frame, self.kit.settings().peer_len(), repeats) else {
-            return self.exchange_by_move(frame, out);
+        // Each answer is returned where it is made: a value that joins several is moved once more.
+        let unread = match open(frame, self.kit.settings().peer_len(), repeats) {
+            Opened::OfSession(unread) => unread,
+            opened => {
+                let did = self.settle(opened);
+                return self.send_after(did, out);
+            }
         };
         let mut took = Took {
             command: unread.command(),
@@ -244,40 +272,29 @@ impl Master {
         };
         unread.load_into(&mut took.load);
         let seen = SessionFrame::new(unread, &took.load);
-        let Ok(link) = self.state.test(self.kit.settings(), &seen) else {
-            return self.exchange_by_move(frame, out);
+        let link = match self.state.test(self.kit.settings(), &seen) {
+            Ok(link) => link,
+            Err(code) => {
+                let did = self.refuse(code);
+                return self.send_after(did, out);
+            }
         };
         let Now::Data(state) = &mut self.state else {
-            return self.exchange_by_move(frame, out);
+            let did = self.take(&seen, link);
+            return self.send_after(did, out);
         };
         match state.take(&seen, link, &self.kit) {
-            Err(_) => return self.exchange_by_move(frame, out),
             Ok(()) => {
                 state.send_next(&self.kit, out);
                 let limit = self.kit.settings().watchdog();
                 self.watchdog.restart(limit);
                 return Did::taken(took, true);
             }
+            Err(code) => {
+                let did = self.end(true, Cause::Found(code), code);
+                return self.send_after(did, out);
+            }
         }
-    }
-
-    /// The same by a move of the state.
-    #[inline(never)]
-    fn exchange_by_move(&mut self, frame: &[u8], out: &mut FrameBuf) -> Did
-        requires { is_due self.old.state ≡ false }
-        ensures master { self.new ≡ (on_frame self.old frame.now).master }
-        ensures did { result ≡ (on_frame self.old frame.now).did }
-        ensures sent { out.new ≡ (on_frame self.old frame.now).sent }
-        ensures kit { self.new.kit ≡ self.old.kit }
-        ensures done { is_due self.new.state ≡ false }
-    {
-        out.clear();
-        let mut did = self.receive(frame);
-        if self.due() {
-            self.send(out);
-            did.sent = true;
-        }
-        did
     }
 
     /// Accepts a frame while none is due, and writes the frame that is due then to `out`, in place of what it held;

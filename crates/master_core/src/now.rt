@@ -9,7 +9,7 @@ use crate::states::{InConnection, InData, InParameter, InReset, InSession};
 use failsafe_io::zeros;
 use fsoe_base::{Code, Command, FrameBuf, State};
 use param_load::{MasterSettings, Terms};
-use seq_chain::{Chain, Link, SessionFrame};
+use seq_chain::{Link, Session, SessionFrame, test_session};
 
 /// The state that a master is in. While a frame is due the state after it is wrapped in `Due`.
 #[derive(Debug, Drop)]
@@ -33,13 +33,12 @@ fn has_conn(settings: &MasterSettings, command: Command, field: u16) -> bool
 }
 
 impl Now {
-    ghost use Rattle.std.specs.Prelude.{◌≡◌, ◌≤◌, length, IfOk, option_copied};
+    ghost use Rattle.std.specs.Prelude.{◌≡◌, ◌≤◌, length, Some, IfOk, option_copied};
     ghost use Rattle.std.specs.Result.{result_err};
-    ghost use Rattle.seq_chain.specs.SessionFrame.{HasPassed};
-    ghost use Rattle.seq_chain.specs.Tested.{Notes};
+    ghost use Rattle.seq_chain.specs.Chain.{tested};
+    ghost use Rattle.seq_chain.specs.Session.{HasPassed, is_repeat};
     ghost use Rattle.end_model.specs.Setup.{OfMaster, receives};
-    ghost use Rattle.end_model.specs.Verdict.{is_repeat};
-    ghost use Rattle.master_core.specs.Now.{IsUnder, NextUnder, state_of, is_reset, is_due, chain_of, kept_in, allows, fault, next_state, replied, reply, outputs_in, terms_shown_in};
+    ghost use Rattle.master_core.specs.Now.{IsUnder, NextUnder, state_of, is_reset, is_due, session_of, chain_of, kept_in, allows, fault, next_state, replied, reply, outputs_in, terms_shown_in};
 
     /// The state; while a frame is due, that after it is sent.
     pub(crate) fn state(&self) -> State
@@ -68,17 +67,24 @@ impl Now {
         matches!(self, Now::Due(_))
     }
 
+    /// The session. There is none in state Reset, and none that a frame is tested in while one is due.
+    fn session(&self) -> Option<&Session>
+        ensures { option_copied result ≡ session_of self.now }
+    {
+        match self {
+            Now::Reset(_) | Now::Due(_) => None,
+            Now::Session(state) => Some(&state.exchange.session),
+            Now::Connection(state) => Some(&state.exchange.session),
+            Now::Parameter(state) => Some(&state.exchange.session),
+            Now::Data(state) => Some(&state.session),
+        }
+    }
+
     /// Whether these bytes are those of the frame that was taken last. In state Reset none is kept.
     pub(crate) fn is_repeat(&self, frame: &[u8]) -> bool
         ensures { result ≡ is_repeat (kept_in self.now) frame.now }
     {
-        match self {
-            Now::Reset(_) | Now::Due(_) => false,
-            Now::Session(state) => state.last() == frame,
-            Now::Connection(state) => state.last() == frame,
-            Now::Parameter(state) => state.last() == frame,
-            Now::Data(state) => state.last() == frame,
-        }
+        seq_chain::is_repeat(self.session(), frame)
     }
 
     /// Whether a command of a session is allowed.
@@ -95,48 +101,26 @@ impl Now {
         }
     }
 
-    /// The chain of the session, a new one in state Reset.
-    fn chain(&self) -> Chain
-        ensures { result ≡ chain_of self.now }
-    {
-        match self {
-            Now::Reset(_) | Now::Due(_) => Chain::new(),
-            Now::Session(state) => state.chain(),
-            Now::Connection(state) => state.chain(),
-            Now::Parameter(state) => state.chain(),
-            Now::Data(state) => state.chain(),
-        }
-    }
-
-    /// Tests a frame of a session: its command, its connection id, and its CRCs. It gives what the chain notes of the
-    /// frame when it is taken, or the code of the first test that fails.
+    /// Tests a frame of a session: its command, its connection id, and its CRCs. It gives what is noted of the frame when
+    /// it is taken, or the code of the first test that fails.
     pub(crate) fn test(
         &self,
         settings: &MasterSettings,
-        seen: &SessionFrame<'_>,
+        frame: &SessionFrame<'_>,
     ) -> Result<Link, Code>
-        ensures code { result_err result ≡ fault settings.now self.now seen.now }
-        ensures noted { IfOk result (λ link. Notes (chain_of self.now) seen.now.frame link) }
+        ensures code { result_err result ≡ fault settings.now self.now frame.now }
+        ensures link { IfOk result (λ link. tested (chain_of self.now) frame.now.frame ≡ Some link) }
     {
-        let conn = seen.conn();
-        if !self.allows(seen.command()) {
-            return Err(Code(0x01));
-        }
-        if !has_conn(settings, seen.command(), conn) {
-            return Err(Code(0x03));
-        }
-        match self.chain().test_load(seen.view(), conn, seen.load()) {
-            Some(link) => Ok(link),
-            None => Err(Code(0x04)),
-        }
+        let is_allowed = self.allows(frame.command());
+        let has_conn = has_conn(settings, frame.command(), frame.conn());
+        test_session(self.session(), is_allowed, has_conn, frame)
     }
 
     /// Takes a frame that passed the tests in this state, with what the chain notes of it, and gives what is to be sent
     /// next.
     pub(crate) fn take(self, seen: &SessionFrame<'_>, link: Link, kit: &Kit) -> Result<Next, Code>
         requires under { IsUnder kit.now.settings self }
-        requires passed { HasPassed (receives (OfMaster kit.now.settings)) (chain_of self) seen.now }
-        requires noted { Notes (chain_of self) seen.now.frame link }
+        requires passed { HasPassed (receives (OfMaster kit.now.settings)) (chain_of self) seen.now link }
         ensures next { result ≡ next_state kit.now self seen.now }
         ensures under { IfOk result (λ next. NextUnder kit.now.settings next) }
     {
@@ -173,7 +157,7 @@ impl Now {
         ensures { option_copied result ≡ terms_shown_in self.now }
     {
         match self {
-            Now::Data(state) => Some(state.terms()),
+            Now::Data(state) => Some(&state.terms),
             Now::Due(due) => due.terms(),
             _ => None,
         }
@@ -187,7 +171,7 @@ impl Now {
         ensures most { length result.now ≤ 126 }
     {
         match self {
-            Now::Data(state) => state.outputs(),
+            Now::Data(state) => state.outputs.bytes(),
             Now::Due(due) => due.outputs(kit),
             _ => zeros(kit.settings().peer_len()),
         }

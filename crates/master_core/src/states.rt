@@ -4,11 +4,10 @@
 ghost use Rattle.std.specs.Prelude.{◌≡◌, ◌≤◌, IfOk, OnOk, OnErr, length};
 ghost use Rattle.fsoe_base.specs.declared.command.Command.TheVariants as command;
 ghost use Rattle.param_load.specs.Download.{outcome};
-ghost use Rattle.seq_chain.specs.SessionFrame.{HasPassed};
-ghost use Rattle.seq_chain.specs.Tested.{Notes};
+ghost use Rattle.seq_chain.specs.Session.{HasPassed};
 ghost use Rattle.end_model.specs.Setup.{OfMaster, receives};
 ghost use Rattle.master_core.specs.Now.{NextUnder};
-ghost use Rattle.master_core.specs.States.{no_session, piece_sent, piece_frame, first_exchange, answered, with_download, first_data, session_next, connection_next, parameter_next, data_next, in_place, data_sent, data_frame};
+ghost use Rattle.master_core.specs.States.{no_session, piece_sent, piece_frame, first_exchange, answered, first_data, session_next, connection_next, parameter_next, data_next, in_place, data_sent, data_frame};
 ghost use Rattle.master_core.specs.Views.{ExchangeUnder, DataUnder};
 
 use crate::due::Next;
@@ -16,7 +15,7 @@ use crate::kit::Kit;
 use failsafe_io::{Outputs, data_holds};
 use fsoe_base::{Code, Command, FrameBuf};
 use param_load::{Download, Progress, Terms};
-use seq_chain::{Chain, Link, SessionFrame};
+use seq_chain::{Link, Session, SessionFrame};
 use std::marker::Model;
 
 /// No session.
@@ -28,90 +27,70 @@ pub struct InReset {
 /// A session in which session ids are exchanged.
 #[derive(Debug, Drop)]
 pub struct InSession {
-    exchange: Exchange,
+    pub(crate) exchange: Exchange,
 }
 
 /// A session in which the connection id and the slave's address are exchanged.
 #[derive(Debug, Drop)]
 pub struct InConnection {
-    exchange: Exchange,
+    pub(crate) exchange: Exchange,
 }
 
 /// A session in which the parameters are exchanged.
 #[derive(Debug, Drop)]
 pub struct InParameter {
-    exchange: Exchange,
+    pub(crate) exchange: Exchange,
 }
 
 /// A session in which data are exchanged under whole terms.
 #[derive(Debug, Drop)]
 pub struct InData {
-    chain: Chain,
-    terms: Terms,
-    outputs: Outputs,
-    last: FrameBuf,
+    pub(crate) session: Session,
+    pub(crate) terms: Terms,
+    pub(crate) outputs: Outputs,
 }
 
-/// A phase of a handshake: the chain of the session, the download of the phase, and the frame taken last.
+/// A phase of a handshake: the session, and the download of the phase.
 #[derive(Debug, Drop)]
-struct Exchange {
-    chain: Chain,
+pub(crate) struct Exchange {
+    pub(crate) session: Session,
     download: Download,
-    last: FrameBuf,
-}
-
-impl Model for Exchange {
-    ghost use Rattle.master_core.specs.Views.{ExchangeView};
-
-    ghost Value = { ExchangeView };
-
-    ghost view = { λ x. record { chain = x.chain; download = x.download; last = x.last } };
 }
 
 impl Model for InSession {
-    ghost use Rattle.master_core.specs.Views.{ExchangeView};
+    ghost use Rattle.master_core.specs.declared.states.Exchange.{Exchange};
 
-    ghost Value = { ExchangeView };
+    ghost Value = { Exchange };
 
     ghost view = { λ s. s.exchange };
 }
 
 impl Model for InConnection {
-    ghost use Rattle.master_core.specs.Views.{ExchangeView};
+    ghost use Rattle.master_core.specs.declared.states.Exchange.{Exchange};
 
-    ghost Value = { ExchangeView };
+    ghost Value = { Exchange };
 
     ghost view = { λ s. s.exchange };
 }
 
 impl Model for InParameter {
-    ghost use Rattle.master_core.specs.Views.{ExchangeView};
+    ghost use Rattle.master_core.specs.declared.states.Exchange.{Exchange};
 
-    ghost Value = { ExchangeView };
+    ghost Value = { Exchange };
 
     ghost view = { λ s. s.exchange };
-}
-
-impl Model for InData {
-    ghost use Rattle.master_core.specs.Views.{DataView};
-
-    ghost Value = { DataView };
-
-    ghost view = { λ s. record { chain = s.chain; terms = s.terms; outputs = s.outputs; last = s.last } };
 }
 
 impl Exchange {
     /// Takes the answer to the piece in turn. Refused with 07h where it isn't one; then the exchange is only left.
     fn take(&mut self, seen: &SessionFrame<'_>, link: Link, kit: &Kit) -> Result<Progress, Code>
         requires under { ExchangeUnder kit.now.settings self.old }
-        requires passed { HasPassed (receives (OfMaster kit.now.settings)) self.old.chain seen.now }
-        requires noted { Notes self.old.chain seen.now.frame link }
+        requires passed { HasPassed (receives (OfMaster kit.now.settings)) self.old.session.chain seen.now link }
         ensures outcome { result ≡ outcome self.old.download seen.now.frame.load }
         ensures taken { OnOk result (self.new ≡ answered self.old seen.now) }
     {
         let progress = self.download.check(seen.load())?;
-        self.chain.note(link);
-        self.last.set(seen.bytes());
+        self.session.take(seen, link);
         Ok(progress)
     }
 
@@ -122,23 +101,7 @@ impl Exchange {
         ensures sent { out.new ≡ piece_frame command conn kit.now self.old }
     {
         let load = self.download.load(kit.settings().own_len());
-        self.chain.seal(command, conn, load.bytes(), out);
-    }
-
-    /// The next phase, with this download.
-    fn with(self, download: Download) -> Exchange
-        ensures { result ≡ with_download self download }
-    {
-        let Exchange {
-            chain,
-            download: _,
-            last,
-        } = self;
-        Exchange {
-            chain,
-            download,
-            last,
-        }
+        self.session.seal(command, conn, load.bytes(), out);
     }
 }
 
@@ -159,9 +122,8 @@ impl InSession {
         ensures under { ExchangeUnder kit.now.settings result }
     {
         let exchange = Exchange {
-            chain: Chain::new(),
+            session: Session::after(last),
             download: kit.session_download(),
-            last,
         };
         InSession { exchange }.send(kit, out)
     }
@@ -186,32 +148,18 @@ impl InSession {
         kit: &Kit,
     ) -> Result<Next, Code>
         requires under { ExchangeUnder kit.now.settings self }
-        requires passed { HasPassed (receives (OfMaster kit.now.settings)) self.chain seen.now }
-        requires noted { Notes self.chain seen.now.frame link }
+        requires passed { HasPassed (receives (OfMaster kit.now.settings)) self.session.chain seen.now link }
         ensures next { result ≡ session_next kit.now self seen.now }
         ensures under { IfOk result (λ next. NextUnder kit.now.settings next) }
     {
         match self.exchange.take(seen, link, kit)? {
             Progress::More => Ok(Next::Session(self)),
             Progress::Whole => {
-                let InSession { exchange } = self;
-                let exchange = exchange.with(kit.connection_download());
+                let InSession { mut exchange } = self;
+                exchange.download = kit.connection_download();
                 Ok(Next::Connection(InConnection { exchange }))
             }
         }
-    }
-
-    pub(crate) fn chain(&self) -> Chain
-        ensures { result ≡ self.now.chain }
-    {
-        self.exchange.chain
-    }
-
-    /// The frame that was taken last.
-    pub(crate) fn last(&self) -> &[u8]
-        ensures { result.now ≡ self.now.last }
-    {
-        self.exchange.last.bytes()
     }
 }
 
@@ -237,32 +185,18 @@ impl InConnection {
         kit: &Kit,
     ) -> Result<Next, Code>
         requires under { ExchangeUnder kit.now.settings self }
-        requires passed { HasPassed (receives (OfMaster kit.now.settings)) self.chain seen.now }
-        requires noted { Notes self.chain seen.now.frame link }
+        requires passed { HasPassed (receives (OfMaster kit.now.settings)) self.session.chain seen.now link }
         ensures next { result ≡ connection_next kit.now self seen.now }
         ensures under { IfOk result (λ next. NextUnder kit.now.settings next) }
     {
         match self.exchange.take(seen, link, kit)? {
             Progress::More => Ok(Next::Connection(self)),
             Progress::Whole => {
-                let InConnection { exchange } = self;
-                let exchange = exchange.with(kit.parameter_download());
+                let InConnection { mut exchange } = self;
+                exchange.download = kit.parameter_download();
                 Ok(Next::Parameter(InParameter { exchange }))
             }
         }
-    }
-
-    pub(crate) fn chain(&self) -> Chain
-        ensures { result ≡ self.now.chain }
-    {
-        self.exchange.chain
-    }
-
-    /// The frame that was taken last.
-    pub(crate) fn last(&self) -> &[u8]
-        ensures { result.now ≡ self.now.last }
-    {
-        self.exchange.last.bytes()
     }
 }
 
@@ -288,8 +222,7 @@ impl InParameter {
         kit: &Kit,
     ) -> Result<Next, Code>
         requires under { ExchangeUnder kit.now.settings self }
-        requires passed { HasPassed (receives (OfMaster kit.now.settings)) self.chain seen.now }
-        requires noted { Notes self.chain seen.now.frame link }
+        requires passed { HasPassed (receives (OfMaster kit.now.settings)) self.session.chain seen.now link }
         ensures next { result ≡ parameter_next kit.now self seen.now }
         ensures under { IfOk result (λ next. NextUnder kit.now.settings next) }
     {
@@ -301,19 +234,6 @@ impl InParameter {
             }
         }
     }
-
-    pub(crate) fn chain(&self) -> Chain
-        ensures { result ≡ self.now.chain }
-    {
-        self.exchange.chain
-    }
-
-    /// The frame that was taken last.
-    pub(crate) fn last(&self) -> &[u8]
-        ensures { result.now ≡ self.now.last }
-    {
-        self.exchange.last.bytes()
-    }
 }
 
 impl InData {
@@ -322,16 +242,10 @@ impl InData {
         ensures next { result ≡ first_data kit.now exchange }
         ensures under { DataUnder kit.now.settings result }
     {
-        let Exchange {
-            chain,
-            download: _,
-            last,
-        } = exchange;
         InData {
-            chain,
+            session: exchange.session,
             terms: kit.settings().terms(),
             outputs: Outputs::new(kit.settings().peer_len()),
-            last,
         }
     }
 
@@ -344,8 +258,7 @@ impl InData {
         kit: &Kit,
     ) -> Result<(), Code>
         requires under { DataUnder kit.now.settings self.old }
-        requires passed { HasPassed (receives (OfMaster kit.now.settings)) self.old.chain seen.now }
-        requires noted { Notes self.old.chain seen.now.frame link }
+        requires passed { HasPassed (receives (OfMaster kit.now.settings)) self.old.session.chain seen.now link }
         ensures next { in_place result self.new ≡ data_next self.old seen.now }
         ensures kept { OnErr result (self.new ≡ self.old) }
         ensures under { DataUnder kit.now.settings self.new }
@@ -353,9 +266,8 @@ impl InData {
         if !data_holds(seen.command(), seen.load()) {
             return Err(Code(0x07));
         }
-        self.chain.note(link);
+        self.session.take(seen, link);
         self.outputs.take(seen.command(), seen.load());
-        self.last.set(seen.bytes());
         Ok(())
     }
 
@@ -367,7 +279,7 @@ impl InData {
         ensures under { DataUnder kit.now.settings self.new }
     {
         let offer = kit.offer();
-        self.chain
+        self.session
             .seal(offer.command(), self.terms.conn, offer.load(), out);
     }
 
@@ -380,33 +292,5 @@ impl InData {
     {
         self.send_next(kit, out);
         self
-    }
-
-    pub(crate) fn chain(&self) -> Chain
-        ensures { result ≡ self.now.chain }
-    {
-        self.chain
-    }
-
-    /// The terms of the session.
-    pub(crate) fn terms(&self) -> &Terms
-        ensures { result.now ≡ self.now.terms }
-    {
-        &self.terms
-    }
-
-    /// The outputs: the data of the frame that was taken last.
-    pub(crate) fn outputs(&self) -> &[u8]
-        ensures value { result.now ≡ self.now.outputs }
-        ensures most { length result.now ≤ 126 }
-    {
-        self.outputs.bytes()
-    }
-
-    /// The frame that was taken last.
-    pub(crate) fn last(&self) -> &[u8]
-        ensures { result.now ≡ self.now.last }
-    {
-        self.last.bytes()
     }
 }

@@ -1,5 +1,5 @@
 -- What the first tests of a delivered frame tell of it.
-use Rattle.std.proofs.Common.{◌≡◌, ◌≢◌, ◌==◌, nat_eq, ℕ, Bool, true, false, not, IsTrue, List, length, Option, Some, None, Result, Ok, Err, if◌then◌else◌, refl, sym, ap, ◌∙◌}
+use Rattle.std.proofs.Common.{◌≡◌, ◌≢◌, ◌==◌, nat_eq, ℕ, Bool, true, false, not, List, length, Option, Some, None, Result, Ok, Err, if◌then◌else◌, refl}
 use Rattle.std.proofs.lemmas.Bool.{eqb-true, eqb-false}
 use Rattle.std.specs.Cmp.Lexicographic.{pointwise}
 use Rattle.fsoe_base.specs.declared.command.Code.{Code}
@@ -7,15 +7,13 @@ use Rattle.fsoe_base.specs.declared.command.Command.{Command}
 use Rattle.fsoe_base.specs.declared.command.Command.TheVariants as command
 use Rattle.fsoe_base.specs.declared.did.Dropped.TheVariants as dropped
 use Rattle.fsoe_base.specs.Command.{command_of, code}
-use Rattle.fsoe_base.specs.Lengths.{is_length, frame_len}
+use Rattle.fsoe_base.specs.Lengths.{frame_len}
 use Rattle.fsoe_frame.specs.Parts.{Frame, frame_of}
-use Rattle.fsoe_frame.proofs.Places.{whole}
 use Rattle.seq_chain.specs.declared.opened.Opened.{Opened}
 use Rattle.seq_chain.specs.declared.opened.Opened.TheVariants as opened_as
 use Rattle.seq_chain.specs.Cover.{first_of}
 use Rattle.seq_chain.specs.Opened.{reset_opened, command_opened, opened}
 use Rattle.seq_chain.specs.Reset.{reset_crcs, zeros_follow, reset_view}
-use Rattle.seq_chain.specs.SessionFrame.{SessionFrameView}
 
 -- a frame that comes as far as the tests of its command
 pub record ComesToCommand (l : ℕ) (repeats : Bool) (bytes : List ℕ) (c : Option Command) : Type 0 where
@@ -68,20 +66,3 @@ by-length l repeats bytes false h = HasOtherLength (eqb-false (length bytes) (fr
 -- how they end for each delivered frame
 pub tested : (l : ℕ) (repeats : Bool) (bytes : List ℕ) → Tested l repeats bytes (opened l repeats bytes)
 tested l repeats bytes = by-length l repeats bytes (length bytes == frame_len l) refl
-
-abbrev as_session : Command → Frame → SessionFrameView
-as_session c f = record { command = c; frame = f }
-
-load-of : (l : ℕ) (repeats : Bool) (bytes : List ℕ) (w : Opened) (f : SessionFrameView) → IsTrue (is_length l) → Tested l repeats bytes w → w ≡ opened_as.OfSession f → length f.frame.load ≡ l
-load-of l repeats bytes w f valid (HasOtherLength other) e = absurd (cc e)
-load-of l repeats bytes w f valid (IsRepeat len again) e = absurd (cc e)
-load-of l repeats bytes w f valid (UnknownCommand is) e = absurd (cc e)
-load-of l repeats bytes w f valid (WrongReset found is h) e = absurd (cc e)
-load-of l repeats bytes w f valid (IsReset x is h i) e = absurd (cc e)
-load-of l repeats bytes w f valid (IsOfSession c n is) e =
-    let same : as_session c (frame_of l bytes) ≡ f = cc e in
-    sym (ap (λ (g : SessionFrameView). length g.frame.load) same) ∙ (whole l bytes valid is.len).load
-
--- a frame of a session has the length that was asked for
-pub opened_load : (l : ℕ) (repeats : Bool) (bytes : List ℕ) (f : SessionFrameView) → IsTrue (is_length l) → opened l repeats bytes ≡ opened_as.OfSession f → length f.frame.load ≡ l
-opened_load l repeats bytes f valid e = load-of l repeats bytes (opened l repeats bytes) f valid (tested l repeats bytes) e

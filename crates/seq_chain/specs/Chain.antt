@@ -1,9 +1,10 @@
 -- How the chain of an end goes on, frame by frame.
-use Rattle.std.specs.Prelude.{ℕ, List, Bool, Some, None}
+use Rattle.std.specs.Prelude.{ℕ, List, Bool, Option, Some, None, if◌then◌else◌}
 use Rattle.fsoe_base.specs.declared.command.Command.{Command}
 use Rattle.fsoe_base.specs.Command.{command_byte}
 use Rattle.fsoe_frame.specs.Parts.{Frame, bytes_of}
 use Rattle.seq_chain.specs.declared.chain.Chain.{Chain}
+use Rattle.seq_chain.specs.declared.link.Link.{Link}
 use Rattle.seq_chain.specs.Numbers.{last_crc}
 use Rattle.seq_chain.specs.Sealing as sealing
 
@@ -31,6 +32,14 @@ frame_sent chain conn cmd load = bytes_of (sealed_by chain conn (command_byte cm
 abbrev pub fits_next : Chain → Frame → Bool
 fits_next chain frame = sealing.fits (last_crc chain.own) chain.taken frame
 
+-- what this end notes of a frame that it takes
+abbrev pub link_of : Chain → Frame → Link
+link_of chain frame = sealing.noted (last_crc chain.own) chain.taken frame
+
+-- what the test of a frame gives: what is noted of it, where it is the next one of the peer
+abbrev pub tested : Chain → Frame → Option Link
+tested chain frame = if fits_next chain frame then Some (link_of chain frame) else None
+
 -- the chain after this end took a frame
 abbrev pub after_taken : Chain → Frame → Chain
-after_taken chain frame = record chain { taken = Some (sealing.noted (last_crc chain.own) chain.taken frame) }
+after_taken chain frame = record chain { taken = Some (link_of chain frame) }

@@ -2,9 +2,9 @@ pub mod Cover
 pub mod Numbers
 pub mod Sealing
 pub mod Chain
-pub mod Tested
 pub mod Reset
 pub mod Differences
 pub mod BothFit
 pub mod SessionFrame
+pub mod Session
 pub mod Opened

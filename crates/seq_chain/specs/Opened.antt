@@ -1,5 +1,5 @@
 -- The first tests of a delivered frame, in order, which need no session. The order is this profile's own.
-use Rattle.std.specs.Prelude.{ℕ, ◌==◌, Bool, List, length, Option, Some, None, Result, Ok, Err, if◌then◌else◌}
+use Rattle.std.specs.Prelude.{◌≡◌, ℕ, ◌==◌, Bool, List, length, Option, Some, None, Result, Ok, Err, if◌then◌else◌}
 use Rattle.fsoe_base.specs.declared.command.Code.{Code}
 use Rattle.fsoe_base.specs.declared.command.Command.{Command}
 use Rattle.fsoe_base.specs.declared.command.Command.TheVariants as command
@@ -28,3 +28,8 @@ opened l repeats bytes =
     if length bytes == frame_len l
     then (if repeats then opened_as.Drop dropped.Repeat else command_opened (frame_of l bytes) (command_of (frame_of l bytes).cmd))
     else opened_as.Drop dropped.Length
+
+-- a frame of a session has l bytes of safe data
+abbrev pub HasLen : ℕ → Opened → Type 0
+HasLen l (opened_as.OfSession f) = length f.frame.load ≡ l
+HasLen l _ = Unit {0}

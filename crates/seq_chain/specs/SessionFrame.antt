@@ -4,8 +4,6 @@ use Rattle.fsoe_base.specs.declared.command.Command.{Command}
 use Rattle.fsoe_base.specs.Command.{command_byte}
 use Rattle.fsoe_base.specs.Lengths.{is_length, group_count}
 use Rattle.fsoe_frame.specs.Parts.{Frame}
-use Rattle.seq_chain.specs.declared.chain.Chain.{Chain}
-use Rattle.seq_chain.specs.Chain.{fits_next}
 
 -- the command of a frame, and the frame
 pub record SessionFrameView : Type 0 where
@@ -18,9 +16,3 @@ pub record IsSessionFrame (s : SessionFrameView) (load : List ℕ) : Type 0 wher
   pub command_is : s.frame.cmd ≡ command_byte s.command
   pub valid : IsTrue (is_length (length load))
   pub groups : length s.frame.crcs ≡ group_count (length load)
-
--- a frame passed the tests up to those of its contents, at an end with this chain whose peer sends l safe data bytes: it has as
--- many, and its CRCs fit
-pub record HasPassed (l : ℕ) (chain : Chain) (f : SessionFrameView) : Type 0 where
-  pub len_is : length f.frame.load ≡ l
-  pub fits : IsTrue (fits_next chain f.frame)

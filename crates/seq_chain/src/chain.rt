@@ -1,13 +1,13 @@
 //! The chain of a session at one end.
 
-ghost use Rattle.std.specs.Prelude.{◌≡◌, length, IsTrue, Some, IfSome, is_some};
+ghost use Rattle.std.specs.Prelude.{◌≡◌, length, IsTrue, Some};
 ghost use Rattle.fsoe_base.specs.Lengths.{is_length, group_count};
 ghost use Rattle.seq_chain.specs.Numbers.{following, crc_noted};
-ghost use Rattle.seq_chain.specs.Chain.{fresh, chain_sent, frame_sent, fits_next, after_taken};
-ghost use Rattle.seq_chain.specs.Tested.{Notes};
+ghost use Rattle.seq_chain.specs.Chain.{fresh, chain_sent, frame_sent, fits_next, tested, after_taken};
 
 use crate::compare::crcs_are;
-use crate::link::{Link, crc_of, crc_or_zero, following_number, frame_number, number_with_crcs};
+use crate::link::{Link, crc_of, crc_or_zero, following_number, number_with_crcs};
+use crate::session_frame::SessionFrame;
 use arrayvec::ArrayVec;
 use fsoe_base::{Command, FrameBuf, Image};
 use fsoe_frame::FrameView;
@@ -87,18 +87,42 @@ impl Chain {
     {
         let mut load = Image::zeros(0);
         view.load_into(&mut load);
-        self.test_load(view, conn, load.bytes()).is_some()
+        self.link(view, conn, load.bytes()).is_some()
     }
 
-    /// The same where the safe data of the frame are at hand. Where the frame is the next one it gives what is noted
-    /// of it when it is taken.
-    pub fn test_load(&self, view: &FrameView<'_>, conn: u16, load: &[u8]) -> Option<Link>
+    /// Notes a frame of the peer that passed the test. `conn` is the connection id in the frame.
+    pub fn take(&mut self, view: &FrameView<'_>, conn: u16)
+        requires connection { conn ≡ view.now.conn }
+        requires tested { IsTrue (fits_next self.old view.now) }
+        ensures { self.new ≡ after_taken self.old view.now }
+    {
+        let mut load = Image::zeros(0);
+        view.load_into(&mut load);
+        self.taken = self.link(view, conn, load.bytes());
+    }
+
+    /// The same test of a frame whose safe data are at hand. It gives what is noted of the frame when it is taken, None where
+    /// a CRC is another.
+    pub fn test_frame(&self, frame: &SessionFrame<'_>) -> Option<Link>
+        ensures { result ≡ tested self.now frame.now.frame }
+    {
+        self.link(frame.view(), frame.conn(), frame.load())
+    }
+
+    /// Notes a frame of the peer, by what the test of this chain gave for it.
+    pub(crate) fn note(&mut self, link: Link)
+        ensures { self.new ≡ record self.old { taken = Some link } }
+    {
+        self.taken = Some(link);
+    }
+
+    /// What is noted of the next frame of the peer when it is taken, None where this frame isn't that one.
+    fn link(&self, view: &FrameView<'_>, conn: u16, load: &[u8]) -> Option<Link>
         requires connection { conn ≡ view.now.conn }
         requires load { load.now ≡ view.now.load }
         requires valid { IsTrue (is_length (length load.now)) }
         requires groups { length view.now.crcs ≡ group_count (length load.now) }
-        ensures fits { is_some result ≡ fits_next self.now view.now }
-        ensures noted { IfSome result (λ link. Notes self.now view.now link) }
+        ensures { result ≡ tested self.now view.now }
     {
         let last = crc_or_zero(self.own);
         let byte = view.command_byte();
@@ -111,42 +135,6 @@ impl Chain {
             number,
             crc: view.crc_at(0),
         })
-    }
-
-    /// Notes a frame of the peer that passed the test. `conn` is the connection id in the frame.
-    pub fn take(&mut self, view: &FrameView<'_>, conn: u16)
-        requires connection { conn ≡ view.now.conn }
-        requires tested { IsTrue (fits_next self.old view.now) }
-        ensures { self.new ≡ after_taken self.old view.now }
-    {
-        let mut load = Image::zeros(0);
-        view.load_into(&mut load);
-        let link = self.link_of(view, conn, load.bytes());
-        self.note(link);
-    }
-
-    /// What is noted of a frame of the peer when it is taken, where its safe data are at hand. It is found anew; that
-    /// of a frame which was just tested is what the test gave.
-    pub fn link_of(&self, view: &FrameView<'_>, conn: u16, load: &[u8]) -> Link
-        requires connection { conn ≡ view.now.conn }
-        requires load { load.now ≡ view.now.load }
-        requires valid { IsTrue (is_length (length load.now)) }
-        requires groups { length view.now.crcs ≡ group_count (length load.now) }
-        ensures { Notes self.now view.now result }
-    {
-        let last = crc_or_zero(self.own);
-        let number = frame_number(self.taken, last, conn, view.command_byte(), load);
-        Link {
-            number,
-            crc: view.crc_at(0),
-        }
-    }
-
-    /// Notes a frame of the peer that passed the test, by what the test gave for it.
-    pub fn note(&mut self, link: Link)
-        ensures { self.new ≡ record self.old { taken = Some link } }
-    {
-        self.taken = Some(link);
     }
 }
 

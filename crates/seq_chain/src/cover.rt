@@ -4,7 +4,7 @@ ghost use Rattle.std.specs.Prelude.{◌≡◌, ◌<◌, [], ◌∷◌, ◌++◌,
 ghost use Rattle.fsoe_base.specs.Lengths.{is_length, group_count};
 ghost use Rattle.fsoe_crc.specs.Remainder.{rem};
 ghost use Rattle.fsoe_base.specs.Bytes.{low_high};
-ghost use Rattle.seq_chain.specs.Cover.{common, place, covered, crcs, crc_0};
+ghost use Rattle.seq_chain.specs.Cover.{common, place, covered, crcs};
 
 use arrayvec::ArrayVec;
 use fsoe_crc::Register;
@@ -27,19 +27,6 @@ pub(crate) fn crcs_into(last: u16, conn: u16, number: u16, command: u8, load: &[
         for group in 0..load.len() / 2 {
             out.push(pair_crc(&common, group, load[2 * group], load[2 * group + 1]));
         }
-    }
-}
-
-/// The CRC of the first group of a load.
-pub(crate) fn first_crc(last: u16, conn: u16, number: u16, command: u8, load: &[u8]) -> u16
-    requires { IsTrue (is_length (length load.now)) }
-    ensures { result ≡ crc_0 last conn number command load.now }
-{
-    let common = common_part(last, conn, number, command);
-    if load.len() == 1 {
-        byte_crc(&common, load[0])
-    } else {
-        pair_crc(&common, 0, load[0], load[1])
     }
 }
 

@@ -5,6 +5,7 @@ pub use chain::Chain;
 pub use link::Link;
 pub use opened::{Opened, open};
 pub use reset::{reset_frame, reset_view};
+pub use session::{Session, is_repeat, test_session};
 pub use session_frame::{SessionFrame, UnreadFrame};
 
 mod chain;
@@ -14,6 +15,7 @@ pub mod laws;
 mod link;
 mod opened;
 mod reset;
+mod session;
 mod session_frame;
 #[cfg(test)]
 mod tests;

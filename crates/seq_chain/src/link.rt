@@ -5,15 +5,15 @@ ghost use Rattle.fsoe_base.specs.Lengths.{is_length, group_count};
 ghost use Rattle.seq_chain.specs.Cover.{crcs};
 ghost use Rattle.seq_chain.specs.Numbers.{next, following, last_crc, crc_noted, number_of};
 
-use crate::cover::{Crcs, crcs_into, first_crc};
+use crate::cover::{Crcs, crcs_into};
 
-/// What one direction of a session notes of its last frame.
+/// What one direction of a session notes of its last frame. A seal or a passed test makes it, and nothing else.
 #[derive(Clone, Copy, Debug, PartialEq, Eq)]
 pub struct Link {
     /// The sequence number, 1 to 65,535, which isn't on the wire.
-    pub number: u16,
+    pub(crate) number: u16,
     /// The CRC of the first group.
-    pub crc: u16,
+    pub(crate) crc: u16,
 }
 
 /// The number after this one: 1 after 65,535.
@@ -53,33 +53,9 @@ pub(crate) fn crc_of(before: Option<Link>) -> Option<u16>
     }
 }
 
-/// The number of the frame after `before`. It is stepped once more where the frame would have the
-/// same first CRC as the one before it, so that these CRCs differ from frame to frame.
-pub(crate) fn frame_number(
-    before: Option<Link>,
-    last: u16,
-    conn: u16,
-    command: u8,
-    load: &[u8],
-) -> u16
-    requires { IsTrue (is_length (length load.now)) }
-    ensures { result ≡ number_of last before conn command load.now }
-{
-    match before {
-        None => 1,
-        Some(link) => {
-            let number = next_number(link.number);
-            if first_crc(last, conn, number, command, load) == link.crc {
-                next_number(number)
-            } else {
-                number
-            }
-        }
-    }
-}
-
-/// The number of the frame after `before`, as `frame_number` has it, with the CRCs of the frame in place of what `out`
-/// held. The CRCs are made once, unless the number is stepped once more.
+/// The number of the frame after `before`, with the CRCs of the frame in place of what `out` held. It is stepped once more
+/// where the frame would have the same first CRC as the one before it, so that these CRCs differ from frame to frame; only
+/// then the CRCs are made twice.
 pub(crate) fn number_with_crcs(
     before: Option<Link>,
     last: u16,

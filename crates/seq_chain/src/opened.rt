@@ -3,7 +3,7 @@
 ghost use Rattle.std.specs.Prelude.{◌≡◌, IsTrue};
 ghost use Rattle.fsoe_base.specs.Command.{command_byte};
 ghost use Rattle.fsoe_base.specs.Lengths.{is_length};
-ghost use Rattle.seq_chain.specs.Opened.{opened, reset_opened};
+ghost use Rattle.seq_chain.specs.Opened.{opened, reset_opened, HasLen};
 ghost use Rattle.seq_chain.specs.Reset as reset;
 
 use crate::reset::reset_view;
@@ -30,7 +30,8 @@ pub enum Opened<'a> {
 /// after the code that isn't 0.
 pub fn open<'a>(frame: &'a [u8], l: usize, repeats: bool) -> Opened<'a>
     requires { IsTrue (is_length l) }
-    ensures { result ≡ opened l repeats frame.now }
+    ensures is { result ≡ opened l repeats frame.now }
+    ensures len { HasLen l result }
 {
     let Some(view) = fsoe_frame::view(frame, l) else {
         return Opened::Drop(Dropped::Length);

@@ -2,7 +2,7 @@ ghost use Rattle.std.specs.Prelude.{◌<◌, length, IsTrue};
 ghost use Rattle.fsoe_base.specs.Lengths.{is_length};
 
 use super::*;
-use fsoe_base::{Code, Command, FrameBuf, Image};
+use fsoe_base::{Code, Command, FrameBuf};
 use fsoe_frame::view;
 use std::process::Abort;
 
@@ -86,12 +86,7 @@ fn passes(rt: &impl Abort, (command, data, number, crc): Row, from: &mut Chain, 
     let received = view(&frame, 2).expect(rt, "two safe data bytes");
     let conn = received.conn();
     assert!(rt; to.test(&received, conn), "number {number}");
-    let mut load = Image::zeros(0);
-    received.load_into(&mut load);
-    let tested = to.test_load(&received, conn, load.bytes());
-    let link = tested.expect(rt, "the next frame");
-    assert_eq!(rt; link, to.link_of(&received, conn, load.bytes()));
-    to.note(link);
+    to.take(&received, conn);
     assert_eq!(rt; to.taken_prev(), Some(crc));
     assert_eq!(rt; to.peer_seq(), number.wrapping_add(1));
     assert!(rt; !to.test(&received, conn), "the same frame again");

@@ -1,5 +1,5 @@
 -- What each event leaves at the machine is what looking back gives.
-use Rattle.std.proofs.Common.{◌≡◌, ℕ, ◌+◌, ◌<◌, ◌≤◌, List, [], ◌∷◌, length, take, Bool, true, false, not, Option, Some, unwrap_or, Result, if◌then◌else◌, refl, sym, ap, subst, ◌∙◌, arith}
+use Rattle.std.proofs.Common.{◌≡◌, ℕ, ◌+◌, ◌<◌, ◌≤◌, List, [], ◌∷◌, length, take, replicate, Bool, true, false, not, Option, Some, unwrap_or, Result, if◌then◌else◌, refl, sym, ap, subst, ◌∙◌, arith}
 use Rattle.std.specs.Option.{option_or}
 use Rattle.std.proofs.lemmas.Bool.{leb-true, eqb-true}
 use Rattle.std.proofs.lemmas.List.{length-replicate}
@@ -31,19 +31,21 @@ use Rattle.end_model.proofs.SoundRuns.{loaded}
 use Rattle.end_model.proofs.SlaveShown.{SlaveShows, parameters}
 use Rattle.end_model.proofs.WholeUploads.{whole_parameters}
 use Rattle.slave_core.specs.declared.now.Now.{Now}
+use Rattle.slave_core.specs.declared.now.Now.TheVariants as now
 use Rattle.slave_core.specs.declared.states.InReset.{InReset}
+use Rattle.slave_core.specs.declared.states.InData.{InData}
 use Rattle.slave_core.specs.Slave.{Outcome, settles}
 use Rattle.slave_core.specs.After.{after}
-use Rattle.slave_core.specs.States.{terms_of, data_next, data_reply}
-use Rattle.slave_core.specs.Taken.{as_data, next_state, reply}
-use Rattle.slave_core.specs.ViewOf.{Notes, notes_of, kit_of, upload_of, now_in, view_in, view_of}
+use Rattle.slave_core.specs.States.{running, data_next, data_reply}
+use Rattle.slave_core.specs.Taken.{as_now, next_state, reply}
+use Rattle.slave_core.specs.ViewOf.{Notes, session_of, notes_of, kit_of, upload_of, now_in, view_in, view_of}
 use Rattle.slave_core.proofs.Sound.{OfSession, OfConnection, OfParameters, count_of, Sound, SoundAt}
 use Rattle.slave_core.proofs.SameVerdict.{came, Came, Same, Drops, Refuses, ByReset, Passes, same}
 use Rattle.slave_core.proofs.Agrees.{Agrees, drop-agrees, resets-agree, fault-agrees, reset_frame-agrees, put-agrees, hold-agrees, nonce-agrees, tick-agrees}
 use Rattle.slave_core.proofs.Arrived.{Arrived, arrived, keeps}
 use Rattle.slave_core.proofs.TakenSession.{opening-fresh, opening-session, session_settles, session-agrees}
 use Rattle.slave_core.proofs.TakenConnection.{connection_settles, connection-agrees}
-use Rattle.slave_core.proofs.TakenParameter.{Connected, parameter_settles, parameter-agrees}
+use Rattle.slave_core.proofs.TakenParameter.{Connected, parameter_at, parameter_settles, parameter-agrees}
 use Rattle.slave_core.proofs.TakenData.{process-agrees, failsafe-agrees}
 
 -- a phase that is whole is left, and one that isn't goes on
@@ -83,7 +85,7 @@ reset-passed : (ss : SlaveSettings) (e : List Deed) (bytes : List ℕ) → state
     → Passed state.Reset ss e bytes command.Session
 reset-passed ss e bytes at s h a =
     subst (λ (n : Notes). Agrees ss e (move.Deliver bytes) (on_verdict state.Reset (OfSlave ss) (model.judged_contents command.Session (came ss bytes).load (model.contents (OfSlave ss) e command.Session (came ss bytes))))
-    (session_settles (upload_fault (upload_of ss (expected.Session ss.profile) n.session) (came ss bytes).load) state.Reset ss e bytes n.chain (nonce (OfSlave ss) e) n.session))
+    (session_settles (upload_fault (upload_of ss (expected.Session ss.profile) n.session) (came ss bytes).load) state.Reset ss e bytes n (nonce (OfSlave ss) e)))
     h.1
     (session-agrees (model.contents (OfSlave ss) e command.Session (came ss bytes)) state.Reset ss e bytes (nonce (OfSlave ss) e) at s (opening-fresh ss (count_of e) (notes_of ss e) (nonce (OfSlave ss) e) h) a)
 
@@ -100,7 +102,7 @@ connects-passed ss e bytes at s h k a =
     let conn : ℕ = (came ss bytes).conn in
     whole-branch state.Session ss e bytes command.Connection _ _ _ _ _ (is_whole (upload_of ss (expected.Session ss.profile) (notes_of ss e).session)) k.is_allowed
     (subst (λ (u : List ℕ). Agrees ss e (move.Deliver bytes) (on_verdict state.Session (OfSlave ss) (model.judged_contents command.Connection (came ss bytes).load (model.contents (OfSlave ss) e command.Connection (came ss bytes))))
-    (connection_settles (upload_fault (upload_of ss (expected.Connection conn ss.address) u) (came ss bytes).load) state.Session ss e bytes (notes_of ss e).chain conn u))
+    (connection_settles (upload_fault (upload_of ss (expected.Connection conn ss.address) u) (came ss bytes).load) state.Session ss e bytes conn u))
     h.no_connection
     (connection-agrees (model.contents (OfSlave ss) e command.Connection (came ss bytes)) state.Session ss e bytes refl at s
     (record {
@@ -119,7 +121,7 @@ connection-passed ss e bytes at s h k a =
     let is : conn ≡ unwrap_or (slave_conn ss e) 0 = same-conn (slave_conn ss e) _ conn h.conn_is k.has_conn in
     more-branch state.Connection ss e bytes command.Connection _ _ _ _ _ (is_whole (upload_of ss (expected.Connection (unwrap_or (slave_conn ss e) 0) ss.address) (notes_of ss e).connection)) k.is_allowed
     (subst (λ (n : ℕ). Agrees ss e (move.Deliver bytes) (on_verdict state.Connection (OfSlave ss) (model.judged_contents command.Connection (came ss bytes).load (model.contents (OfSlave ss) e command.Connection (came ss bytes))))
-    (connection_settles (upload_fault (upload_of ss (expected.Connection n ss.address) (notes_of ss e).connection) (came ss bytes).load) state.Connection ss e bytes (notes_of ss e).chain n (notes_of ss e).connection))
+    (connection_settles (upload_fault (upload_of ss (expected.Connection n ss.address) (notes_of ss e).connection) (came ss bytes).load) state.Connection ss e bytes n (notes_of ss e).connection))
     is
     (connection-agrees (model.contents (OfSlave ss) e command.Connection (came ss bytes)) state.Connection ss e bytes refl at s
     (record {
@@ -158,18 +160,22 @@ same_terms : (c c' a a' w n n' : ℕ) (app : List ℕ) (ss : SlaveSettings) → 
 same_terms c c' a a' w n n' app ss h i j = rw (h, i, j) refl
 
 terms-are : (ss : SlaveSettings) (e : List Deed) → IsRun (OfSlave ss) e → OfParameters ss (notes_of ss e) → whole ss.profile state.Parameter (parameters ss e) ≡ true
-    → terms_of (kit_of ss e) (unwrap_or (slave_conn ss e) 0) ss.address (upload_of ss (expected.Parameter ss.most ss.rule ss.profile) (notes_of ss e).parameter) ≡ terms (OfSlave ss) e
+    → (running (kit_of ss e) (parameter_at ss e (notes_of ss e).parameter)).terms ≡ terms (OfSlave ss) e
 terms-are ss e run h w =
     let shows : SlaveShows ss e = slave-run ss e run in
     let all : id_len ss.profile + 4 + rule_len ss.rule ≤ length (parameters ss e) = leb-true _ _ (sym (whole_parameters ss e run) ∙ w) in
     same_terms _ _ _ _ _ _ _ _ ss (sym h.conn_said) (sym h.address_said) (sym (shows.tested.counted (omega arith)))
 
+-- state Data as it is entered, under these terms
+abbrev data_at : SlaveSettings → List Deed → Terms → InData
+data_at ss e t = record { session = session_of (notes_of ss e); terms = t; outputs = replicate ss.lengths.master 0 }
+
 -- data begin once these are whole
 runs-passed : (ss : SlaveSettings) (e : List Deed) (bytes : List ℕ) (d : Did) (c : Command) → IsRun (OfSlave ss) e → OfParameters ss (notes_of ss e) → is_whole (upload_of ss (expected.Parameter ss.most ss.rule ss.profile) (notes_of ss e).parameter) ≡ true
     → (whole ss.profile state.Parameter (parameters ss e) ≡ true
     → Agrees ss e (move.Deliver bytes) d (settles (view_in state.Parameter ss e) (record { command = c; frame = came ss bytes })
-    (data_reply (kit_of ss e) (notes_of ss e).chain (terms (OfSlave ss) e) (record { command = c; frame = came ss bytes }))
-    (as_data (data_next (kit_of ss e) (notes_of ss e).chain (terms (OfSlave ss) e) (record { command = c; frame = came ss bytes })))))
+    (data_reply (kit_of ss e) (data_at ss e (terms (OfSlave ss) e)) (record { command = c; frame = came ss bytes }))
+    (as_now now.Data (data_next (kit_of ss e) (data_at ss e (terms (OfSlave ss) e)) (record { command = c; frame = came ss bytes })))))
     → Agrees ss e (move.Deliver bytes) d (settles (view_in state.Parameter ss e) (record { command = c; frame = came ss bytes })
     (reply (kit_of ss e) (now_in state.Parameter ss (notes_of ss e)) (record { command = c; frame = came ss bytes }))
     (next_state (kit_of ss e) (now_in state.Parameter ss (notes_of ss e)) (record { command = c; frame = came ss bytes })))
@@ -177,8 +183,8 @@ runs-passed ss e bytes d c run h k agrees =
     let w : whole ss.profile state.Parameter (parameters ss e) ≡ true = whole_parameters ss e run ∙ k in
     whole-branch state.Parameter ss e bytes c _ _ _ _ _ (is_whole (upload_of ss (expected.Parameter ss.most ss.rule ss.profile) (notes_of ss e).parameter)) k
     (subst (λ (t : Terms). Agrees ss e (move.Deliver bytes) d (settles (view_in state.Parameter ss e) (record { command = c; frame = came ss bytes })
-    (data_reply (kit_of ss e) (notes_of ss e).chain t (record { command = c; frame = came ss bytes }))
-    (as_data (data_next (kit_of ss e) (notes_of ss e).chain t (record { command = c; frame = came ss bytes })))))
+    (data_reply (kit_of ss e) (data_at ss e t) (record { command = c; frame = came ss bytes }))
+    (as_now now.Data (data_next (kit_of ss e) (data_at ss e t) (record { command = c; frame = came ss bytes })))))
     (sym (terms-are ss e run h w)) (agrees w))
 
 connected : (ss : SlaveSettings) (e : List Deed) → OfParameters ss (notes_of ss e) → Connected ss e

@@ -12,8 +12,10 @@ use Rattle.fsoe_base.specs.Lengths.{frame_len}
 use Rattle.fsoe_frame.specs.Parts.{AreBytes, bytes_of, frame_of}
 use Rattle.fsoe_frame.proofs.Places.{Whole, FrameAt, whole, frame_at}
 use Rattle.seq_chain.specs.declared.chain.Chain.{Chain}
+use Rattle.seq_chain.specs.Chain.{after_taken, chain_sent, frame_sent}
 use Rattle.seq_chain.specs.Cover.{first_of}
 use Rattle.seq_chain.specs.Sealing as sealing
+use Rattle.seq_chain.specs.SessionFrame.{SessionFrameView}
 use Rattle.param_load.specs.declared.entry.Move.TheVariants as move
 use Rattle.param_load.specs.declared.profile.Profile.{Profile}
 use Rattle.param_load.specs.declared.slave_settings.SlaveSettings.{SlaveSettings}
@@ -24,7 +26,6 @@ use Rattle.end_model.specs.Deed.{Deed, is_empty}
 use Rattle.end_model.specs.Chain.{own_link, taken_link}
 use Rattle.end_model.specs.Step.{takes_frame}
 use Rattle.end_model.proofs.Links.{own_crc}
-use Rattle.slave_core.specs.States.{answered}
 use Rattle.slave_core.proofs.SameVerdict.{came}
 
 -- a frame of the master's length whose command byte is that of a command
@@ -52,10 +53,18 @@ arrived ss bytes c len named =
 abbrev pub chain_at : Setup → List Deed → Chain
 chain_at s e = record { own = own_link s e; taken = taken_link s e }
 
+-- the chain after a frame was taken and answered
+abbrev pub chain_answered : Chain → SessionFrameView → ℕ → Command → List ℕ → Chain
+chain_answered chain f conn cmd load = chain_sent (after_taken chain f.frame) conn cmd load
+
+-- the answer
+abbrev pub frame_answered : Chain → SessionFrameView → ℕ → Command → List ℕ → List ℕ
+frame_answered chain f conn cmd load = frame_sent (after_taken chain f.frame) conn cmd load
+
 -- the chain with one deed more, which took a frame and sent an answer
 pub chain-next : (s : Setup) (e : List Deed) (bytes load sent : List ℕ) (c : Command) (conn : ℕ) (c2 : Command) (answer : List ℕ) → is_reset c ≡ false → is_empty sent ≡ false
     → frame_of (sends s) sent ≡ sealing.sealed (first_of (frame_of (receives s) bytes).crcs) (own_link s e) conn (command_byte c2) answer
-    → chain_at s (record { what = move.Deliver bytes; did = takes_frame c load; sent = sent } ∷ e) ≡ answered (chain_at s e) (record { command = c; frame = frame_of (receives s) bytes }) conn c2 answer
+    → chain_at s (record { what = move.Deliver bytes; did = takes_frame c load; sent = sent } ∷ e) ≡ chain_answered (chain_at s e) (record { command = c; frame = frame_of (receives s) bytes }) conn c2 answer
 chain-next s e bytes load sent c conn c2 answer r some back = simp (r, some, back, own_crc)
 
 -- the first bytes of a load

@@ -1,4 +1,3 @@
-pub mod Passed
 pub mod Sound
 pub mod SameVerdict
 pub mod Agrees

@@ -26,15 +26,16 @@ use Rattle.end_model.specs.Step.{takes_frame, on_verdict, begun}
 use Rattle.end_model.specs.Verdict.{judged_contents, contents}
 use Rattle.end_model.proofs.ReadBack.{read_back}
 use Rattle.slave_core.specs.declared.now.Now.TheVariants as now
+use Rattle.slave_core.specs.declared.states.InConnection.{InConnection}
 use Rattle.seq_chain.specs.SessionFrame.{SessionFrameView}
 use Rattle.slave_core.specs.Slave.{Outcome, settles}
-use Rattle.slave_core.specs.States.{answered, answer, connection_by, echo_reply}
-use Rattle.slave_core.specs.Taken.{as_connection}
-use Rattle.slave_core.specs.ViewOf.{notes_of, kit_of, upload_of, view_in}
+use Rattle.slave_core.specs.States.{connection_by, connection_reply}
+use Rattle.slave_core.specs.Taken.{as_now}
+use Rattle.slave_core.specs.ViewOf.{session_of, notes_of, kit_of, upload_of, view_in}
 use Rattle.slave_core.proofs.Sound.{Sound}
 use Rattle.slave_core.proofs.SameVerdict.{came}
 use Rattle.slave_core.proofs.Agrees.{Agrees, same_slave, fresh_limit, fault-agrees}
-use Rattle.slave_core.proofs.Arrived.{Arrived, chain-next, piece-len, filled, piece-own, piece-peer, last-piece, connects-first, is-there, there}
+use Rattle.slave_core.proofs.Arrived.{chain_answered, frame_answered, Arrived, chain-next, piece-len, filled, piece-own, piece-peer, last-piece, connects-first, is-there, there}
 
 -- a number in the joined bytes stays what it was tested to be
 stays : (u p : List ℕ) (k : ℕ) → k + 1 < length u → number_at k (u ++ p) ≡ number_at k u
@@ -77,12 +78,16 @@ seen ss bytes = record { command = command.Connection; frame = came ss bytes }
 abbrev upload_at : SlaveSettings → ℕ → List ℕ → UploadView
 upload_at ss conn joined = upload_of ss (expected.Connection conn ss.address) joined
 
+-- the state with this connection id, of whose upload these bytes were joined
+abbrev connection_at : SlaveSettings → List Deed → ℕ → List ℕ → InConnection
+connection_at ss e conn joined = record { session = session_of (notes_of ss e); conn = conn; upload = upload_at ss conn joined }
+
 -- the machine at a Connection frame whose contents fail, or not
-abbrev pub connection_settles : Option Code → State → SlaveSettings → List Deed → List ℕ → Chain → ℕ → List ℕ → Outcome
-connection_settles w p ss e bytes chain conn joined =
+abbrev pub connection_settles : Option Code → State → SlaveSettings → List Deed → List ℕ → ℕ → List ℕ → Outcome
+connection_settles w p ss e bytes conn joined =
     settles (view_in p ss e) (seen ss bytes)
-    (echo_reply command.Connection (kit_of ss e) chain conn (upload_at ss conn joined) (seen ss bytes))
-    (as_connection (connection_by (outcome_by w (advanced (upload_at ss conn joined) (came ss bytes).load)) (kit_of ss e) chain conn (upload_at ss conn joined) (seen ss bytes)))
+    (connection_reply (kit_of ss e) (connection_at ss e conn joined) (seen ss bytes))
+    (as_now now.Connection (connection_by (outcome_by w (advanced (upload_at ss conn joined) (came ss bytes).load)) (kit_of ss e) (connection_at ss e conn joined) (seen ss bytes)))
 
 -- what is noted before a Connection frame with this connection id
 pub record Joining (ss : SlaveSettings) (e : List Deed) (conn : ℕ) : Type 0 where
@@ -92,13 +97,13 @@ pub record Joining (ss : SlaveSettings) (e : List Deed) (conn : ℕ) : Type 0 wh
   pub no_parameter : (notes_of ss e).parameter ≡ []
 
 same_connection : (k address : ℕ) (c c' : Chain) (i i' : ℕ) (u : List ℕ) (l l' : List ℕ) → c ≡ c' → i ≡ i' → l ≡ l'
-    → now.Connection (record { chain = c; conn = i; upload = record { expected = expected.Connection i address; piece = k; joined = u }; last = l })
-    ≡ now.Connection (record { chain = c'; conn = i'; upload = record { expected = expected.Connection i' address; piece = k; joined = u }; last = l' })
+    → now.Connection (record { session = record { chain = c; last = l }; conn = i; upload = record { expected = expected.Connection i address; piece = k; joined = u } })
+    ≡ now.Connection (record { session = record { chain = c'; last = l' }; conn = i'; upload = record { expected = expected.Connection i' address; piece = k; joined = u } })
 same_connection k address c c' i i' u l l' h j g = rw (h, j, g) refl
 
 pub connection-agrees : (w : Option Code) (p : State) (ss : SlaveSettings) (e : List Deed) (bytes : List ℕ) → contents (OfSlave ss) e command.Connection (came ss bytes) ≡ w → state_of (OfSlave ss) e ≡ p → Sound ss e
     → Joining ss e (came ss bytes).conn → Arrived ss bytes command.Connection
-    → Agrees ss e (move.Deliver bytes) (on_verdict p (OfSlave ss) (judged_contents command.Connection (came ss bytes).load w)) (connection_settles w p ss e bytes (notes_of ss e).chain (came ss bytes).conn (notes_of ss e).connection)
+    → Agrees ss e (move.Deliver bytes) (on_verdict p (OfSlave ss) (judged_contents command.Connection (came ss bytes).load w)) (connection_settles w p ss e bytes (came ss bytes).conn (notes_of ss e).connection)
 connection-agrees (Some x) p ss e bytes tested at s j a = fault-agrees p ss e bytes true x at s
 connection-agrees None p ss e bytes tested at s j a =
     let load : List ℕ = (came ss bytes).load in
@@ -117,14 +122,14 @@ connection-agrees None p ss e bytes tested at s j a =
       view = λ r. same_slave _ _ _ _ _ _ _ _ refl
           (same_connection _ _ _ _ _ _ _ _ _
           (chain-next (OfSlave ss) (since e) bytes load (seal (OfSlave ss) (since before) (conn_id (OfSlave ss) before) command.Connection (padded (take c load) ss.lengths.slave)) command.Connection (conn_id (OfSlave ss) before) command.Connection (padded (take c load) ss.lengths.slave) refl refl (read_back (OfSlave ss) (since before) (conn_id (OfSlave ss) before) command.Connection (padded (take c load) ss.lengths.slave) full)
-          ∙ ap (λ (k : ℕ). answered (notes_of ss e).chain (seen ss bytes) k command.Connection (padded (take c load) ss.lengths.slave)) conn_is
-          ∙ ap (λ (piece : List ℕ). answered (notes_of ss e).chain (seen ss bytes) conn command.Connection (padded piece ss.lengths.slave)) (sym echo_is))
+          ∙ ap (λ (k : ℕ). chain_answered (notes_of ss e).chain (seen ss bytes) k command.Connection (padded (take c load) ss.lengths.slave)) conn_is
+          ∙ ap (λ (piece : List ℕ). chain_answered (notes_of ss e).chain (seen ss bytes) conn command.Connection (padded piece ss.lengths.slave)) (sym echo_is))
           conn_is
           (sym (a.back r)))
           limit_is refl;
       did = refl;
-      sent = ap (λ (k : ℕ). answer (notes_of ss e).chain (seen ss bytes) k command.Connection (padded (take c load) ss.lengths.slave)) conn_is
-          ∙ ap (λ (piece : List ℕ). answer (notes_of ss e).chain (seen ss bytes) conn command.Connection (padded piece ss.lengths.slave)) (sym echo_is);
+      sent = ap (λ (k : ℕ). frame_answered (notes_of ss e).chain (seen ss bytes) k command.Connection (padded (take c load) ss.lengths.slave)) conn_is
+          ∙ ap (λ (piece : List ℕ). frame_answered (notes_of ss e).chain (seen ss bytes) conn command.Connection (padded piece ss.lengths.slave)) (sym echo_is);
       sound = record {
         in_state = record {
           kept_is = refl;

@@ -29,13 +29,13 @@ use Rattle.slave_core.specs.declared.now.Now.TheVariants as now
 use Rattle.seq_chain.specs.SessionFrame.{SessionFrameView}
 use Rattle.slave_core.specs.Slave.{Outcome, settles}
 use Rattle.slave_core.specs.SlaveView.{SlaveView}
-use Rattle.slave_core.specs.States.{no_session, answered, answer}
-use Rattle.slave_core.specs.Taken.{as_data}
-use Rattle.slave_core.specs.ViewOf.{notes_of, kit_of, view_in, view_of}
+use Rattle.slave_core.specs.States.{no_session, answered}
+use Rattle.slave_core.specs.Taken.{as_now}
+use Rattle.slave_core.specs.ViewOf.{session_of, notes_of, kit_of, view_in, view_of}
 use Rattle.slave_core.proofs.Sound.{Sound}
 use Rattle.slave_core.proofs.SameVerdict.{came}
 use Rattle.slave_core.proofs.Agrees.{Agrees, slave_at, same_slave, fault-agrees}
-use Rattle.slave_core.proofs.Arrived.{Arrived, chain_at, chain-next, keeps, is-there, there}
+use Rattle.slave_core.proofs.Arrived.{chain_answered, frame_answered, Arrived, chain_at, chain-next, keeps, is-there, there}
 use Rattle.slave_core.proofs.TakenParameter.{Connected, some-limit}
 
 abbrev seen : SlaveSettings → List ℕ → Command → SessionFrameView
@@ -51,17 +51,16 @@ taking ss bytes c sent = record { what = move.Deliver bytes; did = takes_frame c
 
 -- the answer with this command and load
 abbrev data_answer : SlaveSettings → List Deed → List ℕ → Command → Command → List ℕ → List ℕ
-data_answer ss e bytes c c2 load = answer (notes_of ss e).chain (seen ss bytes c) (conn_of ss e) c2 load
+data_answer ss e bytes c c2 load = frame_answered (notes_of ss e).chain (seen ss bytes c) (conn_of ss e) c2 load
 
 -- the slave after a data frame and this answer
 abbrev gone_on : SlaveSettings → List Deed → List ℕ → Command → Command → List ℕ → SlaveView
 gone_on ss e bytes c c2 load =
     slave_at (kit_of ss e)
     (now.Data (record {
-      chain = answered (notes_of ss e).chain (seen ss bytes c) (conn_of ss e) c2 load;
+      session = answered (session_of (notes_of ss e)) (seen ss bytes c) (conn_of ss e) c2 load;
       terms = (notes_of ss e).terms;
       outputs = outputs_of c (came ss bytes).load;
-      last = bytes_of (came ss bytes);
     }))
     (notes_of ss e).terms.watchdog 0
 
@@ -71,11 +70,11 @@ record After (ss : SlaveSettings) (e : List Deed) (bytes : List ℕ) (c : Comman
   sound : Sound ss (taking ss bytes c sent ∷ e)
 
 same_data : (t : Terms) (c c' : Chain) (o o' l l' : List ℕ) → c ≡ c' → o ≡ o' → l ≡ l'
-    → now.Data (record { chain = c; terms = t; outputs = o; last = l }) ≡ now.Data (record { chain = c'; terms = t; outputs = o'; last = l' })
+    → now.Data (record { session = record { chain = c; last = l }; terms = t; outputs = o }) ≡ now.Data (record { session = record { chain = c'; last = l' }; terms = t; outputs = o' })
 same_data t c c' o o' l l' h j g = rw (h, j, g) refl
 
 data-chain : (ss : SlaveSettings) (e : List Deed) (bytes : List ℕ) (c c2 : Command) (load : List ℕ) → is_reset c ≡ false → length load ≡ ss.lengths.slave
-    → chain_at (OfSlave ss) (taking ss bytes c (data_answer ss e bytes c c2 load) ∷ since e) ≡ answered (notes_of ss e).chain (seen ss bytes c) (conn_of ss e) c2 load
+    → chain_at (OfSlave ss) (taking ss bytes c (data_answer ss e bytes c c2 load) ∷ since e) ≡ chain_answered (notes_of ss e).chain (seen ss bytes c) (conn_of ss e) c2 load
 data-chain ss e bytes c c2 load r h =
     chain-next (OfSlave ss) (since e) bytes (came ss bytes).load (data_answer ss e bytes c c2 load) c (conn_of ss e) c2 load r refl
     (read_back (OfSlave ss) (since (begun (move.Deliver bytes) (takes_frame command.Session (came ss bytes).load) ∷ e)) (conn_of ss e) c2 load h)
@@ -149,25 +148,24 @@ after-held ss e bytes c false n i d y = after ss e bytes c command.ProcessData (
 
 -- it is the one that looking back gives
 sent-held : (ss : SlaveSettings) (e before : List Deed) (bytes : List ℕ) (c : Command) (h : Bool) (load : List ℕ) (k n : ℕ) → k ≡ conn_of ss e → n ≡ ss.lengths.slave
-    → ((k : ℕ) (c2 : Command) (load : List ℕ) → seal (OfSlave ss) before k c2 load ≡ answer (notes_of ss e).chain (seen ss bytes c) k c2 load)
+    → ((k : ℕ) (c2 : Command) (load : List ℕ) → seal (OfSlave ss) before k c2 load ≡ frame_answered (notes_of ss e).chain (seen ss bytes c) k c2 load)
     → (if h then seal (OfSlave ss) before k command.FailSafeData (replicate ss.lengths.slave 0) else seal (OfSlave ss) before k command.ProcessData load)
     ≡ data_answer ss e bytes c (if h then command.FailSafeData else command.ProcessData) (if h then replicate n 0 else load)
 sent-held ss e before bytes c true load k n h i f =
     f k command.FailSafeData (replicate ss.lengths.slave 0)
-    ∙ ap (λ (k : ℕ). answer (notes_of ss e).chain (seen ss bytes c) k command.FailSafeData (replicate ss.lengths.slave 0)) h
-    ∙ ap (λ (n : ℕ). answer (notes_of ss e).chain (seen ss bytes c) (conn_of ss e) command.FailSafeData (replicate n 0)) (sym i)
-sent-held ss e before bytes c false load k n h i f = f k command.ProcessData load ∙ ap (λ (k : ℕ). answer (notes_of ss e).chain (seen ss bytes c) k command.ProcessData load) h
+    ∙ ap (λ (k : ℕ). frame_answered (notes_of ss e).chain (seen ss bytes c) k command.FailSafeData (replicate ss.lengths.slave 0)) h
+    ∙ ap (λ (n : ℕ). frame_answered (notes_of ss e).chain (seen ss bytes c) (conn_of ss e) command.FailSafeData (replicate n 0)) (sym i)
+sent-held ss e before bytes c false load k n h i f = f k command.ProcessData load ∙ ap (λ (k : ℕ). frame_answered (notes_of ss e).chain (seen ss bytes c) k command.ProcessData load) h
 
 -- the machine at a data frame whose contents are right, or not
 abbrev pub data_settles : Bool → State → SlaveSettings → List Deed → List ℕ → Command → Outcome
 data_settles b p ss e bytes c =
     settles (view_in p ss e) (seen ss bytes c)
     (data_answer ss e bytes c (data_command (kit_of ss e).offer) (data_load (kit_of ss e).offer))
-    (as_data (if b then Ok (record {
-      chain = answered (notes_of ss e).chain (seen ss bytes c) (conn_of ss e) (data_command (kit_of ss e).offer) (data_load (kit_of ss e).offer);
+    (as_now now.Data (if b then Ok (record {
+      session = answered (session_of (notes_of ss e)) (seen ss bytes c) (conn_of ss e) (data_command (kit_of ss e).offer) (data_load (kit_of ss e).offer);
       terms = (notes_of ss e).terms;
       outputs = outputs_of c (came ss bytes).load;
-      last = bytes_of (came ss bytes);
     }) else Err (no_session, code 0x07)))
 
 -- a data frame is taken

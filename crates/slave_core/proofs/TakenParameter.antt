@@ -27,15 +27,16 @@ use Rattle.end_model.proofs.Shown.{slave-run}
 use Rattle.end_model.proofs.SlaveShown.{SlaveShows, parameters}
 use Rattle.end_model.proofs.WholeUploads.{whole_parameters}
 use Rattle.slave_core.specs.declared.now.Now.TheVariants as now
+use Rattle.slave_core.specs.declared.states.InParameter.{InParameter}
 use Rattle.seq_chain.specs.SessionFrame.{SessionFrameView}
 use Rattle.slave_core.specs.Slave.{Outcome, settles}
-use Rattle.slave_core.specs.States.{answered, answer, parameter_by, echo_reply}
-use Rattle.slave_core.specs.Taken.{as_parameter}
-use Rattle.slave_core.specs.ViewOf.{notes_of, kit_of, upload_of, view_in}
+use Rattle.slave_core.specs.States.{parameter_by, parameter_reply}
+use Rattle.slave_core.specs.Taken.{as_now}
+use Rattle.slave_core.specs.ViewOf.{session_of, notes_of, kit_of, upload_of, view_in}
 use Rattle.slave_core.proofs.Sound.{Sound}
 use Rattle.slave_core.proofs.SameVerdict.{came}
 use Rattle.slave_core.proofs.Agrees.{Agrees, same_slave, fault-agrees}
-use Rattle.slave_core.proofs.Arrived.{Arrived, chain-next, piece-len, filled, piece-own, piece-peer, last-piece, keeps, is-there, there}
+use Rattle.slave_core.proofs.Arrived.{chain_answered, frame_answered, Arrived, chain-next, piece-len, filled, piece-own, piece-peer, last-piece, keeps, is-there, there}
 
 -- the limit of a run isn't 0
 some : (b : Bool) (n h : ℕ) → (b ≡ true → 0 < n) → 0 < h → 0 < (if b then n else h)
@@ -57,12 +58,16 @@ seen ss bytes = record { command = command.Parameter; frame = came ss bytes }
 abbrev upload_at : SlaveSettings → List ℕ → UploadView
 upload_at ss joined = upload_of ss (expected.Parameter ss.most ss.rule ss.profile) joined
 
+-- the state of whose upload these bytes were joined
+abbrev pub parameter_at : SlaveSettings → List Deed → List ℕ → InParameter
+parameter_at ss e joined = record { session = session_of (notes_of ss e); conn = unwrap_or (notes_of ss e).conn 0; address = ss.address; upload = upload_at ss joined }
+
 -- the machine at a Parameter frame whose contents fail, or not
 abbrev pub parameter_settles : Option Code → State → SlaveSettings → List Deed → List ℕ → List ℕ → Outcome
 parameter_settles w p ss e bytes joined =
     settles (view_in p ss e) (seen ss bytes)
-    (echo_reply command.Parameter (kit_of ss e) (notes_of ss e).chain (unwrap_or (notes_of ss e).conn 0) (upload_at ss joined) (seen ss bytes))
-    (as_parameter (parameter_by (outcome_by w (advanced (upload_at ss joined) (came ss bytes).load)) (kit_of ss e) (notes_of ss e).chain (unwrap_or (notes_of ss e).conn 0) ss.address (upload_at ss joined) (seen ss bytes)))
+    (parameter_reply (kit_of ss e) (parameter_at ss e joined) (seen ss bytes))
+    (as_now now.Parameter (parameter_by (outcome_by w (advanced (upload_at ss joined) (came ss bytes).load)) (kit_of ss e) (parameter_at ss e joined) (seen ss bytes)))
 
 -- what is noted before a frame that comes once the connection id and the address are whole
 pub record Connected (ss : SlaveSettings) (e : List Deed) : Type 0 where
@@ -71,8 +76,8 @@ pub record Connected (ss : SlaveSettings) (e : List Deed) : Type 0 where
   pub address_said : number_at 2 (notes_of ss e).connection ≡ ss.address
 
 same_parameter : (x : Expected) (k address : ℕ) (c c' : Chain) (i i' : ℕ) (u : List ℕ) (l l' : List ℕ) → c ≡ c' → i ≡ i' → l ≡ l'
-    → now.Parameter (record { chain = c; conn = i; address = address; upload = record { expected = x; piece = k; joined = u }; last = l })
-    ≡ now.Parameter (record { chain = c'; conn = i'; address = address; upload = record { expected = x; piece = k; joined = u }; last = l' })
+    → now.Parameter (record { session = record { chain = c; last = l }; conn = i; address = address; upload = record { expected = x; piece = k; joined = u } })
+    ≡ now.Parameter (record { session = record { chain = c'; last = l' }; conn = i'; address = address; upload = record { expected = x; piece = k; joined = u } })
 same_parameter x k address c c' i i' u l l' h j g = rw (h, j, g) refl
 
 pub parameter-agrees : (w : Option Code) (p : State) (ss : SlaveSettings) (e : List Deed) (bytes : List ℕ) → state_of (OfSlave ss) e ≡ p → Sound ss e → Connected ss e → Arrived ss bytes command.Parameter
@@ -96,14 +101,14 @@ parameter-agrees None p ss e bytes at s j a run =
       view = λ r. same_slave _ _ _ _ _ _ _ _ refl
           (same_parameter _ _ _ _ _ _ _ _ _ _
           (chain-next (OfSlave ss) (since e) bytes load (seal (OfSlave ss) (since before) (conn_id (OfSlave ss) before) command.Parameter (padded (take c load) ss.lengths.slave)) command.Parameter (conn_id (OfSlave ss) before) command.Parameter (padded (take c load) ss.lengths.slave) refl refl (read_back (OfSlave ss) (since before) (conn_id (OfSlave ss) before) command.Parameter (padded (take c load) ss.lengths.slave) full)
-          ∙ ap (λ (k : ℕ). answered (notes_of ss e).chain (seen ss bytes) k command.Parameter (padded (take c load) ss.lengths.slave)) conn_is
-          ∙ ap (λ (piece : List ℕ). answered (notes_of ss e).chain (seen ss bytes) conn command.Parameter (padded piece ss.lengths.slave)) (sym echo_is))
+          ∙ ap (λ (k : ℕ). chain_answered (notes_of ss e).chain (seen ss bytes) k command.Parameter (padded (take c load) ss.lengths.slave)) conn_is
+          ∙ ap (λ (piece : List ℕ). chain_answered (notes_of ss e).chain (seen ss bytes) conn command.Parameter (padded piece ss.lengths.slave)) (sym echo_is))
           conn_is
           (sym (a.back r)))
           (ap (λ (b : Bool). if b then number_at 2 u else ss.hand) is_whole) refl;
       did = refl;
-      sent = ap (λ (k : ℕ). answer (notes_of ss e).chain (seen ss bytes) k command.Parameter (padded (take c load) ss.lengths.slave)) conn_is
-          ∙ ap (λ (piece : List ℕ). answer (notes_of ss e).chain (seen ss bytes) conn command.Parameter (padded piece ss.lengths.slave)) (sym echo_is);
+      sent = ap (λ (k : ℕ). frame_answered (notes_of ss e).chain (seen ss bytes) k command.Parameter (padded (take c load) ss.lengths.slave)) conn_is
+          ∙ ap (λ (piece : List ℕ). frame_answered (notes_of ss e).chain (seen ss bytes) conn command.Parameter (padded piece ss.lengths.slave)) (sym echo_is);
       sound = record {
         in_state = record {
           kept_is = refl;

@@ -22,15 +22,16 @@ use Rattle.end_model.specs.Step.{takes_frame, on_verdict, begun, id_piece}
 use Rattle.end_model.specs.Verdict.{judged_contents}
 use Rattle.end_model.proofs.ReadBack.{read_back}
 use Rattle.slave_core.specs.declared.now.Now.TheVariants as now
+use Rattle.slave_core.specs.declared.states.InSession.{InSession}
 use Rattle.seq_chain.specs.SessionFrame.{SessionFrameView}
 use Rattle.slave_core.specs.Slave.{Outcome, settles}
-use Rattle.slave_core.specs.States.{answered, answer, session_by, session_reply}
-use Rattle.slave_core.specs.Taken.{as_session}
-use Rattle.slave_core.specs.ViewOf.{Notes, notes_of, kit_of, upload_of, view_in}
+use Rattle.slave_core.specs.States.{session_by, session_reply}
+use Rattle.slave_core.specs.Taken.{as_now}
+use Rattle.slave_core.specs.ViewOf.{session_of, Notes, notes_of, kit_of, upload_of, view_in}
 use Rattle.slave_core.proofs.Sound.{OfSession, count_of, SoundIn, Sound}
 use Rattle.slave_core.proofs.SameVerdict.{came}
 use Rattle.slave_core.proofs.Agrees.{Agrees, same_slave, fresh_limit, fault-agrees}
-use Rattle.slave_core.proofs.Arrived.{Arrived, chain-next, piece-len, filled, piece-own, piece-peer, id-piece as the-piece, count-next, connects-none, is-there}
+use Rattle.slave_core.proofs.Arrived.{chain_answered, frame_answered, Arrived, chain-next, piece-len, filled, piece-own, piece-peer, id-piece as the-piece, count-next, connects-none, is-there}
 
 -- what is noted before a Session frame: the id that is sent is i, and nothing came of the later phases
 pub record Opening (ss : SlaveSettings) (count : ℕ) (n : Notes) (nonce i : ℕ) : Type 0 where
@@ -61,20 +62,25 @@ seen ss bytes = record { command = command.Session; frame = came ss bytes }
 abbrev upload_at : SlaveSettings → List ℕ → UploadView
 upload_at ss joined = upload_of ss (expected.Session ss.profile) joined
 
+-- the state with this id of the slave, by what is noted
+abbrev session_at : SlaveSettings → Notes → ℕ → InSession
+session_at ss n i = record { session = session_of n; id = i; upload = upload_at ss n.session }
+
 -- the machine at a Session frame whose contents fail, or not
-abbrev pub session_settles : Option Code → State → SlaveSettings → List Deed → List ℕ → Chain → ℕ → List ℕ → Outcome
-session_settles w p ss e bytes chain i joined =
+abbrev pub session_settles : Option Code → State → SlaveSettings → List Deed → List ℕ → Notes → ℕ → Outcome
+session_settles w p ss e bytes n i =
     settles (view_in p ss e) (seen ss bytes)
-    (session_reply (kit_of ss e) chain i (upload_at ss joined) (seen ss bytes))
-    (as_session (session_by (outcome_by w (advanced (upload_at ss joined) (came ss bytes).load)) (kit_of ss e) chain i (upload_at ss joined) (seen ss bytes)))
+    (session_reply (kit_of ss e) (session_at ss n i) (seen ss bytes))
+    (as_now now.Session (session_by (outcome_by w (advanced (upload_at ss n.session) (came ss bytes).load)) (kit_of ss e) (session_at ss n i) (seen ss bytes)))
 
 same_session : (x : Expected) (k : ℕ) (c c' : Chain) (i i' : ℕ) (u : List ℕ) (l l' : List ℕ) → c ≡ c' → i ≡ i' → l ≡ l'
-    → now.Session (record { chain = c; id = i; upload = record { expected = x; piece = k; joined = u }; last = l }) ≡ now.Session (record { chain = c'; id = i'; upload = record { expected = x; piece = k; joined = u }; last = l' })
+    → now.Session (record { session = record { chain = c; last = l }; id = i; upload = record { expected = x; piece = k; joined = u } })
+    ≡ now.Session (record { session = record { chain = c'; last = l' }; id = i'; upload = record { expected = x; piece = k; joined = u } })
 same_session x k c c' i i' u l l' h j g = rw (h, j, g) refl
 
 pub session-agrees : (w : Option Code) (p : State) (ss : SlaveSettings) (e : List Deed) (bytes : List ℕ) (i : ℕ) → state_of (OfSlave ss) e ≡ p → Sound ss e
     → Opening ss (count_of e) (notes_of ss e) (nonce (OfSlave ss) e) i → Arrived ss bytes command.Session
-    → Agrees ss e (move.Deliver bytes) (on_verdict p (OfSlave ss) (judged_contents command.Session (came ss bytes).load w)) (session_settles w p ss e bytes (notes_of ss e).chain i (notes_of ss e).session)
+    → Agrees ss e (move.Deliver bytes) (on_verdict p (OfSlave ss) (judged_contents command.Session (came ss bytes).load w)) (session_settles w p ss e bytes (notes_of ss e) i)
 session-agrees (Some x) p ss e bytes i at s o a = fault-agrees p ss e bytes true x at s
 session-agrees None p ss e bytes i at s o a =
     let load : List ℕ = (came ss bytes).load in
@@ -88,12 +94,12 @@ session-agrees None p ss e bytes i at s o a =
       view = λ r. same_slave _ _ _ _ _ _ _ _ refl
           (same_session _ _ _ _ _ _ _ _ _
           (chain-next (OfSlave ss) (since e) bytes load (seal (OfSlave ss) (since before) 0 command.Session (padded piece ss.lengths.slave)) command.Session 0 command.Session (padded piece ss.lengths.slave) refl refl (read_back (OfSlave ss) (since before) 0 command.Session (padded piece ss.lengths.slave) full)
-          ∙ ap (λ (piece : List ℕ). answered (notes_of ss e).chain (seen ss bytes) 0 command.Session (padded piece ss.lengths.slave)) piece_is)
+          ∙ ap (λ (piece : List ℕ). chain_answered (notes_of ss e).chain (seen ss bytes) 0 command.Session (padded piece ss.lengths.slave)) piece_is)
           (ap (λ (o : Option ℕ). unwrap_or o 0) o.id_next)
           (sym (a.back r)))
           limit_is refl;
       did = refl;
-      sent = ap (λ (piece : List ℕ). answer (notes_of ss e).chain (seen ss bytes) 0 command.Session (padded piece ss.lengths.slave)) piece_is;
+      sent = ap (λ (piece : List ℕ). frame_answered (notes_of ss e).chain (seen ss bytes) 0 command.Session (padded piece ss.lengths.slave)) piece_is;
       sound = record {
         in_state = record {
           kept_is = refl;

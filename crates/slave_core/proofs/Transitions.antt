@@ -1,10 +1,8 @@
 -- Each transition of a typed state goes on as looking back says.
-use Rattle.std.proofs.Common.{◌≡◌, ℕ, List, ◌∷◌, Bool, true, false, IsTrue, Result, Ok, Err, IfOk, IfErr, OnOk, OnErr, if◌then◌else◌, refl, sym, ap, subst, ◌∙◌}
+use Rattle.std.proofs.Common.{◌≡◌, ℕ, List, ◌∷◌, Bool, true, false, IsTrue, Result, Ok, Err, IfOk, IfErr, MatchResult, IsOkAnd, OnOk, OnErr, if◌then◌else◌, refl, sym, ap, subst, ◌∙◌}
 use Rattle.fsoe_base.specs.declared.command.Code.{Code}
-use Rattle.fsoe_base.specs.declared.command.Command.TheVariants as command
 use Rattle.fsoe_base.specs.declared.command.State.{State}
 use Rattle.fsoe_base.specs.declared.command.State.TheVariants as state
-use Rattle.seq_chain.specs.Chain.{fresh}
 use Rattle.seq_chain.specs.Opened.{opened}
 use Rattle.seq_chain.specs.SessionFrame.{SessionFrameView}
 use Rattle.param_load.specs.declared.entry.Move.TheVariants as move
@@ -18,6 +16,10 @@ use Rattle.end_model.specs.Step.{on_fault, did_on, step}
 use Rattle.slave_core.specs.declared.now.Now.{Now}
 use Rattle.slave_core.specs.declared.now.Now.TheVariants as now
 use Rattle.slave_core.specs.declared.states.InReset.{InReset}
+use Rattle.slave_core.specs.declared.states.InSession.{InSession}
+use Rattle.slave_core.specs.declared.states.InConnection.{InConnection}
+use Rattle.slave_core.specs.declared.states.InParameter.{InParameter}
+use Rattle.slave_core.specs.declared.states.InData.{InData}
 use Rattle.slave_core.specs.After.{after}
 use Rattle.slave_core.specs.GoesOn.{Meets, IsTaken, IsRefused, GoesOn}
 use Rattle.slave_core.specs.Kit.{KitView}
@@ -25,9 +27,8 @@ use Rattle.slave_core.specs.Now.{kept_in, fault}
 use Rattle.slave_core.specs.Slave.{Outcome, settles, refuses, on_session, on_opened}
 use Rattle.slave_core.specs.SlaveView.{SlaveView}
 use Rattle.slave_core.specs.States as states
-use Rattle.slave_core.specs.Taken.{as_session, as_connection, as_parameter, as_data, next_state, reply}
+use Rattle.slave_core.specs.Taken.{as_now, next_state, reply}
 use Rattle.slave_core.specs.ViewOf.{view_in, view_of}
-use Rattle.slave_core.specs.Views.{SessionView, ConnectionView, ParameterView, DataView}
 use Rattle.slave_core.proofs.Agrees.{Agrees}
 use Rattle.slave_core.proofs.Agreed.{agrees, run-sound}
 
@@ -105,83 +106,78 @@ whole-then : {T : Type 0} (b : Bool) (x y r : T) → b ≡ true → r ≡ x → 
 whole-then true x y r h i = i
 whole-then false x y r h i = absurd (cc h)
 
-more-then : {T : Type 0} (b : Bool) (x y r : T) → b ≡ false → r ≡ y → r ≡ (if b then x else y)
+pub more-then : {T : Type 0} (b : Bool) (x y r : T) → b ≡ false → r ≡ y → r ≡ (if b then x else y)
 more-then false x y r h i = i
 more-then true x y r h i = absurd (cc h)
 
 -- the same of the state as one of the machine's
-session-wrote : (r : Result SessionView (InReset × Code)) (answer before sent : List ℕ) → OnOk r (sent ≡ answer) → OnErr r (sent ≡ before) → Wrote (as_session r) answer before sent
-session-wrote (Ok s) answer before sent w u = record { written = w; unwritten = tt }
-session-wrote (Err x) answer before sent w u = record { written = tt; unwritten = u }
+state-wrote : {S : Type 0} (g : S → Now) (r : Result S (InReset × Code)) (answer before sent : List ℕ) → OnOk r (sent ≡ answer) → OnErr r (sent ≡ before) → Wrote (as_now g r) answer before sent
+state-wrote g (Ok s) answer before sent w u = record { written = w; unwritten = tt }
+state-wrote g (Err x) answer before sent w u = record { written = tt; unwritten = u }
 
-connection-wrote : (r : Result ConnectionView (InReset × Code)) (answer before sent : List ℕ) → OnOk r (sent ≡ answer) → OnErr r (sent ≡ before) → Wrote (as_connection r) answer before sent
-connection-wrote (Ok s) answer before sent w u = record { written = w; unwritten = tt }
-connection-wrote (Err x) answer before sent w u = record { written = tt; unwritten = u }
+pub start_goes : (s : InReset) (kit : KitView) (f : SessionFrameView) (r : Result InSession (InReset × Code)) (before sent : List ℕ)
+    → r ≡ states.session_next kit (states.starting kit) f
+    → OnOk r (sent ≡ states.session_reply kit (states.starting kit) f) → OnErr r (sent ≡ before)
+    → GoesOn (now.Reset s) kit f (as_now now.Session r) before sent
+start_goes s kit f r before sent i w u = goes-by (now.Reset s) kit f (as_now now.Session r) _ before sent (ap (as_now now.Session) i) refl (state-wrote now.Session r _ before sent w u)
 
-parameter-wrote : (r : Result ParameterView (InReset × Code)) (answer before sent : List ℕ) → OnOk r (sent ≡ answer) → OnErr r (sent ≡ before) → Wrote (as_parameter r) answer before sent
-parameter-wrote (Ok s) answer before sent w u = record { written = w; unwritten = tt }
-parameter-wrote (Err x) answer before sent w u = record { written = tt; unwritten = u }
-
-pub start_goes : (s : InReset) (kit : KitView) (f : SessionFrameView) (r : Result SessionView (InReset × Code)) (before sent : List ℕ)
-    → r ≡ states.session_next kit fresh kit.nonce (states.first_session kit) f
-    → OnOk r (sent ≡ states.session_reply kit fresh kit.nonce (states.first_session kit) f) → OnErr r (sent ≡ before)
-    → GoesOn (now.Reset s) kit f (as_session r) before sent
-start_goes s kit f r before sent i w u = goes-by (now.Reset s) kit f (as_session r) _ before sent (ap as_session i) refl (session-wrote r _ before sent w u)
-
-pub session_goes : (s : SessionView) (kit : KitView) (f : SessionFrameView) (r : Result SessionView (InReset × Code)) (before sent : List ℕ) → is_whole s.upload ≡ false
-    → r ≡ states.session_next kit s.chain s.id s.upload f
-    → OnOk r (sent ≡ states.session_reply kit s.chain s.id s.upload f) → OnErr r (sent ≡ before)
-    → GoesOn (now.Session s) kit f (as_session r) before sent
+pub session_goes : (s : InSession) (kit : KitView) (f : SessionFrameView) (r : Result InSession (InReset × Code)) (before sent : List ℕ) → is_whole s.upload ≡ false
+    → r ≡ states.session_next kit s f → OnOk r (sent ≡ states.session_reply kit s f) → OnErr r (sent ≡ before)
+    → GoesOn (now.Session s) kit f (as_now now.Session r) before sent
 session_goes s kit f r before sent h i w u =
-    goes-by (now.Session s) kit f (as_session r) _ before sent (more-then (is_whole s.upload) _ _ (as_session r) h (ap as_session i)) (more-then (is_whole s.upload) _ _ _ h refl) (session-wrote r _ before sent w u)
+    goes-by (now.Session s) kit f (as_now now.Session r) _ before sent (more-then (is_whole s.upload) _ _ (as_now now.Session r) h (ap (as_now now.Session) i)) (more-then (is_whole s.upload) _ _ _ h refl)
+    (state-wrote now.Session r _ before sent w u)
 
-pub connect_goes : (s : SessionView) (kit : KitView) (f : SessionFrameView) (r : Result ConnectionView (InReset × Code)) (before sent : List ℕ) → IsTrue (is_whole s.upload)
-    → r ≡ states.connection_next kit s.chain f.frame.conn (states.first_connection kit f.frame.conn) f
-    → OnOk r (sent ≡ states.echo_reply command.Connection kit s.chain f.frame.conn (states.first_connection kit f.frame.conn) f) → OnErr r (sent ≡ before)
-    → GoesOn (now.Session s) kit f (as_connection r) before sent
+pub connect_goes : (s : InSession) (kit : KitView) (f : SessionFrameView) (r : Result InConnection (InReset × Code)) (before sent : List ℕ) → IsTrue (is_whole s.upload)
+    → r ≡ states.connection_next kit (states.connecting kit s f.frame.conn) f
+    → OnOk r (sent ≡ states.connection_reply kit (states.connecting kit s f.frame.conn) f) → OnErr r (sent ≡ before)
+    → GoesOn (now.Session s) kit f (as_now now.Connection r) before sent
 connect_goes s kit f r before sent h i w u =
-    goes-by (now.Session s) kit f (as_connection r) _ before sent (whole-then (is_whole s.upload) _ _ (as_connection r) h (ap as_connection i)) (whole-then (is_whole s.upload) _ _ _ h refl) (connection-wrote r _ before sent w u)
+    goes-by (now.Session s) kit f (as_now now.Connection r) _ before sent (whole-then (is_whole s.upload) _ _ (as_now now.Connection r) h (ap (as_now now.Connection) i)) (whole-then (is_whole s.upload) _ _ _ h refl)
+    (state-wrote now.Connection r _ before sent w u)
 
-pub connection_goes : (s : ConnectionView) (kit : KitView) (f : SessionFrameView) (r : Result ConnectionView (InReset × Code)) (before sent : List ℕ) → is_whole s.upload ≡ false
-    → r ≡ states.connection_next kit s.chain s.conn s.upload f
-    → OnOk r (sent ≡ states.echo_reply command.Connection kit s.chain s.conn s.upload f) → OnErr r (sent ≡ before)
-    → GoesOn (now.Connection s) kit f (as_connection r) before sent
+pub connection_goes : (s : InConnection) (kit : KitView) (f : SessionFrameView) (r : Result InConnection (InReset × Code)) (before sent : List ℕ) → is_whole s.upload ≡ false
+    → r ≡ states.connection_next kit s f → OnOk r (sent ≡ states.connection_reply kit s f) → OnErr r (sent ≡ before)
+    → GoesOn (now.Connection s) kit f (as_now now.Connection r) before sent
 connection_goes s kit f r before sent h i w u =
-    goes-by (now.Connection s) kit f (as_connection r) _ before sent (more-then (is_whole s.upload) _ _ (as_connection r) h (ap as_connection i)) (more-then (is_whole s.upload) _ _ _ h refl) (connection-wrote r _ before sent w u)
+    goes-by (now.Connection s) kit f (as_now now.Connection r) _ before sent (more-then (is_whole s.upload) _ _ (as_now now.Connection r) h (ap (as_now now.Connection) i)) (more-then (is_whole s.upload) _ _ _ h refl)
+    (state-wrote now.Connection r _ before sent w u)
 
-pub load_goes : (s : ConnectionView) (kit : KitView) (f : SessionFrameView) (r : Result ParameterView (InReset × Code)) (before sent : List ℕ) → IsTrue (is_whole s.upload)
-    → r ≡ states.parameter_next kit s.chain s.conn kit.settings.address (states.first_parameter kit) f
-    → OnOk r (sent ≡ states.echo_reply command.Parameter kit s.chain s.conn (states.first_parameter kit) f) → OnErr r (sent ≡ before)
-    → GoesOn (now.Connection s) kit f (as_parameter r) before sent
+pub load_goes : (s : InConnection) (kit : KitView) (f : SessionFrameView) (r : Result InParameter (InReset × Code)) (before sent : List ℕ) → IsTrue (is_whole s.upload)
+    → r ≡ states.parameter_next kit (states.loading kit s) f
+    → OnOk r (sent ≡ states.parameter_reply kit (states.loading kit s) f) → OnErr r (sent ≡ before)
+    → GoesOn (now.Connection s) kit f (as_now now.Parameter r) before sent
 load_goes s kit f r before sent h i w u =
-    goes-by (now.Connection s) kit f (as_parameter r) _ before sent (whole-then (is_whole s.upload) _ _ (as_parameter r) h (ap as_parameter i)) (whole-then (is_whole s.upload) _ _ _ h refl) (parameter-wrote r _ before sent w u)
+    goes-by (now.Connection s) kit f (as_now now.Parameter r) _ before sent (whole-then (is_whole s.upload) _ _ (as_now now.Parameter r) h (ap (as_now now.Parameter) i)) (whole-then (is_whole s.upload) _ _ _ h refl)
+    (state-wrote now.Parameter r _ before sent w u)
 
-pub parameter_goes : (s : ParameterView) (kit : KitView) (f : SessionFrameView) (r : Result ParameterView (InReset × Code)) (before sent : List ℕ) → is_whole s.upload ≡ false
-    → r ≡ states.parameter_next kit s.chain s.conn s.address s.upload f
-    → OnOk r (sent ≡ states.echo_reply command.Parameter kit s.chain s.conn s.upload f) → OnErr r (sent ≡ before)
-    → GoesOn (now.Parameter s) kit f (as_parameter r) before sent
+pub parameter_goes : (s : InParameter) (kit : KitView) (f : SessionFrameView) (r : Result InParameter (InReset × Code)) (before sent : List ℕ) → is_whole s.upload ≡ false
+    → r ≡ states.parameter_next kit s f → OnOk r (sent ≡ states.parameter_reply kit s f) → OnErr r (sent ≡ before)
+    → GoesOn (now.Parameter s) kit f (as_now now.Parameter r) before sent
 parameter_goes s kit f r before sent h i w u =
-    goes-by (now.Parameter s) kit f (as_parameter r) _ before sent (more-then (is_whole s.upload) _ _ (as_parameter r) h (ap as_parameter i)) (more-then (is_whole s.upload) _ _ _ h refl) (parameter-wrote r _ before sent w u)
+    goes-by (now.Parameter s) kit f (as_now now.Parameter r) _ before sent (more-then (is_whole s.upload) _ _ (as_now now.Parameter r) h (ap (as_now now.Parameter) i)) (more-then (is_whole s.upload) _ _ _ h refl)
+    (state-wrote now.Parameter r _ before sent w u)
 
-pub run_goes : (s : ParameterView) (kit : KitView) (f : SessionFrameView) (next : DataView) (before sent : List ℕ) → IsTrue (is_whole s.upload)
-    → Ok next ≡ states.data_next kit s.chain (states.terms_of kit s.conn s.address s.upload) f
-    → sent ≡ states.data_reply kit s.chain (states.terms_of kit s.conn s.address s.upload) f
-    → GoesOn (now.Parameter s) kit f (Ok (now.Data next)) before sent
-run_goes s kit f next before sent h i w =
-    goes-by (now.Parameter s) kit f (Ok (now.Data next)) _ before sent (whole-then (is_whole s.upload) _ _ (Ok (now.Data next)) h (ap as_data i)) (whole-then (is_whole s.upload) _ _ _ h refl) (record { written = w; unwritten = tt })
+pub run_goes : (s : InParameter) (kit : KitView) (f : SessionFrameView) (r : Result InData (InReset × Code)) (before sent : List ℕ) → IsTrue (is_whole s.upload)
+    → r ≡ states.data_next kit (states.running kit s) f
+    → OnOk r (sent ≡ states.data_reply kit (states.running kit s) f) → OnErr r (sent ≡ before)
+    → GoesOn (now.Parameter s) kit f (as_now now.Data r) before sent
+run_goes s kit f r before sent h i w u =
+    goes-by (now.Parameter s) kit f (as_now now.Data r) _ before sent (whole-then (is_whole s.upload) _ _ (as_now now.Data r) h (ap (as_now now.Data) i)) (whole-then (is_whole s.upload) _ _ _ h refl)
+    (state-wrote now.Data r _ before sent w u)
 
-pub run_refused : (s : ParameterView) (kit : KitView) (f : SessionFrameView) (reset : InReset) (x : Code) (before sent : List ℕ) → IsTrue (is_whole s.upload)
-    → Err (reset, x) ≡ states.data_next kit s.chain (states.terms_of kit s.conn s.address s.upload) f → sent ≡ before
-    → GoesOn (now.Parameter s) kit f (Err (reset, x)) before sent
-run_refused s kit f reset x before sent h i u =
-    goes-by (now.Parameter s) kit f (Err (reset, x)) (reply kit (now.Parameter s) f) before sent (whole-then (is_whole s.upload) _ _ (Err (reset, x)) h (ap as_data i)) refl (record { written = tt; unwritten = u })
-
-pub data_goes : (s : DataView) (kit : KitView) (f : SessionFrameView) (next : DataView) (before sent : List ℕ)
-    → Ok next ≡ states.data_next kit s.chain s.terms f → sent ≡ states.data_reply kit s.chain s.terms f
+pub data_goes : (s : InData) (kit : KitView) (f : SessionFrameView) (next : InData) (before sent : List ℕ)
+    → Ok next ≡ states.data_next kit s f → sent ≡ states.data_reply kit s f
     → GoesOn (now.Data s) kit f (Ok (now.Data next)) before sent
-data_goes s kit f next before sent i w = goes-by (now.Data s) kit f (Ok (now.Data next)) _ before sent (ap as_data i) refl (record { written = w; unwritten = tt })
+data_goes s kit f next before sent i w = goes-by (now.Data s) kit f (Ok (now.Data next)) _ before sent (ap (as_now now.Data) i) refl (record { written = w; unwritten = tt })
 
-pub data_refused : (s : DataView) (kit : KitView) (f : SessionFrameView) (reset : InReset) (x : Code) (before sent : List ℕ)
-    → Err (reset, x) ≡ states.data_next kit s.chain s.terms f → sent ≡ before
+pub data_refused : (s : InData) (kit : KitView) (f : SessionFrameView) (reset : InReset) (x : Code) (before sent : List ℕ)
+    → Err (reset, x) ≡ states.data_next kit s f → sent ≡ before
     → GoesOn (now.Data s) kit f (Err (reset, x)) before sent
-data_refused s kit f reset x before sent i u = goes-by (now.Data s) kit f (Err (reset, x)) (reply kit (now.Data s) f) before sent (ap as_data i) refl (record { written = tt; unwritten = u })
+data_refused s kit f reset x before sent i u = goes-by (now.Data s) kit f (Err (reset, x)) (reply kit (now.Data s) f) before sent (ap (as_now now.Data) i) refl (record { written = tt; unwritten = u })
+
+-- a result that was mapped to one of the machine's states
+pub mapped : {S : Type 0} (g : S → Now) (r : Result S (InReset × Code)) (w : Result Now (InReset × Code)) → MatchResult r (λ s. IsOkAnd w (λ n. n ≡ g s)) (λ e. w ≡ Err e) → w ≡ as_now g r
+mapped g (Ok s) (Ok n) h = ap (λ (n : Now). Ok n) h
+mapped g (Ok s) (Err x) h = absurd h
+mapped g (Err x) w h = h

@@ -6,7 +6,9 @@ use Rattle.fsoe_base.specs.declared.command.State.{State}
 use Rattle.fsoe_base.specs.declared.command.State.TheVariants as state
 use Rattle.fsoe_base.specs.declared.command.Code.{Code}
 use Rattle.seq_chain.specs.declared.chain.Chain.{Chain}
-use Rattle.seq_chain.specs.Chain.{fresh, fits_next}
+use Rattle.seq_chain.specs.declared.session.Session.{Session}
+use Rattle.seq_chain.specs.Chain.{fits_next}
+use Rattle.seq_chain.specs.Session.{chain_in, last_in, session_fault}
 use Rattle.seq_chain.specs.SessionFrame.{SessionFrameView}
 use Rattle.param_load.specs.declared.slave_settings.SlaveSettings.{SlaveSettings}
 use Rattle.param_load.specs.declared.terms.Terms.{Terms}
@@ -14,7 +16,6 @@ use Rattle.param_load.specs.Payload.{number_at}
 use Rattle.param_load.specs.Upload.{is_whole}
 use Rattle.end_model.specs.Setup.{OfSlave, receives}
 use Rattle.end_model.specs.Readiness.{slave_allows}
-use Rattle.end_model.specs.Verdict.{session_fault}
 use Rattle.slave_core.specs.declared.now.Now.{Now}
 use Rattle.slave_core.specs.declared.now.Now.TheVariants as now
 use Rattle.slave_core.specs.Views.{SessionUnder, ConnectionUnder, ParameterUnder, DataUnder}
@@ -40,21 +41,21 @@ abbrev pub is_reset : Now → Bool
 is_reset (now.Reset s) = true
 is_reset _ = false
 
+-- the session: none in state Reset
+abbrev pub session_of : Now → Option Session
+session_of (now.Reset s) = None
+session_of (now.Session s) = Some s.session
+session_of (now.Connection s) = Some s.session
+session_of (now.Parameter s) = Some s.session
+session_of (now.Data s) = Some s.session
+
 -- the bytes of the frame that was taken last in the session: none in state Reset
 abbrev pub kept_in : Now → Option (List ℕ)
-kept_in (now.Reset s) = None
-kept_in (now.Session s) = Some s.last
-kept_in (now.Connection s) = Some s.last
-kept_in (now.Parameter s) = Some s.last
-kept_in (now.Data s) = Some s.last
+kept_in now = last_in (session_of now)
 
 -- the chain of the session, a new one in state Reset
 abbrev pub chain_of : Now → Chain
-chain_of (now.Reset s) = fresh
-chain_of (now.Session s) = s.chain
-chain_of (now.Connection s) = s.chain
-chain_of (now.Parameter s) = s.chain
-chain_of (now.Data s) = s.chain
+chain_of now = chain_in (session_of now)
 
 -- whether the payload of the phase is whole
 abbrev pub is_done : Now → Bool

@@ -1,14 +1,13 @@
 -- How the states of a slave go on by a frame that passed the tests.
-use Rattle.std.specs.Prelude.{ℕ, List, length, Result, Ok, Err, if◌then◌else◌}
+use Rattle.std.specs.Prelude.{ℕ, List, length, replicate, Result, Ok, Err, if◌then◌else◌}
 use Rattle.fsoe_base.specs.declared.command.Code.{Code}
 use Rattle.fsoe_base.specs.declared.command.Command.{Command}
 use Rattle.fsoe_base.specs.declared.command.Command.TheVariants as command
 use Rattle.fsoe_base.specs.Command.{code}
-use Rattle.fsoe_frame.specs.Parts.{bytes_of}
-use Rattle.seq_chain.specs.declared.chain.Chain.{Chain}
-use Rattle.seq_chain.specs.Chain.{after_taken, chain_sent, frame_sent}
+use Rattle.seq_chain.specs.declared.session.Session.{Session}
+use Rattle.seq_chain.specs.Chain.{frame_sent}
+use Rattle.seq_chain.specs.Session.{first_session, session_taken, session_sent}
 use Rattle.seq_chain.specs.SessionFrame.{SessionFrameView}
-use Rattle.param_load.specs.declared.terms.Terms.{Terms}
 use Rattle.param_load.specs.declared.upload.Progress.{Progress}
 use Rattle.param_load.specs.Contents.{app_part}
 use Rattle.param_load.specs.Payload.{session_payload, number_at, piece_from, padded}
@@ -17,109 +16,116 @@ use Rattle.param_load.specs.UploadView.{UploadView}
 use Rattle.fsoe_base.specs.Data.{data_holds}
 use Rattle.failsafe_io.specs.Offer.{data_command, data_load}
 use Rattle.failsafe_io.specs.Outputs.{outputs_of}
-use Rattle.end_model.specs.Setup.{OfSlave, sends, piece_len}
+use Rattle.end_model.specs.Setup.{OfSlave, sends, receives, piece_len}
 use Rattle.slave_core.specs.declared.states.InReset.{InReset}
+use Rattle.slave_core.specs.declared.states.InSession.{InSession}
+use Rattle.slave_core.specs.declared.states.InConnection.{InConnection}
+use Rattle.slave_core.specs.declared.states.InParameter.{InParameter}
+use Rattle.slave_core.specs.declared.states.InData.{InData}
 use Rattle.slave_core.specs.Kit.{KitView}
-use Rattle.slave_core.specs.Views.{SessionView, ConnectionView, ParameterView, DataView}
 
 -- state Reset, which has nothing of a session
 abbrev pub no_session : InReset
 no_session = record { private = tt }
 
--- the chain after a frame is taken and its answer is sent
-abbrev pub answered : Chain → SessionFrameView → ℕ → Command → List ℕ → Chain
-answered chain f conn cmd load = chain_sent (after_taken chain f.frame) conn cmd load
+-- the session after a frame is taken and its answer is sent
+abbrev pub answered : Session → SessionFrameView → ℕ → Command → List ℕ → Session
+answered s f conn cmd load = session_sent (session_taken s f) conn cmd load
 
 -- the bytes of the answer to a frame, which covers the frame
-abbrev pub answer : Chain → SessionFrameView → ℕ → Command → List ℕ → List ℕ
-answer chain f conn cmd load = frame_sent (after_taken chain f.frame) conn cmd load
+abbrev pub answer : Session → SessionFrameView → ℕ → Command → List ℕ → List ℕ
+answer s f conn cmd load = frame_sent (session_taken s f).chain conn cmd load
 
 -- the load of the answer to a Session frame: the piece of the slave's own session id that has the number of the frame, and zeros
-abbrev pub session_load : KitView → ℕ → UploadView → List ℕ
-session_load kit id upload = padded (piece_from (session_payload id kit.settings.profile) (length upload.joined) (piece_len (OfSlave kit.settings))) (sends (OfSlave kit.settings))
+abbrev pub session_load : KitView → InSession → List ℕ
+session_load kit s = padded (piece_from (session_payload s.id kit.settings.profile) (length s.upload.joined) (piece_len (OfSlave kit.settings))) (sends (OfSlave kit.settings))
 
 -- the state after a Session frame, by what the test of its contents says: the slave's session id stays
-abbrev pub session_by : Result Progress Code → KitView → Chain → ℕ → UploadView → SessionFrameView → Result SessionView (InReset × Code)
-session_by (Err found) kit chain id upload f = Err (no_session, found)
-session_by (Ok progress) kit chain id upload f =
-    Ok (record { chain = answered chain f 0 command.Session (session_load kit id upload); id = id; upload = advanced upload f.frame.load; last = bytes_of f.frame })
+abbrev pub session_by : Result Progress Code → KitView → InSession → SessionFrameView → Result InSession (InReset × Code)
+session_by (Err found) kit s f = Err (no_session, found)
+session_by (Ok progress) kit s f = Ok (record s { session = answered s.session f 0 command.Session (session_load kit s); upload = advanced s.upload f.frame.load })
 
 -- the state after a Session frame, or state Reset with the code of its contents
-abbrev pub session_next : KitView → Chain → ℕ → UploadView → SessionFrameView → Result SessionView (InReset × Code)
-session_next kit chain id upload f = session_by (outcome upload f.frame.load) kit chain id upload f
+abbrev pub session_next : KitView → InSession → SessionFrameView → Result InSession (InReset × Code)
+session_next kit s f = session_by (outcome s.upload f.frame.load) kit s f
 
 -- the answer to a Session frame: its connection id is 0
-abbrev pub session_reply : KitView → Chain → ℕ → UploadView → SessionFrameView → List ℕ
-session_reply kit chain id upload f = answer chain f 0 command.Session (session_load kit id upload)
+abbrev pub session_reply : KitView → InSession → SessionFrameView → List ℕ
+session_reply kit s f = answer s.session f 0 command.Session (session_load kit s)
 
 -- the load of the answer to a Connection or a Parameter frame: its own piece, and zeros
 abbrev pub echo : KitView → UploadView → SessionFrameView → List ℕ
 echo kit upload f = padded (last_piece (advanced upload f.frame.load)) (sends (OfSlave kit.settings))
 
--- the answer to a Connection or a Parameter frame
-abbrev pub echo_reply : Command → KitView → Chain → ℕ → UploadView → SessionFrameView → List ℕ
-echo_reply cmd kit chain conn upload f = answer chain f conn cmd (echo kit upload f)
-
 -- the state after a Connection frame, by what the test of its contents says: the connection id stays
-abbrev pub connection_by : Result Progress Code → KitView → Chain → ℕ → UploadView → SessionFrameView → Result ConnectionView (InReset × Code)
-connection_by (Err found) kit chain conn upload f = Err (no_session, found)
-connection_by (Ok progress) kit chain conn upload f =
-    Ok (record { chain = answered chain f conn command.Connection (echo kit upload f); conn = conn; upload = advanced upload f.frame.load; last = bytes_of f.frame })
+abbrev pub connection_by : Result Progress Code → KitView → InConnection → SessionFrameView → Result InConnection (InReset × Code)
+connection_by (Err found) kit s f = Err (no_session, found)
+connection_by (Ok progress) kit s f = Ok (record s { session = answered s.session f s.conn command.Connection (echo kit s.upload f); upload = advanced s.upload f.frame.load })
 
 -- the state after a Connection frame, or state Reset with the code of its contents
-abbrev pub connection_next : KitView → Chain → ℕ → UploadView → SessionFrameView → Result ConnectionView (InReset × Code)
-connection_next kit chain conn upload f = connection_by (outcome upload f.frame.load) kit chain conn upload f
+abbrev pub connection_next : KitView → InConnection → SessionFrameView → Result InConnection (InReset × Code)
+connection_next kit s f = connection_by (outcome s.upload f.frame.load) kit s f
+
+-- the answer to a Connection frame
+abbrev pub connection_reply : KitView → InConnection → SessionFrameView → List ℕ
+connection_reply kit s f = answer s.session f s.conn command.Connection (echo kit s.upload f)
 
 -- the state after a Parameter frame, by what the test of its contents says: the connection id and the address stay
-abbrev pub parameter_by : Result Progress Code → KitView → Chain → ℕ → ℕ → UploadView → SessionFrameView → Result ParameterView (InReset × Code)
-parameter_by (Err found) kit chain conn address upload f = Err (no_session, found)
-parameter_by (Ok progress) kit chain conn address upload f =
-    Ok (record {
-      chain = answered chain f conn command.Parameter (echo kit upload f);
-      conn = conn;
-      address = address;
-      upload = advanced upload f.frame.load;
-      last = bytes_of f.frame;
-    })
+abbrev pub parameter_by : Result Progress Code → KitView → InParameter → SessionFrameView → Result InParameter (InReset × Code)
+parameter_by (Err found) kit s f = Err (no_session, found)
+parameter_by (Ok progress) kit s f = Ok (record s { session = answered s.session f s.conn command.Parameter (echo kit s.upload f); upload = advanced s.upload f.frame.load })
 
 -- the state after a Parameter frame, or state Reset with the code of its contents
-abbrev pub parameter_next : KitView → Chain → ℕ → ℕ → UploadView → SessionFrameView → Result ParameterView (InReset × Code)
-parameter_next kit chain conn address upload f = parameter_by (outcome upload f.frame.load) kit chain conn address upload f
+abbrev pub parameter_next : KitView → InParameter → SessionFrameView → Result InParameter (InReset × Code)
+parameter_next kit s f = parameter_by (outcome s.upload f.frame.load) kit s f
 
--- the upload of a session id, of which nothing has come
-abbrev pub first_session : KitView → UploadView
-first_session kit = session_upload (piece_len (OfSlave kit.settings)) kit.settings.profile
-
--- the upload of this connection id and the slave's address, of which nothing has come
-abbrev pub first_connection : KitView → ℕ → UploadView
-first_connection kit conn = connection_upload (piece_len (OfSlave kit.settings)) conn kit.settings.address
-
--- the upload of parameters that the settings accept, of which nothing has come
-abbrev pub first_parameter : KitView → UploadView
-first_parameter kit = parameter_upload (piece_len (OfSlave kit.settings)) kit.settings.most kit.settings.rule kit.settings.profile
-
--- the terms that a whole upload of parameters gives
-abbrev pub terms_of : KitView → ℕ → ℕ → UploadView → Terms
-terms_of kit conn address upload = record {
-  conn = conn;
-  address = address;
-  watchdog = number_at 2 upload.joined;
-  app = app_part upload.expected upload.joined;
-  profile = kit.settings.profile;
-}
+-- the answer to a Parameter frame
+abbrev pub parameter_reply : KitView → InParameter → SessionFrameView → List ℕ
+parameter_reply kit s f = answer s.session f s.conn command.Parameter (echo kit s.upload f)
 
 -- the state after a data frame, with its outputs, or state Reset with code 7 where fail-safe data aren't zeros
-abbrev pub data_next : KitView → Chain → Terms → SessionFrameView → Result DataView (InReset × Code)
-data_next kit chain terms f =
+abbrev pub data_next : KitView → InData → SessionFrameView → Result InData (InReset × Code)
+data_next kit s f =
     if data_holds f.command f.frame.load
-    then Ok (record { chain = answered chain f terms.conn (data_command kit.offer) (data_load kit.offer); terms = terms; outputs = outputs_of f.command f.frame.load; last = bytes_of f.frame })
+    then Ok (record s { session = answered s.session f s.terms.conn (data_command kit.offer) (data_load kit.offer); outputs = outputs_of f.command f.frame.load })
     else Err (no_session, code 0x07)
 
 -- the answer to a data frame: the offer, or zeros while the slave is held
-abbrev pub data_reply : KitView → Chain → Terms → SessionFrameView → List ℕ
-data_reply kit chain terms f = answer chain f terms.conn (data_command kit.offer) (data_load kit.offer)
+abbrev pub data_reply : KitView → InData → SessionFrameView → List ℕ
+data_reply kit s f = answer s.session f s.terms.conn (data_command kit.offer) (data_load kit.offer)
+
+-- a new session, of whose session id nothing has come. The slave's is its nonce
+abbrev pub starting : KitView → InSession
+starting kit = record { session = first_session; id = kit.nonce; upload = session_upload (piece_len (OfSlave kit.settings)) kit.settings.profile }
+
+-- a session with this connection id, of whose connection id and address nothing has come
+abbrev pub connecting : KitView → InSession → ℕ → InConnection
+connecting kit s conn = record { session = s.session; conn = conn; upload = connection_upload (piece_len (OfSlave kit.settings)) conn kit.settings.address }
+
+-- a session of whose parameters nothing has come
+abbrev pub loading : KitView → InConnection → InParameter
+loading kit s = record {
+  session = s.session;
+  conn = s.conn;
+  address = kit.settings.address;
+  upload = parameter_upload (piece_len (OfSlave kit.settings)) kit.settings.most kit.settings.rule kit.settings.profile;
+}
+
+-- a session under the terms that whole parameters give, with zeros as outputs
+abbrev pub running : KitView → InParameter → InData
+running kit s = record {
+  session = s.session;
+  terms = record {
+    conn = s.conn;
+    address = s.address;
+    watchdog = number_at 2 s.upload.joined;
+    app = app_part s.upload.expected s.upload.joined;
+    profile = kit.settings.profile;
+  };
+  outputs = replicate (receives (OfSlave kit.settings)) 0;
+}
 
 -- a state that went on in place, as a transition gives it
-abbrev pub in_place : Result (Unit {0}) Code → DataView → Result DataView (InReset × Code)
+abbrev pub in_place : Result (Unit {0}) Code → InData → Result InData (InReset × Code)
 in_place (Ok done) s = Ok s
 in_place (Err found) s = Err (no_session, found)

@@ -3,6 +3,7 @@ use Rattle.std.specs.Prelude.{ℕ, List, [], Option, unwrap_or}
 use Rattle.fsoe_base.specs.declared.command.State.{State}
 use Rattle.fsoe_base.specs.declared.command.State.TheVariants as state
 use Rattle.seq_chain.specs.declared.chain.Chain.{Chain}
+use Rattle.seq_chain.specs.declared.session.Session.{Session}
 use Rattle.param_load.specs.declared.contents.Expected.{Expected}
 use Rattle.param_load.specs.declared.contents.Expected.TheVariants as expected
 use Rattle.param_load.specs.declared.slave_settings.SlaveSettings.{SlaveSettings}
@@ -54,29 +55,26 @@ notes_of ss e = record {
 abbrev pub upload_of : SlaveSettings → Expected → List ℕ → UploadView
 upload_of ss expects joined = record { expected = expects; piece = piece_len (OfSlave ss); joined = joined }
 
+-- the session that is noted
+abbrev pub session_of : Notes → Session
+session_of n = record { chain = n.chain; last = unwrap_or n.kept [] }
+
 -- the machine's state in each state, by what is noted
 abbrev pub now_in : State → SlaveSettings → Notes → Now
 now_in state.Reset ss n = now.Reset no_session
-now_in state.Session ss n = now.Session (record {
-  chain = n.chain;
-  id = unwrap_or n.id 0;
-  upload = upload_of ss (expected.Session ss.profile) n.session;
-  last = unwrap_or n.kept [];
-})
+now_in state.Session ss n = now.Session (record { session = session_of n; id = unwrap_or n.id 0; upload = upload_of ss (expected.Session ss.profile) n.session })
 now_in state.Connection ss n = now.Connection (record {
-  chain = n.chain;
+  session = session_of n;
   conn = unwrap_or n.conn 0;
   upload = upload_of ss (expected.Connection (unwrap_or n.conn 0) ss.address) n.connection;
-  last = unwrap_or n.kept [];
 })
 now_in state.Parameter ss n = now.Parameter (record {
-  chain = n.chain;
+  session = session_of n;
   conn = unwrap_or n.conn 0;
   address = ss.address;
   upload = upload_of ss (expected.Parameter ss.most ss.rule ss.profile) n.parameter;
-  last = unwrap_or n.kept [];
 })
-now_in state.Data ss n = now.Data (record { chain = n.chain; terms = n.terms; outputs = n.outputs; last = unwrap_or n.kept [] })
+now_in state.Data ss n = now.Data (record { session = session_of n; terms = n.terms; outputs = n.outputs })
 
 -- a slave in this state after these deeds
 abbrev pub view_in : State → SlaveSettings → List Deed → SlaveView

@@ -4,7 +4,7 @@ use crate::seen::Seen;
 use crate::states::{InConnection, InData, InParameter, InReset, InSession};
 use fsoe_base::{Code, Command, FrameBuf, State};
 use param_load::Terms;
-use seq_chain::{Chain, Link, SessionFrame};
+use seq_chain::{Link, Session, SessionFrame, test_session};
 
 /// The state that a slave is in.
 #[derive(Debug, Drop)]
@@ -17,13 +17,12 @@ pub(crate) enum Now {
 }
 
 impl Now {
-    ghost use Rattle.std.specs.Prelude.{◌≡◌, ◌<◌, IsTrue, IfOk, OnOk, OnErr, option_copied};
+    ghost use Rattle.std.specs.Prelude.{◌≡◌, ◌<◌, IsTrue, Some, IfOk, OnOk, OnErr, option_copied};
     ghost use Rattle.std.specs.Result.{result_err};
-    ghost use Rattle.seq_chain.specs.SessionFrame.{HasPassed};
-    ghost use Rattle.seq_chain.specs.Tested.{Notes};
-    ghost use Rattle.end_model.specs.Verdict.{is_repeat};
+    ghost use Rattle.seq_chain.specs.Chain.{tested};
+    ghost use Rattle.seq_chain.specs.Session.{HasPassed, is_repeat};
     ghost use Rattle.end_model.specs.Setup.{OfSlave, receives};
-    ghost use Rattle.slave_core.specs.Now.{IsUnder, state_of, is_reset, chain_of, kept_in, allows, has_conn, limit_of, terms_shown_in, fault};
+    ghost use Rattle.slave_core.specs.Now.{IsUnder, state_of, is_reset, session_of, chain_of, kept_in, allows, has_conn, limit_of, terms_shown_in, fault};
     ghost use Rattle.slave_core.specs.Taken.{next_state, reply};
 
     pub(crate) fn state(&self) -> State
@@ -44,17 +43,24 @@ impl Now {
         matches!(self, Now::Reset(_))
     }
 
+    /// The session, None in state Reset.
+    fn session(&self) -> Option<&Session>
+        ensures { option_copied result ≡ session_of self.now }
+    {
+        match self {
+            Now::Reset(_) => None,
+            Now::Session(state) => Some(&state.session),
+            Now::Connection(state) => Some(&state.session),
+            Now::Parameter(state) => Some(&state.session),
+            Now::Data(state) => Some(&state.session),
+        }
+    }
+
     /// Whether these bytes are those of the frame that was taken last. In state Reset none is kept.
     pub(crate) fn is_repeat(&self, frame: &[u8]) -> bool
         ensures { result ≡ is_repeat (kept_in self.now) frame.now }
     {
-        match self {
-            Now::Reset(_) => false,
-            Now::Session(state) => state.last() == frame,
-            Now::Connection(state) => state.last() == frame,
-            Now::Parameter(state) => state.last() == frame,
-            Now::Data(state) => state.last() == frame,
-        }
+        seq_chain::is_repeat(self.session(), frame)
     }
 
     /// Whether a command of a session is allowed.
@@ -63,13 +69,13 @@ impl Now {
     {
         match (self, command) {
             (Now::Reset(_), Command::Session) => true,
-            (Now::Session(state), Command::Session) => !state.is_whole(),
-            (Now::Session(state), Command::Connection) => state.is_whole(),
-            (Now::Connection(state), Command::Connection) => !state.is_whole(),
-            (Now::Connection(state), Command::Parameter) => state.is_whole(),
-            (Now::Parameter(state), Command::Parameter) => !state.is_whole(),
-            (Now::Parameter(state), Command::ProcessData) => state.is_whole(),
-            (Now::Parameter(state), Command::FailSafeData) => state.is_whole(),
+            (Now::Session(state), Command::Session) => !state.upload.is_whole(),
+            (Now::Session(state), Command::Connection) => state.upload.is_whole(),
+            (Now::Connection(state), Command::Connection) => !state.upload.is_whole(),
+            (Now::Connection(state), Command::Parameter) => state.upload.is_whole(),
+            (Now::Parameter(state), Command::Parameter) => !state.upload.is_whole(),
+            (Now::Parameter(state), Command::ProcessData) => state.upload.is_whole(),
+            (Now::Parameter(state), Command::FailSafeData) => state.upload.is_whole(),
             (Now::Data(_), Command::ProcessData) => true,
             (Now::Data(_), Command::FailSafeData) => true,
             _ => false,
@@ -84,42 +90,22 @@ impl Now {
             (Now::Reset(_), _) => field == 0,
             (Now::Session(_), Command::Session) => field == 0,
             (Now::Session(_), _) => field != 0,
-            (Now::Connection(state), _) => field == state.conn(),
-            (Now::Parameter(state), _) => field == state.conn(),
-            (Now::Data(state), _) => field == state.terms().conn,
+            (Now::Connection(state), _) => field == state.conn,
+            (Now::Parameter(state), _) => field == state.conn,
+            (Now::Data(state), _) => field == state.terms.conn,
         }
     }
 
-    /// The chain of the session, a new one in state Reset.
-    fn chain(&self) -> Chain
-        ensures { result ≡ chain_of self.now }
+    /// Tests a frame of a session: its command, its connection id, and its CRCs. It gives what is noted of the frame when
+    /// it is taken, or the code of the first test that fails.
+    pub(crate) fn test(&self, frame: &SessionFrame<'_>) -> Result<Link, Code>
+        ensures code { result_err result ≡ fault self.now frame.now }
+        ensures link { IfOk result (λ link. tested (chain_of self.now) frame.now.frame ≡ Some link) }
+        ensures allowed { IfOk result (λ link. IsTrue (allows self.now frame.now.command)) }
     {
-        match self {
-            Now::Reset(_) => Chain::new(),
-            Now::Session(state) => state.chain(),
-            Now::Connection(state) => state.chain(),
-            Now::Parameter(state) => state.chain(),
-            Now::Data(state) => state.chain(),
-        }
-    }
-
-    /// Tests a frame of a session: its command, its connection id, and its CRCs. It gives what the chain notes of the
-    /// frame when it is taken, or the code of the first test that fails.
-    pub(crate) fn test(&self, seen: &SessionFrame<'_>) -> Result<Link, Code>
-        ensures code { result_err result ≡ fault self.now seen.now }
-        ensures noted { IfOk result (λ link. Notes (chain_of self.now) seen.now.frame link) }
-    {
-        let conn = seen.conn();
-        if !self.allows(seen.command()) {
-            return Err(Code(0x01));
-        }
-        if !self.has_conn(seen.command(), conn) {
-            return Err(Code(0x03));
-        }
-        match self.chain().test_load(seen.view(), conn, seen.load()) {
-            Some(link) => Ok(link),
-            None => Err(Code(0x04)),
-        }
+        let is_allowed = self.allows(frame.command());
+        let has_conn = self.has_conn(frame.command(), frame.conn());
+        test_session(self.session(), is_allowed, has_conn, frame)
     }
 
     /// The ticks after which the session expires.
@@ -131,13 +117,13 @@ impl Now {
         match self {
             Now::Reset(_) | Now::Session(_) | Now::Connection(_) => kit.settings().hand(),
             Now::Parameter(state) => {
-                if state.is_whole() {
-                    state.watchdog()
+                if state.upload.is_whole() {
+                    state.upload.watchdog()
                 } else {
                     kit.settings().hand()
                 }
             }
-            Now::Data(state) => state.terms().watchdog,
+            Now::Data(state) => state.terms.watchdog,
         }
     }
 
@@ -146,7 +132,7 @@ impl Now {
         ensures { option_copied result ≡ terms_shown_in self.now }
     {
         match self {
-            Now::Data(state) => Some(state.terms()),
+            Now::Data(state) => Some(&state.terms),
             _ => None,
         }
     }
@@ -158,32 +144,32 @@ impl Now {
         kit: &Kit,
         out: &mut FrameBuf,
     ) -> Result<Now, (InReset, Code)>
-        requires allowed { IsTrue (allows self seen.now.command) }
+        requires allowed { IsTrue (allows self seen.now.frame.command) }
         requires under { IsUnder kit.now.settings self }
-        requires passed { HasPassed (receives (OfSlave kit.now.settings)) (chain_of self) seen.now }
-        ensures next { result ≡ next_state kit.now self seen.now }
-        ensures sent { OnOk result (out.new ≡ reply kit.now self seen.now) }
+        requires passed { HasPassed (receives (OfSlave kit.now.settings)) (chain_of self) seen.now.frame seen.now.link }
+        ensures next { result ≡ next_state kit.now self seen.now.frame }
+        ensures sent { OnOk result (out.new ≡ reply kit.now self seen.now.frame) }
         ensures unwritten { OnErr result (out.new ≡ out.old) }
         ensures under { IfOk result (λ now. IsUnder kit.now.settings now) }
     {
         match self {
             Now::Reset(state) => state.start(seen, kit, out).map(Now::Session),
             Now::Session(state) => {
-                if state.is_whole() {
+                if state.upload.is_whole() {
                     state.connect(seen, kit, out).map(Now::Connection)
                 } else {
                     state.more(seen, kit, out).map(Now::Session)
                 }
             }
             Now::Connection(state) => {
-                if state.is_whole() {
+                if state.upload.is_whole() {
                     state.load(seen, kit, out).map(Now::Parameter)
                 } else {
                     state.more(seen, kit, out).map(Now::Connection)
                 }
             }
             Now::Parameter(state) => {
-                if state.is_whole() {
+                if state.upload.is_whole() {
                     state.run(seen, kit, out).map(Now::Data)
                 } else {
                     state.more(seen, kit, out).map(Now::Parameter)

@@ -34,7 +34,7 @@ impl Model for Slave {
 
 impl Slave {
     ghost use Rattle.std.specs.Prelude.{IsTrue, false, [], length, option_copied};
-    ghost use Rattle.seq_chain.specs.SessionFrame.{HasPassed};
+    ghost use Rattle.seq_chain.specs.Session.{HasPassed};
     ghost use Rattle.param_load.specs.Profile.{allows_id};
     ghost use Rattle.slave_core.specs.Now.{allows, chain_of, outputs_in};
     ghost use Rattle.slave_core.specs.Slave.{fallen, falls, refuses, reset_by_peer, settles, on_frame, tick_of};
@@ -119,11 +119,11 @@ impl Slave {
     /// frame after the first is to bear.
     #[inline(never)]
     fn take_by_move(&mut self, seen: &Seen<'_>, out: &mut FrameBuf) -> Did
-        requires allowed { IsTrue (allows self.old.state seen.now.command) }
-        requires passed { HasPassed (receives (OfSlave self.old.kit.settings)) (chain_of self.old.state) seen.now }
-        ensures slave { self.new ≡ (settles self.old seen.now (reply self.old.kit self.old.state seen.now) (next_state self.old.kit self.old.state seen.now)).slave }
-        ensures did { result ≡ (settles self.old seen.now (reply self.old.kit self.old.state seen.now) (next_state self.old.kit self.old.state seen.now)).did }
-        ensures sent { out.new ≡ (settles self.old seen.now (reply self.old.kit self.old.state seen.now) (next_state self.old.kit self.old.state seen.now)).sent }
+        requires allowed { IsTrue (allows self.old.state seen.now.frame.command) }
+        requires passed { HasPassed (receives (OfSlave self.old.kit.settings)) (chain_of self.old.state) seen.now.frame seen.now.link }
+        ensures slave { self.new ≡ (settles self.old seen.now.frame (reply self.old.kit self.old.state seen.now.frame) (next_state self.old.kit self.old.state seen.now.frame)).slave }
+        ensures did { result ≡ (settles self.old seen.now.frame (reply self.old.kit self.old.state seen.now.frame) (next_state self.old.kit self.old.state seen.now.frame)).did }
+        ensures sent { out.new ≡ (settles self.old seen.now.frame (reply self.old.kit self.old.state seen.now.frame) (next_state self.old.kit self.old.state seen.now.frame)).sent }
         ensures kit { self.new.kit ≡ self.old.kit }
     {
         let was_reset = self.state.is_reset();
@@ -133,7 +133,7 @@ impl Slave {
                 let limit = next.limit(&self.kit);
                 self.state = next;
                 self.watchdog.restart(limit);
-                Did::took(seen.frame().command(), seen.frame().load(), true)
+                Did::took(seen.frame.command(), seen.frame.load(), true)
             }
             Err((reset, code)) => {
                 self.state = Now::Reset(reset);
@@ -154,7 +154,6 @@ impl Slave {
     /// Tests a frame of the master, and takes it unless a test fails or its contents are wrong. A data frame goes on in
     /// place.
     #[inline(never)]
-    #[tactic(auto, using(crate::proofs::Passed::is_allowed))]
     fn receive(&mut self, frame: &[u8], out: &mut FrameBuf) -> Did
         ensures slave { self.new ≡ (on_frame self.old frame.now).slave }
         ensures did { result ≡ (on_frame self.old frame.now).did }
@@ -177,18 +176,19 @@ impl Slave {
             load: Image::zeros(0),
         };
         unread.load_into(&mut took.load);
-        let seen = SessionFrame::new(unread, &took.load);
-        let link = match self.state.test(&seen) {
+        let frame = SessionFrame::new(unread, &took.load);
+        let link = match self.state.test(&frame) {
             Err(code) => return self.refuse(code, out),
             Ok(link) => link,
         };
+        let seen = Seen { frame, link };
         let Now::Data(state) = &mut self.state else {
-            return self.take_by_move(&Seen::new(seen), out);
+            return self.take_by_move(&seen, out);
         };
-        match state.go_on(&seen, link, &self.kit, out) {
+        match state.go_on(&seen, &self.kit, out) {
             Err(code) => return self.fall(true, Cause::Found(code), code, out),
             Ok(()) => {
-                let limit = state.terms().watchdog;
+                let limit = state.terms.watchdog;
                 self.watchdog.restart(limit);
                 return Did::taken(took, true);
             }
@@ -306,7 +306,7 @@ impl Slave {
     {
         let len = self.kit.settings().peer_len();
         match &self.state {
-            Now::Data(state) => state.outputs(),
+            Now::Data(state) => state.outputs.bytes(),
             Now::Reset(_) | Now::Session(_) | Now::Connection(_) | Now::Parameter(_) => zeros(len),
         }
     }
