@@ -5,7 +5,7 @@ use Rattle.param_load.specs.declared.entry.Entry.{Entry}
 use Rattle.param_load.specs.declared.master_settings.MasterSettings.{MasterSettings}
 use Rattle.param_load.specs.declared.slave_settings.SlaveSettings.{SlaveSettings}
 use Rattle.schedule_file.specs.declared.event.Event.{Event}
-use Rattle.file_run.specs.Ending.{IsPrefix}
+use Rattle.file_run.specs.Reporting.{IsPrefix}
 use Rattle.exchange_model.specs.World.{entry_at, going_on, world_after, world}
 use Rattle.exchange_model.proofs.Worlds.Longer.{world_on}
 use Rattle.duo_run.specs.Replay.{entry_line, entry_lines}

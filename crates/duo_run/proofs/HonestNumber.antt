@@ -14,7 +14,7 @@ use Rattle.schedule_file.proofs.Making.{event_at-zero}
 use Rattle.exchange_model.specs.Ends.{peer}
 use Rattle.exchange_model.specs.World.{entry_at, IsProperEvent}
 use Rattle.exchange_model.specs.Honest.{Match, is_plain, in_turn, if_on, keeps_time, IsHonest}
-use Rattle.exchange_model.specs.Serving.{Serves}
+use Rattle.exchange_model.specs.Serving.{Serves, HasNoReset, TakesDelivery}
 use Rattle.exchange_model.proofs.Honest.ServingRuns.{honest_serves}
 use Rattle.duo_run.specs.Bulk.{entries_of}
 
@@ -87,6 +87,17 @@ matching = record {
 honest : (n : ℕ) → IsHonest made_master made_slave (event.Tick end_name.Master ∷ alternating end_name.Slave n)
 honest n = record { plain = plain end_name.Slave n; turns = turns end_name.Slave n; begun = refl; time = timely end_name.Slave n _ }
 
+-- before the first event nothing happened
+serves_none : Serves made_master [] []
+serves_none = record {
+  whole = refl;
+  no_other = refl;
+  no_reset = All-nil HasNoReset;
+  taken = All-nil TakesDelivery;
+  reaches_data = record { master = refl; slave = refl };
+  takes_data = tt;
+}
+
 serves_some : (n : ℕ) → Serves made_master (made 0 (suc n)) (entries_of 0 (suc n))
 serves_some n =
     honest_serves made_master made_slave (made 0 (suc n)) matching
@@ -94,7 +105,10 @@ serves_some n =
     (All-cons (IsProperEvent made_master made_slave) (event.Tick end_name.Master) (alternating end_name.Slave n) tt (proper end_name.Slave n)))
     (subst (IsHonest made_master made_slave) (sym (events_of_zero n)) (honest n))
 
+serves : (n : ℕ) → Serves made_master (made 0 n) (entries_of 0 n)
+serves zero = serves_none
+serves (suc n) = serves_some n
+
 -- number 0 serves
-pub zero_serves : (number events : ℕ) → number ≡ 0 → 0 < events → Serves made_master (made number events) (entries_of number events)
-zero_serves number zero is some = absurd (omega (arith, some))
-zero_serves number (suc n) is some = subst (λ (number : ℕ). Serves made_master (made number (suc n)) (entries_of number (suc n))) (sym is) (serves_some n)
+pub zero_serves : (number events : ℕ) → number ≡ 0 → Serves made_master (made number events) (entries_of number events)
+zero_serves number events is = subst (λ (number : ℕ). Serves made_master (made number events) (entries_of number events)) (sym is) (serves events)

@@ -8,7 +8,6 @@ pub mod EntryLines
 pub mod FairReplay
 pub mod OneReplay
 pub mod Replaying
-pub mod Exact
 pub mod Counted
 pub mod WholeRuns
 pub mod HonestNumber

@@ -1,21 +1,19 @@
 -- What a bulk run reports.
-use Rattle.std.proofs.Common.{◌≡◌, ℕ, ◌<◌, ◌≤◌, List, ◌++◌, length, take, drop, Option, refl, sym, ap, ap₂, ◌∙◌, inl, inr, arith}
-use Rattle.std.proofs.lemmas.List.{length-take-le, take-append-drop}
-use Rattle.fsoe_io.specs.Sink.{Grew}
+use Rattle.std.proofs.Common.{◌≡◌, ℕ, List, ◌++◌, Option, refl, ap, ap₂, subst, ◌∙◌}
 use Rattle.fsoe_io.specs.declared.status.Ended.{Ended}
-use Rattle.fsoe_io.specs.declared.status.Status.TheVariants as status
 use Rattle.param_load.specs.declared.entry.Entry.{Entry}
 use Rattle.schedule_file.specs.Made.{made_lengths, made_master, made_slave}
+use Rattle.file_run.specs.Ending.{Writes}
+use Rattle.file_run.specs.Outside.{Told}
 use Rattle.exchange_model.specs.Fair.{Fair}
 use Rattle.exchange_model.specs.Other.{before_other, first_other}
 use Rattle.exchange_model.specs.World.{IsWorld}
 use Rattle.exchange_model.proofs.Fairness.Headline.{fair_world}
 use Rattle.exchange_model.proofs.Worlds.Others.{before_is_clean, before_is_world}
-use Rattle.duo_run.specs.Bulk.{entries_of, number_line, summary_lines, report_of, RanBulk}
+use Rattle.duo_run.specs.Bulk.{entries_of, number_line, summary_lines, report_of}
 use Rattle.duo_run.specs.Replay.{other_line, ended_with}
 use Rattle.duo_run.specs.Summary.{summary_of}
 use Rattle.duo_run.specs.declared.summary.Summary.{Summary}
-use Rattle.duo_run.proofs.WholeRuns.{is_whole}
 
 -- what is known of a run is its report
 reported : (number events : ℕ) (w : List Entry) (summary : Summary) (other : Option ℕ) → summary ≡ summary_of w → other ≡ first_other w
@@ -23,32 +21,13 @@ reported : (number events : ℕ) (w : List Entry) (summary : Summary) (other : O
 reported number events w summary other tells first =
     ap₂ (λ (s : Summary) (o : Option ℕ). number_line number events ++ summary_lines s ++ other_line o) tells first
 
--- the whole report was written
-pub ran_whole : (number events : ℕ) (summary : Summary) (other : Option ℕ) (ended : Ended) (text : List ℕ) (before now : Option (List ℕ))
-    → summary ≡ summary_of (entries_of number events) → other ≡ first_other (entries_of number events)
-    → text ≡ number_line number events ++ summary_lines summary ++ other_line other
-    → Grew before now text → ended ≡ ended_with other → RanBulk number events ended before now
-ran_whole number events summary other ended text before now tells first is grew ends =
-    (text, grew, inl (ends ∙ ap ended_with first, is ∙ reported number events (entries_of number events) summary other tells first))
-
--- a first part of it was written
-pub ran_part : (number events : ℕ) (summary : Summary) (other : Option ℕ) (done : ℕ) (text : List ℕ) (before now : Option (List ℕ))
-    → summary ≡ summary_of (entries_of number events) → other ≡ first_other (entries_of number events)
-    → text ≡ number_line number events ++ summary_lines summary ++ other_line other
-    → Grew before now (take done text) → done < length text → RanBulk number events (record { status = status.Write; place = done }) before now
-ran_part number events summary other done text before now tells first is grew some_left =
-    let fits : done ≤ length text = omega (arith, some_left) in (
-      take done text,
-      grew,
-      inr (
-        refl,
-        sym (length-take-le done text fits),
-        (drop done text, sym (is ∙ reported number events (entries_of number events) summary other tells first) ∙ sym (take-append-drop done text)),
-      ),
-    )
-
-pub entries_each : (number events : ℕ) → length (entries_of number events) ≡ events
-entries_each number events = (is_whole number events).each
+pub bulk_wrote : (number events : ℕ) (summary : Summary) (other : Option ℕ) (ended result : Ended) (text : List ℕ) (sink : Told) → summary ≡ summary_of (entries_of number events) → other ≡ first_other (entries_of number events)
+    → text ≡ number_line number events ++ summary_lines summary ++ other_line other → ended ≡ ended_with other → Writes 0 text ended result sink
+    → Writes 0 (report_of number events (entries_of number events)) (ended_with (first_other (entries_of number events))) result sink
+bulk_wrote number events summary other ended result text sink tells first is ends writes =
+    let w : List Entry = entries_of number events in
+    subst (λ (ended : Ended). Writes 0 (report_of number events w) ended result sink) (ends ∙ ap ended_with first)
+    (subst (λ (text : List ℕ). Writes 0 text ended result sink) (is ∙ reported number events w summary other tells first) writes)
 
 pub entries_fair : (number events : ℕ) → IsWorld made_master made_slave (entries_of number events) → Fair made_lengths (before_other (entries_of number events))
 entries_fair number events is_world =

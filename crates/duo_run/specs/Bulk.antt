@@ -1,14 +1,15 @@
 -- What `bulk` reports of the schedule of a number. Lists of entries are newest first.
-use Rattle.std.specs.Prelude.{◌≡◌, ℕ, List, ◌++◌, ◌⊎◌, length, codes, decimal, Option}
+use Rattle.std.specs.Prelude.{◌≡◌, ◌≤◌, ℕ, List, ◌++◌, length, codes, decimal, Option}
 use Rattle.fsoe_base.specs.Command.{state_name}
 use Rattle.fsoe_base.specs.declared.command.State.{State}
-use Rattle.fsoe_io.specs.Sink.{Grew}
 use Rattle.fsoe_io.specs.declared.status.Ended.{Ended}
-use Rattle.fsoe_io.specs.declared.status.Status.TheVariants as status
 use Rattle.param_load.specs.declared.entry.Entry.{Entry}
-use Rattle.schedule_file.specs.Made.{made, made_master, made_slave}
-use Rattle.file_run.specs.Ending.{IsPrefix}
-use Rattle.exchange_model.specs.Other.{first_other}
+use Rattle.schedule_file.specs.Made.{made, made_lengths, made_master, made_slave}
+use Rattle.file_run.specs.Ending.{Writes}
+use Rattle.file_run.specs.Outside.{Told}
+use Rattle.exchange_model.specs.Fair.{Fair}
+use Rattle.exchange_model.specs.Other.{before_other, first_other}
+use Rattle.exchange_model.specs.Serving.{Serves}
 use Rattle.exchange_model.specs.World.{world}
 use Rattle.duo_run.specs.Replay.{other_line, ended_with}
 use Rattle.duo_run.specs.Summary.{summary_of}
@@ -42,11 +43,11 @@ summary_lines s =
 abbrev pub report_of : ℕ → ℕ → List Entry → List ℕ
 report_of number events w = number_line number events ++ summary_lines (summary_of w) ++ other_line (first_other w)
 
--- the whole report of a number's first so many events was written, and the run ended as its first other entry says; or a first part of
--- it where a write failed, with its length as place
-abbrev pub RanBulk : ℕ → ℕ → Ended → Option (List ℕ) → Option (List ℕ) → Type 0
-RanBulk number events ended before now =
-    let w : List Entry = entries_of number events in
-    (text : List ℕ) × Grew before now text
-    × (((ended ≡ ended_with (first_other w)) × (text ≡ report_of number events w))
-    ⊎ ((ended.status ≡ status.Write) × (ended.place ≡ length text) × IsPrefix text (report_of number events w)))
+-- the first so many events of a number were run: the whole report was written, and the run ended as its first other entry says, or a
+-- write failed; each event has its entry, and the law of the pair holds of them; the schedule of number 0 is honest
+pub record RanBulk (number events : ℕ) (ended : Ended) (sink : Told) : Type 0 where
+  pub wrote : Writes 0 (report_of number events (entries_of number events)) (ended_with (first_other (entries_of number events))) ended sink
+  pub whole : length (entries_of number events) ≡ events
+  pub fair : Fair made_lengths (before_other (entries_of number events))
+  pub serves : number ≡ 0 → Serves made_master (made number events) (entries_of number events)
+  pub later : sink.faults_before ≤ sink.faults_after

@@ -1,6 +1,6 @@
 -- What a replay reports of an input: a line for each entry of both ends, and last how the run stops; and what holds of its entries:
 -- fair before the first other one, and serving after an honest schedule. Lists of entries are newest first.
-use Rattle.std.specs.Prelude.{◌≡◌, ℕ, ◌+◌, ◌==◌, List, [], ◌∷◌, ◌++◌, length, codes, decimal, Option, Some, None, IfSome, if◌then◌else◌}
+use Rattle.std.specs.Prelude.{◌≡◌, ℕ, ◌+◌, ◌==◌, List, [], ◌∷◌, ◌++◌, length, codes, decimal, true, Option, Some, None, IfSome, if◌then◌else◌}
 use Rattle.fsoe_io.specs.declared.status.Ended.{Ended}
 use Rattle.fsoe_io.specs.declared.status.Status.TheVariants as status
 use Rattle.param_load.specs.declared.entry.Entry.{Entry}
@@ -9,15 +9,19 @@ use Rattle.param_load.specs.declared.slave_settings.SlaveSettings.{SlaveSettings
 use Rattle.entry_text.specs.EntryText.{entry_text}
 use Rattle.schedule_file.specs.EventText.{end_letter}
 use Rattle.schedule_file.specs.Header.{Heading, IsMasterOf, IsSlaveOf}
-use Rattle.schedule_file.specs.Input.{Input, NoFrame, Stop, AtEnd, Refused}
+use Rattle.schedule_file.specs.Input.{Input, NoFrame, Stop, AtEnd, Refused, input_of}
+use Rattle.schedule_file.specs.declared.header_kind.HeaderKind.TheVariants as kind
 use Rattle.schedule_file.specs.declared.event.Event.{Event}
-use Rattle.file_run.specs.Ran.{Reporting}
+use Rattle.file_run.specs.Outside.{Outside}
+use Rattle.file_run.specs.Ran.{RanOver}
 use Rattle.file_run.specs.Report.{events_line, refused_line}
+use Rattle.file_run.specs.Reporting.{Reporting}
 use Rattle.exchange_model.specs.Fair.{Fair}
 use Rattle.exchange_model.specs.Honest.{Match, IsHonest}
 use Rattle.exchange_model.specs.Other.{before_other, first_other}
 use Rattle.exchange_model.specs.Serving.{Serves}
 use Rattle.exchange_model.specs.World.{world}
+use Rattle.duo_run.specs.Duo.{DuoView, DuoStands}
 
 -- the line of an entry: its number from 1, the letter of its end, and what every report writes of an entry
 abbrev pub entry_line : ℕ → Entry → List ℕ
@@ -48,10 +52,6 @@ abbrev pub ended_at : List Entry → Stop → Ended
 ended_at w AtEnd = ended_with (first_other w)
 ended_at w (Refused number why) = record { status = status.Line; place = number }
 
--- a run of all its events ends so
-abbrev pub EndsWell : Ended → Type 0
-EndsWell ended = (other : Option ℕ) × (ended ≡ ended_with other)
-
 -- how a run over an input stops that has these entries: as the input does where each event has its entry, else at the line of the
 -- first event without one, which names a frame that wasn't sent
 abbrev pub run_stop : Input → List Entry → Stop
@@ -67,15 +67,15 @@ AreEntries None events w = w ≡ []
 AreEntries (Some h) events w = (ms : MasterSettings) × (ss : SlaveSettings) × AreSetTo h ms ss × (w ≡ world ms ss events)
 
 -- the whole report of both ends over an input, and how a run that writes it ends
-abbrev pub ReplayReports : Reporting
+abbrev pub ReplayReports : Input → Ended → List ℕ → Type 0
 ReplayReports input ended text =
     (w : List Entry) × AreEntries input.heading input.events w
     × (text ≡ entry_lines w ++ last_lines w (run_stop input w))
     × (ended ≡ ended_at w (run_stop input w))
 
--- how a run over an input ends, where neither a read nor a write failed
-abbrev pub EndsAt : Input → Ended → Type 0
-EndsAt input ended = (w : List Entry) × AreEntries input.heading input.events w × (ended ≡ ended_at w (run_stop input w))
+-- what a replay reports
+abbrev pub replay_reporting : Reporting
+replay_reporting = record { kind = kind.Pair; judges = true; reports = ReplayReports }
 
 -- the entries over an input before the first other one, all where there is none, are fair
 abbrev pub RunsFairly : Input → Type 0
@@ -84,3 +84,20 @@ RunsFairly input = IfSome input.heading (λ h. (ms : MasterSettings) (ss : Slave
 -- where the ends match and the events are honest, the entries over an input serve
 abbrev pub ServesIfHonest : Input → Type 0
 ServesIfHonest input = IfSome input.heading (λ h. (ms : MasterSettings) (ss : SlaveSettings) → AreSetTo h ms ss → Match ms ss → IsHonest ms ss input.events → Serves ms input.events (world ms ss input.events))
+
+-- both ends ran over an input; and, for all bytes that come, the law of the pair holds of their entries
+pub record RanReplay (ended : Ended) (o : Outside) : Type 0 where
+  pub run : RanOver replay_reporting ended o
+  pub fair : IfSome o.source.before (λ input. RunsFairly (input_of kind.Pair input))
+  pub serves : IfSome o.source.before (λ input. ServesIfHonest (input_of kind.Pair input))
+
+-- a pair was set to what a header says, and stands for the entries of these events, one each, of which this text has the lines
+pub record ReplayStands (v : DuoView) (h : Heading) (log : List Event) (text : List ℕ) : Type 0 where
+  pub ms : MasterSettings
+  pub ss : SlaveSettings
+  pub entries : List Entry
+  pub set : AreSetTo h ms ss
+  pub stands : DuoStands ms ss v entries
+  pub is_world : entries ≡ world ms ss log
+  pub whole : length entries ≡ length log
+  pub lines : text ≡ entry_lines entries

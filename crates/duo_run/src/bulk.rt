@@ -1,10 +1,7 @@
 //! The summary of a number's schedule.
-ghost use Rattle.std.specs.Prelude.{◌≡◌, ◌≤◌, ◌<◌, ◌+◌, ◌++◌, ◌⊎◌, length};
-ghost use Rattle.fsoe_io.specs.Faults.{Rose};
-ghost use Rattle.schedule_file.specs.Made.{made, made_lengths, made_master, made_slave};
-ghost use Rattle.exchange_model.specs.Fair.{Fair};
-ghost use Rattle.exchange_model.specs.Other.{before_other, first_other};
-ghost use Rattle.exchange_model.specs.Serving.{Serves};
+ghost use Rattle.std.specs.Prelude.{◌≡◌, ◌≤◌, ◌+◌, ◌++◌, length};
+ghost use Rattle.schedule_file.specs.Made.{made_master, made_slave};
+ghost use Rattle.exchange_model.specs.Other.{first_other};
 ghost use Rattle.exchange_model.specs.World.{IsWorld};
 ghost use Rattle.duo_run.specs.Replay.{other_line};
 ghost use Rattle.duo_run.specs.Summary.{summary_of};
@@ -13,13 +10,13 @@ ghost use Rattle.duo_run.specs.Bulk.{entries_of, ends_line, state_line, number_l
 use crate::closing::{ended_with, push_other};
 use crate::duo::Duo;
 use crate::summary::Summary;
+use file_run::write_report;
 use fsoe_base::State;
-use fsoe_io::{Ended, LineText, Sink, Status, put_all};
+use fsoe_io::{Ended, LineText, Sink};
 use schedule_file::Maker;
 
 /// Does the first so many events of a number with a new pair: what is told of their entries, and the number of the first other one.
 fn summarize(number: u64, events: u64) -> (Summary, Option<u64>)
-    requires { events ≤ 200000 }
     ensures summary { result.0 ≡ summary_of (entries_of number events) }
     ensures other { result.1 ≡ first_other (entries_of number events) }
     ensures is_world { IsWorld made_master made_slave (entries_of number events) }
@@ -89,8 +86,8 @@ fn push_title(number: u64, events: u64, text: &mut LineText)
     text.push(b"\n");
 }
 
-/// Writes the report over what `text` held.
-fn write_report(
+/// Writes the whole report over what `text` held.
+fn write_summary(
     number: u64,
     events: u64,
     summary: &Summary,
@@ -105,35 +102,24 @@ fn write_report(
     push_other(other, text);
 }
 
-/// Does the first so many events of a number, at most 200,000, with a new pair, and writes a summary of six lines: the number and how many
+/// Does the first so many events of a number with a new pair, and writes a summary of six lines: the number and how many
 /// of its events were done; of each end the data frames that it took, the events with a reset and those with a dropped frame, and its last state; and
 /// the number of the first other event, if there is one. No event names a frame that wasn't sent, so all are done.
 ///
 /// The status is `Ok` with place 0; `Other` with the number of the first other event; or `Write` with the bytes written, only where the
 /// sink failed. It takes no memory.
-#[tactic(auto, using(crate::proofs::Summed::entries_each, crate::proofs::Summed::entries_fair))]
 pub fn run_bulk<K: Sink>(number: u64, events: u64, sink: &mut K) -> Ended
-    requires { events ≤ 200000 }
-    // What is appended, where the sink tells it, is the whole report, or a first part of it where a write failed.
-    ensures ran { RanBulk number events result (K.written sink.old) (K.written sink.new) }
-    ensures whole { length (entries_of number events) ≡ events }
-    // The entries before the first other one, all where there is none, are fair; those of number 0, whose schedule is honest, serve.
-    ensures fair { Fair made_lengths (before_other (entries_of number events)) }
-    ensures serves { number ≡ 0 → 0 < events → Serves made_master (made number events) (entries_of number events) }
-    ensures statuses { (result.status ≡ Status.Ok) ⊎ (result.status ≡ Status.Other) ⊎ (result.status ≡ Status.Write) }
-    ensures write { result.status ≡ Status.Write → Rose (K.faults sink.old) (K.faults sink.new) }
-    ensures later { K.faults sink.old ≤ K.faults sink.new }
+    ensures { RanBulk number events result (record {
+      before = K.written sink.old;
+      after = K.written sink.new;
+      faults_before = K.faults sink.old;
+      faults_after = K.faults sink.new;
+    }) }
 {
     let (summary, other) = summarize(number, events);
     let mut text = LineText::new();
-    write_report(number, events, &summary, other, &mut text);
-    match put_all(sink, text.bytes()) {
-        Ok(()) => ended_with(other),
-        Err(partial) => Ended {
-            status: Status::Write,
-            place: partial.done as u64,
-        },
-    }
+    write_summary(number, events, &summary, other, &mut text);
+    write_report(sink, text.bytes(), ended_with(other))
 }
 
 #[cfg(test)]

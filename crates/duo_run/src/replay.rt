@@ -1,23 +1,18 @@
 //! The run of both ends over a pair file.
-ghost use Rattle.std.specs.Prelude.{◌≡◌, ◌+◌, ◌++◌, ◌^◌, ◌≤◌, ◌<◌, ◌⊎◌, length, IfSome};
-ghost use Rattle.fsoe_io.specs.Faults.{Rose};
-ghost use Rattle.schedule_file.specs.Input.{input_of};
+ghost use Rattle.std.specs.Prelude.{◌≡◌, ◌++◌};
 ghost use Rattle.schedule_file.specs.declared.header_kind.HeaderKind.TheVariants as kind;
-ghost use Rattle.file_run.specs.Ending.{Closes, Ends};
-ghost use Rattle.file_run.specs.Ran.{Ran};
 ghost use Rattle.file_run.specs.Report.{events_line};
 ghost use Rattle.duo_run.specs.Duo.{lengths_of, profiles_of};
-ghost use Rattle.duo_run.specs.Replay.{entry_line, other_line, ended_with, EndsWell, ReplayReports, RunsFairly, ServesIfHonest};
+ghost use Rattle.duo_run.specs.Replay.{entry_line, other_line, RanReplay};
 
 use crate::closing::{ended_with, push_other};
 use crate::duo::Duo;
 use crate::fault::StepFault;
 use entry_text::push_entry;
-use file_run::stop::{close, halt, send_before_read, write_failed};
-use file_run::{Cause, Grammar, Halt, next_event, read_header, write_events};
-use fsoe_io::{Ended, Line, LineReader, LineText, Output, Sink, Source, Status};
+use file_run::{Grammar, Machine, NotSent, run_over, write_events};
+use fsoe_io::{Ended, LineText, Sink, Source};
 use param_load::{Entry, Profiles};
-use schedule_file::{HeaderKind, ScheduleLine, end_letter};
+use schedule_file::{Event, Header, HeaderKind, end_letter};
 
 /// How the lines of the events of a pair are read.
 fn grammar_of(duo: &Duo) -> Grammar
@@ -39,8 +34,7 @@ fn grammar_of(duo: &Duo) -> Grammar
 
 /// Writes the line of the entry of this number, from 1.
 fn write_entry(number: u64, entry: &Entry, text: &mut LineText)
-    ensures text { text.new ≡ entry_line number entry.now }
-    ensures most { length text.new ≤ 1000 }
+    ensures { text.new ≡ entry_line number entry.now }
 {
     text.clear();
     text.push_decimal(number);
@@ -59,22 +53,48 @@ fn write_entry(number: u64, entry: &Entry, text: &mut LineText)
 
 /// Writes the last lines of a run of so many entries, of which the first other one has this number.
 fn write_closing(events: u64, other: Option<u64>, text: &mut LineText)
-    ensures text { text.new ≡ events_line events ++ other_line other }
+    ensures { text.new ≡ events_line events ++ other_line other }
 {
     write_events(events, text);
     push_other(other, text);
 }
 
-/// Ends a whole run of so many entries, of which the first other one has this number.
-fn close_whole<K: Sink>(output: &mut Output, sink: &mut K, events: u64, other: Option<u64>) -> Ended
-    requires { output.old.sent + length output.old.bytes < 2 ^ 63 }
-    ensures closes { Closes result (ended_with other) output.old (K.written sink.old) (K.written sink.new) (events_line events ++ other_line other) }
-    ensures later { K.faults sink.old ≤ K.faults sink.new }
-    ensures cause { (result ≡ ended_with other) ⊎ Rose (K.faults sink.old) (K.faults sink.new) }
-{
-    let mut text = LineText::new();
-    write_closing(events, other, &mut text);
-    close(output, sink, text.bytes(), ended_with(other))
+impl Machine for Duo {
+    ghost use Rattle.duo_run.specs.Replay.{ReplayStands, replay_reporting};
+
+    ghost reporting = { replay_reporting };
+
+    ghost stands = { ReplayStands };
+
+    fn laws() {}
+
+    fn kind() -> HeaderKind {
+        HeaderKind::Pair
+    }
+
+    fn begin(header: &Header) -> Duo {
+        Duo::new(header.master(), header.slave())
+    }
+
+    fn grammar(&self) -> Grammar {
+        grammar_of(self)
+    }
+
+    fn report(&mut self, event: &Event, number: u64, text: &mut LineText) -> Result<(), NotSent> {
+        match self.step(event) {
+            Ok(entry) => {
+                write_entry(number, &entry, text);
+                Ok(())
+            }
+            Err(StepFault::NoSuchFrame) => Err(NotSent),
+        }
+    }
+
+    fn close(&self, events: u64, text: &mut LineText) -> Ended {
+        let other = self.other();
+        write_closing(events, other, text);
+        ended_with(other)
+    }
 }
 
 /// Runs both ends over a pair file: reads its header, then an event a line up to `end`, and writes a line for each entry,
@@ -86,53 +106,10 @@ fn close_whole<K: Sink>(output: &mut Output, sink: &mut K, events: u64, other: O
 /// number of the refused line; `Read` with the whole lines read, only where the source failed; or `Write` with the bytes written,
 /// only where the sink failed.
 pub fn run_replay<S: Source, K: Sink>(source: &mut S, sink: &mut K) -> Ended
-    ensures ends { Ends EndsWell result (S.left source.old) (S.left source.new) (K.written sink.old) (K.written sink.new) }
-    // Where the source tells its bytes and the sink its own: what this call appends, by the status.
-    ensures ran { Ran ReplayReports kind.Pair result (S.left source.old) (S.left source.new) (K.written sink.old) (K.written sink.new) }
-    // And what holds of the entries that it reports, for all bytes that come.
-    ensures fair { IfSome (S.left source.old) (λ input. RunsFairly (input_of kind.Pair input)) }
-    ensures serves { IfSome (S.left source.old) (λ input. ServesIfHonest (input_of kind.Pair input)) }
-    ensures read { result.status ≡ Status.Read → Rose (S.faults source.old) (S.faults source.new) }
-    ensures write { result.status ≡ Status.Write → Rose (K.faults sink.old) (K.faults sink.new) }
-    ensures later_source { S.faults source.old ≤ S.faults source.new }
-    ensures later_sink { K.faults sink.old ≤ K.faults sink.new }
+    ensures { RanReplay result (record {
+      source = record { before = S.left source.old; after = S.left source.new; faults_before = S.faults source.old; faults_after = S.faults source.new };
+      sink = record { before = K.written sink.old; after = K.written sink.new; faults_before = K.faults sink.old; faults_after = K.faults sink.new };
+    }) }
 {
-    let mut reader = LineReader::new();
-    let mut output = Output::new();
-    let mut duo = match read_header(HeaderKind::Pair, &mut reader, source) {
-        Ok(header) => Duo::new(header.master(), header.slave()),
-        Err(why) => return halt(&mut output, sink, why),
-    };
-    let grammar = grammar_of(&duo);
-    let mut line = Line::new();
-    let mut said = ScheduleLine::End;
-    let mut text = LineText::new();
-    let mut events = 0;
-    loop {
-        match send_before_read(&reader, &mut output, sink) {
-            Ok(()) => {}
-            Err(_) => return write_failed(&output),
-        }
-        match next_event(&mut reader, source, &mut line, events, &grammar, &mut said) {
-            Ok(()) => {}
-            Err(why) => return halt(&mut output, sink, why),
-        }
-        match &said {
-            ScheduleLine::Step(event) => match duo.step(event) {
-                Ok(entry) => {
-                    events += 1;
-                    write_entry(events, &entry, &mut text);
-                    match output.put(sink, text.bytes()) {
-                        Ok(()) => {}
-                        Err(_) => return write_failed(&output),
-                    }
-                }
-                Err(StepFault::NoSuchFrame) => {
-                    let why = Halt::Refused(reader.lines(), Cause::NoFrame);
-                    return halt(&mut output, sink, why);
-                }
-            },
-            ScheduleLine::End => return close_whole(&mut output, sink, events, duo.other()),
-        }
-    }
+    run_over::<Duo, S, K>(source, sink)
 }

@@ -1,9 +1,9 @@
-pub mod Taken
-pub mod Going
 pub mod Lines
 pub mod Found
+pub mod Taken
 pub mod HeaderSeen
 pub mod Seen
 pub mod Sending
+pub mod Grammars
 pub mod Running
 pub mod Exact

@@ -1,276 +1,367 @@
 -- A run over the events of an input, whatever they do: what was read of it and what was written.
-use Rattle.std.proofs.Common.{◌≡◌, ℕ, ◌+◌, ◌≤◌, ◌<◌, List, [], ◌∷◌, ◌++◌, length, refl, arith, ap, ◌∙◌, sym, subst}
-use Rattle.std.specs.Prelude.{Ok, Err, IfSome, Some, None}
+use Rattle.std.proofs.Common.{◌≡◌, ℕ, ◌+◌, ◌*◌, ◌≤◌, ◌<◌, List, [], ◌∷◌, ◌++◌, length, refl, arith, ap, ◌∙◌, sym, subst}
+use Rattle.std.specs.Prelude.{Result, Ok, Err, IfSome, Some, None}
 use Rattle.std.specs.declared.option.Option.{Option}
 use Rattle.std.specs.Io.KnownBytes.{Consumes, prepend_known}
 use Rattle.std.proofs.lemmas.List.{append-nil, length_push}
 use Rattle.std.proofs.lemmas.Option.{IfSome_then}
+use Rattle.fsoe_io.specs.Faults.{Rose}
 use Rattle.fsoe_io.specs.Line.{HasNoNewline}
 use Rattle.fsoe_io.specs.Output.{Waiting, Passes}
+use Rattle.fsoe_io.specs.Sink.{Grew}
 use Rattle.fsoe_io.specs.declared.status.Ended.{Ended}
 use Rattle.fsoe_io.specs.declared.status.Status.{Status}
 use Rattle.fsoe_io.specs.declared.status.Status.TheVariants as status
 use Rattle.schedule_file.specs.Header.{Heading}
-use Rattle.schedule_file.specs.Input.{InputCause, NoLine, Stop, AtEnd, Refused, Input, lines_of, header_of, input_by, input_of, said_after}
+use Rattle.schedule_file.specs.Input.{InputCause, NoLine, NoFrame, Stop, AtEnd, Refused, Input, lines_of, header_of, input_by, input_of, said_after}
 use Rattle.schedule_file.specs.declared.event.Event.{Event}
 use Rattle.schedule_file.specs.declared.event.ScheduleLine.{ScheduleLine}
 use Rattle.schedule_file.specs.declared.event.ScheduleLine.TheVariants as line
 use Rattle.schedule_file.specs.declared.header_kind.HeaderKind.{HeaderKind}
 use Rattle.file_run.specs.Cause.{input_cause}
-use Rattle.file_run.specs.Ending.{Closes}
-use Rattle.file_run.specs.Event.{Finds, IsGrammarAfter}
-use Rattle.file_run.specs.Halt.{Goes, Stalls}
+use Rattle.file_run.specs.Ending.{Halts, Writes}
+use Rattle.file_run.specs.Event.{Finds, FitsGrammar}
+use Rattle.file_run.specs.Halt.{Blames, Goes, Stalls}
 use Rattle.file_run.specs.Header.{ReadsHeader, IsHeaderCutOff}
-use Rattle.file_run.specs.Ran.{Reporting, BeginsReport, ReportsReadLines, StatusSays, Ran}
+use Rattle.file_run.specs.Machine.{GoesOn, IsGrammarOf, MayCome}
+use Rattle.file_run.specs.Outside.{Outside, Wrote}
+use Rattle.file_run.specs.Ran.{CameToEnd, EndsAs, EndsWhole, ReportsReadLines}
 use Rattle.file_run.specs.Report.{refused_line}
+use Rattle.file_run.specs.Reporting.{BeginsReport, EndsReport, EndsUnsent, Reporting, ReportsSoFar, input_headless, input_stopped, refused_at}
 use Rattle.file_run.specs.Stop.{ended_by, last_of}
+use Rattle.file_run.specs.WholeLines.{TookLines}
 use Rattle.file_run.specs.declared.event.Grammar.{Grammar}
 use Rattle.file_run.specs.declared.halt.Halt.{Halt}
 use Rattle.file_run.specs.declared.halt.Halt.TheVariants as halt
+use Rattle.file_run.proofs.Grammars.{grammar_after}
 use Rattle.file_run.proofs.Lines.{by_line}
 use Rattle.file_run.proofs.Seen.{Seen, seen_none, seen_more, seen_same, says_event, input_on, input_refused, input_ended, events_begin}
-use Rattle.file_run.proofs.Sending.{Sent, Part, sent_none, sent_part, sent_piece, sent_flushed, begins_whole, ran_write, ran_closed}
+use Rattle.file_run.proofs.Sending.{Sent, Part, sent_none, sent_part, sent_piece, sent_flushed, begins_whole, ends_write, ends_written, rose_since}
+use Rattle.file_run.proofs.Taken.{took_line, took_still}
 
--- what holds before each line after a header of so many lines: these events were read, and what went to the sink and what waits are
--- this text
-pub record Running (kind : HeaderKind) (grammar : Grammar) (h : Heading) (n : ℕ) (log : List Event) (left0 left w0 w : Option (List ℕ)) (waiting : Waiting) (text : List ℕ) : Type 0 where
-  pub seen : Seen kind h n left0 left log
-  pub says : IsGrammarAfter kind h grammar
+-- what a machine stands for
+abbrev pub Standing : Type 1
+Standing = Heading → List Event → List ℕ → Type 0
+
+-- what holds before each line after a header: these events were read, for which a machine stands, and what went to the sink and what
+-- waits are the text that it wrote
+pub record Running (r : Reporting) (stands : Standing) (grammar : Grammar) (left0 left w0 w : Option (List ℕ)) (waiting : Waiting) (events lines : ℕ) : Type 0 where
+  pub heading : Heading
+  pub header : ℕ
+  pub log : List Event
+  pub text : List ℕ
+  pub stood : stands heading log text
+  pub is_of : IsGrammarOf r.kind heading grammar
+  pub seen : Seen r.kind heading header left0 left log
+  pub took : TookLines lines left0 left
   pub sent : Sent w0 w waiting text
-  pub few : length log ≤ 200000
+  pub size : waiting.sent + length waiting.bytes ≤ 1024 * events
+  pub count : length log ≡ events
+  pub few : events ≤ 200000
+  pub lined : lines ≡ header + events
+  pub headed : header ≤ 1032
 
--- an input whose events begin so and that has this header
-abbrev pub input_beginning : Heading → ℕ → List Event → List Event → Stop → Input
-input_beginning h n log more stop = record { heading = Some h; lines = n; events = log ++ more; stop = stop }
+-- a machine's texts are first parts of reports
+abbrev pub Reports : Reporting → Standing → Type 0
+Reports r stands = (h : Heading) (log : List Event) (text : List ℕ) → stands h log text → ReportsSoFar r h log text
 
--- an input that stops after these events
-abbrev pub input_stopped : Heading → ℕ → List Event → Stop → Input
-input_stopped h n log stop = record { heading = Some h; lines = n; events = log; stop = stop }
-
--- an input without a whole header
-abbrev pub input_headless : Stop → Input
-input_headless stop = record { heading = None; lines = 0; events = []; stop = stop }
-
--- a text begins the report of each input with this header whose events begin so
-abbrev pub BeginsFor : Reporting → Heading → ℕ → List Event → List ℕ → Type 0
-BeginsFor W h n log text = (more : List Event) (stop : Stop) → BeginsReport W (input_beginning h n log more stop) text
+-- a header is one of the kind that was asked for
+pub heads_as : (asked kind : HeaderKind) (r : Result Heading Halt) (lines : ℕ) (old new : Option (List ℕ)) → asked ≡ kind → ReadsHeader asked r lines old new → ReadsHeader kind r lines old new
+heads_as asked kind r lines old new e heads = subst (λ (k : HeaderKind). ReadsHeader k r lines old new) e heads
 
 -- after a header nothing was sent
-pub running_start : (kind : HeaderKind) (grammar : Grammar) (h : Heading) (left0 left w : Option (List ℕ)) (waiting : Waiting) (lines : ℕ) → ReadsHeader kind (Ok h) lines left0 left → IsGrammarAfter kind h grammar
-    → waiting.bytes ≡ [] → waiting.sent ≡ 0 → Running kind grammar h lines [] left0 left w w waiting []
-running_start kind grammar h left0 left w waiting lines heads says none sent = record {
-  seen = seen_none kind h lines left0 left heads;
-  says = says;
+pub running_start : (r : Reporting) (stands : Standing) (grammar : Grammar) (h : Heading) (left0 left w : Option (List ℕ)) (waiting : Waiting) (lines : ℕ) → ReadsHeader r.kind (Ok h) lines left0 left
+    → TookLines lines left0 left → lines ≤ 1032 → stands h [] [] → IsGrammarOf r.kind h grammar → waiting.bytes ≡ [] → waiting.sent ≡ 0 → Running r stands grammar left0 left w w waiting 0 lines
+running_start r stands grammar h left0 left w waiting lines heads took most stood of none sent = record {
+  heading = h;
+  header = lines;
+  log = [];
+  text = [];
+  stood = stood;
+  is_of = of;
+  seen = seen_none r.kind h lines left0 left heads;
+  took = took;
   sent = sent_none w waiting none sent;
+  size = omega (arith, sent, ap (length {A = ℕ}) none);
+  count = refl;
   few = omega arith;
+  lined = omega arith;
+  headed = most;
 }
 
 -- what waited was sent
-pub running_sent : (kind : HeaderKind) (grammar : Grammar) (h : Heading) (n : ℕ) (log : List Event) (left0 left w0 w1 w2 : Option (List ℕ)) (waiting now : Waiting) (text : List ℕ)
-    → Running kind grammar h n log left0 left w0 w1 waiting text → Passes waiting now w1 w2 [] now.bytes → Running kind grammar h n log left0 left w0 w2 now text
-running_sent kind grammar h n log left0 left w0 w1 w2 waiting now text r p = record {
-  seen = r.seen;
-  says = r.says;
-  sent = sent_flushed w0 w1 w2 waiting now text r.sent p;
-  few = r.few;
+pub running_sent : (r : Reporting) (stands : Standing) (grammar : Grammar) (left0 left w0 w1 w2 : Option (List ℕ)) (waiting now : Waiting) (events lines : ℕ) → Running r stands grammar left0 left w0 w1 waiting events lines
+    → Passes waiting now w1 w2 [] now.bytes → now.sent + length now.bytes ≡ waiting.sent + length waiting.bytes → Running r stands grammar left0 left w0 w2 now events lines
+running_sent r stands grammar left0 left w0 w1 w2 waiting now events lines k p same = record {
+  heading = k.heading;
+  header = k.header;
+  log = k.log;
+  text = k.text;
+  stood = k.stood;
+  is_of = k.is_of;
+  seen = k.seen;
+  took = k.took;
+  sent = sent_flushed w0 w1 w2 waiting now k.text k.sent p;
+  size = omega (arith, same, k.size);
+  count = k.count;
+  few = k.few;
+  lined = k.lined;
+  headed = k.headed;
 }
 
--- the next line is an event
-pub event_seen : (kind : HeaderKind) (grammar : Grammar) (h : Heading) (n : ℕ) (log : List Event) (left0 b c w0 w : Option (List ℕ)) (waiting : Waiting) (text : List ℕ) (event : Event)
-    → Running kind grammar h n log left0 b w0 w waiting text → Finds grammar (length log) (Ok (line.Step event)) b c → length log < 200000 → Seen kind h n left0 c (log ++ event ∷ [])
-event_seen kind grammar h n log left0 b c w0 w waiting text event r finds few =
-    let says : said_after kind h finds.0 ≡ Ok (line.Step event) = sym (r.says finds.0) ∙ says_event grammar (length log) finds.0 event finds.3 in
-    seen_more kind h n left0 b c log event finds.0 r.seen finds.1 finds.2 few says
+-- the next line is an event, which may come to the machine
+pub event_may_come : (r : Reporting) (stands : Standing) (grammar : Grammar) (left0 left w0 w : Option (List ℕ)) (waiting : Waiting) (events lines : ℕ) (event : Event) → Running r stands grammar left0 left w0 w waiting events lines
+    → FitsGrammar grammar (line.Step event) → events < 200000 → MayCome stands r.kind event (events + 1)
+event_may_come r stands grammar left0 left w0 w waiting events lines event k fits few = record {
+  heading = k.heading;
+  log = k.log;
+  text = k.text;
+  stands = k.stood;
+  grammar = grammar;
+  is_of = k.is_of;
+  fits = fits;
+  number_is = omega (arith, k.count);
+  few = omega arith;
+}
 
--- and its line waits
-pub running_event : (kind : HeaderKind) (grammar : Grammar) (h : Heading) (n : ℕ) (log : List Event) (left0 b c w0 w1 w2 : Option (List ℕ)) (waiting now : Waiting) (text piece : List ℕ) (event : Event)
-    → Running kind grammar h n log left0 b w0 w1 waiting text → Finds grammar (length log) (Ok (line.Step event)) b c → length log < 200000 → Passes waiting now w1 w2 piece now.bytes
-    → Running kind grammar h n (log ++ event ∷ []) left0 c w0 w2 now (text ++ piece)
-running_event kind grammar h n log left0 b c w0 w1 w2 waiting now text piece event r finds few p = record {
-  seen = event_seen kind grammar h n log left0 b c w0 w1 waiting text event r finds few;
-  says = r.says;
-  sent = sent_piece w0 w1 w2 waiting now text piece r.sent p;
-  few = omega (arith, few, length_push log event);
+-- the events are counted by their list
+found_at : (grammar : Grammar) (n events : ℕ) (said : ScheduleLine) (b c : Option (List ℕ)) → n ≡ events → Finds grammar events (Ok said) b c → Finds grammar n (Ok said) b c
+found_at grammar n events said b c e finds = subst (λ (k : ℕ). Finds grammar k (Ok said) b c) (sym e) finds
+
+event_seen : (r : Reporting) (stands : Standing) (grammar : Grammar) (left0 b c w0 w : Option (List ℕ)) (waiting : Waiting) (events lines : ℕ) (event : Event) (k : Running r stands grammar left0 b w0 w waiting events lines)
+    → Finds grammar events (Ok (line.Step event)) b c → events < 200000 → Seen r.kind k.heading k.header left0 c (k.log ++ event ∷ [])
+event_seen r stands grammar left0 b c w0 w waiting events lines event k finds few =
+    let says : said_after r.kind k.heading finds.0 ≡ Ok (line.Step event) =
+    sym (grammar_after r.kind k.heading grammar k.is_of finds.0) ∙ says_event grammar events finds.0 event finds.3 in
+    seen_more r.kind k.heading k.header left0 b c k.log event finds.0 k.seen finds.1 finds.2 (omega (arith, k.count, few)) says
+
+-- the machine did it, and its line waits
+pub running_event : (r : Reporting) (old new : Standing) (grammar : Grammar) (left0 b c w0 w1 w2 : Option (List ℕ)) (waiting now : Waiting) (events lines next : ℕ) (event : Event) (piece : List ℕ)
+    → Running r old grammar left0 b w0 w1 waiting events lines → Finds grammar events (Ok (line.Step event)) b c → events < 200000 → next ≡ lines + 1 → GoesOn old new event (events + 1) piece
+    → Passes waiting now w1 w2 piece now.bytes → now.sent + length now.bytes ≡ waiting.sent + length waiting.bytes + length piece → length piece ≤ 1024
+    → Running r new grammar left0 c w0 w2 now (events + 1) next
+running_event r old new grammar left0 b c w0 w1 w2 waiting now events lines next event piece k finds few step on p size short = record {
+  heading = k.heading;
+  header = k.header;
+  log = k.log ++ event ∷ [];
+  text = k.text ++ piece;
+  stood = on.goes k.heading k.log k.text (omega (arith, k.count)) k.stood;
+  is_of = k.is_of;
+  seen = event_seen r old grammar left0 b c w0 w1 waiting events lines event k finds few;
+  took = took_line lines next left0 b c finds.0 k.took finds.1 finds.2 step;
+  sent = sent_piece w0 w1 w2 waiting now k.text piece k.sent p;
+  size = omega (arith, size, k.size, short);
+  count = length_push k.log event ∙ ap (λ (n : ℕ). n + 1) k.count;
+  few = omega (arith, few);
+  lined = omega (arith, step, k.lined);
+  headed = k.headed;
 }
 
 -- an input of which these events were read
 seen_input : (kind : HeaderKind) (h : Heading) (n : ℕ) (log : List Event) (xs ys : List ℕ) → Seen kind h n (Some xs) (Some ys) log → length log ≤ 200000
-    → (more : List Event) × (stop : Stop) × (input_of kind xs ≡ input_beginning h n log more stop)
+    → (more : List Event) × (stop : Stop) × (input_of kind xs ≡ input_stopped h n (log ++ more) stop)
 seen_input kind h n log xs ys seen few =
     let input : Input = input_on kind h n log (lines_of ys) in
     let more = events_begin kind h log (lines_of ys) few in
     (more.0, input.stop, ap (input_of kind) seen.goes ∙ seen.says ys ∙ ap (λ (events : List Event). input_stopped h n events input.stop) more.1)
 
--- its report begins so
-seen_begins : (W : Reporting) (kind : HeaderKind) (h : Heading) (n : ℕ) (log : List Event) (left0 left : Option (List ℕ)) (text : List ℕ) → Seen kind h n left0 left log → length log ≤ 200000
-    → BeginsFor W h n log text → IfSome left0 (λ input. BeginsReport W (input_of kind input) text)
-seen_begins W kind h n log None left text seen few begins = tt
-seen_begins W kind h n log (Some xs) None text seen few begins = absurd seen.goes
-seen_begins W kind h n log (Some xs) (Some ys) text seen few begins =
+-- what holds of each input whose events begin so holds of the one that is told
+by_seen : (kind : HeaderKind) (h : Heading) (n : ℕ) (log : List Event) (left0 left : Option (List ℕ)) (P : Input → Type 0) → Seen kind h n left0 left log → length log ≤ 200000
+    → ((more : List Event) (stop : Stop) → P (input_stopped h n (log ++ more) stop)) → IfSome left0 (λ input. P (input_of kind input))
+by_seen kind h n log None left P seen few holds = tt
+by_seen kind h n log (Some xs) None P seen few holds = absurd seen.goes
+by_seen kind h n log (Some xs) (Some ys) P seen few holds =
     let is = seen_input kind h n log xs ys seen few in
-    subst (λ (i : Input). BeginsReport W i text) (sym is.2) (begins is.0 is.1)
+    subst P (sym is.2) (holds is.0 is.1)
+
+-- its report begins with the text so far
+begun : (r : Reporting) (stands : Standing) (grammar : Grammar) (left0 left w0 w : Option (List ℕ)) (waiting : Waiting) (events lines : ℕ) → Reports r stands
+    → (k : Running r stands grammar left0 left w0 w waiting events lines) → IfSome left0 (λ input. BeginsReport r (input_of r.kind input) k.text)
+begun r stands grammar left0 left w0 w waiting events lines reports k =
+    by_seen r.kind k.heading k.header k.log left0 left (λ input. BeginsReport r input k.text) k.seen (omega (arith, k.count, k.few)) ((reports k.heading k.log k.text k.stood).begins k.header)
 
 -- a write failed before a line
-pub running_unsent : (W : Reporting) (kind : HeaderKind) (grammar : Grammar) (h : Heading) (n : ℕ) (log : List Event) (left0 left new w0 w1 w2 : Option (List ℕ)) (waiting now : Waiting) (text rest : List ℕ) (ended : Ended)
-    → Running kind grammar h n log left0 left w0 w1 waiting text → BeginsFor W h n log text → Passes waiting now w1 w2 [] rest → ended.status ≡ status.Write → ended.place ≡ now.sent
-    → Ran W kind ended left0 new w0 w2
-running_unsent W kind grammar h n log left0 left new w0 w1 w2 waiting now text rest ended r begins p e place =
-    let part = subst (Part w0 w2 now.sent) (append-nil text) (sent_part w0 w1 w2 waiting now text [] rest r.sent p) in
-    ran_write W kind left0 new w0 w2 ended text e (subst (λ (k : ℕ). Part w0 w2 k text) (sym place) part) (seen_begins W kind h n log left0 left text r.seen r.few begins)
+pub ends_unsent : (r : Reporting) (stands : Standing) (grammar : Grammar) (o : Outside) (left w1 : Option (List ℕ)) (waiting now : Waiting) (events lines : ℕ) (rest : List ℕ) (ended : Ended) → Reports r stands
+    → Running r stands grammar o.source.before left o.sink.before w1 waiting events lines → Passes waiting now w1 o.sink.after [] rest → ended.status ≡ status.Write → ended.place ≡ now.sent
+    → Rose o.sink.faults_before o.sink.faults_after → EndsAs r ended.status ended o
+ends_unsent r stands grammar o left w1 waiting now events lines rest ended reports k p e place rose =
+    let part = subst (Part o.sink.before o.sink.after now.sent) (append-nil k.text) (sent_part o.sink.before w1 o.sink.after waiting now k.text [] rest k.sent p) in
+    ends_write r o ended k.text e (subst (λ (n : ℕ). Part o.sink.before o.sink.after n k.text) (sym place) part)
+    (begun r stands grammar o.source.before left o.sink.before w1 waiting events lines reports k) rose
 
 -- the line of an event could not be written
-pub running_lost : (W : Reporting) (kind : HeaderKind) (grammar : Grammar) (h : Heading) (n : ℕ) (log : List Event) (left0 b c new w0 w1 w2 : Option (List ℕ)) (waiting now : Waiting) (text piece rest : List ℕ) (event : Event) (ended : Ended)
-    → Running kind grammar h n log left0 b w0 w1 waiting text → Finds grammar (length log) (Ok (line.Step event)) b c → length log < 200000 → BeginsFor W h n (log ++ event ∷ []) (text ++ piece)
-    → Passes waiting now w1 w2 piece rest → ended.status ≡ status.Write → ended.place ≡ now.sent → Ran W kind ended left0 new w0 w2
-running_lost W kind grammar h n log left0 b c new w0 w1 w2 waiting now text piece rest event ended r finds few begins p e place =
-    let part = sent_part w0 w1 w2 waiting now text piece rest r.sent p in
-    ran_write W kind left0 new w0 w2 ended (text ++ piece) e (subst (λ (k : ℕ). Part w0 w2 k (text ++ piece)) (sym place) part)
-    (seen_begins W kind h n (log ++ event ∷ []) left0 c (text ++ piece) (event_seen kind grammar h n log left0 b c w0 w1 waiting text event r finds few) (omega (arith, few, length_push log event)) begins)
+pub ends_lost : (r : Reporting) (old new : Standing) (grammar : Grammar) (o : Outside) (b c w1 : Option (List ℕ)) (waiting now : Waiting) (events lines : ℕ) (event : Event) (piece rest : List ℕ) (ended : Ended) → Reports r new
+    → Running r old grammar o.source.before b o.sink.before w1 waiting events lines → Finds grammar events (Ok (line.Step event)) b c → events < 200000 → GoesOn old new event (events + 1) piece
+    → Passes waiting now w1 o.sink.after piece rest → ended.status ≡ status.Write → ended.place ≡ now.sent → Rose o.sink.faults_before o.sink.faults_after → EndsAs r ended.status ended o
+ends_lost r old new grammar o b c w1 waiting now events lines event piece rest ended reports k finds few on p e place rose =
+    let part = sent_part o.sink.before w1 o.sink.after waiting now k.text piece rest k.sent p in
+    let stood = on.goes k.heading k.log k.text (omega (arith, k.count)) k.stood in
+    ends_write r o ended (k.text ++ piece) e (subst (λ (n : ℕ). Part o.sink.before o.sink.after n (k.text ++ piece)) (sym place) part)
+    (by_seen r.kind k.heading k.header (k.log ++ event ∷ []) o.source.before c (λ input. BeginsReport r input (k.text ++ piece))
+    (event_seen r old grammar o.source.before b c o.sink.before w1 waiting events lines event k finds few) (omega (arith, few, k.count, length_push k.log event))
+    ((reports k.heading (k.log ++ event ∷ []) (k.text ++ piece) stood).begins k.header)) rose
 
--- where neither a read nor a write failed, the text is the whole report
-pub says_whole : (s : Status) (W : Reporting) (kind : HeaderKind) (ended : Ended) (input : List ℕ) (left : Option (List ℕ)) (text : List ℕ) → (s ≡ status.Read → ⊥) → (s ≡ status.Write → ⊥)
-    → W (input_of kind input) ended text → StatusSays W kind s ended input left text
-says_whole status.Ok W kind ended input left text read write report = report
-says_whole status.Other W kind ended input left text read write report = report
-says_whole status.Usage W kind ended input left text read write report = report
-says_whole status.Config W kind ended input left text read write report = report
-says_whole status.Line W kind ended input left text read write report = report
-says_whole status.Desk W kind ended input left text read write report = report
-says_whole status.Read W kind ended input left text read write report = absurd (read refl)
-says_whole status.Write W kind ended input left text read write report = absurd (write refl)
-says_whole status.Memory W kind ended input left text read write report = report
+-- what holds of an input that stops after these events holds of the one that is told, where it stops so
+stopped : (kind : HeaderKind) (h : Heading) (n : ℕ) (log : List Event) (left0 left : Option (List ℕ)) (stop : Stop) (P : Input → Type 0) → Seen kind h n left0 left log
+    → IfSome left (λ rest. input_on kind h n log (lines_of rest) ≡ input_stopped h n log stop) → P (input_stopped h n log stop) → IfSome left0 (λ input. P (input_of kind input))
+stopped kind h n log None left stop P seen stops holds = tt
+stopped kind h n log (Some xs) None stop P seen stops holds = absurd seen.goes
+stopped kind h n log (Some xs) (Some ys) stop P seen stops holds = subst P (sym (ap (input_of kind) seen.goes ∙ seen.says ys ∙ stops)) holds
 
--- the input stops, and the last line is written
-pub stopped : (W : Reporting) (kind : HeaderKind) (grammar : Grammar) (h : Heading) (n : ℕ) (log : List Event) (left0 left new w0 w1 w2 : Option (List ℕ)) (waiting : Waiting) (text last : List ℕ) (stop : Stop) (result ended : Ended)
-    → Running kind grammar h n log left0 left w0 w1 waiting text → IfSome left (λ rest. input_on kind h n log (lines_of rest) ≡ input_stopped h n log stop) → Closes result ended waiting w1 w2 last
-    → (ended.status ≡ status.Read → ⊥) → (ended.status ≡ status.Write → ⊥) → W (input_stopped h n log stop) ended (text ++ last) → Ran W kind result left0 new w0 w2
-stopped W kind grammar h n log None left new w0 w1 w2 waiting text last stop result ended r stops closes read write report = tt
-stopped W kind grammar h n log (Some xs) None new w0 w1 w2 waiting text last stop result ended r stops closes read write report = absurd r.seen.goes
-stopped W kind grammar h n log (Some xs) (Some ys) new w0 w1 w2 waiting text last stop result ended r stops closes read write report =
-    let whole : input_of kind xs ≡ input_stopped h n log stop = ap (input_of kind) r.seen.goes ∙ r.seen.says ys ∙ stops in
-    let says : W (input_of kind xs) ended (text ++ last) = subst (λ (i : Input). W i ended (text ++ last)) (sym whole) report in
-    ran_closed W kind (Some xs) new w0 w1 w2 result ended waiting text last r.sent closes
-    (says_whole ended.status W kind ended xs new (text ++ last) read write says, begins_whole W (input_of kind xs) ended (text ++ last) says)
+-- a run to the end ends so
+as_whole : (r : Reporting) (s : Status) (place : ℕ) (ended : Ended) (o : Outside) → EndsWhole r.judges s place → CameToEnd r ended o → EndsAs r s ended o
+as_whole r status.Ok place ended o whole came = came
+as_whole r status.Other place ended o whole came = came
+as_whole r status.Usage place ended o whole came = absurd whole
+as_whole r status.Config place ended o whole came = absurd whole
+as_whole r status.Line place ended o whole came = absurd whole
+as_whole r status.Desk place ended o whole came = absurd whole
+as_whole r status.Read place ended o whole came = absurd whole
+as_whole r status.Write place ended o whole came = absurd whole
+as_whole r status.Memory place ended o whole came = absurd whole
+
+-- a whole report was written: the run ends as it says, or a write failed at the end
+ends_reported : (r : Reporting) (o : Outside) (w1 : Option (List ℕ)) (faults : ℕ) (waiting : Waiting) (text last : List ℕ) (ended result : Ended) → Sent o.sink.before w1 waiting text
+    → Writes waiting.sent (waiting.bytes ++ last) ended result (record { before = w1; after = o.sink.after; faults_before = faults; faults_after = o.sink.faults_after }) → o.sink.faults_before ≤ faults
+    → IfSome o.source.before (λ input. r.reports (input_of r.kind input) ended (text ++ last)) → (Wrote o (λ input text. r.reports (input_of r.kind input) ended text) → EndsAs r ended.status ended o)
+    → EndsAs r result.status result o
+ends_reported r o w1 faults waiting text last ended result sent writes later whole ends =
+    ends_written r o w1 faults waiting text last ended result sent writes later
+    (IfSome_then o.source.before whole (λ input report. begins_whole r (input_of r.kind input) ended (text ++ last) report))
+    (λ grew. ends (IfSome_then o.source.before whole (λ input report. (text ++ last, grew, report))))
 
 -- the line `end` comes
-pub running_ended : (W : Reporting) (kind : HeaderKind) (grammar : Grammar) (h : Heading) (n : ℕ) (log : List Event) (left0 b c new w0 w1 w2 : Option (List ℕ)) (waiting : Waiting) (text last : List ℕ) (result ended : Ended)
-    → Running kind grammar h n log left0 b w0 w1 waiting text → Finds grammar (length log) (Ok line.End) b c → Closes result ended waiting w1 w2 last
-    → (ended.status ≡ status.Read → ⊥) → (ended.status ≡ status.Write → ⊥) → W (input_stopped h n log AtEnd) ended (text ++ last) → Ran W kind result left0 new w0 w2
-running_ended W kind grammar h n log left0 b c new w0 w1 w2 waiting text last result ended r finds closes read write report =
-    stopped W kind grammar h n log left0 b new w0 w1 w2 waiting text last AtEnd result ended r
-    (by_line b c finds.0 (λ rest. input_on kind h n log rest ≡ input_stopped h n log AtEnd) finds.1 finds.2 (λ rest. input_ended kind h grammar n log finds.0 rest r.says r.few finds.3))
-    closes read write report
+pub ends_at_end : (r : Reporting) (stands : Standing) (grammar : Grammar) (o : Outside) (b c w1 : Option (List ℕ)) (faults : ℕ) (waiting : Waiting) (events lines : ℕ) (last : List ℕ) (ended result : Ended)
+    → Running r stands grammar o.source.before b o.sink.before w1 waiting events lines → Finds grammar events (Ok line.End) b c
+    → ((h : Heading) (log : List Event) (text : List ℕ) → length log ≡ events → stands h log text → EndsReport r h log (text ++ last) ended)
+    → ((h : Heading) (log : List Event) (text : List ℕ) → stands h log text → EndsWhole r.judges ended.status ended.place)
+    → Writes waiting.sent (waiting.bytes ++ last) ended result (record { before = w1; after = o.sink.after; faults_before = faults; faults_after = o.sink.faults_after }) → o.sink.faults_before ≤ faults
+    → EndsAs r result.status result o
+ends_at_end r stands grammar o b c w1 faults waiting events lines last ended result k finds reports whole writes later =
+    let found = found_at grammar (length k.log) events line.End b c k.count finds in
+    let stops = by_line b c found.0 (λ rest. input_on r.kind k.heading k.header k.log rest ≡ input_stopped k.heading k.header k.log AtEnd) found.1 found.2
+    (λ rest. input_ended r.kind k.heading grammar k.header k.log found.0 rest (grammar_after r.kind k.heading grammar k.is_of) (omega (arith, k.count, k.few)) found.3) in
+    let ends : EndsWhole r.judges ended.status ended.place = whole k.heading k.log k.text k.stood in
+    ends_reported r o w1 faults waiting k.text last ended result k.sent writes later
+    (stopped r.kind k.heading k.header k.log o.source.before b AtEnd (λ input. r.reports input ended (k.text ++ last)) k.seen stops (reports k.heading k.log k.text k.count k.stood k.header))
+    (λ wrote. as_whole r ended.status ended.place ended o ends (record { ends = ends; wrote = wrote }))
 
--- the run ends at an event itself, whatever comes after it
-whole_says : (W : Reporting) (kind : HeaderKind) (h : Heading) (n : ℕ) (log : List Event) (left0 left new : Option (List ℕ)) (text : List ℕ) (ended : Ended) → Seen kind h n left0 left log → length log ≤ 200000
-    → (ended.status ≡ status.Read → ⊥) → (ended.status ≡ status.Write → ⊥) → ((more : List Event) (stop : Stop) → W (input_beginning h n log more stop) ended text)
-    → IfSome left0 (λ input. StatusSays W kind ended.status ended input new text × BeginsReport W (input_of kind input) text)
-whole_says W kind h n log None left new text ended seen few read write report = tt
-whole_says W kind h n log (Some xs) None new text ended seen few read write report = absurd seen.goes
-whole_says W kind h n log (Some xs) (Some ys) new text ended seen few read write report =
-    let is = seen_input kind h n log xs ys seen few in
-    let says : W (input_of kind xs) ended text = subst (λ (i : Input). W i ended text) (sym is.2) (report is.0 is.1) in
-    (says_whole ended.status W kind ended xs new text read write says, begins_whole W (input_of kind xs) ended text says)
-
-pub running_ended_at : (W : Reporting) (kind : HeaderKind) (grammar : Grammar) (h : Heading) (n : ℕ) (log : List Event) (left0 b c new w0 w1 w2 : Option (List ℕ)) (waiting : Waiting) (text last : List ℕ) (event : Event) (result ended : Ended)
-    → Running kind grammar h n log left0 b w0 w1 waiting text → Finds grammar (length log) (Ok (line.Step event)) b c → length log < 200000 → Closes result ended waiting w1 w2 last
-    → (ended.status ≡ status.Read → ⊥) → (ended.status ≡ status.Write → ⊥) → ((more : List Event) (stop : Stop) → W (input_beginning h n (log ++ event ∷ []) more stop) ended (text ++ last))
-    → Ran W kind result left0 new w0 w2
-running_ended_at W kind grammar h n log left0 b c new w0 w1 w2 waiting text last event result ended r finds few closes read write report =
-    ran_closed W kind left0 new w0 w1 w2 result ended waiting text last r.sent closes
-    (whole_says W kind h n (log ++ event ∷ []) left0 c new (text ++ last) ended (event_seen kind grammar h n log left0 b c w0 w1 waiting text event r finds few) (omega (arith, few, length_push log event)) read write report)
+-- an event comes whose frame wasn't sent
+pub ends_missed : (r : Reporting) (stands : Standing) (grammar : Grammar) (o : Outside) (b c w1 : Option (List ℕ)) (faults : ℕ) (waiting : Waiting) (events lines number : ℕ) (event : Event) (result : Ended)
+    → Running r stands grammar o.source.before b o.sink.before w1 waiting events lines → Finds grammar events (Ok (line.Step event)) b c → events < 200000 → number ≡ lines + 1
+    → ((h : Heading) (log : List Event) (text : List ℕ) → stands h log text → EndsUnsent r h log text event)
+    → Writes waiting.sent (waiting.bytes ++ refused_line number NoFrame) (refused_at number) result (record { before = w1; after = o.sink.after; faults_before = faults; faults_after = o.sink.faults_after })
+    → o.sink.faults_before ≤ faults → EndsAs r result.status result o
+ends_missed r stands grammar o b c w1 faults waiting events lines number event result k finds few step unsent writes later =
+    let at : k.header + length k.log + 1 ≡ number = omega (arith, step, k.lined, k.count) in
+    let P : Input → Type 0 = λ input. r.reports input (refused_at number) (k.text ++ refused_line number NoFrame) in
+    let whole = by_seen r.kind k.heading k.header (k.log ++ event ∷ []) o.source.before c P (event_seen r stands grammar o.source.before b c o.sink.before w1 waiting events lines event k finds few)
+    (omega (arith, few, k.count, length_push k.log event))
+    (λ more stop. subst (λ (n : ℕ). r.reports (input_stopped k.heading k.header ((k.log ++ event ∷ []) ++ more) stop) (refused_at n) (k.text ++ refused_line n NoFrame)) at (unsent k.heading k.log k.text k.stood k.header more stop)) in
+    ends_reported r o w1 faults waiting k.text (refused_line number NoFrame) (refused_at number) result k.sent writes later whole
+    (λ wrote. record { number = (lines, b, step, k.took); wrote = wrote })
 
 -- a read failed
-cut_off : (W : Reporting) (kind : HeaderKind) (grammar : Grammar) (h : Heading) (n : ℕ) (log : List Event) (left0 left new : Option (List ℕ)) (held : List ℕ) (w0 w : Option (List ℕ)) (waiting : Waiting) (text : List ℕ)
-    → Running kind grammar h n log left0 left w0 w waiting text → Consumes left (prepend_known held new) [] → HasNoNewline held
-    → W (input_stopped h n log (Refused (n + length log + 1) NoLine)) (record { status = status.Line; place = n + length log + 1 }) (text ++ refused_line (n + length log + 1) NoLine)
-    → IfSome left0 (λ input. ReportsReadLines W kind (n + length log) input new text)
-cut_off W kind grammar h n log None left new held w0 w waiting text r same none report = tt
-cut_off W kind grammar h n log (Some xs) left new held w0 w waiting text r same none report =
-    let seen = seen_same kind h n (Some xs) left (prepend_known held new) log r.seen same in
-    let whole : input_of kind seen.taken ≡ input_stopped h n log (Refused (n + length log + 1) NoLine) =
-    ap (input_of kind) (sym (append-nil seen.taken)) ∙ seen.says [] ∙ input_refused kind h grammar n log [] NoLine r.says r.few refl in
+reads_failed : (r : Reporting) (o : Outside) (left : Option (List ℕ)) (held : List ℕ) (h : Heading) (n : ℕ) (log : List Event) (grammar : Grammar) (text : List ℕ) → IsGrammarOf r.kind h grammar → Seen r.kind h n o.source.before left log
+    → length log ≤ 200000 → ReportsSoFar r h log text → Consumes left (prepend_known held o.source.after) [] → HasNoNewline held
+    → IfSome o.source.before (λ input. ReportsReadLines r (n + length log) input o.source.after text)
+reads_failed r o left held h n log grammar text of seen few so_far same none =
+    let P : Option (List ℕ) → Type 0 = λ told. Seen r.kind h n told left log → IfSome told (λ input. BeginsReport r (input_of r.kind input) text) → IfSome told (λ input. ReportsReadLines r (n + length log) input o.source.after text) in
+    let cut : (xs : List ℕ) → P (Some xs) =
+    λ xs was begins.
+    let taken = seen_same r.kind h n (Some xs) left (prepend_known held o.source.after) log was same in
+    let whole : input_of r.kind taken.taken ≡ input_stopped h n log (Refused (n + length log + 1) NoLine) =
+    ap (input_of r.kind) (sym (append-nil taken.taken)) ∙ taken.says [] ∙ input_refused r.kind h grammar n log [] NoLine (grammar_after r.kind h grammar of) few refl in
     record {
-      taken = seen.taken;
+      taken = taken.taken;
       held = held;
-      goes = seen.goes;
+      goes = taken.goes;
       open_line = none;
       stops = ap (λ (i : Input). i.stop) whole;
-      writes = subst (λ (i : Input). W i (record { status = status.Line; place = n + length log + 1 }) (text ++ refused_line (n + length log + 1) NoLine)) (sym whole) report;
-    }
+      writes = subst (λ (i : Input). r.reports i (refused_at (n + length log + 1)) (text ++ refused_line (n + length log + 1) NoLine)) (sym whole) (so_far.refused n (n + length log + 1) NoLine);
+      begins = begins;
+    } in
+    let each : (told : Option (List ℕ)) → P told = elim [ None ↦ λ was begins. tt | Some xs ↦ cut xs ] in
+    each o.source.before seen (by_seen r.kind h n log o.source.before left (λ input. BeginsReport r input text) seen few (so_far.begins n))
 
-cut_off_says : (W : Reporting) (kind : HeaderKind) (count : ℕ) (left0 new : Option (List ℕ)) (text : List ℕ) → IfSome left0 (λ input. ReportsReadLines W kind count input new text)
-    → IfSome left0 (λ input. BeginsReport W (input_of kind input) text)
-    → IfSome left0 (λ input. StatusSays W kind status.Read (record { status = status.Read; place = count }) input new (text ++ []) × BeginsReport W (input_of kind input) (text ++ []))
-cut_off_says W kind count None new text reads begins = tt
-cut_off_says W kind count (Some xs) new text reads begins =
-    subst (λ (z : List ℕ). (ReportsReadLines W kind count xs new z × BeginsReport W (input_of kind xs) z) × BeginsReport W (input_of kind xs) z) (sym (append-nil text)) ((reads, begins), begins)
+-- the text is as it was where nothing is written of a failed read
+wrote_read : (r : Reporting) (lines : ℕ) (o : Outside) (text : List ℕ) → Grew o.sink.before o.sink.after (text ++ []) → IfSome o.source.before (λ input. ReportsReadLines r lines input o.source.after text)
+    → Wrote o (λ input text. ReportsReadLines r lines input o.source.after text)
+wrote_read r lines o text grew reads = IfSome_then o.source.before reads (λ input read. (text, subst (Grew o.sink.before o.sink.after) (append-nil text) grew, read))
 
--- a report is that of an input that stops at each refused line after these events
-abbrev pub StopsFor : Reporting → Heading → ℕ → List Event → List ℕ → Type 0
-StopsFor W h n log text = (number : ℕ) (why : InputCause) → W (input_stopped h n log (Refused number why)) (record { status = status.Line; place = number }) (text ++ refused_line number why)
+-- where what was read so far begins the report, so does what was written
+begins_nothing : (r : Reporting) (told : Option (List ℕ)) (text : List ℕ) → IfSome told (λ input. BeginsReport r (input_of r.kind input) text) → IfSome told (λ input. BeginsReport r (input_of r.kind input) (text ++ []))
+begins_nothing r told text begins = subst (λ (z : List ℕ). IfSome told (λ input. BeginsReport r (input_of r.kind input) z)) (sym (append-nil text)) begins
 
 -- the input goes no further
-pub running_halted : (W : Reporting) (kind : HeaderKind) (grammar : Grammar) (h : Heading) (n : ℕ) (log : List Event) (left0 b new : Option (List ℕ)) (held : List ℕ) (w0 w1 w2 : Option (List ℕ)) (waiting : Waiting) (text : List ℕ)
-    (lines now : ℕ) (why : Halt) (result : Ended) → lines ≡ n + length log → Running kind grammar h n log left0 b w0 w1 waiting text → BeginsFor W h n log text → StopsFor W h n log text
-    → Finds grammar (length log) (Err why) b (prepend_known held new) → Goes {T = ScheduleLine} (Err why) lines now b (prepend_known held new) → Stalls {T = ScheduleLine} (Err why) held
-    → Closes result (ended_by why) waiting w1 w2 (last_of why) → Ran W kind result left0 new w0 w2
-running_halted W kind grammar h n log left0 b new held w0 w1 w2 waiting text lines now (halt.Read count) result at r begins stops finds goes stalls closes =
-    let place : n + length log ≡ count = omega (arith, at, goes.0) in
-    let reads = cut_off W kind grammar h n log left0 b new held w0 w1 waiting text r goes.1 stalls (stops (n + length log + 1) NoLine) in
-    ran_closed W kind left0 new w0 w1 w2 result (ended_by (halt.Read count)) waiting text [] r.sent closes
-    (cut_off_says W kind count left0 new text (subst (λ (k : ℕ). IfSome left0 (λ input. ReportsReadLines W kind k input new text)) place reads) (seen_begins W kind h n log left0 b text r.seen r.few begins))
-running_halted W kind grammar h n log left0 b new held w0 w1 w2 waiting text lines now (halt.Refused number why) result at r begins stops finds goes stalls closes =
-    let place : n + length log + 1 ≡ number = omega (arith, at, goes) in
-    let ends : IfSome b (λ rest. input_on kind h n log (lines_of rest) ≡ input_stopped h n log (Refused number (input_cause why))) =
-    IfSome_then b finds (λ rest first.
-    input_refused kind h grammar n log (lines_of rest) (input_cause why) r.says r.few first ∙ ap (λ (k : ℕ). input_stopped h n log (Refused k (input_cause why))) place) in
-    stopped W kind grammar h n log left0 b new w0 w1 w2 waiting text (refused_line number (input_cause why)) (Refused number (input_cause why)) result (ended_by (halt.Refused number why)) r ends closes
-    (λ e. cc) (λ e. cc) (stops number (input_cause why))
+pub ends_halted : (r : Reporting) (stands : Standing) (grammar : Grammar) (o : Outside) (b : Option (List ℕ)) (held : List ℕ) (w1 : Option (List ℕ)) (read faults : ℕ) (waiting : Waiting) (events lines now : ℕ) (why : Halt) (result : Ended) → Reports r stands
+    → Running r stands grammar o.source.before b o.sink.before w1 waiting events lines → Finds grammar events (Err why) b (prepend_known held o.source.after)
+    → Goes {T = Unit {0}} (Err why) lines now b (prepend_known held o.source.after) → Stalls {T = Unit {0}} (Err why) held → Blames {T = Unit {0}} (Err why) read o.source.faults_after → o.source.faults_before ≤ read
+    → Writes waiting.sent (waiting.bytes ++ last_of why) (ended_by why) result (record { before = w1; after = o.sink.after; faults_before = faults; faults_after = o.sink.faults_after }) → o.sink.faults_before ≤ faults
+    → EndsAs r result.status result o
+ends_halted r stands grammar o b held w1 read faults waiting events lines now (halt.Read count) result reports k finds goes stalls blames read_later writes later =
+    let place : k.header + length k.log ≡ count = omega (arith, k.lined, k.count, goes.0) in
+    let so_far = reports k.heading k.log k.text k.stood in
+    let reads = subst (λ (n : ℕ). IfSome o.source.before (λ input. ReportsReadLines r n input o.source.after k.text)) place
+    (reads_failed r o b held k.heading k.header k.log grammar k.text k.is_of k.seen (omega (arith, k.count, k.few)) so_far goes.1 stalls) in
+    ends_written r o w1 faults waiting k.text [] (ended_by (halt.Read count)) result k.sent writes later
+    (begins_nothing r o.source.before k.text (begun r stands grammar o.source.before b o.sink.before w1 waiting events lines reports k))
+    (λ grew. record {
+      read = (held, stalls, subst (λ (n : ℕ). TookLines n o.source.before (prepend_known held o.source.after)) (sym goes.0) (took_still lines o.source.before b (prepend_known held o.source.after) k.took goes.1));
+      wrote = wrote_read r count o k.text grew reads;
+      cause = rose_since o.source.faults_before read o.source.faults_after read_later blames;
+    })
+ends_halted r stands grammar o b held w1 read faults waiting events lines now (halt.Refused number why) result reports k finds goes stalls blames read_later writes later =
+    let place : k.header + length k.log + 1 ≡ number = omega (arith, k.lined, k.count, goes) in
+    let so_far = reports k.heading k.log k.text k.stood in
+    let found : Finds grammar (length k.log) (Err (halt.Refused number why)) b (prepend_known held o.source.after) =
+    subst (λ (n : ℕ). Finds grammar n (Err (halt.Refused number why)) b (prepend_known held o.source.after)) (sym k.count) finds in
+    let stops : IfSome b (λ rest. input_on r.kind k.heading k.header k.log (lines_of rest) ≡ input_stopped k.heading k.header k.log (Refused number (input_cause why))) =
+    IfSome_then b found (λ rest first.
+    input_refused r.kind k.heading grammar k.header k.log (lines_of rest) (input_cause why) (grammar_after r.kind k.heading grammar k.is_of) (omega (arith, k.count, k.few)) first
+    ∙ ap (λ (n : ℕ). input_stopped k.heading k.header k.log (Refused n (input_cause why))) place) in
+    ends_reported r o w1 faults waiting k.text (refused_line number (input_cause why)) (refused_at number) result k.sent writes later
+    (stopped r.kind k.heading k.header k.log o.source.before b (Refused number (input_cause why)) (λ input. r.reports input (refused_at number) (k.text ++ refused_line number (input_cause why))) k.seen stops
+    (so_far.refused k.header number (input_cause why)))
+    (λ wrote. record { number = (lines, b, goes, k.took); wrote = wrote })
 
 -- the header goes no further, in which nothing was written
 headless : (kind : HeaderKind) (bytes : List ℕ) (stop : Stop) → header_of kind bytes ≡ Err stop → input_of kind bytes ≡ input_headless stop
 headless kind bytes stop e = ap (input_by kind) e
 
-headless_cut_off : (W : Reporting) (kind : HeaderKind) (left0 new : Option (List ℕ)) (held : List ℕ) (count : ℕ) → IsHeaderCutOff kind count left0 (prepend_known held new) → HasNoNewline held
-    → W (input_headless (Refused (count + 1) NoLine)) (record { status = status.Line; place = count + 1 }) (refused_line (count + 1) NoLine)
-    → IfSome left0 (λ input. ReportsReadLines W kind count input new [])
-headless_cut_off W kind None new held count cut none report = tt
-headless_cut_off W kind (Some xs) new held count cut none report =
-    let whole = headless kind cut.taken (Refused (count + 1) NoLine) cut.says in
+-- each input has a report, and one without a whole header has a report of one line
+pub record HasReports (r : Reporting) : Type 0 where
+  pub some : (bytes : List ℕ) → (report : List ℕ) × (ended : Ended) × r.reports (input_of r.kind bytes) ended report
+  pub headless : (number : ℕ) (why : InputCause) → r.reports (input_headless (Refused number why)) (refused_at number) (refused_line number why)
+
+nothing_begins : (r : Reporting) (told : Option (List ℕ)) → HasReports r → IfSome told (λ input. BeginsReport r (input_of r.kind input) [])
+nothing_begins r None has = tt
+nothing_begins r (Some xs) has = let report = has.some xs in (report.0, report.1, report.2, (report.0, refl))
+
+header_cut_off : (r : Reporting) (told left : Option (List ℕ)) (held : List ℕ) (count : ℕ) → HasReports r → IsHeaderCutOff r.kind count told (prepend_known held left) → HasNoNewline held
+    → IfSome told (λ input. ReportsReadLines r count input left [])
+header_cut_off r None left held count has cut none = tt
+header_cut_off r (Some xs) left held count has cut none =
+    let whole = headless r.kind cut.taken (Refused (count + 1) NoLine) cut.says in
     record {
       taken = cut.taken;
       held = held;
       goes = cut.goes;
       open_line = none;
       stops = ap (λ (i : Input). i.stop) whole;
-      writes = subst (λ (i : Input). W i (record { status = status.Line; place = count + 1 }) (refused_line (count + 1) NoLine)) (sym whole) report;
+      writes = subst (λ (i : Input). r.reports i (refused_at (count + 1)) (refused_line (count + 1) NoLine)) (sym whole) (has.headless (count + 1) NoLine);
+      begins = nothing_begins r (Some xs) has;
     }
 
-refused_says : (W : Reporting) (kind : HeaderKind) (left0 new : Option (List ℕ)) (number : ℕ) (why : InputCause) → IfSome left0 (λ input. header_of kind input ≡ Err (Refused number why))
-    → W (input_headless (Refused number why)) (record { status = status.Line; place = number }) (refused_line number why)
-    → IfSome left0 (λ input. StatusSays W kind status.Line (record { status = status.Line; place = number }) input new (refused_line number why) × BeginsReport W (input_of kind input) (refused_line number why))
-refused_says W kind left0 new number why says report =
-    IfSome_then left0 says (λ input e.
-    let now : W (input_of kind input) (record { status = status.Line; place = number }) (refused_line number why) =
-    subst (λ (i : Input). W i (record { status = status.Line; place = number }) (refused_line number why)) (sym (headless kind input (Refused number why) e)) report in
-    (now, begins_whole W (input_of kind input) (record { status = status.Line; place = number }) (refused_line number why) now))
-
--- each input has a report
-abbrev pub HasReports : Reporting → HeaderKind → Type 0
-HasReports W kind = (input : List ℕ) → (report : List ℕ) × (ended : Ended) × W (input_of kind input) ended report
-
-nothing_begins : (W : Reporting) (kind : HeaderKind) (left0 : Option (List ℕ)) → HasReports W kind → IfSome left0 (λ input. BeginsReport W (input_of kind input) [])
-nothing_begins W kind None has = tt
-nothing_begins W kind (Some xs) has = let report = has xs in (report.0, report.1, report.2, (report.0, refl))
-
-pub header_halted : (W : Reporting) (kind : HeaderKind) (left0 new : Option (List ℕ)) (held : List ℕ) (w0 w2 : Option (List ℕ)) (waiting : Waiting) (lines : ℕ) (why : Halt) (result : Ended) → HasReports W kind
-    → ((number : ℕ) (why : InputCause) → W (input_headless (Refused number why)) (record { status = status.Line; place = number }) (refused_line number why))
-    → ReadsHeader kind (Err why) lines left0 (prepend_known held new) → Stalls {T = Heading} (Err why) held → waiting.bytes ≡ [] → waiting.sent ≡ 0
-    → Closes result (ended_by why) waiting w0 w2 (last_of why) → Ran W kind result left0 new w0 w2
-header_halted W kind left0 new held w0 w2 waiting lines (halt.Read count) result has stops heads stalls none sent closes =
-    ran_closed W kind left0 new w0 w0 w2 result (ended_by (halt.Read count)) waiting [] [] (sent_none w0 waiting none sent) closes
-    (cut_off_says W kind count left0 new [] (headless_cut_off W kind left0 new held count heads stalls (stops (count + 1) NoLine)) (nothing_begins W kind left0 has))
-header_halted W kind left0 new held w0 w2 waiting lines (halt.Refused number why) result has stops heads stalls none sent closes =
-    ran_closed W kind left0 new w0 w0 w2 result (ended_by (halt.Refused number why)) waiting [] (refused_line number (input_cause why)) (sent_none w0 waiting none sent) closes
-    (refused_says W kind left0 new number (input_cause why) heads (stops number (input_cause why)))
+pub header_halted : (r : Reporting) (o : Outside) (held : List ℕ) (faults : ℕ) (waiting : Waiting) (lines : ℕ) (why : Halt) (result : Ended) → HasReports r → ReadsHeader r.kind (Err why) lines o.source.before (prepend_known held o.source.after)
+    → Halts {T = Unit {0}} (Err why) o.source.before o.source.after → Stalls {T = Unit {0}} (Err why) held → Blames {T = Unit {0}} (Err why) o.source.faults_before o.source.faults_after → waiting.bytes ≡ [] → waiting.sent ≡ 0
+    → Writes waiting.sent (waiting.bytes ++ last_of why) (ended_by why) result (record { before = o.sink.before; after = o.sink.after; faults_before = faults; faults_after = o.sink.faults_after }) → o.sink.faults_before ≤ faults
+    → EndsAs r result.status result o
+header_halted r o held faults waiting lines (halt.Read count) result has heads halts stalls blames none sent writes later =
+    ends_written r o o.sink.before faults waiting [] [] (ended_by (halt.Read count)) result (sent_none o.sink.before waiting none sent) writes later (nothing_begins r o.source.before has)
+    (λ grew. record { read = halts; wrote = wrote_read r count o [] grew (header_cut_off r o.source.before o.source.after held count has heads stalls); cause = blames })
+header_halted r o held faults waiting lines (halt.Refused number why) result has heads halts stalls blames none sent writes later =
+    ends_reported r o o.sink.before faults waiting [] (refused_line number (input_cause why)) (refused_at number) result (sent_none o.sink.before waiting none sent) writes later
+    (IfSome_then o.source.before heads (λ input e.
+    subst (λ (i : Input). r.reports i (refused_at number) (refused_line number (input_cause why))) (sym (headless r.kind input (Refused number (input_cause why)) e)) (has.headless number (input_cause why))))
+    (λ wrote. record { number = halts; wrote = wrote })

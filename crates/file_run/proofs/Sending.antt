@@ -1,18 +1,21 @@
 -- What a run sent, and how it ends by that.
-use Rattle.std.proofs.Common.{◌≡◌, ℕ, List, [], ◌++◌, length, arith, ap, ◌∙◌, sym, subst, append_assoc, inl, inr}
-use Rattle.std.specs.Prelude.{IfSome, Some, None}
+use Rattle.std.proofs.Common.{◌≡◌, ℕ, ◌≤◌, List, [], ◌++◌, length, arith, ap, ◌∙◌, sym, subst, append_assoc, inl, inr}
+use Rattle.std.specs.Prelude.{IfSome}
 use Rattle.std.specs.declared.option.Option.{Option}
 use Rattle.std.proofs.lemmas.List.{append-nil, length-append}
+use Rattle.std.proofs.lemmas.Option.{IfSome_then}
 use Rattle.fsoe_io.proofs.Grown.{grew_then}
 use Rattle.fsoe_io.proofs.Passing.{grew_none}
 use Rattle.fsoe_io.specs.Output.{Waiting, Passes}
+use Rattle.fsoe_io.specs.Faults.{Rose}
 use Rattle.fsoe_io.specs.Sink.{Grew}
 use Rattle.fsoe_io.specs.declared.status.Ended.{Ended}
 use Rattle.fsoe_io.specs.declared.status.Status.TheVariants as status
-use Rattle.schedule_file.specs.declared.header_kind.HeaderKind.{HeaderKind}
 use Rattle.schedule_file.specs.Input.{Input, input_of}
-use Rattle.file_run.specs.Ending.{IsPrefix, Closes}
-use Rattle.file_run.specs.Ran.{Reporting, BeginsReport, StatusSays, Ran}
+use Rattle.file_run.specs.Ending.{Writes}
+use Rattle.file_run.specs.Outside.{Outside}
+use Rattle.file_run.specs.Ran.{EndsAs, FailedWrite}
+use Rattle.file_run.specs.Reporting.{Reporting, BeginsReport, IsPrefix}
 
 -- what went to the sink and what waits are the text so far
 pub record Sent (written0 written : Option (List ℕ)) (waiting : Waiting) (text : List ℕ) : Type 0 where
@@ -51,33 +54,43 @@ pub sent_flushed : (w0 w1 w2 : Option (List ℕ)) (waiting now : Waiting) (text 
 sent_flushed w0 w1 w2 waiting now text s p = subst (Sent w0 w2 now) (append-nil text) (sent_piece w0 w1 w2 waiting now text [] s p)
 
 -- a first part of what begins a report begins it
-pub begins_part : (W : Reporting) (input : Input) (part text : List ℕ) → IsPrefix part text → BeginsReport W input text → BeginsReport W input part
-begins_part W input part text p begun =
+begins_part : (r : Reporting) (input : Input) (part text : List ℕ) → IsPrefix part text → BeginsReport r input text → BeginsReport r input part
+begins_part r input part text p begun =
     let rest = begun.3 in
     (begun.0, begun.1, begun.2, (p.0 ++ rest.0, rest.1 ∙ ap (λ (z : List ℕ). z ++ rest.0) p.1 ∙ append_assoc part p.0 rest.0))
 
 -- a whole report begins itself
-pub begins_whole : (W : Reporting) (input : Input) (ended : Ended) (text : List ℕ) → W input ended text → BeginsReport W input text
-begins_whole W input ended text report = (text, ended, report, ([], sym (append-nil text)))
+pub begins_whole : (r : Reporting) (input : Input) (ended : Ended) (text : List ℕ) → r.reports input ended text → BeginsReport r input text
+begins_whole r input ended text report = (text, ended, report, ([], sym (append-nil text)))
 
--- a run that a failed write ends
-pub ran_write : (W : Reporting) (kind : HeaderKind) (left new w0 w2 : Option (List ℕ)) (ended : Ended) (whole : List ℕ) → ended.status ≡ status.Write → Part w0 w2 ended.place whole
-    → IfSome left (λ input. BeginsReport W (input_of kind input) whole) → Ran W kind ended left new w0 w2
-ran_write W kind None new w0 w2 ended whole e p h = tt
-ran_write W kind (Some input) new w0 w2 ended whole e p h = (p.sent, p.sink, rw e (p.counts, begins_part W (input_of kind input) p.sent whole p.prefix h))
+-- a count that rose since a later time rose since an earlier one
+pub rose_since : (first before now : ℕ) → first ≤ before → Rose before now → Rose first now
+rose_since first before now later rose = omega (arith, rose)
 
--- a run that ends as it is to
-pub ran_closed : (W : Reporting) (kind : HeaderKind) (left new w0 w1 w2 : Option (List ℕ)) (result ended : Ended) (waiting : Waiting) (text last : List ℕ) → Sent w0 w1 waiting text → Closes result ended waiting w1 w2 last
-    → IfSome left (λ input. StatusSays W kind ended.status ended input new (text ++ last) × BeginsReport W (input_of kind input) (text ++ last)) → Ran W kind result left new w0 w2
-ran_closed W kind None new w0 w1 w2 result ended waiting text last s c h = tt
-ran_closed W kind (Some input) new w0 w1 w2 result ended waiting text last s c h =
-    elim c.2 [
-      | inl same ↦
-          let e : s.sent ++ c.0 ≡ text ++ last =
-          ap (λ (z : List ℕ). s.sent ++ z) same.1 ∙ sym (append_assoc s.sent waiting.bytes last) ∙ ap (λ (z : List ℕ). z ++ last) s.whole in
-          (s.sent ++ c.0, grew_then w0 w1 w2 s.sent c.0 s.sink c.1, rw (same.0, e) h.0)
-      | inr bad ↦
+-- a write failed
+pub ends_write : (r : Reporting) (o : Outside) (ended : Ended) (whole : List ℕ) → ended.status ≡ status.Write → Part o.sink.before o.sink.after ended.place whole
+    → IfSome o.source.before (λ input. BeginsReport r (input_of r.kind input) whole) → Rose o.sink.faults_before o.sink.faults_after → EndsAs r ended.status ended o
+ends_write r o ended whole e p begins rose =
+    let failed : FailedWrite r ended.place o = record {
+      appended = (p.sent, p.sink, p.counts);
+      wrote = IfSome_then o.source.before begins (λ input begun. (p.sent, p.sink, (p.counts, begins_part r (input_of r.kind input) p.sent whole p.prefix begun)));
+      cause = rose;
+    } in
+    rw e failed
+
+-- a run ends as it is to, or a write failed at the end
+pub ends_written : (r : Reporting) (o : Outside) (between : Option (List ℕ)) (faults : ℕ) (waiting : Waiting) (text last : List ℕ) (ended result : Ended) → Sent o.sink.before between waiting text
+    → Writes waiting.sent (waiting.bytes ++ last) ended result (record { before = between; after = o.sink.after; faults_before = faults; faults_after = o.sink.faults_after })
+    → o.sink.faults_before ≤ faults → IfSome o.source.before (λ input. BeginsReport r (input_of r.kind input) (text ++ last))
+    → (Grew o.sink.before o.sink.after (text ++ last) → EndsAs r ended.status ended o) → EndsAs r result.status result o
+ends_written r o between faults waiting text last ended result s writes later begins ends =
+    elim writes [
+      | inl whole ↦
+          let e : s.sent ++ (waiting.bytes ++ last) ≡ text ++ last = sym (append_assoc s.sent waiting.bytes last) ∙ ap (λ (z : List ℕ). z ++ last) s.whole in
+          let grew : Grew o.sink.before o.sink.after (s.sent ++ (waiting.bytes ++ last)) = grew_then o.sink.before between o.sink.after s.sent (waiting.bytes ++ last) s.sink whole.1 in
+          subst (λ (x : Ended). EndsAs r x.status x o) (sym whole.0) (ends (subst (Grew o.sink.before o.sink.after) e grew))
+      | inr cut ↦
           let now : Waiting = record { bytes = []; sent = result.place } in
-          let p : Passes waiting now w1 w2 last bad.2.0 = record { part = c.0; grew = c.1; whole = bad.2.1; sent = bad.1 } in
-          ran_write W kind (Some input) new w0 w2 result (text ++ last) bad.0 (sent_part w0 w1 w2 waiting now text last bad.2.0 s p) h.1
+          let p : Passes waiting now between o.sink.after last cut.begins.0 = record { part = cut.part; grew = cut.grew; whole = cut.begins.1; sent = cut.place_is } in
+          ends_write r o result (text ++ last) cut.status_is (sent_part o.sink.before between o.sink.after waiting now text last cut.begins.0 s p) begins (rose_since o.sink.faults_before faults o.sink.faults_after later cut.cause)
     ]

@@ -1,13 +1,17 @@
 -- Whole lines that are taken one after another.
 use Rattle.std.proofs.Common.{◌≡◌, ℕ, ◌+◌, List, [], ◌∷◌, ◌++◌, refl, ap, ◌∙◌, sym, subst, append_assoc}
-use Rattle.std.specs.Prelude.{None, Some}
+use Rattle.std.specs.Prelude.{None, Some, Bool, Err}
 use Rattle.std.specs.declared.option.Option.{Option}
 use Rattle.std.specs.Io.KnownBytes.{Consumes, prepend_known}
 use Rattle.std.proofs.lemmas.List.{append-nil, length_push}
 use Rattle.std.proofs.lemmas.List.Elements.{All-nil, All-push}
 use Rattle.fsoe_io.proofs.Taken.{consumes_then}
 use Rattle.fsoe_io.specs.Line.{IsLine}
+use Rattle.file_run.specs.Ending.{Halts}
+use Rattle.file_run.specs.Halt.{Goes, Stalls}
 use Rattle.file_run.specs.WholeLines.{joined, TookLines}
+use Rattle.file_run.specs.declared.halt.Halt.{Halt}
+use Rattle.file_run.specs.declared.halt.Halt.TheVariants as halt
 
 pub joined-append : (xs ys : List (List ℕ)) → joined (xs ++ ys) ≡ joined xs ++ joined ys
 joined-append [] ys = refl
@@ -39,3 +43,10 @@ took_still k a b c took goes = record {
   counts = took.counts;
   taken = subst (Consumes a c) (append-nil (joined took.lines)) (consumes_then a b c (joined took.lines) [] took.taken goes);
 }
+
+-- why an input goes no further, after these whole lines
+pub halts_after : (left0 left1 left2 : Option (List ℕ)) (held : List ℕ) (before lines : ℕ) (why : Halt) → TookLines before left0 left1 → Goes {T = Bool} (Err why) before lines left1 (prepend_known held left2)
+    → Stalls {T = Bool} (Err why) held → Halts {T = Bool} (Err why) left0 left2
+halts_after left0 left1 left2 held before lines (halt.Read count) took goes stalls =
+    (held, stalls, subst (λ (n : ℕ). TookLines n left0 (prepend_known held left2)) (sym goes.0) (took_still before left0 left1 (prepend_known held left2) took goes.1))
+halts_after left0 left1 left2 held before lines (halt.Refused line cause) took goes stalls = (before, left1, goes, took)

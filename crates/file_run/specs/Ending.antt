@@ -1,15 +1,16 @@
--- How a run over an input ends.
-use Rattle.std.specs.Prelude.{◌≡◌, ℕ, ◌+◌, List, ◌++◌, length, ◌⊎◌}
+-- Where an input goes no further, and how what is left is written.
+use Rattle.std.specs.Prelude.{◌≡◌, ℕ, ◌+◌, List, length, ◌⊎◌}
 use Rattle.std.specs.declared.option.Option.{Option}
 use Rattle.std.specs.declared.result.Result.{Result}
 use Rattle.std.specs.declared.result.Result.TheVariants.{Ok, Err}
 use Rattle.std.specs.Io.KnownBytes.{prepend_known}
+use Rattle.fsoe_io.specs.Faults.{Rose}
 use Rattle.fsoe_io.specs.Line.{HasNoNewline}
-use Rattle.fsoe_io.specs.Output.{Waiting}
 use Rattle.fsoe_io.specs.Sink.{Grew}
 use Rattle.fsoe_io.specs.declared.status.Ended.{Ended}
-use Rattle.fsoe_io.specs.declared.status.Status.{Status}
 use Rattle.fsoe_io.specs.declared.status.Status.TheVariants as status
+use Rattle.file_run.specs.Outside.{Told}
+use Rattle.file_run.specs.Reporting.{IsPrefix}
 use Rattle.file_run.specs.WholeLines.{TookLines}
 use Rattle.file_run.specs.declared.halt.Halt.{Halt}
 use Rattle.file_run.specs.declared.halt.Halt.TheVariants as halt
@@ -26,36 +27,21 @@ LinesBefore line old = (before : ℕ) × (rest : Option (List ℕ)) × (line ≡
 abbrev pub Appended : ℕ → Option (List ℕ) → Option (List ℕ) → Type 0
 Appended count before now = (text : List ℕ) × Grew before now text × (count ≡ length text)
 
--- what a status and its place say; `may` is what holds where the run came to the `end` of its input
-abbrev pub Ending : Status → Type 0 → ℕ → Option (List ℕ) → Option (List ℕ) → Option (List ℕ) → Option (List ℕ) → Type 0
-Ending status.Ok may place old new before now = may
-Ending status.Other may place old new before now = may
-Ending status.Line may place old new before now = LinesBefore place old
-Ending status.Read may place old new before now = ReadLines place old new
-Ending status.Write may place old new before now = Appended place before now
-Ending status.Usage may place old new before now = ⊥
-Ending status.Config may place old new before now = ⊥
-Ending status.Desk may place old new before now = ⊥
-Ending status.Memory may place old new before now = ⊥
-
--- which statuses a run may end with, and what the place says where the bytes are told: as a run up to its `end` may end, one
--- more than the whole lines before the refused one, the whole lines taken, or the bytes appended
-abbrev pub Ends : (Ended → Type 0) → Ended → Option (List ℕ) → Option (List ℕ) → Option (List ℕ) → Option (List ℕ) → Type 0
-Ends may ended old new before now = Ending ended.status (may ended) ended.place old new before now
-
 -- why the input goes no further, and after which lines
 abbrev pub Halts : {T : Type 0} → Result T Halt → Option (List ℕ) → Option (List ℕ) → Type 0
 Halts (Ok x) old left = Unit {0}
 Halts (Err (halt.Read lines)) old left = ReadLines lines old left
 Halts (Err (halt.Refused line cause)) old left = LinesBefore line old
 
--- the second list begins with the first
-abbrev pub IsPrefix : List ℕ → List ℕ → Type 0
-IsPrefix part whole = (rest : List ℕ) × (whole ≡ part ++ rest)
+-- the sink failed after a first part of a text; the place is the bytes sent in all, with so many before it
+pub record IsCutOff (sent : ℕ) (text : List ℕ) (result : Ended) (sink : Told) : Type 0 where
+  pub part : List ℕ
+  pub grew : Grew sink.before sink.after part
+  pub begins : IsPrefix part text
+  pub status_is : result.status ≡ status.Write
+  pub place_is : result.place ≡ sent + length part
+  pub cause : Rose sink.faults_before sink.faults_after
 
--- the last piece and all that waited was written; or the sink failed after a first part, and the place is the bytes sent in all
-abbrev pub Closes : Ended → Ended → Waiting → Option (List ℕ) → Option (List ℕ) → List ℕ → Type 0
-Closes result ended waiting before now last =
-    (part : List ℕ) × Grew before now part
-    × (((result ≡ ended) × (part ≡ waiting.bytes ++ last))
-    ⊎ ((result.status ≡ status.Write) × (result.place ≡ waiting.sent + length part) × IsPrefix part (waiting.bytes ++ last)))
+-- after so many bytes a whole text was written, and the run ended as it was to; or the sink failed in it
+abbrev pub Writes : ℕ → List ℕ → Ended → Ended → Told → Type 0
+Writes sent text ended result sink = ((result ≡ ended) × Grew sink.before sink.after text) ⊎ IsCutOff sent text result sink

@@ -4,8 +4,11 @@ pub mod Event
 pub mod Halt
 pub mod HaltOf
 pub mod Header
+pub mod Machine
 pub mod NextLine
+pub mod Outside
 pub mod Ran
 pub mod Report
+pub mod Reporting
 pub mod Stop
 pub mod WholeLines

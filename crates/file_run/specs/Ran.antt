@@ -1,44 +1,78 @@
--- What a run over an input that is told wrote, where the sink tells it.
-use Rattle.std.specs.Prelude.{◌≡◌, ℕ, ◌+◌, List, ◌++◌, length, IfSome, Some}
+-- How a run over an input ended, and what it wrote.
+use Rattle.std.specs.Prelude.{◌≡◌, ℕ, ◌+◌, ◌≤◌, ◌<◌, Bool, IsTrue, List, ◌++◌, length, IfSome, Some}
 use Rattle.std.specs.declared.option.Option.{Option}
 use Rattle.std.specs.Io.KnownBytes.{Consumes, prepend_known}
+use Rattle.fsoe_io.specs.Faults.{Rose}
 use Rattle.fsoe_io.specs.Line.{HasNoNewline}
-use Rattle.fsoe_io.specs.Sink.{Grew}
 use Rattle.fsoe_io.specs.declared.status.Ended.{Ended}
 use Rattle.fsoe_io.specs.declared.status.Status.{Status}
 use Rattle.fsoe_io.specs.declared.status.Status.TheVariants as status
-use Rattle.schedule_file.specs.Input.{NoLine, Refused, Input, input_of}
-use Rattle.schedule_file.specs.declared.header_kind.HeaderKind.{HeaderKind}
-use Rattle.file_run.specs.Ending.{IsPrefix}
+use Rattle.schedule_file.specs.Input.{NoLine, Refused, input_of}
+use Rattle.file_run.specs.Ending.{Appended, LinesBefore, ReadLines}
+use Rattle.file_run.specs.Outside.{Outside, Wrote}
 use Rattle.file_run.specs.Report.{refused_line}
+use Rattle.file_run.specs.Reporting.{Reporting, BeginsReport, refused_at}
 
--- what a command reports: of an input, of how a run ends, and of a text it says whether the text is the whole report and a run that
--- writes it ends so
-abbrev pub Reporting : Type 1
-Reporting = Input → Ended → List ℕ → Type 0
+-- a run to the `end` of its input ends with place 0, or with the number of an entry that is other, where the command looks for these
+abbrev pub EndsWhole : Bool → Status → ℕ → Type 0
+EndsWhole judges status.Ok place = place ≡ 0
+EndsWhole judges status.Other place = IsTrue judges × (0 < place)
+EndsWhole judges status.Usage place = ⊥
+EndsWhole judges status.Config place = ⊥
+EndsWhole judges status.Line place = ⊥
+EndsWhole judges status.Desk place = ⊥
+EndsWhole judges status.Read place = ⊥
+EndsWhole judges status.Write place = ⊥
+EndsWhole judges status.Memory place = ⊥
 
--- a text is a first part of the report
-abbrev pub BeginsReport : Reporting → Input → List ℕ → Type 0
-BeginsReport reports input text = (report : List ℕ) × (ended : Ended) × reports input ended report × IsPrefix text report
+-- the run came to the `end` of its input, and wrote its whole report
+pub record CameToEnd (r : Reporting) (ended : Ended) (o : Outside) : Type 0 where
+  pub ends : EndsWhole r.judges ended.status ended.place
+  pub wrote : Wrote o (λ input text. r.reports (input_of r.kind input) ended text)
 
--- so many whole lines were taken, and of the line after them only a part was read; the text is the report of these lines
--- without its last line, which says that no line comes after them
-pub record ReportsReadLines (reports : Reporting) (kind : HeaderKind) (lines : ℕ) (input : List ℕ) (left : Option (List ℕ)) (text : List ℕ) : Type 0 where
+-- a line is refused, whose number is the place, and the whole report was written
+pub record CameToRefused (r : Reporting) (ended : Ended) (o : Outside) : Type 0 where
+  pub number : LinesBefore ended.place o.source.before
+  pub wrote : Wrote o (λ input text. r.reports (input_of r.kind input) ended text)
+
+-- a text is the report of so many whole lines that were taken, without its last line, which says that no line comes after them
+pub record ReportsReadLines (r : Reporting) (lines : ℕ) (input : List ℕ) (left : Option (List ℕ)) (text : List ℕ) : Type 0 where
   pub taken : List ℕ
   pub held : List ℕ
   pub goes : Consumes (Some input) (prepend_known held left) taken
   pub open_line : HasNoNewline held
-  pub stops : (input_of kind taken).stop ≡ Refused (lines + 1) NoLine
-  pub writes : reports (input_of kind taken) (record { status = status.Line; place = lines + 1 }) (text ++ refused_line (lines + 1) NoLine)
+  pub stops : (input_of r.kind taken).stop ≡ Refused (lines + 1) NoLine
+  pub writes : r.reports (input_of r.kind taken) (refused_at (lines + 1)) (text ++ refused_line (lines + 1) NoLine)
+  pub begins : BeginsReport r (input_of r.kind input) text
 
--- what a status says of the input, of what is left of it, and of the text that was written. Of a failed read: the place is the whole
--- lines taken, and the text their report without its last line; of a failed write: the place is the bytes written, and the text a
--- first part of the report; else the text is the whole report, and a run that writes it ends so
-abbrev pub StatusSays : Reporting → HeaderKind → Status → Ended → List ℕ → Option (List ℕ) → List ℕ → Type 0
-StatusSays reports kind status.Read ended input left text = ReportsReadLines reports kind ended.place input left text × BeginsReport reports (input_of kind input) text
-StatusSays reports kind status.Write ended input left text = (ended.place ≡ length text) × BeginsReport reports (input_of kind input) text
-StatusSays reports kind _ ended input left text = reports (input_of kind input) ended text
+-- a read failed after so many whole lines, and the report of these was written
+pub record FailedRead (r : Reporting) (lines : ℕ) (o : Outside) : Type 0 where
+  pub read : ReadLines lines o.source.before o.source.after
+  pub wrote : Wrote o (λ input text. ReportsReadLines r lines input o.source.after text)
+  pub cause : Rose o.source.faults_before o.source.faults_after
 
--- the command ran over the input where it is told, and what the sink tells grew by this text
-abbrev pub Ran : Reporting → HeaderKind → Ended → Option (List ℕ) → Option (List ℕ) → Option (List ℕ) → Option (List ℕ) → Type 0
-Ran reports kind ended old new before now = IfSome old (λ input. (text : List ℕ) × Grew before now text × StatusSays reports kind ended.status ended input new text)
+-- a write failed after so many bytes, which are a first part of the report
+pub record FailedWrite (r : Reporting) (bytes : ℕ) (o : Outside) : Type 0 where
+  pub appended : Appended bytes o.sink.before o.sink.after
+  pub wrote : Wrote o (λ input text. (bytes ≡ length text) × BeginsReport r (input_of r.kind input) text)
+  pub cause : Rose o.sink.faults_before o.sink.faults_after
+
+-- what each status says of a run, with its place
+abbrev pub EndsAs : Reporting → Status → Ended → Outside → Type 0
+EndsAs r status.Ok ended o = CameToEnd r ended o
+EndsAs r status.Other ended o = CameToEnd r ended o
+EndsAs r status.Line ended o = CameToRefused r ended o
+EndsAs r status.Read ended o = FailedRead r ended.place o
+EndsAs r status.Write ended o = FailedWrite r ended.place o
+EndsAs r status.Usage ended o = ⊥
+EndsAs r status.Config ended o = ⊥
+EndsAs r status.Desk ended o = ⊥
+EndsAs r status.Memory ended o = ⊥
+
+-- a command ran over an input: how it ended; where neither count of faults rose, as the input says; and no count fell
+pub record RanOver (r : Reporting) (ended : Ended) (o : Outside) : Type 0 where
+  pub ends : EndsAs r ended.status ended o
+  pub stops : (Rose o.source.faults_before o.source.faults_after → ⊥) → (Rose o.sink.faults_before o.sink.faults_after → ⊥)
+      → IfSome o.source.before (λ input. (report : List ℕ) × r.reports (input_of r.kind input) ended report)
+  pub source_later : o.source.faults_before ≤ o.source.faults_after
+  pub sink_later : o.sink.faults_before ≤ o.sink.faults_after

@@ -1,6 +1,7 @@
 //! The events of an input.
 ghost use Rattle.std.specs.Io.KnownBytes.{prepend_known};
 ghost use Rattle.std.specs.Prelude.{◌≡◌, ◌-◌, ◌^◌, ◌≤◌, ◌<◌, OnOk};
+ghost use Rattle.fsoe_io.specs.Line.{IsLine};
 ghost use Rattle.file_run.specs.Event.{Finds, FitsGrammar, IsWithin, says, says_after, what_says};
 ghost use Rattle.file_run.specs.Halt.{Blames, Goes, Stalls};
 
@@ -65,7 +66,7 @@ fn read_after(
 }
 
 /// What the next line says, after so many events. The line is written to `line`, and what it says to `said`.
-pub fn next_event<S: Source>(
+pub(crate) fn next_event<S: Source>(
     reader: &mut LineReader,
     source: &mut S,
     line: &mut Line,
@@ -83,6 +84,7 @@ pub fn next_event<S: Source>(
         (prepend_known reader.old.bytes (S.left source.old))
         (prepend_known reader.new.bytes (S.left source.new)) }
     ensures stalls { Stalls result reader.new.bytes }
+    ensures unread { ¬ IsLine reader.old.bytes → source.new ≡ source.old }
     ensures later { S.faults source.old ≤ S.faults source.new }
     ensures cause { Blames result (S.faults source.old) (S.faults source.new) }
 {

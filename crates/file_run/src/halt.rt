@@ -15,7 +15,7 @@ pub enum Halt {
 }
 
 /// Why there is no next line after so many whole lines.
-pub fn halt_of(fault: LineFault, before: u64) -> Halt
+pub(crate) fn halt_of(fault: LineFault, before: u64) -> Halt
     requires { before < 2 ^ 64 - 1 }
     ensures { result ≡ halt_of fault before }
 {

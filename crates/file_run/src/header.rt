@@ -45,7 +45,7 @@ fn next_header_line<S: Source>(
 }
 
 /// Reads a header of this kind up to its `go`. The reader gave no line and holds nothing.
-pub fn read_header<S: Source>(
+pub(crate) fn read_header<S: Source>(
     kind: HeaderKind,
     reader: &mut LineReader,
     source: &mut S,

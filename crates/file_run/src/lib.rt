@@ -1,5 +1,5 @@
 //! What every command does with its input: reads the header and the events, line by line, and closes the report of a run over them.
-//! What an event does, and what is written of it, is the command's.
+//! What an event does, and what is written of it, is the command's: it brings a `Machine`.
 #![tactic(auto)]
 
 mod cause;
@@ -7,13 +7,15 @@ mod event;
 mod halt;
 mod header;
 mod line;
+mod machine;
 mod report;
-pub mod stop;
+mod run;
+mod stop;
 #[cfg(test)]
 mod tests;
 
-pub use cause::Cause;
-pub use event::{Grammar, next_event};
-pub use halt::Halt;
-pub use header::read_header;
-pub use report::{write_events, write_refusal};
+pub use event::Grammar;
+pub use machine::{Machine, NotSent};
+pub use report::write_events;
+pub use run::run_over;
+pub use stop::write_report;

@@ -1,6 +1,7 @@
 //! The next line of an input.
 ghost use Rattle.std.specs.Io.KnownBytes.{prepend_known};
 ghost use Rattle.std.specs.Prelude.{◌≡◌, ◌-◌, ◌^◌, ◌≤◌, ◌<◌, OnOk};
+ghost use Rattle.fsoe_io.specs.Line.{IsLine};
 ghost use Rattle.file_run.specs.Halt.{Blames, Goes, Stalls};
 ghost use Rattle.file_run.specs.NextLine.{FindsLine};
 
@@ -9,7 +10,7 @@ use crate::halt::{Halt, halt_of};
 use fsoe_io::{Line, LineReader, Source};
 
 /// Writes the next line to `line`, or tells why there is none.
-pub fn next_line<S: Source>(
+pub(crate) fn next_line<S: Source>(
     reader: &mut LineReader,
     source: &mut S,
     line: &mut Line,
@@ -23,6 +24,7 @@ pub fn next_line<S: Source>(
         (prepend_known reader.old.bytes (S.left source.old))
         (prepend_known reader.new.bytes (S.left source.new)) }
     ensures stalls { Stalls result reader.new.bytes }
+    ensures unread { ¬ IsLine reader.old.bytes → source.new ≡ source.old }
     ensures later { S.faults source.old ≤ S.faults source.new }
     ensures cause { Blames result (S.faults source.old) (S.faults source.new) }
 {

@@ -1,16 +1,17 @@
 //! How a run ends: its last line and all that waits is sent.
-ghost use Rattle.std.specs.Prelude.{◌≡◌, ◌+◌, ◌^◌, ◌≤◌, ◌<◌, [], length, ◌⊎◌, OnOk};
-ghost use Rattle.fsoe_io.specs.Faults.{HasCause, Rose};
+ghost use Rattle.std.specs.Prelude.{◌≡◌, ◌+◌, ◌++◌, ◌^◌, ◌≤◌, ◌<◌, [], length, OnOk};
+ghost use Rattle.fsoe_io.specs.Faults.{HasCause};
+ghost use Rattle.fsoe_io.specs.Line.{IsLine};
 ghost use Rattle.fsoe_io.specs.Output.{Puts};
-ghost use Rattle.file_run.specs.Ending.{Closes};
+ghost use Rattle.file_run.specs.Ending.{Writes};
 ghost use Rattle.file_run.specs.Stop.{ended_by, last_of};
 
 use crate::halt::Halt;
 use crate::report::write_refusal;
-use fsoe_io::{Ended, Failed, LineReader, LineText, Output, Sink, Status};
+use fsoe_io::{Ended, Failed, LineReader, LineText, Output, Sink, Status, put_all};
 
 /// Sends what waits where the next line needs a read, which may block.
-pub fn send_before_read<K: Sink>(
+pub(crate) fn send_before_read<K: Sink>(
     reader: &LineReader,
     output: &mut Output,
     sink: &mut K,
@@ -18,6 +19,8 @@ pub fn send_before_read<K: Sink>(
     requires { output.old.sent + length output.old.bytes < 2 ^ 63 }
     ensures puts { Puts result output.old output.new (K.written sink.old) (K.written sink.new) [] }
     ensures count { OnOk result (output.new.sent + length output.new.bytes ≡ output.old.sent + length output.old.bytes) }
+    // A source is read only where what is held is no more than a part of a line: then nothing waits.
+    ensures sent { OnOk result (IsLine reader.now.bytes → output.new.bytes ≡ []) }
     ensures cause { HasCause (K.faults sink.old) (K.faults sink.new) result }
 {
     if reader.holds_line() {
@@ -28,7 +31,7 @@ pub fn send_before_read<K: Sink>(
 }
 
 /// How a run ends whose sink failed.
-pub fn write_failed(output: &Output) -> Ended
+pub(crate) fn write_failed(output: &Output) -> Ended
     ensures status { result.status ≡ Status.Write }
     ensures place { result.place ≡ output.now.sent }
 {
@@ -39,12 +42,16 @@ pub fn write_failed(output: &Output) -> Ended
 }
 
 /// Sends the last piece and all that waits. Where that fails, the run ends so.
-pub fn close<K: Sink>(output: &mut Output, sink: &mut K, last: &[u8], ended: Ended) -> Ended
+pub(crate) fn close<K: Sink>(output: &mut Output, sink: &mut K, last: &[u8], ended: Ended) -> Ended
     requires short { length last.now ≤ 1024 }
     requires count { output.old.sent + length output.old.bytes < 2 ^ 63 }
-    ensures closes { Closes result ended output.old (K.written sink.old) (K.written sink.new) last.now }
+    ensures writes { Writes output.old.sent (output.old.bytes ++ last.now) ended result (record {
+      before = K.written sink.old;
+      after = K.written sink.new;
+      faults_before = K.faults sink.old;
+      faults_after = K.faults sink.new;
+    }) }
     ensures later { K.faults sink.old ≤ K.faults sink.new }
-    ensures cause { (result ≡ ended) ⊎ Rose (K.faults sink.old) (K.faults sink.new) }
 {
     match output.finish(sink, last) {
         Ok(()) => ended,
@@ -53,11 +60,15 @@ pub fn close<K: Sink>(output: &mut Output, sink: &mut K, last: &[u8], ended: End
 }
 
 /// Ends a run whose input goes no further.
-pub fn halt<K: Sink>(output: &mut Output, sink: &mut K, why: Halt) -> Ended
+pub(crate) fn halt<K: Sink>(output: &mut Output, sink: &mut K, why: Halt) -> Ended
     requires { output.old.sent + length output.old.bytes < 2 ^ 63 }
-    ensures closes { Closes result (ended_by why) output.old (K.written sink.old) (K.written sink.new) (last_of why) }
+    ensures writes { Writes output.old.sent (output.old.bytes ++ last_of why) (ended_by why) result (record {
+      before = K.written sink.old;
+      after = K.written sink.new;
+      faults_before = K.faults sink.old;
+      faults_after = K.faults sink.new;
+    }) }
     ensures later { K.faults sink.old ≤ K.faults sink.new }
-    ensures cause { (result ≡ ended_by why) ⊎ Rose (K.faults sink.old) (K.faults sink.new) }
 {
     match why {
         Halt::Read(lines) => close(
@@ -78,5 +89,24 @@ pub fn halt<K: Sink>(output: &mut Output, sink: &mut K, why: Halt) -> Ended
             };
             close(output, sink, text.bytes(), ended)
         }
+    }
+}
+
+/// Writes a whole report. The run ends so; or with `Write` and the bytes written, where the sink fails.
+pub fn write_report<K: Sink>(sink: &mut K, report: &[u8], ended: Ended) -> Ended
+    ensures writes { Writes 0 report.now ended result (record {
+      before = K.written sink.old;
+      after = K.written sink.new;
+      faults_before = K.faults sink.old;
+      faults_after = K.faults sink.new;
+    }) }
+    ensures later { K.faults sink.old ≤ K.faults sink.new }
+{
+    match put_all(sink, report) {
+        Ok(()) => ended,
+        Err(partial) => Ended {
+            status: Status::Write,
+            place: partial.done as u64,
+        },
     }
 }

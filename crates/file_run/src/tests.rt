@@ -1,4 +1,7 @@
-use crate::{Grammar, Halt, next_event, read_header, write_events, write_refusal};
+use crate::event::{Grammar, next_event};
+use crate::halt::Halt;
+use crate::header::read_header;
+use crate::report::{write_events, write_refusal};
 use fsoe_base::Lengths;
 use fsoe_io::{Line, LineReader, LineText, SureSource};
 use param_load::{Profile, Profiles};

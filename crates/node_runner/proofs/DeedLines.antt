@@ -7,7 +7,7 @@ use Rattle.end_model.proofs.Runs.{run_append}
 use Rattle.end_model.specs.Deed.{Deed}
 use Rattle.end_model.specs.Setup.{Setup}
 use Rattle.end_model.specs.Step.{step, run, continued}
-use Rattle.file_run.specs.Ending.{IsPrefix}
+use Rattle.file_run.specs.Reporting.{IsPrefix}
 use Rattle.node_runner.specs.Report.{deed_line, deed_lines, deeds}
 use Rattle.node_runner.specs.Move.{move_of}
 

@@ -1,5 +1,3 @@
-pub mod Nodes
 pub mod DeedLines
 pub mod OneReport
-pub mod Running
-pub mod Exact
+pub mod Nodes

@@ -1,75 +1,175 @@
--- A node does what its end does.
-use Rattle.std.proofs.Common.{◌≡◌, ℕ, List, [], ◌∷◌}
+-- A node does over its events what looking back says, and reports it.
+use Rattle.std.proofs.Common.{◌≡◌, ℕ, ◌+◌, false, List, [], ◌∷◌, ◌++◌, length, refl, arith, ap, ◌∙◌, sym, subst, append_assoc}
+use Rattle.std.specs.Prelude.{IsTrue}
+use Rattle.fsoe_base.specs.LengthsOf.{length_of}
+use Rattle.fsoe_base.specs.declared.command.End.{End}
 use Rattle.fsoe_base.specs.declared.command.End.TheVariants as side
+use Rattle.fsoe_base.specs.declared.command.State.{State}
 use Rattle.fsoe_base.specs.declared.did.Did.{Did}
-use Rattle.param_load.specs.declared.entry.Move.{Move}
-use Rattle.param_load.specs.declared.master_settings.MasterSettings.{MasterSettings}
-use Rattle.param_load.specs.declared.slave_settings.SlaveSettings.{SlaveSettings}
-use Rattle.schedule_file.specs.Header.{Heading, IsMasterOf, IsSlaveOf}
+use Rattle.fsoe_base.specs.declared.lengths.Lengths.{Lengths}
+use Rattle.fsoe_io.specs.declared.status.Ended.{Ended}
+use Rattle.param_load.specs.declared.profile.Profile.{Profile}
+use Rattle.schedule_file.specs.Event as schedule_file
+use Rattle.schedule_file.specs.Event.{FitsNode}
+use Rattle.schedule_file.specs.Header.{Heading}
+use Rattle.schedule_file.specs.HeaderKind.{has_end}
+use Rattle.schedule_file.specs.Input.{AtEnd, own_length, heading_profile, input_of}
+use Rattle.schedule_file.specs.declared.event.Event.{Event}
+use Rattle.schedule_file.specs.declared.event.Event.TheVariants as event
+use Rattle.schedule_file.specs.declared.event.ScheduleLine.TheVariants as line
+use Rattle.schedule_file.specs.declared.header_kind.HeaderKind.{HeaderKind}
+use Rattle.schedule_file.specs.declared.header_kind.HeaderKind.TheVariants as kind
+use Rattle.file_run.specs.Event.{FitsGrammar, FitsKind}
+use Rattle.file_run.specs.Machine.{GoesOn, IsGrammarOf, MayCome}
+use Rattle.file_run.specs.Report.{events_line, last_line}
+use Rattle.file_run.specs.Reporting.{EndsReport, ReportsSoFar}
+use Rattle.file_run.specs.declared.event.Grammar.{Grammar}
 use Rattle.end_model.specs.Setup.{Setup, OfMaster, OfSlave}
 use Rattle.end_model.specs.Deed.{Deed}
+use Rattle.end_model.specs.Outputs.{out}
+use Rattle.end_model.specs.Readiness.{state_of}
 use Rattle.end_model.specs.Step.{step}
 use Rattle.master_core.specs.MasterView.{MasterView}
-use Rattle.master_core.specs.Standing as master_core
+use Rattle.master_core.specs.Now.{is_due}
 use Rattle.master_core.specs.Standing.{MasterIsAfter}
 use Rattle.slave_core.specs.SlaveView.{SlaveView}
-use Rattle.slave_core.specs.Standing as slave_core
 use Rattle.slave_core.specs.Standing.{SlaveIsAfter}
-use Rattle.node_runner.specs.Node.{NodeStands, NodeFollows, NodeAnswers, NodeShows, IsNew}
-use Rattle.node_runner.specs.declared.node.Node.TheVariants as node
+use Rattle.node_runner.specs.Move.{move_of}
+use Rattle.node_runner.specs.Node.{NodeStands, MasterStands, SlaveStands}
+use Rattle.node_runner.specs.Ran.{NodeReports, node_ended, node_reporting}
+use Rattle.node_runner.specs.Report.{IsSetTo, entry_line, deed_line, deed_lines, deeds}
+use Rattle.node_runner.proofs.DeedLines.{count_deeds, deeds_more, lines_begin}
+use Rattle.node_runner.proofs.OneReport.{some_report}
 
-pub new_master : (h : Heading) (v : MasterView) (ms : MasterSettings) → IsMasterOf h ms → MasterIsAfter ms v [] → IsNew side.Master h (node.Master v)
-new_master h v ms is stands = (OfMaster ms, is, stands)
+-- a new node stands for no event
+pub node_begins : {S V : Type 0} (end : End) (setup : S → Setup) (is_after : S → V → List Deed → Type 0) (v : V) (h : Heading) (settings : S) → IsSetTo end h (setup settings) → is_after settings v [] → NodeStands end setup is_after v h [] []
+node_begins end setup is_after v h settings set stands = record { settings = settings; set = set; stands = stands; lines = refl }
 
-pub new_slave : (h : Heading) (v : SlaveView) (ss : SlaveSettings) → IsSlaveOf h ss → SlaveIsAfter ss v [] → IsNew side.Slave h (node.Slave v)
-new_slave h v ss is stands = (OfSlave ss, is, stands)
+-- what fits the lengths and the profile of a header fits those to which an end is set
+fits_terms : (end : End) (l m : Lengths) (p q : Profile) (event : Event) → length_of l end ≡ length_of m end → p ≡ q → FitsNode end l p event → FitsNode end m q event
+fits_terms end l m p q (event.Raw to frame) e f fits = fits
+fits_terms end l m p q (event.Tick at) e f fits = fits
+fits_terms end l m p q (event.Put at load) e f fits = (fits.0, fits.1 ∙ e)
+fits_terms end l m p q (event.Hold at failsafe) e f fits = fits
+fits_terms end l m p q (event.Nonce at id) e f fits = subst (λ (q : Profile). FitsNode end m q (event.Nonce at id)) f fits
+fits_terms end l m p q (event.Local at) e f fits = fits
+fits_terms end l m p q (event.Deliver to back) e f fits = absurd fits
+fits_terms end l m p q (event.Altered to back pos mask) e f fits = absurd fits
 
-master_stands : (old new : MasterView) (m : Move) → master_core.Follows old m new → (s : Setup) (e : List Deed) → NodeStands (node.Master old) s e → NodeStands (node.Master new) s (step s e m ∷ e)
-master_stands old new m f (OfMaster ms) e h = f.is_after ms e h
-master_stands old new m f (OfSlave ss) e h = absurd h
+fits_kind : (k own : HeaderKind) (grammar : Grammar) (event : Event) → k ≡ own → FitsKind k grammar.lengths grammar.profiles (line.Step event) → FitsKind own grammar.lengths grammar.profiles (line.Step event)
+fits_kind k own grammar event e fits = subst (λ (k : HeaderKind). FitsKind k grammar.lengths grammar.profiles (line.Step event)) e fits
 
-pub master_follows : (old : MasterView) (m : Move) (new : MasterView) → master_core.Follows old m new → NodeFollows (node.Master old) m (node.Master new)
-master_follows old m new f = record { stands = master_stands old new m f }
+fits_end : (end : End) (h : Heading) (grammar : Grammar) (lengths : Lengths) (profile : Profile) (event : Event) → IsTrue (has_end (kind.Node end) end) → IsGrammarOf (kind.Node end) h grammar
+    → length_of lengths end ≡ own_length h end → profile ≡ heading_profile h end → FitsGrammar grammar (line.Step event) → FitsNode end lengths profile event
+fits_end end h grammar lengths profile event own of e f fits =
+    fits_terms end grammar.lengths lengths (schedule_file.profile_of grammar.profiles end) profile event (of.lengths end ∙ sym e) (of.profiles end own ∙ sym f)
+    (fits_kind grammar.kind (kind.Node end) grammar event of.kind_is fits)
 
-slave_stands : (old new : SlaveView) (m : Move) → slave_core.Follows old m new → (s : Setup) (e : List Deed) → NodeStands (node.Slave old) s e → NodeStands (node.Slave new) s (step s e m ∷ e)
-slave_stands old new m f (OfMaster ms) e h = absurd h
-slave_stands old new m f (OfSlave ss) e h = f.is_after ss e h
+-- the terms of a master that stands so are those of its header
+master_lengths : (v : MasterView) (h : Heading) (log : List Event) (text : List ℕ) → MasterStands v h log text → (end : End) → length_of v.kit.settings.lengths end ≡ own_length h end
+master_lengths v h log text k side.Master = ap (λ v. v.kit.settings.lengths.master) k.0.stands.is ∙ k.0.set.0
+master_lengths v h log text k side.Slave = ap (λ v. v.kit.settings.lengths.slave) k.0.stands.is ∙ k.0.set.1
 
-pub slave_follows : (old : SlaveView) (m : Move) (new : SlaveView) → slave_core.Follows old m new → NodeFollows (node.Slave old) m (node.Slave new)
-slave_follows old m new f = record { stands = slave_stands old new m f }
+master_profile : (v : MasterView) (h : Heading) (log : List Event) (text : List ℕ) → MasterStands v h log text → v.kit.settings.profile ≡ h.master.profile
+master_profile v h log text k = ap (λ v. v.kit.settings.profile) k.0.stands.is ∙ k.0.set.2.profile_is
 
-master_did : (v : MasterView) (m : Move) (d : Did) (f : List ℕ) → master_core.Answers v m d f → (s : Setup) (e : List Deed) → NodeStands (node.Master v) s e → d ≡ (step s e m).did
-master_did v m d f a (OfMaster ms) e h = a.did ms e h
-master_did v m d f a (OfSlave ss) e h = absurd h
+slave_lengths : (v : SlaveView) (h : Heading) (log : List Event) (text : List ℕ) → SlaveStands v h log text → (end : End) → length_of v.kit.settings.lengths end ≡ own_length h end
+slave_lengths v h log text k side.Master = ap (λ v. v.kit.settings.lengths.master) k.stands.is ∙ k.set.0
+slave_lengths v h log text k side.Slave = ap (λ v. v.kit.settings.lengths.slave) k.stands.is ∙ k.set.1
 
-master_sent : (v : MasterView) (m : Move) (d : Did) (f : List ℕ) → master_core.Answers v m d f → (s : Setup) (e : List Deed) → NodeStands (node.Master v) s e → f ≡ (step s e m).sent
-master_sent v m d f a (OfMaster ms) e h = a.sent ms e h
-master_sent v m d f a (OfSlave ss) e h = absurd h
+slave_profile : (v : SlaveView) (h : Heading) (log : List Event) (text : List ℕ) → SlaveStands v h log text → v.kit.settings.profile ≡ h.slave.profile
+slave_profile v h log text k = ap (λ v. v.kit.settings.profile) k.stands.is ∙ k.set.2.profile_is
 
-pub master_answers : (v : MasterView) (m : Move) (d : Did) (f : List ℕ) → master_core.Answers v m d f → NodeAnswers (node.Master v) m d f
-master_answers v m d f a = record { did = master_did v m d f a; sent = master_sent v m d f a }
+pub master_fits : (v : MasterView) (event : Event) (number : ℕ) → MayCome (MasterStands v) (kind.Node side.Master) event number → FitsNode side.Master v.kit.settings.lengths v.kit.settings.profile event
+master_fits v event number may =
+    fits_end side.Master may.heading may.grammar v.kit.settings.lengths v.kit.settings.profile event refl may.is_of (master_lengths v may.heading may.log may.text may.stands side.Master)
+    (master_profile v may.heading may.log may.text may.stands) may.fits
 
-slave_did : (v : SlaveView) (m : Move) (d : Did) (f : List ℕ) → slave_core.Answers v m d f → (s : Setup) (e : List Deed) → NodeStands (node.Slave v) s e → d ≡ (step s e m).did
-slave_did v m d f a (OfMaster ms) e h = absurd h
-slave_did v m d f a (OfSlave ss) e h = a.did ss e h
+pub slave_fits : (v : SlaveView) (event : Event) (number : ℕ) → MayCome (SlaveStands v) (kind.Node side.Slave) event number → FitsNode side.Slave v.kit.settings.lengths v.kit.settings.profile event
+slave_fits v event number may =
+    fits_end side.Slave may.heading may.grammar v.kit.settings.lengths v.kit.settings.profile event refl may.is_of (slave_lengths v may.heading may.log may.text may.stands side.Slave)
+    (slave_profile v may.heading may.log may.text may.stands) may.fits
 
-slave_sent : (v : SlaveView) (m : Move) (d : Did) (f : List ℕ) → slave_core.Answers v m d f → (s : Setup) (e : List Deed) → NodeStands (node.Slave v) s e → f ≡ (step s e m).sent
-slave_sent v m d f a (OfMaster ms) e h = absurd h
-slave_sent v m d f a (OfSlave ss) e h = a.sent ss e h
+-- an event at an end, which did this and sent this frame, and what is shown after it, as a line
+pub record Reports {S V : Type 0} (setup : S → Setup) (is_after : S → V → List Deed → Type 0) (old new : V) (event : Event) (number : ℕ) (did : Did) (sent : List ℕ) (state : State) (outputs piece : List ℕ) : Type 0 where
+  pub follows : (settings : S) (e : List Deed) → is_after settings old e → is_after settings new (step (setup settings) e (move_of event) ∷ e)
+  pub did_is : (settings : S) (e : List Deed) → is_after settings old e → did ≡ (step (setup settings) e (move_of event)).did
+  pub sent_is : (settings : S) (e : List Deed) → is_after settings old e → sent ≡ (step (setup settings) e (move_of event)).sent
+  pub state_shown : (settings : S) (e : List Deed) → is_after settings new e → state ≡ state_of (setup settings) e
+  pub outputs_shown : (settings : S) (e : List Deed) → is_after settings new e → outputs ≡ out (setup settings) e
+  pub line : piece ≡ entry_line number did state outputs sent
 
-pub slave_answers : (v : SlaveView) (m : Move) (d : Did) (f : List ℕ) → slave_core.Answers v m d f → NodeAnswers (node.Slave v) m d f
-slave_answers v m d f a = record { did = slave_did v m d f a; sent = slave_sent v m d f a }
+-- is the line of the next deed
+line_is : {S V : Type 0} (setup : S → Setup) (is_after : S → V → List Deed → Type 0) (old new : V) (event : Event) (number : ℕ) (did : Did) (sent : List ℕ) (state : State) (outputs piece : List ℕ)
+    → Reports setup is_after old new event number did sent state outputs piece → (settings : S) (e : List Deed) → number ≡ length e + 1 → is_after settings old e
+    → piece ≡ deed_line (setup settings) e (step (setup settings) e (move_of event))
+line_is setup is_after old new event number did sent state outputs piece r settings e n stands =
+    let s : Setup = setup settings in
+    let x : Deed = step s e (move_of event) in
+    let after : is_after settings new (x ∷ e) = r.follows settings e stands in
+    r.line
+    ∙ ap (λ (n : ℕ). entry_line n did state outputs sent) n
+    ∙ ap (λ (d : Did). entry_line (length e + 1) d state outputs sent) (r.did_is settings e stands)
+    ∙ ap (λ (state : State). entry_line (length e + 1) x.did state outputs sent) (r.state_shown settings (x ∷ e) after)
+    ∙ ap (λ (outputs : List ℕ). entry_line (length e + 1) x.did (state_of s (x ∷ e)) outputs sent) (r.outputs_shown settings (x ∷ e) after)
+    ∙ ap (λ (f : List ℕ). entry_line (length e + 1) x.did (state_of s (x ∷ e)) (out s (x ∷ e)) f) (r.sent_is settings e stands)
 
-master_shown : {X : Type 0} (v : MasterView) (x : X) (word : Setup → List Deed → X) → master_core.Shows v x word → (s : Setup) (e : List Deed) → NodeStands (node.Master v) s e → x ≡ word s e
-master_shown v x word w (OfMaster ms) e h = w.shows ms e h
-master_shown v x word w (OfSlave ss) e h = absurd h
+node_goes : {S V : Type 0} (end : End) (setup : S → Setup) (is_after : S → V → List Deed → Type 0) (old new : V) (event : Event) (number : ℕ) (did : Did) (sent : List ℕ) (state : State) (outputs piece : List ℕ)
+    → Reports setup is_after old new event number did sent state outputs piece → (h : Heading) (log : List Event) (text : List ℕ) → number ≡ length log + 1 → NodeStands end setup is_after old h log text
+    → NodeStands end setup is_after new h (log ++ event ∷ []) (text ++ piece)
+node_goes end setup is_after old new event number did sent state outputs piece r h log text n k =
+    let s : Setup = setup k.settings in
+    let e : List Deed = deeds s log in
+    let counted : number ≡ length e + 1 = omega (arith, n, count_deeds s log) in
+    let line = line_is setup is_after old new event number did sent state outputs piece r k.settings e counted k.stands in
+    record {
+      settings = k.settings;
+      set = k.set;
+      stands = subst (is_after k.settings new) (sym (deeds_more s log event)) (r.follows k.settings e k.stands);
+      lines =
+          ap (λ (z : List ℕ). z ++ piece) k.lines
+          ∙ ap (λ (z : List ℕ). deed_lines s e ++ z) line
+          ∙ ap (deed_lines s) (sym (deeds_more s log event));
+    }
 
-pub master_shows : {X : Type 0} (v : MasterView) (x : X) (word : Setup → List Deed → X) → master_core.Shows v x word → NodeShows (node.Master v) x word
-master_shows v x word w = record { shows = master_shown v x word w }
+pub master_goes_on : (old new : MasterView) (event : Event) (number : ℕ) (did : Did) (sent : List ℕ) (state : State) (outputs piece : List ℕ) → Reports OfMaster MasterIsAfter old new event number did sent state outputs piece
+    → is_due new.state ≡ false → GoesOn (MasterStands old) (MasterStands new) event number piece
+master_goes_on old new event number did sent state outputs piece r rest = record {
+  goes = λ h log text n k. (node_goes side.Master OfMaster MasterIsAfter old new event number did sent state outputs piece r h log text n k.0, rest);
+}
 
-slave_shown : {X : Type 0} (v : SlaveView) (x : X) (word : Setup → List Deed → X) → slave_core.Shows v x word → (s : Setup) (e : List Deed) → NodeStands (node.Slave v) s e → x ≡ word s e
-slave_shown v x word w (OfMaster ms) e h = absurd h
-slave_shown v x word w (OfSlave ss) e h = w.shows ss e h
+pub slave_goes_on : (old new : SlaveView) (event : Event) (number : ℕ) (did : Did) (sent : List ℕ) (state : State) (outputs piece : List ℕ) → Reports OfSlave SlaveIsAfter old new event number did sent state outputs piece
+    → GoesOn (SlaveStands old) (SlaveStands new) event number piece
+slave_goes_on old new event number did sent state outputs piece r = record { goes = node_goes side.Slave OfSlave SlaveIsAfter old new event number did sent state outputs piece r }
 
-pub slave_shows : {X : Type 0} (v : SlaveView) (x : X) (word : Setup → List Deed → X) → slave_core.Shows v x word → NodeShows (node.Slave v) x word
-slave_shows v x word w = record { shows = slave_shown v x word w }
+-- the lines so far begin the report, and with a last line they are that of an input that stops after them
+pub node_so_far : {S V : Type 0} (end : End) (setup : S → Setup) (is_after : S → V → List Deed → Type 0) (v : V) (h : Heading) (log : List Event) (text : List ℕ) → NodeStands end setup is_after v h log text
+    → ReportsSoFar (node_reporting end) h log text
+node_so_far end setup is_after v h log text k =
+    let s : Setup = setup k.settings in
+    record {
+      begins = λ n more stop.
+          let lines : List ℕ = deed_lines s (deeds s (log ++ more)) in
+          let last : List ℕ = last_line (length (log ++ more)) stop in
+          let begun = lines_begin s log more in (
+            lines ++ last,
+            node_ended stop,
+            ((lines, (s, k.set, refl), refl), refl),
+            (
+              begun.0 ++ last,
+              ap (λ (z : List ℕ). z ++ last) begun.1
+                  ∙ append_assoc (deed_lines s (deeds s log)) begun.0 last
+                  ∙ ap (λ (z : List ℕ). z ++ (begun.0 ++ last)) (sym k.lines),
+            ),
+          );
+      refused = λ n number why. ((text, (s, k.set, k.lines), refl), refl);
+    }
+
+pub node_ends : {S V : Type 0} (end : End) (setup : S → Setup) (is_after : S → V → List Deed → Type 0) (v : V) (h : Heading) (log : List Event) (text last : List ℕ) (events : ℕ) (ended : Ended) → length log ≡ events
+    → last ≡ events_line events → ended ≡ node_ended AtEnd → NodeStands end setup is_after v h log text → EndsReport (node_reporting end) h log (text ++ last) ended
+node_ends end setup is_after v h log text last events ended count is e k = λ n.
+    ((text, (setup k.settings, k.set, k.lines), ap (λ (z : List ℕ). text ++ z) (is ∙ ap events_line (sym count))), e)
+
+-- each input has a report
+pub some_node_report : (end : End) (bytes : List ℕ) → (report : List ℕ) × (ended : Ended) × NodeReports end (input_of (kind.Node end) bytes) ended report
+some_node_report end bytes = let report = some_report end bytes in (report.0, node_ended (input_of (kind.Node end) bytes).stop, (report.1, refl))

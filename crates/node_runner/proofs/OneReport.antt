@@ -13,8 +13,7 @@ use Rattle.schedule_file.specs.declared.header_kind.HeaderKind.TheVariants as ki
 use Rattle.schedule_file.specs.declared.event.Event.{Event}
 use Rattle.end_model.specs.Setup.{Setup, OfMaster, OfSlave}
 use Rattle.file_run.specs.Report.{last_line}
-use Rattle.node_runner.specs.Node.{IsSetTo}
-use Rattle.node_runner.specs.Report.{AreLines, IsReport, deed_lines, deeds}
+use Rattle.node_runner.specs.Report.{AreLines, IsReport, IsSetTo, deed_lines, deeds}
 
 one_setup : (end : End) (h : Heading) (s t : Setup) → IsSetTo end h s → IsSetTo end h t → s ≡ t
 one_setup side.Master h (OfMaster a) (OfMaster b) x y = ap OfMaster (one_master h a b x y)

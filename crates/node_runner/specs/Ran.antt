@@ -1,20 +1,28 @@
 -- How the run of a node ends, and what it reports.
-use Rattle.std.specs.Prelude.{◌≡◌, ℕ, List}
+use Rattle.std.specs.Prelude.{◌≡◌, ℕ, false, List}
 use Rattle.fsoe_base.specs.declared.command.End.{End}
 use Rattle.fsoe_io.specs.declared.status.Ended.{Ended}
 use Rattle.fsoe_io.specs.declared.status.Status.TheVariants as status
 use Rattle.schedule_file.specs.Input.{Stop, AtEnd, Refused, Input}
+use Rattle.schedule_file.specs.declared.header_kind.HeaderKind.TheVariants as kind
+use Rattle.file_run.specs.Outside.{Outside}
+use Rattle.file_run.specs.Ran.{RanOver}
+use Rattle.file_run.specs.Reporting.{Reporting}
 use Rattle.node_runner.specs.Report.{IsReport}
 
 -- how a run ends whose input stops so, where neither a read nor a write failed
-abbrev pub ended_at : Stop → Ended
-ended_at AtEnd = record { status = status.Ok; place = 0 }
-ended_at (Refused number why) = record { status = status.Line; place = number }
-
--- a run up to the `end` of its input ends so
-abbrev pub EndsWell : Ended → Type 0
-EndsWell ended = ended ≡ ended_at AtEnd
+abbrev pub node_ended : Stop → Ended
+node_ended AtEnd = record { status = status.Ok; place = 0 }
+node_ended (Refused number why) = record { status = status.Line; place = number }
 
 -- the whole report of the node at this end, and how a run that writes it ends
 abbrev pub NodeReports : End → Input → Ended → List ℕ → Type 0
-NodeReports end input ended text = IsReport end input text × (ended ≡ ended_at input.stop)
+NodeReports end input ended text = IsReport end input text × (ended ≡ node_ended input.stop)
+
+-- what a node reports
+abbrev pub node_reporting : End → Reporting
+node_reporting end = record { kind = kind.Node end; judges = false; reports = NodeReports end }
+
+-- the node at this end ran over an input
+abbrev pub RanNode : End → Ended → Outside → Type 0
+RanNode end ended o = RanOver (node_reporting end) ended o

@@ -1,19 +1,19 @@
 -- The report of a node.
 use Rattle.std.specs.Prelude.{◌≡◌, ℕ, ◌+◌, List, [], ◌∷◌, ◌++◌, length, map, codes, decimal, Option, Some, None}
 use Rattle.fsoe_base.specs.declared.command.End.{End}
+use Rattle.fsoe_base.specs.declared.command.End.TheVariants as side
 use Rattle.fsoe_base.specs.declared.command.State.{State}
 use Rattle.fsoe_base.specs.declared.did.Did.{Did}
 use Rattle.entry_text.specs.EntryText.{entry_text}
-use Rattle.schedule_file.specs.Header.{Heading}
+use Rattle.schedule_file.specs.Header.{Heading, IsMasterOf, IsSlaveOf}
 use Rattle.schedule_file.specs.Input.{Input}
 use Rattle.schedule_file.specs.declared.event.Event.{Event}
-use Rattle.end_model.specs.Setup.{Setup}
+use Rattle.end_model.specs.Setup.{Setup, OfMaster, OfSlave}
 use Rattle.end_model.specs.Deed.{Deed}
 use Rattle.end_model.specs.Outputs.{out}
 use Rattle.end_model.specs.Readiness.{state_of}
 use Rattle.end_model.specs.Step.{run}
 use Rattle.file_run.specs.Report.{last_line}
-use Rattle.node_runner.specs.Node.{IsSetTo}
 use Rattle.node_runner.specs.Move.{move_of}
 
 -- what an event did, with its number from 1, the state and the outputs after it, and the frame that was sent
@@ -32,6 +32,13 @@ deed_lines s (x ∷ e) = deed_lines s e ++ deed_line s e x
 -- the deeds of an end that is set so over these events
 abbrev pub deeds : Setup → List Event → List Deed
 deeds s events = run s (map move_of events)
+
+-- an end is set to what a header says of it
+abbrev pub IsSetTo : End → Heading → Setup → Type 0
+IsSetTo side.Master h (OfMaster ms) = IsMasterOf h ms
+IsSetTo side.Slave h (OfSlave ss) = IsSlaveOf h ss
+IsSetTo side.Master h (OfSlave ss) = ⊥
+IsSetTo side.Slave h (OfMaster ms) = ⊥
 
 -- the lines of the events at this end, which is set to what the header says; without a whole header there are none
 abbrev pub AreLines : End → Option Heading → List Event → List ℕ → Type 0

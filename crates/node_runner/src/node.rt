@@ -1,31 +1,37 @@
-//! The end that a node runs: one event at it, and its line of the report.
-ghost use Rattle.std.specs.Prelude.{◌≡◌, ◌≤◌, false, IsTrue, length};
+//! The ends that a node runs: one event at either, and its line of the report.
+ghost use Rattle.std.specs.Prelude.{◌≡◌, ◌≤◌, false, length};
 ghost use Rattle.fsoe_base.specs.declared.command.End.TheVariants as side;
+ghost use Rattle.fsoe_io.specs.declared.status.Status.TheVariants as status;
 ghost use Rattle.schedule_file.specs.Event.{FitsNode};
-ghost use Rattle.schedule_file.specs.Header.{is_done, kind_of};
 ghost use Rattle.schedule_file.specs.declared.header_kind.HeaderKind.TheVariants as kind;
+ghost use Rattle.file_run.specs.Report.{events_line};
 ghost use Rattle.node_runner.specs.Report.{entry_line};
 ghost use Rattle.node_runner.specs.Move.{move_of};
-ghost use Rattle.end_model.specs.Outputs.{out};
-ghost use Rattle.end_model.specs.Readiness.{state_of};
 ghost use Rattle.master_core.specs.Now.{is_due};
 ghost use Rattle.master_core.specs.Standing as master_core;
 ghost use Rattle.slave_core.specs.Standing as slave_core;
 
 use entry_text::push_entry;
-use file_run::Grammar;
+use file_run::{Grammar, Machine, NotSent, write_events};
 use fsoe_base::{Did, End, FrameBuf, Lengths, State};
-use fsoe_io::LineText;
+use fsoe_io::{Ended, LineText, Status};
 use master_core::Master;
 use param_load::{Profile, Profiles};
 use schedule_file::{Event, Header, HeaderKind};
 use slave_core::Slave;
 
-/// The end that a node runs.
+/// The node at a master, with the frame that it sent last.
 #[derive(Drop)]
-pub enum Node {
-    Master(Master),
-    Slave(Slave),
+pub(crate) struct MasterNode {
+    master: Master,
+    sent: FrameBuf,
+}
+
+/// The node at a slave.
+#[derive(Drop)]
+pub(crate) struct SlaveNode {
+    slave: Slave,
+    sent: FrameBuf,
 }
 
 /// One event at a master. The frame that it sends is written to `sent`, which is empty where it sends none.
@@ -90,116 +96,139 @@ fn step_slave(slave: &mut Slave, event: &Event, sent: &mut FrameBuf) -> Did
     }
 }
 
-impl Node {
-    ghost use Rattle.node_runner.specs.Node.{NodeFollows, NodeAnswers, NodeShows, IsNew, IsReady, end_of, lengths_of, profile_of};
+/// How the lines of a node at this end are read.
+fn grammar_of(end: End, lengths: &Lengths, profile: Profile) -> Grammar
+    ensures kind { result.kind ≡ kind.Node end }
+    ensures lengths { result.lengths ≡ lengths.now }
+    ensures profiles { result.profiles ≡ record { master = profile; slave = profile } }
+{
+    Grammar {
+        kind: HeaderKind::Node(end),
+        lengths: *lengths,
+        profiles: Profiles {
+            master: profile,
+            slave: profile,
+        },
+    }
+}
 
-    /// The end that a header describes which is done.
-    pub fn new(end: End, header: &Header) -> Node
-        requires done { IsTrue (is_done header.now) }
-        requires kind { kind_of header.now ≡ kind.Node end }
-        ensures new { IsNew end header.now result }
-        ensures ready { IsReady result }
-    {
-        match end {
-            End::Master => Node::Master(Master::new(header.master())),
-            End::Slave => Node::Slave(Slave::new(header.slave())),
+/// Writes the line of the event of this number, from 1.
+fn write_entry(
+    number: u64,
+    did: &Did,
+    state: State,
+    outputs: &[u8],
+    sent: &FrameBuf,
+    text: &mut LineText,
+)
+    requires { length outputs.now ≤ 126 }
+    ensures { text.new ≡ entry_line number did.now state outputs.now sent.now }
+{
+    text.clear();
+    text.push_decimal(number);
+    text.push(b" ");
+    push_entry(did, state, outputs, sent.bytes(), text);
+    text.push(b"\n");
+}
+
+/// Writes the last line of so many events.
+fn write_end(events: u64, text: &mut LineText) -> Ended
+    ensures text { text.new ≡ events_line events }
+    ensures ended { result ≡ record { status = status.Ok; place = 0 } }
+{
+    write_events(events, text);
+    Ended {
+        status: Status::Ok,
+        place: 0,
+    }
+}
+
+impl Machine for MasterNode {
+    ghost use Rattle.fsoe_base.specs.declared.command.End.TheVariants as side;
+    ghost use Rattle.node_runner.specs.Node.{MasterStands};
+    ghost use Rattle.node_runner.specs.Ran.{node_reporting};
+
+    ghost reporting = { node_reporting side.Master };
+
+    ghost stands = { λ v. MasterStands v.master };
+
+    fn laws() {}
+
+    fn kind() -> HeaderKind {
+        HeaderKind::Node(End::Master)
+    }
+
+    fn begin(header: &Header) -> MasterNode {
+        MasterNode {
+            master: Master::new(header.master()),
+            sent: FrameBuf::new(),
         }
     }
 
-    /// Which end it is.
-    fn end(&self) -> End
-        ensures { result ≡ end_of self.now }
-    {
-        match self {
-            Node::Master(_) => End::Master,
-            Node::Slave(_) => End::Slave,
+    fn grammar(&self) -> Grammar {
+        let settings = self.master.settings();
+        grammar_of(End::Master, settings.lengths(), settings.profile())
+    }
+
+    fn report(&mut self, event: &Event, number: u64, text: &mut LineText) -> Result<(), NotSent> {
+        let did = step_master(&mut self.master, event, &mut self.sent);
+        write_entry(
+            number,
+            &did,
+            self.master.state(),
+            self.master.outputs(),
+            &self.sent,
+            text,
+        );
+        Ok(())
+    }
+
+    fn close(&self, events: u64, text: &mut LineText) -> Ended {
+        write_end(events, text)
+    }
+}
+
+impl Machine for SlaveNode {
+    ghost use Rattle.fsoe_base.specs.declared.command.End.TheVariants as side;
+    ghost use Rattle.node_runner.specs.Node.{SlaveStands};
+    ghost use Rattle.node_runner.specs.Ran.{node_reporting};
+
+    ghost reporting = { node_reporting side.Slave };
+
+    ghost stands = { λ v. SlaveStands v.slave };
+
+    fn laws() {}
+
+    fn kind() -> HeaderKind {
+        HeaderKind::Node(End::Slave)
+    }
+
+    fn begin(header: &Header) -> SlaveNode {
+        SlaveNode {
+            slave: Slave::new(header.slave()),
+            sent: FrameBuf::new(),
         }
     }
 
-    /// The lengths of its connection.
-    fn lengths(&self) -> &Lengths
-        ensures { result.now ≡ lengths_of self.now }
-    {
-        match self {
-            Node::Master(master) => master.settings().lengths(),
-            Node::Slave(slave) => slave.settings().lengths(),
-        }
+    fn grammar(&self) -> Grammar {
+        let settings = self.slave.settings();
+        grammar_of(End::Slave, settings.lengths(), settings.profile())
     }
 
-    /// The profile of its parameters.
-    fn profile(&self) -> Profile
-        ensures { result ≡ profile_of self.now }
-    {
-        match self {
-            Node::Master(master) => master.settings().profile(),
-            Node::Slave(slave) => slave.settings().profile(),
-        }
+    fn report(&mut self, event: &Event, number: u64, text: &mut LineText) -> Result<(), NotSent> {
+        let did = step_slave(&mut self.slave, event, &mut self.sent);
+        write_entry(
+            number,
+            &did,
+            self.slave.state(),
+            self.slave.outputs(),
+            &self.sent,
+            text,
+        );
+        Ok(())
     }
 
-    /// How the lines of its events are read.
-    pub fn grammar(&self) -> Grammar
-        ensures kind { result.kind ≡ kind.Node (end_of self.now) }
-        ensures lengths { result.lengths ≡ lengths_of self.now }
-        ensures profiles { result.profiles ≡ record { master = profile_of self.now; slave = profile_of self.now } }
-    {
-        let profile = self.profile();
-        Grammar {
-            kind: HeaderKind::Node(self.end()),
-            lengths: *self.lengths(),
-            profiles: Profiles {
-                master: profile,
-                slave: profile,
-            },
-        }
-    }
-
-    /// One event at it. The frame that it sends is written to `sent`, which is empty where it sends none.
-    #[tactic(auto, using(crate::proofs::Nodes::master_follows, crate::proofs::Nodes::slave_follows, crate::proofs::Nodes::master_answers, crate::proofs::Nodes::slave_answers))]
-    pub fn step(&mut self, event: &Event, sent: &mut FrameBuf) -> Did
-        requires fits { FitsNode (end_of self.old) (lengths_of self.old) (profile_of self.old) event.now }
-        requires ready { IsReady self.old }
-        ensures follows { NodeFollows self.old (move_of event.now) self.new }
-        ensures answers { NodeAnswers self.old (move_of event.now) result sent.new }
-        ensures ready { IsReady self.new }
-    {
-        match self {
-            Node::Master(master) => step_master(master, event, sent),
-            Node::Slave(slave) => step_slave(slave, event, sent),
-        }
-    }
-
-    /// Its state.
-    #[tactic(auto, using(crate::proofs::Nodes::master_shows, crate::proofs::Nodes::slave_shows))]
-    fn state(&self) -> State
-        ensures { NodeShows self.now result state_of }
-    {
-        match self {
-            Node::Master(master) => master.state(),
-            Node::Slave(slave) => slave.state(),
-        }
-    }
-
-    /// Its outputs.
-    #[tactic(auto, using(crate::proofs::Nodes::master_shows, crate::proofs::Nodes::slave_shows))]
-    fn outputs(&self) -> &[u8]
-        ensures shown { NodeShows self.now result.now out }
-        ensures most { length result.now ≤ 126 }
-    {
-        match self {
-            Node::Master(master) => master.outputs(),
-            Node::Slave(slave) => slave.outputs(),
-        }
-    }
-
-    /// Writes the line of the event of this number, from 1.
-    pub fn write_entry(&self, events: u64, did: &Did, sent: &FrameBuf, text: &mut LineText)
-        ensures text { NodeShows self.now text.new (λ s e. entry_line events did.now (state_of s e) (out s e) sent.now) }
-        ensures most { length text.new ≤ 1000 }
-    {
-        text.clear();
-        text.push_decimal(events);
-        text.push(b" ");
-        push_entry(did, self.state(), self.outputs(), sent.bytes(), text);
-        text.push(b"\n");
+    fn close(&self, events: u64, text: &mut LineText) -> Ended {
+        write_end(events, text)
     }
 }

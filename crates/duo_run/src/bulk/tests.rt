@@ -1,6 +1,6 @@
 use super::*;
 use crate::replay::run_replay;
-use fsoe_io::{MemSink, MemSource};
+use fsoe_io::{MemSink, MemSource, Status};
 use schedule_file::{LineBuf, write_event};
 use std::test::Fail;
 

@@ -1,9 +1,8 @@
 use Rattle.std.proofs.Common.{◌≡◌, arith, ap, sym, ◌∙◌}
 use Rattle.schedule_file.specs.Header.{kind_of}
 use Rattle.schedule_file.specs.LinesLeft.{lines_left}
-use Rattle.file_run.proofs.Going.{halts_after}
 use Rattle.file_run.proofs.HeaderSeen.{header_none, header_line, header_done, header_halts}
-use Rattle.file_run.proofs.Taken.{took_none, took_line}
+use Rattle.file_run.proofs.Taken.{halts_after, took_none, took_line}
 use Rattle.file_run.proofs.header.read_header.Goals as goal
 
 pub loop-header-init : goal.loop-header-init

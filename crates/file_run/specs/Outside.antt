@@ -1,0 +1,20 @@
+-- What the outside tells of a run.
+use Rattle.std.specs.Prelude.{ℕ, List, IfSome}
+use Rattle.std.specs.declared.option.Option.{Option}
+use Rattle.fsoe_io.specs.Sink.{Grew}
+
+-- what a source or a sink tells before and after a run: its bytes, where it tells them, and how often it failed
+pub record Told : Type 0 where
+  pub before : Option (List ℕ)
+  pub after : Option (List ℕ)
+  pub faults_before : ℕ
+  pub faults_after : ℕ
+
+-- a source tells the bytes that are to come from it, a sink those that were written to it
+pub record Outside : Type 0 where
+  pub source : Told
+  pub sink : Told
+
+-- where both tell their bytes, the input and the text that was appended are related so
+abbrev pub Wrote : Outside → (List ℕ → List ℕ → Type 0) → Type 0
+Wrote o says = IfSome o.source.before (λ input. (text : List ℕ) × Grew o.sink.before o.sink.after text × says input text)

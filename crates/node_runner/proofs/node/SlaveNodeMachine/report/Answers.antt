@@ -1,0 +1,16 @@
+use Rattle.node_runner.proofs.Nodes.{slave_fits, slave_goes_on}
+use Rattle.node_runner.proofs.node.SlaveNodeMachine.report.Goals as goal
+
+pub step_slave-did-requires : goal.step_slave-did-requires
+step_slave-did-requires c = slave_fits c.args.self.now.slave c.args.event.now c.args.number c.requires
+
+pub returns-clause-goes_on : goal.returns-clause-goes_on
+returns-clause-goes_on c =
+    slave_goes_on c.args.self.now.slave c.step_slave-did.new.slave c.args.event.now c.args.number c.step_slave-did.result c.step_slave-did.new.sent c.state.result c.outputs.result.now c.write_entry.new.text (record {
+      follows = c.step_slave-did.ensures.follows.is_after;
+      did_is = c.step_slave-did.ensures.answers.did;
+      sent_is = c.step_slave-did.ensures.answers.sent;
+      state_shown = c.state.ensures.shows;
+      outputs_shown = c.outputs.ensures.shown.shows;
+      line = c.write_entry.ensures;
+    })
