@@ -42,7 +42,7 @@ impl Outputs {
     {
         match command {
             Command::ProcessData => self.image.set(load),
-            _ => self.image = Image::zeros(load.len()),
+            _ => self.fail(),
         }
     }
 
