@@ -117,7 +117,7 @@ impl MasterSettings {
         ensures peer { result ≤ self.now.lengths.slave }
         ensures most { result ≤ MOST_DATA }
     {
-        self.own_len().min(self.peer_len())
+        self.lengths.piece()
     }
 
     /// The connection id.

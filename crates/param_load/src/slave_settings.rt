@@ -120,7 +120,7 @@ impl SlaveSettings {
         ensures peer { result ≤ self.now.lengths.master }
         ensures most { result ≤ MOST_DATA }
     {
-        self.own_len().min(self.peer_len())
+        self.lengths.piece()
     }
 
     /// The slave's address.
