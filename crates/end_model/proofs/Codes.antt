@@ -84,12 +84,10 @@ low-data : (c : Command) (load : List ℕ) → IsLow (data_fault c load)
 low-data c load = unless-with _ 0x07 (omega arith)
 
 low-slave : (ss : SlaveSettings) (e : List Deed) (c : Command) (f : Frame) → IsLow (slave_fault ss e c f)
-low-slave ss e command.Reset f = low-data command.Reset f.load
 low-slave ss e command.Session f = low-upload ss e state.Session (expected.Session ss.profile) f.load
 low-slave ss e command.Connection f = low-upload ss e state.Connection (expected.Connection f.conn ss.address) f.load
 low-slave ss e command.Parameter f = low-upload ss e state.Parameter (expected.Parameter ss.most ss.rule ss.profile) f.load
-low-slave ss e command.FailSafeData f = low-data command.FailSafeData f.load
-low-slave ss e command.ProcessData f = low-data command.ProcessData f.load
+low-slave ss e c f = low-data c f.load
 
 low-master : (ms : MasterSettings) (e : List Deed) (c : Command) (f : Frame) → IsLow (master_fault ms e c f)
 low-master ms e command.Reset f = low-data command.Reset f.load

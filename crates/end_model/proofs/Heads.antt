@@ -33,11 +33,9 @@ next_frame ms e c k h =
 
 pub master_frame : (ms : MasterSettings) (e : List Deed) (c : Command) → IsInSession (master_answer ms e c)
 master_frame ms e command.Reset = first_frame ms e command.Reset
-master_frame ms e command.Session = next_frame ms e command.Session (count_in (phase_of command.Session) (own (since e))) (record { in_session = refl; sent = refl })
-master_frame ms e command.Connection = next_frame ms e command.Connection (count_in (phase_of command.Connection) (own (since e))) (record { in_session = refl; sent = refl })
-master_frame ms e command.Parameter = next_frame ms e command.Parameter (count_in (phase_of command.Parameter) (own (since e))) (record { in_session = refl; sent = refl })
 master_frame ms e command.FailSafeData = data_frame (OfMaster ms) e
 master_frame ms e command.ProcessData = data_frame (OfMaster ms) e
+master_frame ms e c = next_frame ms e c (count_in (phase_of c) (own (since e))) (record { in_session = refl; sent = refl })
 
 pub slave_frame : (ss : SlaveSettings) (e : List Deed) (c : Command) (load : List ℕ) → is_reset c ≡ false → IsInSession (slave_answer ss e c load)
 slave_frame ss e command.Reset load h = cc

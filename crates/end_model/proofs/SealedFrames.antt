@@ -74,19 +74,16 @@ next_sealed ms e c k h =
 
 pub master_sealed : (ms : MasterSettings) (e : List Deed) (c : Command) → length (offer (OfMaster ms) e) ≡ sends (OfMaster ms) → IsSealed (OfMaster ms) e (master_answer ms e c)
 master_sealed ms e command.Reset h = first_sealed ms e command.Reset h
-master_sealed ms e command.Session h = next_sealed ms e command.Session (count_in (phase_of command.Session) (own (since e))) h
-master_sealed ms e command.Connection h = next_sealed ms e command.Connection (count_in (phase_of command.Connection) (own (since e))) h
-master_sealed ms e command.Parameter h = next_sealed ms e command.Parameter (count_in (phase_of command.Parameter) (own (since e))) h
 master_sealed ms e command.FailSafeData h = data_sealed (OfMaster ms) e h
 master_sealed ms e command.ProcessData h = data_sealed (OfMaster ms) e h
+master_sealed ms e c h = next_sealed ms e c (count_in (phase_of c) (own (since e))) h
 
 pub slave_sealed : (ss : SlaveSettings) (e : List Deed) (c : Command) (load : List ℕ) → is_reset c ≡ false → length (offer (OfSlave ss) e) ≡ sends (OfSlave ss) → IsSealed (OfSlave ss) e (slave_answer ss e c load)
 slave_sealed ss e command.Reset load other h = cc
 slave_sealed ss e command.Session load other h = piece_sealed (OfSlave ss) e command.Session _
-slave_sealed ss e command.Connection load other h = piece_sealed (OfSlave ss) e command.Connection load
-slave_sealed ss e command.Parameter load other h = piece_sealed (OfSlave ss) e command.Parameter load
 slave_sealed ss e command.FailSafeData load other h = data_sealed (OfSlave ss) e h
 slave_sealed ss e command.ProcessData load other h = data_sealed (OfSlave ss) e h
+slave_sealed ss e c load other h = piece_sealed (OfSlave ss) e c load
 
 -- an end offers as many safe data bytes as it sends
 offer_stays : (s : Setup) (m : Move) (before : List ℕ) → IsProper s m → length before ≡ sends s → length (offer_after m before) ≡ sends s

@@ -75,8 +75,6 @@ tested-more ss e bytes load t a =
 slave-taken : (ss : SlaveSettings) (e : List Deed) (bytes load : List ℕ) (c : Command) (f : List ℕ) → SlaveShows ss e → IsValid (OfSlave ss) e bytes c load → IsInSession f → (phase_of c ≡ state.Data → is_done ss state.Parameter e ≡ true) → phase_of c ≢ state.Reset
     → SlaveShows ss (deed (move.Deliver bytes) (takes_frame c load) f ∷ e)
 slave-taken ss e bytes load command.Reset f h a k w n = absurd (n refl)
-slave-taken ss e bytes load command.Session f h a k w n = let b = k.in_session in record { outs = λ i. simp b; young = simp b (λ k. cc); none = λ k. simp b; tested = simp b h.tested }
-slave-taken ss e bytes load command.Connection f h a k w n = let b = k.in_session in record { outs = λ i. simp b; young = simp b (λ k. cc); none = λ k. simp b; tested = simp b h.tested }
 slave-taken ss e bytes load command.Parameter f h a k w n =
     let b = k.in_session in
     record { outs = λ i. simp b; young = simp b (λ k. cc); none = λ k. simp b; tested = simp b (tested-more ss e bytes load h.tested a) }
@@ -95,6 +93,7 @@ slave-taken ss e bytes load command.ProcessData f h a k w n =
       none = λ k. absurd (k (simp b));
       tested = simp b h.tested;
     }
+slave-taken ss e bytes load _ f h a k w n = let b = k.in_session in record { outs = λ i. simp b; young = simp b (λ k. cc); none = λ k. simp b; tested = simp b h.tested }
 
 pub slave-took : (ss : SlaveSettings) (e : List Deed) (bytes load : List ℕ) (c : Command) (f : List ℕ) → SlaveShows ss e → Taking e bytes load (OfSlave ss) c f → SlaveShows ss (deed (move.Deliver bytes) (takes_frame c load) f ∷ e)
 slave-took ss e bytes load c f h (SlaveRejoins _ now none frame) = record { outs = λ n. refl; young = λ k. cc; none = λ k. refl; tested = none_tested ss }

@@ -45,15 +45,13 @@ if-reached k n f g h = let b : nat_lt k n ≡ false = grind (arith, nat_tests) i
 -- a master's answer before the last piece of a phase, after it, and in Data
 next-piece : (ms : MasterSettings) (e : List Deed) (bytes load : List ℕ) (c : Command) → IsHandshake c → pieces_sent e (phase_of c) < all_pieces ms e (phase_of c)
     → answer_to (OfMaster ms) e bytes c load ≡ download_frame ms (received bytes c load e) c (suc (pieces_sent e (phase_of c)))
-next-piece ms e bytes load c OfSession h = if-below (pieces_sent e state.Session) (all_pieces ms e state.Session) _ _ h
-next-piece ms e bytes load c OfConnection h = if-below (pieces_sent e state.Connection) (all_pieces ms e state.Connection) _ _ h
-next-piece ms e bytes load c OfParameter h = if-below (pieces_sent e state.Parameter) (all_pieces ms e state.Parameter) _ _ h
+next-piece ms e bytes load c OfSession h = if-below _ _ _ _ h
+next-piece ms e bytes load c _ h = if-below _ _ _ _ h
 
 phase-ends : (ms : MasterSettings) (e : List Deed) (bytes load : List ℕ) (c : Command) → IsHandshake c → all_pieces ms e (phase_of c) ≤ pieces_sent e (phase_of c)
     → answer_to (OfMaster ms) e bytes c load ≡ after_phase ms (received bytes c load e) c
-phase-ends ms e bytes load c OfSession h = if-reached (pieces_sent e state.Session) (all_pieces ms e state.Session) _ _ h
-phase-ends ms e bytes load c OfConnection h = if-reached (pieces_sent e state.Connection) (all_pieces ms e state.Connection) _ _ h
-phase-ends ms e bytes load c OfParameter h = if-reached (pieces_sent e state.Parameter) (all_pieces ms e state.Parameter) _ _ h
+phase-ends ms e bytes load c OfSession h = if-reached _ _ _ _ h
+phase-ends ms e bytes load c _ h = if-reached _ _ _ _ h
 
 master-data : (ms : MasterSettings) (e : List Deed) (c : Command) → is_data c ≡ true → master_answer ms e c ≡ with_data (OfMaster ms) e
 master-data ms e command.FailSafeData h = refl

@@ -124,12 +124,10 @@ to_slave =
     ∷ d (codes "360100fc430100")
     ∷ []
 
--- a slave takes a whole handshake and the first data
-unfoldable pub SlaveHandshake : Type 0
-SlaveHandshake =
-    lines a_slave to_slave
-    ≡ codes "quiet Reset 0000"
-    ∷ codes "took Reset Reset 0000 > 2a0000c42d0000"
+-- the lines of these frames
+abbrev pub handshake_lines : List (List ℕ)
+handshake_lines =
+    codes "took Reset Reset 0000 > 2a0000c42d0000"
     ∷ codes "took Session Session 0000 > 4e020090470000"
     ∷ codes "took Connection Connection 0000 > 64010093d60100"
     ∷ codes "took Connection Connection 0000 > 64020047080100"
@@ -138,6 +136,12 @@ SlaveHandshake =
     ∷ codes "took Parameter Parameter 0000 > 520000772d0100"
     ∷ codes "took ProcessData Data 0100 > 36800078c90100"
     ∷ []
+
+-- a slave takes a whole handshake and the first data
+unfoldable pub SlaveHandshake : Type 0
+SlaveHandshake =
+    lines a_slave to_slave
+    ≡ codes "quiet Reset 0000" ∷ handshake_lines
 
 -- after 99 ticks a slave shows the data still, and in the hundredth it expires
 unfoldable pub SlaveExpires : Type 0
@@ -268,18 +272,7 @@ IdSetLater =
 unfoldable pub OutlastsReset : Type 0
 OutlastsReset =
     lines (OfSlave (record slave_values { nonce = 7; allowed = refl })) (move.Nonce 2 ∷ p (codes "8000") ∷ z ∷ drop 1 to_slave)
-    ≡ codes "quiet Reset 0000"
-    ∷ codes "quiet Reset 0000"
-    ∷ codes "reset own Reset 0000 > 2a0000c42d0000"
-    ∷ codes "took Reset Reset 0000 > 2a0000c42d0000"
-    ∷ codes "took Session Session 0000 > 4e020090470000"
-    ∷ codes "took Connection Connection 0000 > 64010093d60100"
-    ∷ codes "took Connection Connection 0000 > 64020047080100"
-    ∷ codes "took Parameter Parameter 0000 > 52020030580100"
-    ∷ codes "took Parameter Parameter 0000 > 526400ae680100"
-    ∷ codes "took Parameter Parameter 0000 > 520000772d0100"
-    ∷ codes "took ProcessData Data 0100 > 36800078c90100"
-    ∷ []
+    ≡ codes "quiet Reset 0000" ∷ codes "quiet Reset 0000" ∷ codes "reset own Reset 0000 > 2a0000c42d0000" ∷ handshake_lines
 
 -- a master of profile One goes on to Connection too early: a slave of profile Two waits for a second piece of the session id
 unfoldable pub OtherProfile : Type 0

@@ -101,10 +101,7 @@ by-code ms e bytes false at h a s = drop-agrees state.Reset ms e bytes why.InRes
 of-code : (p : State) (ms : MasterSettings) (e : List Deed) (bytes : List ℕ) → state_of (OfMaster ms) e ≡ p → SoundAt p ms e → Arrived ms bytes → Sound ms e
     → Agrees ms e (move.Deliver bytes) (on_reset_frame p (OfMaster ms) (came ms bytes).load) (answered_by (machine.on_reset_view (view_in p ms e) (code (first_of (came ms bytes).load)) (came ms bytes)))
 of-code state.Reset ms e bytes at h a s = by-code ms e bytes (first_of (came ms bytes).load == 0) at h a s
-of-code state.Session ms e bytes at h a s = peer-resets state.Session ms e bytes _ _ refl s
-of-code state.Connection ms e bytes at h a s = peer-resets state.Connection ms e bytes _ _ refl s
-of-code state.Parameter ms e bytes at h a s = peer-resets state.Parameter ms e bytes _ _ refl s
-of-code state.Data ms e bytes at h a s = peer-resets state.Data ms e bytes _ _ refl s
+of-code p ms e bytes at h a s = peer-resets p ms e bytes _ _ refl s
 
 pub reset_frame-agrees : (p : State) (ms : MasterSettings) (e : List Deed) (bytes : List ℕ) (x : Code) → x ≡ code (first_of (came ms bytes).load) → state_of (OfMaster ms) e ≡ p → SoundAt p ms e → Arrived ms bytes → Sound ms e
     → Agrees ms e (move.Deliver bytes) (on_reset_frame p (OfMaster ms) (came ms bytes).load) (answered_by (machine.on_reset_view (view_in p ms e) x (came ms bytes)))
