@@ -2,7 +2,7 @@
 use Rattle.std.proofs.Common.{refl}
 use Rattle.hex.proofs.OnLiterals.{hex_on_literals}
 use Rattle.fsoe_crc.specs.Remainder.{computing}
-use Rattle.end_model.specs.WorkedRuns.{FirstTick, SlaveHandshake, SlaveExpires, SlaveGoesOn, SlaveRefusesOldFrame, SlaveResetItself, WrongAddress, WrongWatchdog, WrongParameters, LongSessionIds, OtherProfile, QuietInReset, QuietAtItsLimit, MasterHandshake, MasterStepsNumber, MasterIsReset, SlaveTestsInOrder, MasterTestsInOrder, IdSetLater, OutlastsReset, SlaveExpiresInParameter, SlaveExpiresInSession, SlaveTestsConnection, MasterContents}
+use Rattle.end_model.specs.WorkedRuns.{FirstTick, SlaveHandshake, SlaveExpires, SlaveGoesOn, SlaveRefusesOldFrame, SlaveResetItself, WrongAddress, WrongWatchdog, WrongParameters, LongSessionIds, MasterOfOtherProfile, QuietInReset, QuietAtItsLimit, MasterHandshake, MasterStepsNumber, MasterIsReset, SlaveTestsInOrder, MasterTestsInOrder, IdSetLater, OutlastsReset, SlaveExpiresInParameter, SlaveExpiresInSession, SlaveTestsConnection, MasterContents}
 
 pub first_tick : FirstTick
 unfolding FirstTick computing hex_on_literals
@@ -44,8 +44,8 @@ pub long_session_ids : LongSessionIds
 unfolding LongSessionIds computing hex_on_literals
 long_session_ids = refl
 
-pub other_profile : OtherProfile
-unfolding OtherProfile computing hex_on_literals
+pub other_profile : MasterOfOtherProfile
+unfolding MasterOfOtherProfile computing hex_on_literals
 other_profile = refl
 
 pub quiet_in_reset : QuietInReset

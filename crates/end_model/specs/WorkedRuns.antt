@@ -96,8 +96,8 @@ abbrev pub line : Entry → List ℕ
 line x = entry_text x.did x.state x.outputs x.sent
 
 -- the lines of a run
-abbrev pub lines : Setup → List Move → List (List ℕ)
-lines s moves = reverse (map line (entries s (run s moves)))
+abbrev pub report_lines : Setup → List Move → List (List ℕ)
+report_lines s moves = reverse (map line (entries s (run s moves)))
 
 -- the verdicts on frames that come after these moves, in hexadecimal
 abbrev pub verdicts : Setup → List Move → List (List ℕ) → List Verdict
@@ -106,7 +106,7 @@ verdicts s moves texts = map (λ text. verdict s (run s moves) (if_bytes (decode
 -- a new master sends Reset at its first tick
 unfoldable pub FirstTick : Type 0
 FirstTick =
-    lines a_master (t ∷ [])
+    report_lines a_master (t ∷ [])
     ≡ codes "again Reset 0000 > 2a0000c42d0000"
     ∷ []
 
@@ -140,13 +140,13 @@ handshake_lines =
 -- a slave takes a whole handshake and the first data
 unfoldable pub SlaveHandshake : Type 0
 SlaveHandshake =
-    lines a_slave to_slave
+    report_lines a_slave to_slave
     ≡ codes "quiet Reset 0000" ∷ handshake_lines
 
 -- after 99 ticks a slave shows the data still, and in the hundredth it expires
 unfoldable pub SlaveExpires : Type 0
 SlaveExpires =
-    drop 107 (lines a_slave (to_slave ++ replicate 100 t))
+    drop 107 (report_lines a_slave (to_slave ++ replicate 100 t))
     ≡ codes "quiet Data 0100"
     ∷ codes "reset found 05 Reset 0000 > 2a050025ae0000"
     ∷ []
@@ -154,7 +154,7 @@ SlaveExpires =
 -- the watchdog that came with the parameters rules from the frame on that makes them whole, in state Parameter still
 unfoldable pub SlaveExpiresInParameter : Type 0
 SlaveExpiresInParameter =
-    drop 106 (lines a_slave (take 8 to_slave ++ replicate 100 t))
+    drop 106 (report_lines a_slave (take 8 to_slave ++ replicate 100 t))
     ≡ codes "quiet Parameter 0000"
     ∷ codes "reset found 05 Reset 0000 > 2a050025ae0000"
     ∷ []
@@ -162,7 +162,7 @@ SlaveExpiresInParameter =
 -- until then a slave's limit is its own
 unfoldable pub SlaveExpiresInSession : Type 0
 SlaveExpiresInSession =
-    drop 2 (lines (OfSlave (record slave_values { hand = 2; some_hand = ltb-true 0 2 refl })) (take 3 to_slave ++ t ∷ t ∷ []))
+    drop 2 (report_lines (OfSlave (record slave_values { hand = 2; some_hand = ltb-true 0 2 refl })) (take 3 to_slave ++ t ∷ t ∷ []))
     ≡ codes "took Session Session 0000 > 4e020090470000"
     ∷ codes "quiet Session 0000"
     ∷ codes "reset found 05 Reset 0000 > 2a050025ae0000"
@@ -171,7 +171,7 @@ SlaveExpiresInSession =
 -- a repeat is dropped, then a held slave answers with fail-safe data
 unfoldable pub SlaveGoesOn : Type 0
 SlaveGoesOn =
-    drop 9 (lines a_slave (to_slave ++ d (codes "360100fc430100") ∷ h true ∷ d (codes "360100cfa90100") ∷ []))
+    drop 9 (report_lines a_slave (to_slave ++ d (codes "360100fc430100") ∷ h true ∷ d (codes "360100cfa90100") ∷ []))
     ≡ codes "drop Repeat Data 0100"
     ∷ codes "quiet Data 0100"
     ∷ codes "took ProcessData Data 0100 > 080000f65b0100"
@@ -210,7 +210,7 @@ SlaveTestsConnection =
 -- an older frame is no repeat: its CRCs are wrong
 unfoldable pub SlaveRefusesOldFrame : Type 0
 SlaveRefusesOldFrame =
-    drop 9 (lines a_slave (to_slave ++ d (codes "360100cfa90100") ∷ d (codes "360100fc430100") ∷ []))
+    drop 9 (report_lines a_slave (to_slave ++ d (codes "360100cfa90100") ∷ d (codes "360100fc430100") ∷ []))
     ≡ codes "took ProcessData Data 0100 > 3680002d670100"
     ∷ codes "reset found 04 Reset 0000 > 2a0400a6340000"
     ∷ []
@@ -218,7 +218,7 @@ SlaveRefusesOldFrame =
 -- after a reset of its own a slave takes an old Session frame, and no data
 unfoldable pub SlaveResetItself : Type 0
 SlaveResetItself =
-    drop 9 (lines a_slave (to_slave ++ z ∷ d (codes "4e0100123e0000") ∷ d (codes "360100cfa90100") ∷ []))
+    drop 9 (report_lines a_slave (to_slave ++ z ∷ d (codes "4e0100123e0000") ∷ d (codes "360100cfa90100") ∷ []))
     ≡ codes "reset own Reset 0000 > 2a0000c42d0000"
     ∷ codes "took Session Session 0000 > 4e020090470000"
     ∷ codes "reset found 01 Reset 0000 > 2a010047b70000"
@@ -227,32 +227,32 @@ SlaveResetItself =
 -- a slave with another address ends the session when the address has come
 unfoldable pub WrongAddress : Type 0
 WrongAddress =
-    drop 4 (lines (OfSlave (record slave_values { address = 3 })) (take 5 to_slave))
+    drop 4 (report_lines (OfSlave (record slave_values { address = 3 })) (take 5 to_slave))
     ≡ codes "reset found 06 Reset 0000 > 2a060017380000"
     ∷ []
 
 -- a slave that accepts only shorter watchdogs
 unfoldable pub WrongWatchdog : Type 0
 WrongWatchdog =
-    drop 6 (lines (OfSlave (record slave_values { most = 50; some_most = ltb-true 0 50 refl })) (take 7 to_slave))
+    drop 6 (report_lines (OfSlave (record slave_values { most = 50; some_most = ltb-true 0 50 refl })) (take 7 to_slave))
     ≡ codes "reset found 09 Reset 0000 > 2a090083850000"
     ∷ []
 
 -- a slave that wants one application parameter
 unfoldable pub WrongParameters : Type 0
 WrongParameters =
-    drop 7 (lines (OfSlave (record slave_values { rule = rule.Any 1; acceptable = refl })) (take 8 to_slave))
+    drop 7 (report_lines (OfSlave (record slave_values { rule = rule.Any 1; acceptable = refl })) (take 8 to_slave))
     ≡ codes "reset found 0a Reset 0000 > 2a0a00b1130000"
     ∷ []
 
 -- a slave of profile Two with the word 7
-abbrev pub slave_of_two : Setup
-slave_of_two = OfSlave (record slave_values { profile = profile.Two 7; allowed = refl })
+abbrev pub a_slave_of_two : Setup
+a_slave_of_two = OfSlave (record slave_values { profile = profile.Two 7; allowed = refl })
 
 -- session ids of profile Two need two frames of two bytes
 unfoldable pub LongSessionIds : Type 0
 LongSessionIds =
-    lines slave_of_two (d (codes "2a0000c42d0000") ∷ d (codes "4e0100123e0000") ∷ d (codes "4e000061230000") ∷ [])
+    report_lines a_slave_of_two (d (codes "2a0000c42d0000") ∷ d (codes "4e0100123e0000") ∷ d (codes "4e000061230000") ∷ [])
     ≡ codes "took Reset Reset 0000 > 2a0000c42d0000"
     ∷ codes "took Session Session 0000 > 4e020090470000"
     ∷ codes "took Session Session 0000 > 4e000043f10000"
@@ -261,7 +261,7 @@ LongSessionIds =
 -- a session id that is set between these frames counts from the next session on
 unfoldable pub IdSetLater : Type 0
 IdSetLater =
-    lines slave_of_two (d (codes "2a0000c42d0000") ∷ d (codes "4e0100123e0000") ∷ move.Nonce 0x50000 ∷ d (codes "4e000061230000") ∷ [])
+    report_lines a_slave_of_two (d (codes "2a0000c42d0000") ∷ d (codes "4e0100123e0000") ∷ move.Nonce 0x50000 ∷ d (codes "4e000061230000") ∷ [])
     ≡ codes "took Reset Reset 0000 > 2a0000c42d0000"
     ∷ codes "took Session Session 0000 > 4e020090470000"
     ∷ codes "quiet Session 0000"
@@ -271,20 +271,20 @@ IdSetLater =
 -- a session id that was set and a load that was put outlast a reset
 unfoldable pub OutlastsReset : Type 0
 OutlastsReset =
-    lines (OfSlave (record slave_values { nonce = 7; allowed = refl })) (move.Nonce 2 ∷ p (codes "8000") ∷ z ∷ drop 1 to_slave)
+    report_lines (OfSlave (record slave_values { nonce = 7; allowed = refl })) (move.Nonce 2 ∷ p (codes "8000") ∷ z ∷ drop 1 to_slave)
     ≡ codes "quiet Reset 0000" ∷ codes "quiet Reset 0000" ∷ codes "reset own Reset 0000 > 2a0000c42d0000" ∷ handshake_lines
 
 -- a master of profile One goes on to Connection too early: a slave of profile Two waits for a second piece of the session id
-unfoldable pub OtherProfile : Type 0
-OtherProfile =
-    drop 2 (lines slave_of_two (d (codes "2a0000c42d0000") ∷ d (codes "4e0100123e0000") ∷ d (codes "640100642a0100") ∷ []))
+unfoldable pub MasterOfOtherProfile : Type 0
+MasterOfOtherProfile =
+    drop 2 (report_lines a_slave_of_two (d (codes "2a0000c42d0000") ∷ d (codes "4e0100123e0000") ∷ d (codes "640100642a0100") ∷ []))
     ≡ codes "reset found 01 Reset 0000 > 2a010047b70000"
     ∷ []
 
 -- a slave in state Reset counts no ticks
 unfoldable pub QuietInReset : Type 0
 QuietInReset =
-    lines (OfSlave (record slave_values { hand = 2; some_hand = ltb-true 0 2 refl })) (t ∷ t ∷ t ∷ [])
+    report_lines (OfSlave (record slave_values { hand = 2; some_hand = ltb-true 0 2 refl })) (t ∷ t ∷ t ∷ [])
     ≡ codes "quiet Reset 0000"
     ∷ codes "quiet Reset 0000"
     ∷ codes "quiet Reset 0000"
@@ -293,7 +293,7 @@ QuietInReset =
 -- not even one that reaches its limit
 unfoldable pub QuietAtItsLimit : Type 0
 QuietAtItsLimit =
-    lines (OfSlave (record slave_values { hand = 1; some_hand = ltb-true 0 1 refl })) (t ∷ [])
+    report_lines (OfSlave (record slave_values { hand = 1; some_hand = ltb-true 0 1 refl })) (t ∷ [])
     ≡ codes "quiet Reset 0000"
     ∷ []
 
@@ -315,7 +315,7 @@ to_master =
 -- a master downloads its parameters and takes the first data
 unfoldable pub MasterHandshake : Type 0
 MasterHandshake =
-    lines a_master to_master
+    report_lines a_master to_master
     ≡ codes "quiet Reset 0000"
     ∷ codes "again Reset 0000 > 2a0000c42d0000"
     ∷ codes "took Reset Session 0000 > 4e0100123e0000"
@@ -332,7 +332,7 @@ MasterHandshake =
 -- once more; the second goes on from there
 unfoldable pub MasterStepsNumber : Type 0
 MasterStepsNumber =
-    drop 10 (lines a_master (to_master ++ p (codes "5026") ∷ d (codes "3680002d670100") ∷ d (codes "368000c9770100") ∷ []))
+    drop 10 (report_lines a_master (to_master ++ p (codes "5026") ∷ d (codes "3680002d670100") ∷ d (codes "368000c9770100") ∷ []))
     ≡ codes "quiet Data 8000"
     ∷ codes "took ProcessData Data 8000 > 365026d4c80100"
     ∷ codes "took ProcessData Data 8000 > 36502603030100"
@@ -368,7 +368,7 @@ MasterTestsInOrder = verdicts a_master to_master faulty ≡ first_faults
 -- a Reset frame of the slave ends the session
 unfoldable pub MasterIsReset : Type 0
 MasterIsReset =
-    drop 10 (lines a_master (to_master ++ d (codes "3680002d670100") ∷ d (codes "2a0000c42d0000") ∷ []))
+    drop 10 (report_lines a_master (to_master ++ d (codes "3680002d670100") ∷ d (codes "2a0000c42d0000") ∷ []))
     ≡ codes "took ProcessData Data 8000 > 360100e95d0100"
     ∷ codes "reset peer 00 Reset 0000 > 2a0000c42d0000"
     ∷ []

@@ -25,7 +25,7 @@ ghost use Rattle.end_model.specs.Outputs.{zeros, outputs, out};
 ghost use Rattle.end_model.specs.Step.{step, run, continued, IsProper, IsRun};
 ghost use Rattle.end_model.specs.Reactions.{HasNoSession, IsReaction};
 ghost use Rattle.end_model.specs.Codes.{IsOwnReset};
-ghost use Rattle.end_model.specs.WorkedRuns.{FirstTick, MasterHandshake, MasterStepsNumber, MasterIsReset, SlaveHandshake, SlaveExpires, SlaveGoesOn, SlaveRefusesOldFrame, SlaveResetItself, WrongAddress, WrongWatchdog, WrongParameters, LongSessionIds, OtherProfile, QuietInReset, QuietAtItsLimit, SlaveTestsInOrder, MasterTestsInOrder, IdSetLater, OutlastsReset, SlaveExpiresInParameter, SlaveExpiresInSession, SlaveTestsConnection, MasterContents};
+ghost use Rattle.end_model.specs.WorkedRuns.{FirstTick, MasterHandshake, MasterStepsNumber, MasterIsReset, SlaveHandshake, SlaveExpires, SlaveGoesOn, SlaveRefusesOldFrame, SlaveResetItself, WrongAddress, WrongWatchdog, WrongParameters, LongSessionIds, MasterOfOtherProfile, QuietInReset, QuietAtItsLimit, SlaveTestsInOrder, MasterTestsInOrder, IdSetLater, OutlastsReset, SlaveExpiresInParameter, SlaveExpiresInSession, SlaveTestsConnection, MasterContents};
 
 /// Worked runs of a master: each line of its report, with its state, its outputs and the frame that it sent.
 #[tactic(auto, using(crate::proofs::WorkedRuns::first_tick, crate::proofs::WorkedRuns::master_handshake, crate::proofs::WorkedRuns::master_steps_number, crate::proofs::WorkedRuns::master_is_reset))]
@@ -59,7 +59,7 @@ pub fn worked_refusals()
     ensures wrong_address { WrongAddress }
     ensures wrong_watchdog { WrongWatchdog }
     ensures wrong_parameters { WrongParameters }
-    ensures other_profile { OtherProfile }
+    ensures other_profile { MasterOfOtherProfile }
 {}
 
 /// Frames that fail several tests, at a slave and at a master in Data: the first of the tests decides. The connection ids
