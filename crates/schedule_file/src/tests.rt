@@ -6,91 +6,42 @@ use fsoe_base::{End, Lengths};
 use param_load::{Profile, Profiles};
 use std::test::Fail;
 
-/// Why a line is refused by a slave whose data has one byte, and its master's two.
-fn event_cause(line: &str, profile: Profile) -> Option<LineCause> {
-    let lengths = Lengths::new(2, 1).ok()?;
-    read_node_event(line.as_bytes(), End::Slave, &lengths, profile).err()
-}
-
-#[test]
-fn refuses_lines_of_events(rt: HostRuntime) -> Result<(), Fail> {
-    for (line, cause) in [
-        ("", LineCause::Word),
-        (" t", LineCause::Word),
-        ("q", LineCause::Word),
-        ("tm", LineCause::Word),
-        ("t ", LineCause::Fields),
-        ("t 1", LineCause::Fields),
-        ("d", LineCause::Fields),
-        ("end x", LineCause::Fields),
-        ("n ", LineCause::Number),
-        ("n 007", LineCause::Number),
-        ("n +7", LineCause::Number),
-        ("n 65536", LineCause::Number),
-        ("h 2", LineCause::Number),
-        ("d 0g", LineCause::Hex),
-        ("p ", LineCause::Hex),
-        ("p 0", LineCause::Hex),
-        ("p 0100", LineCause::Length),
-    ] {
-        assert_eq!(rt; event_cause(line, Profile::One), Some(cause), "{line}");
-    }
-    for line in ["t", "z", "end", "h 1", "n 0", "n 65535", "p fF", "d 00"] {
-        assert_eq!(rt; event_cause(line, Profile::One), None, "{line}");
-    }
-    assert_eq!(rt; event_cause("n 4294967295", Profile::Two(7)), None);
-    assert_eq!(rt;
-        event_cause("n 4294967296", Profile::Two(7)),
-        Some(LineCause::Number)
-    );
-    Ok(())
-}
-
-#[test]
-fn reads_bytes_of_events(rt: HostRuntime) -> Result<(), Fail> {
-    let mut line = [b'0'; 514];
-    line[0] = b'd';
-    line[1] = b' ';
-    line[511] = b'A';
-    let lengths = Lengths::new(2, 2)?;
-    for (end, len, cause) in [
-        (512, 255, None),
-        (513, 0, Some(LineCause::Hex)),
-        (514, 0, Some(LineCause::Hex)),
-    ] {
-        let mut says = ScheduleLine::End;
-        let read = read_node_event_into(
-            &line[..end],
-            End::Master,
-            &lengths,
-            Profile::One,
-            &mut says,
-        );
-        let found = read.err();
-        let (bytes, last) = match &says {
-            ScheduleLine::Step(Event::Raw { frame, .. }) => {
-                (frame.len(), frame.bytes().last().copied())
-            }
-            _ => (0, None),
-        };
-        assert_eq!(rt; found, cause);
-        assert_eq!(rt; bytes, len);
-        assert_eq!(rt; last, if len > 0 { Some(10) } else { None });
-    }
-    Ok(())
-}
+/// Lines of a slave's node, its profile, and why they are refused, if they are.
+const NODE_LINES: [(&str, Profile, Option<LineCause>); 27] = [
+    ("", Profile::One, Some(LineCause::Word)),
+    (" t", Profile::One, Some(LineCause::Word)),
+    ("q", Profile::One, Some(LineCause::Word)),
+    ("tm", Profile::One, Some(LineCause::Word)),
+    ("t ", Profile::One, Some(LineCause::Fields)),
+    ("t 1", Profile::One, Some(LineCause::Fields)),
+    ("d", Profile::One, Some(LineCause::Fields)),
+    ("end x", Profile::One, Some(LineCause::Fields)),
+    ("n ", Profile::One, Some(LineCause::Number)),
+    ("n 007", Profile::One, Some(LineCause::Number)),
+    ("n +7", Profile::One, Some(LineCause::Number)),
+    ("n 65536", Profile::One, Some(LineCause::Number)),
+    ("n 4294967296", Profile::Two(7), Some(LineCause::Number)),
+    ("h 2", Profile::One, Some(LineCause::Number)),
+    ("d 0g", Profile::One, Some(LineCause::Hex)),
+    ("p ", Profile::One, Some(LineCause::Hex)),
+    ("p 0", Profile::One, Some(LineCause::Hex)),
+    ("p 0100", Profile::One, Some(LineCause::Length)),
+    ("t", Profile::One, None),
+    ("z", Profile::One, None),
+    ("end", Profile::One, None),
+    ("h 1", Profile::One, None),
+    ("n 0", Profile::One, None),
+    ("n 65535", Profile::One, None),
+    ("n 4294967295", Profile::Two(7), None),
+    ("p fF", Profile::One, None),
+    ("d 00", Profile::One, None),
+];
 
 /// The profiles of a master in One and its slave in Two.
 const PROFILES: Profiles = Profiles {
     master: Profile::One,
     slave: Profile::Two(7),
 };
-
-/// Why a line is refused by a master whose data has two bytes, and its slave's one.
-fn pair_cause(line: &str) -> Option<LineCause> {
-    let lengths = Lengths::new(2, 1).ok()?;
-    read_event(line.as_bytes(), &lengths, &PROFILES).err()
-}
 
 /// Lines of pairs, and why they are refused, if they are.
 const PAIR_LINES: [(&str, Option<LineCause>); 33] = [
@@ -130,9 +81,49 @@ const PAIR_LINES: [(&str, Option<LineCause>); 33] = [
 ];
 
 #[test]
-fn refuses_lines_of_pairs(rt: HostRuntime) -> Result<(), Fail> {
+fn reads_lines_of_events(rt: HostRuntime) -> Result<(), Fail> {
+    let lengths = Lengths::new(2, 1)?;
+    for (line, profile, cause) in NODE_LINES {
+        let read = read_node_event(line.as_bytes(), End::Slave, &lengths, profile);
+        assert_eq!(rt; read.err(), cause, "{line}");
+    }
     for (line, cause) in PAIR_LINES {
-        assert_eq!(rt; pair_cause(line), cause, "{line}");
+        let read = read_event(line.as_bytes(), &lengths, &PROFILES);
+        assert_eq!(rt; read.err(), cause, "{line}");
+    }
+    Ok(())
+}
+
+#[test]
+fn reads_bytes_of_events(rt: HostRuntime) -> Result<(), Fail> {
+    let mut line = [b'0'; 514];
+    line[0] = b'd';
+    line[1] = b' ';
+    line[511] = b'A';
+    let lengths = Lengths::new(2, 2)?;
+    for (end, len, cause) in [
+        (512, 255, None),
+        (513, 0, Some(LineCause::Hex)),
+        (514, 0, Some(LineCause::Hex)),
+    ] {
+        let mut says = ScheduleLine::End;
+        let read = read_node_event_into(
+            &line[..end],
+            End::Master,
+            &lengths,
+            Profile::One,
+            &mut says,
+        );
+        let found = read.err();
+        let (bytes, last) = match &says {
+            ScheduleLine::Step(Event::Raw { frame, .. }) => {
+                (frame.len(), frame.bytes().last().copied())
+            }
+            _ => (0, None),
+        };
+        assert_eq!(rt; found, cause);
+        assert_eq!(rt; bytes, len);
+        assert_eq!(rt; last, if len > 0 { Some(10) } else { None });
     }
     Ok(())
 }
@@ -175,135 +166,88 @@ fn writes_events(rt: HostRuntime) -> Result<(), Fail> {
     Ok(())
 }
 
-/// Reads the lines of a header up to `go`, or to one that is refused: which, and why.
-fn refusal(kind: HeaderKind, text: &str) -> Option<(usize, LineCause)> {
-    let mut header = Header::new(kind);
+/// Reads the lines of a slave's header, these and those after them, up to `go` or to one that is refused: which, and why.
+fn refusal(lines: [&str; 2]) -> Option<(usize, LineCause)> {
+    let mut header = Header::new(HeaderKind::Node(End::Slave));
     let mut place = 0usize;
-    for line in text.as_bytes().split(|b| *b == b'/') {
-        place = place.saturating_add(1);
-        match header.line(line) {
-            Ok(true) => return None,
-            Ok(false) => {}
-            Err(cause) => return Some((place, cause)),
+    for text in lines {
+        for line in text.as_bytes().split(|b| *b == b'/') {
+            place = place.saturating_add(1);
+            match header.line(line) {
+                Ok(true) => return None,
+                Ok(false) => {}
+                Err(cause) => return Some((place, cause)),
+            }
         }
     }
     Some((place, LineCause::NoLink))
 }
 
-const SLAVE: HeaderKind = HeaderKind::Node(End::Slave);
+/// The first lines of a header, up to its second line or to the slave's in profile One or Two.
+const TITLE: &str = "fsoe 1 node slave";
 
-const MASTER: HeaderKind = HeaderKind::Node(End::Master);
+const LENGTHS: &str = "fsoe 1 node slave/lengths 2 2";
 
-/// Headers, the line that is refused, and why.
-const HEADERS: [(&str, usize, LineCause); 19] = [
-    ("", 1, LineCause::Header),
-    ("fsoe 1 node master", 1, LineCause::Header),
-    ("fsoe 1 node slave/go", 2, LineCause::Header),
-    ("fsoe 1 node slave/ lengths 2 2", 2, LineCause::Header),
-    ("fsoe 1 node slave/lengths 2", 2, LineCause::Fields),
-    ("fsoe 1 node slave/lengths 65536 2", 2, LineCause::Number),
-    ("fsoe 1 node slave/lengths 0 2", 2, LineCause::Length),
-    ("fsoe 1 node slave/lengths 3 2", 2, LineCause::Length),
+const SLAVE: &str = "fsoe 1 node slave/lengths 2 2/slave 2 100 1000 2";
+
+const SLAVE_OF_TWO: &str = "fsoe 1 node slave/lengths 2 2/slave 2 100 1000 65536";
+
+/// Lines that follow these, the line that is refused, and why.
+const HEADERS: [(&str, &str, usize, LineCause); 35] = [
+    ("", "go", 1, LineCause::Header),
+    ("fsoe 1 node master", "go", 1, LineCause::Header),
+    (TITLE, "go", 2, LineCause::Header),
+    (TITLE, " lengths 2 2", 2, LineCause::Header),
+    (TITLE, "lengths 2", 2, LineCause::Fields),
+    (TITLE, "lengths 65536 2", 2, LineCause::Number),
+    (TITLE, "lengths 0 2", 2, LineCause::Length),
+    (TITLE, "lengths 3 2", 2, LineCause::Length),
+    (LENGTHS, "master 1 2 100 1", 3, LineCause::Header),
+    (LENGTHS, "slave 2 100 1000", 3, LineCause::Fields),
+    (LENGTHS, "slave 2 0 1000 2", 3, LineCause::Range),
+    (LENGTHS, "slave 2 100 0 2", 3, LineCause::Range),
+    (LENGTHS, "slave 2 0 65536 2", 3, LineCause::Number),
+    (LENGTHS, "slave 2 100 1000 4294967296", 3, LineCause::Number),
+    (SLAVE_OF_TWO, "go", 4, LineCause::Header),
+    (SLAVE_OF_TWO, "rule any", 4, LineCause::Fields),
+    (SLAVE_OF_TWO, "rule any 0", 4, LineCause::Range),
+    (SLAVE_OF_TWO, "profile 65536", 4, LineCause::Number),
+    (SLAVE, "profile 7/profile 7", 5, LineCause::Header),
+    (SLAVE, "rule", 4, LineCause::Fields),
+    (SLAVE, "rule any", 4, LineCause::Fields),
+    (SLAVE, "rule any 1 2", 4, LineCause::Fields),
+    (SLAVE, "rule x 1", 4, LineCause::Fields),
+    (SLAVE, "rule exact 1", 4, LineCause::Fields),
+    (SLAVE, "rule x", 4, LineCause::Range),
+    (SLAVE, "rule any 513", 4, LineCause::Range),
+    (SLAVE, "rule any 65536", 4, LineCause::Number),
+    (SLAVE, "rule any 2/bytes 00", 5, LineCause::Header),
+    (SLAVE, "rule exact/range 0001", 5, LineCause::Header),
+    (SLAVE, "rule exact/bytes 0", 5, LineCause::Hex),
+    (SLAVE, "rule ranges/bytes 00", 5, LineCause::Header),
+    (SLAVE, "rule ranges/range 00", 5, LineCause::Hex),
+    (SLAVE, "rule ranges/range 000100", 5, LineCause::Range),
     (
-        "fsoe 1 node slave/lengths 2 2/master 1 2 100 1",
-        3,
-        LineCause::Header,
-    ),
-    (
-        "fsoe 1 node slave/lengths 2 2/slave 2 100 1000",
-        3,
-        LineCause::Fields,
-    ),
-    (
-        "fsoe 1 node slave/lengths 2 2/slave 2 0 1000 2",
-        3,
+        SLAVE,
+        "rule ranges/range 0001/range 0100",
+        6,
         LineCause::Range,
     ),
-    (
-        "fsoe 1 node slave/lengths 2 2/slave 2 100 0 2",
-        3,
-        LineCause::Range,
-    ),
-    (
-        "fsoe 1 node slave/lengths 2 2/slave 2 0 65536 2",
-        3,
-        LineCause::Number,
-    ),
-    (
-        "fsoe 1 node slave/lengths 2 2/slave 2 100 1000 4294967296",
-        3,
-        LineCause::Number,
-    ),
-    (
-        "fsoe 1 node slave/lengths 2 2/slave 2 100 1000 65536/go",
-        4,
-        LineCause::Header,
-    ),
-    (
-        "fsoe 1 node slave/lengths 2 2/slave 2 100 1000 65536/rule any",
-        4,
-        LineCause::Fields,
-    ),
-    (
-        "fsoe 1 node slave/lengths 2 2/slave 2 100 1000 65536/rule any 0",
-        4,
-        LineCause::Range,
-    ),
-    (
-        "fsoe 1 node slave/lengths 2 2/slave 2 100 1000 65536/profile 65536",
-        4,
-        LineCause::Number,
-    ),
-    (
-        "fsoe 1 node slave/lengths 2 2/slave 2 100 1000 2/profile 7/profile 7",
-        5,
-        LineCause::Header,
-    ),
+    (SLAVE, "rule ranges/range 0001/go 1", 6, LineCause::Fields),
 ];
 
 #[test]
 fn refuses_lines_of_headers(rt: HostRuntime) -> Result<(), Fail> {
-    for (text, place, cause) in HEADERS {
-        assert_eq!(rt; refusal(SLAVE, text), Some((place, cause)), "{text}");
+    for (before, text, place, cause) in HEADERS {
+        assert_eq!(rt; refusal([before, text]), Some((place, cause)), "{text}");
     }
-    Ok(())
-}
-
-/// Why the first of these lines is refused that follow the `slave` line.
-fn rule_cause(rt: &HostRuntime, lines: &str) -> Result<Option<(usize, LineCause)>, Fail> {
-    let text = format!(in rt.alloc(); "fsoe 1 node slave/lengths 2 2/slave 2 100 1000 2/{lines}")?;
-    Ok(refusal(SLAVE, text.as_str()))
-}
-
-#[test]
-fn refuses_rules(rt: HostRuntime) -> Result<(), Fail> {
-    for (lines, place, cause) in [
-        ("rule", 4, LineCause::Fields),
-        ("rule any", 4, LineCause::Fields),
-        ("rule any 1 2", 4, LineCause::Fields),
-        ("rule x 1", 4, LineCause::Fields),
-        ("rule exact 1", 4, LineCause::Fields),
-        ("rule x", 4, LineCause::Range),
-        ("rule any 513", 4, LineCause::Range),
-        ("rule any 65536", 4, LineCause::Number),
-        ("rule any 2/bytes 00", 5, LineCause::Header),
-        ("rule exact/range 0001", 5, LineCause::Header),
-        ("rule exact/bytes 0", 5, LineCause::Hex),
-        ("rule ranges/bytes 00", 5, LineCause::Header),
-        ("rule ranges/range 00", 5, LineCause::Hex),
-        ("rule ranges/range 000100", 5, LineCause::Range),
-        ("rule ranges/range 0001/range 0100", 6, LineCause::Range),
-        ("rule ranges/range 0001/go 1", 6, LineCause::Fields),
-    ] {
-        assert_eq!(rt; rule_cause(&rt, lines)?, Some((place, cause)), "{lines}");
-    }
-    for lines in [
+    for text in [
         "rule any 512/go",
         "rule exact/go",
         "rule exact/bytes 00/bytes fF/go",
         "rule ranges/range 1020/go",
     ] {
-        assert_eq!(rt; rule_cause(&rt, lines)?, None, "{lines}");
+        assert_eq!(rt; refusal([SLAVE, text]), None, "{text}");
     }
     Ok(())
 }
@@ -319,7 +263,7 @@ fn counts_bytes_of_headers(rt: HostRuntime) -> Result<(), Fail> {
     assert_eq!(rt; header.line(&line[..516])?, false);
     assert_eq!(rt; header.line(&line[..516])?, false);
     assert_eq!(rt; header.line(b"app 00"), Err(LineCause::Range));
-    let mut header = Header::new(MASTER);
+    let mut header = Header::new(HeaderKind::Node(End::Master));
     for line in ["fsoe 1 node master", "lengths 2 2", "master 1 2 100 1"] {
         assert_eq!(rt; header.line(line.as_bytes())?, false);
     }

@@ -74,22 +74,3 @@ fn makes_the_events_of_numbers(rt: HostRuntime) {
     assert_eq!(rt; first_unlike(0, &OF_ZERO), None);
     assert_eq!(rt; first_unlike(2656, &OF_2656), None);
 }
-
-#[test]
-fn sets_both_ends(rt: HostRuntime) {
-    let (master, slave) = Maker::settings();
-    assert_eq!(rt;
-        (
-            master.conn(),
-            master.address(),
-            master.watchdog(),
-            master.nonce()
-        ),
-        (1, 2, 100, 1)
-    );
-    assert_eq!(rt;
-        (slave.address(), slave.hand(), slave.most(), slave.nonce()),
-        (2, 100, 1000, 2)
-    );
-    assert!(rt; slave.rule().allows(&[]));
-}
