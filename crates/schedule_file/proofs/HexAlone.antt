@@ -8,6 +8,7 @@ use Rattle.std.specs.List.{join_with_byte, refill}
 use Rattle.hex.specs.Hex.{decode_of, is_hex_digit}
 use Rattle.hex.specs.declared.error.FromHexError.{FromHexError}
 use Rattle.hex.proofs.HexLemmas.{decode_of-ok}
+use Rattle.schedule_file.proofs.HexDigits.{some_bytes-within}
 use Rattle.schedule_file.specs.Field.{is_space, fields_of, some_bytes, bytes_of}
 use Rattle.schedule_file.specs.Fields.{one_hex_field, not_hex, value_or}
 use Rattle.schedule_file.specs.declared.line_cause.LineCause.TheVariants as cause
@@ -38,9 +39,6 @@ unsaid most text (field ∷ next ∷ more) e same = refl
 pub hex_unsaid : (most : ℕ) (text : List ℕ) → bytes_of most text ≡ None → one_hex_field most (fields_of text) ≡ Err (not_hex (fields_of text))
 hex_unsaid most text e = unsaid most text (fields_of text) e (λ field is. ap (join_with_byte 32) (sym is) ∙ join_with_byte-slice_split 32 text)
 
-in_range : (bytes : List ℕ) → 0 < length bytes → length bytes ≤ 255 → some_bytes 255 (Ok bytes) ≡ Some bytes
-in_range bytes some few = grind (arith, nat_tests)
-
 -- digits that are decoded over as many bytes are the bytes of the only field
 pub hex_written : (text bytes before : List ℕ) → decode_of text ≡ Ok bytes → 0 < length bytes → length bytes ≤ 255 → length bytes ≡ length before → one_hex_field 255 (fields_of text) ≡ Ok (refill (length before) before bytes)
-hex_written text bytes before e some few same = hex_said 255 text bytes (ap (some_bytes 255) e ∙ in_range bytes some few) ∙ ap Ok (sym (take_at bytes _ (length before) same))
+hex_written text bytes before e some few same = hex_said 255 text bytes (ap (some_bytes 255) e ∙ some_bytes-within 255 bytes some few) ∙ ap Ok (sym (take_at bytes _ (length before) same))

@@ -1,10 +1,8 @@
 pub mod Digits
-pub mod Hexed
 pub mod LinesLeft
 pub mod Making
 pub mod OneField
 pub mod Ranges
-pub mod Split
 pub mod Space
 pub mod HexDigits
 pub mod ReadBack

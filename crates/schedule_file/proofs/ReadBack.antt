@@ -21,6 +21,7 @@ use Rattle.schedule_file.specs.Event.{Fits}
 use Rattle.schedule_file.specs.EventLine.{switch_of, reference_of, delivered_len, deliver_line, altered_line, raw_line, put_line, hold_line, nonce_line}
 use Rattle.schedule_file.specs.EventText.{IsOfTypes, end_letter, event_text, reference_text, switch_text}
 use Rattle.schedule_file.specs.Field.{is_space, fields_of, number_of, bytes_of, some_bytes}
+use Rattle.schedule_file.proofs.HexDigits.{some_bytes-within}
 use Rattle.schedule_file.specs.PairEvent.{pair_line, pair_said, pair_said_by, pair_word_of}
 use Rattle.schedule_file.specs.declared.pair_event.PairWord.{PairWord}
 use Rattle.schedule_file.specs.declared.pair_event.PairWord.TheVariants as word
@@ -90,9 +91,6 @@ no_space-hex_at c true e h = absurd (false≢true (sym (ap is_hex_digit (eqb-tru
 no_space-hex : (bytes : List ℕ) → IsBytes bytes → HasNoSpace (encode_lower bytes)
 no_space-hex bytes are =
     λ k d lt. no_space-hex_at (get_or (encode_lower bytes) k d) _ refl ((decode_of-ok (encode_lower bytes) bytes (decode_of-encode_lower bytes are)).1 k d lt)
-
-some_bytes-within : (most : ℕ) (bytes : List ℕ) → 0 < length bytes → length bytes ≤ most → some_bytes most (Ok bytes) ≡ Some bytes
-some_bytes-within most bytes some le = grind (arith, nat_tests)
 
 bytes_of-hex : (most : ℕ) (bytes : List ℕ) → IsBytes bytes → 0 < length bytes → length bytes ≤ most → bytes_of most (encode_lower bytes) ≡ Some bytes
 bytes_of-hex most bytes are some le = ap (some_bytes most) (decode_of-encode_lower bytes are) ∙ some_bytes-within most bytes some le

@@ -1,21 +1,26 @@
--- A search for the byte between two fields.
-use Rattle.std.proofs.Common.{◌≡◌, ℕ, ◌≤◌, ◌<◌, List, length, take, get_or, All, false, arith, ap, ◌∙◌}
+-- A text is cut at its first space.
+use Rattle.std.proofs.Common.{◌≡◌, ℕ, ◌+◌, ◌≤◌, List, [], ◌∷◌, ◌++◌, length, take, drop, get_or, slice_index, All, false, arith, ap, ◌∙◌, sym}
 use Rattle.std.specs.Prelude.{None, Some}
-use Rattle.std.specs.declared.option.Option.{Option}
-use Rattle.std.proofs.lemmas.List.{get_or-take, get_or_default, length-take}
-use Rattle.std.proofs.lemmas.Bool.{false_from_ne_true, eqb-true}
+use Rattle.std.proofs.lemmas.List.{drop_more, get_or-take, get_or_default, length-take, take-append-drop}
+use Rattle.std.proofs.lemmas.List.Splits.{slice_split_at, slice_split_none}
+use Rattle.std.proofs.lemmas.Bool.{false_from_ne_true}
 use Rattle.memchr.specs.Find.{Nowhere, Passes, IsFirstByte, is_byte}
-use Rattle.schedule_file.specs.Field.{is_space, FindsSpace}
+use Rattle.schedule_file.specs.Field.{is_space, fields_of}
 
 -- none of the first n bytes is found
-none_found : (bytes : List ℕ) (n : ℕ) → n ≤ length bytes → Nowhere (Passes (is_byte 32) bytes) 0 n → All (λ b. is_space b ≡ false) (take n bytes)
-none_found bytes n fits none =
+none_found : (text : List ℕ) (n : ℕ) → n ≤ length text → Nowhere (Passes (is_byte 32) text) 0 n → All (λ b. is_space b ≡ false) (take n text)
+none_found text n fits none =
     λ k d lt.
-    let below : k < n = omega (arith, length-take n bytes) in
-    let within : k < length bytes = omega arith in
-    let same : get_or (take n bytes) k d ≡ get_or bytes k 0 = get_or-take n bytes k d below ∙ get_or_default bytes k d 0 within in
-    ap is_space same ∙ false_from_ne_true _ (none k (omega arith) below)
+    let below = length-take n text in
+    let same : get_or (take n text) k d ≡ get_or text k 0 = get_or-take n text k d (omega arith) ∙ get_or_default text k d 0 (omega arith) in
+    ap is_space same ∙ false_from_ne_true _ (none k (omega arith) (omega arith))
 
-pub first_found : (found : Option ℕ) (bytes : List ℕ) → IsFirstByte (is_byte 32) bytes found → FindsSpace found bytes
-first_found None bytes none = λ k d lt. ap is_space (get_or_default bytes k d 0 lt) ∙ false_from_ne_true _ (none k (omega arith) lt)
-first_found (Some at) bytes first = (first.0.high, none_found bytes at (omega (arith, first.0.high)) first.0.before, eqb-true _ _ first.1)
+pub cut_found : (text : List ℕ) (at : ℕ) → IsFirstByte (is_byte 32) text (Some at) → fields_of text ≡ take at text ∷ fields_of (drop (at + 1) text)
+cut_found text at first =
+    let lt = first.0.high in
+    let whole : text ≡ take at text ++ slice_index text at ∷ drop (at + 1) text =
+    sym (take-append-drop at text) ∙ ap (λ (z : List ℕ). take at text ++ z) (drop_more text at 0 lt) in
+    ap fields_of whole ∙ slice_split_at is_space (take at text) (slice_index text at) (drop (at + 1) text) (none_found text at (omega arith) first.0.before) first.1
+
+pub cut_nowhere : (text : List ℕ) → IsFirstByte (is_byte 32) text None → fields_of text ≡ text ∷ []
+cut_nowhere text none = slice_split_none is_space text (λ k d lt. ap is_space (get_or_default text k d 0 lt) ∙ false_from_ne_true _ (none k (omega arith) lt))

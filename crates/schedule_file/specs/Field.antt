@@ -1,5 +1,5 @@
 -- The fields of a line, and what one field says.
-use Rattle.std.specs.Prelude.{◌≡◌, ℕ, ◌==◌, ◌<◌, ◌≤◌, ◌*◌, IsTrue, ◌&&◌, ◌||◌, nat_le, nat_lt, All, length, take, slice_index, Bool, false, List, [], Option, Some, None, Result, Ok, Err, if◌then◌else◌}
+use Rattle.std.specs.Prelude.{◌≡◌, ℕ, ◌==◌, ◌<◌, ◌≤◌, ◌*◌, IsTrue, ◌&&◌, ◌||◌, nat_le, nat_lt, length, slice_index, Bool, List, [], Option, Some, None, Result, Ok, Err, if◌then◌else◌}
 use Rattle.std.specs.List.{slice_split, list_all}
 use Rattle.std.specs.Str.{all_ascii_digits}
 use Rattle.std.specs.Str.Parse.{digits_value}
@@ -10,11 +10,6 @@ use denote.Ref.{Bor}
 -- the byte between two fields
 abbrev pub is_space : ℕ → Bool
 is_space b = b == 32
-
--- where the first space stands, if there is one
-abbrev pub FindsSpace : Option ℕ → List ℕ → Type 0
-FindsSpace (Some at) text = (at < length text) × All (λ b. is_space b ≡ false) (take at text) × (slice_index text at ≡ 32)
-FindsSpace None text = All (λ b. is_space b ≡ false) text
 
 -- a line is cut at each single space, so a field may be empty
 abbrev pub fields_of : List ℕ → List (List ℕ)

@@ -1,7 +1,7 @@
 //! The fields of a line, and what one field says.
 ghost use Rattle.std.specs.Prelude.{◌≡◌, ◌≤◌, ◌<◌, ◌∷◌, length, IfSome, IfOk, OnOk, OnErr};
 ghost use Rattle.schedule_file.specs.Fields.{next_field, no_field, one_field, number_16, number_32, one_hex_field, not_hex, IsField, AreFields, Becomes};
-ghost use Rattle.schedule_file.specs.Field.{FindsSpace, CountsBytes, fields_of, fields_after, number_of, bytes_of};
+ghost use Rattle.schedule_file.specs.Field.{CountsBytes, fields_of, fields_after, number_of, bytes_of};
 
 use crate::hex_digits::{are_digits, decode};
 use crate::line_cause::LineCause;
@@ -9,18 +9,11 @@ use fsoe_base::FrameBuf;
 use memchr::memchr;
 use std::marker::Model;
 
-/// Where the first space stands.
-fn find_space(text: &[u8]) -> Option<usize>
-    ensures { FindsSpace result text.now }
-{
-    memchr(b' ', text)
-}
-
 /// The first field, and what follows the space after it.
 pub fn cut(text: &[u8]) -> (&[u8], Option<&[u8]>)
     ensures { fields_of text.now ≡ result.0.now ∷ fields_after result.1 }
 {
-    match find_space(text) {
+    match memchr(b' ', text) {
         Some(at) => (&text[..at], Some(&text[at + 1..])),
         None => (text, None),
     }

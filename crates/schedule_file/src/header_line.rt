@@ -38,7 +38,7 @@ pub struct SlaveLine {
 }
 
 /// The rule of a `rule` line, whose bytes come in lines of their own.
-#[derive(Clone, Copy, Debug)]
+#[derive(Clone, Copy)]
 pub enum RuleLine {
     Any(u16),
     Exact,

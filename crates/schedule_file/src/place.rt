@@ -6,7 +6,7 @@ use crate::line_cause::LineCause;
 use fsoe_base::End;
 
 /// The first field of a line of a header, from its second line on.
-#[derive(Clone, Copy, PartialEq, Eq)]
+#[derive(Clone, Copy)]
 pub enum Word {
     Lengths,
     Master,
@@ -51,7 +51,7 @@ impl Word {
 }
 
 /// How far a header is read: the line that was read last.
-#[derive(Clone, Copy, Debug, PartialEq, Eq)]
+#[derive(Clone, Copy, Debug)]
 pub enum Place {
     /// No line yet.
     Start,

@@ -1,6 +1,5 @@
 use Rattle.std.proofs.Common.{sym, inl, inr, ◌∙◌, arith}
-use Rattle.schedule_file.proofs.Hexed.{other_count}
-use Rattle.schedule_file.proofs.HexDigits.{odd_count, other_digits}
+use Rattle.schedule_file.proofs.HexDigits.{odd_count, other_count, other_digits}
 use Rattle.schedule_file.proofs.field.count_bytes.Goals as goal
 use Rattle.schedule_file.proofs.field.count_bytes.Goals.{then-text-ne0-via-then-text-ne0, then-text-ne0-via-else-text-ne0+then-not-are_digits}
 
