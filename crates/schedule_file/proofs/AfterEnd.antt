@@ -1,8 +1,9 @@
 -- What comes after the line `end` changes nothing.
-use Rattle.std.proofs.Common.{◌≡◌, ℕ, zero, suc, ◌+◌, Bool, true, false, List, [], ◌∷◌, ◌++◌, length, take, map, refl, arith, ap, ◌∙◌, sym}
+use Rattle.std.proofs.Common.{◌≡◌, ℕ, zero, suc, ◌+◌, Bool, true, false, List, [], ◌∷◌, ◌++◌, length, take, map, refl, ap, ◌∙◌, sym}
 use Rattle.std.specs.Prelude.{◌==◌, Result, Ok, Err, Option, Some, None, slice_get, if◌then◌else◌}
 use Rattle.std.specs.List.{slice_split, onto_first}
 use Rattle.std.proofs.lemmas.List.Splits.{slice_split-cons_yes, slice_split-cons_no, length-slice_split}
+use Rattle.schedule_file.proofs.OneField.{some_part}
 use Rattle.schedule_file.specs.Header.{Heading, heading_new, heading_after, is_done}
 use Rattle.schedule_file.specs.Input.{InputCause, NoLine, Stop, AtEnd, Refused, WholeHeader, whole_line, open_line, lines_in, lines_of, header_step, header_in, said_after, steps, texts, events_after, stop_at, input_after, input_by, input_of}
 use Rattle.schedule_file.specs.declared.event.Event.{Event}
@@ -26,10 +27,6 @@ record Cut (bytes more : List ℕ) : Type 0 where
   tail : List (List ℕ)
   parts : slice_split is_newline bytes ≡ front ++ last ∷ []
   longer : slice_split is_newline (bytes ++ more) ≡ front ++ next ∷ tail
-
-some_part : (parts : List (List ℕ)) (n : ℕ) → length parts ≡ n + 1 → (head : List ℕ) × (tail : List (List ℕ)) × (parts ≡ head ∷ tail)
-some_part [] n e = absurd (omega arith)
-some_part (head ∷ tail) n e = (head, tail, refl)
 
 cut_within : (x : ℕ) (xs more : List ℕ) (front : List (List ℕ)) (last next : List ℕ) (tail : List (List ℕ)) → is_newline x ≡ false → slice_split is_newline xs ≡ front ++ last ∷ []
     → slice_split is_newline (xs ++ more) ≡ front ++ next ∷ tail → Cut (x ∷ xs) more

@@ -5,6 +5,7 @@ use Rattle.std.specs.Str.Parse.{digits_value}
 use Rattle.std.proofs.lemmas.Bool.{and_parts, leb-true, ltb-true, eqb-true}
 use Rattle.std.proofs.lemmas.Bool.Decides.{nat_tests}
 use Rattle.std.proofs.lemmas.List.Elements.{All-cons, All-nil, All-take}
+use Rattle.std.proofs.lemmas.Result.{IfOk-weaker}
 use Rattle.fsoe_base.specs.declared.command.End.{End}
 use Rattle.param_load.specs.Profile.{allows_id}
 use Rattle.param_load.specs.declared.profile.Profile.{Profile}
@@ -28,7 +29,7 @@ use Rattle.schedule_file.specs.declared.node_event.Word.{Word}
 use Rattle.schedule_file.specs.declared.node_event.Word.TheVariants as node_word
 use Rattle.schedule_file.specs.declared.pair_event.PairWord.{PairWord}
 use Rattle.schedule_file.specs.declared.pair_event.PairWord.TheVariants as word
-use Rattle.schedule_file.proofs.Sound.{each, known, hex_within, ok_if}
+use Rattle.schedule_file.proofs.Sound.{each, known, IfOk-every, IfOk-map, hex_within, ok_if}
 
 -- the next step gives such a value, whatever is given here
 given : {A B : Type 0} (o : Option A) (cause : LineCause) (f : A → Result B LineCause) (Q : A → Type 0) (P : B → Type 0) → IfSome o Q → ((x : A) → Q x → IfOk (f x) P) → IfOk (value_or cause o >>= f) P
@@ -74,30 +75,30 @@ said_fits sends profiles (Some (word.Deliver to)) fields =
     each (one_field fields) _ _ (λ field. given (reference_of field) cause.Reference _ _ _ (reference_within field) (λ back range. (range, tt)))
 said_fits sends profiles (Some (word.Altered to)) fields = altered_fits sends profiles to fields
 said_fits sends profiles (Some (word.Raw to)) fields =
-    known (one_hex_field 255 fields) _ _ _ (hex_within 255 fields) (λ bytes range. (range, tt))
-said_fits sends profiles (Some (word.Tick at)) fields = each (no_field fields) _ _ (λ none. (tt, tt))
+    IfOk-map (one_hex_field 255 fields) _ _ (IfOk-weaker (one_hex_field 255 fields) _ _ (λ bytes range. (range, tt)) (hex_within 255 fields))
+said_fits sends profiles (Some (word.Tick at)) fields = IfOk-map (no_field fields) _ _ (IfOk-every (no_field fields) _ (λ none. (tt, tt)))
 said_fits sends profiles (Some (word.Put at)) fields =
     known (one_hex_field 126 fields) _ _ _ (hex_within 126 fields) (λ bytes range.
     ok_if (length bytes == sends at) _ cause.Length _ (λ e. (range, eqb-true (length bytes) (sends at) e)))
 said_fits sends profiles (Some (word.Hold at)) fields = each (one_field fields) _ _ (λ field. each (value_or cause.Number (switch_of field)) _ _ (λ on. (tt, tt)))
 said_fits sends profiles (Some (word.Nonce at)) fields =
     each (one_field fields) _ _ (λ field. each (number_32 field) _ _ (λ id. ok_if (allows_id (profiles at) id) _ cause.Number _ (λ e. (tt, e))))
-said_fits sends profiles (Some (word.Local at)) fields = each (no_field fields) _ _ (λ none. (tt, tt))
-said_fits sends profiles (Some word.End) fields = each (no_field fields) _ _ (λ none. tt)
+said_fits sends profiles (Some (word.Local at)) fields = IfOk-map (no_field fields) _ _ (IfOk-every (no_field fields) _ (λ none. (tt, tt)))
+said_fits sends profiles (Some word.End) fields = IfOk-map (no_field fields) _ _ (IfOk-every (no_field fields) _ (λ none. tt))
 
 -- what a word says to a node fits its end
 node_said_fits : (end : End) (count : ℕ) (profile : Profile) (word : Option Word) (fields : List (List ℕ)) → IfOk (node_said end count profile word fields) (OnStep (FitsEnd end count profile))
 node_said_fits end count profile None fields = tt
-node_said_fits end count profile (Some node_word.Tick) fields = each (no_field fields) _ _ (λ none. refl)
+node_said_fits end count profile (Some node_word.Tick) fields = IfOk-map (no_field fields) _ _ (IfOk-every (no_field fields) _ (λ none. refl))
 node_said_fits end count profile (Some node_word.Deliver) fields =
-    known (one_hex_field 255 fields) _ _ _ (hex_within 255 fields) (λ bytes range. (refl, range.0, range.1))
+    IfOk-map (one_hex_field 255 fields) _ _ (IfOk-weaker (one_hex_field 255 fields) _ _ (λ bytes range. (refl, range.0, range.1)) (hex_within 255 fields))
 node_said_fits end count profile (Some node_word.Put) fields =
     each (one_hex_field 126 fields) _ _ (λ bytes. ok_if (length bytes == count) _ cause.Length _ (λ e. (refl, eqb-true (length bytes) count e)))
 node_said_fits end count profile (Some node_word.Hold) fields = each (one_field fields) _ _ (λ field. each (value_or cause.Number (switch_of field)) _ _ (λ on. refl))
 node_said_fits end count profile (Some node_word.Nonce) fields =
     each (one_field fields) _ _ (λ field. each (number_32 field) _ _ (λ id. ok_if (allows_id profile id) _ cause.Number _ (λ e. (refl, e))))
-node_said_fits end count profile (Some node_word.Local) fields = each (no_field fields) _ _ (λ none. refl)
-node_said_fits end count profile (Some node_word.End) fields = each (no_field fields) _ _ (λ none. tt)
+node_said_fits end count profile (Some node_word.Local) fields = IfOk-map (no_field fields) _ _ (IfOk-every (no_field fields) _ (λ none. refl))
+node_said_fits end count profile (Some node_word.End) fields = IfOk-map (no_field fields) _ _ (IfOk-every (no_field fields) _ (λ none. tt))
 
 -- the event of a line by its fields, of which the first is its word
 pair_line_fits : (sends : End → ℕ) (profiles : End → Profile) (fields : List (List ℕ)) → IfOk (pair_said_by sends profiles fields) (OnStep (Fits sends profiles))

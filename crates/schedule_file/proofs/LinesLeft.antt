@@ -3,7 +3,7 @@ use Rattle.std.proofs.Common.{◌≡◌, ℕ, ◌+◌, ◌-◌, ◌/◌, ◌≤�
 use Rattle.std.specs.Prelude.{IsTrue, Result, Ok, Err, IfOk, OnOk, nat_le, if◌then◌else◌}
 use Rattle.std.proofs.lemmas.Bool.{false≢true, and_parts, leb-true}
 use Rattle.std.proofs.lemmas.Bool.Decides.{nat_tests}
-use Rattle.std.proofs.lemmas.Result.{IfOk-at_ok}
+use Rattle.std.proofs.lemmas.Result.{IfOk-at_ok, IfOk-weaker}
 use Rattle.param_load.specs.AppRule.{rule_len}
 use Rattle.param_load.specs.declared.app_rule.AppRule.{AppRule}
 use Rattle.param_load.specs.declared.app_rule.AppRule.TheVariants as app_rule
@@ -24,7 +24,7 @@ use Rattle.schedule_file.specs.declared.place.Place.TheVariants as place
 use Rattle.schedule_file.specs.declared.header_kind.HeaderKind.{HeaderKind}
 use Rattle.schedule_file.specs.declared.place.Word.{Word}
 use Rattle.schedule_file.specs.declared.place.Word.TheVariants as word
-use Rattle.schedule_file.proofs.Sound.{IfOk-bind, known, hex_sound, range_sound}
+use Rattle.schedule_file.proofs.Sound.{IfOk-map, hex_sound, range_sound}
 
 -- how many lines may be left, at least, where a line with this word may stand
 abbrev least : Word → ℕ → ℕ → ℕ
@@ -99,7 +99,7 @@ ranges_with-longer low high pairs some = ranges_with-at low high pairs _ some (�
 rule_with_bytes-longer : (r : AppRule) (bytes : List ℕ) → 0 < length bytes → IfOk (rule_with_bytes r bytes) (λ r'. (rule_len r < rule_len r') × (rule_len r' ≤ 512))
 rule_with_bytes-longer (app_rule.Any n) bytes some = tt
 rule_with_bytes-longer (app_rule.Exact want) bytes some =
-    known (list_with want bytes) _ _ _ (list_with-longer want bytes) (λ all h. (omega (arith, h.0), h.1))
+    IfOk-map (list_with want bytes) app_rule.Exact _ (IfOk-weaker (list_with want bytes) _ _ (λ all h. (omega (arith, h.0), h.1)) (list_with-longer want bytes))
 rule_with_bytes-longer (app_rule.Ranges low high) bytes some = tt
 
 rule_with_pairs-longer : (r : AppRule) (pairs : List ℕ) → 2 ≤ length pairs → IfOk (rule_with_pairs r pairs) (λ r'. (rule_len r < rule_len r') × (rule_len r' ≤ 512))
@@ -123,16 +123,16 @@ line_fewer h word.Lengths fields stands low = taken_each (lengths_line fields) s
 line_fewer h word.Master fields stands low = taken_each (master_line fields) says.Master h _ (λ line. omega (arith, low))
 line_fewer h word.Profile fields stands low = taken_each (profile_line fields) says.Profile h _ (λ n. profile-fewer h.place h n stands)
 line_fewer h word.App fields stands low =
-    taken_known (one_hex_field 256 fields) says.App h _ _ (hex_sound fields) (λ bytes some. IfOk-bind (master_with_app h.master bytes) _ _
-    (known (list_with h.master.app bytes) _ _ _ (list_with-longer h.master.app bytes) (λ all longer. omega (arith, low, some, longer.0, longer.1))))
+    taken_known (one_hex_field 256 fields) says.App h _ _ (hex_sound fields) (λ bytes some. IfOk-map (master_with_app h.master bytes) _ _
+    (IfOk-map (list_with h.master.app bytes) _ _ (IfOk-weaker (list_with h.master.app bytes) _ _ (λ all longer. omega (arith, low, some, longer.0, longer.1)) (list_with-longer h.master.app bytes))))
 line_fewer h word.Slave fields stands low = taken_each (slave_line fields) says.Slave h _ (λ line. omega (arith, low))
 line_fewer h word.Rule fields stands low = taken_each (rule_line fields) says.Rule h _ (λ line. omega (arith, low, left-rule line (length h.master.app)))
 line_fewer h word.Bytes fields stands low =
-    taken_known (one_hex_field 256 fields) says.Bytes h _ _ (hex_sound fields) (λ bytes some. IfOk-bind (slave_with_bytes h.slave bytes) _ _
-    (known (rule_with_bytes h.slave.rule bytes) _ _ _ (rule_with_bytes-longer h.slave.rule bytes some) (λ r longer. omega (arith, low, longer.0, longer.1))))
+    taken_known (one_hex_field 256 fields) says.Bytes h _ _ (hex_sound fields) (λ bytes some. IfOk-map (slave_with_bytes h.slave bytes) _ _
+    (IfOk-map (rule_with_bytes h.slave.rule bytes) _ _ (IfOk-weaker (rule_with_bytes h.slave.rule bytes) _ _ (λ r longer. omega (arith, low, longer.0, longer.1)) (rule_with_bytes-longer h.slave.rule bytes some))))
 line_fewer h word.Range fields stands low =
-    taken_known (range_line fields) says.Range h _ _ (range_sound fields) (λ pairs some. IfOk-bind (slave_with_pairs h.slave pairs) _ _
-    (known (rule_with_pairs h.slave.rule pairs) _ _ _ (rule_with_pairs-longer h.slave.rule pairs some) (λ r longer. omega (arith, low, longer.0, longer.1))))
+    taken_known (range_line fields) says.Range h _ _ (range_sound fields) (λ pairs some. IfOk-map (slave_with_pairs h.slave pairs) _ _
+    (IfOk-map (rule_with_pairs h.slave.rule pairs) _ _ (IfOk-weaker (rule_with_pairs h.slave.rule pairs) _ _ (λ r longer. omega (arith, low, longer.0, longer.1)) (rule_with_pairs-longer h.slave.rule pairs some))))
 line_fewer h word.Go fields stands low = taken_each (no_field fields) (λ _. says.Go) h _ (λ none. low)
 
 taken-fewer : (h : Heading) (w : Word) (fields : List (List ℕ)) (line : HeaderLine) → IsTrue (may_stand h.kind h.place w) → Ok line ≡ header_line w fields → IfOk (taken h line) (λ h'. lines_left h' < lines_left h)

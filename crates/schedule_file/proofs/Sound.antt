@@ -74,15 +74,15 @@ pub known : {A B : Type 0} (r : Result A LineCause) (f : A → Result B LineCaus
 known (Ok x) f Q P q h = h x q
 known (Err e) f Q P q h = tt
 
--- a fact of the value of two steps
-pub IfOk-bind : {A B : Type 0} (r : Result A LineCause) (f : A → Result B LineCause) (P : B → Type 0) → IfOk r (λ x. IfOk (f x) P) → IfOk (r >>= f) P
-IfOk-bind (Ok x) f P h = h
-IfOk-bind (Err e) f P h = h
-
 -- a fact of what is made of a value
-IfOk-map : {A B : Type 0} (r : Result A LineCause) (f : A → B) (P : B → Type 0) → IfOk r (λ x. P (f x)) → IfOk (map_ok f r) P
+pub IfOk-map : {A B : Type 0} (r : Result A LineCause) (f : A → B) (P : B → Type 0) → IfOk r (λ x. P (f x)) → IfOk (map_ok f r) P
 IfOk-map (Ok x) f P h = h
 IfOk-map (Err e) f P h = h
+
+-- a fact of every value
+pub IfOk-every : {A : Type 0} (r : Result A LineCause) (P : A → Type 0) → ((x : A) → P x) → IfOk r P
+IfOk-every (Ok x) P h = h x
+IfOk-every (Err e) P h = tt
 
 pub ok_if : {A : Type 0} (b : Bool) (x : A) (e : LineCause) (P : A → Type 0) → (b ≡ true → P x) → IfOk (if b then Ok x else Err e) P
 ok_if true x e P h = h refl
@@ -150,21 +150,17 @@ pub range_sound : (fields : List (List ℕ)) → IfOk (range_line fields) (λ pa
 range_sound fields =
     known (one_hex_field 256 fields) _ _ _ (hex_sound fields) (λ pairs some. ok_unless (length pairs == 1) pairs cause.Hex _ (λ e. not_one (length pairs) some e))
 
-any_value : {A : Type 0} (r : Result A LineCause) → IfOk r (λ x. Unit {0})
-any_value (Ok x) = tt
-any_value (Err e) = tt
-
 -- a line that is read is in range
 line_sound : (word : Word) (fields : List (List ℕ)) → IfOk (header_line word fields) InRange
 line_sound word.Lengths fields = IfOk-map (lengths_line fields) says.Lengths InRange (lengths_sound fields)
 line_sound word.Master fields = IfOk-map (master_line fields) says.Master InRange (master_sound fields)
-line_sound word.Profile fields = IfOk-map (profile_line fields) says.Profile InRange (any_value (profile_line fields))
+line_sound word.Profile fields = IfOk-map (profile_line fields) says.Profile InRange (IfOk-every (profile_line fields) _ (λ n. tt))
 line_sound word.App fields = IfOk-map (one_hex_field 256 fields) says.App InRange (hex_sound fields)
 line_sound word.Slave fields = IfOk-map (slave_line fields) says.Slave InRange (slave_sound fields)
 line_sound word.Rule fields = IfOk-map (rule_line fields) says.Rule InRange (rule_sound fields)
 line_sound word.Bytes fields = IfOk-map (one_hex_field 256 fields) says.Bytes InRange (hex_sound fields)
 line_sound word.Range fields = IfOk-map (range_line fields) says.Range InRange (range_sound fields)
-line_sound word.Go fields = IfOk-map (no_field fields) (λ _. says.Go) InRange (any_value (no_field fields))
+line_sound word.Go fields = IfOk-map (no_field fields) (λ _. says.Go) InRange (IfOk-every (no_field fields) _ (λ none. tt))
 
 -- the same of a line that was read
 pub said_in_range : (word : Word) (fields : List (List ℕ)) (line : HeaderLine) → Ok line ≡ header_line word fields → InRange line
@@ -192,7 +188,7 @@ pointwise_append (x ∷ low) (y ∷ high) lows highs a b = grind (arith, nat_tes
 -- a rule with one more line of its own
 bytes_acceptable : (r : AppRule) (bytes : List ℕ) → IfOk (rule_with_bytes r bytes) (λ all. IsTrue (is_acceptable all))
 bytes_acceptable (app_rule.Any n) bytes = tt
-bytes_acceptable (app_rule.Exact want) bytes = each (list_with want bytes) _ _ (λ all. refl)
+bytes_acceptable (app_rule.Exact want) bytes = IfOk-map (list_with want bytes) app_rule.Exact _ (IfOk-every (list_with want bytes) _ (λ all. refl))
 bytes_acceptable (app_rule.Ranges low high) bytes = tt
 
 pairs_acceptable : (r : AppRule) (pairs : List ℕ) → IsTrue (is_acceptable r) → IfOk (rule_with_pairs r pairs) (λ all. IsTrue (is_acceptable all))
@@ -213,13 +209,13 @@ taken_sound : (h : Heading) (line : HeaderLine) → InRange line → Sound h →
 taken_sound h (says.Lengths line) range s = (record { master = range.0; slave = range.1 }, s.1, s.2)
 taken_sound h (says.Master line) range s = (s.0, record { conn = range.0; watchdog = range.1; allowed = profile_allows line.nonce }, s.2)
 taken_sound h (says.Profile n) range s = profile_sound h.place h n s
-taken_sound h (says.App bytes) range s = IfOk-bind (master_with_app h.master bytes) _ _ (each (list_with h.master.app bytes) _ _ (λ app. s))
+taken_sound h (says.App bytes) range s = IfOk-map (master_with_app h.master bytes) _ Sound (IfOk-map (list_with h.master.app bytes) _ _ (IfOk-every (list_with h.master.app bytes) _ (λ app. s)))
 taken_sound h (says.Slave line) range s = (s.0, s.1, record { hand = range.0; most = range.1; acceptable = refl; allowed = profile_allows line.nonce })
 taken_sound h (says.Rule line) range s = with_rule h (rule_begun line) s (begun_acceptable line range)
 taken_sound h (says.Bytes bytes) range s =
-    IfOk-bind (slave_with_bytes h.slave bytes) _ _ (known (rule_with_bytes h.slave.rule bytes) _ _ _ (bytes_acceptable h.slave.rule bytes) (λ r is. with_rule h r s is))
+    IfOk-map (slave_with_bytes h.slave bytes) _ Sound (IfOk-map (rule_with_bytes h.slave.rule bytes) _ _ (IfOk-weaker (rule_with_bytes h.slave.rule bytes) _ _ (λ r is. with_rule h r s is) (bytes_acceptable h.slave.rule bytes)))
 taken_sound h (says.Range pairs) range s =
-    IfOk-bind (slave_with_pairs h.slave pairs) _ _ (known (rule_with_pairs h.slave.rule pairs) _ _ _ (pairs_acceptable h.slave.rule pairs s.2.acceptable) (λ r is. with_rule h r s is))
+    IfOk-map (slave_with_pairs h.slave pairs) _ Sound (IfOk-map (rule_with_pairs h.slave.rule pairs) _ _ (IfOk-weaker (rule_with_pairs h.slave.rule pairs) _ _ (λ r is. with_rule h r s is) (pairs_acceptable h.slave.rule pairs s.2.acceptable)))
 taken_sound h says.Go range s = s
 
 title_sound : (b : Bool) (h : Heading) → Sound h → IfOk (if b then Ok (record h { place = place.Title }) else Err cause.Header) Sound

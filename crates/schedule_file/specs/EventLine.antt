@@ -8,7 +8,7 @@ use Rattle.fsoe_base.specs.declared.command.End.TheVariants as side
 use Rattle.param_load.specs.Profile.{allows_id}
 use Rattle.param_load.specs.declared.profile.Profile.{Profile}
 use Rattle.schedule_file.specs.Field.{number_of, bytes_of}
-use Rattle.schedule_file.specs.Fields.{◌>>=◌, value_or, next_field, no_field, one_field, number_16, number_32, one_hex_field}
+use Rattle.schedule_file.specs.Fields.{◌>>=◌, map_ok, value_or, next_field, no_field, one_field, number_16, number_32, one_hex_field}
 use Rattle.schedule_file.specs.declared.event.Event.TheVariants as event
 use Rattle.schedule_file.specs.declared.event.TheConstants.{MAX_BACK}
 use Rattle.schedule_file.specs.declared.event.ScheduleLine.{ScheduleLine}
@@ -58,15 +58,11 @@ altered_line to sends fields = do
 
 -- a word says this by itself
 abbrev pub bare_line : ScheduleLine → List (List ℕ) → Result ScheduleLine LineCause
-bare_line says fields = do
-  none ← no_field fields
-  Ok says
+bare_line says fields = map_ok (λ none. says) (no_field fields)
 
 -- a frame of 1 to 255 bytes
 abbrev pub raw_line : End → List (List ℕ) → Result ScheduleLine LineCause
-raw_line to fields = do
-  bytes ← one_hex_field 255 fields
-  Ok (line.Step (event.Raw to bytes))
+raw_line to fields = map_ok (λ bytes. line.Step (event.Raw to bytes)) (one_hex_field 255 fields)
 
 -- safe data bytes, exactly as many as the end sends
 abbrev pub put_line : End → ℕ → List (List ℕ) → Result ScheduleLine LineCause

@@ -7,7 +7,7 @@ use Rattle.param_load.specs.SlaveSettings.{IsSlaveSetTo}
 use Rattle.param_load.specs.declared.master_settings.MasterSettings.{MasterSettings}
 use Rattle.param_load.specs.declared.slave_settings.SlaveSettings.{SlaveSettings}
 use Rattle.schedule_file.specs.Field.{fields_of}
-use Rattle.schedule_file.specs.Fields.{◌>>=◌}
+use Rattle.schedule_file.specs.Fields.{◌>>=◌, map_ok}
 use Rattle.schedule_file.specs.HeaderKind.{title_of}
 use Rattle.schedule_file.specs.HeaderLine.{header_line}
 use Rattle.schedule_file.specs.HeaderPart.{MasterValues, SlaveValues, is_two, master_begun, slave_begun, master_with_app, rule_begun, slave_with_bytes, slave_with_pairs}
@@ -79,17 +79,11 @@ abbrev pub taken : Heading → HeaderLine → Result Heading LineCause
 taken h (says.Lengths line) = Ok (record h { place = place.Lengths; lengths = line })
 taken h (says.Master line) = Ok (record h { place = place.Master; master = master_begun line })
 taken h (says.Profile word) = Ok (profile_taken h.place h word)
-taken h (says.App bytes) = do
-  master ← master_with_app h.master bytes
-  Ok (record h { place = place.App; master = master })
+taken h (says.App bytes) = map_ok (λ master. record h { place = place.App; master = master }) (master_with_app h.master bytes)
 taken h (says.Slave line) = Ok (record h { place = place.Slave; slave = slave_begun line })
 taken h (says.Rule line) = Ok (record h { place = rule_place line; slave = record h.slave { rule = rule_begun line } })
-taken h (says.Bytes bytes) = do
-  slave ← slave_with_bytes h.slave bytes
-  Ok (record h { place = place.RuleExact; slave = slave })
-taken h (says.Range pairs) = do
-  slave ← slave_with_pairs h.slave pairs
-  Ok (record h { place = place.RuleRanges; slave = slave })
+taken h (says.Bytes bytes) = map_ok (λ slave. record h { place = place.RuleExact; slave = slave }) (slave_with_bytes h.slave bytes)
+taken h (says.Range pairs) = map_ok (λ slave. record h { place = place.RuleRanges; slave = slave }) (slave_with_pairs h.slave pairs)
 taken h says.Go = Ok (record h { place = place.Done })
 
 -- a header after its first line

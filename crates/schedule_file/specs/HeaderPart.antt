@@ -6,7 +6,7 @@ use Rattle.param_load.specs.declared.app_rule.AppRule.{AppRule}
 use Rattle.param_load.specs.declared.app_rule.AppRule.TheVariants as app_rule
 use Rattle.param_load.specs.declared.profile.Profile.{Profile}
 use Rattle.param_load.specs.declared.profile.Profile.TheVariants as profile
-use Rattle.schedule_file.specs.Fields.{◌>>=◌}
+use Rattle.schedule_file.specs.Fields.{map_ok}
 use Rattle.schedule_file.specs.declared.header_line.MasterLine.{MasterLine}
 use Rattle.schedule_file.specs.declared.header_line.RuleLine.{RuleLine}
 use Rattle.schedule_file.specs.declared.header_line.RuleLine.TheVariants as rule
@@ -76,9 +76,7 @@ rule_begun rule.Ranges = app_rule.Ranges [] []
 -- a rule with the bytes of a `bytes` line, which follows `rule exact` alone
 abbrev pub rule_with_bytes : AppRule → List ℕ → Result AppRule LineCause
 rule_with_bytes (app_rule.Any n) bytes = Err cause.Header
-rule_with_bytes (app_rule.Exact want) bytes = do
-  all ← list_with want bytes
-  Ok (app_rule.Exact all)
+rule_with_bytes (app_rule.Exact want) bytes = map_ok app_rule.Exact (list_with want bytes)
 rule_with_bytes (app_rule.Ranges low high) bytes = Err cause.Header
 
 -- a rule with the pairs of a `range` line, which follows `rule ranges` alone
@@ -89,18 +87,12 @@ rule_with_pairs (app_rule.Ranges low high) pairs = ranges_with low high pairs
 
 -- the values of a master with the bytes of an `app` line
 abbrev pub master_with_app : MasterValues → List ℕ → Result MasterValues LineCause
-master_with_app m bytes = do
-  app ← list_with m.app bytes
-  Ok (record m { app = app })
+master_with_app m bytes = map_ok (λ app. record m { app = app }) (list_with m.app bytes)
 
 -- the values of a slave with the bytes of a `bytes` line
 abbrev pub slave_with_bytes : SlaveValues → List ℕ → Result SlaveValues LineCause
-slave_with_bytes s bytes = do
-  rule ← rule_with_bytes s.rule bytes
-  Ok (record s { rule = rule })
+slave_with_bytes s bytes = map_ok (λ rule. record s { rule = rule }) (rule_with_bytes s.rule bytes)
 
 -- the values of a slave with the pairs of a `range` line
 abbrev pub slave_with_pairs : SlaveValues → List ℕ → Result SlaveValues LineCause
-slave_with_pairs s pairs = do
-  rule ← rule_with_pairs s.rule pairs
-  Ok (record s { rule = rule })
+slave_with_pairs s pairs = map_ok (λ rule. record s { rule = rule }) (rule_with_pairs s.rule pairs)
