@@ -3,6 +3,7 @@ ghost use Rattle.std.specs.Prelude.{◌≡◌, ◌≤◌, ◌<◌, ◌*◌, leng
 ghost use Rattle.fsoe_base.specs.Image.{bit_of};
 ghost use Rattle.failsafe_io.specs.Outputs.{outputs_of};
 
+use crate::offer::zeros;
 use fsoe_base::{Command, Image, MOST_DATA};
 use std::marker::Model;
 
@@ -50,7 +51,7 @@ impl Outputs {
     pub fn fail(&mut self)
         ensures { self.new ≡ replicate (length self.old) 0 }
     {
-        self.image = Image::zeros(self.image.len());
+        self.image.set(zeros(self.image.len()));
     }
 
     /// The bytes.
