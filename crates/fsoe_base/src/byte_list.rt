@@ -1,4 +1,4 @@
-//! Bytes of a frame and of an image: lists of a fixed capacity.
+//! Lists of bytes of a fixed capacity: those of a frame, and the safe data of one direction.
 ghost use Rattle.std.specs.Prelude.{◌≡◌, ◌≤◌, ◌<◌, ◌*◌, ◌==◌, ◌^◌, ◌%◌, ◌+◌, [], ◌∷◌, ◌++◌, length, replicate, take};
 ghost use Rattle.std.specs.Borrow.{sem};
 ghost use Rattle.fsoe_base.specs.Image.{bit_of, with_bit};
@@ -21,10 +21,10 @@ impl<const MOST: usize> Model for ByteList<MOST> {
     ghost view = { λ l. l.inner.items };
 }
 
-/// The bytes of one frame, or of none where it is empty.
+/// The bytes of one frame, at most 255, or of none where it is empty.
 pub type FrameBuf = ByteList<MOST_FRAME>;
 
-/// The safe data bytes of one direction.
+/// The safe data bytes of one direction, at most 126.
 pub type Image = ByteList<MOST_DATA>;
 
 /// The mask of a bit of a byte.
@@ -56,7 +56,7 @@ impl<const MOST: usize> ByteList<MOST> {
         }
     }
 
-    /// `l` zeros.
+    /// `l` zeros, at most `MOST`.
     pub fn zeros(l: usize) -> Self
         requires { l ≤ MOST }
         ensures { result ≡ replicate l 0 }
@@ -97,7 +97,7 @@ impl<const MOST: usize> ByteList<MOST> {
         self.inner.as_mut_slice()
     }
 
-    /// Has this many bytes from now on, whichever they are.
+    /// Has this many bytes from now on, at most `MOST`, whichever they are.
     pub fn resize(&mut self, len: usize)
         requires { len ≤ MOST }
         ensures { length self.new ≡ len }
@@ -124,7 +124,7 @@ impl<const MOST: usize> ByteList<MOST> {
         }
     }
 
-    /// Appends a byte for which there is room.
+    /// Appends a byte where fewer than `MOST` stand.
     pub fn push(&mut self, b: u8)
         requires { length self.old < MOST }
         ensures { self.new ≡ self.old ++ b ∷ [] }
@@ -132,7 +132,7 @@ impl<const MOST: usize> ByteList<MOST> {
         self.inner.push(b);
     }
 
-    /// Appends bytes for which there is room.
+    /// Appends bytes where there is room for them among `MOST`.
     pub fn push_all(&mut self, piece: &[u8])
         requires { length self.old + length piece.now ≤ MOST }
         ensures { self.new ≡ self.old ++ piece.now }
@@ -140,7 +140,7 @@ impl<const MOST: usize> ByteList<MOST> {
         let _fits = self.inner.try_extend_from_slice(piece);
     }
 
-    /// Takes these bytes in place of its own.
+    /// Takes these bytes, at most `MOST`, in place of its own.
     pub fn set(&mut self, from: &[u8])
         requires { length from.now ≤ MOST }
         ensures { self.new ≡ from.now }
@@ -153,7 +153,7 @@ impl<const MOST: usize> ByteList<MOST> {
         }
     }
 
-    /// The same bytes again.
+    /// The same bytes again. It takes no memory.
     pub fn copy(&self) -> Self
         ensures { result ≡ self.now }
     {
