@@ -138,11 +138,8 @@ abbrev is_next : Setup → List Deed → List ℕ → List ℕ → Command → T
 is_next s e bytes load c = IsReaction s e (deed_of s e (move.Deliver bytes) (takes_frame c load))
 
 master-echo : (ms : MasterSettings) (e : List Deed) (bytes load : List ℕ) (c : Command) → IsHandshake c → state_of (OfMaster ms) e ≡ phase_of c → IsValid (OfMaster ms) e bytes c load → is_next (OfMaster ms) e bytes load c
-master-echo ms e bytes load c OfSession now valid = Answers bytes load command.Session _ (master-next ms e bytes load command.Session (nat_lt (pieces_sent e state.Session) (all_pieces ms e state.Session)) OfSession now valid refl)
-master-echo ms e bytes load c OfConnection now valid =
-    Answers bytes load command.Connection _ (master-next ms e bytes load command.Connection (nat_lt (pieces_sent e state.Connection) (all_pieces ms e state.Connection)) OfConnection now valid refl)
-master-echo ms e bytes load c OfParameter now valid =
-    Answers bytes load command.Parameter _ (master-next ms e bytes load command.Parameter (nat_lt (pieces_sent e state.Parameter) (all_pieces ms e state.Parameter)) OfParameter now valid refl)
+master-echo ms e bytes load c OfSession now valid = Answers bytes load command.Session _ (master-next ms e bytes load command.Session _ OfSession now valid refl)
+master-echo ms e bytes load c is now valid = Answers bytes load c _ (master-next ms e bytes load c _ is now valid refl)
 
 master-reply : (ms : MasterSettings) (e : List Deed) (bytes load : List ℕ) (c : Command) → is_data c ≡ true → state_of (OfMaster ms) e ≡ state.Data → IsValid (OfMaster ms) e bytes c load → is_next (OfMaster ms) e bytes load c
 master-reply ms e bytes load command.FailSafeData h now valid = Answers bytes load command.FailSafeData _ (MasterMoreData ms command.FailSafeData _ refl now (data-exchange ms e bytes load command.FailSafeData valid))
@@ -184,11 +181,7 @@ by-verdict s e bytes v sound h (FailsTest found test) = by-fault s e bytes (stat
 by-verdict s e bytes v sound h (FailsContents found test) = by-fault s e bytes (state_of s e) true found refl h test
 by-verdict s e bytes v sound h (ResetsFrame load frame) = by-reset s e bytes load (state_of s e) sound frame refl
 by-verdict s e bytes v sound h (IsNext command.Reset load n valid) = absurd (n refl)
-by-verdict s e bytes v sound h (IsNext command.Session load n valid) = by-valid s e bytes load command.Session sound n valid
-by-verdict s e bytes v sound h (IsNext command.Connection load n valid) = by-valid s e bytes load command.Connection sound n valid
-by-verdict s e bytes v sound h (IsNext command.Parameter load n valid) = by-valid s e bytes load command.Parameter sound n valid
-by-verdict s e bytes v sound h (IsNext command.FailSafeData load n valid) = by-valid s e bytes load command.FailSafeData sound n valid
-by-verdict s e bytes v sound h (IsNext command.ProcessData load n valid) = by-valid s e bytes load command.ProcessData sound n valid
+by-verdict s e bytes v sound h (IsNext c load n valid) = by-valid s e bytes load c sound n valid
 
 by-expiry : (s : Setup) (e : List Deed) (now : State) → state_of s e ≡ now → nat_le (limit s e) (suc (age s e)) ≡ true → IsReaction s e (deed_of s e move.Tick (on_expiry now s))
 by-expiry (OfMaster ms) e state.Reset h t = SendsAgain tt h (leb-true (limit (OfMaster ms) e) (suc (age (OfMaster ms) e)) t)
