@@ -112,45 +112,25 @@ pub fn read_tick(at: End, fields: Option<&[u8]>, says: &mut ScheduleLine) -> Res
     Ok(())
 }
 
-/// `<hex>`: a frame of from 1 to 255 bytes.
+/// `<hex>`: a frame of from 1 to 255 bytes. It stays in its place where `says` has one.
 pub fn read_raw(to: End, fields: Option<&[u8]>, says: &mut ScheduleLine) -> Result<(), LineCause>
     ensures value { Becomes result says.new (raw_line to (fields_after fields.entry)) }
     ensures unwritten { OnErr result (says.new ≡ says.old) }
 {
     match says {
-        ScheduleLine::Step(event) => read_raw_event(to, fields, event),
+        ScheduleLine::Step(event) => match event {
+            Event::Raw { to: end, frame } => {
+                frame_field(fields, frame)?;
+                *end = to;
+                Ok(())
+            }
+            _ => read_first_raw(to, fields, says),
+        },
         ScheduleLine::End => read_first_raw(to, fields, says),
     }
 }
 
-/// The same over an event. A frame stays in its place where `event` has one.
-fn read_raw_event(to: End, fields: Option<&[u8]>, event: &mut Event) -> Result<(), LineCause>
-    ensures value { Becomes result (ScheduleLine.Step event.new) (raw_line to (fields_after fields.entry)) }
-    ensures unwritten { OnErr result (event.new ≡ event.old) }
-{
-    match event {
-        Event::Raw { to: end, frame } => {
-            frame_field(fields, frame)?;
-            *end = to;
-            Ok(())
-        }
-        _ => read_next_raw(to, fields, event),
-    }
-}
-
-/// The same where the event before had no frame.
-#[inline(never)]
-fn read_next_raw(to: End, fields: Option<&[u8]>, event: &mut Event) -> Result<(), LineCause>
-    ensures value { Becomes result (ScheduleLine.Step event.new) (raw_line to (fields_after fields.entry)) }
-    ensures unwritten { OnErr result (event.new ≡ event.old) }
-{
-    let mut frame = FrameBuf::new();
-    frame_field(fields, &mut frame)?;
-    *event = Event::Raw { to, frame };
-    Ok(())
-}
-
-/// The same where there was no event before.
+/// The same where the line before had no frame.
 #[inline(never)]
 fn read_first_raw(to: End, fields: Option<&[u8]>, says: &mut ScheduleLine) -> Result<(), LineCause>
     ensures value { Becomes result says.new (raw_line to (fields_after fields.entry)) }
