@@ -97,15 +97,13 @@ ranges_with-longer : (low high pairs : List ℕ) → 2 ≤ length pairs → IfOk
 ranges_with-longer low high pairs some = ranges_with-at low high pairs _ some (λ e. leb-true _ _ (and_parts _ _ e).1)
 
 rule_with_bytes-longer : (r : AppRule) (bytes : List ℕ) → 0 < length bytes → IfOk (rule_with_bytes r bytes) (λ r'. (rule_len r < rule_len r') × (rule_len r' ≤ 512))
-rule_with_bytes-longer (app_rule.Any n) bytes some = tt
 rule_with_bytes-longer (app_rule.Exact want) bytes some =
     IfOk-map (list_with want bytes) app_rule.Exact _ (IfOk-weaker (list_with want bytes) _ _ (λ all h. (omega (arith, h.0), h.1)) (list_with-longer want bytes))
-rule_with_bytes-longer (app_rule.Ranges low high) bytes some = tt
+rule_with_bytes-longer other bytes some = tt
 
 rule_with_pairs-longer : (r : AppRule) (pairs : List ℕ) → 2 ≤ length pairs → IfOk (rule_with_pairs r pairs) (λ r'. (rule_len r < rule_len r') × (rule_len r' ≤ 512))
-rule_with_pairs-longer (app_rule.Any n) pairs some = tt
-rule_with_pairs-longer (app_rule.Exact want) pairs some = tt
 rule_with_pairs-longer (app_rule.Ranges low high) pairs some = ranges_with-longer low high pairs some
+rule_with_pairs-longer other pairs some = tt
 
 -- what is taken of a line, whatever it says, or of which something is known
 taken_each : {A : Type 0} (r : Result A LineCause) (f : A → HeaderLine) (h : Heading) (P : Heading → Type 0) → ((x : A) → IfOk (taken h (f x)) P) → IfOk (map_ok f r >>= taken h) P

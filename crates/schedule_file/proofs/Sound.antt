@@ -187,15 +187,13 @@ pointwise_append (x ∷ low) (y ∷ high) lows highs a b = grind (arith, nat_tes
 
 -- a rule with one more line of its own
 bytes_acceptable : (r : AppRule) (bytes : List ℕ) → IfOk (rule_with_bytes r bytes) (λ all. IsTrue (is_acceptable all))
-bytes_acceptable (app_rule.Any n) bytes = tt
 bytes_acceptable (app_rule.Exact want) bytes = IfOk-map (list_with want bytes) app_rule.Exact _ (IfOk-every (list_with want bytes) _ (λ all. refl))
-bytes_acceptable (app_rule.Ranges low high) bytes = tt
+bytes_acceptable other bytes = tt
 
 pairs_acceptable : (r : AppRule) (pairs : List ℕ) → IsTrue (is_acceptable r) → IfOk (rule_with_pairs r pairs) (λ all. IsTrue (is_acceptable all))
-pairs_acceptable (app_rule.Any n) pairs is = tt
-pairs_acceptable (app_rule.Exact want) pairs is = tt
 pairs_acceptable (app_rule.Ranges low high) pairs is =
     ok_if (length pairs % 2 == 0 && pointwise nat_le (lows_of pairs) (highs_of pairs) && nat_le (length low + length pairs / 2) 512) (app_rule.Ranges (low ++ lows_of pairs) (high ++ highs_of pairs)) cause.Range _ (λ e. pointwise_append low high (lows_of pairs) (highs_of pairs) is (and_parts _ _ (and_parts _ _ e).0).1)
+pairs_acceptable other pairs is = tt
 
 -- a header after one more line
 profile_sound : (p : Place) (h : Heading) (n : ℕ) → Sound h → Sound (profile_taken p h n)

@@ -25,10 +25,7 @@ IsWritable (event.Deliver to back) = (0 < back) × (back ≤ MAX_BACK)
 IsWritable (event.Altered to back pos mask) = (0 < back) × (back ≤ MAX_BACK)
 IsWritable (event.Raw to frame) = (0 < length frame) × (length frame ≤ 255)
 IsWritable (event.Put at load) = (0 < length load) × (length load ≤ 126)
-IsWritable (event.Tick at) = Unit {0}
-IsWritable (event.Hold at failsafe) = Unit {0}
-IsWritable (event.Nonce at id) = Unit {0}
-IsWritable (event.Local at) = Unit {0}
+IsWritable other = Unit {0}
 
 -- an event that ends may have which send so many safe data bytes and have these profiles: an altered place is one of that
 -- direction's frame, a put has exactly as many bytes as the end sends, and the end's profile allows the session id
@@ -36,11 +33,7 @@ abbrev pub Suits : (End → ℕ) → (End → Profile) → Event → Type 0
 Suits sends profiles (event.Altered to back pos mask) = pos < delivered_len sends to
 Suits sends profiles (event.Put at load) = length load ≡ sends at
 Suits sends profiles (event.Nonce at id) = IsTrue (allows_id (profiles at) id)
-Suits sends profiles (event.Deliver to back) = Unit {0}
-Suits sends profiles (event.Raw to frame) = Unit {0}
-Suits sends profiles (event.Tick at) = Unit {0}
-Suits sends profiles (event.Hold at failsafe) = Unit {0}
-Suits sends profiles (event.Local at) = Unit {0}
+Suits sends profiles other = Unit {0}
 
 -- an event fits ends where a line can say it and they may have it
 abbrev pub Fits : (End → ℕ) → (End → Profile) → Event → Type 0

@@ -41,8 +41,6 @@ abbrev pub IsOfTypes : Event → Type 0
 IsOfTypes (event.Deliver to back) = back < 256
 IsOfTypes (event.Altered to back pos mask) = (back < 256) × (pos < 256) × (mask < 256)
 IsOfTypes (event.Raw to frame) = IsBytes frame
-IsOfTypes (event.Tick at) = Unit {0}
 IsOfTypes (event.Put at load) = IsBytes load
-IsOfTypes (event.Hold at failsafe) = Unit {0}
 IsOfTypes (event.Nonce at id) = id < 4294967296
-IsOfTypes (event.Local at) = Unit {0}
+IsOfTypes other = Unit {0}

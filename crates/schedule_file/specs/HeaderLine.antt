@@ -100,17 +100,15 @@ header_line word.Go fields = map_ok (λ _. says.Go) (no_field fields)
 -- a rule for any bytes is for at most 512
 abbrev pub RuleInRange : RuleLine → Type 0
 RuleInRange (rule.Any n) = n ≤ MAX_APP
-RuleInRange rule.Exact = Unit {0}
-RuleInRange rule.Ranges = Unit {0}
+RuleInRange other = Unit {0}
 
 -- the numbers of a line are in their ranges, and a list has at least one byte or pair
 abbrev pub InRange : HeaderLine → Type 0
 InRange (says.Lengths line) = IsTrue (is_length line.master) × IsTrue (is_length line.slave)
 InRange (says.Master line) = (0 < line.conn) × (0 < line.watchdog)
-InRange (says.Profile line) = Unit {0}
 InRange (says.App bytes) = 0 < length bytes
 InRange (says.Slave line) = (0 < line.hand) × (0 < line.most)
 InRange (says.Rule line) = RuleInRange line
 InRange (says.Bytes bytes) = 0 < length bytes
 InRange (says.Range pairs) = 2 ≤ length pairs
-InRange says.Go = Unit {0}
+InRange other = Unit {0}

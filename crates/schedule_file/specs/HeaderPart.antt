@@ -75,15 +75,13 @@ rule_begun rule.Ranges = app_rule.Ranges [] []
 
 -- a rule with the bytes of a `bytes` line, which follows `rule exact` alone
 abbrev pub rule_with_bytes : AppRule → List ℕ → Result AppRule LineCause
-rule_with_bytes (app_rule.Any n) bytes = Err cause.Header
 rule_with_bytes (app_rule.Exact want) bytes = map_ok app_rule.Exact (list_with want bytes)
-rule_with_bytes (app_rule.Ranges low high) bytes = Err cause.Header
+rule_with_bytes other bytes = Err cause.Header
 
 -- a rule with the pairs of a `range` line, which follows `rule ranges` alone
 abbrev pub rule_with_pairs : AppRule → List ℕ → Result AppRule LineCause
-rule_with_pairs (app_rule.Any n) pairs = Err cause.Header
-rule_with_pairs (app_rule.Exact want) pairs = Err cause.Header
 rule_with_pairs (app_rule.Ranges low high) pairs = ranges_with low high pairs
+rule_with_pairs other pairs = Err cause.Header
 
 -- the values of a master with the bytes of an `app` line
 abbrev pub master_with_app : MasterValues → List ℕ → Result MasterValues LineCause
