@@ -109,70 +109,56 @@ fn first_unlike(duo: &mut Duo, rows: &[Row]) -> Option<&'static str>
     None
 }
 
-/// Does the events until the first data of two new ends, and then these, of which there are at most four. The first whose entry has another
-/// line, None where each has its own.
-fn after_first_data(duo: &mut Duo, rows: &[Row]) -> Option<&'static str>
-    requires new { steps_done duo.old ≡ 0 }
+/// The number of the first other entry of two new ends over the events until the first data, and then over these. An error where an
+/// entry has another line.
+fn after_first_data(rows: &[Row]) -> Result<Option<u64>, Fail>
     requires few { length rows.now ≤ 4 }
 {
-    match first_unlike(duo, &UNTIL_DATA) {
-        Some(event) => Some(event),
-        None => first_unlike(duo, rows),
+    let mut duo = pair(2)?;
+    if let Some(event) = first_unlike(&mut duo, &UNTIL_DATA) {
+        return Err(event.into());
     }
+    if let Some(event) = first_unlike(&mut duo, rows) {
+        return Err(event.into());
+    }
+    Ok(duo.other())
 }
 
 #[test]
 fn both_ends_do_the_worked_schedules(rt: HostRuntime) -> Result<(), Fail> {
-    let mut duo = pair(2)?;
     let rows = [("ds -2", "s drop Repeat Data 0100")];
-    assert_eq!(rt; after_first_data(&mut duo, &rows), None);
-    assert_eq!(rt; duo.other(), None);
-    let mut duo = pair(2)?;
+    assert_eq!(rt; after_first_data(&rows)?, None);
     let rows = [
         SECOND_DATA,
         ("dm -1", "m took ProcessData Data 8000 > 360100e95d0100"),
         ("ds -3", "s reset found 04 Reset 0000 > 2a0400a6340000"),
     ];
-    assert_eq!(rt; after_first_data(&mut duo, &rows), None);
-    assert_eq!(rt; duo.other(), None);
-    let mut duo = pair(2)?;
+    assert_eq!(rt; after_first_data(&rows)?, None);
     let rows = [
         SECOND_DATA,
         OWN_RESET,
         ("dm -2", "m took ProcessData Data 8000 > 360100e95d0100"),
         ("dm -1", "m reset peer 00 Reset 0000 > 2a0000c42d0000"),
     ];
-    assert_eq!(rt; after_first_data(&mut duo, &rows), None);
-    assert_eq!(rt; duo.other(), None);
-    let mut duo = pair(2)?;
+    assert_eq!(rt; after_first_data(&rows)?, None);
     let rows = [
         OWN_RESET,
         OLD_SESSION,
         ("ds -1", "s reset found 01 Reset 0000 > 2a010047b70000"),
     ];
-    assert_eq!(rt; after_first_data(&mut duo, &rows), None);
-    assert_eq!(rt; duo.other(), None);
-    let mut duo = pair(2)?;
+    assert_eq!(rt; after_first_data(&rows)?, None);
     let rows = [
         ("hs 1", "s quiet Data 0100"),
         ("ds -1", "s took ProcessData Data 0100 > 080000f65b0100"),
         ("dm -1", "m took FailSafeData Data 0000 > 360100c0a40100"),
     ];
-    assert_eq!(rt; after_first_data(&mut duo, &rows), None);
-    assert_eq!(rt; duo.other(), None);
-    Ok(())
-}
-
-#[test]
-fn a_foreign_frame_that_passes_makes_an_other_entry(rt: HostRuntime) -> Result<(), Fail> {
-    let mut duo = pair(2)?;
+    assert_eq!(rt; after_first_data(&rows)?, None);
+    // A foreign frame that passes makes an other entry.
     let rows = [(
         "rs 36ff004ee90100",
         "s took ProcessData Data ff00 > 3680009fec0100",
     )];
-    assert_eq!(rt; after_first_data(&mut duo, &rows), None);
-    assert_eq!(rt; duo.other(), Some(20));
-    let mut duo = pair(2)?;
+    assert_eq!(rt; after_first_data(&rows)?, Some(20));
     let rows = [
         OWN_RESET,
         OLD_SESSION,
@@ -181,8 +167,7 @@ fn a_foreign_frame_that_passes_makes_an_other_entry(rt: HostRuntime) -> Result<(
             "s took Connection Connection 0000 > 64010093d60100",
         ),
     ];
-    assert_eq!(rt; after_first_data(&mut duo, &rows), None);
-    assert_eq!(rt; duo.other(), Some(22));
+    assert_eq!(rt; after_first_data(&rows)?, Some(22));
     Ok(())
 }
 
