@@ -117,7 +117,7 @@ pub delivered_entry : (s : Setup) (e : List Deed) (frames older : List (List ℕ
 delivered_entry s e frames older f d h k = ap (λ frames. entry_on s e (delivery (back_th 1 frames))) h ∙ ap (λ d. Some (entry_of s e d)) k
 
 -- the master's Reset frame comes to the slave
-pub asked_delivered : (ms : MasterSettings) (r : Partner ms) (w : List Entry) → IsAsked ms r (both ms r w) → Goes ms r w (event.Deliver end_name.Slave 1) end_name.Master
+pub asked_delivered : (ms : MasterSettings) (r : Partner ms) (w : List Entry) → IsAsked ms (both ms r w) → Goes ms r w (event.Deliver end_name.Slave 1) end_name.Master
 asked_delivered ms r w h =
     let es : List Deed = deeds end_name.Slave w in
     let f : List ℕ = reset_frame 0 ms.lengths.master in
@@ -149,7 +149,7 @@ asked_delivered ms r w h =
     )
 
 -- the slave's Reset frame comes to the master
-pub replied_delivered : (ms : MasterSettings) (r : Partner ms) (w : List Entry) → IsReplied ms r (both ms r w) → Goes ms r w (event.Deliver end_name.Master 1) end_name.Slave
+pub replied_delivered : (ms : MasterSettings) (r : Partner ms) (w : List Entry) → IsReplied ms (both ms r w) → Goes ms r w (event.Deliver end_name.Master 1) end_name.Slave
 replied_delivered ms r w h =
     let em : List Deed = deeds end_name.Master w in
     let es : List Deed = deeds end_name.Slave w in

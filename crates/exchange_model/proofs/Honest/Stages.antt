@@ -83,21 +83,21 @@ pub record LastIs (frames : List (List ℕ)) (f : List ℕ) : Type 0 where
   pub older : List (List ℕ)
   pub is : frames ≡ f ∷ older
 
--- the master's Reset frame is on its way
-pub record IsAsked (ms : MasterSettings) (r : Partner ms) (x : Both) : Type 0 where
+-- the newest of these frames and items is a Reset frame with l safe data bytes, and n deliveries came to the slave
+pub record IsBeginning (x : Both) (frames : List (List ℕ)) (items : List Item) (l n : ℕ) : Type 0 where
   pub outside : IsOutside x
-  pub last : LastIs x.master_sent (reset_frame 0 ms.lengths.master)
-  pub newest : NewestIs x.master_items (reset_frame 0 ms.lengths.master)
+  pub last : LastIs frames (reset_frame 0 l)
+  pub newest : NewestIs items (reset_frame 0 l)
   pub master_count : x.to_master ≡ 0
-  pub slave_count : x.to_slave ≡ 0
+  pub slave_count : x.to_slave ≡ n
+
+-- the master's Reset frame is on its way
+abbrev pub IsAsked : MasterSettings → Both → Type 0
+IsAsked ms x = IsBeginning x x.master_sent x.master_items ms.lengths.master 0
 
 -- the slave's Reset frame is on its way
-pub record IsReplied (ms : MasterSettings) (r : Partner ms) (x : Both) : Type 0 where
-  pub outside : IsOutside x
-  pub last : LastIs x.slave_sent (reset_frame 0 ms.lengths.slave)
-  pub newest : NewestIs x.slave_items (reset_frame 0 ms.lengths.slave)
-  pub master_count : x.to_master ≡ 0
-  pub slave_count : x.to_slave ≡ 1
+abbrev pub IsReplied : MasterSettings → Both → Type 0
+IsReplied ms x = IsBeginning x x.slave_sent x.slave_items ms.lengths.slave 1
 
 -- the master's frame number k, from 0, is on its way
 pub record IsDown (ms : MasterSettings) (r : Partner ms) (x : Both) : Type 0 where
@@ -146,8 +146,8 @@ pub record IsUp (ms : MasterSettings) (r : Partner ms) (x : Both) : Type 0 where
 
 -- a stage, with the end to which the frame goes
 pub data Stage (ms : MasterSettings) (r : Partner ms) (x : Both) : End → Type 0 where
-  Asked : IsAsked ms r x → Stage ms r x end_name.Slave
-  Replied : IsReplied ms r x → Stage ms r x end_name.Master
+  Asked : IsAsked ms x → Stage ms r x end_name.Slave
+  Replied : IsReplied ms x → Stage ms r x end_name.Master
   Down : IsDown ms r x → Stage ms r x end_name.Slave
   Up : IsUp ms r x → Stage ms r x end_name.Master
 
