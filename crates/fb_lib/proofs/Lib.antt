@@ -3,4 +3,3 @@ pub mod Hands
 pub mod Looking
 pub mod Calls
 pub mod Guarding
-pub mod WorkedRows

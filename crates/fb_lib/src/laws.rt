@@ -9,7 +9,7 @@ ghost use Rattle.fb_lib.specs.Guarded.{is_guarded, AreOff};
 ghost use Rattle.fb_lib.specs.Rows.{EstopRow, OnDelayRow, OffDelayRow, TwoHandRow, FeedbackRow};
 
 /// Worked rows of single blocks: the inputs cycle by cycle, and the values.
-#[tactic(auto, using(crate::proofs::WorkedRows::estop, crate::proofs::WorkedRows::on_delay, crate::proofs::WorkedRows::off_delay, crate::proofs::WorkedRows::two_hand, crate::proofs::WorkedRows::feedback))]
+#[tactic(auto, unfolding(crate::specs::Rows::EstopRow, crate::specs::Rows::OnDelayRow, crate::specs::Rows::OffDelayRow, crate::specs::Rows::TwoHandRow, crate::specs::Rows::FeedbackRow))]
 pub fn worked_rows()
     ensures estop { EstopRow }
     ensures on_delay { OnDelayRow }
