@@ -91,7 +91,7 @@ fn image_of(bytes: &[u8]) -> Image
     requires { length bytes.now ≤ 126 }
     ensures { result ≡ bytes.now }
 {
-    let mut image = Image::zeros(0);
+    let mut image = Image::new();
     image.set(bytes);
     image
 }

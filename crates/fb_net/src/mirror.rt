@@ -4,7 +4,7 @@ ghost use Rattle.fb_net.specs.Mirror.{mirrored, mirror_images};
 
 use crate::guards::is_same_bit;
 use failsafe_io::{Application, Bit};
-use fsoe_base::Image;
+use fsoe_base::{Image, MOST_DATA};
 
 /// Gives each connection its input bytes as its outputs where both are there, and 0 elsewhere. It guards each output bit by
 /// the same input bit.
@@ -21,10 +21,10 @@ fn byte_or_zero(bytes: &[u8], place: usize) -> u8
 
 /// These bytes as far as `len` goes, at most 126, and zeros behind them.
 fn mirrored(bytes: &[u8], len: usize) -> Image
-    requires { len ≤ 126 }
+    requires { len ≤ MOST_DATA }
     ensures { result ≡ mirrored bytes.now len }
 {
-    let mut image = Image::zeros(0);
+    let mut image = Image::new();
     for i in 0..len {
         image.push(byte_or_zero(bytes, i));
     }

@@ -7,7 +7,7 @@ use crate::kit::Kit;
 use crate::now::Now;
 use crate::states::{InConnection, InData, InParameter, InReset, InSession};
 use failsafe_io::zeros;
-use fsoe_base::{Code, FrameBuf, State};
+use fsoe_base::{Code, FrameBuf, MOST_DATA, State};
 use param_load::Terms;
 use seq_chain::reset_frame;
 
@@ -68,7 +68,7 @@ impl Due {
         requires under { NextUnder kit.now.settings self.now.next }
         ensures value { result.now ≡ outputs_in_next kit.now.settings self.now.next }
         ensures len { length result.now ≡ receives (OfMaster kit.now.settings) }
-        ensures most { length result.now ≤ 126 }
+        ensures most { length result.now ≤ MOST_DATA }
     {
         match &self.next {
             Next::Data(state) => state.outputs.bytes(),

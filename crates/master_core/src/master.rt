@@ -6,7 +6,7 @@ use crate::kit::Kit;
 use crate::now::Now;
 use crate::states::InReset;
 use failsafe_io::Watchdog;
-use fsoe_base::{Cause, Code, Command, Did, Dropped, FrameBuf, Image, State, Took};
+use fsoe_base::{Cause, Code, Command, Did, Dropped, FrameBuf, Image, MOST_DATA, State, Took};
 use fsoe_frame::FrameView;
 use param_load::{MasterSettings, Terms};
 use seq_chain::{Link, Opened, SessionFrame, open, reset_frame};
@@ -108,14 +108,14 @@ impl Master {
         ensures did { result ≡ (on_reset_view self.old code view.now).did }
     {
         if !self.state.is_reset() {
-            return self.end(false, Cause::Peer(code), Code(0x00));
+            return self.end(false, Cause::Peer(code), Code::LOCAL_RESET);
         }
         if code.0 != 0x00 {
             return Did::dropped(Dropped::InReset);
         }
         let mut took = Took {
             command: Command::Reset,
-            load: Image::zeros(0),
+            load: Image::new(),
         };
         view.load_into(&mut took.load);
         let mut last = FrameBuf::new();
@@ -161,7 +161,7 @@ impl Master {
             Opened::Refuse(code) => self.refuse(code),
             Opened::ResetFrame(code, view) => self.acknowledge(code, &view),
             Opened::OfSession(unread) => {
-                let mut load = Image::zeros(0);
+                let mut load = Image::new();
                 unread.load_into(&mut load);
                 let seen = SessionFrame::new(unread, &load);
                 match self.state.test(self.kit.settings(), &seen) {
@@ -268,7 +268,7 @@ impl Master {
         };
         let mut took = Took {
             command: unread.command(),
-            load: Image::zeros(0),
+            load: Image::new(),
         };
         unread.load_into(&mut took.load);
         let seen = SessionFrame::new(unread, &took.load);
@@ -338,13 +338,17 @@ impl Master {
             return Did::nothing();
         }
         if self.state.is_reset() {
-            reset_frame(Code(0x00), self.kit.settings().own_len(), out);
+            reset_frame(Code::LOCAL_RESET, self.kit.settings().own_len(), out);
             return Did {
                 sent: true,
                 ..Did::nothing()
             };
         }
-        self.fall(Cause::Found(Code(0x05)), Code(0x05), out)
+        self.fall(
+            Cause::Found(Code::WATCHDOG_EXPIRED),
+            Code::WATCHDOG_EXPIRED,
+            out,
+        )
     }
 
     /// Counts a tick while no frame is due. Where the age reaches the watchdog the session ends with code 5: the
@@ -370,7 +374,7 @@ impl Master {
         ensures kit { self.new.kit ≡ self.old.kit }
         ensures done { is_due self.new.state ≡ false }
     {
-        self.fall(Cause::Local, Code(0x00), out)
+        self.fall(Cause::Local, Code::LOCAL_RESET, out)
     }
 
     /// Offers these safe data from now on, as many as the master's frames have, also in a frame that is due. The
@@ -434,7 +438,7 @@ impl Master {
         ensures shown { Shows self.now result.now out }
         ensures shown_due { ShowsDue self.now result.now out }
         ensures len { length result.now ≡ receives (OfMaster self.now.kit.settings) }
-        ensures most { length result.now ≤ 126 }
+        ensures most { length result.now ≤ MOST_DATA }
     {
         self.state.outputs(&self.kit)
     }

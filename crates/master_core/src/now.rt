@@ -7,7 +7,7 @@ use crate::due::{Due, Next};
 use crate::kit::Kit;
 use crate::states::{InConnection, InData, InParameter, InReset, InSession};
 use failsafe_io::zeros;
-use fsoe_base::{Code, Command, FrameBuf, State};
+use fsoe_base::{Code, Command, FrameBuf, MOST_DATA, State};
 use param_load::{MasterSettings, Terms};
 use seq_chain::{Link, Session, SessionFrame, test_session};
 
@@ -125,7 +125,7 @@ impl Now {
         ensures under { IfOk result (λ next. NextUnder kit.now.settings next) }
     {
         match self {
-            Now::Reset(_) | Now::Due(_) => Err(Code(0x01)),
+            Now::Reset(_) | Now::Due(_) => Err(Code::COMMAND_NOT_ALLOWED),
             Now::Session(state) => state.take(seen, link, kit),
             Now::Connection(state) => state.take(seen, link, kit),
             Now::Parameter(state) => state.take(seen, link, kit),
@@ -168,7 +168,7 @@ impl Now {
         requires under { IsUnder kit.now.settings self.now }
         ensures value { result.now ≡ outputs_in kit.now.settings self.now }
         ensures len { length result.now ≡ receives (OfMaster kit.now.settings) }
-        ensures most { length result.now ≤ 126 }
+        ensures most { length result.now ≤ MOST_DATA }
     {
         match self {
             Now::Data(state) => state.outputs.bytes(),

@@ -264,7 +264,7 @@ impl InData {
         ensures under { DataUnder kit.now.settings self.new }
     {
         if !data_holds(seen.command(), seen.load()) {
-            return Err(Code(0x07));
+            return Err(Code::WRONG_DATA);
         }
         self.session.take(seen, link);
         self.outputs.take(seen.command(), seen.load());

@@ -15,7 +15,7 @@ use crate::field::{
     one_hex_field,
 };
 use crate::line_cause::LineCause;
-use fsoe_base::{End, FrameBuf, Image, Lengths};
+use fsoe_base::{End, FrameBuf, Image, Lengths, MOST_DATA};
 use param_load::Profile;
 
 /// Off or on.
@@ -152,11 +152,11 @@ pub fn read_put(
     ensures value { Becomes result says.new (put_line at count (fields_after fields.entry)) }
     ensures unwritten { OnErr result (says.new ≡ says.old) }
 {
-    let bytes = one_hex_field(fields, 126)?;
+    let bytes = one_hex_field(fields, MOST_DATA)?;
     if bytes.bytes().len() != count {
         return Err(LineCause::Length);
     }
-    let mut load = Image::zeros(0);
+    let mut load = Image::new();
     load.set(bytes.bytes());
     *says = ScheduleLine::Step(Event::Put { at, load });
     Ok(())

@@ -5,7 +5,7 @@ ghost use Rattle.schedule_file.specs.Field.{CountsBytes, fields_of, fields_after
 
 use crate::hex_digits::{are_digits, decode};
 use crate::line_cause::LineCause;
-use fsoe_base::FrameBuf;
+use fsoe_base::{FrameBuf, MOST_FRAME};
 use memchr::memchr;
 use std::marker::Model;
 
@@ -176,14 +176,14 @@ pub fn one_hex_field(fields: Option<&[u8]>, most: usize) -> Result<HexBytes, Lin
 /// `Hex`; the frame is then as it was.
 #[tactic(auto, using(crate::proofs::HexAlone::hex_said, crate::proofs::HexAlone::hex_unsaid))]
 pub fn frame_field(fields: Option<&[u8]>, frame: &mut FrameBuf) -> Result<(), LineCause>
-    ensures value { Becomes result frame.new (one_hex_field 255 (fields_after fields.entry)) }
-    ensures count { OnOk result ((0 < length frame.new) × (length frame.new ≤ 255)) }
+    ensures value { Becomes result frame.new (one_hex_field MOST_FRAME (fields_after fields.entry)) }
+    ensures count { OnOk result ((0 < length frame.new) × (length frame.new ≤ MOST_FRAME)) }
     ensures unwritten { OnErr result (frame.new ≡ frame.old) }
 {
     let Some(text) = fields else {
         return Err(LineCause::Fields);
     };
-    match count_bytes(text, 255) {
+    match count_bytes(text, MOST_FRAME) {
         Some(len) => {
             frame.resize(len);
             decode(text, frame.bytes_mut());

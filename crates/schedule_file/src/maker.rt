@@ -148,7 +148,7 @@ fn altered_to(to: End, word: u32) -> Event
 fn put_at(at: End, word: u32) -> Event
     ensures { result ≡ event.Put at (load_of word) }
 {
-    let mut load = Image::zeros(0);
+    let mut load = Image::new();
     load.push(((word >> 8) % 256) as u8);
     load.push(((word >> 16) % 256) as u8);
     Event::Put { at, load }

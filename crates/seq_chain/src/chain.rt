@@ -85,7 +85,7 @@ impl Chain {
         requires { conn ≡ view.now.conn }
         ensures { result ≡ fits_next self.now view.now }
     {
-        let mut load = Image::zeros(0);
+        let mut load = Image::new();
         view.load_into(&mut load);
         self.link(view, conn, load.bytes()).is_some()
     }
@@ -96,7 +96,7 @@ impl Chain {
         requires tested { IsTrue (fits_next self.old view.now) }
         ensures { self.new ≡ after_taken self.old view.now }
     {
-        let mut load = Image::zeros(0);
+        let mut load = Image::new();
         view.load_into(&mut load);
         self.taken = self.link(view, conn, load.bytes());
     }

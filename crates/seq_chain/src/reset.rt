@@ -10,7 +10,7 @@ ghost use Rattle.seq_chain.specs.Reset as reset;
 use crate::compare::crcs_are;
 use crate::cover::{Crcs, crcs_into};
 use arrayvec::ArrayVec;
-use fsoe_base::{Code, Command, FrameBuf, Image, is_all_zero};
+use fsoe_base::{Code, Command, FrameBuf, Image, MOST_DATA, is_all_zero};
 use fsoe_frame::FrameView;
 
 /// The connection id isn't 0.
@@ -43,7 +43,7 @@ pub fn reset_view(view: &FrameView<'_>) -> Result<Code, Code>
     if view.conn() != 0 {
         return Err(WRONG_CONNECTION);
     }
-    let mut load = Image::zeros(0);
+    let mut load = Image::new();
     view.load_into(&mut load);
     let mut crcs = ArrayVec::new();
     crcs_of_reset(load.bytes(), &mut crcs);
@@ -68,10 +68,10 @@ fn crcs_of_reset(load: &[u8], out: &mut Crcs)
 /// The data of a Reset frame.
 fn data_of(code: Code, l: usize) -> Image
     requires least { 0 < l }
-    requires most { l ≤ 126 }
+    requires most { l ≤ MOST_DATA }
     ensures { result ≡ reset_load code.0 l }
 {
-    let mut load = Image::zeros(0);
+    let mut load = Image::new();
     load.push(code.0);
     for _ in 1..l {
         load.push(0);

@@ -84,17 +84,17 @@ pub fn test_session(
     ensures allowed { IfOk result (λ link. IsTrue is_allowed) }
 {
     if !is_allowed {
-        return Err(Code(0x01));
+        return Err(Code::COMMAND_NOT_ALLOWED);
     }
     if !has_conn {
-        return Err(Code(0x03));
+        return Err(Code::WRONG_CONNECTION);
     }
     let link = match session {
         None => Chain::new().test_frame(frame),
         Some(session) => session.chain.test_frame(frame),
     };
     match link {
-        None => Err(Code(0x04)),
+        None => Err(Code::WRONG_CRC),
         Some(link) => Ok(link),
     }
 }

@@ -1,5 +1,5 @@
 //! A frame of a session, and the same before its safe data are read.
-use fsoe_base::{Command, Image};
+use fsoe_base::{Command, Image, MOST_DATA, MOST_FRAME};
 use fsoe_frame::FrameView;
 use std::marker::Model;
 
@@ -117,7 +117,7 @@ impl<'a> SessionFrame<'a> {
     /// The safe data of the frame, as many as a frame can have, with a CRC for each group.
     pub fn load(&self) -> &[u8]
         ensures value { result.now ≡ self.now.frame.load }
-        ensures most { length result.now ≤ 126 }
+        ensures most { length result.now ≤ MOST_DATA }
         ensures valid { IsTrue (is_length (length result.now)) }
         ensures groups { length self.now.frame.crcs ≡ group_count (length result.now) }
     {
@@ -127,7 +127,7 @@ impl<'a> SessionFrame<'a> {
     /// The bytes of the frame, at most 255.
     pub fn bytes(&self) -> &[u8]
         ensures value { result.now ≡ bytes_of self.now.frame }
-        ensures most { length result.now ≤ 255 }
+        ensures most { length result.now ≤ MOST_FRAME }
     {
         self.view.bytes()
     }

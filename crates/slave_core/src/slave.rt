@@ -6,7 +6,7 @@ use crate::now::Now;
 use crate::seen::Seen;
 use crate::states::InReset;
 use failsafe_io::{Watchdog, zeros};
-use fsoe_base::{Cause, Code, Command, Did, Dropped, FrameBuf, Image, State, Took};
+use fsoe_base::{Cause, Code, Command, Did, Dropped, FrameBuf, Image, MOST_DATA, State, Took};
 use fsoe_frame::FrameView;
 use param_load::{SlaveSettings, Terms};
 use seq_chain::{Opened, SessionFrame, open, reset_frame};
@@ -105,14 +105,14 @@ impl Slave {
         if self.state.is_reset() {
             let mut took = Took {
                 command: Command::Reset,
-                load: Image::zeros(0),
+                load: Image::new(),
             };
             view.load_into(&mut took.load);
             self.forget();
-            reset_frame(Code(0x00), self.kit.settings().own_len(), out);
+            reset_frame(Code::LOCAL_RESET, self.kit.settings().own_len(), out);
             return Did::taken(took, false);
         }
-        self.fall(false, Cause::Peer(code), Code(0x00), out)
+        self.fall(false, Cause::Peer(code), Code::LOCAL_RESET, out)
     }
 
     /// Takes a frame that passed the tests, unless its contents are wrong, by a move of the state, whose cost no data
@@ -173,7 +173,7 @@ impl Slave {
         };
         let mut took = Took {
             command: unread.command(),
-            load: Image::zeros(0),
+            load: Image::new(),
         };
         unread.load_into(&mut took.load);
         let frame = SessionFrame::new(unread, &took.load);
@@ -219,7 +219,12 @@ impl Slave {
         if self.state.is_reset() || !self.watchdog.tick() {
             return Did::nothing();
         }
-        self.fall(false, Cause::Found(Code(0x05)), Code(0x05), out)
+        self.fall(
+            false,
+            Cause::Found(Code::WATCHDOG_EXPIRED),
+            Code::WATCHDOG_EXPIRED,
+            out,
+        )
     }
 
     /// Counts a tick outside state Reset. Where the age reaches the limit the session ends with code 5: the
@@ -240,7 +245,7 @@ impl Slave {
         ensures answers { Answers self.old event.Local result out.new }
         ensures kit { self.new.kit ≡ self.old.kit }
     {
-        self.fall(false, Cause::Local, Code(0x00), out)
+        self.fall(false, Cause::Local, Code::LOCAL_RESET, out)
     }
 
     /// Offers these safe data from now on, as many as the slave's frames have. The offer outlasts resets.
@@ -293,7 +298,7 @@ impl Slave {
     pub fn outputs(&self) -> &[u8]
         ensures shown { Shows self.now result.now looking_back.out }
         ensures len { length result.now ≡ receives (OfSlave self.now.kit.settings) }
-        ensures most { length result.now ≤ 126 }
+        ensures most { length result.now ≤ MOST_DATA }
     {
         self.outputs_now()
     }
@@ -302,7 +307,7 @@ impl Slave {
     fn outputs_now(&self) -> &[u8]
         ensures value { result.now ≡ outputs_in self.now.kit.settings self.now.state }
         ensures len { length result.now ≡ receives (OfSlave self.now.kit.settings) }
-        ensures most { length result.now ≤ 126 }
+        ensures most { length result.now ≤ MOST_DATA }
     {
         let len = self.kit.settings().peer_len();
         match &self.state {

@@ -430,7 +430,7 @@ impl InData {
     {
         let frame = &seen.frame;
         if !data_holds(frame.command(), frame.load()) {
-            return Err(Code(0x07));
+            return Err(Code::WRONG_DATA);
         }
         let offer = kit.offer();
         self.session.take(frame, seen.link);
