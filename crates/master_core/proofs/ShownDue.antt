@@ -16,7 +16,7 @@ use Rattle.master_core.specs.Kit.{KitView}
 use Rattle.master_core.specs.Master.{replies}
 use Rattle.master_core.specs.MasterView.{MasterView}
 use Rattle.master_core.specs.Now as machine
-use Rattle.master_core.specs.Now.{is_reset, is_due, kept_in, fault, next_state}
+use Rattle.master_core.specs.Now.{is_due}
 use Rattle.master_core.specs.Standing.{Shows}
 use Rattle.master_core.specs.ViewOf.{Notes, notes_of, now_in, view_of}
 use Rattle.master_core.specs.Waiting.{Delivery, with_delivery, Waits, ShowsDue}
