@@ -1,7 +1,7 @@
 //! The five states of a master. A state is made by the transitions of this crate alone, and owns what it needs. A
 //! transition takes an answer that passed the tests in this state, with what the chain notes of it, and gives what is to
 //! be sent next, or the code of the test of the answer's contents that fails.
-ghost use Rattle.std.specs.Prelude.{◌≡◌, ◌≤◌, IfOk, OnOk, OnErr, length};
+ghost use Rattle.std.specs.Prelude.{◌≡◌, IfOk, OnOk, OnErr};
 ghost use Rattle.fsoe_base.specs.declared.command.Command.TheVariants as command;
 ghost use Rattle.param_load.specs.Download.{outcome};
 ghost use Rattle.seq_chain.specs.Session.{HasPassed};

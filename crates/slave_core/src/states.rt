@@ -2,7 +2,7 @@
 //! A transition takes a frame that passed the tests in this state, and gives the next state with the answer, or
 //! state Reset with the code of the first test of the frame's contents that fails; then nothing is written, and `out`
 //! keeps what it held.
-ghost use Rattle.std.specs.Prelude.{◌≡◌, ◌<◌, IsTrue, IfOk, OnOk, OnErr, false};
+ghost use Rattle.std.specs.Prelude.{◌≡◌, IsTrue, IfOk, OnOk, OnErr, false};
 ghost use Rattle.param_load.specs.Upload.{is_whole};
 ghost use Rattle.seq_chain.specs.Chain.{fresh};
 ghost use Rattle.seq_chain.specs.Session.{HasPassed};
