@@ -12,7 +12,7 @@ use Rattle.schedule_file.specs.Header.{Heading, heading_after}
 use Rattle.schedule_file.specs.Input.{Long, NoNewline, Line, lines_of}
 use Rattle.schedule_file.specs.declared.line_cause.LineCause.{LineCause}
 use Rattle.file_run.specs.Cause.{input_cause}
-use Rattle.file_run.specs.Event.{Finds, says_after, says_by, in_input}
+use Rattle.file_run.specs.Event.{FindsEvent, says_after, says_by, in_input}
 use Rattle.file_run.specs.HaltOf.{halt_of}
 use Rattle.file_run.specs.Header.{FindsHeading, heading_by, heading_by_itself}
 use Rattle.file_run.specs.NextLine.{FindsLine, first_line}
@@ -34,7 +34,7 @@ no_header_line h next (halt.Read lines) text old new finds = tt
 no_header_line h next (halt.Refused number why) text old new finds = IfSome_then old finds (λ input e. ap (heading_by h) e)
 
 -- and no next event
-pub no_event_line : (grammar : Grammar) (events : ℕ) (why : Halt) (text : List ℕ) (old new : Option (List ℕ)) → FindsLine (Err why) text old new → Finds grammar events (Err why) old new
+pub no_event_line : (grammar : Grammar) (events : ℕ) (why : Halt) (text : List ℕ) (old new : Option (List ℕ)) → FindsLine (Err why) text old new → FindsEvent grammar events (Err why) old new
 no_event_line grammar events (halt.Read lines) text old new finds = tt
 no_event_line grammar events (halt.Refused number why) text old new finds = IfSome_then old finds (λ input e. ap (says_by grammar events) e)
 

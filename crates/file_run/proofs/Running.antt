@@ -20,7 +20,7 @@ use Rattle.schedule_file.specs.declared.event.ScheduleLine.TheVariants as line
 use Rattle.schedule_file.specs.declared.header_kind.HeaderKind.{HeaderKind}
 use Rattle.file_run.specs.Cause.{input_cause}
 use Rattle.file_run.specs.Ending.{Halts, Writes}
-use Rattle.file_run.specs.Event.{Finds, FitsGrammar}
+use Rattle.file_run.specs.Event.{FindsEvent, FitsGrammar}
 use Rattle.file_run.specs.Halt.{Blames, Goes, Stalls}
 use Rattle.file_run.specs.Header.{ReadsHeader, IsHeaderCutOff}
 use Rattle.file_run.specs.Machine.{GoesOn, IsGrammarOf, MayCome}
@@ -28,7 +28,7 @@ use Rattle.file_run.specs.Outside.{Outside, Wrote}
 use Rattle.file_run.specs.Ran.{CameToEnd, EndsAs, EndsWhole, ReportsReadLines}
 use Rattle.file_run.specs.Report.{refused_line}
 use Rattle.file_run.specs.Reporting.{BeginsReport, EndsReport, EndsUnsent, Reporting, ReportsSoFar, input_headless, input_stopped, refused_at}
-use Rattle.file_run.specs.Stop.{ended_by, last_of}
+use Rattle.file_run.specs.Stop.{halted_by, last_of}
 use Rattle.file_run.specs.WholeLines.{TookLines}
 use Rattle.file_run.specs.declared.event.Grammar.{Grammar}
 use Rattle.file_run.specs.declared.halt.Halt.{Halt}
@@ -125,11 +125,11 @@ event_may_come r stands grammar left0 left w0 w waiting events lines event k fit
 }
 
 -- the events are counted by their list
-found_at : (grammar : Grammar) (n events : ℕ) (said : ScheduleLine) (b c : Option (List ℕ)) → n ≡ events → Finds grammar events (Ok said) b c → Finds grammar n (Ok said) b c
-found_at grammar n events said b c e finds = subst (λ (k : ℕ). Finds grammar k (Ok said) b c) (sym e) finds
+found_at : (grammar : Grammar) (n events : ℕ) (said : ScheduleLine) (b c : Option (List ℕ)) → n ≡ events → FindsEvent grammar events (Ok said) b c → FindsEvent grammar n (Ok said) b c
+found_at grammar n events said b c e finds = subst (λ (k : ℕ). FindsEvent grammar k (Ok said) b c) (sym e) finds
 
 event_seen : (r : Reporting) (stands : Standing) (grammar : Grammar) (left0 b c w0 w : Option (List ℕ)) (waiting : Waiting) (events lines : ℕ) (event : Event) (k : Running r stands grammar left0 b w0 w waiting events lines)
-    → Finds grammar events (Ok (line.Step event)) b c → events < 200000 → Seen r.kind k.heading k.header left0 c (k.log ++ event ∷ [])
+    → FindsEvent grammar events (Ok (line.Step event)) b c → events < 200000 → Seen r.kind k.heading k.header left0 c (k.log ++ event ∷ [])
 event_seen r stands grammar left0 b c w0 w waiting events lines event k finds few =
     let says : said_after r.kind k.heading finds.0 ≡ Ok (line.Step event) =
     sym (grammar_after r.kind k.heading grammar k.is_of finds.0) ∙ says_event grammar events finds.0 event finds.3 in
@@ -137,7 +137,7 @@ event_seen r stands grammar left0 b c w0 w waiting events lines event k finds fe
 
 -- the machine did it, and its line waits
 pub running_event : (r : Reporting) (old new : Standing) (grammar : Grammar) (left0 b c w0 w1 w2 : Option (List ℕ)) (waiting now : Waiting) (events lines next : ℕ) (event : Event) (piece : List ℕ)
-    → Running r old grammar left0 b w0 w1 waiting events lines → Finds grammar events (Ok (line.Step event)) b c → events < 200000 → next ≡ lines + 1 → GoesOn old new event (events + 1) piece
+    → Running r old grammar left0 b w0 w1 waiting events lines → FindsEvent grammar events (Ok (line.Step event)) b c → events < 200000 → next ≡ lines + 1 → GoesOn old new event (events + 1) piece
     → Passes waiting now w1 w2 piece now.bytes → now.sent + length now.bytes ≡ waiting.sent + length waiting.bytes + length piece → length piece ≤ 1024
     → Running r new grammar left0 c w0 w2 now (events + 1) next
 running_event r old new grammar left0 b c w0 w1 w2 waiting now events lines next event piece k finds few step on p size short = record {
@@ -191,7 +191,7 @@ ends_unsent r stands grammar o left w1 waiting now events lines rest ended repor
 
 -- the line of an event could not be written
 pub ends_lost : (r : Reporting) (old new : Standing) (grammar : Grammar) (o : Outside) (b c w1 : Option (List ℕ)) (waiting now : Waiting) (events lines : ℕ) (event : Event) (piece rest : List ℕ) (ended : Ended) → Reports r new
-    → Running r old grammar o.source.before b o.sink.before w1 waiting events lines → Finds grammar events (Ok (line.Step event)) b c → events < 200000 → GoesOn old new event (events + 1) piece
+    → Running r old grammar o.source.before b o.sink.before w1 waiting events lines → FindsEvent grammar events (Ok (line.Step event)) b c → events < 200000 → GoesOn old new event (events + 1) piece
     → Passes waiting now w1 o.sink.after piece rest → ended.status ≡ status.Write → ended.place ≡ now.sent → Rose o.sink.faults_before o.sink.faults_after → EndsAs r ended.status ended o
 ends_lost r old new grammar o b c w1 waiting now events lines event piece rest ended reports k finds few on p e place rose =
     let part = sent_part o.sink.before w1 o.sink.after waiting now k.text piece rest k.sent p in
@@ -232,7 +232,7 @@ ends_reported r o w1 faults waiting text last ended result sent writes later who
 
 -- the line `end` comes
 pub ends_at_end : (r : Reporting) (stands : Standing) (grammar : Grammar) (o : Outside) (b c w1 : Option (List ℕ)) (faults : ℕ) (waiting : Waiting) (events lines : ℕ) (last : List ℕ) (ended result : Ended)
-    → Running r stands grammar o.source.before b o.sink.before w1 waiting events lines → Finds grammar events (Ok line.End) b c
+    → Running r stands grammar o.source.before b o.sink.before w1 waiting events lines → FindsEvent grammar events (Ok line.End) b c
     → ((h : Heading) (log : List Event) (text : List ℕ) → length log ≡ events → stands h log text → EndsReport r h log (text ++ last) ended)
     → ((h : Heading) (log : List Event) (text : List ℕ) → stands h log text → EndsWhole r.judges ended.status ended.place)
     → Writes waiting.sent (waiting.bytes ++ last) ended result (record { before = w1; after = o.sink.after; faults_before = faults; faults_after = o.sink.faults_after }) → o.sink.faults_before ≤ faults
@@ -248,7 +248,7 @@ ends_at_end r stands grammar o b c w1 faults waiting events lines last ended res
 
 -- an event comes whose frame wasn't sent
 pub ends_missed : (r : Reporting) (stands : Standing) (grammar : Grammar) (o : Outside) (b c w1 : Option (List ℕ)) (faults : ℕ) (waiting : Waiting) (events lines number : ℕ) (event : Event) (result : Ended)
-    → Running r stands grammar o.source.before b o.sink.before w1 waiting events lines → Finds grammar events (Ok (line.Step event)) b c → events < 200000 → number ≡ lines + 1
+    → Running r stands grammar o.source.before b o.sink.before w1 waiting events lines → FindsEvent grammar events (Ok (line.Step event)) b c → events < 200000 → number ≡ lines + 1
     → ((h : Heading) (log : List Event) (text : List ℕ) → stands h log text → EndsUnsent r h log text event)
     → Writes waiting.sent (waiting.bytes ++ refused_line number NoFrame) (refused_at number) result (record { before = w1; after = o.sink.after; faults_before = faults; faults_after = o.sink.faults_after })
     → o.sink.faults_before ≤ faults → EndsAs r result.status result o
@@ -295,16 +295,16 @@ begins_nothing r told text begins = subst (λ (z : List ℕ). IfSome told (λ in
 
 -- the input goes no further
 pub ends_halted : (r : Reporting) (stands : Standing) (grammar : Grammar) (o : Outside) (b : Option (List ℕ)) (held : List ℕ) (w1 : Option (List ℕ)) (read faults : ℕ) (waiting : Waiting) (events lines now : ℕ) (why : Halt) (result : Ended) → Reports r stands
-    → Running r stands grammar o.source.before b o.sink.before w1 waiting events lines → Finds grammar events (Err why) b (prepend_known held o.source.after)
+    → Running r stands grammar o.source.before b o.sink.before w1 waiting events lines → FindsEvent grammar events (Err why) b (prepend_known held o.source.after)
     → Goes {T = Unit {0}} (Err why) lines now b (prepend_known held o.source.after) → Stalls {T = Unit {0}} (Err why) held → Blames {T = Unit {0}} (Err why) read o.source.faults_after → o.source.faults_before ≤ read
-    → Writes waiting.sent (waiting.bytes ++ last_of why) (ended_by why) result (record { before = w1; after = o.sink.after; faults_before = faults; faults_after = o.sink.faults_after }) → o.sink.faults_before ≤ faults
+    → Writes waiting.sent (waiting.bytes ++ last_of why) (halted_by why) result (record { before = w1; after = o.sink.after; faults_before = faults; faults_after = o.sink.faults_after }) → o.sink.faults_before ≤ faults
     → EndsAs r result.status result o
 ends_halted r stands grammar o b held w1 read faults waiting events lines now (halt.Read count) result reports k finds goes stalls blames read_later writes later =
     let place : k.header + length k.log ≡ count = omega (arith, k.lined, k.count, goes.0) in
     let so_far = reports k.heading k.log k.text k.stood in
     let reads = subst (λ (n : ℕ). IfSome o.source.before (λ input. ReportsReadLines r n input o.source.after k.text)) place
     (reads_failed r o b held k.heading k.header k.log grammar k.text k.is_of k.seen (omega (arith, k.count, k.few)) so_far goes.1 stalls) in
-    ends_written r o w1 faults waiting k.text [] (ended_by (halt.Read count)) result k.sent writes later
+    ends_written r o w1 faults waiting k.text [] (halted_by (halt.Read count)) result k.sent writes later
     (begins_nothing r o.source.before k.text (begun r stands grammar o.source.before b o.sink.before w1 waiting events lines reports k))
     (λ grew. record {
       read = (held, stalls, subst (λ (n : ℕ). TookLines n o.source.before (prepend_known held o.source.after)) (sym goes.0) (took_still lines o.source.before b (prepend_known held o.source.after) k.took goes.1));
@@ -314,8 +314,8 @@ ends_halted r stands grammar o b held w1 read faults waiting events lines now (h
 ends_halted r stands grammar o b held w1 read faults waiting events lines now (halt.Refused number why) result reports k finds goes stalls blames read_later writes later =
     let place : k.header + length k.log + 1 ≡ number = omega (arith, k.lined, k.count, goes) in
     let so_far = reports k.heading k.log k.text k.stood in
-    let found : Finds grammar (length k.log) (Err (halt.Refused number why)) b (prepend_known held o.source.after) =
-    subst (λ (n : ℕ). Finds grammar n (Err (halt.Refused number why)) b (prepend_known held o.source.after)) (sym k.count) finds in
+    let found : FindsEvent grammar (length k.log) (Err (halt.Refused number why)) b (prepend_known held o.source.after) =
+    subst (λ (n : ℕ). FindsEvent grammar n (Err (halt.Refused number why)) b (prepend_known held o.source.after)) (sym k.count) finds in
     let stops : IfSome b (λ rest. input_on r.kind k.heading k.header k.log (lines_of rest) ≡ input_stopped k.heading k.header k.log (Refused number (input_cause why))) =
     IfSome_then b found (λ rest first.
     input_refused r.kind k.heading grammar k.header k.log (lines_of rest) (input_cause why) (grammar_after r.kind k.heading grammar k.is_of) (omega (arith, k.count, k.few)) first
@@ -355,10 +355,10 @@ header_cut_off r (Some xs) left held count has cut none =
 
 pub header_halted : (r : Reporting) (o : Outside) (held : List ℕ) (faults : ℕ) (waiting : Waiting) (lines : ℕ) (why : Halt) (result : Ended) → HasReports r → ReadsHeader r.kind (Err why) lines o.source.before (prepend_known held o.source.after)
     → Halts {T = Unit {0}} (Err why) o.source.before o.source.after → Stalls {T = Unit {0}} (Err why) held → Blames {T = Unit {0}} (Err why) o.source.faults_before o.source.faults_after → waiting.bytes ≡ [] → waiting.sent ≡ 0
-    → Writes waiting.sent (waiting.bytes ++ last_of why) (ended_by why) result (record { before = o.sink.before; after = o.sink.after; faults_before = faults; faults_after = o.sink.faults_after }) → o.sink.faults_before ≤ faults
+    → Writes waiting.sent (waiting.bytes ++ last_of why) (halted_by why) result (record { before = o.sink.before; after = o.sink.after; faults_before = faults; faults_after = o.sink.faults_after }) → o.sink.faults_before ≤ faults
     → EndsAs r result.status result o
 header_halted r o held faults waiting lines (halt.Read count) result has heads halts stalls blames none sent writes later =
-    ends_written r o o.sink.before faults waiting [] [] (ended_by (halt.Read count)) result (sent_none o.sink.before waiting none sent) writes later (nothing_begins r o.source.before has)
+    ends_written r o o.sink.before faults waiting [] [] (halted_by (halt.Read count)) result (sent_none o.sink.before waiting none sent) writes later (nothing_begins r o.source.before has)
     (λ grew. record { read = halts; wrote = wrote_read r count o [] grew (header_cut_off r o.source.before o.source.after held count has heads stalls); cause = blames })
 header_halted r o held faults waiting lines (halt.Refused number why) result has heads halts stalls blames none sent writes later =
     ends_reported r o o.sink.before faults waiting [] (refused_line number (input_cause why)) (refused_at number) result (sent_none o.sink.before waiting none sent) writes later

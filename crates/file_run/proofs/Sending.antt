@@ -65,7 +65,7 @@ begins_whole r input ended text report = (text, ended, report, ([], sym (append-
 
 -- a count that rose since a later time rose since an earlier one
 pub rose_since : (first before now : ℕ) → first ≤ before → Rose before now → Rose first now
-rose_since first before now later rose = omega (arith, rose)
+rose_since first before now later rose = λ below. let above = rose below in omega (arith, above, later)
 
 -- a write failed
 pub ends_write : (r : Reporting) (o : Outside) (ended : Ended) (whole : List ℕ) → ended.status ≡ status.Write → Part o.sink.before o.sink.after ended.place whole

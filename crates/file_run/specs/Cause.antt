@@ -9,7 +9,7 @@ use Rattle.file_run.specs.declared.cause.Cause.TheVariants as cause
 abbrev pub input_cause : Cause → input.InputCause
 input_cause cause.Long = input.Long
 input_cause cause.NoNewline = input.NoNewline
-input_cause cause.End = input.NoLine
+input_cause cause.NoLine = input.NoLine
 input_cause cause.TooMany = input.TooMany
 input_cause cause.NoFrame = input.NoFrame
 input_cause (cause.Line why) = input.Line why

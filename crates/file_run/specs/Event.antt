@@ -10,6 +10,7 @@ use Rattle.schedule_file.specs.Event.{LineFits, PairLineFits, profile_of}
 use Rattle.schedule_file.specs.Header.{Heading}
 use Rattle.schedule_file.specs.Input.{InputCause, lines_of, said_by, said_after}
 use Rattle.schedule_file.specs.declared.event.ScheduleLine.{ScheduleLine}
+use Rattle.schedule_file.specs.declared.event.TheConstants.{MAX_EVENTS}
 use Rattle.schedule_file.specs.declared.event.ScheduleLine.TheVariants as line
 use Rattle.schedule_file.specs.declared.header_kind.HeaderKind.{HeaderKind}
 use Rattle.schedule_file.specs.declared.header_kind.HeaderKind.TheVariants as kind
@@ -41,7 +42,7 @@ FitsGrammar grammar said = FitsKind grammar.kind grammar.lengths grammar.profile
 
 -- a further event stands after fewer than 200,000
 abbrev pub IsWithin : ℕ → ScheduleLine → Type 0
-IsWithin events (line.Step event) = events < 200000
+IsWithin events (line.Step event) = events < MAX_EVENTS
 IsWithin events line.End = Unit {0}
 
 -- where a line is refused, the cause lies in the line by itself
@@ -57,7 +58,7 @@ what_says (Err why) said = Err why
 -- what a line says by a grammar after so many events: where these are 200,000, only the very line `end` may come
 abbrev pub says_after : Grammar → ℕ → List ℕ → Result ScheduleLine Cause
 says_after grammar events text =
-    if nat_lt events 200000 then by_itself (says grammar text)
+    if nat_lt events MAX_EVENTS then by_itself (says grammar text)
     else if bytes_eq text (codes "end") then Ok line.End
     else Err cause.TooMany
 
@@ -72,7 +73,7 @@ says_by grammar events (Ok text) = in_input (says_after grammar events text)
 says_by grammar events (Err why) = Err why
 
 -- the next line says this after so many events, or is refused for this cause
-abbrev pub Finds : Grammar → ℕ → Result ScheduleLine Halt → Option (List ℕ) → Option (List ℕ) → Type 0
-Finds grammar events (Ok says) old new = (text : List ℕ) × IsLine text × Consumes old new (text ++ 10 ∷ []) × (says_after grammar events text ≡ Ok says)
-Finds grammar events (Err (halt.Read lines)) old new = Unit {0}
-Finds grammar events (Err (halt.Refused number why)) old new = IfSome old (λ input. says_by grammar events (first_line (lines_of input)) ≡ Err (input_cause why))
+abbrev pub FindsEvent : Grammar → ℕ → Result ScheduleLine Halt → Option (List ℕ) → Option (List ℕ) → Type 0
+FindsEvent grammar events (Ok says) old new = (text : List ℕ) × IsLine text × Consumes old new (text ++ 10 ∷ []) × (says_after grammar events text ≡ Ok says)
+FindsEvent grammar events (Err (halt.Read lines)) old new = Unit {0}
+FindsEvent grammar events (Err (halt.Refused number why)) old new = IfSome old (λ input. says_by grammar events (first_line (lines_of input)) ≡ Err (input_cause why))

@@ -7,6 +7,7 @@ use Rattle.schedule_file.specs.Header.{Heading}
 use Rattle.schedule_file.specs.HeaderKind.{has_end}
 use Rattle.schedule_file.specs.Input.{own_length, heading_profile}
 use Rattle.schedule_file.specs.declared.event.Event.{Event}
+use Rattle.schedule_file.specs.declared.event.TheConstants.{MAX_EVENTS}
 use Rattle.schedule_file.specs.declared.event.ScheduleLine.TheVariants as line
 use Rattle.schedule_file.specs.declared.header_kind.HeaderKind.{HeaderKind}
 use Rattle.file_run.specs.Event.{FitsGrammar}
@@ -28,7 +29,7 @@ pub record MayCome (old : Heading → List Event → List ℕ → Type 0) (kind 
   pub is_of : IsGrammarOf kind heading grammar
   pub fits : FitsGrammar grammar (line.Step event)
   pub number_is : number ≡ length log + 1
-  pub few : number ≤ 200000
+  pub few : number ≤ MAX_EVENTS
 
 -- a machine that stood for some events stands, after the event of this number, for these and it, with this line more
 pub record GoesOn (old new : Heading → List Event → List ℕ → Type 0) (event : Event) (number : ℕ) (piece : List ℕ) : Type 0 where

@@ -8,9 +8,9 @@ use Rattle.file_run.specs.declared.halt.Halt.{Halt}
 use Rattle.file_run.specs.declared.halt.Halt.TheVariants as halt
 
 -- a failed read is at the whole lines before it, a refusal at its line
-abbrev pub ended_by : Halt → Ended
-ended_by (halt.Read lines) = record { status = status.Read; place = lines }
-ended_by (halt.Refused line cause) = record { status = status.Line; place = line }
+abbrev pub halted_by : Halt → Ended
+halted_by (halt.Read lines) = record { status = status.Read; place = lines }
+halted_by (halt.Refused line cause) = record { status = status.Line; place = line }
 
 -- nothing is written of a failed read
 abbrev pub last_of : Halt → List ℕ

@@ -12,7 +12,7 @@ pub enum Cause {
     /// The input ends inside it.
     NoNewline,
     /// The input ends where it would begin.
-    End,
+    NoLine,
     /// There were as many events as an input may have, and it isn't `end`.
     TooMany,
     /// It names a frame that wasn't sent.
@@ -30,7 +30,7 @@ impl Cause {
         match self {
             Cause::Long => "Long",
             Cause::NoNewline => "NoNewline",
-            Cause::End => "End",
+            Cause::NoLine => "End",
             Cause::TooMany => "TooMany",
             Cause::NoFrame => "NoFrame",
             Cause::Line(cause) => cause.name(),

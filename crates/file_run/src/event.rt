@@ -2,7 +2,7 @@
 ghost use Rattle.std.specs.Io.KnownBytes.{prepend_known};
 ghost use Rattle.std.specs.Prelude.{◌≡◌, ◌-◌, ◌^◌, ◌≤◌, ◌<◌, OnOk};
 ghost use Rattle.fsoe_io.specs.Line.{IsLine};
-ghost use Rattle.file_run.specs.Event.{Finds, FitsGrammar, IsWithin, says, says_after, what_says};
+ghost use Rattle.file_run.specs.Event.{FindsEvent, FitsGrammar, IsWithin, says, says_after, what_says};
 ghost use Rattle.file_run.specs.Halt.{Blames, Goes, Stalls};
 
 use crate::cause::Cause;
@@ -12,11 +12,9 @@ use fsoe_base::Lengths;
 use fsoe_io::{Line, LineReader, Source};
 use param_load::Profiles;
 use schedule_file::{
-    HeaderKind, LineCause, ScheduleLine, profile_of, read_event_into, read_node_event_into,
+    HeaderKind, LineCause, MAX_EVENTS, ScheduleLine, profile_of, read_event_into,
+    read_node_event_into,
 };
-
-/// The most events of an input.
-const MOST: u64 = 200_000;
 
 /// How lines are read that stand after a header: for which ends, and with which lengths and profiles. For a node, only those of its
 /// own end count.
@@ -52,7 +50,7 @@ fn read_after(
     ensures fits { OnOk result (FitsGrammar grammar.now said.new) }
     ensures few { OnOk result (IsWithin events said.new) }
 {
-    if events < MOST {
+    if events < MAX_EVENTS {
         match read_by(line.bytes(), grammar, said) {
             Ok(()) => Ok(()),
             Err(cause) => Err(Cause::Line(cause)),
@@ -77,7 +75,7 @@ pub(crate) fn next_event<S: Source>(
     requires { reader.old.lines < 2 ^ 64 - 1 }
     ensures fits { OnOk result (FitsGrammar grammar.now said.new) }
     ensures few { OnOk result (IsWithin events said.new) }
-    ensures finds { Finds grammar.now events (what_says result said.new)
+    ensures finds { FindsEvent grammar.now events (what_says result said.new)
         (prepend_known reader.old.bytes (S.left source.old))
         (prepend_known reader.new.bytes (S.left source.new)) }
     ensures goes { Goes result reader.old.lines reader.new.lines

@@ -31,7 +31,7 @@ pub(crate) fn next_line<S: Source>(
     let before = reader.lines();
     match reader.next_into(source, line) {
         Ok(true) => Ok(()),
-        Ok(false) => Err(Halt::Refused(before + 1, Cause::End)),
+        Ok(false) => Err(Halt::Refused(before + 1, Cause::NoLine)),
         Err(fault) => Err(halt_of(fault, before)),
     }
 }

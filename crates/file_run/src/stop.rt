@@ -4,7 +4,7 @@ ghost use Rattle.fsoe_io.specs.Faults.{HasCause};
 ghost use Rattle.fsoe_io.specs.Line.{IsLine};
 ghost use Rattle.fsoe_io.specs.Output.{Puts};
 ghost use Rattle.file_run.specs.Ending.{Writes};
-ghost use Rattle.file_run.specs.Stop.{ended_by, last_of};
+ghost use Rattle.file_run.specs.Stop.{halted_by, last_of};
 
 use crate::halt::Halt;
 use crate::report::write_refusal;
@@ -62,7 +62,7 @@ pub(crate) fn close<K: Sink>(output: &mut Output, sink: &mut K, last: &[u8], end
 /// Ends a run whose input goes no further.
 pub(crate) fn halt<K: Sink>(output: &mut Output, sink: &mut K, why: Halt) -> Ended
     requires { output.old.sent + length output.old.bytes < 2 ^ 63 }
-    ensures writes { Writes output.old.sent (output.old.bytes ++ last_of why) (ended_by why) result (record {
+    ensures writes { Writes output.old.sent (output.old.bytes ++ last_of why) (halted_by why) result (record {
       before = K.written sink.old;
       after = K.written sink.new;
       faults_before = K.faults sink.old;

@@ -4,6 +4,7 @@ use Rattle.std.specs.declared.option.Option.{Option}
 use Rattle.std.specs.Str.{bytes_eq}
 use Rattle.fsoe_base.specs.declared.command.End.TheVariants as side
 use Rattle.schedule_file.specs.Field.{number_of}
+use Rattle.schedule_file.specs.declared.event.TheConstants.{MAX_EVENTS}
 use Rattle.fsoe_tool.specs.declared.command.Command.{Command}
 use Rattle.fsoe_tool.specs.declared.command.Command.TheVariants as command
 
@@ -31,7 +32,7 @@ command_of [] = None
 command_of (word ∷ []) = command_alone word
 command_of (first ∷ word ∷ []) = if bytes_eq first (codes "node") then node_at word else None
 command_of (first ∷ number ∷ events ∷ []) =
-    if bytes_eq first (codes "bulk") then bulk_of (number_of (2 ^ 64 - 1) number) (number_of 200000 events) else None
+    if bytes_eq first (codes "bulk") then bulk_of (number_of (2 ^ 64 - 1) number) (number_of MAX_EVENTS events) else None
 command_of (first ∷ second ∷ third ∷ fourth ∷ words) = None
 
 -- the line that is written where the words name no command

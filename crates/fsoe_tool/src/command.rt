@@ -4,7 +4,7 @@ ghost use Rattle.schedule_file.specs.Field.{number_of};
 ghost use Rattle.fsoe_tool.specs.Command.{bulk_of, command_alone, command_of, node_at};
 
 use fsoe_base::End;
-use schedule_file::read_number;
+use schedule_file::{MAX_EVENTS, read_number};
 
 /// What the program is to do.
 #[derive(Clone, Copy)]
@@ -43,10 +43,10 @@ fn node_at(word: &str) -> Option<Command>
 
 /// The schedule of a number for so many events, as two words tell them.
 fn bulk_of(number: &str, events: &str) -> Option<Command>
-    ensures { result ≡ bulk_of (number_of (2 ^ 64 - 1) number.now) (number_of 200000 events.now) }
+    ensures { result ≡ bulk_of (number_of (2 ^ 64 - 1) number.now) (number_of MAX_EVENTS events.now) }
 {
     let number = read_number(number.as_bytes(), u64::MAX)?;
-    let events = read_number(events.as_bytes(), 200_000)?;
+    let events = read_number(events.as_bytes(), MAX_EVENTS)?;
     if events == 0 {
         None
     } else {

@@ -10,12 +10,11 @@ use Rattle.fsoe_base.specs.declared.lengths.Lengths.{Lengths}
 use Rattle.fsoe_io.specs.declared.status.Ended.{Ended}
 use Rattle.param_load.specs.declared.profile.Profile.{Profile}
 use Rattle.schedule_file.specs.Event as schedule_file
-use Rattle.schedule_file.specs.Event.{FitsNode}
+use Rattle.schedule_file.specs.Event.{FitsEnd, FitsNode}
 use Rattle.schedule_file.specs.Header.{Heading}
 use Rattle.schedule_file.specs.HeaderKind.{has_end}
 use Rattle.schedule_file.specs.Input.{AtEnd, own_length, heading_profile, input_of}
 use Rattle.schedule_file.specs.declared.event.Event.{Event}
-use Rattle.schedule_file.specs.declared.event.Event.TheVariants as event
 use Rattle.schedule_file.specs.declared.event.ScheduleLine.TheVariants as line
 use Rattle.schedule_file.specs.declared.header_kind.HeaderKind.{HeaderKind}
 use Rattle.schedule_file.specs.declared.header_kind.HeaderKind.TheVariants as kind
@@ -37,24 +36,13 @@ use Rattle.slave_core.specs.Standing.{SlaveIsAfter}
 use Rattle.node_runner.specs.Move.{move_of}
 use Rattle.node_runner.specs.Node.{NodeStands, MasterStands, SlaveStands}
 use Rattle.node_runner.specs.Ran.{NodeReports, node_ended, node_reporting}
-use Rattle.node_runner.specs.Report.{IsSetTo, entry_line, deed_line, deed_lines, deeds}
+use Rattle.node_runner.specs.Report.{step_line, deed_line, deed_lines, deeds}
 use Rattle.node_runner.proofs.DeedLines.{count_deeds, deeds_more, lines_begin}
 use Rattle.node_runner.proofs.OneReport.{some_report}
 
--- a new node stands for no event
-pub node_begins : {S V : Type 0} (end : End) (setup : S → Setup) (is_after : S → V → List Deed → Type 0) (v : V) (h : Heading) (settings : S) → IsSetTo end h (setup settings) → is_after settings v [] → NodeStands end setup is_after v h [] []
-node_begins end setup is_after v h settings set stands = record { settings = settings; set = set; stands = stands; lines = refl }
-
 -- what fits the lengths and the profile of a header fits those to which an end is set
-fits_terms : (end : End) (l m : Lengths) (p q : Profile) (event : Event) → length_of l end ≡ length_of m end → p ≡ q → FitsNode end l p event → FitsNode end m q event
-fits_terms end l m p q (event.Raw to frame) e f fits = fits
-fits_terms end l m p q (event.Tick at) e f fits = fits
-fits_terms end l m p q (event.Put at load) e f fits = (fits.0, fits.1 ∙ e)
-fits_terms end l m p q (event.Hold at failsafe) e f fits = fits
-fits_terms end l m p q (event.Nonce at id) e f fits = subst (λ (q : Profile). FitsNode end m q (event.Nonce at id)) f fits
-fits_terms end l m p q (event.Local at) e f fits = fits
-fits_terms end l m p q (event.Deliver to back) e f fits = absurd fits
-fits_terms end l m p q (event.Altered to back pos mask) e f fits = absurd fits
+fits_terms : (end : End) (n m : ℕ) (p q : Profile) (event : Event) → n ≡ m → p ≡ q → FitsEnd end n p event → FitsEnd end m q event
+fits_terms end n m p q event e f fits = subst (λ (q : Profile). FitsEnd end m q event) f (subst (λ (m : ℕ). FitsEnd end m p event) e fits)
 
 fits_kind : (k own : HeaderKind) (grammar : Grammar) (event : Event) → k ≡ own → FitsKind k grammar.lengths grammar.profiles (line.Step event) → FitsKind own grammar.lengths grammar.profiles (line.Step event)
 fits_kind k own grammar event e fits = subst (λ (k : HeaderKind). FitsKind k grammar.lengths grammar.profiles (line.Step event)) e fits
@@ -62,23 +50,23 @@ fits_kind k own grammar event e fits = subst (λ (k : HeaderKind). FitsKind k gr
 fits_end : (end : End) (h : Heading) (grammar : Grammar) (lengths : Lengths) (profile : Profile) (event : Event) → IsTrue (has_end (kind.Node end) end) → IsGrammarOf (kind.Node end) h grammar
     → length_of lengths end ≡ own_length h end → profile ≡ heading_profile h end → FitsGrammar grammar (line.Step event) → FitsNode end lengths profile event
 fits_end end h grammar lengths profile event own of e f fits =
-    fits_terms end grammar.lengths lengths (schedule_file.profile_of grammar.profiles end) profile event (of.lengths end ∙ sym e) (of.profiles end own ∙ sym f)
+    fits_terms end (length_of grammar.lengths end) (length_of lengths end) (schedule_file.profile_of grammar.profiles end) profile event (of.lengths end ∙ sym e) (of.profiles end own ∙ sym f)
     (fits_kind grammar.kind (kind.Node end) grammar event of.kind_is fits)
 
 -- the terms of a master that stands so are those of its header
 master_lengths : (v : MasterView) (h : Heading) (log : List Event) (text : List ℕ) → MasterStands v h log text → (end : End) → length_of v.kit.settings.lengths end ≡ own_length h end
-master_lengths v h log text k side.Master = ap (λ v. v.kit.settings.lengths.master) k.0.stands.is ∙ k.0.set.0
-master_lengths v h log text k side.Slave = ap (λ v. v.kit.settings.lengths.slave) k.0.stands.is ∙ k.0.set.1
+master_lengths v h log text k side.Master = ap (λ v. v.kit.settings.lengths.master) k.0.is_after.is ∙ k.0.set.0
+master_lengths v h log text k side.Slave = ap (λ v. v.kit.settings.lengths.slave) k.0.is_after.is ∙ k.0.set.1
 
 master_profile : (v : MasterView) (h : Heading) (log : List Event) (text : List ℕ) → MasterStands v h log text → v.kit.settings.profile ≡ h.master.profile
-master_profile v h log text k = ap (λ v. v.kit.settings.profile) k.0.stands.is ∙ k.0.set.2.profile_is
+master_profile v h log text k = ap (λ v. v.kit.settings.profile) k.0.is_after.is ∙ k.0.set.2.profile_is
 
 slave_lengths : (v : SlaveView) (h : Heading) (log : List Event) (text : List ℕ) → SlaveStands v h log text → (end : End) → length_of v.kit.settings.lengths end ≡ own_length h end
-slave_lengths v h log text k side.Master = ap (λ v. v.kit.settings.lengths.master) k.stands.is ∙ k.set.0
-slave_lengths v h log text k side.Slave = ap (λ v. v.kit.settings.lengths.slave) k.stands.is ∙ k.set.1
+slave_lengths v h log text k side.Master = ap (λ v. v.kit.settings.lengths.master) k.is_after.is ∙ k.set.0
+slave_lengths v h log text k side.Slave = ap (λ v. v.kit.settings.lengths.slave) k.is_after.is ∙ k.set.1
 
 slave_profile : (v : SlaveView) (h : Heading) (log : List Event) (text : List ℕ) → SlaveStands v h log text → v.kit.settings.profile ≡ h.slave.profile
-slave_profile v h log text k = ap (λ v. v.kit.settings.profile) k.stands.is ∙ k.set.2.profile_is
+slave_profile v h log text k = ap (λ v. v.kit.settings.profile) k.is_after.is ∙ k.set.2.profile_is
 
 pub master_fits : (v : MasterView) (event : Event) (number : ℕ) → MayCome (MasterStands v) (kind.Node side.Master) event number → FitsNode side.Master v.kit.settings.lengths v.kit.settings.profile event
 master_fits v event number may =
@@ -91,41 +79,41 @@ slave_fits v event number may =
     (slave_profile v may.heading may.log may.text may.stands) may.fits
 
 -- an event at an end, which did this and sent this frame, and what is shown after it, as a line
-pub record Reports {S V : Type 0} (setup : S → Setup) (is_after : S → V → List Deed → Type 0) (old new : V) (event : Event) (number : ℕ) (did : Did) (sent : List ℕ) (state : State) (outputs piece : List ℕ) : Type 0 where
-  pub follows : (settings : S) (e : List Deed) → is_after settings old e → is_after settings new (step (setup settings) e (move_of event) ∷ e)
-  pub did_is : (settings : S) (e : List Deed) → is_after settings old e → did ≡ (step (setup settings) e (move_of event)).did
-  pub sent_is : (settings : S) (e : List Deed) → is_after settings old e → sent ≡ (step (setup settings) e (move_of event)).sent
-  pub state_shown : (settings : S) (e : List Deed) → is_after settings new e → state ≡ state_of (setup settings) e
-  pub outputs_shown : (settings : S) (e : List Deed) → is_after settings new e → outputs ≡ out (setup settings) e
-  pub line : piece ≡ entry_line number did state outputs sent
+pub record Reports {S V : Type 0} (setup : S → Setup) (IsAfter : S → V → List Deed → Type 0) (old new : V) (event : Event) (number : ℕ) (did : Did) (sent : List ℕ) (state : State) (outputs piece : List ℕ) : Type 0 where
+  pub goes_on : (s : S) (e : List Deed) → IsAfter s old e → IsAfter s new (step (setup s) e (move_of event) ∷ e)
+  pub did_is : (s : S) (e : List Deed) → IsAfter s old e → did ≡ (step (setup s) e (move_of event)).did
+  pub sent_is : (s : S) (e : List Deed) → IsAfter s old e → sent ≡ (step (setup s) e (move_of event)).sent
+  pub state_is : (s : S) (e : List Deed) → IsAfter s new e → state ≡ state_of (setup s) e
+  pub outputs_are : (s : S) (e : List Deed) → IsAfter s new e → outputs ≡ out (setup s) e
+  pub line : piece ≡ step_line number did state outputs sent
 
 -- is the line of the next deed
-line_is : {S V : Type 0} (setup : S → Setup) (is_after : S → V → List Deed → Type 0) (old new : V) (event : Event) (number : ℕ) (did : Did) (sent : List ℕ) (state : State) (outputs piece : List ℕ)
-    → Reports setup is_after old new event number did sent state outputs piece → (settings : S) (e : List Deed) → number ≡ length e + 1 → is_after settings old e
+line_is : {S V : Type 0} (setup : S → Setup) (IsAfter : S → V → List Deed → Type 0) (old new : V) (event : Event) (number : ℕ) (did : Did) (sent : List ℕ) (state : State) (outputs piece : List ℕ)
+    → Reports setup IsAfter old new event number did sent state outputs piece → (settings : S) (e : List Deed) → number ≡ length e + 1 → IsAfter settings old e
     → piece ≡ deed_line (setup settings) e (step (setup settings) e (move_of event))
-line_is setup is_after old new event number did sent state outputs piece r settings e n stands =
+line_is setup IsAfter old new event number did sent state outputs piece r settings e n before =
     let s : Setup = setup settings in
     let x : Deed = step s e (move_of event) in
-    let after : is_after settings new (x ∷ e) = r.follows settings e stands in
+    let after : IsAfter settings new (x ∷ e) = r.goes_on settings e before in
     r.line
-    ∙ ap (λ (n : ℕ). entry_line n did state outputs sent) n
-    ∙ ap (λ (d : Did). entry_line (length e + 1) d state outputs sent) (r.did_is settings e stands)
-    ∙ ap (λ (state : State). entry_line (length e + 1) x.did state outputs sent) (r.state_shown settings (x ∷ e) after)
-    ∙ ap (λ (outputs : List ℕ). entry_line (length e + 1) x.did (state_of s (x ∷ e)) outputs sent) (r.outputs_shown settings (x ∷ e) after)
-    ∙ ap (λ (f : List ℕ). entry_line (length e + 1) x.did (state_of s (x ∷ e)) (out s (x ∷ e)) f) (r.sent_is settings e stands)
+    ∙ ap (λ (n : ℕ). step_line n did state outputs sent) n
+    ∙ ap (λ (d : Did). step_line (length e + 1) d state outputs sent) (r.did_is settings e before)
+    ∙ ap (λ (state : State). step_line (length e + 1) x.did state outputs sent) (r.state_is settings (x ∷ e) after)
+    ∙ ap (λ (outputs : List ℕ). step_line (length e + 1) x.did (state_of s (x ∷ e)) outputs sent) (r.outputs_are settings (x ∷ e) after)
+    ∙ ap (λ (f : List ℕ). step_line (length e + 1) x.did (state_of s (x ∷ e)) (out s (x ∷ e)) f) (r.sent_is settings e before)
 
-node_goes : {S V : Type 0} (end : End) (setup : S → Setup) (is_after : S → V → List Deed → Type 0) (old new : V) (event : Event) (number : ℕ) (did : Did) (sent : List ℕ) (state : State) (outputs piece : List ℕ)
-    → Reports setup is_after old new event number did sent state outputs piece → (h : Heading) (log : List Event) (text : List ℕ) → number ≡ length log + 1 → NodeStands end setup is_after old h log text
-    → NodeStands end setup is_after new h (log ++ event ∷ []) (text ++ piece)
-node_goes end setup is_after old new event number did sent state outputs piece r h log text n k =
+node_goes : {S V : Type 0} (end : End) (setup : S → Setup) (IsAfter : S → V → List Deed → Type 0) (old new : V) (event : Event) (number : ℕ) (did : Did) (sent : List ℕ) (state : State) (outputs piece : List ℕ)
+    → Reports setup IsAfter old new event number did sent state outputs piece → (h : Heading) (log : List Event) (text : List ℕ) → number ≡ length log + 1 → NodeStands end setup IsAfter old h log text
+    → NodeStands end setup IsAfter new h (log ++ event ∷ []) (text ++ piece)
+node_goes end setup IsAfter old new event number did sent state outputs piece r h log text n k =
     let s : Setup = setup k.settings in
     let e : List Deed = deeds s log in
     let counted : number ≡ length e + 1 = omega (arith, n, count_deeds s log) in
-    let line = line_is setup is_after old new event number did sent state outputs piece r k.settings e counted k.stands in
+    let line = line_is setup IsAfter old new event number did sent state outputs piece r k.settings e counted k.is_after in
     record {
       settings = k.settings;
       set = k.set;
-      stands = subst (is_after k.settings new) (sym (deeds_more s log event)) (r.follows k.settings e k.stands);
+      is_after = subst (IsAfter k.settings new) (sym (deeds_more s log event)) (r.goes_on k.settings e k.is_after);
       lines =
           ap (λ (z : List ℕ). z ++ piece) k.lines
           ∙ ap (λ (z : List ℕ). deed_lines s e ++ z) line
@@ -143,9 +131,9 @@ pub slave_goes_on : (old new : SlaveView) (event : Event) (number : ℕ) (did : 
 slave_goes_on old new event number did sent state outputs piece r = record { goes = node_goes side.Slave OfSlave SlaveIsAfter old new event number did sent state outputs piece r }
 
 -- the lines so far begin the report, and with a last line they are that of an input that stops after them
-pub node_so_far : {S V : Type 0} (end : End) (setup : S → Setup) (is_after : S → V → List Deed → Type 0) (v : V) (h : Heading) (log : List Event) (text : List ℕ) → NodeStands end setup is_after v h log text
+pub node_so_far : {S V : Type 0} (end : End) (setup : S → Setup) (IsAfter : S → V → List Deed → Type 0) (v : V) (h : Heading) (log : List Event) (text : List ℕ) → NodeStands end setup IsAfter v h log text
     → ReportsSoFar (node_reporting end) h log text
-node_so_far end setup is_after v h log text k =
+node_so_far end setup IsAfter v h log text k =
     let s : Setup = setup k.settings in
     record {
       begins = λ n more stop.
@@ -165,9 +153,9 @@ node_so_far end setup is_after v h log text k =
       refused = λ n number why. ((text, (s, k.set, k.lines), refl), refl);
     }
 
-pub node_ends : {S V : Type 0} (end : End) (setup : S → Setup) (is_after : S → V → List Deed → Type 0) (v : V) (h : Heading) (log : List Event) (text last : List ℕ) (events : ℕ) (ended : Ended) → length log ≡ events
-    → last ≡ events_line events → ended ≡ node_ended AtEnd → NodeStands end setup is_after v h log text → EndsReport (node_reporting end) h log (text ++ last) ended
-node_ends end setup is_after v h log text last events ended count is e k = λ n.
+pub node_ends : {S V : Type 0} (end : End) (setup : S → Setup) (IsAfter : S → V → List Deed → Type 0) (v : V) (h : Heading) (log : List Event) (text last : List ℕ) (events : ℕ) (ended : Ended) → length log ≡ events
+    → last ≡ events_line events → ended ≡ node_ended AtEnd → NodeStands end setup IsAfter v h log text → EndsReport (node_reporting end) h log (text ++ last) ended
+node_ends end setup IsAfter v h log text last events ended count is e k = λ n.
     ((text, (setup k.settings, k.set, k.lines), ap (λ (z : List ℕ). text ++ z) (is ∙ ap events_line (sym count))), e)
 
 -- each input has a report

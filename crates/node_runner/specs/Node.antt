@@ -13,17 +13,17 @@ use Rattle.slave_core.specs.SlaveView.{SlaveView}
 use Rattle.slave_core.specs.Standing.{SlaveIsAfter}
 use Rattle.node_runner.specs.Report.{IsSetTo, deed_lines, deeds}
 
--- the machine of an end was set to what a header says, and is after the deeds of these events, of which this text has the lines
-pub record NodeStands {S V : Type 0} (end : End) (setup : S → Setup) (is_after : S → V → List Deed → Type 0) (v : V) (h : Heading) (log : List Event) (text : List ℕ) : Type 0 where
+-- a machine was set to what a header says, and is after the deeds of these events, of which this text has the lines
+pub record NodeStands {S V : Type 0} (end : End) (setup : S → Setup) (IsAfter : S → V → List Deed → Type 0) (v : V) (h : Heading) (log : List Event) (text : List ℕ) : Type 0 where
   pub settings : S
   pub set : IsSetTo end h (setup settings)
-  pub stands : is_after settings v (deeds (setup settings) log)
+  pub is_after : IsAfter settings v (deeds (setup settings) log)
   pub lines : text ≡ deed_lines (setup settings) (deeds (setup settings) log)
 
--- the same of a master, of which no frame is due between events
+-- a master does so, of which no frame is due between events
 abbrev pub MasterStands : MasterView → Heading → List Event → List ℕ → Type 0
 MasterStands v h log text = NodeStands side.Master OfMaster MasterIsAfter v h log text × (is_due v.state ≡ false)
 
--- and of a slave
+-- and a slave
 abbrev pub SlaveStands : SlaveView → Heading → List Event → List ℕ → Type 0
 SlaveStands v h log text = NodeStands side.Slave OfSlave SlaveIsAfter v h log text

@@ -17,12 +17,12 @@ use Rattle.file_run.specs.Report.{last_line}
 use Rattle.node_runner.specs.Move.{move_of}
 
 -- what an event did, with its number from 1, the state and the outputs after it, and the frame that was sent
-abbrev pub entry_line : ℕ → Did → State → List ℕ → List ℕ → List ℕ
-entry_line n did state outputs sent = decimal n ++ codes " " ++ entry_text did state outputs sent ++ codes "\n"
+abbrev pub step_line : ℕ → Did → State → List ℕ → List ℕ → List ℕ
+step_line n did state outputs sent = decimal n ++ codes " " ++ entry_text did state outputs sent ++ codes "\n"
 
 -- the line of a deed after these
 abbrev pub deed_line : Setup → List Deed → Deed → List ℕ
-deed_line s e x = entry_line (length e + 1) x.did (state_of s (x ∷ e)) (out s (x ∷ e)) x.sent
+deed_line s e x = step_line (length e + 1) x.did (state_of s (x ∷ e)) (out s (x ∷ e)) x.sent
 
 -- the lines of these deeds, oldest first (the list has the newest first); the outputs are those by looking back
 abbrev pub deed_lines : Setup → List Deed → List ℕ

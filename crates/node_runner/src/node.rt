@@ -5,7 +5,7 @@ ghost use Rattle.fsoe_io.specs.declared.status.Status.TheVariants as status;
 ghost use Rattle.schedule_file.specs.Event.{FitsNode};
 ghost use Rattle.schedule_file.specs.declared.header_kind.HeaderKind.TheVariants as kind;
 ghost use Rattle.file_run.specs.Report.{events_line};
-ghost use Rattle.node_runner.specs.Report.{entry_line};
+ghost use Rattle.node_runner.specs.Report.{step_line};
 ghost use Rattle.node_runner.specs.Move.{move_of};
 ghost use Rattle.master_core.specs.Now.{is_due};
 ghost use Rattle.master_core.specs.Standing as master_core;
@@ -122,7 +122,7 @@ fn write_entry(
     text: &mut LineText,
 )
     requires { length outputs.now ≤ 126 }
-    ensures { text.new ≡ entry_line number did.now state outputs.now sent.now }
+    ensures { text.new ≡ step_line number did.now state outputs.now sent.now }
 {
     text.clear();
     text.push_decimal(number);

@@ -7,10 +7,10 @@ step_master-did-requires-clause-fits c = master_fits c.args.self.now.master c.ar
 pub returns-clause-goes_on : goal.returns-clause-goes_on
 returns-clause-goes_on c =
     master_goes_on c.args.self.now.master c.step_master-did.new.master c.args.event.now c.args.number c.step_master-did.result c.step_master-did.new.sent c.state.result c.outputs.result.now c.write_entry.new.text (record {
-      follows = c.step_master-did.ensures.follows.is_after;
+      goes_on = c.step_master-did.ensures.follows.is_after;
       did_is = c.step_master-did.ensures.answers.did;
       sent_is = c.step_master-did.ensures.answers.sent;
-      state_shown = c.state.ensures.shown.shows;
-      outputs_shown = c.outputs.ensures.shown.shows;
+      state_is = c.state.ensures.shown.shows;
+      outputs_are = c.outputs.ensures.shown.shows;
       line = c.write_entry.ensures;
     }) c.step_master-did.ensures.rest

@@ -7,10 +7,10 @@ step_slave-did-requires c = slave_fits c.args.self.now.slave c.args.event.now c.
 pub returns-clause-goes_on : goal.returns-clause-goes_on
 returns-clause-goes_on c =
     slave_goes_on c.args.self.now.slave c.step_slave-did.new.slave c.args.event.now c.args.number c.step_slave-did.result c.step_slave-did.new.sent c.state.result c.outputs.result.now c.write_entry.new.text (record {
-      follows = c.step_slave-did.ensures.follows.is_after;
+      goes_on = c.step_slave-did.ensures.follows.is_after;
       did_is = c.step_slave-did.ensures.answers.did;
       sent_is = c.step_slave-did.ensures.answers.sent;
-      state_shown = c.state.ensures.shows;
-      outputs_shown = c.outputs.ensures.shown.shows;
+      state_is = c.state.ensures.shows;
+      outputs_are = c.outputs.ensures.shown.shows;
       line = c.write_entry.ensures;
     })
