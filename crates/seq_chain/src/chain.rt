@@ -103,7 +103,6 @@ impl Chain {
 
     /// The same test of a frame whose safe data are at hand. It gives what is noted of the frame when it is taken, None where
     /// a CRC is another.
-    #[inline(always)]
     pub fn test_frame(&self, frame: &SessionFrame<'_>) -> Option<Link>
         ensures { result ≡ tested self.now frame.now.frame }
     {

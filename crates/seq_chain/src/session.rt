@@ -40,7 +40,6 @@ impl Session {
     }
 
     /// Takes a frame, by what the test of its CRCs in this session gave.
-    #[inline(always)]
     pub fn take(&mut self, frame: &SessionFrame<'_>, link: Link)
         requires { tested self.old.chain frame.now.frame ≡ Some link }
         ensures { self.new ≡ session_taken self.old frame.now }
@@ -51,7 +50,6 @@ impl Session {
 
     /// Seals the next frame into `out`, in place of what that held. The load has a valid number of bytes, 1 or an even
     /// number from 2 to 126.
-    #[inline(always)]
     pub fn seal(&mut self, command: Command, conn: u16, load: &[u8], out: &mut FrameBuf)
         requires { IsTrue (is_length (length load.now)) }
         ensures session { self.new ≡ session_sent self.old conn command load.now }
@@ -62,7 +60,6 @@ impl Session {
 }
 
 /// Whether these bytes are those of the frame that was taken last in this session, if there is one.
-#[inline(always)]
 pub fn is_repeat(session: Option<&Session>, frame: &[u8]) -> bool
     ensures { result ≡ words.is_repeat (last_in (option_copied session.entry)) frame.now }
 {
@@ -75,7 +72,6 @@ pub fn is_repeat(session: Option<&Session>, frame: &[u8]) -> bool
 /// Tests a frame at an end that has this session, or none yet: code 01h where its command isn't allowed, 03h where its
 /// connection id isn't right, 04h where a CRC isn't that of the peer's next frame. Where it passes, it gives what is noted of
 /// the frame when it is taken.
-#[inline(always)]
 pub fn test_session(
     session: Option<&Session>,
     is_allowed: bool,
