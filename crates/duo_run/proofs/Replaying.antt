@@ -1,18 +1,16 @@
 -- A pair does over its events what a world says, and reports it.
-use Rattle.std.proofs.Common.{◌≡◌, ℕ, ◌+◌, ◌^◌, ◌<◌, Bool, true, List, [], ◌∷◌, ◌++◌, length, refl, arith, ap, ◌∙◌, sym, subst, append_assoc, eq-eqb}
-use Rattle.std.specs.Prelude.{Some, None, IfSome, if◌then◌else◌}
+use Rattle.std.proofs.Common.{◌≡◌, ℕ, ◌+◌, ◌<◌, Bool, true, List, [], ◌∷◌, ◌++◌, length, refl, arith, ap, ◌∙◌, sym, subst, append_assoc, eq-eqb}
+use Rattle.std.specs.Prelude.{Some, None, if◌then◌else◌}
 use Rattle.std.specs.declared.option.Option.{Option}
 use Rattle.std.proofs.lemmas.Bool.{ne_eqb}
 use Rattle.std.proofs.lemmas.List.{length_push, length-append}
 use Rattle.fsoe_base.specs.LengthsOf.{length_of}
 use Rattle.fsoe_base.specs.declared.command.End.{End}
 use Rattle.fsoe_base.specs.declared.command.End.TheVariants as end_name
-use Rattle.fsoe_base.specs.declared.lengths.Lengths.{Lengths}
 use Rattle.fsoe_io.specs.declared.status.Ended.{Ended}
 use Rattle.param_load.specs.declared.entry.Entry.{Entry}
 use Rattle.param_load.specs.declared.master_settings.MasterSettings.{MasterSettings}
 use Rattle.param_load.specs.declared.profile.Profile.{Profile}
-use Rattle.param_load.specs.declared.profile.Profiles.{Profiles}
 use Rattle.param_load.specs.declared.slave_settings.SlaveSettings.{SlaveSettings}
 use Rattle.schedule_file.specs.Event.{Fits, profile_of}
 use Rattle.schedule_file.specs.Header.{Heading}
@@ -22,19 +20,19 @@ use Rattle.schedule_file.specs.declared.event.ScheduleLine.{ScheduleLine}
 use Rattle.schedule_file.specs.declared.event.ScheduleLine.TheVariants as line
 use Rattle.schedule_file.specs.declared.header_kind.HeaderKind.{HeaderKind}
 use Rattle.schedule_file.specs.declared.header_kind.HeaderKind.TheVariants as kind
-use Rattle.file_run.specs.Event.{FitsGrammar, FitsKind}
-use Rattle.file_run.specs.Machine.{GoesOn, IsGrammarOf, MayCome}
+use Rattle.file_run.specs.Event.{FitsKind}
+use Rattle.file_run.specs.Machine.{GoesOn, MayCome}
 use Rattle.file_run.specs.Ran.{EndsWhole}
 use Rattle.file_run.specs.Report.{events_line, refused_line}
-use Rattle.file_run.specs.Reporting.{EndsReport, EndsUnsent, ReportsSoFar, input_stopped, refused_at}
+use Rattle.file_run.specs.Reporting.{EndsReport, EndsUnsent, ReportsSoFar, input_stopped}
 use Rattle.file_run.specs.declared.event.Grammar.{Grammar}
 use Rattle.file_run.proofs.Grammars.{same_word}
 use Rattle.exchange_model.specs.Other.{first_other}
 use Rattle.exchange_model.specs.World.{entry_at, world}
 use Rattle.exchange_model.proofs.Worlds.Longer.{world_next, world_missed}
 use Rattle.exchange_model.proofs.Worlds.Others.{number_of_first}
-use Rattle.duo_run.specs.Duo.{DuoView, lengths_of, profiles_of, steps_done, DuoStands, Steps, Misses}
-use Rattle.duo_run.specs.Replay.{entry_line, entry_lines, other_line, last_lines, ended_with, ended_at, run_stop, AreSetTo, ReplayReports, ReplayStands, replay_reporting}
+use Rattle.duo_run.specs.Duo.{DuoView, lengths_of, profiles_of, DuoStands, Steps, Misses}
+use Rattle.duo_run.specs.Replay.{entry_line, entry_lines, other_line, last_lines, ended_with, ended_at, run_stop, ReplayReports, ReplayStands, replay_reporting}
 use Rattle.duo_run.proofs.EntryLines.{lines_begin}
 
 -- the lengths and the profiles of a pair are those of its header

@@ -1,5 +1,5 @@
 -- What `bulk` reports of the schedule of a number. Lists of entries are newest first.
-use Rattle.std.specs.Prelude.{◌≡◌, ◌≤◌, ℕ, List, ◌++◌, length, codes, decimal, Option}
+use Rattle.std.specs.Prelude.{◌≡◌, ◌≤◌, ℕ, List, ◌++◌, length, codes, decimal}
 use Rattle.fsoe_base.specs.Command.{state_name}
 use Rattle.fsoe_base.specs.declared.command.State.{State}
 use Rattle.fsoe_io.specs.declared.status.Ended.{Ended}
