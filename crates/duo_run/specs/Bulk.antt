@@ -44,7 +44,7 @@ abbrev pub report_of : ℕ → ℕ → List Entry → List ℕ
 report_of number events w = number_line number events ++ summary_lines (summary_of w) ++ other_line (first_other w)
 
 -- the first so many events of a number were run: the whole report was written, and the run ended as its first other entry says, or a
--- write failed; each event has its entry, and the law of the pair holds of them; the schedule of number 0 is honest
+-- write failed; each event has its entry, and the law of the pair holds of them; those of number 0 serve
 pub record RanBulk (number events : ℕ) (ended : Ended) (sink : Told) : Type 0 where
   pub wrote : Writes 0 (report_of number events (entries_of number events)) (ended_with (first_other (entries_of number events))) ended sink
   pub whole : length (entries_of number events) ≡ events

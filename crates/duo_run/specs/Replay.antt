@@ -85,7 +85,7 @@ RunsFairly input = IfSome input.heading (λ h. (ms : MasterSettings) (ss : Slave
 abbrev pub ServesIfHonest : Input → Type 0
 ServesIfHonest input = IfSome input.heading (λ h. (ms : MasterSettings) (ss : SlaveSettings) → AreSetTo h ms ss → Match ms ss → IsHonest ms ss input.events → Serves ms input.events (world ms ss input.events))
 
--- both ends ran over an input; and, for all bytes that come, the law of the pair holds of their entries
+-- both ends ran over an input; and, where its bytes are told, the law of the pair holds of their entries
 pub record RanReplay (ended : Ended) (o : Outside) : Type 0 where
   pub run : RanOver replay_reporting ended o
   pub fair : IfSome o.source.before (λ input. RunsFairly (input_of kind.Pair input))

@@ -13,7 +13,8 @@ use Rattle.file_run.specs.Outside.{Outside, Wrote}
 use Rattle.file_run.specs.Report.{refused_line}
 use Rattle.file_run.specs.Reporting.{Reporting, BeginsReport, refused_at}
 
--- a run to the `end` of its input ends with place 0, or with the number of an entry that is other, where the command looks for these
+-- a run to the `end` of its input ends with status 0 and place 0, or, where the command looks for other entries, with status 1 and a
+-- place above 0; that the place is the number of the first other entry is the report's
 abbrev pub EndsWhole : Bool → Status → ℕ → Type 0
 EndsWhole judges status.Ok place = place ≡ 0
 EndsWhole judges status.Other place = IsTrue judges × (0 < place)

@@ -47,6 +47,6 @@ EndsUnsent r h log text event =
     (lines : ℕ) (more : List Event) (stop : Stop)
     → r.reports (input_stopped h lines ((log ++ event ∷ []) ++ more) stop) (refused_at (lines + length log + 1)) (text ++ refused_line (lines + length log + 1) NoFrame)
 
--- these are the last lines after all events, and the run ends so
+-- this is the whole report of an input that stops by `end` after these events, and the run ends so
 abbrev pub EndsReport : Reporting → Heading → List Event → List ℕ → Ended → Type 0
 EndsReport r h log text ended = (lines : ℕ) → r.reports (input_stopped h lines log AtEnd) ended text

@@ -6,6 +6,7 @@ mod cause;
 mod event;
 mod halt;
 mod header;
+pub mod laws;
 mod line;
 mod machine;
 mod report;
