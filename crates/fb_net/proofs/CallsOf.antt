@@ -1,8 +1,8 @@
 -- A net over a list of calls.
 use Rattle.std.proofs.Common.{◌≡◌, ℕ, List, [], ◌∷◌, refl, sym, ap, ap₂, subst, ◌∙◌}
 use Rattle.fb_net.specs.declared.spec.Drive.{Drive}
-use Rattle.fb_net.specs.Values.{Planned, block_values}
-use Rattle.fb_net.specs.Outputs.{outputs_of}
+use Rattle.fb_net.specs.Values.{NetBlock, block_values}
+use Rattle.fb_net.specs.Outputs.{driven_images}
 use Rattle.fb_net.specs.NetView.{NetView, plan}
 use Rattle.fb_net.specs.Standing.{NetStands}
 use Rattle.fb_net.specs.Calls.{Call, Called, cycles_of, all_outputs}
@@ -34,6 +34,6 @@ outputs_are first last (a ∷ e) (x ∷ outputs) new done =
     let v : NetView = done.0 in
     ap₂ (λ (y : List (List ℕ)) (ys : List (List (List ℕ))). y ∷ ys)
     (done.2.gives (cycles_of e) (stands first v e outputs new done.1)
-    ∙ ap₂ (λ (ps : List Planned) (ds : List Drive). outputs_of ds (block_values ps (a.cycle ∷ cycles_of e)) a.cycle.inputs a.lens)
+    ∙ ap₂ (λ (ps : List NetBlock) (ds : List Drive). driven_images ds (block_values ps (a.cycle ∷ cycles_of e)) a.cycle.inputs a.lens)
     (plan-kept first v e outputs done.1) (drives-kept first v e outputs done.1))
     (outputs_are first v e outputs new done.1)

@@ -7,8 +7,8 @@ use Rattle.failsafe_io.specs.Bits.{bit_at}
 use Rattle.failsafe_io.specs.Application.{GuardsBy}
 use Rattle.fb_net.specs.declared.spec.BlockSpec.{BlockSpec}
 use Rattle.fb_net.specs.declared.spec.Drive.{Drive}
-use Rattle.fb_net.specs.Values.{NetCycle, Planned}
-use Rattle.fb_net.specs.Outputs.{bits_on, outputs_of}
+use Rattle.fb_net.specs.Values.{NetCycle, NetBlock}
+use Rattle.fb_net.specs.Outputs.{bits_on, driven_images}
 use Rattle.fb_net.specs.NetView.{NetView, plan}
 use Rattle.fb_net.specs.Guarded.{is_output_guarded}
 use Rattle.fb_net.specs.Steps.{run_values, run_blocks, holds_of, net_rule}
@@ -24,7 +24,7 @@ use Rattle.fb_net.proofs.Bits.{lengths_with}
 pub gives : (old new : NetView) (c : NetCycle) (lens : List ℕ) (outputs : List (List ℕ)) → Ran old c lens new outputs → NetGives old c lens outputs
 gives old new c lens outputs ran = record {
   gives = λ e s.
-      ran.outputs ∙ ap (λ (vs : List Bool). outputs_of old.drives vs c.inputs lens) (values_are (λ _. []) old.blocks c e ran.ready s.blocks);
+      ran.outputs ∙ ap (λ (vs : List Bool). driven_images old.drives vs c.inputs lens) (values_are (λ _. []) old.blocks c e ran.ready s.blocks);
 }
 
 pub follows : (old new : NetView) (c : NetCycle) (lens : List ℕ) (outputs : List (List ℕ)) → Ran old c lens new outputs → NetFollows old c new
@@ -43,7 +43,7 @@ keeps old new c lens outputs ran = record { plan = plan-is old new c lens output
 pub answers : (old new : NetView) (c : NetCycle) (lens : List ℕ) (outputs : List (List ℕ)) → Ran old c lens new outputs
     → outputs ≡ (net_answer old c.ticked c.inputs lens).outputs
 answers old new c lens outputs ran =
-    ran.outputs ∙ ap (λ (bs : List BlockSpec). outputs_of old.drives (run_values [] c bs) c.inputs lens) (sym (all_restored-back old.blocks ran.ready))
+    ran.outputs ∙ ap (λ (bs : List BlockSpec). driven_images old.drives (run_values [] c bs) c.inputs lens) (sym (all_restored-back old.blocks ran.ready))
 
 pub holds : (old new : NetView) (c : NetCycle) (lens : List ℕ) (outputs : List (List ℕ)) → Ran old c lens new outputs
     → net_holds new ≡ (net_answer old c.ticked c.inputs lens).holds
@@ -54,12 +54,12 @@ holds old new c lens outputs ran =
 pub rule_stays : (old new : NetView) (c : NetCycle) (lens : List ℕ) (outputs : List (List ℕ)) → Ran old c lens new outputs
     → rule_of new ≡ rule_of old
 rule_stays old new c lens outputs ran =
-    ap₂ (λ (ps : List Planned) (ds : List Drive). net_rule ps ds) (plan-is old new c lens outputs ran) ran.drives
+    ap₂ (λ (ps : List NetBlock) (ds : List Drive). net_rule ps ds) (plan-is old new c lens outputs ran) ran.drives
 
 pub guards_stay : (old new : NetView) (c : NetCycle) (lens : List ℕ) (outputs : List (List ℕ)) → Ran old c lens new outputs
     → guards_of new ≡ guards_of old
 guards_stay old new c lens outputs ran =
-    ap₂ (λ (ps : List Planned) (ds : List Drive). is_output_guarded ps ds) (plan-is old new c lens outputs ran) ran.drives
+    ap₂ (λ (ps : List NetBlock) (ds : List Drive). is_output_guarded ps ds) (plan-is old new c lens outputs ran) ran.drives
 
 pub lengths : (old new : NetView) (c : NetCycle) (lens : List ℕ) (outputs : List (List ℕ)) → Ran old c lens new outputs → map length outputs ≡ lens
 lengths old new c lens outputs ran =
@@ -73,7 +73,7 @@ guarded old new c lens outputs ran = λ o i g zero_in.
 -- what the two calls of a cycle come to
 pub ran_is : {Z W : Type 0} (blocks : Vec BlockSpec Z) (drives : Vec Drive W) (old : NetView) (c : NetCycle) (lens : List ℕ) (lent made : List BlockSpec) (ds : List Drive) (values read : List Bool) (outputs : List (List ℕ))
     → old ≡ record { blocks = blocks.items; drives = drives.items } → AllReady blocks.items → lent ≡ blocks.items → length made ≡ blocks.len
-    → made ≡ run_blocks [] c lent → values ≡ run_values [] c lent → read ≡ values → ds ≡ drives.items → outputs ≡ outputs_of ds read c.inputs lens
+    → made ≡ run_blocks [] c lent → values ≡ run_values [] c lent → read ≡ values → ds ≡ drives.items → outputs ≡ driven_images ds read c.inputs lens
     → Ran old c lens (record { blocks = (with_items blocks made).items; drives = drives.items }) outputs
 ran_is blocks drives old c lens lent made ds values read outputs is ready lent_is same made_is values_are read_is ds_is outputs_are =
     let old_blocks : old.blocks ≡ blocks.items = ap (λ (v : NetView). v.blocks) is in
@@ -84,6 +84,6 @@ ran_is blocks drives old c lens lent made ds values read outputs is ready lent_i
       blocks = with_items_is blocks made same ∙ made_is ∙ ap (λ (bs : List BlockSpec). run_blocks [] c bs) (lent_is ∙ sym old_blocks);
       drives = sym old_drives;
       outputs = outputs_are
-          ∙ ap₂ (λ (xs : List Drive) (vs : List Bool). outputs_of xs vs c.inputs lens) (ds_is ∙ sym old_drives)
+          ∙ ap₂ (λ (xs : List Drive) (vs : List Bool). driven_images xs vs c.inputs lens) (ds_is ∙ sym old_drives)
           (read_is ∙ values_are ∙ ap (λ (bs : List BlockSpec). run_values [] c bs) (lent_is ∙ sym old_blocks));
     }

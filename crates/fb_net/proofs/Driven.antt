@@ -10,7 +10,7 @@ use Rattle.failsafe_io.specs.declared.bit.Bit.{Bit}
 use Rattle.failsafe_io.specs.Bits.{at_number, bit_at, has_bit, is_same_bit}
 use Rattle.fb_net.specs.declared.spec.Drive.{Drive}
 use Rattle.fb_net.specs.Values.{wire_value}
-use Rattle.fb_net.specs.Outputs.{with_on, zero_images, bits_on, outputs_of}
+use Rattle.fb_net.specs.Outputs.{with_on, zero_images, bits_on, driven_images}
 use Rattle.fb_net.proofs.Bits.{other_bit, zero_bit, within, length_zeros, length_with_on}
 use Rattle.fb_net.proofs.Guarding.{same_numbers}
 
@@ -115,7 +115,7 @@ driven-bit (d ∷ ds) values inputs images o h =
     (list_any (λ x. is_same_bit x.out o && wire_value values inputs x.from) ds) h (λ xs g. driven-bit ds values inputs xs o g)
 
 pub driven_bit : (ds : List Drive) (values : List Bool) (inputs : List (List ℕ)) (lens : List ℕ) (o : Bit) → has_bit lens o ≡ true
-    → bit_at (outputs_of ds values inputs lens) o ≡ list_any (λ d. is_same_bit d.out o && wire_value values inputs d.from) ds
+    → bit_at (driven_images ds values inputs lens) o ≡ list_any (λ d. is_same_bit d.out o && wire_value values inputs d.from) ds
 driven_bit ds values inputs lens o h =
     driven-bit ds values inputs (zero_images lens) o (ap (λ (ks : List ℕ). has_bit ks o) (length_zeros lens) ∙ h)
     ∙ ap (λ (q : Bool). q || list_any (λ d. is_same_bit d.out o && wire_value values inputs d.from) ds) (zero_bit lens o)

@@ -6,7 +6,7 @@ use Rattle.fb_net.specs.declared.fault.NetFault.{NetFault}
 use Rattle.fb_net.specs.declared.spec.BlockSpec.{BlockSpec}
 use Rattle.fb_net.specs.declared.spec.Drive.{Drive}
 use Rattle.fb_net.specs.Values.{NetCycle, with_block}
-use Rattle.fb_net.specs.NetView.{planned}
+use Rattle.fb_net.specs.NetView.{net_block}
 use Rattle.fb_net.specs.Fault.{or_next, block_fault, blocks_fault, drives_fault, first_fault}
 use Rattle.fb_net.specs.Standing.{BlocksStand, NetStands}
 use Rattle.fb_net.specs.New.{IsNew}
@@ -40,7 +40,7 @@ ready_by ins outs bs ds new h = ready-by ins 0 bs new ((both-none (blocks_fault 
 
 stand-new : (before : List NetCycle → List Bool) (bs : List BlockSpec) → All IsNew bs → BlocksStand before bs []
 stand-new before [] new = tt
-stand-new before (b ∷ bs) new = ((all-first b bs new).stands, stand-new (with_block before (planned b)) bs (all-rest b bs new))
+stand-new before (b ∷ bs) new = ((all-first b bs new).stands, stand-new (with_block before (net_block b)) bs (all-rest b bs new))
 
 pub stands_new : (bs : List BlockSpec) (ds : List Drive) → All IsNew bs → NetStands (record { blocks = bs; drives = ds }) []
 stands_new bs ds new = record { blocks = stand-new (λ _. []) bs new }

@@ -15,8 +15,8 @@ use Rattle.fb_net.specs.declared.wire.Wire.{Wire}
 use Rattle.fb_net.specs.declared.wire.Wire.TheVariants as wire
 use Rattle.fb_net.specs.declared.spec.BlockSpec.{BlockSpec}
 use Rattle.fb_net.specs.declared.spec.Drive.{Drive}
-use Rattle.fb_net.specs.Values.{NetCycle, Planned, wire_value, block_cycles, with_block, values_from, block_values}
-use Rattle.fb_net.specs.Outputs.{with_on, zero_images, bits_on, outputs_of}
+use Rattle.fb_net.specs.Values.{NetCycle, NetBlock, wire_value, block_cycles, with_block, values_from, block_values}
+use Rattle.fb_net.specs.Outputs.{with_on, zero_images, bits_on, driven_images}
 use Rattle.fb_net.specs.NetView.{plan}
 use Rattle.fb_net.specs.Guarded.{is_wire_guarded, guarded_from, guarded_blocks, is_output_guarded}
 use Rattle.fb_net.specs.Steps.{cycle_of, given, run_values}
@@ -108,7 +108,7 @@ off-drives i o gs vs inputs (d ∷ ds) images zero_in off g old =
 -- a guarded output bit is 0
 pub off_output : (drives : List Drive) (bs : List BlockSpec) (c : NetCycle) (lens : List ℕ) (o i : Bit) → AllReady bs
     → is_output_guarded (plan bs) drives o i ≡ true → bit_at c.inputs i ≡ false
-    → bit_at (outputs_of drives (run_values [] c bs) c.inputs lens) o ≡ false
+    → bit_at (driven_images drives (run_values [] c bs) c.inputs lens) o ≡ false
 off_output drives bs c lens o i r g zero_in =
     off-drives i o (guarded_blocks i (plan bs)) (run_values [] c bs) c.inputs drives (zero_images lens) zero_in
     (off_blocks i [] [] c bs zero_in tt r) g (zero_bit lens o)
@@ -128,7 +128,7 @@ guarded_more blocks i b at inp gs read items k ws g all h is same reads kind wir
     ∙ done
 
 -- and what looking back says is 0 too
-off-values : (i : Bit) (gs : List Bool) (before : List NetCycle → List Bool) (c : NetCycle) (e : List NetCycle) (ps : List Planned)
+off-values : (i : Bit) (gs : List Bool) (before : List NetCycle → List Bool) (c : NetCycle) (e : List NetCycle) (ps : List NetBlock)
     → bit_at c.inputs i ≡ false → AreOff gs (before (c ∷ e)) → AreOff (guarded_from i gs ps) (values_from before ps (c ∷ e))
 off-values i gs before c e [] zero_in off = off
 off-values i gs before c e (p ∷ ps) zero_in off =
@@ -137,8 +137,8 @@ off-values i gs before c e (p ∷ ps) zero_in off =
     (λ g. block_off p.kind p.n (map (is_wire_guarded i gs) p.ins) (record { ticked = c.ticked; ins = map (wire_value (before (c ∷ e)) c.inputs) p.ins })
     (block_cycles before p.ins e) (off-wires i gs (before (c ∷ e)) c.inputs p.ins zero_in off) g))
 
-pub value_off : (ps : List Planned) (ds : List Drive) (c : NetCycle) (e : List NetCycle) (lens : List ℕ) (o i : Bit)
-    → is_output_guarded ps ds o i ≡ true → bit_at c.inputs i ≡ false → bit_at (outputs_of ds (block_values ps (c ∷ e)) c.inputs lens) o ≡ false
+pub value_off : (ps : List NetBlock) (ds : List Drive) (c : NetCycle) (e : List NetCycle) (lens : List ℕ) (o i : Bit)
+    → is_output_guarded ps ds o i ≡ true → bit_at c.inputs i ≡ false → bit_at (driven_images ds (block_values ps (c ∷ e)) c.inputs lens) o ≡ false
 value_off ps ds c e lens o i g zero_in =
     off-drives i o (guarded_blocks i ps) (block_values ps (c ∷ e)) c.inputs ds (zero_images lens) zero_in
     (off-values i [] (λ _. []) c e ps zero_in tt) g (zero_bit lens o)

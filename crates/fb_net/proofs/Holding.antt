@@ -9,8 +9,8 @@ use Rattle.fb_lib.specs.Cycle.{Cycle}
 use Rattle.fb_lib.specs.Steps.{BlockView, kind_of}
 use Rattle.fb_lib.specs.Standing.{held_of}
 use Rattle.fb_net.specs.declared.spec.BlockSpec.{BlockSpec}
-use Rattle.fb_net.specs.Values.{NetCycle, Planned}
-use Rattle.fb_net.specs.NetView.{planned, plan}
+use Rattle.fb_net.specs.Values.{NetCycle, NetBlock}
+use Rattle.fb_net.specs.NetView.{net_block, plan}
 use Rattle.fb_net.specs.Steps.{flag, count_held, on_held, flag_held, held_from, restored, all_restored, holds_of, given, run_blocks}
 use Rattle.fb_net.specs.Ready.{IsReady, AllReady}
 
@@ -51,7 +51,7 @@ numbers-back (held.Feedback f) =
     ap₂ (λ (on bad : Bool). held.Feedback (record { on = on; age = f.age; bad = bad })) (flag-back f.on) (flag-back f.bad)
 
 restored-back : (b : BlockSpec) → kind_of b.block.held ≡ b.block.kind
-    → restored (planned b) (count_held b.block.held) (on_held b.block.held) (flag_held b.block.held) ≡ b
+    → restored (net_block b) (count_held b.block.held) (on_held b.block.held) (flag_held b.block.held) ≡ b
 restored-back b is =
     let h : Held = b.block.held in
     ap (λ (x : Held). let v : BlockView = record { kind = b.block.kind; n = b.block.n; held = x } in let made : BlockSpec = record { block = v; ins = b.ins } in made)
@@ -65,4 +65,4 @@ all_restored-back (b ∷ bs) r =
 -- a cycle leaves what the blocks were made as
 pub plan_stays : (values : List Bool) (c : NetCycle) (bs : List BlockSpec) → plan (run_blocks values c bs) ≡ plan bs
 plan_stays values c [] = refl
-plan_stays values c (b ∷ bs) = ap (λ (ps : List Planned). planned b ∷ ps) (plan_stays (values ++ given values c b ∷ []) c bs)
+plan_stays values c (b ∷ bs) = ap (λ (ps : List NetBlock). net_block b ∷ ps) (plan_stays (values ++ given values c b ∷ []) c bs)

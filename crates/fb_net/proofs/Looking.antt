@@ -7,7 +7,7 @@ use Rattle.fb_lib.specs.Standing.{BlockStands}
 use Rattle.fb_lib.proofs.Looking.{gives_by}
 use Rattle.fb_net.specs.declared.spec.BlockSpec.{BlockSpec}
 use Rattle.fb_net.specs.Values.{NetCycle, block_cycles, with_block, values_from}
-use Rattle.fb_net.specs.NetView.{planned, plan}
+use Rattle.fb_net.specs.NetView.{net_block, plan}
 use Rattle.fb_net.specs.Steps.{cycle_of, given, run_values, run_blocks}
 use Rattle.fb_net.specs.Standing.{BlocksStand}
 use Rattle.fb_net.specs.Ready.{IsReady, AllReady}
@@ -24,20 +24,20 @@ given-is before b c e r s =
 
 more-is : (before : List NetCycle → List Bool) (b : BlockSpec) (c : NetCycle) (e : List NetCycle) → IsReady b
     → BlockStands b.block.kind b.block.n b.block (block_cycles before b.ins e)
-    → before (c ∷ e) ++ given (before (c ∷ e)) c b ∷ [] ≡ with_block before (planned b) (c ∷ e)
+    → before (c ∷ e) ++ given (before (c ∷ e)) c b ∷ [] ≡ with_block before (net_block b) (c ∷ e)
 more-is before b c e r s = ap (λ (v : Bool). before (c ∷ e) ++ v ∷ []) (given-is before b c e r s)
 
 pub values_are : (before : List NetCycle → List Bool) (bs : List BlockSpec) (c : NetCycle) (e : List NetCycle) → AllReady bs → BlocksStand before bs e
     → run_values (before (c ∷ e)) c bs ≡ values_from before (plan bs) (c ∷ e)
 values_are before [] c e r s = refl
 values_are before (b ∷ bs) c e r s =
-    ap (λ (vs : List Bool). run_values vs c bs) (more-is before b c e r.0 s.0) ∙ values_are (with_block before (planned b)) bs c e r.1 s.1
+    ap (λ (vs : List Bool). run_values vs c bs) (more-is before b c e r.0 s.0) ∙ values_are (with_block before (net_block b)) bs c e r.1 s.1
 
 pub blocks_stand : (before : List NetCycle → List Bool) (bs : List BlockSpec) (c : NetCycle) (e : List NetCycle) → AllReady bs → BlocksStand before bs e
     → BlocksStand before (run_blocks (before (c ∷ e)) c bs) (c ∷ e)
 blocks_stand before [] c e r s = tt
 blocks_stand before (b ∷ bs) c e r s =
-    let P : List Bool → Type 0 = λ vs. BlocksStand (with_block before (planned b)) (run_blocks vs c bs) (c ∷ e) in (
+    let P : List Bool → Type 0 = λ vs. BlocksStand (with_block before (net_block b)) (run_blocks vs c bs) (c ∷ e) in (
       next_stands b.block (cycle_of (before (c ∷ e)) c b.ins) (block_cycles before b.ins e) r.0.fits s.0,
-      subst P (sym (more-is before b c e r.0 s.0)) (blocks_stand (with_block before (planned b)) bs c e r.1 s.1),
+      subst P (sym (more-is before b c e r.0 s.0)) (blocks_stand (with_block before (net_block b)) bs c e r.1 s.1),
     )

@@ -1,8 +1,8 @@
 -- The rule of a net over a list of calls.
 use Rattle.std.proofs.Common.{◌≡◌, ℕ, Bool, List, [], ◌∷◌, ◌++◌, refl, sym, ap, ◌∙◌}
 use Rattle.fb_net.specs.declared.spec.BlockSpec.{BlockSpec}
-use Rattle.fb_net.specs.Values.{NetCycle, Planned, block_values}
-use Rattle.fb_net.specs.Outputs.{outputs_of}
+use Rattle.fb_net.specs.Values.{NetCycle, NetBlock, block_values}
+use Rattle.fb_net.specs.Outputs.{driven_images}
 use Rattle.fb_net.specs.NetView.{NetView, plan}
 use Rattle.fb_net.specs.Standing.{BlocksStand, NetStands}
 use Rattle.fb_net.specs.Ready.{AllReady}
@@ -36,7 +36,7 @@ stand-after bs (a ∷ e) r s = blocks_stand (λ _. []) (after bs e) a.cycle (cyc
 
 restored-after : (bs : List BlockSpec) (e : List Call) → AllReady bs → all_restored (plan bs) (holds_of (after bs e)) ≡ after bs e
 restored-after bs e r =
-    ap (λ (ps : List Planned). all_restored ps (holds_of (after bs e))) (sym (plan-after bs e)) ∙ all_restored-back (after bs e) (ready-after bs e r)
+    ap (λ (ps : List NetBlock). all_restored ps (holds_of (after bs e))) (sym (plan-after bs e)) ∙ all_restored-back (after bs e) (ready-after bs e r)
 
 held-is : (v : NetView) (e : List Call) → AllReady v.blocks → held_after (rule_of v) (net_holds v) e ≡ holds_of (after v.blocks e)
 held-is v [] r = refl
@@ -46,10 +46,10 @@ held-is v (a ∷ e) r =
 
 pub rule_answers : (v : NetView) (a : Call) (e : List Call) → AllReady v.blocks → NetStands v []
     → (rule_of v (held_after (rule_of v) (net_holds v) e) a.cycle.ticked a.cycle.inputs a.lens).outputs
-    ≡ outputs_of v.drives (block_values (plan v.blocks) (a.cycle ∷ cycles_of e)) a.cycle.inputs a.lens
+    ≡ driven_images v.drives (block_values (plan v.blocks) (a.cycle ∷ cycles_of e)) a.cycle.inputs a.lens
 rule_answers v a e r s =
-    let F : List Bool → List (List ℕ) = λ vs. outputs_of v.drives vs a.cycle.inputs a.lens in
+    let F : List Bool → List (List ℕ) = λ vs. driven_images v.drives vs a.cycle.inputs a.lens in
     ap (λ (held : List ℕ). F (run_values [] a.cycle (all_restored (plan v.blocks) held))) (held-is v e r)
     ∙ ap (λ (bs : List BlockSpec). F (run_values [] a.cycle bs)) (restored-after v.blocks e r)
     ∙ ap F (values_are (λ _. []) (after v.blocks e) a.cycle (cycles_of e) (ready-after v.blocks e r) (stand-after v.blocks e r s.blocks))
-    ∙ ap (λ (ps : List Planned). F (block_values ps (a.cycle ∷ cycles_of e))) (plan-after v.blocks e)
+    ∙ ap (λ (ps : List NetBlock). F (block_values ps (a.cycle ∷ cycles_of e))) (plan-after v.blocks e)

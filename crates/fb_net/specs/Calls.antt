@@ -2,8 +2,8 @@
 use Rattle.std.specs.Prelude.{◌≡◌, ℕ, Bool, List, [], ◌∷◌, map}
 use Rattle.failsafe_io.specs.Application.{Answer}
 use Rattle.fb_net.specs.declared.spec.Drive.{Drive}
-use Rattle.fb_net.specs.Values.{NetCycle, Planned, block_values}
-use Rattle.fb_net.specs.Outputs.{outputs_of}
+use Rattle.fb_net.specs.Values.{NetCycle, NetBlock, block_values}
+use Rattle.fb_net.specs.Outputs.{driven_images}
 use Rattle.fb_net.specs.NetView.{NetView}
 use Rattle.fb_net.specs.Standing.{NetFollows, NetGives, KeepsPlan}
 
@@ -17,10 +17,10 @@ abbrev pub cycles_of : List Call → List NetCycle
 cycles_of calls = map (λ a. a.cycle) calls
 
 -- the outputs of each call, by looking back over the cycles up to it
-abbrev pub all_outputs : List Planned → List Drive → List Call → List (List (List ℕ))
+abbrev pub all_outputs : List NetBlock → List Drive → List Call → List (List (List ℕ))
 all_outputs plan drives [] = []
 all_outputs plan drives (a ∷ calls) =
-    outputs_of drives (block_values plan (a.cycle ∷ cycles_of calls)) a.cycle.inputs a.lens ∷ all_outputs plan drives calls
+    driven_images drives (block_values plan (a.cycle ∷ cycles_of calls)) a.cycle.inputs a.lens ∷ all_outputs plan drives calls
 
 -- a net had these calls, and gave these outputs
 abbrev pub Called : NetView → List Call → List (List (List ℕ)) → NetView → Type 0

@@ -23,5 +23,5 @@ abbrev pub images_with : List ℕ → List Bit → List (List ℕ)
 images_with lens bits = fold (λ images b. with_on images b.link b.bit) (zero_images lens) bits
 
 -- the outputs of a cycle
-abbrev pub outputs_of : List Drive → List Bool → List (List ℕ) → List ℕ → List (List ℕ)
-outputs_of drives values inputs lens = images_with lens (bits_on drives values inputs)
+abbrev pub driven_images : List Drive → List Bool → List (List ℕ) → List ℕ → List (List ℕ)
+driven_images drives values inputs lens = images_with lens (bits_on drives values inputs)

@@ -1,7 +1,7 @@
 -- What a net's machine does in a cycle. A machine's own words: what they come to is said by looking back.
 use Rattle.std.specs.Prelude.{◌≡◌, ℕ, List, []}
 use Rattle.fb_net.specs.Values.{NetCycle}
-use Rattle.fb_net.specs.Outputs.{outputs_of}
+use Rattle.fb_net.specs.Outputs.{driven_images}
 use Rattle.fb_net.specs.NetView.{NetView}
 use Rattle.fb_net.specs.Steps.{run_values, run_blocks}
 use Rattle.fb_net.specs.Ready.{AllReady}
@@ -11,4 +11,4 @@ pub record Ran (old : NetView) (c : NetCycle) (lens : List ℕ) (new : NetView) 
   pub ready : AllReady old.blocks
   pub blocks : new.blocks ≡ run_blocks [] c old.blocks
   pub drives : new.drives ≡ old.drives
-  pub outputs : given ≡ outputs_of old.drives (run_values [] c old.blocks) c.inputs lens
+  pub outputs : given ≡ driven_images old.drives (run_values [] c old.blocks) c.inputs lens

@@ -3,14 +3,14 @@ use Rattle.std.specs.Prelude.{◌≡◌, ℕ, Bool, List, [], ◌∷◌}
 use Rattle.fb_lib.specs.Standing.{BlockStands}
 use Rattle.fb_net.specs.declared.spec.BlockSpec.{BlockSpec}
 use Rattle.fb_net.specs.Values.{NetCycle, block_cycles, with_block, block_values}
-use Rattle.fb_net.specs.Outputs.{outputs_of}
-use Rattle.fb_net.specs.NetView.{NetView, planned, plan}
+use Rattle.fb_net.specs.Outputs.{driven_images}
+use Rattle.fb_net.specs.NetView.{NetView, net_block, plan}
 
 -- each block stands for its own cycles, where `before` gives the values of the blocks before them
 abbrev pub BlocksStand : (List NetCycle → List Bool) → List BlockSpec → List NetCycle → Type 0
 BlocksStand before [] e = Unit {0}
 BlocksStand before (b ∷ bs) e =
-    BlockStands b.block.kind b.block.n b.block (block_cycles before b.ins e) × BlocksStand (with_block before (planned b)) bs e
+    BlockStands b.block.kind b.block.n b.block (block_cycles before b.ins e) × BlocksStand (with_block before (net_block b)) bs e
 
 -- a net stands for these cycles where each of its blocks stands for its own
 pub record NetStands (v : NetView) (e : List NetCycle) : Type 0 where
@@ -23,7 +23,7 @@ pub record NetFollows (old : NetView) (c : NetCycle) (new : NetView) : Type 0 wh
 -- the outputs of a cycle, of these lengths, are what the blocks' values say by looking back over the cycles for which the net stood,
 -- and this one
 pub record NetGives (old : NetView) (c : NetCycle) (lens : List ℕ) (outputs : List (List ℕ)) : Type 0 where
-  pub gives : (e : List NetCycle) → NetStands old e → outputs ≡ outputs_of old.drives (block_values (plan old.blocks) (c ∷ e)) c.inputs lens
+  pub gives : (e : List NetCycle) → NetStands old e → outputs ≡ driven_images old.drives (block_values (plan old.blocks) (c ∷ e)) c.inputs lens
 
 -- a net keeps what it was made of
 pub record KeepsPlan (old new : NetView) : Type 0 where

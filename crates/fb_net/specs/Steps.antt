@@ -12,8 +12,8 @@ use Rattle.failsafe_io.specs.Application.{Answer}
 use Rattle.fb_net.specs.declared.wire.Wire.{Wire}
 use Rattle.fb_net.specs.declared.spec.BlockSpec.{BlockSpec}
 use Rattle.fb_net.specs.declared.spec.Drive.{Drive}
-use Rattle.fb_net.specs.Values.{NetCycle, Planned, wire_value}
-use Rattle.fb_net.specs.Outputs.{outputs_of}
+use Rattle.fb_net.specs.Values.{NetCycle, NetBlock, wire_value}
+use Rattle.fb_net.specs.Outputs.{driven_images}
 
 -- the cycle of a block, by the values of the blocks before it
 abbrev pub cycle_of : List Bool → NetCycle → List Wire → Cycle
@@ -83,16 +83,16 @@ held_from kind.OnDelay count on last = held.OnDelay (record { age = count })
 held_from kind.OffDelay count on last = held.OffDelay (record { left = count })
 held_from kind.Feedback count on last = held.Feedback (record { on = on == 1; age = count; bad = last == 1 })
 
-abbrev pub restored : Planned → ℕ → ℕ → ℕ → BlockSpec
+abbrev pub restored : NetBlock → ℕ → ℕ → ℕ → BlockSpec
 restored p count on last = record { block = record { kind = p.kind; n = p.n; held = held_from p.kind count on last }; ins = p.ins }
 
-abbrev pub all_restored : List Planned → List ℕ → List BlockSpec
+abbrev pub all_restored : List NetBlock → List ℕ → List BlockSpec
 all_restored [] held = []
 all_restored (p ∷ ps) held = restored p (get_or held 0 0) (get_or held 1 0) (get_or held 2 0) ∷ all_restored ps (drop 3 held)
 
 -- the answer of a net to a cycle, by what it holds
-abbrev pub net_rule : List Planned → List Drive → List ℕ → Bool → List (List ℕ) → List ℕ → Answer
+abbrev pub net_rule : List NetBlock → List Drive → List ℕ → Bool → List (List ℕ) → List ℕ → Answer
 net_rule plan drives held ticked inputs lens =
     let c : NetCycle = record { ticked = ticked; inputs = inputs } in
     let blocks : List BlockSpec = all_restored plan held in
-    record { outputs = outputs_of drives (run_values [] c blocks) inputs lens; holds = holds_of (run_blocks [] c blocks) }
+    record { outputs = driven_images drives (run_values [] c blocks) inputs lens; holds = holds_of (run_blocks [] c blocks) }

@@ -13,7 +13,7 @@ pub record NetCycle : Type 0 where
   pub inputs : List (List ℕ)
 
 -- a block of a net: its kind and number, and the wires of its inputs
-pub record Planned : Type 0 where
+pub record NetBlock : Type 0 where
   pub kind : BlockKind
   pub n : ℕ
   pub ins : List Wire
@@ -30,13 +30,13 @@ block_cycles before ins (c ∷ e) =
     record { ticked = c.ticked; ins = map (wire_value (before (c ∷ e)) c.inputs) ins } ∷ block_cycles before ins e
 
 -- the values in the newest cycle of the blocks before, and of this one
-abbrev pub with_block : (List NetCycle → List Bool) → Planned → List NetCycle → List Bool
+abbrev pub with_block : (List NetCycle → List Bool) → NetBlock → List NetCycle → List Bool
 with_block before p e = before e ++ value p.kind p.n (block_cycles before p.ins e) ∷ []
 
-abbrev pub values_from : (List NetCycle → List Bool) → List Planned → List NetCycle → List Bool
+abbrev pub values_from : (List NetCycle → List Bool) → List NetBlock → List NetCycle → List Bool
 values_from before [] e = before e
 values_from before (p ∷ ps) e = values_from (with_block before p) ps e
 
 -- the values of all blocks in the newest cycle, in their order
-abbrev pub block_values : List Planned → List NetCycle → List Bool
+abbrev pub block_values : List NetBlock → List NetCycle → List Bool
 block_values plan e = values_from (λ _. []) plan e

@@ -3,7 +3,7 @@ ghost use Rattle.std.specs.Prelude.{◌≡◌, ◌≤◌, false, [], map, length
 ghost use Rattle.failsafe_io.specs.Bits.{at_number};
 ghost use Rattle.fb_lib.specs.declared.kind.TheConstants.{MOST_INPUTS};
 ghost use Rattle.fb_net.specs.Values.{wire_value};
-ghost use Rattle.fb_net.specs.Outputs.{outputs_of};
+ghost use Rattle.fb_net.specs.Outputs.{driven_images};
 ghost use Rattle.fb_net.specs.Ready.{IsReady, AllReady};
 ghost use Rattle.fb_net.specs.Steps.{stepped, given, run_values, run_blocks};
 
@@ -94,7 +94,7 @@ pub(crate) fn drive_outputs(
     inputs: &[Image],
     outputs: &mut [Image],
 )
-    ensures { outputs.new ≡ outputs_of drives.now values.now inputs.now (map length outputs.old) }
+    ensures { outputs.new ≡ driven_images drives.now values.now inputs.now (map length outputs.old) }
 {
     clear(outputs);
     for drive in drives {

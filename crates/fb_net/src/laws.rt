@@ -4,8 +4,8 @@ ghost use Rattle.std.specs.List.{list_any};
 ghost use Rattle.failsafe_io.specs.declared.bit.Bit.{Bit};
 ghost use Rattle.failsafe_io.specs.Bits.{bit_at, has_bit, is_same_bit};
 ghost use Rattle.fb_net.specs.declared.spec.Drive.{Drive};
-ghost use Rattle.fb_net.specs.Values.{NetCycle, Planned, wire_value, block_values};
-ghost use Rattle.fb_net.specs.Outputs.{outputs_of};
+ghost use Rattle.fb_net.specs.Values.{NetCycle, NetBlock, wire_value, block_values};
+ghost use Rattle.fb_net.specs.Outputs.{driven_images};
 ghost use Rattle.fb_net.specs.NetView.{NetView, plan};
 ghost use Rattle.fb_net.specs.Guarded.{is_output_guarded};
 ghost use Rattle.fb_net.specs.Standing.{NetStands};
@@ -28,14 +28,14 @@ pub fn calls()
 pub fn rule()
     ensures { (v : NetView) (a : Call) (e : List Call) → AllReady v.blocks → NetStands v []
         → (rule_of v (held_after (rule_of v) (net_holds v) e) a.cycle.ticked a.cycle.inputs a.lens).outputs
-        ≡ outputs_of v.drives (block_values (plan v.blocks) (a.cycle ∷ cycles_of e)) a.cycle.inputs a.lens }
+        ≡ driven_images v.drives (block_values (plan v.blocks) (a.cycle ∷ cycles_of e)) a.cycle.inputs a.lens }
 {}
 
 /// A guarded output bit is 0 in each cycle in which its input bit is 0, whatever came before.
 pub fn guards()
-    ensures { (ps : List Planned) (ds : List Drive) (c : NetCycle) (e : List NetCycle) (lens : List ℕ) (o i : Bit)
+    ensures { (ps : List NetBlock) (ds : List Drive) (c : NetCycle) (e : List NetCycle) (lens : List ℕ) (o i : Bit)
         → is_output_guarded ps ds o i ≡ true → bit_at c.inputs i ≡ false
-        → bit_at (outputs_of ds (block_values ps (c ∷ e)) c.inputs lens) o ≡ false }
+        → bit_at (driven_images ds (block_values ps (c ∷ e)) c.inputs lens) o ≡ false }
 {}
 
 /// An output bit that is there is 1 exactly where a drive of it reads true.
@@ -43,6 +43,6 @@ pub fn guards()
 pub fn outputs()
     ensures { (ds : List Drive) (values : List Bool) (inputs : List (List ℕ)) (lens : List ℕ) (o : Bit)
         → has_bit lens o ≡ true
-        → bit_at (outputs_of ds values inputs lens) o
+        → bit_at (driven_images ds values inputs lens) o
         ≡ list_any (λ d. is_same_bit d.out o && wire_value values inputs d.from) ds }
 {}
