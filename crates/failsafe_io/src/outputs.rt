@@ -16,12 +16,13 @@ pub struct Outputs {
 
 impl Model for Outputs {
     ghost use Rattle.std.specs.Prelude.{ℕ, ◌≤◌, List, length};
+    ghost use Rattle.fsoe_base.specs.declared.lengths.TheConstants.{MOST_DATA};
 
     ghost Value = { List ℕ };
 
     ghost view = { λ o. o.image };
 
-    ghost invariant = { λ o. length o.image ≤ 126 };
+    ghost invariant = { λ o. length o.image ≤ MOST_DATA };
 }
 
 impl Outputs {

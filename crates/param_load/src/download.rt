@@ -16,13 +16,14 @@ pub struct Download {
 
 impl Model for Download {
     ghost use Rattle.std.specs.Prelude.{◌≤◌};
+    ghost use Rattle.fsoe_base.specs.declared.lengths.TheConstants.{MOST_DATA};
     ghost use Rattle.param_load.specs.DownloadView.{DownloadView};
 
     ghost Value = { DownloadView };
 
     ghost view = { λ d. record { payload = d.payload; piece = d.piece; echo = d.echo; from = d.from } };
 
-    ghost invariant = { λ d. d.piece ≤ 126 };
+    ghost invariant = { λ d. d.piece ≤ MOST_DATA };
 }
 
 impl Download {
