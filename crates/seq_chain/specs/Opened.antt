@@ -4,7 +4,8 @@ use Rattle.fsoe_base.specs.declared.command.Code.{Code}
 use Rattle.fsoe_base.specs.declared.command.Command.{Command}
 use Rattle.fsoe_base.specs.declared.command.Command.TheVariants as command
 use Rattle.fsoe_base.specs.declared.did.Dropped.TheVariants as dropped
-use Rattle.fsoe_base.specs.Command.{command_of, code}
+use Rattle.fsoe_base.specs.Codes.{unknown_command}
+use Rattle.fsoe_base.specs.Command.{command_of}
 use Rattle.fsoe_base.specs.Lengths.{frame_len}
 use Rattle.fsoe_frame.specs.Parts.{Frame, frame_of}
 use Rattle.seq_chain.specs.declared.opened.Opened.{Opened}
@@ -18,7 +19,7 @@ reset_opened f (Ok x) = opened_as.ResetFrame x f
 
 -- a frame by its command, if its first byte stands for one
 abbrev pub command_opened : Frame → Option Command → Opened
-command_opened f None = opened_as.Refuse (code 0x02)
+command_opened f None = opened_as.Refuse unknown_command
 command_opened f (Some command.Reset) = reset_opened f (reset_view f)
 command_opened f (Some cmd) = opened_as.OfSession (record { command = cmd; frame = f })
 

@@ -4,6 +4,7 @@ use Rattle.std.specs.Prelude.{ℕ, zero, suc, List, [], ◌∷◌, ◌==◌, Boo
 use Rattle.std.specs.Cmp.Lexicographic.{pointwise}
 use Rattle.fsoe_base.specs.declared.command.Code.{Code}
 use Rattle.fsoe_base.specs.Bytes.{all_zero}
+use Rattle.fsoe_base.specs.Codes.{wrong_connection, wrong_crc, wrong_data}
 use Rattle.fsoe_base.specs.Command.{code}
 use Rattle.fsoe_frame.specs.Layout.{layout}
 use Rattle.fsoe_frame.specs.Parts.{Frame}
@@ -29,7 +30,7 @@ zeros_follow load = all_zero (drop 1 load)
 -- what a frame with the command Reset says: its code, or the code of the first fault
 abbrev pub reset_view : Frame → Result Code Code
 reset_view frame =
-    if not (frame.conn == 0) then Err (code 0x03)
-    else if not (pointwise nat_eq frame.crcs (reset_crcs frame.load)) then Err (code 0x04)
-    else if not (zeros_follow frame.load) then Err (code 0x07)
+    if not (frame.conn == 0) then Err wrong_connection
+    else if not (pointwise nat_eq frame.crcs (reset_crcs frame.load)) then Err wrong_crc
+    else if not (zeros_follow frame.load) then Err wrong_data
     else Ok (code (first_of frame.load))

@@ -3,7 +3,7 @@ use Rattle.std.specs.Prelude.{◌≡◌, nat_eq, ℕ, Bool, false, not, List, []
 use Rattle.std.specs.Cmp.Lexicographic.{pointwise}
 use Rattle.fsoe_base.specs.declared.command.Code.{Code}
 use Rattle.fsoe_base.specs.declared.command.Command.{Command}
-use Rattle.fsoe_base.specs.Command.{code}
+use Rattle.fsoe_base.specs.Codes.{command_not_allowed, wrong_connection, wrong_crc}
 use Rattle.fsoe_frame.specs.Parts.{bytes_of}
 use Rattle.seq_chain.specs.declared.chain.Chain.{Chain}
 use Rattle.seq_chain.specs.declared.link.Link.{Link}
@@ -42,13 +42,13 @@ is_repeat (Some last) bytes = pointwise nat_eq last bytes
 -- right, and its CRCs fit
 abbrev pub session_fault : Bool → Bool → Bool → Option Code
 session_fault is_allowed has_conn_id does_fit =
-    if not is_allowed then Some (code 0x01)
-    else if not has_conn_id then Some (code 0x03)
-    else if not does_fit then Some (code 0x04)
+    if not is_allowed then Some command_not_allowed
+    else if not has_conn_id then Some wrong_connection
+    else if not does_fit then Some wrong_crc
     else None
 
--- a frame passed the tests up to those of its contents, at an end with this chain whose peer sends l safe data bytes: it has as
--- many, and this is what the test of its CRCs gave
+-- a frame came to an end with this chain whose peer sends l safe data bytes: it has as many, and it passed the test of its CRCs,
+-- which gave this link
 pub record HasPassed (l : ℕ) (chain : Chain) (f : SessionFrameView) (link : Link) : Type 0 where
   pub len_is : length f.frame.load ≡ l
   pub tested_is : tested chain f.frame ≡ Some link

@@ -13,15 +13,6 @@ use arrayvec::ArrayVec;
 use fsoe_base::{Code, Command, FrameBuf, Image, MOST_DATA, is_all_zero};
 use fsoe_frame::FrameView;
 
-/// The connection id isn't 0.
-const WRONG_CONNECTION: Code = Code(3);
-
-/// A CRC isn't that of a Reset frame.
-const WRONG_CRC: Code = Code(4);
-
-/// A byte after the code isn't 0.
-const WRONG_DATA: Code = Code(7);
-
 /// Writes the Reset frame with this code and `l` safe data bytes, 1 or an even number from 2 to 126,
 /// into `out`, in place of what that held. The data are the code and zeros.
 pub fn reset_frame(code: Code, l: usize, out: &mut FrameBuf)
@@ -41,17 +32,17 @@ pub fn reset_view(view: &FrameView<'_>) -> Result<Code, Code>
     ensures { result ≡ reset.reset_view view.now }
 {
     if view.conn() != 0 {
-        return Err(WRONG_CONNECTION);
+        return Err(Code::WRONG_CONNECTION);
     }
     let mut load = Image::new();
     view.load_into(&mut load);
     let mut crcs = ArrayVec::new();
     crcs_of_reset(load.bytes(), &mut crcs);
     if !crcs_are(view, crcs.as_slice()) {
-        return Err(WRONG_CRC);
+        return Err(Code::WRONG_CRC);
     }
     if !is_all_zero(&load.bytes()[1..]) {
-        return Err(WRONG_DATA);
+        return Err(Code::WRONG_DATA);
     }
     Ok(Code(load.bytes()[0]))
 }
