@@ -18,7 +18,7 @@ use Rattle.end_model.specs.Setup.{Setup, OfMaster, OfSlave}
 use Rattle.end_model.specs.Phases.{phase_of, phase_of_frame, is_reset}
 use Rattle.end_model.specs.Deed.{Deed}
 use Rattle.end_model.specs.Chain.{since, kept}
-use Rattle.end_model.specs.Readiness.{state_of, age, limit, is_done}
+use Rattle.end_model.specs.Readiness.{state_of, age, limit, upload_is_whole}
 use Rattle.end_model.specs.Verdict.{Verdict, verdict}
 use Rattle.end_model.specs.Step.{takes_frame, on_fault, on_reset_frame, on_verdict, on_expiry, with_data, slave_answer, download_frame, after_phase, deed_of, step, IsProper}
 use Rattle.end_model.specs.Reactions.{HasNoSession, IsHandshake, OfSession, OfConnection, OfParameter, AfterSession, AfterConnection, IsResetFrame, IsValid, Fails, failed_with, received, with_answer, pieces_sent, all_pieces, IsExchange, Taking, SlaveRejoins, SlaveStarts, SlaveGoesOn, SlaveNextPhase, SlaveFirstData, SlaveMoreData, MasterStarts, MasterGoesOn, MasterNextPhase, MasterFirstData, MasterMoreData, Puts, Holds, SetsNonce, Rests, Ages, Expires, SendsAgain, ResetsItself, DropsLength, DropsRepeat, DropsInReset, DropsReset, Refuses, PeerResets, Answers, IsReaction}
@@ -29,7 +29,7 @@ use Rattle.end_model.proofs.Ways.{SlaveWay, Start, More, Next, First, Data, slav
 -- in state Data a slave has the whole parameters
 abbrev pub IsLoaded : Setup → List Deed → Type 0
 IsLoaded (OfMaster ms) e = Unit {0}
-IsLoaded (OfSlave ss) e = state_of (OfSlave ss) e ≡ state.Data → is_done ss state.Parameter e ≡ true
+IsLoaded (OfSlave ss) e = state_of (OfSlave ss) e ≡ state.Data → upload_is_whole ss state.Parameter e ≡ true
 
 -- what holds in each run and says which reactions there can be
 pub record Sound (s : Setup) (e : List Deed) : Type 0 where
@@ -77,7 +77,7 @@ slave-data-exchange ss e bytes load c n valid is =
     record { valid = valid; is_made = slave_data ss (received bytes c load e) c load is; in_session = x.in_session; after = x.after ∙ phase_of_data c is }
 
 slave-takes : (ss : SlaveSettings) (e : List Deed) (bytes load : List ℕ) (c : Command) → c ≢ command.Reset → Sound (OfSlave ss) e → IsValid (OfSlave ss) e bytes c load
-    → SlaveWay (λ phase. is_done ss phase e) (state_of (OfSlave ss) e) c → Taking e bytes load (OfSlave ss) c (slave_answer ss (received bytes c load e) c load)
+    → SlaveWay (λ phase. upload_is_whole ss phase e) (state_of (OfSlave ss) e) c → Taking e bytes load (OfSlave ss) c (slave_answer ss (received bytes c load e) c load)
 slave-takes ss e bytes load c n sound valid (Start now is) =
     subst (λ (c : Command). IsValid (OfSlave ss) e bytes c load → Taking e bytes load (OfSlave ss) c (slave_answer ss (received bytes c load e) c load)) (sym is)
     (λ valid. SlaveStarts ss _ now (sound.no_session now) (slave-exchange ss e bytes load command.Session (λ k. cc) valid)) valid
@@ -153,7 +153,7 @@ master-takes ms e bytes load c valid (Reply is now) = master-reply ms e bytes lo
 by-valid : (s : Setup) (e : List Deed) (bytes load : List ℕ) (c : Command) → Sound s e → c ≢ command.Reset → IsValid s e bytes c load → is_next s e bytes load c
 by-valid (OfMaster ms) e bytes load c sound n valid = master-takes ms e bytes load c valid (master_way (state_of (OfMaster ms) e) c n valid.is_allowed)
 by-valid (OfSlave ss) e bytes load c sound n valid =
-    Answers bytes load c _ (slave-takes ss e bytes load c n sound valid (slave_way (λ phase. is_done ss phase e) (state_of (OfSlave ss) e) c n valid.is_allowed))
+    Answers bytes load c _ (slave-takes ss e bytes load c n sound valid (slave_way (λ phase. upload_is_whole ss phase e) (state_of (OfSlave ss) e) c n valid.is_allowed))
 
 by-fault : (s : Setup) (e : List Deed) (bytes : List ℕ) (now : State) (passed : Bool) (found : Code) → state_of s e ≡ now → verdict s e bytes ≡ failed_with passed found → Fails s e bytes passed found → IsReaction s e (deed_of s e (move.Deliver bytes) (on_fault now passed found))
 by-fault s e bytes state.Reset passed found h v t = DropsInReset bytes passed found h v t

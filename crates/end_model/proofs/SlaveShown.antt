@@ -18,7 +18,7 @@ use Rattle.end_model.specs.Setup.{OfSlave, piece_len}
 use Rattle.end_model.specs.Phases.{phase_of}
 use Rattle.end_model.specs.Deed.{Deed}
 use Rattle.end_model.specs.Payloads.{uploaded, whole, has_all}
-use Rattle.end_model.specs.Readiness.{state_of, ticks, slave_limit, is_done}
+use Rattle.end_model.specs.Readiness.{state_of, ticks, slave_limit, upload_is_whole}
 use Rattle.end_model.specs.Step.{takes_frame}
 use Rattle.end_model.specs.Outputs.{zeros, outputs, out_after}
 use Rattle.end_model.specs.Reactions.{parts, IsValid, IsInSession, Taking, SlaveRejoins, SlaveStarts, SlaveGoesOn, SlaveNextPhase, SlaveFirstData, SlaveMoreData, Reaction, Rests, Ages, Expires, SendsAgain, ResetsItself, DropsReset, Refuses, PeerResets, Answers}
@@ -72,7 +72,7 @@ tested-more ss e bytes load t a =
     })
 
 -- a slave takes a frame of a session; data after the whole parameters
-slave-taken : (ss : SlaveSettings) (e : List Deed) (bytes load : List ℕ) (c : Command) (f : List ℕ) → SlaveShows ss e → IsValid (OfSlave ss) e bytes c load → IsInSession f → (phase_of c ≡ state.Data → is_done ss state.Parameter e ≡ true) → phase_of c ≢ state.Reset
+slave-taken : (ss : SlaveSettings) (e : List Deed) (bytes load : List ℕ) (c : Command) (f : List ℕ) → SlaveShows ss e → IsValid (OfSlave ss) e bytes c load → IsInSession f → (phase_of c ≡ state.Data → upload_is_whole ss state.Parameter e ≡ true) → phase_of c ≢ state.Reset
     → SlaveShows ss (deed (move.Deliver bytes) (takes_frame c load) f ∷ e)
 slave-taken ss e bytes load command.Reset f h a k w n = absurd (n refl)
 slave-taken ss e bytes load command.Parameter f h a k w n =

@@ -15,7 +15,7 @@ use Rattle.param_load.specs.declared.slave_settings.SlaveSettings.{SlaveSettings
 use Rattle.end_model.specs.Setup.{Setup, OfMaster, OfSlave}
 use Rattle.end_model.specs.Phases.{phase_of}
 use Rattle.end_model.specs.Deed.{Deed, is_empty}
-use Rattle.end_model.specs.Readiness.{state_of, is_done}
+use Rattle.end_model.specs.Readiness.{state_of, upload_is_whole}
 use Rattle.end_model.specs.Step.{takes_frame, step, IsProper, IsRun}
 use Rattle.end_model.specs.Reactions.{HasNoSession, IsHandshake, OfSession, IsNextPhase, AfterSession, AfterConnection, with_answer, IsExchange, Taking, SlaveRejoins, SlaveStarts, SlaveGoesOn, SlaveNextPhase, SlaveFirstData, SlaveMoreData, MasterStarts, MasterGoesOn, MasterNextPhase, MasterFirstData, MasterMoreData, Reaction, Rests, Expires, SendsAgain, ResetsItself, DropsReset, Refuses, PeerResets, Answers, IsReaction}
 use Rattle.end_model.proofs.Runs.{deed}
@@ -82,12 +82,12 @@ slave-on : (ss : SlaveSettings) (e : List Deed) (p : State) → state_of (OfSlav
 slave-on ss e p h n k = record { no_session = λ r. absurd (other (OfSlave ss) e p state.Reset h n r); is_loaded = λ d. absurd (other (OfSlave ss) e p state.Data h k d) }
 
 -- data leave the parameters
-stays-loaded : (ss : SlaveSettings) (e : List Deed) (bytes load answer : List ℕ) (c : Command) → is_data c ≡ true → IsInSession answer → is_done ss state.Parameter e ≡ true → is_done ss state.Parameter (with_answer bytes c load answer e) ≡ true
+stays-loaded : (ss : SlaveSettings) (e : List Deed) (bytes load answer : List ℕ) (c : Command) → is_data c ≡ true → IsInSession answer → upload_is_whole ss state.Parameter e ≡ true → upload_is_whole ss state.Parameter (with_answer bytes c load answer e) ≡ true
 stays-loaded ss e bytes load answer command.FailSafeData d f h = let a = f.in_session in simp a h
 stays-loaded ss e bytes load answer command.ProcessData d f h = let a = f.in_session in simp a h
 stays-loaded ss e bytes load answer _ d f h = absurd (cc d)
 
-slave-in-data : (ss : SlaveSettings) (e : List Deed) (bytes load answer made : List ℕ) (c : Command) → is_data c ≡ true → is_done ss state.Parameter e ≡ true
+slave-in-data : (ss : SlaveSettings) (e : List Deed) (bytes load answer made : List ℕ) (c : Command) → is_data c ≡ true → upload_is_whole ss state.Parameter e ≡ true
     → IsExchange (OfSlave ss) e bytes load c answer made state.Data → Sound (OfSlave ss) (with_answer bytes c load answer e)
 slave-in-data ss e bytes load answer made c is whole x =
     record {
@@ -133,7 +133,7 @@ reacts s e m r proper = next_reaction s e m (sound_run s e r) proper
 pub outside_session : (s : Setup) (e : List Deed) → IsRun s e → state_of s e ≡ state.Reset → HasNoSession e
 outside_session s e r now = let h : Sound s e = sound_run s e r in h.no_session now
 
-pub loaded : (ss : SlaveSettings) (e : List Deed) → IsRun (OfSlave ss) e → state_of (OfSlave ss) e ≡ state.Data → is_done ss state.Parameter e ≡ true
+pub loaded : (ss : SlaveSettings) (e : List Deed) → IsRun (OfSlave ss) e → state_of (OfSlave ss) e ≡ state.Data → upload_is_whole ss state.Parameter e ≡ true
 loaded ss e r now = let h : Sound (OfSlave ss) e = sound_run (OfSlave ss) e r in h.is_loaded now
 
 -- each deed of a run is one of the reactions

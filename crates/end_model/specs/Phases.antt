@@ -41,32 +41,34 @@ abbrev pub has_command : Command → List ℕ → Bool
 has_command c [] = false
 has_command c (b ∷ bytes) = b == command_byte c
 
+-- the command of a frame by its first byte, if it has one
+abbrev pub command_in : List ℕ → Option Command
+command_in [] = None
+command_in (b ∷ bytes) = command_of b
+
 -- the phase of a frame with this command, if it has one
 abbrev pub phase_of_known : Option Command → State
 phase_of_known None = state.Reset
 phase_of_known (Some c) = phase_of c
 
--- the phase of a frame by its first byte
+-- the phase of a frame
 abbrev pub phase_of_frame : List ℕ → State
-phase_of_frame [] = state.Reset
-phase_of_frame (b ∷ bytes) = phase_of_known (command_of b)
+phase_of_frame bytes = phase_of_known (command_in bytes)
 
 -- whether there is a command, and one of guarded frames
 abbrev pub is_guarded_if : Option Command → Bool
 is_guarded_if None = false
 is_guarded_if (Some c) = is_guarded c
 
--- whether these bytes are a guarded frame, by the first of them
+-- whether these bytes are a guarded frame
 abbrev pub is_guarded_frame : List ℕ → Bool
-is_guarded_frame [] = false
-is_guarded_frame (b ∷ bytes) = is_guarded_if (command_of b)
+is_guarded_frame bytes = is_guarded_if (command_in bytes)
 
 -- whether there is a command, and one of data frames
 abbrev pub is_data_if : Option Command → Bool
 is_data_if None = false
 is_data_if (Some c) = is_data c
 
--- whether these bytes are a data frame, by the first of them
+-- whether these bytes are a data frame
 abbrev pub is_data_frame : List ℕ → Bool
-is_data_frame [] = false
-is_data_frame (b ∷ bytes) = is_data_if (command_of b)
+is_data_frame bytes = is_data_if (command_in bytes)

@@ -31,6 +31,7 @@ use Rattle.fsoe_base.specs.declared.command.Code.{Code}
 use Rattle.fsoe_base.specs.declared.did.Cause.TheVariants as cause
 use Rattle.fsoe_base.specs.declared.did.Dropped.TheVariants as why
 use Rattle.fsoe_base.specs.declared.did.Did.{Did}
+use Rattle.fsoe_base.specs.Codes.{command_not_allowed, unknown_command, wrong_connection, wrong_crc, watchdog_expired}
 use Rattle.fsoe_base.specs.Command.{command_of, code}
 use Rattle.fsoe_base.specs.Data.{is_data}
 use Rattle.fsoe_base.specs.Did.{nothing, dropped, resets}
@@ -48,7 +49,7 @@ use Rattle.end_model.specs.Phases.{phase_of, has_command}
 use Rattle.end_model.specs.Deed.{Deed, is_empty}
 use Rattle.end_model.specs.Chain.{since, own, taken, kept, fits}
 use Rattle.end_model.specs.Payloads.{pay, pieces, count_in, session_id}
-use Rattle.end_model.specs.Readiness.{state_of, age, limit, allowed, is_done}
+use Rattle.end_model.specs.Readiness.{state_of, age, limit, allowed, upload_is_whole}
 use Rattle.end_model.specs.Verdict.{Verdict, Refused, Wrong, has_conn, contents, verdict}
 use Rattle.end_model.specs.Step.{takes_frame, begun, with_data, slave_answer, download_frame}
 
@@ -102,18 +103,18 @@ pub record IsValid (s : Setup) (e : List Deed) (bytes : List ℕ) (c : Command) 
 
 -- a frame fails a test with this code, the first test that it fails; and whether it passed that of its CRCs
 pub data Fails (s : Setup) (e : List Deed) (bytes : List ℕ) : Bool → Code → Type 0 where
-  UnknownCommand : IsRead s e bytes None → Fails s e bytes false (code 0x02)
+  UnknownCommand : IsRead s e bytes None → Fails s e bytes false unknown_command
   WrongReset : (found : Code) → IsRead s e bytes (Some command.Reset) → reset_view (parts s bytes) ≡ Err found
       → Fails s e bytes false found
   NotAllowed : (c : Command) → c ≢ command.Reset → IsRead s e bytes (Some c) → allowed s e c ≡ false
-      → Fails s e bytes false (code 0x01)
+      → Fails s e bytes false command_not_allowed
   WrongConnection : (c : Command) → c ≢ command.Reset → IsRead s e bytes (Some c) → allowed s e c ≡ true
       → has_conn s e c (parts s bytes).conn ≡ false
-      → Fails s e bytes false (code 0x03)
+      → Fails s e bytes false wrong_connection
   WrongCrc : (c : Command) → c ≢ command.Reset → IsRead s e bytes (Some c) → allowed s e c ≡ true
       → has_conn s e c (parts s bytes).conn ≡ true
       → fits s (since e) (parts s bytes) ≡ false
-      → Fails s e bytes false (code 0x04)
+      → Fails s e bytes false wrong_crc
   WrongContents : (c : Command) (found : Code) → c ≢ command.Reset → IsRead s e bytes (Some c) → allowed s e c ≡ true
       → has_conn s e c (parts s bytes).conn ≡ true
       → fits s (since e) (parts s bytes) ≡ true → contents s e c (parts s bytes) ≡ Some found
@@ -164,22 +165,22 @@ pub data Taking (e : List Deed) (bytes load : List ℕ) : Setup → Command → 
       → Taking e bytes load (OfSlave ss) command.Session answer
   -- a slave takes a further frame of a phase whose payload isn't whole
   SlaveGoesOn : (ss : SlaveSettings) (c : Command) (answer : List ℕ) → IsHandshake c → state_of (OfSlave ss) e ≡ phase_of c
-      → is_done ss (phase_of c) e ≡ false
+      → upload_is_whole ss (phase_of c) e ≡ false
       → IsExchange (OfSlave ss) e bytes load c answer (slave_answer ss (received bytes c load e) c load) (phase_of c)
       → Taking e bytes load (OfSlave ss) c answer
   -- a slave has the whole payload of a phase, and takes the first frame of the next
   SlaveNextPhase : (ss : SlaveSettings) (before c : Command) (answer : List ℕ) → IsNextPhase before c
-      → state_of (OfSlave ss) e ≡ phase_of before → is_done ss (phase_of before) e ≡ true
+      → state_of (OfSlave ss) e ≡ phase_of before → upload_is_whole ss (phase_of before) e ≡ true
       → IsExchange (OfSlave ss) e bytes load c answer (slave_answer ss (received bytes c load e) c load) (phase_of c)
       → Taking e bytes load (OfSlave ss) c answer
   -- a slave has the whole parameters, and takes its first data
   SlaveFirstData : (ss : SlaveSettings) (c : Command) (answer : List ℕ) → IsTrue (is_data c) → state_of (OfSlave ss) e ≡ state.Parameter
-      → is_done ss state.Parameter e ≡ true
+      → upload_is_whole ss state.Parameter e ≡ true
       → IsExchange (OfSlave ss) e bytes load c answer (with_data (OfSlave ss) (received bytes c load e)) state.Data
       → Taking e bytes load (OfSlave ss) c answer
   -- a slave takes further data
   SlaveMoreData : (ss : SlaveSettings) (c : Command) (answer : List ℕ) → IsTrue (is_data c) → state_of (OfSlave ss) e ≡ state.Data
-      → is_done ss state.Parameter e ≡ true
+      → upload_is_whole ss state.Parameter e ≡ true
       → IsExchange (OfSlave ss) e bytes load c answer (with_data (OfSlave ss) (received bytes c load e)) state.Data
       → Taking e bytes load (OfSlave ss) c answer
   -- a master in state Reset takes the answer to its Reset frame, and sends its first Session frame
@@ -222,7 +223,7 @@ pub data Reaction (s : Setup) (e : List Deed) : Move → Did → List ℕ → Ty
   Ages : CountsTicks s e → suc (age s e) < limit s e → Reaction s e move.Tick nothing []
   -- the age reaches the limit outside state Reset: the session ends
   Expires : state_of s e ≢ state.Reset → limit s e ≤ suc (age s e)
-      → Reaction s e move.Tick (resets false (cause.Found (code 0x05))) (reset_frame 0x05 (sends s))
+      → Reaction s e move.Tick (resets false (cause.Found watchdog_expired)) (reset_frame watchdog_expired.0 (sends s))
   -- the age reaches the limit at a master in state Reset: it sends Reset again
   SendsAgain : IsMaster s → state_of s e ≡ state.Reset → limit s e ≤ suc (age s e)
       → Reaction s e move.Tick (record nothing { sent = true }) (reset_frame 0 (sends s))

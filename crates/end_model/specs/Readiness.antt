@@ -114,13 +114,13 @@ master_allows state.Data command.FailSafeData = true
 master_allows _ _ = false
 
 -- whether a slave has the whole payload of the phase that it is in
-abbrev pub is_done : SlaveSettings → State → List Deed → Bool
-is_done ss now e = whole ss.profile now (uploaded ss now e)
+abbrev pub upload_is_whole : SlaveSettings → State → List Deed → Bool
+upload_is_whole ss now e = whole ss.profile now (uploaded ss now e)
 
 -- whether an end allows a command of a session; Reset frames, which stand outside of each session, have tests of their own
 abbrev pub allowed : Setup → List Deed → Command → Bool
 allowed (OfMaster ms) e c = master_allows (state_of (OfMaster ms) e) c
-allowed (OfSlave ss) e c = slave_allows (state_of (OfSlave ss) e) (is_done ss (state_of (OfSlave ss) e) e) c
+allowed (OfSlave ss) e c = slave_allows (state_of (OfSlave ss) e) (upload_is_whole ss (state_of (OfSlave ss) e) e) c
 
 -- terms are told in state Data alone
 abbrev pub told_in : State → Terms → Option Terms

@@ -18,6 +18,7 @@ use Rattle.param_load.specs.declared.entry.Move.{Move}
 use Rattle.param_load.specs.declared.entry.Move.TheVariants as move
 use Rattle.param_load.specs.declared.master_settings.MasterSettings.{MasterSettings}
 use Rattle.param_load.specs.declared.slave_settings.SlaveSettings.{SlaveSettings}
+use Rattle.fsoe_base.specs.Codes.{watchdog_expired}
 use Rattle.fsoe_base.specs.Command.{code}
 use Rattle.param_load.specs.Payload.{session_payload, padded}
 use Rattle.param_load.specs.Profile.{allows_id}
@@ -60,7 +61,7 @@ on_verdict now s (Valid c load) = takes_frame c load
 abbrev pub on_expiry : State → Setup → Did
 on_expiry state.Reset (OfMaster ms) = record nothing { sent = true }
 on_expiry state.Reset (OfSlave ss) = nothing
-on_expiry _ s = resets false (cause.Found (code 0x05))
+on_expiry _ s = resets false (cause.Found watchdog_expired)
 
 -- a tick
 abbrev pub on_tick : Setup → List Deed → Did

@@ -20,7 +20,7 @@ ghost use Rattle.param_load.specs.declared.contents.Expected.TheVariants as expe
 ghost use Rattle.param_load.specs.declared.slave_settings.SlaveSettings.{SlaveSettings};
 ghost use Rattle.param_load.specs.Contents.{expected_len};
 ghost use Rattle.end_model.specs.Payloads.{uploaded, whole};
-ghost use Rattle.end_model.specs.Readiness.{state_of, age, limit, is_done};
+ghost use Rattle.end_model.specs.Readiness.{state_of, age, limit, upload_is_whole};
 ghost use Rattle.end_model.specs.Outputs.{zeros, outputs, out};
 ghost use Rattle.end_model.specs.Step.{step, run, continued, IsProper, IsRun};
 ghost use Rattle.end_model.specs.Reactions.{HasNoSession, IsReaction};
@@ -88,7 +88,7 @@ pub fn reactions()
     ensures complete { (s : Setup) (e : List Deed) (what : Move) → IsRun s e → IsProper s what → IsReaction s e (step s e what) }
     ensures each { (s : Setup) (x : Deed) (e : List Deed) → IsRun s (x ∷ e) → IsReaction s e x }
     ensures outside_session { (s : Setup) (e : List Deed) → IsRun s e → state_of s e ≡ state.Reset → HasNoSession e }
-    ensures loaded { (ss : SlaveSettings) (e : List Deed) → IsRun (OfSlave ss) e → state_of (OfSlave ss) e ≡ state.Data → is_done ss state.Parameter e ≡ true }
+    ensures loaded { (ss : SlaveSettings) (e : List Deed) → IsRun (OfSlave ss) e → state_of (OfSlave ss) e ≡ state.Data → upload_is_whole ss state.Parameter e ≡ true }
 {}
 
 /// In every run of an end a deed tells of a sent frame exactly where one was sent, and of at most one of these: a frame
