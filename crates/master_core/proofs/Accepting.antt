@@ -9,9 +9,6 @@ use Rattle.fsoe_base.specs.declared.did.Did.{Did}
 use Rattle.fsoe_base.specs.declared.did.Dropped.{Dropped}
 use Rattle.fsoe_frame.specs.Parts.{bytes_of}
 use Rattle.failsafe_io.specs.Offer.{OfferView}
-use Rattle.param_load.specs.declared.upload.Progress.{Progress}
-use Rattle.param_load.specs.declared.upload.Progress.TheVariants as progress
-use Rattle.param_load.specs.Download.{outcome}
 use Rattle.seq_chain.specs.declared.opened.Opened.{Opened}
 use Rattle.seq_chain.specs.declared.opened.Opened.TheVariants as opened_as
 use Rattle.seq_chain.specs.Opened.{opened}
@@ -28,33 +25,16 @@ use Rattle.end_model.specs.Verdict.{is_repeat}
 use Rattle.master_core.specs.Master.{Accepted, drops, makes_due, settles, refuses, on_session, accepted_by, accepted}
 use Rattle.master_core.specs.MasterView.{MasterView}
 use Rattle.master_core.specs.Now.{is_reset, is_due, kept_in, fault, next_state}
-use Rattle.master_core.specs.States.{answered, session_by, connection_by, parameter_by}
-use Rattle.master_core.specs.declared.states.Exchange.{Exchange}
 
 -- a kit with another offer and another nonce
 abbrev with_both : KitView → OfferView → ℕ → KitView
 with_both k o n = record { settings = k.settings; offer = o; nonce = n }
 
 -- what a frame leads to doesn't depend on them
-session-with : (r : Result Progress Code) (k : KitView) (o : OfferView) (n : ℕ) (x : Exchange) → session_by r (with_both k o n) x ≡ session_by r k x
-session-with (Err e) k o n x = refl
-session-with (Ok progress.More) k o n x = refl
-session-with (Ok progress.Whole) k o n x = refl
-
-connection-with : (r : Result Progress Code) (k : KitView) (o : OfferView) (n : ℕ) (x : Exchange) → connection_by r (with_both k o n) x ≡ connection_by r k x
-connection-with (Err e) k o n x = refl
-connection-with (Ok progress.More) k o n x = refl
-connection-with (Ok progress.Whole) k o n x = refl
-
-parameter-with : (r : Result Progress Code) (k : KitView) (o : OfferView) (n : ℕ) (x : Exchange) → parameter_by r (with_both k o n) x ≡ parameter_by r k x
-parameter-with (Err e) k o n x = refl
-parameter-with (Ok progress.More) k o n x = refl
-parameter-with (Ok progress.Whole) k o n x = refl
-
 taken-with : (now : Now) (k : KitView) (o : OfferView) (n : ℕ) (f : SessionFrameView) → next_state (with_both k o n) now f ≡ next_state k now f
-taken-with (now.Session s) k o n f = session-with (outcome s.download f.frame.load) k o n (answered s f)
-taken-with (now.Connection s) k o n f = connection-with (outcome s.download f.frame.load) k o n (answered s f)
-taken-with (now.Parameter s) k o n f = parameter-with (outcome s.download f.frame.load) k o n (answered s f)
+taken-with (now.Session s) k o n f = refl
+taken-with (now.Connection s) k o n f = refl
+taken-with (now.Parameter s) k o n f = refl
 taken-with _ k o n f = refl
 
 abbrev pub view_with : MasterView → OfferView → ℕ → MasterView

@@ -9,7 +9,7 @@ use Rattle.fsoe_base.specs.declared.did.Dropped.{Dropped}
 use Rattle.fsoe_base.specs.declared.did.Dropped.TheVariants as dropped
 use Rattle.fsoe_base.specs.Did as did
 use Rattle.fsoe_base.specs.Did.{takes, resets}
-use Rattle.fsoe_base.specs.Command.{code}
+use Rattle.fsoe_base.specs.Codes.{local_reset, watchdog_expired}
 use Rattle.fsoe_frame.specs.Parts.{Frame, bytes_of}
 use Rattle.failsafe_io.specs.Timer.{started, expires, ticked}
 use Rattle.param_load.specs.declared.master_settings.MasterSettings.{MasterSettings}
@@ -65,7 +65,7 @@ begins v x f = if x.0 == 0 then makes_due v (next.Begin (bytes_of f)) (takes com
 
 -- a valid Reset frame: outside state Reset the session ends
 abbrev pub on_reset_view : MasterView → Code → Frame → Accepted
-on_reset_view v x f = if is_reset v.state then begins v x f else ends v false (cause.Peer x) (code 0)
+on_reset_view v x f = if is_reset v.state then begins v x f else ends v false (cause.Peer x) local_reset
 
 -- a frame that passed the tests, by its contents
 abbrev pub settles : MasterView → SessionFrameView → Result Next Code → Accepted
@@ -117,7 +117,7 @@ abbrev pub at_limit : MasterView → Outcome
 at_limit v =
     if is_reset v.state
     then record { master = record v { timer = started v.kit.settings.watchdog }; did = record did.nothing { sent = true }; sent = reset_frame 0 (sends (OfMaster v.kit.settings)) }
-    else falls v (cause.Found (code 0x05)) (code 0x05)
+    else falls v (cause.Found watchdog_expired) watchdog_expired
 
 -- a tick makes the age one more, and expires where that reaches the limit
 abbrev pub tick_of : MasterView → Outcome
@@ -128,4 +128,4 @@ tick_of v =
 
 -- a reset of the master's own
 abbrev pub reset_of : MasterView → Outcome
-reset_of v = falls v cause.Local (code 0)
+reset_of v = falls v cause.Local local_reset

@@ -5,7 +5,7 @@ use Rattle.fsoe_base.specs.declared.command.Command.{Command}
 use Rattle.fsoe_base.specs.declared.command.Command.TheVariants as command
 use Rattle.fsoe_base.specs.declared.command.State.{State}
 use Rattle.fsoe_base.specs.declared.command.State.TheVariants as state
-use Rattle.fsoe_base.specs.Command.{code}
+use Rattle.fsoe_base.specs.Codes.{command_not_allowed}
 use Rattle.seq_chain.specs.declared.chain.Chain.{Chain}
 use Rattle.seq_chain.specs.declared.session.Session.{Session}
 use Rattle.seq_chain.specs.Chain.{fits_next}
@@ -103,7 +103,7 @@ next_state kit (now.Session s) f = session_next kit s f
 next_state kit (now.Connection s) f = connection_next kit s f
 next_state kit (now.Parameter s) f = parameter_next kit s f
 next_state kit (now.Data s) f = data_next s f
-next_state kit _ f = Err (code 0x01)
+next_state kit _ f = Err command_not_allowed
 
 -- the machine's state after the frame that is due was sent
 abbrev pub sent_state : KitView → Next → Now

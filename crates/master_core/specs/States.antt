@@ -2,7 +2,7 @@
 use Rattle.std.specs.Prelude.{ℕ, List, Result, Ok, Err, replicate, if◌then◌else◌}
 use Rattle.fsoe_base.specs.declared.command.Code.{Code}
 use Rattle.fsoe_base.specs.declared.command.Command.{Command}
-use Rattle.fsoe_base.specs.Command.{code}
+use Rattle.fsoe_base.specs.Codes.{wrong_data}
 use Rattle.seq_chain.specs.Chain.{frame_sent}
 use Rattle.seq_chain.specs.Session.{first_session, session_taken, session_sent}
 use Rattle.seq_chain.specs.SessionFrame.{SessionFrameView}
@@ -55,31 +55,31 @@ with_download x d = record x { download = d }
 abbrev pub first_data : KitView → Exchange → InData
 first_data kit x = record { session = x.session; terms = terms_of kit.settings; outputs = replicate (receives (OfMaster kit.settings)) 0 }
 
--- by what the download said of an answer, Session goes on, or Connection begins where the session id is whole
+-- by what the download said of an answer, a phase goes on, or the next one begins where the payload is whole
+abbrev pub next_by : Result Progress Code → Next → Next → Result Next Code
+next_by (Err x) more whole = Err x
+next_by (Ok progress.More) more whole = Ok more
+next_by (Ok progress.Whole) more whole = Ok whole
+
+-- in this way Session goes on, or Connection begins
 abbrev pub session_by : Result Progress Code → KitView → Exchange → Result Next Code
-session_by (Err x) kit e = Err x
-session_by (Ok progress.More) kit e = Ok (next.Session e)
-session_by (Ok progress.Whole) kit e = Ok (next.Connection (with_download e (connection_download kit.settings)))
+session_by r kit e = next_by r (next.Session e) (next.Connection (with_download e (connection_download kit.settings)))
 
 -- what an answer in Session leads to
 abbrev pub session_next : KitView → Exchange → SessionFrameView → Result Next Code
 session_next kit x f = session_by (outcome x.download f.frame.load) kit (answered x f)
 
--- in the same way Connection goes on, or Parameter begins
+-- in this way Connection goes on, or Parameter begins
 abbrev pub connection_by : Result Progress Code → KitView → Exchange → Result Next Code
-connection_by (Err x) kit e = Err x
-connection_by (Ok progress.More) kit e = Ok (next.Connection e)
-connection_by (Ok progress.Whole) kit e = Ok (next.Parameter (with_download e (parameter_download kit.settings)))
+connection_by r kit e = next_by r (next.Connection e) (next.Parameter (with_download e (parameter_download kit.settings)))
 
 -- what an answer in Connection leads to
 abbrev pub connection_next : KitView → Exchange → SessionFrameView → Result Next Code
 connection_next kit x f = connection_by (outcome x.download f.frame.load) kit (answered x f)
 
--- in the same way Parameter goes on, or Data begins
+-- in this way Parameter goes on, or Data begins
 abbrev pub parameter_by : Result Progress Code → KitView → Exchange → Result Next Code
-parameter_by (Err x) kit e = Err x
-parameter_by (Ok progress.More) kit e = Ok (next.Parameter e)
-parameter_by (Ok progress.Whole) kit e = Ok (next.Data (first_data kit e))
+parameter_by r kit e = next_by r (next.Parameter e) (next.Data (first_data kit e))
 
 -- what an answer in Parameter leads to
 abbrev pub parameter_next : KitView → Exchange → SessionFrameView → Result Next Code
@@ -91,7 +91,7 @@ data_answered s f = record s { session = session_taken s.session f; outputs = ou
 
 -- what a data frame of the slave leads to: state Data goes on, and FailSafeData with other data than zeros has code 07h
 abbrev pub data_next : InData → SessionFrameView → Result Next Code
-data_next s f = if data_holds f.command f.frame.load then Ok (next.Data (data_answered s f)) else Err (code 0x07)
+data_next s f = if data_holds f.command f.frame.load then Ok (next.Data (data_answered s f)) else Err wrong_data
 
 -- a state that went on in place
 abbrev pub in_place : Result (Unit {0}) Code → InData → Result Next Code

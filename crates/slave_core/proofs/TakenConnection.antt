@@ -29,7 +29,7 @@ use Rattle.slave_core.specs.declared.now.Now.TheVariants as now
 use Rattle.slave_core.specs.declared.states.InConnection.{InConnection}
 use Rattle.seq_chain.specs.SessionFrame.{SessionFrameView}
 use Rattle.slave_core.specs.Slave.{Outcome, settles}
-use Rattle.slave_core.specs.States.{connection_by, connection_reply}
+use Rattle.slave_core.specs.States.{or_reset, connection_taking, connection_reply}
 use Rattle.slave_core.specs.Taken.{as_now}
 use Rattle.slave_core.specs.ViewOf.{session_of, notes_of, kit_of, upload_of, view_in}
 use Rattle.slave_core.proofs.Sound.{Sound}
@@ -87,7 +87,7 @@ abbrev pub connection_settles : Option Code → State → SlaveSettings → List
 connection_settles w p ss e bytes conn joined =
     settles (view_in p ss e) (seen ss bytes)
     (connection_reply (kit_of ss e) (connection_at ss e conn joined) (seen ss bytes))
-    (as_now now.Connection (connection_by (outcome_by w (advanced (upload_at ss conn joined) (came ss bytes).load)) (kit_of ss e) (connection_at ss e conn joined) (seen ss bytes)))
+    (as_now now.Connection (or_reset (outcome_by w (advanced (upload_at ss conn joined) (came ss bytes).load)) (connection_taking (kit_of ss e) (connection_at ss e conn joined) (seen ss bytes))))
 
 -- what is noted before a Connection frame with this connection id
 pub record Joining (ss : SlaveSettings) (e : List Deed) (conn : ℕ) : Type 0 where

@@ -30,7 +30,7 @@ use Rattle.slave_core.specs.declared.now.Now.TheVariants as now
 use Rattle.slave_core.specs.declared.states.InParameter.{InParameter}
 use Rattle.seq_chain.specs.SessionFrame.{SessionFrameView}
 use Rattle.slave_core.specs.Slave.{Outcome, settles}
-use Rattle.slave_core.specs.States.{parameter_by, parameter_reply}
+use Rattle.slave_core.specs.States.{or_reset, parameter_taking, parameter_reply}
 use Rattle.slave_core.specs.Taken.{as_now}
 use Rattle.slave_core.specs.ViewOf.{session_of, notes_of, kit_of, upload_of, view_in}
 use Rattle.slave_core.proofs.Sound.{Sound}
@@ -67,7 +67,7 @@ abbrev pub parameter_settles : Option Code → State → SlaveSettings → List 
 parameter_settles w p ss e bytes joined =
     settles (view_in p ss e) (seen ss bytes)
     (parameter_reply (kit_of ss e) (parameter_at ss e joined) (seen ss bytes))
-    (as_now now.Parameter (parameter_by (outcome_by w (advanced (upload_at ss joined) (came ss bytes).load)) (kit_of ss e) (parameter_at ss e joined) (seen ss bytes)))
+    (as_now now.Parameter (or_reset (outcome_by w (advanced (upload_at ss joined) (came ss bytes).load)) (parameter_taking (kit_of ss e) (parameter_at ss e joined) (seen ss bytes))))
 
 -- what is noted before a frame that comes once the connection id and the address are whole
 pub record Connected (ss : SlaveSettings) (e : List Deed) : Type 0 where

@@ -25,7 +25,7 @@ use Rattle.slave_core.specs.declared.now.Now.TheVariants as now
 use Rattle.slave_core.specs.declared.states.InSession.{InSession}
 use Rattle.seq_chain.specs.SessionFrame.{SessionFrameView}
 use Rattle.slave_core.specs.Slave.{Outcome, settles}
-use Rattle.slave_core.specs.States.{session_by, session_reply}
+use Rattle.slave_core.specs.States.{or_reset, session_taking, session_reply}
 use Rattle.slave_core.specs.Taken.{as_now}
 use Rattle.slave_core.specs.ViewOf.{session_of, Notes, notes_of, kit_of, upload_of, view_in}
 use Rattle.slave_core.proofs.Sound.{OfSession, count_of, SoundIn, Sound}
@@ -71,7 +71,7 @@ abbrev pub session_settles : Option Code → State → SlaveSettings → List De
 session_settles w p ss e bytes n i =
     settles (view_in p ss e) (seen ss bytes)
     (session_reply (kit_of ss e) (session_at ss n i) (seen ss bytes))
-    (as_now now.Session (session_by (outcome_by w (advanced (upload_at ss n.session) (came ss bytes).load)) (kit_of ss e) (session_at ss n i) (seen ss bytes)))
+    (as_now now.Session (or_reset (outcome_by w (advanced (upload_at ss n.session) (came ss bytes).load)) (session_taking (kit_of ss e) (session_at ss n i) (seen ss bytes))))
 
 same_session : (x : Expected) (k : ℕ) (c c' : Chain) (i i' : ℕ) (u : List ℕ) (l l' : List ℕ) → c ≡ c' → i ≡ i' → l ≡ l'
     → now.Session (record { session = record { chain = c; last = l }; id = i; upload = record { expected = x; piece = k; joined = u } })

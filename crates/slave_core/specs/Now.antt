@@ -58,15 +58,15 @@ abbrev pub chain_of : Now → Chain
 chain_of now = chain_in (session_of now)
 
 -- whether the payload of the phase is whole
-abbrev pub is_done : Now → Bool
-is_done (now.Session s) = is_whole s.upload
-is_done (now.Connection s) = is_whole s.upload
-is_done (now.Parameter s) = is_whole s.upload
-is_done _ = false
+abbrev pub upload_is_whole : Now → Bool
+upload_is_whole (now.Session s) = is_whole s.upload
+upload_is_whole (now.Connection s) = is_whole s.upload
+upload_is_whole (now.Parameter s) = is_whole s.upload
+upload_is_whole _ = false
 
 -- the commands of a session that are allowed: that of the phase until its payload is whole, then that of the next phase
 abbrev pub allows : Now → Command → Bool
-allows now c = slave_allows (state_of now) (is_done now) c
+allows now c = slave_allows (state_of now) (upload_is_whole now) c
 
 -- the connection id of a frame is 0 for Session, not 0 for the first Connection frame, and else the session's
 abbrev pub has_conn : Now → Command → ℕ → Bool

@@ -10,7 +10,7 @@ use Rattle.fsoe_base.specs.declared.did.Dropped.TheVariants as dropped
 use Rattle.fsoe_base.specs.Did as did
 use Rattle.fsoe_base.specs.Did.{takes, resets}
 use Rattle.failsafe_io.specs.Timer.{started, expires, ticked}
-use Rattle.fsoe_base.specs.Command.{code}
+use Rattle.fsoe_base.specs.Codes.{local_reset, watchdog_expired}
 use Rattle.param_load.specs.declared.slave_settings.SlaveSettings.{SlaveSettings}
 use Rattle.seq_chain.specs.declared.opened.Opened.{Opened}
 use Rattle.seq_chain.specs.declared.opened.Opened.TheVariants as opened_as
@@ -68,7 +68,7 @@ acknowledges v load = record { slave = fallen v; did = takes command.Reset load 
 
 -- a valid Reset frame: in state Reset it is taken, and else the session ends with the peer's code, and code 0 is sent
 abbrev pub reset_by_peer : SlaveView → Code → List ℕ → Outcome
-reset_by_peer v x load = if is_reset v.state then acknowledges v load else falls v false (cause.Peer x) (code 0)
+reset_by_peer v x load = if is_reset v.state then acknowledges v load else falls v false (cause.Peer x) local_reset
 
 -- a frame whose contents were tested is taken and answered, or refused with their code
 abbrev pub settles : SlaveView → SessionFrameView → List ℕ → Result Now (InReset × Code) → Outcome
@@ -99,7 +99,7 @@ on_frame v bytes = on_opened v (opened (receives (OfSlave v.kit.settings)) (is_r
 abbrev pub tick_in_session : SlaveView → Outcome
 tick_in_session v =
     if expires v.timer
-    then falls v false (cause.Found (code 0x05)) (code 0x05)
+    then falls v false (cause.Found watchdog_expired) watchdog_expired
     else quiet (record v { timer = ticked v.timer })
 
 -- a tick: in state Reset none is counted
@@ -108,4 +108,4 @@ tick_of v = if is_reset v.state then quiet v else tick_in_session v
 
 -- a reset of the slave's own: the session ends, and Reset with code 0 is sent
 abbrev pub reset_of : SlaveView → Outcome
-reset_of v = falls v false cause.Local (code 0)
+reset_of v = falls v false cause.Local local_reset

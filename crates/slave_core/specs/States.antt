@@ -3,12 +3,11 @@ use Rattle.std.specs.Prelude.{ℕ, List, length, replicate, Result, Ok, Err, if�
 use Rattle.fsoe_base.specs.declared.command.Code.{Code}
 use Rattle.fsoe_base.specs.declared.command.Command.{Command}
 use Rattle.fsoe_base.specs.declared.command.Command.TheVariants as command
-use Rattle.fsoe_base.specs.Command.{code}
+use Rattle.fsoe_base.specs.Codes.{wrong_data}
 use Rattle.seq_chain.specs.declared.session.Session.{Session}
 use Rattle.seq_chain.specs.Chain.{frame_sent}
 use Rattle.seq_chain.specs.Session.{first_session, session_taken, session_sent}
 use Rattle.seq_chain.specs.SessionFrame.{SessionFrameView}
-use Rattle.param_load.specs.declared.upload.Progress.{Progress}
 use Rattle.param_load.specs.Contents.{app_part}
 use Rattle.param_load.specs.Payload.{session_payload, number_at, piece_from, padded}
 use Rattle.param_load.specs.Upload.{session_upload, connection_upload, parameter_upload, advanced, outcome, last_piece}
@@ -36,18 +35,22 @@ answered s f conn cmd load = session_sent (session_taken s f) conn cmd load
 abbrev pub answer : Session → SessionFrameView → ℕ → Command → List ℕ → List ℕ
 answer s f conn cmd load = frame_sent (session_taken s f).chain conn cmd load
 
+-- a state after a frame, by what the test of its contents says: this one, or state Reset with the code of the contents
+abbrev pub or_reset : {S X : Type 0} → Result X Code → S → Result S (InReset × Code)
+or_reset (Ok passed) s = Ok s
+or_reset (Err found) s = Err (no_session, found)
+
 -- the load of the answer to a Session frame: the piece of the slave's own session id that has the number of the frame, and zeros
 abbrev pub session_load : KitView → InSession → List ℕ
 session_load kit s = padded (piece_from (session_payload s.id kit.settings.profile) (length s.upload.joined) (piece_len (OfSlave kit.settings))) (sends (OfSlave kit.settings))
 
--- the state after a Session frame, by what the test of its contents says: the slave's session id stays
-abbrev pub session_by : Result Progress Code → KitView → InSession → SessionFrameView → Result InSession (InReset × Code)
-session_by (Err found) kit s f = Err (no_session, found)
-session_by (Ok progress) kit s f = Ok (record s { session = answered s.session f 0 command.Session (session_load kit s); upload = advanced s.upload f.frame.load })
+-- the state after a Session frame is taken: the slave's session id stays
+abbrev pub session_taking : KitView → InSession → SessionFrameView → InSession
+session_taking kit s f = record s { session = answered s.session f 0 command.Session (session_load kit s); upload = advanced s.upload f.frame.load }
 
--- the state after a Session frame, or state Reset with the code of its contents
+-- what a Session frame leads to
 abbrev pub session_next : KitView → InSession → SessionFrameView → Result InSession (InReset × Code)
-session_next kit s f = session_by (outcome s.upload f.frame.load) kit s f
+session_next kit s f = or_reset (outcome s.upload f.frame.load) (session_taking kit s f)
 
 -- the answer to a Session frame: its connection id is 0
 abbrev pub session_reply : KitView → InSession → SessionFrameView → List ℕ
@@ -57,27 +60,25 @@ session_reply kit s f = answer s.session f 0 command.Session (session_load kit s
 abbrev pub echo : KitView → UploadView → SessionFrameView → List ℕ
 echo kit upload f = padded (last_piece (advanced upload f.frame.load)) (sends (OfSlave kit.settings))
 
--- the state after a Connection frame, by what the test of its contents says: the connection id stays
-abbrev pub connection_by : Result Progress Code → KitView → InConnection → SessionFrameView → Result InConnection (InReset × Code)
-connection_by (Err found) kit s f = Err (no_session, found)
-connection_by (Ok progress) kit s f = Ok (record s { session = answered s.session f s.conn command.Connection (echo kit s.upload f); upload = advanced s.upload f.frame.load })
+-- the state after a Connection frame is taken: the connection id stays
+abbrev pub connection_taking : KitView → InConnection → SessionFrameView → InConnection
+connection_taking kit s f = record s { session = answered s.session f s.conn command.Connection (echo kit s.upload f); upload = advanced s.upload f.frame.load }
 
--- the state after a Connection frame, or state Reset with the code of its contents
+-- what a Connection frame leads to
 abbrev pub connection_next : KitView → InConnection → SessionFrameView → Result InConnection (InReset × Code)
-connection_next kit s f = connection_by (outcome s.upload f.frame.load) kit s f
+connection_next kit s f = or_reset (outcome s.upload f.frame.load) (connection_taking kit s f)
 
 -- the answer to a Connection frame
 abbrev pub connection_reply : KitView → InConnection → SessionFrameView → List ℕ
 connection_reply kit s f = answer s.session f s.conn command.Connection (echo kit s.upload f)
 
--- the state after a Parameter frame, by what the test of its contents says: the connection id and the address stay
-abbrev pub parameter_by : Result Progress Code → KitView → InParameter → SessionFrameView → Result InParameter (InReset × Code)
-parameter_by (Err found) kit s f = Err (no_session, found)
-parameter_by (Ok progress) kit s f = Ok (record s { session = answered s.session f s.conn command.Parameter (echo kit s.upload f); upload = advanced s.upload f.frame.load })
+-- the state after a Parameter frame is taken: the connection id and the address stay
+abbrev pub parameter_taking : KitView → InParameter → SessionFrameView → InParameter
+parameter_taking kit s f = record s { session = answered s.session f s.conn command.Parameter (echo kit s.upload f); upload = advanced s.upload f.frame.load }
 
--- the state after a Parameter frame, or state Reset with the code of its contents
+-- what a Parameter frame leads to
 abbrev pub parameter_next : KitView → InParameter → SessionFrameView → Result InParameter (InReset × Code)
-parameter_next kit s f = parameter_by (outcome s.upload f.frame.load) kit s f
+parameter_next kit s f = or_reset (outcome s.upload f.frame.load) (parameter_taking kit s f)
 
 -- the answer to a Parameter frame
 abbrev pub parameter_reply : KitView → InParameter → SessionFrameView → List ℕ
@@ -88,7 +89,7 @@ abbrev pub data_next : KitView → InData → SessionFrameView → Result InData
 data_next kit s f =
     if data_holds f.command f.frame.load
     then Ok (record s { session = answered s.session f s.terms.conn (data_command kit.offer) (data_load kit.offer); outputs = outputs_of f.command f.frame.load })
-    else Err (no_session, code 0x07)
+    else Err (no_session, wrong_data)
 
 -- the answer to a data frame: the offer, or zeros while the slave is held
 abbrev pub data_reply : KitView → InData → SessionFrameView → List ℕ
@@ -124,8 +125,3 @@ running kit s = record {
   };
   outputs = replicate (receives (OfSlave kit.settings)) 0;
 }
-
--- a state that went on in place, as a transition gives it
-abbrev pub in_place : Result (Unit {0}) Code → InData → Result InData (InReset × Code)
-in_place (Ok done) s = Ok s
-in_place (Err found) s = Err (no_session, found)

@@ -10,7 +10,7 @@ ghost use Rattle.fsoe_base.specs.Data.{is_data};
 ghost use Rattle.slave_core.specs.declared.now.Now.TheVariants as now;
 ghost use Rattle.end_model.specs.Setup.{OfSlave, receives};
 ghost use Rattle.slave_core.specs.GoesOn.{GoesOn};
-ghost use Rattle.slave_core.specs.States.{no_session, starting, connecting, loading, running, session_next, session_reply, connection_next, connection_reply, parameter_next, parameter_reply, data_next, data_reply, in_place};
+ghost use Rattle.slave_core.specs.States.{no_session, starting, connecting, loading, running, session_next, session_reply, connection_next, connection_reply, parameter_next, parameter_reply, data_next, data_reply, or_reset};
 ghost use Rattle.slave_core.specs.Taken.{as_now};
 ghost use Rattle.slave_core.specs.Views.{SessionUnder, ConnectionUnder, ParameterUnder, DataUnder};
 
@@ -423,7 +423,7 @@ impl InData {
         requires command { IsTrue (is_data seen.now.frame.command) }
         requires under { DataUnder kit.now.settings self.old }
         requires passed { HasPassed (receives (OfSlave kit.now.settings)) self.old.session.chain seen.now.frame seen.now.link }
-        ensures next { in_place result self.new ≡ data_next kit.now self.old seen.now.frame }
+        ensures next { or_reset result self.new ≡ data_next kit.now self.old seen.now.frame }
         ensures sent { OnOk result (out.new ≡ data_reply kit.now self.old seen.now.frame) }
         ensures unwritten { OnErr result (out.new ≡ out.old) }
         ensures under { DataUnder kit.now.settings self.new }
