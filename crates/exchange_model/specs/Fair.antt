@@ -97,13 +97,13 @@ abbrev pub outputs_due : ℕ → List Entry → List ℕ
 outputs_due l e = outputs_after (replicate l 0) 0 e
 
 -- after each entry the outputs are those that looking back gives
-abbrev pub ShowsDue : Lengths → List Entry → Type 0
-ShowsDue lengths [] = Unit {0}
-ShowsDue lengths (x ∷ w) = (x.outputs ≡ outputs_due (received_len lengths x.end) (x ∷ of_end x.end w)) × ShowsDue lengths w
+abbrev pub OutputsAreDue : Lengths → List Entry → Type 0
+OutputsAreDue lengths [] = Unit {0}
+OutputsAreDue lengths (x ∷ w) = (x.outputs ≡ outputs_due (received_len lengths x.end) (x ∷ of_end x.end w)) × OutputsAreDue lengths w
 
 -- a run is fair, where both ends have these lengths
 pub record Fair (lengths : Lengths) (w : List Entry) : Type 0 where
   pub from_awaited : TakesAwaited lengths w
   pub master_once : IsDistinct nat_eq (numbers_taken end_name.Master w)
   pub slave_once : IsDistinct nat_eq (numbers_taken end_name.Slave w)
-  pub outputs : ShowsDue lengths w
+  pub outputs : OutputsAreDue lengths w

@@ -73,8 +73,8 @@ abbrev pub short_line : Entry → List ℕ
 short_line x = end_letter x.end ++ codes " " ++ entry_text x.did x.state x.outputs []
 
 -- the lines of a run
-abbrev pub lines : List Entry → List (List ℕ)
-lines w = reverse (map pair_line w)
+abbrev pub pair_lines : List Entry → List (List ℕ)
+pair_lines w = reverse (map pair_line w)
 
 -- the lines of a run without frames
 abbrev pub short_lines : List Entry → List (List ℕ)

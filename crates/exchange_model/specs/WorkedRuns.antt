@@ -16,11 +16,11 @@ use Rattle.exchange_model.specs.World.{deeds, entry_at, world}
 use Rattle.exchange_model.specs.Other.{first_other, before_other}
 use Rattle.exchange_model.specs.Fair.{Fair}
 use Rattle.exchange_model.specs.Honest.{Match, exchanges, keeps_time, IsHonest}
-use Rattle.exchange_model.specs.Schedules.{master_values, dm, ds, altered_ds, rs, tm, ts, pm, hs, zs, rounds, until_data, lines, short_lines, sizes, begin_with}
+use Rattle.exchange_model.specs.Schedules.{master_values, dm, ds, altered_ds, rs, tm, ts, pm, hs, zs, rounds, until_data, pair_lines, short_lines, sizes, begin_with}
 
 -- the lines of a run after the first so many, and the number of its first other entry
 abbrev pub told_from : ℕ → List Entry → List (List ℕ) × Option ℕ
-told_from skipped w = (drop skipped (lines w), first_other w)
+told_from skipped w = (drop skipped (pair_lines w), first_other w)
 
 -- a handshake and the first data of both ends
 abbrev pub first_data_run : List Entry
@@ -69,10 +69,10 @@ bytewise_slave = record slave_values { lengths = one_and_one; rule = rule.Any 3;
 -- the first line of such a run, and its first data after sixteen exchanges
 unfoldable pub ByteByByte : Type 0
 ByteByByte =
-    (take 1 (lines (world bytewise_master bytewise_slave (tm ∷ []))) ≡ codes "m again Reset 00 > 2a0086f80000" ∷ [])
+    (take 1 (pair_lines (world bytewise_master bytewise_slave (tm ∷ []))) ≡ codes "m again Reset 00 > 2a0086f80000" ∷ [])
     × (begin_with
     (codes "m took Parameter Data 00 > 36" ∷ codes "s took ProcessData Data 00 > 36" ∷ [])
-    (drop 32 (lines (world bytewise_master bytewise_slave (tm ∷ rounds 16 ++ ds 1 ∷ [])))) ≡ true)
+    (drop 32 (pair_lines (world bytewise_master bytewise_slave (tm ∷ rounds 16 ++ ds 1 ∷ [])))) ≡ true)
 
 -- the longest frames of a master, and short ones of the slave
 abbrev pub long_and_short : Lengths
@@ -86,13 +86,13 @@ longest_frames_run = world (record master_values { lengths = long_and_short }) (
 unfoldable pub LongestFrames : Type 0
 LongestFrames =
     (sizes longest_frames_run ≡ 255 ∷ 7 ∷ [])
-    × (begin_with (codes "m again Reset 0000 > 2a0000c42d0000b914" ∷ []) (take 1 (lines longest_frames_run)) ≡ true)
-    × (drop 1 (lines longest_frames_run) ≡ (codes "s took Reset Reset " ++ replicate 252 0x30 ++ codes " > 2a0000c42d0000") ∷ [])
+    × (begin_with (codes "m again Reset 0000 > 2a0000c42d0000b914" ∷ []) (take 1 (pair_lines longest_frames_run)) ≡ true)
+    × (drop 1 (pair_lines longest_frames_run) ≡ (codes "s took Reset Reset " ++ replicate 252 0x30 ++ codes " > 2a0000c42d0000") ∷ [])
 
 -- the frame that the slave took last is a repeat, although a newer one was sent; it doesn't restart the age
 unfoldable pub Repeated : Type 0
 Repeated =
-    (drop 19 (lines (world master_values slave_values (until_data ++ ds 2 ∷ []))) ≡ codes "s drop Repeat Data 0100" ∷ [])
+    (drop 19 (pair_lines (world master_values slave_values (until_data ++ ds 2 ∷ []))) ≡ codes "s drop Repeat Data 0100" ∷ [])
     × (age (OfSlave slave_values) (deeds end_name.Slave (world master_values slave_values (until_data ++ ts ∷ ds 2 ∷ []))) ≡ 1)
 
 -- eight bytes of safe data in each direction
@@ -108,7 +108,7 @@ altered_group_run =
 -- one altered group ends the session, and no entry is other
 unfoldable pub AlteredGroup : Type 0
 AlteredGroup =
-    (begin_with (codes "s took ProcessData Data 0102030405060708 > 36" ∷ []) (take 1 (drop 10 (lines altered_group_run))) ≡ true)
+    (begin_with (codes "s took ProcessData Data 0102030405060708 > 36" ∷ []) (take 1 (drop 10 (pair_lines altered_group_run))) ≡ true)
     × (told_from 12 altered_group_run
     ≡ (codes "s reset found 04 Reset 0000000000000000 > 2a0400a6340000b91400009c0200007f0f0000" ∷ [], None))
 
@@ -135,7 +135,7 @@ five_ticks_run = world short_watchdog slave_values (until_data ++ replicate 5 ts
 -- the watchdog that the slave took expires in the fifth tick after its last frame
 unfoldable pub FiveTicks : Type 0
 FiveTicks =
-    (take 13 (lines five_ticks_run) ≡ take 12 first_data_lines ++ codes "m took Parameter Parameter 0000 > 5205005c240100" ∷ [])
+    (take 13 (pair_lines five_ticks_run) ≡ take 12 first_data_lines ++ codes "m took Parameter Parameter 0000 > 5205005c240100" ∷ [])
     × (take 6 (drop 13 (short_lines five_ticks_run))
     ≡ codes "s took Parameter Parameter 0000"
     ∷ codes "m took Parameter Parameter 0000"
@@ -144,7 +144,7 @@ FiveTicks =
     ∷ codes "s took ProcessData Data 0100"
     ∷ codes "m took ProcessData Data 8000"
     ∷ [])
-    × (drop 19 (lines five_ticks_run) ≡ replicate 4 (codes "s quiet Data 0100") ++ codes "s reset found 05 Reset 0000 > 2a050025ae0000" ∷ [])
+    × (drop 19 (pair_lines five_ticks_run) ≡ replicate 4 (codes "s quiet Data 0100") ++ codes "s reset found 05 Reset 0000 > 2a050025ae0000" ∷ [])
 
 -- an answer is under way when its sender resets
 abbrev pub answer_under_way_run : List Entry
@@ -182,21 +182,21 @@ OldSession =
 -- a slave with another address ends the session when the address has come
 unfoldable pub OtherAddress : Type 0
 OtherAddress =
-    drop 9 (lines (world master_values (record slave_values { address = 3 }) (take 10 until_data)))
+    drop 9 (pair_lines (world master_values (record slave_values { address = 3 }) (take 10 until_data)))
     ≡ codes "s reset found 06 Reset 0000 > 2a060017380000"
     ∷ []
 
 -- a slave that accepts only shorter watchdogs
 unfoldable pub LongWatchdog : Type 0
 LongWatchdog =
-    drop 13 (lines (world master_values (record slave_values { most = 50; some_most = ltb-true 0 50 refl }) (take 14 until_data)))
+    drop 13 (pair_lines (world master_values (record slave_values { most = 50; some_most = ltb-true 0 50 refl }) (take 14 until_data)))
     ≡ codes "s reset found 09 Reset 0000 > 2a090083850000"
     ∷ []
 
 -- a slave that wants one application parameter, and a master that has none
 unfoldable pub NoParameters : Type 0
 NoParameters =
-    drop 15 (lines (world master_values (record slave_values { rule = rule.Any 1; acceptable = refl }) (take 16 until_data)))
+    drop 15 (pair_lines (world master_values (record slave_values { rule = rule.Any 1; acceptable = refl }) (take 16 until_data)))
     ≡ codes "s reset found 0a Reset 0000 > 2a0a00b1130000"
     ∷ []
 
@@ -204,7 +204,7 @@ NoParameters =
 unfoldable pub HighParameter : Type 0
 HighParameter =
     drop 17
-    (lines
+    (pair_lines
     (world (record master_values { app = 0x30 ∷ [] })
     (record slave_values { rule = rule.Ranges (0x10 ∷ []) (0x20 ∷ []); acceptable = refl })
     (take 18 until_data)))
@@ -240,7 +240,7 @@ held_slave_run = world master_values slave_values (until_data ++ hs true ∷ ds 
 -- it answers with fail-safe data, and the master shows zeros
 unfoldable pub HeldSlave : Type 0
 HeldSlave =
-    drop 19 (lines held_slave_run)
+    drop 19 (pair_lines held_slave_run)
     ≡ codes "s quiet Data 0100"
     ∷ codes "s took ProcessData Data 0100 > 080000f65b0100"
     ∷ codes "m took FailSafeData Data 0000 > 360100c0a40100"
@@ -260,7 +260,7 @@ OldConnection =
 -- number is stepped once more; the slave takes it, and the master's next frame goes on from there
 unfoldable pub NumberStepped : Type 0
 NumberStepped =
-    drop 21 (lines (world master_values slave_values (until_data ++ ds 1 ∷ pm (codes "5026") ∷ dm 1 ∷ ds 1 ∷ dm 1 ∷ [])))
+    drop 21 (pair_lines (world master_values slave_values (until_data ++ ds 1 ∷ pm (codes "5026") ∷ dm 1 ∷ ds 1 ∷ dm 1 ∷ [])))
     ≡ codes "m took ProcessData Data 8000 > 365026d4c80100"
     ∷ codes "s took ProcessData Data 5026 > 368000c9770100"
     ∷ codes "m took ProcessData Data 8000 > 36502603030100"
@@ -281,26 +281,26 @@ profile_two_run = world master_of_two (slave_of_two 7) (tm ∷ rounds 9 ++ ds 1 
 -- the second frames of both session ids, the first data after nine exchanges, and no other entry
 unfoldable pub ProfileTwo : Type 0
 ProfileTwo =
-    (take 2 (drop 4 (lines profile_two_run))
+    (take 2 (drop 4 (pair_lines profile_two_run))
     ≡ codes "m took Session Session 0000 > 4e000061230000"
     ∷ codes "s took Session Session 0000 > 4e000043f10000"
     ∷ [])
     × (begin_with
     (codes "m took Parameter Data 0000 > 36" ∷ codes "s took ProcessData Data 0000 > 36" ∷ [])
-    (drop 18 (lines profile_two_run)) ≡ true)
+    (drop 18 (pair_lines profile_two_run)) ≡ true)
     × (first_other profile_two_run ≡ None)
 
 -- a slave with another word
 unfoldable pub OtherWord : Type 0
 OtherWord =
-    drop 15 (lines (world master_of_two (slave_of_two 8) (tm ∷ rounds 7 ++ ds 1 ∷ [])))
+    drop 15 (pair_lines (world master_of_two (slave_of_two 8) (tm ∷ rounds 7 ++ ds 1 ∷ [])))
     ≡ codes "s reset found 09 Reset 0000 > 2a090083850000"
     ∷ []
 
 -- a master of profile One goes on to Connection while the slave waits for the rest of a session id
 unfoldable pub OtherProfile : Type 0
 OtherProfile =
-    drop 5 (lines (world master_values (slave_of_two 7) (tm ∷ rounds 2 ++ ds 1 ∷ [])))
+    drop 5 (pair_lines (world master_values (slave_of_two 7) (tm ∷ rounds 2 ++ ds 1 ∷ [])))
     ≡ codes "s reset found 01 Reset 0000 > 2a010047b70000"
     ∷ []
 
@@ -308,7 +308,7 @@ OtherProfile =
 unfoldable pub OtherProfileLater : Type 0
 OtherProfileLater =
     drop 7
-    (lines
+    (pair_lines
     (world (record master_values { lengths = four_and_four }) (record (slave_of_two 7) { lengths = four_and_four })
     (tm ∷ rounds 3 ++ ds 1 ∷ [])))
     ≡ codes "s reset found 08 Reset 00000000 > 2a0800001f0000b9140000"

@@ -18,7 +18,7 @@ ghost use Rattle.exchange_model.specs.Ends.{of_end};
 ghost use Rattle.exchange_model.specs.World.{setup_of, frames_of, moves, world, SameLengths, IsProperEvent, IsWorld};
 ghost use Rattle.exchange_model.specs.Items.{items_of, items};
 ghost use Rattle.exchange_model.specs.Other.{first_other, NoOther, before_other};
-ghost use Rattle.exchange_model.specs.Fair.{TakesAwaited, numbers_taken, outputs_due, ShowsDue, Fair};
+ghost use Rattle.exchange_model.specs.Fair.{TakesAwaited, numbers_taken, outputs_due, OutputsAreDue, Fair};
 ghost use Rattle.exchange_model.specs.Honest.{Match, exchanges, IsHonest};
 ghost use Rattle.exchange_model.specs.Serving.{Serves};
 ghost use Rattle.exchange_model.specs.WorkedServing.{ReachesData};
@@ -43,9 +43,9 @@ pub fn frames()
 /// In each world of ends with equal lengths the outputs after each entry are those that looking back gives, whatever
 /// comes: this part of a fair run rests on no premise. Looking back over the entries that a run of an end tells is looking
 /// back over its deeds.
-#[tactic(auto, using(crate::proofs::Fairness::Shown::shows_due, crate::proofs::Fairness::Shown::due_is_out))]
+#[tactic(auto, using(crate::proofs::Fairness::Shown::outputs_are_due, crate::proofs::Fairness::Shown::due_is_out))]
 pub fn outputs()
-    ensures shown { (ms : MasterSettings) (ss : SlaveSettings) (w : List Entry) → SameLengths ms ss → IsWorld ms ss w → ShowsDue ms.lengths w }
+    ensures shown { (ms : MasterSettings) (ss : SlaveSettings) (w : List Entry) → SameLengths ms ss → IsWorld ms ss w → OutputsAreDue ms.lengths w }
     ensures of_deeds { (s : Setup) (e : List Deed) → IsRun s e → outputs_due (receives s) (entries s e) ≡ out s e }
 {}
 

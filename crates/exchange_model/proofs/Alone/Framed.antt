@@ -9,7 +9,7 @@ use Rattle.param_load.specs.declared.master_settings.MasterSettings.{MasterSetti
 use Rattle.param_load.specs.declared.slave_settings.SlaveSettings.{SlaveSettings}
 use Rattle.param_load.specs.Payload.{connection_payload, parameter_payload, padded}
 use Rattle.end_model.specs.Setup.{Setup, OfMaster, OfSlave, sends, piece_len}
-use Rattle.end_model.specs.Phases.{is_guarded, is_guarded_if, is_guarded_frame, phase_of, phase_of_known, phase_of_frame}
+use Rattle.end_model.specs.Phases.{command_in, is_guarded, is_guarded_if, is_guarded_frame, phase_of, phase_of_known, phase_of_frame}
 use Rattle.end_model.specs.Deed.{Deed}
 use Rattle.end_model.specs.Chain.{since}
 use Rattle.end_model.specs.Payloads.{piece, pieces, conn_id, session_id, pay}
@@ -21,11 +21,6 @@ use Rattle.end_model.proofs.SealedFrames.{padded_len, offer_len}
 use Rattle.end_model.proofs.Taken.{answer_is}
 use Rattle.fsoe_base.specs.Data.{is_data}
 use Rattle.exchange_model.proofs.Joint.Joint.{is_guarded_in}
-
--- the command of a frame by its first byte, if it has one
-abbrev pub command_in : List ℕ → Option Command
-command_in [] = None
-command_in (b ∷ bytes) = command_of b
 
 one-head : (b : ℕ) (bytes : List ℕ) (c : Command) → command_of (one_byte b bytes).cmd ≡ Some c → command_of b ≡ Some c
 one-head b [] c h = cc
@@ -54,12 +49,10 @@ head_is l (b ∷ bytes) c h = frame-head (l == 1) b bytes c h
 
 -- what the command of a frame says
 pub phase_by : (bytes : List ℕ) (c : Command) → command_in bytes ≡ Some c → phase_of_frame bytes ≡ phase_of c
-phase_by [] c h = cc
-phase_by (b ∷ bytes) c h = ap phase_of_known h
+phase_by bytes c h = ap phase_of_known h
 
 pub guarded_by : (bytes : List ℕ) (c : Command) → command_in bytes ≡ Some c → is_guarded_frame bytes ≡ is_guarded c
-guarded_by [] c h = cc
-guarded_by (b ∷ bytes) c h = ap is_guarded_if h
+guarded_by bytes c h = ap is_guarded_if h
 
 pub guarded_in : (c : Command) → is_guarded_in (phase_of c) ≡ is_guarded c
 guarded_in command.Reset = refl

@@ -21,10 +21,10 @@ use Rattle.exchange_model.specs.Ends.{same_end, of_end}
 use Rattle.exchange_model.specs.World.{setup_of, deed_in, deeds, IsWorld}
 use Rattle.exchange_model.specs.Items.{put_after, last_put, is_held, offered_put, offered_of, Item, item_of, items_of, items}
 use Rattle.fsoe_base.specs.Data.{is_data}
-use Rattle.end_model.specs.Phases.{is_data_if, is_data_frame}
+use Rattle.end_model.specs.Phases.{command_in, is_data_if, is_data_frame}
 use Rattle.exchange_model.specs.Fair.{frame_with, frame_if}
 use Rattle.exchange_model.proofs.Worlds.Projection.{same, deeds_are_run, entry_reacted}
-use Rattle.exchange_model.proofs.Alone.Framed.{command_in, IsFrame, command_framed, IsData, Zeros, Offers, SlaveSends, Echoes, Gives, slave_sends, piece_sent, data_sent}
+use Rattle.exchange_model.proofs.Alone.Framed.{IsFrame, command_framed, IsData, Zeros, Offers, SlaveSends, Echoes, Gives, slave_sends, piece_sent, data_sent}
 
 -- an item of data is of the frame that its load makes
 pub record Carries (l : ℕ) (i : Item) : Type 0 where

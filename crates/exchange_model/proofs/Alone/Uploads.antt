@@ -23,7 +23,7 @@ use Rattle.param_load.specs.Contents.{fails, word_is, communication_fault, app_f
 use Rattle.param_load.specs.Payload.{number_at}
 use Rattle.param_load.specs.Profile.{id_len}
 use Rattle.end_model.specs.Setup.{OfSlave, piece_len, receives}
-use Rattle.end_model.specs.Phases.{has_command, same_phase, phase_of, phase_of_frame}
+use Rattle.end_model.specs.Phases.{command_in, has_command, same_phase, phase_of, phase_of_frame}
 use Rattle.end_model.specs.Deed.{Deed, of_session}
 use Rattle.end_model.specs.Chain.{since}
 use Rattle.end_model.specs.Payloads.{joined, joined_with, uploaded}
@@ -33,7 +33,7 @@ use Rattle.end_model.specs.Reactions.{with_answer, Taking, Reaction, Expires, Se
 use Rattle.end_model.proofs.SoundRuns.{reacted}
 use Rattle.end_model.proofs.Taken.{exchange_of, answer_is}
 use Rattle.exchange_model.proofs.Joint.Joint.{with_part, Uploads}
-use Rattle.exchange_model.proofs.Alone.Framed.{command_in, phase_by}
+use Rattle.exchange_model.proofs.Alone.Framed.{phase_by}
 use Rattle.exchange_model.proofs.Alone.Pieces.{deed}
 
 -- a frame of a session that was taken

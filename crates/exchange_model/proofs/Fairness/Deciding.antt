@@ -14,7 +14,7 @@ use Rattle.param_load.specs.declared.terms.Terms.{Terms}
 use Rattle.param_load.specs.declared.entry.Entry.{Entry}
 use Rattle.exchange_model.specs.Ends.{of_end}
 use Rattle.exchange_model.specs.Items.{Item, items, awaited}
-use Rattle.exchange_model.specs.Fair.{received_len, data_taken, frame_if, IsTakenFrom, TakesAwaited, numbers_taken, outputs_due, ShowsDue, Fair}
+use Rattle.exchange_model.specs.Fair.{received_len, data_taken, frame_if, IsTakenFrom, TakesAwaited, numbers_taken, outputs_due, OutputsAreDue, Fair}
 
 abbrev same_profile : Profile → Profile → Bool
 same_profile profile.One profile.One = true
@@ -107,11 +107,11 @@ takes lengths (x ∷ w) h =
     let here = is_taken_from (received_len lengths x.end) (data_taken x.did.took) x.terms (awaited (items w) x.end) in
     (taken_from (received_len lengths x.end) (data_taken x.did.took) x.terms (awaited (items w) x.end) (and_parts _ _ h).0, takes lengths w (and_parts here _ h).1)
 
-abbrev shows_due : Lengths → List Entry → Bool
-shows_due lengths [] = true
-shows_due lengths (x ∷ w) = pointwise nat_eq x.outputs (outputs_due (received_len lengths x.end) (x ∷ of_end x.end w)) && shows_due lengths w
+abbrev outputs_are_due : Lengths → List Entry → Bool
+outputs_are_due lengths [] = true
+outputs_are_due lengths (x ∷ w) = pointwise nat_eq x.outputs (outputs_due (received_len lengths x.end) (x ∷ of_end x.end w)) && outputs_are_due lengths w
 
-shows : (lengths : Lengths) (w : List Entry) → shows_due lengths w ≡ true → ShowsDue lengths w
+shows : (lengths : Lengths) (w : List Entry) → outputs_are_due lengths w ≡ true → OutputsAreDue lengths w
 shows lengths [] h = tt
 shows lengths (x ∷ w) h =
     let due : List ℕ = outputs_due (received_len lengths x.end) (x ∷ of_end x.end w) in
@@ -142,7 +142,7 @@ distinct (n ∷ numbers) h = (apart n numbers (and_parts _ _ h).0, distinct numb
 abbrev pub is_fair : Lengths → List Entry → Bool
 is_fair lengths w =
     takes_awaited lengths w
-    && (are_distinct (numbers_taken end_name.Master w) && (are_distinct (numbers_taken end_name.Slave w) && shows_due lengths w))
+    && (are_distinct (numbers_taken end_name.Master w) && (are_distinct (numbers_taken end_name.Slave w) && outputs_are_due lengths w))
 
 pub fair : (lengths : Lengths) (w : List Entry) → is_fair lengths w ≡ true → Fair lengths w
 fair lengths w h =

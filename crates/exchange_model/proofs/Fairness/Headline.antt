@@ -20,7 +20,7 @@ use Rattle.param_load.specs.MasterSettings.{terms_of}
 use Rattle.param_load.specs.declared.slave_settings.SlaveSettings.{SlaveSettings}
 use Rattle.schedule_file.specs.declared.event.Event.{Event}
 use Rattle.end_model.specs.Setup.{Setup, OfSlave, sends, receives}
-use Rattle.end_model.specs.Phases.{phase_of_frame}
+use Rattle.end_model.specs.Phases.{command_in, phase_of_frame}
 use Rattle.end_model.specs.Deed.{Deed, is_empty}
 use Rattle.end_model.specs.Readiness.{state_of}
 use Rattle.end_model.specs.Step.{takes_frame}
@@ -34,11 +34,11 @@ use Rattle.exchange_model.specs.Other.{NoOther, before_other}
 use Rattle.fsoe_base.specs.Data.{is_data}
 use Rattle.exchange_model.specs.Fair.{received_len, data_taken, frame_if, IsTakenFrom, TakesAwaited, Fair}
 use Rattle.exchange_model.proofs.Worlds.Projection.{same, entry_reacted, world_is_world}
-use Rattle.exchange_model.proofs.Fairness.Shown.{receives_is, shows_due}
+use Rattle.exchange_model.proofs.Fairness.Shown.{receives_is, outputs_are_due}
 use Rattle.exchange_model.proofs.Fairness.Once.{at_most_once}
 use Rattle.exchange_model.proofs.Worlds.Others.{before_is_clean, before_is_world}
 use Rattle.exchange_model.proofs.Joint.Awaited.{up_to, newest_phase}
-use Rattle.exchange_model.proofs.Alone.Framed.{command_in, head_is, phase_by}
+use Rattle.exchange_model.proofs.Alone.Framed.{head_is, phase_by}
 use Rattle.exchange_model.proofs.Alone.Pieces.{deed}
 use Rattle.exchange_model.proofs.Alone.Loads.{Carries, all_carry, all_items}
 use Rattle.exchange_model.proofs.Joint.Taking.{TakesItem, takes_item, data_guarded, NoneOther, none_other}
@@ -161,7 +161,7 @@ takes_awaited ms ss (x ∷ w) lens h n =
 -- a world without another entry is fair
 pub fair_world : (ms : MasterSettings) (ss : SlaveSettings) (w : List Entry) → SameLengths ms ss → IsWorld ms ss w → NoOther w → Fair ms.lengths w
 fair_world ms ss w lens h n =
-    record { from_awaited = takes_awaited ms ss w lens h n; master_once = at_most_once ms ss end_name.Master w h; slave_once = at_most_once ms ss end_name.Slave w h; outputs = shows_due ms ss w lens h }
+    record { from_awaited = takes_awaited ms ss w lens h n; master_once = at_most_once ms ss end_name.Master w h; slave_once = at_most_once ms ss end_name.Slave w h; outputs = outputs_are_due ms ss w lens h }
 
 -- a run over proper events without another entry is fair
 pub fair_run : (ms : MasterSettings) (ss : SlaveSettings) (events : List Event) → SameLengths ms ss → All (IsProperEvent ms ss) events → NoOther (world ms ss events) → Fair ms.lengths (world ms ss events)

@@ -27,7 +27,7 @@ use Rattle.end_model.proofs.Taken.{data_after}
 use Rattle.end_model.proofs.Shown.{looking_back}
 use Rattle.exchange_model.specs.Ends.{of_end}
 use Rattle.exchange_model.specs.World.{setup_of, deed_in, deeds, SameLengths, IsWorld}
-use Rattle.exchange_model.specs.Fair.{received_len, outputs_by, outputs_at, outputs_after, outputs_due, ShowsDue}
+use Rattle.exchange_model.specs.Fair.{received_len, outputs_by, outputs_at, outputs_after, outputs_due, OutputsAreDue}
 use Rattle.exchange_model.proofs.Worlds.Projection.{next_told, next_run, told}
 
 -- where ProcessData was taken, the state is Data
@@ -68,9 +68,9 @@ receives_is ms ss end_name.Master h = refl
 receives_is ms ss end_name.Slave h = h.master
 
 -- after each entry of a world the outputs are those that looking back gives
-pub shows_due : (ms : MasterSettings) (ss : SlaveSettings) (w : List Entry) → SameLengths ms ss → IsWorld ms ss w → ShowsDue ms.lengths w
-shows_due ms ss [] h so_far = tt
-shows_due ms ss (x ∷ w) h so_far =
+pub outputs_are_due : (ms : MasterSettings) (ss : SlaveSettings) (w : List Entry) → SameLengths ms ss → IsWorld ms ss w → OutputsAreDue ms.lengths w
+outputs_are_due ms ss [] h so_far = tt
+outputs_are_due ms ss (x ∷ w) h so_far =
     let s : Setup = setup_of ms ss x.end in
     let e : List Deed = deeds x.end w in
     let run : IsRun s (deed_in x ∷ e) = next_run ms ss x w so_far in
@@ -82,5 +82,5 @@ shows_due ms ss (x ∷ w) h so_far =
           ∙ (sym (due_is_out s (deed_in x ∷ e) run)
           ∙ (ap (outputs_due (receives s)) (sym whole)
           ∙ ap (λ (l : ℕ). outputs_due l (x ∷ of_end x.end w)) (sym (receives_is ms ss x.end h))))),
-      shows_due ms ss w h so_far.1,
+      outputs_are_due ms ss w h so_far.1,
     )

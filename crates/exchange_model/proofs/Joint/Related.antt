@@ -14,7 +14,7 @@ use Rattle.param_load.specs.declared.entry.Entry.{Entry}
 use Rattle.param_load.specs.declared.master_settings.MasterSettings.{MasterSettings}
 use Rattle.param_load.specs.declared.slave_settings.SlaveSettings.{SlaveSettings}
 use Rattle.end_model.specs.Setup.{Setup, OfMaster, OfSlave, sends, receives, piece_len}
-use Rattle.end_model.specs.Phases.{is_guarded, phase_of, phase_of_frame}
+use Rattle.end_model.specs.Phases.{command_in, is_guarded, phase_of, phase_of_frame}
 use Rattle.end_model.specs.Deed.{Deed, is_empty}
 use Rattle.end_model.specs.Chain.{since, own}
 use Rattle.end_model.specs.Payloads.{uploaded}
@@ -35,7 +35,7 @@ use Rattle.exchange_model.proofs.Worlds.Numbered.{numbered}
 use Rattle.exchange_model.proofs.Joint.Awaited.{IsNewest, newest_is}
 use Rattle.exchange_model.proofs.Joint.Joint.{is_guarded_in, is_loading, session, carried, with_part, Placed, Joint, Before, Uploads}
 use Rattle.exchange_model.proofs.Joint.JointSteps.{master_adds, unguarded_placed, next_placed, first_placed, slave_before, slave_past, none_uploaded}
-use Rattle.exchange_model.proofs.Alone.Framed.{command_in, head_is, phase_by, phase_framed, IsFrame, connection_of, parameters_of, SlaveSends, Echoes, Gives, slave_sends, piece_sent}
+use Rattle.exchange_model.proofs.Alone.Framed.{head_is, phase_by, phase_framed, IsFrame, connection_of, parameters_of, SlaveSends, Echoes, Gives, slave_sends, piece_sent}
 use Rattle.exchange_model.proofs.Alone.Pieces.{front, order_at, Sent, pieces_sent, session_own, deed, data_phase}
 use Rattle.exchange_model.proofs.Alone.Uploads.{uploads_next, state_next}
 use Rattle.exchange_model.proofs.Joint.Taking.{TakesItem, takes_item, answers_newest, data_guarded, NoneOther, none_other}

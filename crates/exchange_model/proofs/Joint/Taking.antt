@@ -5,7 +5,7 @@ use Rattle.fsoe_base.specs.declared.command.Command.{Command}
 use Rattle.fsoe_base.specs.declared.command.Command.TheVariants as command
 use Rattle.param_load.specs.declared.entry.Entry.{Entry}
 use Rattle.param_load.specs.declared.entry.Move.TheVariants as move
-use Rattle.end_model.specs.Phases.{is_reset, is_guarded, is_guarded_frame, phase_of_frame}
+use Rattle.end_model.specs.Phases.{command_in, is_reset, is_guarded, is_guarded_frame, phase_of_frame}
 use Rattle.end_model.specs.Deed.{delivered}
 use Rattle.end_model.specs.Step.{takes_frame}
 use Rattle.exchange_model.specs.Ends.{peer}
@@ -15,7 +15,7 @@ use Rattle.fsoe_base.specs.Data.{is_data}
 use Rattle.exchange_model.proofs.Worlds.Numbered.{numbered}
 use Rattle.exchange_model.proofs.Joint.Awaited.{Found, awaited_found, Is, with_bytes}
 use Rattle.exchange_model.proofs.Joint.Joint.{is_guarded_in}
-use Rattle.exchange_model.proofs.Alone.Framed.{command_in, phase_by, guarded_by, guarded_in}
+use Rattle.exchange_model.proofs.Alone.Framed.{phase_by, guarded_by, guarded_in}
 
 -- an entry takes these bytes as a frame with this command and load
 pub record Taken (x : Entry) (bytes : List ℕ) (c : Command) (load : List ℕ) : Type 0 where

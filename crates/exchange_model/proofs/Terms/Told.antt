@@ -12,6 +12,7 @@ use Rattle.param_load.specs.declared.terms.Terms.{Terms}
 use Rattle.param_load.specs.declared.master_settings.MasterSettings.{MasterSettings}
 use Rattle.param_load.specs.MasterSettings.{terms_of}
 use Rattle.param_load.specs.declared.slave_settings.SlaveSettings.{SlaveSettings}
+use Rattle.end_model.specs.Phases.{command_in}
 use Rattle.end_model.specs.Setup.{OfMaster, OfSlave, receives, piece_len}
 use Rattle.end_model.specs.Deed.{Deed}
 use Rattle.end_model.specs.Payloads.{uploaded, terms, terms_in}
@@ -26,7 +27,7 @@ use Rattle.exchange_model.proofs.Worlds.Projection.{next_told, deeds_are_run}
 use Rattle.exchange_model.proofs.Worlds.Frames.{bytes_in, frames}
 use Rattle.exchange_model.proofs.Joint.Awaited.{up_to}
 use Rattle.exchange_model.proofs.Joint.Joint.{is_guarded_in, session, Mirrors, Standing, Before, Past, no_reset}
-use Rattle.exchange_model.proofs.Alone.Framed.{command_in, phase_by, connection_of, parameters_of}
+use Rattle.exchange_model.proofs.Alone.Framed.{phase_by, connection_of, parameters_of}
 use Rattle.exchange_model.proofs.Alone.Pieces.{order_at, Sent, AllSent, all_sent, session_phase, sent_more}
 use Rattle.exchange_model.proofs.Alone.Uploads.{Tested, tested}
 use Rattle.exchange_model.proofs.Terms.Agree.{agree, front_whole}
