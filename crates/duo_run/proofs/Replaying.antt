@@ -21,7 +21,7 @@ use Rattle.schedule_file.specs.declared.event.ScheduleLine.TheVariants as line
 use Rattle.schedule_file.specs.declared.header_kind.HeaderKind.{HeaderKind}
 use Rattle.schedule_file.specs.declared.header_kind.HeaderKind.TheVariants as kind
 use Rattle.file_run.specs.Event.{FitsKind}
-use Rattle.file_run.specs.Machine.{GoesOn, MayCome}
+use Rattle.file_run.specs.Machine.{TakesEvent, MayCome}
 use Rattle.file_run.specs.Ran.{EndsWhole}
 use Rattle.file_run.specs.Report.{events_line, refused_line}
 use Rattle.file_run.specs.Reporting.{EndsReport, EndsUnsent, ReportsSoFar, input_stopped}
@@ -80,8 +80,8 @@ pair_goes old new event number x piece steps is h log text n k =
       lines = ap (λ (z : List ℕ). z ++ piece) k.lines ∙ ap (λ (z : List ℕ). entry_lines k.entries ++ z) (is ∙ ap (λ (n : ℕ). entry_line n x) counted);
     }
 
-pub pair_goes_on : (old new : DuoView) (event : Event) (number : ℕ) (x : Entry) (piece : List ℕ) → Steps old event x new → piece ≡ entry_line number x → GoesOn (ReplayStands old) (ReplayStands new) event number piece
-pair_goes_on old new event number x piece steps is = record { goes = pair_goes old new event number x piece steps is }
+pub pair_goes_on : (old new : DuoView) (event : Event) (number : ℕ) (x : Entry) (piece : List ℕ) → Steps old event x new → piece ≡ entry_line number x → TakesEvent (ReplayStands old) (ReplayStands new) event number piece
+pair_goes_on old new event number x piece steps is = record { takes = pair_goes old new event number x piece steps is }
 
 -- where each event has its entry, the run stops as the input does
 stops_with : (input : Input) (w : List Entry) → length w ≡ length input.events → run_stop input w ≡ input.stop

@@ -9,7 +9,7 @@ ghost use Rattle.slave_core.specs.Standing as slave_core;
 ghost use Rattle.duo_run.specs.Acts.{MasterTells, SlaveTells, Hears};
 
 use black_channel::Window;
-use fsoe_base::{Did, End, FrameBuf, Image};
+use fsoe_base::{Did, End, FrameBuf, Image, MOST_DATA};
 use master_core::Master;
 use param_load::{Entry, Move, Terms};
 use schedule_file::Event;
@@ -88,7 +88,7 @@ fn move_slave(slave: &mut Slave, what: &Move, sent: &mut FrameBuf) -> Did
 }
 
 fn image_of(bytes: &[u8]) -> Image
-    requires { length bytes.now ≤ 126 }
+    requires { length bytes.now ≤ MOST_DATA }
     ensures { result ≡ bytes.now }
 {
     let mut image = Image::new();

@@ -11,12 +11,12 @@ use Rattle.fsoe_io.specs.declared.line.LineFault.TheVariants as fault
 use Rattle.schedule_file.specs.Header.{Heading, heading_after}
 use Rattle.schedule_file.specs.Input.{Long, NoNewline, Line, lines_of}
 use Rattle.schedule_file.specs.declared.line_cause.LineCause.{LineCause}
-use Rattle.file_run.specs.Cause.{input_cause}
+use Rattle.file_run.specs.Refusal.{input_cause}
 use Rattle.file_run.specs.Event.{FindsEvent, says_after, says_by, in_input}
 use Rattle.file_run.specs.HaltOf.{halt_of}
 use Rattle.file_run.specs.Header.{FindsHeading, heading_by, heading_by_itself}
 use Rattle.file_run.specs.NextLine.{FindsLine, first_line}
-use Rattle.file_run.specs.declared.cause.Cause.{Cause}
+use Rattle.file_run.specs.declared.refusal.Refusal.{Refusal}
 use Rattle.file_run.specs.declared.event.Grammar.{Grammar}
 use Rattle.file_run.specs.declared.halt.Halt.{Halt}
 use Rattle.file_run.specs.declared.halt.Halt.TheVariants as halt
@@ -45,7 +45,7 @@ refused_header_line h old new text why is goes e =
     by_line old new text (λ lines. heading_by h (first_line lines) ≡ Err (Line why)) is goes (λ rest. ap heading_by_itself e)
 
 -- the next line of an event is refused
-pub refused_event_line : (grammar : Grammar) (events : ℕ) (old new : Option (List ℕ)) (text : List ℕ) (why : Cause) → IsLine text → Consumes old new (text ++ 10 ∷ []) → says_after grammar events text ≡ Err why
+pub refused_event_line : (grammar : Grammar) (events : ℕ) (old new : Option (List ℕ)) (text : List ℕ) (why : Refusal) → IsLine text → Consumes old new (text ++ 10 ∷ []) → says_after grammar events text ≡ Err why
     → IfSome old (λ input. says_by grammar events (first_line (lines_of input)) ≡ Err (input_cause why))
 refused_event_line grammar events old new text why is goes e =
     by_line old new text (λ lines. says_by grammar events (first_line lines) ≡ Err (input_cause why)) is goes (λ rest. ap in_input e)

@@ -6,11 +6,11 @@ use Rattle.std.specs.Io.KnownBytes.{Consumes, prepend_known}
 use Rattle.std.proofs.lemmas.List.{append-nil}
 use Rattle.fsoe_io.proofs.Taken.{consumes_then}
 use Rattle.fsoe_io.specs.Line.{IsLine}
-use Rattle.schedule_file.specs.Header.{Heading, heading_new, heading_after, is_done}
+use Rattle.schedule_file.specs.Header.{Heading, heading_new, heading_after, heading_is_whole}
 use Rattle.schedule_file.specs.Input.{InputCause, NoLine, Line, Stop, Refused, WholeHeader, lines_of, header_in, header_of, header_step}
 use Rattle.schedule_file.specs.declared.header_kind.HeaderKind.{HeaderKind}
 use Rattle.schedule_file.specs.declared.line_cause.LineCause.{LineCause}
-use Rattle.file_run.specs.Cause.{input_cause}
+use Rattle.file_run.specs.Refusal.{input_cause}
 use Rattle.file_run.specs.Halt.{Goes}
 use Rattle.file_run.specs.Header.{FindsHeading, ReadsHeader, IsWholeHeader, IsHeaderCutOff, heading_by, heading_by_itself}
 use Rattle.file_run.specs.NextLine.{first_line}
@@ -36,16 +36,16 @@ said kind h lines taken text more says is =
     ∙ says (text ++ 10 ∷ more)
     ∙ ap (header_in (lines + 1) h) (lines_whole text more is)
 
-step_on : (number : ℕ) (rest : List (Result (List ℕ) InputCause)) (go_on : Heading → Result WholeHeader Stop) (next : Heading) → is_done next ≡ false → header_step number rest go_on (Ok next) ≡ go_on next
+step_on : (number : ℕ) (rest : List (Result (List ℕ) InputCause)) (go_on : Heading → Result WholeHeader Stop) (next : Heading) → heading_is_whole next ≡ false → header_step number rest go_on (Ok next) ≡ go_on next
 step_on number rest go_on next e = rw e refl
 
-step_done : (number : ℕ) (rest : List (Result (List ℕ) InputCause)) (go_on : Heading → Result WholeHeader Stop) (next : Heading) → is_done next ≡ true
+step_done : (number : ℕ) (rest : List (Result (List ℕ) InputCause)) (go_on : Heading → Result WholeHeader Stop) (next : Heading) → heading_is_whole next ≡ true
     → header_step number rest go_on (Ok next) ≡ Ok (record { heading = next; lines = number; rest = rest })
 step_done number rest go_on next e = rw e refl
 
 -- a line more, after which the header goes on
 pub header_line : (kind : HeaderKind) (h next : Heading) (lines now : ℕ) (a b c : Option (List ℕ)) (text : List ℕ) → HeaderSeen kind h lines a b → IsLine text → Consumes b c (text ++ 10 ∷ [])
-    → heading_after h text ≡ Ok next → is_done next ≡ false → now ≡ lines + 1 → HeaderSeen kind next now a c
+    → heading_after h text ≡ Ok next → heading_is_whole next ≡ false → now ≡ lines + 1 → HeaderSeen kind next now a c
 header_line kind h next lines now a b c text seen is goes e open_ count = record {
   taken = seen.taken ++ (text ++ 10 ∷ []);
   goes = consumes_then a b c seen.taken (text ++ 10 ∷ []) seen.goes goes;
@@ -59,7 +59,7 @@ header_line kind h next lines now a b c text seen is goes e open_ count = record
 
 -- the last line, which ends the header
 pub header_done : (kind : HeaderKind) (h next : Heading) (lines now : ℕ) (a b c : Option (List ℕ)) (text : List ℕ) → HeaderSeen kind h lines a b → IsLine text → Consumes b c (text ++ 10 ∷ [])
-    → heading_after h text ≡ Ok next → is_done next ≡ true → now ≡ lines + 1 → IsWholeHeader kind next now a c
+    → heading_after h text ≡ Ok next → heading_is_whole next ≡ true → now ≡ lines + 1 → IsWholeHeader kind next now a c
 header_done kind h next lines now a b c text seen is goes e done count = record {
   taken = seen.taken ++ (text ++ 10 ∷ []);
   goes = consumes_then a b c seen.taken (text ++ 10 ∷ []) seen.goes goes;

@@ -7,23 +7,24 @@ use Rattle.std.proofs.lemmas.List.{append-nil, length_push}
 use Rattle.std.proofs.lemmas.Option.{IfSome_then}
 use Rattle.fsoe_io.specs.Faults.{Rose}
 use Rattle.fsoe_io.specs.Line.{HasNoNewline}
-use Rattle.fsoe_io.specs.Output.{Waiting, Passes}
+use Rattle.fsoe_io.specs.Output.{OutputView, Passes}
 use Rattle.fsoe_io.specs.Sink.{Grew}
 use Rattle.fsoe_io.specs.declared.status.Ended.{Ended}
 use Rattle.fsoe_io.specs.declared.status.Status.{Status}
 use Rattle.fsoe_io.specs.declared.status.Status.TheVariants as status
+use Rattle.schedule_file.specs.declared.event.TheConstants.{MAX_EVENTS}
 use Rattle.schedule_file.specs.Header.{Heading}
 use Rattle.schedule_file.specs.Input.{InputCause, NoLine, NoFrame, Stop, AtEnd, Refused, Input, lines_of, header_of, input_by, input_of, said_after}
 use Rattle.schedule_file.specs.declared.event.Event.{Event}
 use Rattle.schedule_file.specs.declared.event.ScheduleLine.{ScheduleLine}
 use Rattle.schedule_file.specs.declared.event.ScheduleLine.TheVariants as line
 use Rattle.schedule_file.specs.declared.header_kind.HeaderKind.{HeaderKind}
-use Rattle.file_run.specs.Cause.{input_cause}
+use Rattle.file_run.specs.Refusal.{input_cause}
 use Rattle.file_run.specs.Ending.{Halts, Writes}
 use Rattle.file_run.specs.Event.{FindsEvent, FitsGrammar}
 use Rattle.file_run.specs.Halt.{Blames, Goes, Stalls}
 use Rattle.file_run.specs.Header.{ReadsHeader, IsHeaderCutOff}
-use Rattle.file_run.specs.Machine.{GoesOn, IsGrammarOf, MayCome}
+use Rattle.file_run.specs.Machine.{TakesEvent, IsGrammarOf, MayCome}
 use Rattle.file_run.specs.Outside.{Outside, Wrote}
 use Rattle.file_run.specs.Ran.{CameToEnd, EndsAs, EndsWhole, ReportsReadLines}
 use Rattle.file_run.specs.Report.{refused_line}
@@ -45,7 +46,7 @@ Standing = Heading → List Event → List ℕ → Type 0
 
 -- what holds before each line after a header: these events were read, for which a machine stands, and what went to the sink and what
 -- waits are the text that it wrote
-pub record Running (r : Reporting) (stands : Standing) (grammar : Grammar) (left0 left w0 w : Option (List ℕ)) (waiting : Waiting) (events lines : ℕ) : Type 0 where
+pub record Running (r : Reporting) (stands : Standing) (grammar : Grammar) (left0 left w0 w : Option (List ℕ)) (waiting : OutputView) (events lines : ℕ) : Type 0 where
   pub heading : Heading
   pub header : ℕ
   pub log : List Event
@@ -57,7 +58,7 @@ pub record Running (r : Reporting) (stands : Standing) (grammar : Grammar) (left
   pub sent : Sent w0 w waiting text
   pub size : waiting.sent + length waiting.bytes ≤ 1024 * events
   pub count : length log ≡ events
-  pub few : events ≤ 200000
+  pub few : events ≤ MAX_EVENTS
   pub lined : lines ≡ header + events
   pub headed : header ≤ 1032
 
@@ -70,7 +71,7 @@ pub heads_as : (asked kind : HeaderKind) (r : Result Heading Halt) (lines : ℕ)
 heads_as asked kind r lines old new e heads = subst (λ (k : HeaderKind). ReadsHeader k r lines old new) e heads
 
 -- after a header nothing was sent
-pub running_start : (r : Reporting) (stands : Standing) (grammar : Grammar) (h : Heading) (left0 left w : Option (List ℕ)) (waiting : Waiting) (lines : ℕ) → ReadsHeader r.kind (Ok h) lines left0 left
+pub running_start : (r : Reporting) (stands : Standing) (grammar : Grammar) (h : Heading) (left0 left w : Option (List ℕ)) (waiting : OutputView) (lines : ℕ) → ReadsHeader r.kind (Ok h) lines left0 left
     → TookLines lines left0 left → lines ≤ 1032 → stands h [] [] → IsGrammarOf r.kind h grammar → waiting.bytes ≡ [] → waiting.sent ≡ 0 → Running r stands grammar left0 left w w waiting 0 lines
 running_start r stands grammar h left0 left w waiting lines heads took most stood of none sent = record {
   heading = h;
@@ -90,7 +91,7 @@ running_start r stands grammar h left0 left w waiting lines heads took most stoo
 }
 
 -- what waited was sent
-pub running_sent : (r : Reporting) (stands : Standing) (grammar : Grammar) (left0 left w0 w1 w2 : Option (List ℕ)) (waiting now : Waiting) (events lines : ℕ) → Running r stands grammar left0 left w0 w1 waiting events lines
+pub running_sent : (r : Reporting) (stands : Standing) (grammar : Grammar) (left0 left w0 w1 w2 : Option (List ℕ)) (waiting now : OutputView) (events lines : ℕ) → Running r stands grammar left0 left w0 w1 waiting events lines
     → Passes waiting now w1 w2 [] now.bytes → now.sent + length now.bytes ≡ waiting.sent + length waiting.bytes → Running r stands grammar left0 left w0 w2 now events lines
 running_sent r stands grammar left0 left w0 w1 w2 waiting now events lines k p same = record {
   heading = k.heading;
@@ -110,8 +111,8 @@ running_sent r stands grammar left0 left w0 w1 w2 waiting now events lines k p s
 }
 
 -- the next line is an event, which may come to the machine
-pub event_may_come : (r : Reporting) (stands : Standing) (grammar : Grammar) (left0 left w0 w : Option (List ℕ)) (waiting : Waiting) (events lines : ℕ) (event : Event) → Running r stands grammar left0 left w0 w waiting events lines
-    → FitsGrammar grammar (line.Step event) → events < 200000 → MayCome stands r.kind event (events + 1)
+pub event_may_come : (r : Reporting) (stands : Standing) (grammar : Grammar) (left0 left w0 w : Option (List ℕ)) (waiting : OutputView) (events lines : ℕ) (event : Event) → Running r stands grammar left0 left w0 w waiting events lines
+    → FitsGrammar grammar (line.Step event) → events < MAX_EVENTS → MayCome stands r.kind event (events + 1)
 event_may_come r stands grammar left0 left w0 w waiting events lines event k fits few = record {
   heading = k.heading;
   log = k.log;
@@ -128,16 +129,16 @@ event_may_come r stands grammar left0 left w0 w waiting events lines event k fit
 found_at : (grammar : Grammar) (n events : ℕ) (said : ScheduleLine) (b c : Option (List ℕ)) → n ≡ events → FindsEvent grammar events (Ok said) b c → FindsEvent grammar n (Ok said) b c
 found_at grammar n events said b c e finds = subst (λ (k : ℕ). FindsEvent grammar k (Ok said) b c) (sym e) finds
 
-event_seen : (r : Reporting) (stands : Standing) (grammar : Grammar) (left0 b c w0 w : Option (List ℕ)) (waiting : Waiting) (events lines : ℕ) (event : Event) (k : Running r stands grammar left0 b w0 w waiting events lines)
-    → FindsEvent grammar events (Ok (line.Step event)) b c → events < 200000 → Seen r.kind k.heading k.header left0 c (k.log ++ event ∷ [])
+event_seen : (r : Reporting) (stands : Standing) (grammar : Grammar) (left0 b c w0 w : Option (List ℕ)) (waiting : OutputView) (events lines : ℕ) (event : Event) (k : Running r stands grammar left0 b w0 w waiting events lines)
+    → FindsEvent grammar events (Ok (line.Step event)) b c → events < MAX_EVENTS → Seen r.kind k.heading k.header left0 c (k.log ++ event ∷ [])
 event_seen r stands grammar left0 b c w0 w waiting events lines event k finds few =
     let says : said_after r.kind k.heading finds.0 ≡ Ok (line.Step event) =
     sym (grammar_after r.kind k.heading grammar k.is_of finds.0) ∙ says_event grammar events finds.0 event finds.3 in
     seen_more r.kind k.heading k.header left0 b c k.log event finds.0 k.seen finds.1 finds.2 (omega (arith, k.count, few)) says
 
 -- the machine did it, and its line waits
-pub running_event : (r : Reporting) (old new : Standing) (grammar : Grammar) (left0 b c w0 w1 w2 : Option (List ℕ)) (waiting now : Waiting) (events lines next : ℕ) (event : Event) (piece : List ℕ)
-    → Running r old grammar left0 b w0 w1 waiting events lines → FindsEvent grammar events (Ok (line.Step event)) b c → events < 200000 → next ≡ lines + 1 → GoesOn old new event (events + 1) piece
+pub running_event : (r : Reporting) (old new : Standing) (grammar : Grammar) (left0 b c w0 w1 w2 : Option (List ℕ)) (waiting now : OutputView) (events lines next : ℕ) (event : Event) (piece : List ℕ)
+    → Running r old grammar left0 b w0 w1 waiting events lines → FindsEvent grammar events (Ok (line.Step event)) b c → events < MAX_EVENTS → next ≡ lines + 1 → TakesEvent old new event (events + 1) piece
     → Passes waiting now w1 w2 piece now.bytes → now.sent + length now.bytes ≡ waiting.sent + length waiting.bytes + length piece → length piece ≤ 1024
     → Running r new grammar left0 c w0 w2 now (events + 1) next
 running_event r old new grammar left0 b c w0 w1 w2 waiting now events lines next event piece k finds few step on p size short = record {
@@ -145,7 +146,7 @@ running_event r old new grammar left0 b c w0 w1 w2 waiting now events lines next
   header = k.header;
   log = k.log ++ event ∷ [];
   text = k.text ++ piece;
-  stood = on.goes k.heading k.log k.text (omega (arith, k.count)) k.stood;
+  stood = on.takes k.heading k.log k.text (omega (arith, k.count)) k.stood;
   is_of = k.is_of;
   seen = event_seen r old grammar left0 b c w0 w1 waiting events lines event k finds few;
   took = took_line lines next left0 b c finds.0 k.took finds.1 finds.2 step;
@@ -158,7 +159,7 @@ running_event r old new grammar left0 b c w0 w1 w2 waiting now events lines next
 }
 
 -- an input of which these events were read
-seen_input : (kind : HeaderKind) (h : Heading) (n : ℕ) (log : List Event) (xs ys : List ℕ) → Seen kind h n (Some xs) (Some ys) log → length log ≤ 200000
+seen_input : (kind : HeaderKind) (h : Heading) (n : ℕ) (log : List Event) (xs ys : List ℕ) → Seen kind h n (Some xs) (Some ys) log → length log ≤ MAX_EVENTS
     → (more : List Event) × (stop : Stop) × (input_of kind xs ≡ input_stopped h n (log ++ more) stop)
 seen_input kind h n log xs ys seen few =
     let input : Input = input_on kind h n log (lines_of ys) in
@@ -166,7 +167,7 @@ seen_input kind h n log xs ys seen few =
     (more.0, input.stop, ap (input_of kind) seen.goes ∙ seen.says ys ∙ ap (λ (events : List Event). input_stopped h n events input.stop) more.1)
 
 -- what holds of each input whose events begin so holds of the one that is told
-by_seen : (kind : HeaderKind) (h : Heading) (n : ℕ) (log : List Event) (left0 left : Option (List ℕ)) (P : Input → Type 0) → Seen kind h n left0 left log → length log ≤ 200000
+by_seen : (kind : HeaderKind) (h : Heading) (n : ℕ) (log : List Event) (left0 left : Option (List ℕ)) (P : Input → Type 0) → Seen kind h n left0 left log → length log ≤ MAX_EVENTS
     → ((more : List Event) (stop : Stop) → P (input_stopped h n (log ++ more) stop)) → IfSome left0 (λ input. P (input_of kind input))
 by_seen kind h n log None left P seen few holds = tt
 by_seen kind h n log (Some xs) None P seen few holds = absurd seen.goes
@@ -175,13 +176,13 @@ by_seen kind h n log (Some xs) (Some ys) P seen few holds =
     subst P (sym is.2) (holds is.0 is.1)
 
 -- its report begins with the text so far
-begun : (r : Reporting) (stands : Standing) (grammar : Grammar) (left0 left w0 w : Option (List ℕ)) (waiting : Waiting) (events lines : ℕ) → Reports r stands
+begun : (r : Reporting) (stands : Standing) (grammar : Grammar) (left0 left w0 w : Option (List ℕ)) (waiting : OutputView) (events lines : ℕ) → Reports r stands
     → (k : Running r stands grammar left0 left w0 w waiting events lines) → IfSome left0 (λ input. BeginsReport r (input_of r.kind input) k.text)
 begun r stands grammar left0 left w0 w waiting events lines reports k =
     by_seen r.kind k.heading k.header k.log left0 left (λ input. BeginsReport r input k.text) k.seen (omega (arith, k.count, k.few)) ((reports k.heading k.log k.text k.stood).begins k.header)
 
 -- a write failed before a line
-pub ends_unsent : (r : Reporting) (stands : Standing) (grammar : Grammar) (o : Outside) (left w1 : Option (List ℕ)) (waiting now : Waiting) (events lines : ℕ) (rest : List ℕ) (ended : Ended) → Reports r stands
+pub ends_unsent : (r : Reporting) (stands : Standing) (grammar : Grammar) (o : Outside) (left w1 : Option (List ℕ)) (waiting now : OutputView) (events lines : ℕ) (rest : List ℕ) (ended : Ended) → Reports r stands
     → Running r stands grammar o.source.before left o.sink.before w1 waiting events lines → Passes waiting now w1 o.sink.after [] rest → ended.status ≡ status.Write → ended.place ≡ now.sent
     → Rose o.sink.faults_before o.sink.faults_after → EndsAs r ended.status ended o
 ends_unsent r stands grammar o left w1 waiting now events lines rest ended reports k p e place rose =
@@ -190,12 +191,12 @@ ends_unsent r stands grammar o left w1 waiting now events lines rest ended repor
     (begun r stands grammar o.source.before left o.sink.before w1 waiting events lines reports k) rose
 
 -- the line of an event could not be written
-pub ends_lost : (r : Reporting) (old new : Standing) (grammar : Grammar) (o : Outside) (b c w1 : Option (List ℕ)) (waiting now : Waiting) (events lines : ℕ) (event : Event) (piece rest : List ℕ) (ended : Ended) → Reports r new
-    → Running r old grammar o.source.before b o.sink.before w1 waiting events lines → FindsEvent grammar events (Ok (line.Step event)) b c → events < 200000 → GoesOn old new event (events + 1) piece
+pub ends_lost : (r : Reporting) (old new : Standing) (grammar : Grammar) (o : Outside) (b c w1 : Option (List ℕ)) (waiting now : OutputView) (events lines : ℕ) (event : Event) (piece rest : List ℕ) (ended : Ended) → Reports r new
+    → Running r old grammar o.source.before b o.sink.before w1 waiting events lines → FindsEvent grammar events (Ok (line.Step event)) b c → events < MAX_EVENTS → TakesEvent old new event (events + 1) piece
     → Passes waiting now w1 o.sink.after piece rest → ended.status ≡ status.Write → ended.place ≡ now.sent → Rose o.sink.faults_before o.sink.faults_after → EndsAs r ended.status ended o
 ends_lost r old new grammar o b c w1 waiting now events lines event piece rest ended reports k finds few on p e place rose =
     let part = sent_part o.sink.before w1 o.sink.after waiting now k.text piece rest k.sent p in
-    let stood = on.goes k.heading k.log k.text (omega (arith, k.count)) k.stood in
+    let stood = on.takes k.heading k.log k.text (omega (arith, k.count)) k.stood in
     ends_write r o ended (k.text ++ piece) e (subst (λ (n : ℕ). Part o.sink.before o.sink.after n (k.text ++ piece)) (sym place) part)
     (by_seen r.kind k.heading k.header (k.log ++ event ∷ []) o.source.before c (λ input. BeginsReport r input (k.text ++ piece))
     (event_seen r old grammar o.source.before b c o.sink.before w1 waiting events lines event k finds few) (omega (arith, few, k.count, length_push k.log event))
@@ -221,7 +222,7 @@ as_whole r status.Write place ended o whole came = absurd whole
 as_whole r status.Memory place ended o whole came = absurd whole
 
 -- a whole report was written: the run ends as it says, or a write failed at the end
-ends_reported : (r : Reporting) (o : Outside) (w1 : Option (List ℕ)) (faults : ℕ) (waiting : Waiting) (text last : List ℕ) (ended result : Ended) → Sent o.sink.before w1 waiting text
+ends_reported : (r : Reporting) (o : Outside) (w1 : Option (List ℕ)) (faults : ℕ) (waiting : OutputView) (text last : List ℕ) (ended result : Ended) → Sent o.sink.before w1 waiting text
     → Writes waiting.sent (waiting.bytes ++ last) ended result (record { before = w1; after = o.sink.after; faults_before = faults; faults_after = o.sink.faults_after }) → o.sink.faults_before ≤ faults
     → IfSome o.source.before (λ input. r.reports (input_of r.kind input) ended (text ++ last)) → (Wrote o (λ input text. r.reports (input_of r.kind input) ended text) → EndsAs r ended.status ended o)
     → EndsAs r result.status result o
@@ -231,7 +232,7 @@ ends_reported r o w1 faults waiting text last ended result sent writes later who
     (λ grew. ends (IfSome_then o.source.before whole (λ input report. (text ++ last, grew, report))))
 
 -- the line `end` comes
-pub ends_at_end : (r : Reporting) (stands : Standing) (grammar : Grammar) (o : Outside) (b c w1 : Option (List ℕ)) (faults : ℕ) (waiting : Waiting) (events lines : ℕ) (last : List ℕ) (ended result : Ended)
+pub ends_at_end : (r : Reporting) (stands : Standing) (grammar : Grammar) (o : Outside) (b c w1 : Option (List ℕ)) (faults : ℕ) (waiting : OutputView) (events lines : ℕ) (last : List ℕ) (ended result : Ended)
     → Running r stands grammar o.source.before b o.sink.before w1 waiting events lines → FindsEvent grammar events (Ok line.End) b c
     → ((h : Heading) (log : List Event) (text : List ℕ) → length log ≡ events → stands h log text → EndsReport r h log (text ++ last) ended)
     → ((h : Heading) (log : List Event) (text : List ℕ) → stands h log text → EndsWhole r.judges ended.status ended.place)
@@ -247,8 +248,8 @@ ends_at_end r stands grammar o b c w1 faults waiting events lines last ended res
     (λ wrote. as_whole r ended.status ended.place ended o ends (record { ends = ends; wrote = wrote }))
 
 -- an event comes whose frame wasn't sent
-pub ends_missed : (r : Reporting) (stands : Standing) (grammar : Grammar) (o : Outside) (b c w1 : Option (List ℕ)) (faults : ℕ) (waiting : Waiting) (events lines number : ℕ) (event : Event) (result : Ended)
-    → Running r stands grammar o.source.before b o.sink.before w1 waiting events lines → FindsEvent grammar events (Ok (line.Step event)) b c → events < 200000 → number ≡ lines + 1
+pub ends_missed : (r : Reporting) (stands : Standing) (grammar : Grammar) (o : Outside) (b c w1 : Option (List ℕ)) (faults : ℕ) (waiting : OutputView) (events lines number : ℕ) (event : Event) (result : Ended)
+    → Running r stands grammar o.source.before b o.sink.before w1 waiting events lines → FindsEvent grammar events (Ok (line.Step event)) b c → events < MAX_EVENTS → number ≡ lines + 1
     → ((h : Heading) (log : List Event) (text : List ℕ) → stands h log text → EndsUnsent r h log text event)
     → Writes waiting.sent (waiting.bytes ++ refused_line number NoFrame) (refused_at number) result (record { before = w1; after = o.sink.after; faults_before = faults; faults_after = o.sink.faults_after })
     → o.sink.faults_before ≤ faults → EndsAs r result.status result o
@@ -263,7 +264,7 @@ ends_missed r stands grammar o b c w1 faults waiting events lines number event r
 
 -- a read failed
 reads_failed : (r : Reporting) (o : Outside) (left : Option (List ℕ)) (held : List ℕ) (h : Heading) (n : ℕ) (log : List Event) (grammar : Grammar) (text : List ℕ) → IsGrammarOf r.kind h grammar → Seen r.kind h n o.source.before left log
-    → length log ≤ 200000 → ReportsSoFar r h log text → Consumes left (prepend_known held o.source.after) [] → HasNoNewline held
+    → length log ≤ MAX_EVENTS → ReportsSoFar r h log text → Consumes left (prepend_known held o.source.after) [] → HasNoNewline held
     → IfSome o.source.before (λ input. ReportsReadLines r (n + length log) input o.source.after text)
 reads_failed r o left held h n log grammar text of seen few so_far same none =
     let P : Option (List ℕ) → Type 0 = λ told. Seen r.kind h n told left log → IfSome told (λ input. BeginsReport r (input_of r.kind input) text) → IfSome told (λ input. ReportsReadLines r (n + length log) input o.source.after text) in
@@ -294,7 +295,7 @@ begins_nothing : (r : Reporting) (told : Option (List ℕ)) (text : List ℕ) �
 begins_nothing r told text begins = subst (λ (z : List ℕ). IfSome told (λ input. BeginsReport r (input_of r.kind input) z)) (sym (append-nil text)) begins
 
 -- the input goes no further
-pub ends_halted : (r : Reporting) (stands : Standing) (grammar : Grammar) (o : Outside) (b : Option (List ℕ)) (held : List ℕ) (w1 : Option (List ℕ)) (read faults : ℕ) (waiting : Waiting) (events lines now : ℕ) (why : Halt) (result : Ended) → Reports r stands
+pub ends_halted : (r : Reporting) (stands : Standing) (grammar : Grammar) (o : Outside) (b : Option (List ℕ)) (held : List ℕ) (w1 : Option (List ℕ)) (read faults : ℕ) (waiting : OutputView) (events lines now : ℕ) (why : Halt) (result : Ended) → Reports r stands
     → Running r stands grammar o.source.before b o.sink.before w1 waiting events lines → FindsEvent grammar events (Err why) b (prepend_known held o.source.after)
     → Goes {T = Unit {0}} (Err why) lines now b (prepend_known held o.source.after) → Stalls {T = Unit {0}} (Err why) held → Blames {T = Unit {0}} (Err why) read o.source.faults_after → o.source.faults_before ≤ read
     → Writes waiting.sent (waiting.bytes ++ last_of why) (halted_by why) result (record { before = w1; after = o.sink.after; faults_before = faults; faults_after = o.sink.faults_after }) → o.sink.faults_before ≤ faults
@@ -353,7 +354,7 @@ header_cut_off r (Some xs) left held count has cut none =
       begins = nothing_begins r (Some xs) has;
     }
 
-pub header_halted : (r : Reporting) (o : Outside) (held : List ℕ) (faults : ℕ) (waiting : Waiting) (lines : ℕ) (why : Halt) (result : Ended) → HasReports r → ReadsHeader r.kind (Err why) lines o.source.before (prepend_known held o.source.after)
+pub header_halted : (r : Reporting) (o : Outside) (held : List ℕ) (faults : ℕ) (waiting : OutputView) (lines : ℕ) (why : Halt) (result : Ended) → HasReports r → ReadsHeader r.kind (Err why) lines o.source.before (prepend_known held o.source.after)
     → Halts {T = Unit {0}} (Err why) o.source.before o.source.after → Stalls {T = Unit {0}} (Err why) held → Blames {T = Unit {0}} (Err why) o.source.faults_before o.source.faults_after → waiting.bytes ≡ [] → waiting.sent ≡ 0
     → Writes waiting.sent (waiting.bytes ++ last_of why) (halted_by why) result (record { before = o.sink.before; after = o.sink.after; faults_before = faults; faults_after = o.sink.faults_after }) → o.sink.faults_before ≤ faults
     → EndsAs r result.status result o

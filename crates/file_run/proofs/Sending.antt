@@ -6,7 +6,7 @@ use Rattle.std.proofs.lemmas.List.{append-nil, length-append}
 use Rattle.std.proofs.lemmas.Option.{IfSome_then}
 use Rattle.fsoe_io.proofs.Grown.{grew_then}
 use Rattle.fsoe_io.proofs.Passing.{grew_none}
-use Rattle.fsoe_io.specs.Output.{Waiting, Passes}
+use Rattle.fsoe_io.specs.Output.{OutputView, Passes}
 use Rattle.fsoe_io.specs.Faults.{Rose}
 use Rattle.fsoe_io.specs.Sink.{Grew}
 use Rattle.fsoe_io.specs.declared.status.Ended.{Ended}
@@ -18,13 +18,13 @@ use Rattle.file_run.specs.Ran.{EndsAs, FailedWrite}
 use Rattle.file_run.specs.Reporting.{Reporting, BeginsReport, IsPrefix}
 
 -- what went to the sink and what waits are the text so far
-pub record Sent (written0 written : Option (List ℕ)) (waiting : Waiting) (text : List ℕ) : Type 0 where
+pub record Sent (written0 written : Option (List ℕ)) (waiting : OutputView) (text : List ℕ) : Type 0 where
   pub sent : List ℕ
   pub sink : Grew written0 written sent
   pub count : waiting.sent ≡ length sent
   pub whole : sent ++ waiting.bytes ≡ text
 
-pub sent_none : (w : Option (List ℕ)) (waiting : Waiting) → waiting.bytes ≡ [] → waiting.sent ≡ 0 → Sent w w waiting []
+pub sent_none : (w : Option (List ℕ)) (waiting : OutputView) → waiting.bytes ≡ [] → waiting.sent ≡ 0 → Sent w w waiting []
 sent_none w waiting none sent = record { sent = []; sink = grew_none w; count = sent; whole = none }
 
 -- a first part of a text went to the sink
@@ -34,7 +34,7 @@ pub record Part (written0 written : Option (List ℕ)) (count : ℕ) (whole : Li
   pub counts : count ≡ length sent
   pub prefix : IsPrefix sent whole
 
-pub sent_part : (w0 w1 w2 : Option (List ℕ)) (waiting now : Waiting) (text piece rest : List ℕ) → Sent w0 w1 waiting text → Passes waiting now w1 w2 piece rest → Part w0 w2 now.sent (text ++ piece)
+pub sent_part : (w0 w1 w2 : Option (List ℕ)) (waiting now : OutputView) (text piece rest : List ℕ) → Sent w0 w1 waiting text → Passes waiting now w1 w2 piece rest → Part w0 w2 now.sent (text ++ piece)
 sent_part w0 w1 w2 waiting now text piece rest s p = record {
   sent = s.sent ++ p.part;
   sink = grew_then w0 w1 w2 s.sent p.part s.sink p.grew;
@@ -43,14 +43,14 @@ sent_part w0 w1 w2 waiting now text piece rest s p = record {
 }
 
 -- a piece more
-pub sent_piece : (w0 w1 w2 : Option (List ℕ)) (waiting now : Waiting) (text piece : List ℕ) → Sent w0 w1 waiting text → Passes waiting now w1 w2 piece now.bytes → Sent w0 w2 now (text ++ piece)
+pub sent_piece : (w0 w1 w2 : Option (List ℕ)) (waiting now : OutputView) (text piece : List ℕ) → Sent w0 w1 waiting text → Passes waiting now w1 w2 piece now.bytes → Sent w0 w2 now (text ++ piece)
 unfolding sent_part
 sent_piece w0 w1 w2 waiting now text piece s p =
     let q = sent_part w0 w1 w2 waiting now text piece now.bytes s p in
     record { sent = q.sent; sink = q.sink; count = q.counts; whole = sym q.prefix.1 }
 
 -- what waited was sent
-pub sent_flushed : (w0 w1 w2 : Option (List ℕ)) (waiting now : Waiting) (text : List ℕ) → Sent w0 w1 waiting text → Passes waiting now w1 w2 [] now.bytes → Sent w0 w2 now text
+pub sent_flushed : (w0 w1 w2 : Option (List ℕ)) (waiting now : OutputView) (text : List ℕ) → Sent w0 w1 waiting text → Passes waiting now w1 w2 [] now.bytes → Sent w0 w2 now text
 sent_flushed w0 w1 w2 waiting now text s p = subst (Sent w0 w2 now) (append-nil text) (sent_piece w0 w1 w2 waiting now text [] s p)
 
 -- a first part of what begins a report begins it
@@ -79,7 +79,7 @@ ends_write r o ended whole e p begins rose =
     rw e failed
 
 -- a run ends as it is to, or a write failed at the end
-pub ends_written : (r : Reporting) (o : Outside) (between : Option (List ℕ)) (faults : ℕ) (waiting : Waiting) (text last : List ℕ) (ended result : Ended) → Sent o.sink.before between waiting text
+pub ends_written : (r : Reporting) (o : Outside) (between : Option (List ℕ)) (faults : ℕ) (waiting : OutputView) (text last : List ℕ) (ended result : Ended) → Sent o.sink.before between waiting text
     → Writes waiting.sent (waiting.bytes ++ last) ended result (record { before = between; after = o.sink.after; faults_before = faults; faults_after = o.sink.faults_after })
     → o.sink.faults_before ≤ faults → IfSome o.source.before (λ input. BeginsReport r (input_of r.kind input) (text ++ last))
     → (Grew o.sink.before o.sink.after (text ++ last) → EndsAs r ended.status ended o) → EndsAs r result.status result o
@@ -90,7 +90,7 @@ ends_written r o between faults waiting text last ended result s writes later be
           let grew : Grew o.sink.before o.sink.after (s.sent ++ (waiting.bytes ++ last)) = grew_then o.sink.before between o.sink.after s.sent (waiting.bytes ++ last) s.sink whole.1 in
           subst (λ (x : Ended). EndsAs r x.status x o) (sym whole.0) (ends (subst (Grew o.sink.before o.sink.after) e grew))
       | inr cut ↦
-          let now : Waiting = record { bytes = []; sent = result.place } in
+          let now : OutputView = record { bytes = []; sent = result.place } in
           let p : Passes waiting now between o.sink.after last cut.begins.0 = record { part = cut.part; grew = cut.grew; whole = cut.begins.1; sent = cut.place_is } in
           ends_write r o result (text ++ last) cut.status_is (sent_part o.sink.before between o.sink.after waiting now text last cut.begins.0 s p) begins (rose_since o.sink.faults_before faults o.sink.faults_after later cut.cause)
     ]

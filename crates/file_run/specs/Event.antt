@@ -15,10 +15,10 @@ use Rattle.schedule_file.specs.declared.event.ScheduleLine.TheVariants as line
 use Rattle.schedule_file.specs.declared.header_kind.HeaderKind.{HeaderKind}
 use Rattle.schedule_file.specs.declared.header_kind.HeaderKind.TheVariants as kind
 use Rattle.schedule_file.specs.declared.line_cause.LineCause.{LineCause}
-use Rattle.file_run.specs.Cause.{input_cause}
+use Rattle.file_run.specs.Refusal.{input_cause}
 use Rattle.file_run.specs.NextLine.{first_line}
-use Rattle.file_run.specs.declared.cause.Cause.{Cause}
-use Rattle.file_run.specs.declared.cause.Cause.TheVariants as cause
+use Rattle.file_run.specs.declared.refusal.Refusal.{Refusal}
+use Rattle.file_run.specs.declared.refusal.Refusal.TheVariants as refusal
 use Rattle.file_run.specs.declared.event.Grammar.{Grammar}
 use Rattle.file_run.specs.declared.halt.Halt.{Halt}
 use Rattle.file_run.specs.declared.halt.Halt.TheVariants as halt
@@ -46,9 +46,9 @@ IsWithin events (line.Step event) = events < MAX_EVENTS
 IsWithin events line.End = Unit {0}
 
 -- where a line is refused, the cause lies in the line by itself
-abbrev pub by_itself : Result ScheduleLine LineCause → Result ScheduleLine Cause
+abbrev pub by_itself : Result ScheduleLine LineCause → Result ScheduleLine Refusal
 by_itself (Ok says) = Ok says
-by_itself (Err why) = Err (cause.Line why)
+by_itself (Err why) = Err (refusal.Line why)
 
 -- what was read and written over `said`, or why nothing was
 abbrev pub what_says : {E : Type 0} → Result (Unit {0}) E → ScheduleLine → Result ScheduleLine E
@@ -56,14 +56,14 @@ what_says (Ok read) said = Ok said
 what_says (Err why) said = Err why
 
 -- what a line says by a grammar after so many events: where these are 200,000, only the very line `end` may come
-abbrev pub says_after : Grammar → ℕ → List ℕ → Result ScheduleLine Cause
+abbrev pub says_after : Grammar → ℕ → List ℕ → Result ScheduleLine Refusal
 says_after grammar events text =
     if nat_lt events MAX_EVENTS then by_itself (says grammar text)
     else if bytes_eq text (codes "end") then Ok line.End
-    else Err cause.TooMany
+    else Err refusal.TooMany
 
 -- why an input goes no further where a line is refused
-abbrev pub in_input : Result ScheduleLine Cause → Result ScheduleLine InputCause
+abbrev pub in_input : Result ScheduleLine Refusal → Result ScheduleLine InputCause
 in_input (Ok says) = Ok says
 in_input (Err why) = Err (input_cause why)
 

@@ -2,12 +2,12 @@
 use Rattle.std.specs.Prelude.{ℕ, ◌+◌}
 use Rattle.fsoe_io.specs.declared.line.LineFault.{LineFault}
 use Rattle.fsoe_io.specs.declared.line.LineFault.TheVariants as fault
-use Rattle.file_run.specs.declared.cause.Cause.TheVariants as cause
+use Rattle.file_run.specs.declared.refusal.Refusal.TheVariants as refusal
 use Rattle.file_run.specs.declared.halt.Halt.{Halt}
 use Rattle.file_run.specs.declared.halt.Halt.TheVariants as halt
 
 -- a failed read comes after so many whole lines; a refused line is the one after them
 abbrev pub halt_of : LineFault → ℕ → Halt
 halt_of fault.Read before = halt.Read before
-halt_of fault.Long before = halt.Refused (before + 1) cause.Long
-halt_of fault.NoNewline before = halt.Refused (before + 1) cause.NoNewline
+halt_of fault.Long before = halt.Refused (before + 1) refusal.Long
+halt_of fault.NoNewline before = halt.Refused (before + 1) refusal.NoNewline

@@ -6,7 +6,7 @@ use Rattle.schedule_file.specs.Header.{Heading, heading_after}
 use Rattle.schedule_file.specs.Input.{InputCause, NoLine, Line, Refused, lines_of, header_of}
 use Rattle.schedule_file.specs.declared.header_kind.HeaderKind.{HeaderKind}
 use Rattle.schedule_file.specs.declared.line_cause.LineCause.{LineCause}
-use Rattle.file_run.specs.Cause.{input_cause}
+use Rattle.file_run.specs.Refusal.{input_cause}
 use Rattle.file_run.specs.NextLine.{first_line}
 use Rattle.file_run.specs.declared.halt.Halt.{Halt}
 use Rattle.file_run.specs.declared.halt.Halt.TheVariants as halt

@@ -1,4 +1,3 @@
-pub mod Cause
 pub mod Ending
 pub mod Event
 pub mod Halt
@@ -8,6 +7,7 @@ pub mod Machine
 pub mod NextLine
 pub mod Outside
 pub mod Ran
+pub mod Refusal
 pub mod Report
 pub mod Reporting
 pub mod Stop

@@ -32,5 +32,5 @@ pub record MayCome (old : Heading → List Event → List ℕ → Type 0) (kind 
   pub few : number ≤ MAX_EVENTS
 
 -- a machine that stood for some events stands, after the event of this number, for these and it, with this line more
-pub record GoesOn (old new : Heading → List Event → List ℕ → Type 0) (event : Event) (number : ℕ) (piece : List ℕ) : Type 0 where
-  pub goes : (h : Heading) (log : List Event) (text : List ℕ) → number ≡ length log + 1 → old h log text → new h (log ++ event ∷ []) (text ++ piece)
+pub record TakesEvent (old new : Heading → List Event → List ℕ → Type 0) (event : Event) (number : ℕ) (piece : List ℕ) : Type 0 where
+  pub takes : (h : Heading) (log : List Event) (text : List ℕ) → number ≡ length log + 1 → old h log text → new h (log ++ event ∷ []) (text ++ piece)

@@ -4,7 +4,7 @@ use Rattle.std.specs.declared.option.Option.{Option}
 use Rattle.std.specs.Io.KnownBytes.{Consumes}
 use Rattle.fsoe_io.specs.Line.{IsLine}
 use Rattle.schedule_file.specs.Input.{InputCause, NoLine, lines_of}
-use Rattle.file_run.specs.Cause.{input_cause}
+use Rattle.file_run.specs.Refusal.{input_cause}
 use Rattle.file_run.specs.declared.halt.Halt.{Halt}
 use Rattle.file_run.specs.declared.halt.Halt.TheVariants as halt
 

@@ -1,7 +1,7 @@
 -- The closing lines that reports share.
 use Rattle.std.specs.Prelude.{ℕ, List, ◌++◌, codes, decimal}
 use Rattle.schedule_file.specs.Input.{InputCause, Stop, AtEnd, Refused}
-use Rattle.file_run.specs.Cause.{refusal_name}
+use Rattle.file_run.specs.Refusal.{refusal_name}
 
 -- the line that counts the events of an input that was read up to its `end`
 abbrev pub events_line : ℕ → List ℕ

@@ -2,7 +2,7 @@
 use Rattle.std.specs.Prelude.{ℕ, List, []}
 use Rattle.fsoe_io.specs.declared.status.Ended.{Ended}
 use Rattle.fsoe_io.specs.declared.status.Status.TheVariants as status
-use Rattle.file_run.specs.Cause.{input_cause}
+use Rattle.file_run.specs.Refusal.{input_cause}
 use Rattle.file_run.specs.Report.{refused_line}
 use Rattle.file_run.specs.declared.halt.Halt.{Halt}
 use Rattle.file_run.specs.declared.halt.Halt.TheVariants as halt

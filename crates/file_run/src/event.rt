@@ -5,9 +5,9 @@ ghost use Rattle.fsoe_io.specs.Line.{IsLine};
 ghost use Rattle.file_run.specs.Event.{FindsEvent, FitsGrammar, IsWithin, says, says_after, what_says};
 ghost use Rattle.file_run.specs.Halt.{Blames, Goes, Stalls};
 
-use crate::cause::Cause;
 use crate::halt::Halt;
 use crate::line::next_line;
+use crate::refusal::Refusal;
 use fsoe_base::Lengths;
 use fsoe_io::{Line, LineReader, Source};
 use param_load::Profiles;
@@ -45,7 +45,7 @@ fn read_after(
     events: u64,
     grammar: &Grammar,
     said: &mut ScheduleLine,
-) -> Result<(), Cause>
+) -> Result<(), Refusal>
     ensures says { what_says result said.new ≡ says_after grammar.now events line.now.bytes }
     ensures fits { OnOk result (FitsGrammar grammar.now said.new) }
     ensures few { OnOk result (IsWithin events said.new) }
@@ -53,13 +53,13 @@ fn read_after(
     if events < MAX_EVENTS {
         match read_by(line.bytes(), grammar, said) {
             Ok(()) => Ok(()),
-            Err(cause) => Err(Cause::Line(cause)),
+            Err(cause) => Err(Refusal::Line(cause)),
         }
     } else if line.bytes() == b"end".as_slice() {
         *said = ScheduleLine::End;
         Ok(())
     } else {
-        Err(Cause::TooMany)
+        Err(Refusal::TooMany)
     }
 }
 

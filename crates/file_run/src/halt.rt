@@ -2,7 +2,7 @@
 ghost use Rattle.std.specs.Prelude.{◌≡◌, ◌-◌, ◌^◌, ◌<◌};
 ghost use Rattle.file_run.specs.HaltOf.{halt_of};
 
-use crate::cause::Cause;
+use crate::refusal::Refusal;
 use fsoe_io::LineFault;
 
 /// Why the input goes no further.
@@ -11,7 +11,7 @@ pub enum Halt {
     /// The source failed after this many whole lines.
     Read(u64),
     /// The line of this number, from 1, is refused.
-    Refused(u64, Cause),
+    Refused(u64, Refusal),
 }
 
 /// Why there is no next line after so many whole lines.
@@ -21,7 +21,7 @@ pub(crate) fn halt_of(fault: LineFault, before: u64) -> Halt
 {
     match fault {
         LineFault::Read => Halt::Read(before),
-        LineFault::Long => Halt::Refused(before + 1, Cause::Long),
-        LineFault::NoNewline => Halt::Refused(before + 1, Cause::NoNewline),
+        LineFault::Long => Halt::Refused(before + 1, Refusal::Long),
+        LineFault::NoNewline => Halt::Refused(before + 1, Refusal::NoNewline),
     }
 }

@@ -1,16 +1,16 @@
 //! The header of an input.
 ghost use Rattle.std.specs.Prelude.{◌≡◌, ◌-◌, ◌^◌, ◌≤◌, ◌<◌, [], IfOk, IsTrue, OnOk};
 ghost use Rattle.std.specs.Io.KnownBytes.{prepend_known};
-ghost use Rattle.schedule_file.specs.Header.{is_done, kind_of};
+ghost use Rattle.schedule_file.specs.Header.{heading_is_whole};
 ghost use Rattle.schedule_file.specs.LinesLeft.{lines_left};
 ghost use Rattle.file_run.specs.Ending.{Halts};
 ghost use Rattle.file_run.specs.Halt.{Blames, Goes, Stalls};
 ghost use Rattle.file_run.specs.Header.{FindsHeading, ReadsHeader};
 ghost use Rattle.file_run.specs.WholeLines.{TookLines};
 
-use crate::cause::Cause;
 use crate::halt::Halt;
 use crate::line::next_line;
+use crate::refusal::Refusal;
 use fsoe_io::{Line, LineReader, Source};
 use schedule_file::{Header, HeaderKind};
 
@@ -22,8 +22,8 @@ fn next_header_line<S: Source>(
     header: &mut Header,
 ) -> Result<bool, Halt>
     requires { reader.old.lines < 2 ^ 64 - 1 }
-    ensures kind { kind_of header.new ≡ kind_of header.old }
-    ensures done { IfOk result (λ done. done ≡ is_done header.new) }
+    ensures kind { header.new.kind ≡ header.old.kind }
+    ensures done { IfOk result (λ done. done ≡ heading_is_whole header.new) }
     ensures fewer { OnOk result (lines_left header.new < lines_left header.old) }
     ensures finds { FindsHeading header.old result header.new
         (prepend_known reader.old.bytes (S.left source.old))
@@ -38,7 +38,7 @@ fn next_header_line<S: Source>(
     match next_line(reader, source, line) {
         Ok(()) => match header.line(line.bytes()) {
             Ok(done) => Ok(done),
-            Err(cause) => Err(Halt::Refused(line.number(), Cause::Line(cause))),
+            Err(cause) => Err(Halt::Refused(line.number(), Refusal::Line(cause))),
         },
         Err(why) => Err(why),
     }
@@ -56,8 +56,8 @@ pub(crate) fn read_header<S: Source>(
         (S.left source.old)
         (prepend_known reader.new.bytes (S.left source.new))) }
     ensures most { OnOk result (reader.new.lines ≤ 1032) }
-    ensures done { IfOk result (λ header. IsTrue (is_done header)) }
-    ensures kind { IfOk result (λ header. kind_of header ≡ kind) }
+    ensures done { IfOk result (λ header. IsTrue (heading_is_whole header)) }
+    ensures kind { IfOk result (λ header. header.kind ≡ kind) }
     ensures heads { ReadsHeader kind result reader.new.lines
         (S.left source.old)
         (prepend_known reader.new.bytes (S.left source.new)) }

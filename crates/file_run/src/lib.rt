@@ -2,13 +2,13 @@
 //! What an event does, and what is written of it, is the command's: it brings a `Machine`.
 #![tactic(auto)]
 
-mod cause;
 mod event;
 mod halt;
 mod header;
 pub mod laws;
 mod line;
 mod machine;
+mod refusal;
 mod report;
 mod run;
 mod stop;

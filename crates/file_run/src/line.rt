@@ -5,8 +5,8 @@ ghost use Rattle.fsoe_io.specs.Line.{IsLine};
 ghost use Rattle.file_run.specs.Halt.{Blames, Goes, Stalls};
 ghost use Rattle.file_run.specs.NextLine.{FindsLine};
 
-use crate::cause::Cause;
 use crate::halt::{Halt, halt_of};
+use crate::refusal::Refusal;
 use fsoe_io::{Line, LineReader, Source};
 
 /// Writes the next line to `line`, or tells why there is none.
@@ -31,7 +31,7 @@ pub(crate) fn next_line<S: Source>(
     let before = reader.lines();
     match reader.next_into(source, line) {
         Ok(true) => Ok(()),
-        Ok(false) => Err(Halt::Refused(before + 1, Cause::NoLine)),
+        Ok(false) => Err(Halt::Refused(before + 1, Refusal::NoLine)),
         Err(fault) => Err(halt_of(fault, before)),
     }
 }

@@ -1,10 +1,10 @@
 //! What a command runs over the events of its input.
 ghost use Rattle.std.specs.Prelude.{◌≡◌, ℕ, ◌++◌, List, [], IsTrue, OnOk, OnErr, length};
 ghost use Rattle.fsoe_io.specs.declared.status.Ended.{Ended};
-ghost use Rattle.schedule_file.specs.Header.{Heading, is_done, kind_of};
+ghost use Rattle.schedule_file.specs.Header.{Heading, heading_is_whole};
 ghost use Rattle.schedule_file.specs.Input.{InputCause, Input, Refused, input_of};
 ghost use Rattle.schedule_file.specs.declared.event.Event.{Event};
-ghost use Rattle.file_run.specs.Machine.{GoesOn, IsGrammarOf, MayCome};
+ghost use Rattle.file_run.specs.Machine.{TakesEvent, IsGrammarOf, MayCome};
 ghost use Rattle.file_run.specs.Ran.{EndsWhole};
 ghost use Rattle.file_run.specs.Report.{refused_line};
 ghost use Rattle.file_run.specs.Reporting.{EndsReport, EndsUnsent, Reporting, ReportsSoFar, input_headless, refused_at};
@@ -38,8 +38,8 @@ pub trait Machine: Drop {
 
     /// A new one, set to what a header says that is done.
     fn begin(header: &Header) -> Self
-        requires done { IsTrue (is_done header.now) }
-        requires kind { kind_of header.now ≡ reporting.kind }
+        requires done { IsTrue (heading_is_whole header.now) }
+        requires kind { header.now.kind ≡ reporting.kind }
         ensures { stands result header.now [] [] };
 
     /// How the lines of its events are read.
@@ -50,7 +50,7 @@ pub trait Machine: Drop {
     /// the run.
     fn report(&mut self, event: &Event, number: u64, text: &mut LineText) -> Result<(), NotSent>
         requires { MayCome (stands self.old) reporting.kind event.now number }
-        ensures goes_on { OnOk result (GoesOn (stands self.old) (stands self.new) event.now number text.new) }
+        ensures takes_event { OnOk result (TakesEvent (stands self.old) (stands self.new) event.now number text.new) }
         ensures unsent { OnErr result ((h : Heading) (log : List Event) (text : List ℕ) → stands self.old h log text → EndsUnsent reporting h log text event.now) };
 
     /// Writes the last lines after all events, which are so many, and tells how the run ends.

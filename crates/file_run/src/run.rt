@@ -1,11 +1,11 @@
 //! The run of a command over its input.
 ghost use Rattle.file_run.specs.Ran.{RanOver};
 
-use crate::cause::Cause;
 use crate::event::next_event;
 use crate::halt::Halt;
 use crate::header::read_header;
 use crate::machine::{Machine, NotSent};
+use crate::refusal::Refusal;
 use crate::stop::{close, halt, send_before_read, write_failed};
 use fsoe_io::{Ended, Line, LineReader, LineText, Output, Sink, Source};
 use schedule_file::ScheduleLine;
@@ -45,7 +45,7 @@ pub fn run_over<M: Machine, S: Source, K: Sink>(source: &mut S, sink: &mut K) ->
             ScheduleLine::Step(event) => {
                 events += 1;
                 if let Err(NotSent) = machine.report(event, events, &mut text) {
-                    let why = Halt::Refused(reader.lines(), Cause::NoFrame);
+                    let why = Halt::Refused(reader.lines(), Refusal::NoFrame);
                     return halt(&mut output, sink, why);
                 }
                 if let Err(_) = output.put(sink, text.bytes()) {

@@ -5,14 +5,14 @@ use Rattle.std.specs.declared.option.Option.{Option}
 use Rattle.std.proofs.lemmas.List.{append-nil, take-append-drop, length-take-le, length-append}
 use Rattle.fsoe_io.specs.Sink.{Grew}
 use Rattle.fsoe_io.proofs.Grown.{grew_then}
-use Rattle.fsoe_io.specs.Output.{Waiting, Passes, Puts}
+use Rattle.fsoe_io.specs.Output.{OutputView, Passes, Puts}
 
 pub grew_none : (known : Option (List ℕ)) → Grew known known []
 grew_none None = tt
 grew_none (Some xs) = sym (append-nil xs)
 
 -- a flush that failed sent a part
-pub passes_part : (old new : Waiting) (before now : Option (List ℕ)) (done : ℕ) → done < length old.bytes → new.sent ≡ old.sent + done → Grew before now (take done old.bytes)
+pub passes_part : (old new : OutputView) (before now : Option (List ℕ)) (done : ℕ) → done < length old.bytes → new.sent ≡ old.sent + done → Grew before now (take done old.bytes)
     → (rest : List ℕ) × Passes old new before now [] rest
 passes_part old new before now done lt count grew =
     let le : done ≤ length old.bytes = omega arith in (
@@ -26,7 +26,7 @@ passes_part old new before now done lt count grew =
     )
 
 -- a piece that comes after what was sent waits
-pub passes_piece : (old new : Waiting) (before now : Option (List ℕ)) (piece rest : List ℕ) → Passes old new before now [] rest → Passes old new before now piece (rest ++ piece)
+pub passes_piece : (old new : OutputView) (before now : Option (List ℕ)) (piece rest : List ℕ) → Passes old new before now [] rest → Passes old new before now piece (rest ++ piece)
 passes_piece old new before now piece rest p = record {
   part = p.part;
   grew = p.grew;
@@ -35,18 +35,18 @@ passes_piece old new before now piece rest p = record {
 }
 
 -- nothing is sent
-pub passes_none : (old : Waiting) (known : Option (List ℕ)) → Passes old old known known [] old.bytes
+pub passes_none : (old : OutputView) (known : Option (List ℕ)) → Passes old old known known [] old.bytes
 passes_none old known = record { part = []; grew = grew_none known; whole = append-nil old.bytes; sent = omega arith }
 
 -- a piece is added to what waits
-pub passes_push : (old mid new : Waiting) (before now : Option (List ℕ)) (piece : List ℕ) → Passes old mid before now [] mid.bytes → new.bytes ≡ mid.bytes ++ piece → new.sent ≡ mid.sent
+pub passes_push : (old mid new : OutputView) (before now : Option (List ℕ)) (piece : List ℕ) → Passes old mid before now [] mid.bytes → new.bytes ≡ mid.bytes ++ piece → new.sent ≡ mid.sent
     → Passes old new before now piece new.bytes
 passes_push old mid new before now piece p e s =
     let q = passes_piece old mid before now piece mid.bytes p in
     record { part = q.part; grew = q.grew; whole = q.whole ∙ ap (λ (z : List ℕ). q.part ++ z) (sym e); sent = s ∙ q.sent }
 
 -- a second call after a first
-pub passes_then : (old mid new : Waiting) (before between now : Option (List ℕ)) (piece rest : List ℕ) → Passes old mid before between piece mid.bytes → Passes mid new between now [] rest
+pub passes_then : (old mid new : OutputView) (before between now : Option (List ℕ)) (piece rest : List ℕ) → Passes old mid before between piece mid.bytes → Passes mid new between now [] rest
     → Passes old new before now piece rest
 passes_then old mid new before between now piece rest p q = record {
   part = p.part ++ q.part;
@@ -56,7 +56,7 @@ passes_then old mid new before between now piece rest p q = record {
   sent = omega (arith, p.sent, q.sent, length-append p.part q.part);
 }
 
-pub puts_then : {T E : Type 0} (r : Result T E) (old mid new : Waiting) (before between now : Option (List ℕ)) (piece : List ℕ) → Passes old mid before between piece mid.bytes
+pub puts_then : {T E : Type 0} (r : Result T E) (old mid new : OutputView) (before between now : Option (List ℕ)) (piece : List ℕ) → Passes old mid before between piece mid.bytes
     → Puts r mid new between now [] → Puts r old new before now piece
 puts_then (Ok x) old mid new before between now piece p q = passes_then old mid new before between now piece new.bytes p q
 puts_then (Err e) old mid new before between now piece p q = (q.0, passes_then old mid new before between now piece q.0 p q.1)

@@ -10,7 +10,7 @@ pub record Feed : Type 0 where
   pub planned : Planned
 
 -- the bytes that a sink that never fails tells, until a piece doesn't fit into its room
-pub record Told : Type 0 where
+pub record SureSinkView : Type 0 where
   pub written : Option (List ℕ)
   pub room : ℕ
 

@@ -2,7 +2,7 @@
 use Rattle.std.specs.Prelude.{◌≢◌, ℕ, ◌-◌, ◌^◌, ◌<◌, ◌≤◌, OnErr}
 use Rattle.std.specs.declared.result.Result.{Result}
 
--- the count is greater than before, unless it stands at 2^64 - 1, the highest
+-- the count is greater than before, unless it is 2^64 - 1, where a count of 64 bits stays
 abbrev pub Rose : ℕ → ℕ → Type 0
 Rose before now = now ≢ 2 ^ 64 - 1 → before < now
 

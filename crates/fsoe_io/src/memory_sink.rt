@@ -116,9 +116,9 @@ pub struct SureSink {
 
 impl Model for SureSink {
     ghost use Rattle.std.specs.Prelude.{◌≤◌, Some, None, take, vec_len, if◌then◌else◌};
-    ghost use Rattle.fsoe_io.specs.Ends.{Told};
+    ghost use Rattle.fsoe_io.specs.Ends.{SureSinkView};
 
-    ghost Value = { Told };
+    ghost Value = { SureSinkView };
 
     ghost view = { λ s. record {
       written = (if s.over then None else Some (take s.len s.room.items));

@@ -19,9 +19,9 @@ pub struct Output {
 
 impl Model for Output {
     ghost use Rattle.std.specs.Prelude.{◌≤◌, take};
-    ghost use Rattle.fsoe_io.specs.Output.{Waiting};
+    ghost use Rattle.fsoe_io.specs.Output.{OutputView};
 
-    ghost Value = { Waiting };
+    ghost Value = { OutputView };
 
     ghost view = { λ o. record { bytes = take o.len o.bytes; sent = o.sent } };
 

@@ -3,7 +3,7 @@ use Rattle.std.specs.Prelude.{ℕ, ◌-◌, ◌^◌, ◌==◌, List, [], ◌∷�
 use Rattle.std.specs.declared.option.Option.{Option}
 use Rattle.std.specs.Str.{bytes_eq}
 use Rattle.fsoe_base.specs.declared.command.End.TheVariants as side
-use Rattle.schedule_file.specs.Field.{number_of}
+use Rattle.schedule_file.specs.Field.{number_said}
 use Rattle.schedule_file.specs.declared.event.TheConstants.{MAX_EVENTS}
 use Rattle.fsoe_tool.specs.declared.command.Command.{Command}
 use Rattle.fsoe_tool.specs.declared.command.Command.TheVariants as command
@@ -27,13 +27,13 @@ bulk_of (Some number) (Some events) = if events == 0 then None else Some (comman
 
 -- the command that words name: `node master`, `node slave`, `replay`, or `bulk` with a number of at most 64 bits and from 1 to 200,000
 -- events
-abbrev pub command_of : List (List ℕ) → Option Command
-command_of [] = None
-command_of (word ∷ []) = command_alone word
-command_of (first ∷ word ∷ []) = if bytes_eq first (codes "node") then node_at word else None
-command_of (first ∷ number ∷ events ∷ []) =
-    if bytes_eq first (codes "bulk") then bulk_of (number_of (2 ^ 64 - 1) number) (number_of MAX_EVENTS events) else None
-command_of (first ∷ second ∷ third ∷ fourth ∷ words) = None
+abbrev pub command_said : List (List ℕ) → Option Command
+command_said [] = None
+command_said (word ∷ []) = command_alone word
+command_said (first ∷ word ∷ []) = if bytes_eq first (codes "node") then node_at word else None
+command_said (first ∷ number ∷ events ∷ []) =
+    if bytes_eq first (codes "bulk") then bulk_of (number_said (2 ^ 64 - 1) number) (number_said MAX_EVENTS events) else None
+command_said (first ∷ second ∷ third ∷ fourth ∷ words) = None
 
 -- the line that is written where the words name no command
 abbrev pub usage_line : List ℕ

@@ -1,7 +1,7 @@
 //! The words that name a command.
 ghost use Rattle.std.specs.Prelude.{◌≡◌, ◌-◌, ◌^◌, map, string_bytes};
-ghost use Rattle.schedule_file.specs.Field.{number_of};
-ghost use Rattle.fsoe_tool.specs.Command.{bulk_of, command_alone, command_of, node_at};
+ghost use Rattle.schedule_file.specs.Field.{number_said};
+ghost use Rattle.fsoe_tool.specs.Command.{bulk_of, command_alone, command_said, node_at};
 
 use fsoe_base::End;
 use schedule_file::{MAX_EVENTS, read_number};
@@ -43,7 +43,7 @@ fn node_at(word: &str) -> Option<Command>
 
 /// The schedule of a number for so many events, as two words tell them.
 fn bulk_of(number: &str, events: &str) -> Option<Command>
-    ensures { result ≡ bulk_of (number_of (2 ^ 64 - 1) number.now) (number_of MAX_EVENTS events.now) }
+    ensures { result ≡ bulk_of (number_said (2 ^ 64 - 1) number.now) (number_said MAX_EVENTS events.now) }
 {
     let number = read_number(number.as_bytes(), u64::MAX)?;
     let events = read_number(events.as_bytes(), MAX_EVENTS)?;
@@ -56,8 +56,8 @@ fn bulk_of(number: &str, events: &str) -> Option<Command>
 
 /// The command that words name, which are those after the program's name: `node master`, `node slave`, `replay`, or
 /// `bulk <number> <events>` with a number of at most 64 bits and from 1 to 200,000 events.
-pub fn command_of(words: &[String]) -> Option<Command>
-    ensures { result ≡ command_of (map string_bytes words.now) }
+pub fn command_said(words: &[String]) -> Option<Command>
+    ensures { result ≡ command_said (map string_bytes words.now) }
 {
     match words {
         [word] => command_alone(word.as_str()),

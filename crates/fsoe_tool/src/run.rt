@@ -1,9 +1,9 @@
 //! The run of a command.
 ghost use Rattle.std.specs.Prelude.{◌≡◌, false, map, string_bytes};
-ghost use Rattle.fsoe_tool.specs.Command.{command_of};
+ghost use Rattle.fsoe_tool.specs.Command.{command_said};
 ghost use Rattle.fsoe_tool.specs.Running.{Runs, reads_input};
 
-use crate::command::{Command, command_of};
+use crate::command::{Command, command_said};
 use duo_run::{run_bulk, run_replay};
 use file_run::write_report;
 use fsoe_io::{Ended, Sink, Source, Status};
@@ -21,13 +21,13 @@ const USAGE: &[u8] =
 /// that name no command: these write the usage line, with status `Usage`.
 pub fn run<S: Source, K: Sink>(words: &[String], source: &mut S, sink: &mut K) -> Ended
     // The words name a command, of which all holds that its own call says, or none.
-    ensures runs { Runs (command_of (map string_bytes words.now)) result (record {
+    ensures runs { Runs (command_said (map string_bytes words.now)) result (record {
       source = record { before = S.left source.old; after = S.left source.new; faults_before = S.faults source.old; faults_after = S.faults source.new };
       sink = record { before = K.written sink.old; after = K.written sink.new; faults_before = K.faults sink.old; faults_after = K.faults sink.new };
     }) }
-    ensures unread { reads_input (command_of (map string_bytes words.now)) ≡ false → source.new ≡ source.old }
+    ensures unread { reads_input (command_said (map string_bytes words.now)) ≡ false → source.new ≡ source.old }
 {
-    match command_of(words) {
+    match command_said(words) {
         Some(Command::Node(end)) => run_node(end, source, sink),
         Some(Command::Replay) => run_replay(source, sink),
         Some(Command::Bulk { number, events }) => run_bulk(number, events, sink),

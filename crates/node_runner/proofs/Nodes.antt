@@ -19,7 +19,7 @@ use Rattle.schedule_file.specs.declared.event.ScheduleLine.TheVariants as line
 use Rattle.schedule_file.specs.declared.header_kind.HeaderKind.{HeaderKind}
 use Rattle.schedule_file.specs.declared.header_kind.HeaderKind.TheVariants as kind
 use Rattle.file_run.specs.Event.{FitsGrammar, FitsKind}
-use Rattle.file_run.specs.Machine.{GoesOn, IsGrammarOf, MayCome}
+use Rattle.file_run.specs.Machine.{TakesEvent, IsGrammarOf, MayCome}
 use Rattle.file_run.specs.Report.{events_line, last_line}
 use Rattle.file_run.specs.Reporting.{EndsReport, ReportsSoFar}
 use Rattle.file_run.specs.declared.event.Grammar.{Grammar}
@@ -121,14 +121,14 @@ node_goes end setup IsAfter old new event number did sent state outputs piece r 
     }
 
 pub master_goes_on : (old new : MasterView) (event : Event) (number : ℕ) (did : Did) (sent : List ℕ) (state : State) (outputs piece : List ℕ) → Reports OfMaster MasterIsAfter old new event number did sent state outputs piece
-    → is_due new.state ≡ false → GoesOn (MasterStands old) (MasterStands new) event number piece
+    → is_due new.state ≡ false → TakesEvent (MasterStands old) (MasterStands new) event number piece
 master_goes_on old new event number did sent state outputs piece r rest = record {
-  goes = λ h log text n k. (node_goes side.Master OfMaster MasterIsAfter old new event number did sent state outputs piece r h log text n k.0, rest);
+  takes = λ h log text n k. (node_goes side.Master OfMaster MasterIsAfter old new event number did sent state outputs piece r h log text n k.0, rest);
 }
 
 pub slave_goes_on : (old new : SlaveView) (event : Event) (number : ℕ) (did : Did) (sent : List ℕ) (state : State) (outputs piece : List ℕ) → Reports OfSlave SlaveIsAfter old new event number did sent state outputs piece
-    → GoesOn (SlaveStands old) (SlaveStands new) event number piece
-slave_goes_on old new event number did sent state outputs piece r = record { goes = node_goes side.Slave OfSlave SlaveIsAfter old new event number did sent state outputs piece r }
+    → TakesEvent (SlaveStands old) (SlaveStands new) event number piece
+slave_goes_on old new event number did sent state outputs piece r = record { takes = node_goes side.Slave OfSlave SlaveIsAfter old new event number did sent state outputs piece r }
 
 -- the lines so far begin the report, and with a last line they are that of an input that stops after them
 pub node_so_far : {S V : Type 0} (end : End) (setup : S → Setup) (IsAfter : S → V → List Deed → Type 0) (v : V) (h : Heading) (log : List Event) (text : List ℕ) → NodeStands end setup IsAfter v h log text

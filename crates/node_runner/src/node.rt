@@ -13,7 +13,7 @@ ghost use Rattle.slave_core.specs.Standing as slave_core;
 
 use entry_text::push_entry;
 use file_run::{Grammar, Machine, NotSent, write_events};
-use fsoe_base::{Did, End, FrameBuf, Lengths, State};
+use fsoe_base::{Did, End, FrameBuf, Lengths, MOST_DATA, State};
 use fsoe_io::{Ended, LineText, Status};
 use master_core::Master;
 use param_load::{Profile, Profiles};
@@ -121,7 +121,7 @@ fn write_entry(
     sent: &FrameBuf,
     text: &mut LineText,
 )
-    requires { length outputs.now ≤ 126 }
+    requires { length outputs.now ≤ MOST_DATA }
     ensures { text.new ≡ step_line number did.now state outputs.now sent.now }
 {
     text.clear();

@@ -3,8 +3,9 @@ use Rattle.std.proofs.Common.{◌≡◌, ℕ, zero, suc, ◌+◌, Bool, true, fa
 use Rattle.std.specs.Prelude.{◌==◌, Result, Ok, Err, Option, Some, None, slice_get, if◌then◌else◌}
 use Rattle.std.specs.List.{slice_split, onto_first}
 use Rattle.std.proofs.lemmas.List.Splits.{slice_split-cons_yes, slice_split-cons_no, length-slice_split}
+use Rattle.schedule_file.specs.declared.event.TheConstants.{MAX_EVENTS}
 use Rattle.schedule_file.proofs.OneField.{some_part}
-use Rattle.schedule_file.specs.Header.{Heading, heading_new, heading_after, is_done}
+use Rattle.schedule_file.specs.Header.{Heading, heading_new, heading_after, heading_is_whole}
 use Rattle.schedule_file.specs.Input.{InputCause, NoLine, Stop, AtEnd, Refused, WholeHeader, whole_line, open_line, lines_in, lines_of, header_step, header_in, said_after, steps, texts, events_after, stop_at, input_after, input_by, input_of}
 use Rattle.schedule_file.specs.declared.event.Event.{Event}
 use Rattle.schedule_file.specs.declared.event.ScheduleLine.{ScheduleLine}
@@ -123,7 +124,7 @@ after_same : (kind : HeaderKind) (h : Heading) (n : ℕ) (w t u : Lines) → IsO
 after_same kind h n w t u is e =
     let events : List Event = events_after kind h (w ++ t) in
     let stops = at_line kind h (n + length events + 1) (length events) (slice_get (w ++ t) (length events)) e in
-    let same = same_events (said_after kind h) 200000 w t u stops.0 is stops.1 in
+    let same = same_events (said_after kind h) MAX_EVENTS w t u stops.0 is stops.1 in
     ap (λ (es : List Event). record { heading = Some h; lines = n; events = es; stop = stop_at kind h (n + length es + 1) (length es) (slice_get (w ++ u) (length es)) }) same.0
     ∙ ap (λ (next : Option (Result (List ℕ) InputCause)). record { heading = Some h; lines = n; events = events; stop = stop_at kind h (n + length events + 1) (length events) next }) (same.1 ∙ sym stops.1)
 
@@ -139,7 +140,7 @@ step_done false kind n next w t u is later = later
 
 step_same : (r : Result Heading LineCause) (kind : HeaderKind) (n : ℕ) (w t u : Lines) → IsOpen t → ((next : Heading) → Goes kind (header_in (n + 1) next (w ++ t)) (header_in (n + 1) next (w ++ u)))
     → Goes kind (header_step n (w ++ t) (λ next. header_in (n + 1) next (w ++ t)) r) (header_step n (w ++ u) (λ next. header_in (n + 1) next (w ++ u)) r)
-step_same (Ok next) kind n w t u is later = step_done (is_done next) kind n next w t u is (later next)
+step_same (Ok next) kind n w t u is later = step_done (heading_is_whole next) kind n next w t u is (later next)
 step_same (Err cause) kind n w t u is later = λ e. refl
 
 header_same : (kind : HeaderKind) (n : ℕ) (h : Heading) (w t u : Lines) → IsOpen t → Goes kind (header_in n h (w ++ t)) (header_in n h (w ++ u))

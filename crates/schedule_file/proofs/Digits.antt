@@ -8,7 +8,7 @@ use Rattle.std.proofs.lemmas.List.{at_drop_more}
 use Rattle.std.proofs.lemmas.Str.{digit_value_digit}
 use Rattle.std.proofs.lemmas.Int.Digits.{digits_value_more}
 use Rattle.std.proofs.lemmas.Bool.Decides.{nat_tests}
-use Rattle.schedule_file.specs.Field.{number_of}
+use Rattle.schedule_file.specs.Field.{number_said}
 
 -- the value of the digits so far, and of one more
 pub value_more : (text : List ℕ) (i : ℕ) → i < length text → 48 ≤ get_or text i 0 → get_or text i 0 ≤ 57
@@ -24,5 +24,5 @@ digits_more text i lt digit =
     let step : all_ascii_digits (drop i text) ≡ (is_ascii_digit (get_or text i 0) && all_ascii_digits (drop (i + 1) text)) = at_drop_more all_ascii_digits text i 0 lt in
     sym (step ∙ ap (λ (b : Bool). b && all_ascii_digits (drop (i + 1) text)) digit)
 
-pub too_large : (most : ℕ) (text : List ℕ) → most < digits_value 10 text → number_of most text ≡ None
+pub too_large : (most : ℕ) (text : List ℕ) → most < digits_value 10 text → number_said most text ≡ None
 too_large most text h = grind (arith, nat_tests)

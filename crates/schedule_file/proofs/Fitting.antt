@@ -9,9 +9,10 @@ use Rattle.std.proofs.lemmas.Result.{IfOk-weaker}
 use Rattle.fsoe_base.specs.declared.command.End.{End}
 use Rattle.param_load.specs.Profile.{allows_id}
 use Rattle.param_load.specs.declared.profile.Profile.{Profile}
+use Rattle.fsoe_base.specs.declared.lengths.TheConstants.{MOST_DATA, MOST_FRAME}
 use Rattle.schedule_file.specs.Event.{Fits, FitsEnd, OnStep}
 use Rattle.schedule_file.specs.EventLine.{not_zero, reference_of, switch_of, delivered_len, altered_line}
-use Rattle.schedule_file.specs.Field.{fields_of, is_number, number_of, bytes_of}
+use Rattle.schedule_file.specs.Field.{fields_of, is_number, number_said, bytes_said}
 use Rattle.schedule_file.specs.Fields.{◌>>=◌, value_or, next_field, no_field, one_field, number_16, number_32, one_hex_field}
 use Rattle.schedule_file.specs.Header.{Heading}
 use Rattle.schedule_file.specs.Input.{Stop, WholeHeader, header_of, own_length, heading_profile, said_after, steps, texts, input_by, input_of}
@@ -52,7 +53,7 @@ numbered : (b : Bool) (n : ℕ) → (b ≡ true → n ≤ 64) → IfSome (not_ze
 numbered true n le = unless_zero (n == 0) n refl (le refl)
 numbered false n le = tt
 
-signed : (b : Bool) (digits : List ℕ) → IfSome (if b then not_zero (number_of 64 digits) else None) IsReference
+signed : (b : Bool) (digits : List ℕ) → IfSome (if b then not_zero (number_said 64 digits) else None) IsReference
 signed true digits =
     numbered (is_number digits && nat_le (digits_value 10 digits) 64) (digits_value 10 digits)
     (λ e. leb-true (digits_value 10 digits) 64 (and_parts (is_number digits) (nat_le (digits_value 10 digits) 64) e).1)
@@ -66,7 +67,7 @@ reference_within (sign ∷ digits) = signed (sign == 45) digits
 altered_fits : (sends : End → ℕ) (profiles : End → Profile) (to : End) (fields : List (List ℕ)) → IfOk (altered_line to sends fields) (OnStep (Fits sends profiles))
 altered_fits sends profiles to fields =
     each (next_field fields) _ _ (λ reference. each (next_field reference.1) _ _ (λ place. each (one_field place.1) _ _ (λ digits. each (number_16 place.0) _ _ (λ pos.
-    given (reference_of reference.0) cause.Reference _ _ _ (reference_within reference.0) (λ back range. each (value_or cause.Hex (bytes_of 1 digits)) _ _ (λ mask.
+    given (reference_of reference.0) cause.Reference _ _ _ (reference_within reference.0) (λ back range. each (value_or cause.Hex (bytes_said 1 digits)) _ _ (λ mask.
     ok_if (nat_lt pos (delivered_len sends to)) _ cause.Position _ (λ e. (range, ltb-true pos (delivered_len sends to) e))))))))
 
 said_fits : (sends : End → ℕ) (profiles : End → Profile) (word : Option PairWord) (fields : List (List ℕ)) → IfOk (pair_said sends profiles word fields) (OnStep (Fits sends profiles))
@@ -75,10 +76,10 @@ said_fits sends profiles (Some (word.Deliver to)) fields =
     each (one_field fields) _ _ (λ field. given (reference_of field) cause.Reference _ _ _ (reference_within field) (λ back range. (range, tt)))
 said_fits sends profiles (Some (word.Altered to)) fields = altered_fits sends profiles to fields
 said_fits sends profiles (Some (word.Raw to)) fields =
-    IfOk-map (one_hex_field 255 fields) _ _ (IfOk-weaker (one_hex_field 255 fields) _ _ (λ bytes range. (range, tt)) (hex_within 255 fields))
+    IfOk-map (one_hex_field MOST_FRAME fields) _ _ (IfOk-weaker (one_hex_field MOST_FRAME fields) _ _ (λ bytes range. (range, tt)) (hex_within MOST_FRAME fields))
 said_fits sends profiles (Some (word.Tick at)) fields = IfOk-map (no_field fields) _ _ (IfOk-every (no_field fields) _ (λ none. (tt, tt)))
 said_fits sends profiles (Some (word.Put at)) fields =
-    known (one_hex_field 126 fields) _ _ _ (hex_within 126 fields) (λ bytes range.
+    known (one_hex_field MOST_DATA fields) _ _ _ (hex_within MOST_DATA fields) (λ bytes range.
     ok_if (length bytes == sends at) _ cause.Length _ (λ e. (range, eqb-true (length bytes) (sends at) e)))
 said_fits sends profiles (Some (word.Hold at)) fields = each (one_field fields) _ _ (λ field. each (value_or cause.Number (switch_of field)) _ _ (λ on. (tt, tt)))
 said_fits sends profiles (Some (word.Nonce at)) fields =
@@ -91,9 +92,9 @@ node_said_fits : (end : End) (count : ℕ) (profile : Profile) (word : Option Wo
 node_said_fits end count profile None fields = tt
 node_said_fits end count profile (Some node_word.Tick) fields = IfOk-map (no_field fields) _ _ (IfOk-every (no_field fields) _ (λ none. refl))
 node_said_fits end count profile (Some node_word.Deliver) fields =
-    IfOk-map (one_hex_field 255 fields) _ _ (IfOk-weaker (one_hex_field 255 fields) _ _ (λ bytes range. (refl, range.0, range.1)) (hex_within 255 fields))
+    IfOk-map (one_hex_field MOST_FRAME fields) _ _ (IfOk-weaker (one_hex_field MOST_FRAME fields) _ _ (λ bytes range. (refl, range.0, range.1)) (hex_within MOST_FRAME fields))
 node_said_fits end count profile (Some node_word.Put) fields =
-    each (one_hex_field 126 fields) _ _ (λ bytes. ok_if (length bytes == count) _ cause.Length _ (λ e. (refl, eqb-true (length bytes) count e)))
+    each (one_hex_field MOST_DATA fields) _ _ (λ bytes. ok_if (length bytes == count) _ cause.Length _ (λ e. (refl, eqb-true (length bytes) count e)))
 node_said_fits end count profile (Some node_word.Hold) fields = each (one_field fields) _ _ (λ field. each (value_or cause.Number (switch_of field)) _ _ (λ on. refl))
 node_said_fits end count profile (Some node_word.Nonce) fields =
     each (one_field fields) _ _ (λ field. each (number_32 field) _ _ (λ id. ok_if (allows_id profile id) _ cause.Number _ (λ e. (refl, e))))

@@ -8,8 +8,9 @@ use Rattle.std.specs.List.{join_with_byte, refill}
 use Rattle.hex.specs.Hex.{decode_of, is_hex_digit}
 use Rattle.hex.specs.declared.error.FromHexError.{FromHexError}
 use Rattle.hex.proofs.HexLemmas.{decode_of-ok}
+use Rattle.fsoe_base.specs.declared.lengths.TheConstants.{MOST_FRAME}
 use Rattle.schedule_file.proofs.HexDigits.{some_bytes-within}
-use Rattle.schedule_file.specs.Field.{is_space, fields_of, some_bytes, bytes_of}
+use Rattle.schedule_file.specs.Field.{is_space, fields_of, some_bytes, bytes_said}
 use Rattle.schedule_file.specs.Fields.{one_hex_field, not_hex, value_or}
 use Rattle.schedule_file.specs.declared.line_cause.LineCause.TheVariants as cause
 
@@ -22,23 +23,23 @@ decoded most (Ok all) bytes e = (all, refl)
 decoded most (Err why) bytes e = cc
 
 -- digits are one field
-alone : (most : ℕ) (text bytes : List ℕ) → bytes_of most text ≡ Some bytes → fields_of text ≡ text ∷ []
+alone : (most : ℕ) (text bytes : List ℕ) → bytes_said most text ≡ Some bytes → fields_of text ≡ text ∷ []
 alone most text bytes e =
     let all = decoded most (decode_of text) bytes e in
     let ok = decode_of-ok text all.0 all.1 in
     slice_split_none is_space text (λ i d lt. no_space _ (ok.1 i d lt))
 
-pub hex_said : (most : ℕ) (text bytes : List ℕ) → bytes_of most text ≡ Some bytes → one_hex_field most (fields_of text) ≡ Ok bytes
+pub hex_said : (most : ℕ) (text bytes : List ℕ) → bytes_said most text ≡ Some bytes → one_hex_field most (fields_of text) ≡ Ok bytes
 hex_said most text bytes e = ap (one_hex_field most) (alone most text bytes e) ∙ ap (value_or cause.Hex) e
 
-unsaid : (most : ℕ) (text : List ℕ) (fields : List (List ℕ)) → bytes_of most text ≡ None → ((field : List ℕ) → fields ≡ field ∷ [] → field ≡ text) → one_hex_field most fields ≡ Err (not_hex fields)
+unsaid : (most : ℕ) (text : List ℕ) (fields : List (List ℕ)) → bytes_said most text ≡ None → ((field : List ℕ) → fields ≡ field ∷ [] → field ≡ text) → one_hex_field most fields ≡ Err (not_hex fields)
 unsaid most text [] e same = refl
-unsaid most text (field ∷ []) e same = ap (λ t. value_or cause.Hex (bytes_of most t)) (same field refl) ∙ ap (value_or cause.Hex) e
+unsaid most text (field ∷ []) e same = ap (λ t. value_or cause.Hex (bytes_said most t)) (same field refl) ∙ ap (value_or cause.Hex) e
 unsaid most text (field ∷ next ∷ more) e same = refl
 
-pub hex_unsaid : (most : ℕ) (text : List ℕ) → bytes_of most text ≡ None → one_hex_field most (fields_of text) ≡ Err (not_hex (fields_of text))
+pub hex_unsaid : (most : ℕ) (text : List ℕ) → bytes_said most text ≡ None → one_hex_field most (fields_of text) ≡ Err (not_hex (fields_of text))
 hex_unsaid most text e = unsaid most text (fields_of text) e (λ field is. ap (join_with_byte 32) (sym is) ∙ join_with_byte-slice_split 32 text)
 
 -- digits that are decoded over as many bytes are the bytes of the only field
-pub hex_written : (text bytes before : List ℕ) → decode_of text ≡ Ok bytes → 0 < length bytes → length bytes ≤ 255 → length bytes ≡ length before → one_hex_field 255 (fields_of text) ≡ Ok (refill (length before) before bytes)
-hex_written text bytes before e some few same = hex_said 255 text bytes (ap (some_bytes 255) e ∙ some_bytes-within 255 bytes some few) ∙ ap Ok (sym (take_at bytes _ (length before) same))
+pub hex_written : (text bytes before : List ℕ) → decode_of text ≡ Ok bytes → 0 < length bytes → length bytes ≤ MOST_FRAME → length bytes ≡ length before → one_hex_field MOST_FRAME (fields_of text) ≡ Ok (refill (length before) before bytes)
+hex_written text bytes before e some few same = hex_said MOST_FRAME text bytes (ap (some_bytes MOST_FRAME) e ∙ some_bytes-within MOST_FRAME bytes some few) ∙ ap Ok (sym (take_at bytes _ (length before) same))

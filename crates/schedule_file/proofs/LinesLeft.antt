@@ -8,7 +8,7 @@ use Rattle.param_load.specs.AppRule.{rule_len}
 use Rattle.param_load.specs.declared.app_rule.AppRule.{AppRule}
 use Rattle.param_load.specs.declared.app_rule.AppRule.TheVariants as app_rule
 use Rattle.schedule_file.specs.Fields.{◌>>=◌, map_ok, no_field, one_hex_field, Becomes}
-use Rattle.schedule_file.specs.Header.{Heading, profile_taken, rule_place, taken}
+use Rattle.schedule_file.specs.Header.{Heading, profile_taken, rule_place, heading_with}
 use Rattle.schedule_file.specs.HeaderLine.{lengths_line, master_line, profile_line, slave_line, rule_line, range_line, header_line}
 use Rattle.schedule_file.specs.HeaderPart.{list_with, lows_of, highs_of, ranges_with, rule_begun, rule_with_bytes, rule_with_pairs, master_with_app, slave_with_bytes, slave_with_pairs}
 use Rattle.schedule_file.specs.LinesLeft.{left_after, lines_left}
@@ -106,17 +106,17 @@ rule_with_pairs-longer (app_rule.Ranges low high) pairs some = ranges_with-longe
 rule_with_pairs-longer other pairs some = tt
 
 -- what is taken of a line, whatever it says, or of which something is known
-taken_each : {A : Type 0} (r : Result A LineCause) (f : A → HeaderLine) (h : Heading) (P : Heading → Type 0) → ((x : A) → IfOk (taken h (f x)) P) → IfOk (map_ok f r >>= taken h) P
+taken_each : {A : Type 0} (r : Result A LineCause) (f : A → HeaderLine) (h : Heading) (P : Heading → Type 0) → ((x : A) → IfOk (heading_with h (f x)) P) → IfOk (map_ok f r >>= heading_with h) P
 taken_each (Ok x) f h P all = all x
 taken_each (Err e) f h P all = tt
 
-taken_known : {A : Type 0} (r : Result A LineCause) (f : A → HeaderLine) (h : Heading) (Q : A → Type 0) (P : Heading → Type 0) → IfOk r Q → ((x : A) → Q x → IfOk (taken h (f x)) P) → IfOk (map_ok f r >>= taken h) P
+taken_known : {A : Type 0} (r : Result A LineCause) (f : A → HeaderLine) (h : Heading) (Q : A → Type 0) (P : Heading → Type 0) → IfOk r Q → ((x : A) → Q x → IfOk (heading_with h (f x)) P) → IfOk (map_ok f r >>= heading_with h) P
 taken_known (Ok x) f h Q P known all = all x known
 taken_known (Err e) f h Q P known all = tt
 
 -- a line that may stand leaves fewer to come
 line_fewer : (h : Heading) (w : Word) (fields : List (List ℕ)) → IsTrue (may_stand h.kind h.place w) → least w (length h.master.app) (rule_len h.slave.rule) ≤ lines_left h
-    → IfOk (header_line w fields >>= taken h) (λ h'. lines_left h' < lines_left h)
+    → IfOk (header_line w fields >>= heading_with h) (λ h'. lines_left h' < lines_left h)
 line_fewer h word.Lengths fields stands low = taken_each (lengths_line fields) says.Lengths h _ (λ line. omega (arith, low))
 line_fewer h word.Master fields stands low = taken_each (master_line fields) says.Master h _ (λ line. omega (arith, low))
 line_fewer h word.Profile fields stands low = taken_each (profile_line fields) says.Profile h _ (λ n. profile-fewer h.place h n stands)
@@ -133,12 +133,12 @@ line_fewer h word.Range fields stands low =
     (IfOk-map (rule_with_pairs h.slave.rule pairs) _ _ (IfOk-weaker (rule_with_pairs h.slave.rule pairs) _ _ (λ r longer. omega (arith, low, longer.0, longer.1)) (rule_with_pairs-longer h.slave.rule pairs some))))
 line_fewer h word.Go fields stands low = taken_each (no_field fields) (λ _. says.Go) h _ (λ none. low)
 
-taken-fewer : (h : Heading) (w : Word) (fields : List (List ℕ)) (line : HeaderLine) → IsTrue (may_stand h.kind h.place w) → Ok line ≡ header_line w fields → IfOk (taken h line) (λ h'. lines_left h' < lines_left h)
-taken-fewer h w fields line stands e =
+heading_with-fewer : (h : Heading) (w : Word) (fields : List (List ℕ)) (line : HeaderLine) → IsTrue (may_stand h.kind h.place w) → Ok line ≡ header_line w fields → IfOk (heading_with h line) (λ h'. lines_left h' < lines_left h)
+heading_with-fewer h w fields line stands e =
     rw (← e) at (line_fewer h w fields stands (left-least h.kind h.place w (length h.master.app) (rule_len h.slave.rule) stands))
 
 -- the same of a call that takes the line
-pub Becomes-taken-fewer : (result : Result (Unit {0}) LineCause) (h h' : Heading) (w : Word) (fields : List (List ℕ)) (line : HeaderLine) → IsTrue (may_stand h.kind h.place w) → Ok line ≡ header_line w fields → Becomes result h' (taken h line)
+pub Becomes-heading_with-fewer : (result : Result (Unit {0}) LineCause) (h h' : Heading) (w : Word) (fields : List (List ℕ)) (line : HeaderLine) → IsTrue (may_stand h.kind h.place w) → Ok line ≡ header_line w fields → Becomes result h' (heading_with h line)
     → OnOk result (lines_left h' < lines_left h)
-Becomes-taken-fewer (Ok u) h h' w fields line stands e said = IfOk-at_ok (λ x. lines_left x < lines_left h) said (taken-fewer h w fields line stands e)
-Becomes-taken-fewer (Err e') h h' w fields line stands e said = tt
+Becomes-heading_with-fewer (Ok u) h h' w fields line stands e said = IfOk-at_ok (λ x. lines_left x < lines_left h) said (heading_with-fewer h w fields line stands e)
+Becomes-heading_with-fewer (Err e') h h' w fields line stands e said = tt

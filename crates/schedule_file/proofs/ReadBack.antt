@@ -17,10 +17,11 @@ use Rattle.fsoe_base.specs.declared.command.End.{End}
 use Rattle.fsoe_base.specs.declared.command.End.TheVariants as side
 use Rattle.param_load.specs.Profile.{allows_id}
 use Rattle.param_load.specs.declared.profile.Profile.{Profile}
+use Rattle.fsoe_base.specs.declared.lengths.TheConstants.{MOST_DATA, MOST_FRAME}
 use Rattle.schedule_file.specs.Event.{Fits}
 use Rattle.schedule_file.specs.EventLine.{switch_of, reference_of, delivered_len, deliver_line, altered_line, raw_line, put_line, hold_line, nonce_line}
 use Rattle.schedule_file.specs.EventText.{IsOfTypes, end_letter, event_text, reference_text, switch_text}
-use Rattle.schedule_file.specs.Field.{is_space, fields_of, number_of, bytes_of, some_bytes}
+use Rattle.schedule_file.specs.Field.{is_space, fields_of, number_said, bytes_said, some_bytes}
 use Rattle.schedule_file.proofs.HexDigits.{some_bytes-within}
 use Rattle.schedule_file.specs.PairEvent.{pair_line, pair_said, pair_said_by, pair_word_of}
 use Rattle.schedule_file.specs.declared.pair_event.PairWord.{PairWord}
@@ -53,10 +54,10 @@ two_letters : (x y : ℕ) → is_space x ≡ false → is_space y ≡ false → 
 two_letters x y e f = spaceless-more x (y ∷ []) e (spaceless-more y [] f spaceless-none)
 
 -- a decimal number is read as its value
-number_of-numeral : (most n : ℕ) (text : List ℕ) → 0 < length text → all_ascii_digits text ≡ true → (length text ≡ 1) ⊎ (48 < get_or text 0 0)
-    → digits_value 10 text ≡ n → n ≤ most → number_of most text ≡ Some n
-number_of-numeral most n text some digits (inl one) value le = grind (arith, nat_tests)
-number_of-numeral most n text some digits (inr first) value le = grind (arith, nat_tests)
+number_said-numeral : (most n : ℕ) (text : List ℕ) → 0 < length text → all_ascii_digits text ≡ true → (length text ≡ 1) ⊎ (48 < get_or text 0 0)
+    → digits_value 10 text ≡ n → n ≤ most → number_said most text ≡ Some n
+number_said-numeral most n text some digits (inl one) value le = grind (arith, nat_tests)
+number_said-numeral most n text some digits (inr first) value le = grind (arith, nat_tests)
 
 begins : (n : ℕ) → n < 2 ^ 64 → (length (decimal n) ≡ 1) ⊎ (48 < get_or (decimal n) 0 0)
 begins n lt = elim (cases_lt 0 n) [
@@ -67,9 +68,9 @@ begins n lt = elim (cases_lt 0 n) [
 digits-decimal : (n : ℕ) → n < 2 ^ 64 → all_ascii_digits (decimal n) ≡ true
 digits-decimal n lt = digits_decimal (numerals_by_value _ tells_all_ascii_digits) n lt
 
-number_of-decimal : (most n : ℕ) → n < 2 ^ 64 → n ≤ most → number_of most (decimal n) ≡ Some n
-number_of-decimal most n lt le =
-    number_of-numeral most n (decimal n) (decimal_nonempty n lt) (digits-decimal n lt) (begins n lt) (digits_value-decimal (numerals_by_value _ tells_all_ascii_digits) n lt) le
+number_said-decimal : (most n : ℕ) → n < 2 ^ 64 → n ≤ most → number_said most (decimal n) ≡ Some n
+number_said-decimal most n lt le =
+    number_said-numeral most n (decimal n) (decimal_nonempty n lt) (digits-decimal n lt) (begins n lt) (digits_value-decimal (numerals_by_value _ tells_all_ascii_digits) n lt) le
 
 no_space-digit : (c : ℕ) → is_ascii_digit c ≡ true → is_space c ≡ false
 no_space-digit c h = grind (arith, nat_tests)
@@ -92,18 +93,18 @@ no_space-hex : (bytes : List ℕ) → IsBytes bytes → HasNoSpace (encode_lower
 no_space-hex bytes are =
     λ k d lt. no_space-hex_at (get_or (encode_lower bytes) k d) _ refl ((decode_of-ok (encode_lower bytes) bytes (decode_of-encode_lower bytes are)).1 k d lt)
 
-bytes_of-hex : (most : ℕ) (bytes : List ℕ) → IsBytes bytes → 0 < length bytes → length bytes ≤ most → bytes_of most (encode_lower bytes) ≡ Some bytes
-bytes_of-hex most bytes are some le = ap (some_bytes most) (decode_of-encode_lower bytes are) ∙ some_bytes-within most bytes some le
+bytes_said-hex : (most : ℕ) (bytes : List ℕ) → IsBytes bytes → 0 < length bytes → length bytes ≤ most → bytes_said most (encode_lower bytes) ≡ Some bytes
+bytes_said-hex most bytes are some le = ap (some_bytes most) (decode_of-encode_lower bytes are) ∙ some_bytes-within most bytes some le
 
 one_byte : (mask : ℕ) → mask < 256 → IsBytes (mask ∷ [])
 one_byte mask lt = λ i. grind (arith, nat_tests)
 
 -- a reference is read as its number
-reference_of-number : (back : ℕ) (digits : List ℕ) → number_of 64 digits ≡ Some back → 0 < back → reference_of (45 ∷ digits) ≡ Some back
+reference_of-number : (back : ℕ) (digits : List ℕ) → number_said 64 digits ≡ Some back → 0 < back → reference_of (45 ∷ digits) ≡ Some back
 reference_of-number back digits e some = rw e (grind (arith, nat_tests))
 
 reference_of-text : (back : ℕ) → 0 < back → back ≤ 64 → reference_of (reference_text back) ≡ Some back
-reference_of-text back some le = reference_of-number back (decimal back) (number_of-decimal 64 back (omega arith) le) some
+reference_of-text back some le = reference_of-number back (decimal back) (number_said-decimal 64 back (omega arith) le) some
 
 no_space-reference : (back : ℕ) → back ≤ 64 → HasNoSpace (reference_text back)
 no_space-reference back le = spaceless-more 45 (decimal back) refl (no_space-decimal back (omega arith))
@@ -121,20 +122,20 @@ deliver_read : (to : End) (back : ℕ) (reference : List ℕ) → reference_of r
 deliver_read to back reference e = rw e refl
 
 altered_read : (sends : End → ℕ) (to : End) (back pos mask : ℕ) (reference place digits : List ℕ)
-    → number_of 65535 place ≡ Some pos → reference_of reference ≡ Some back → bytes_of 1 digits ≡ Some (mask ∷ []) → pos < delivered_len sends to
+    → number_said 65535 place ≡ Some pos → reference_of reference ≡ Some back → bytes_said 1 digits ≡ Some (mask ∷ []) → pos < delivered_len sends to
     → altered_line to sends (reference ∷ place ∷ digits ∷ []) ≡ Ok (line.Step (event.Altered to back pos mask))
 altered_read sends to back pos mask reference place digits e f g lt = rw (e, f, g) (grind (arith, nat_tests))
 
-raw_read : (to : End) (frame field : List ℕ) → bytes_of 255 field ≡ Some frame → raw_line to (field ∷ []) ≡ Ok (line.Step (event.Raw to frame))
+raw_read : (to : End) (frame field : List ℕ) → bytes_said MOST_FRAME field ≡ Some frame → raw_line to (field ∷ []) ≡ Ok (line.Step (event.Raw to frame))
 raw_read to frame field e = rw e refl
 
-put_read : (at : End) (count : ℕ) (load field : List ℕ) → bytes_of 126 field ≡ Some load → length load ≡ count → put_line at count (field ∷ []) ≡ Ok (line.Step (event.Put at load))
+put_read : (at : End) (count : ℕ) (load field : List ℕ) → bytes_said MOST_DATA field ≡ Some load → length load ≡ count → put_line at count (field ∷ []) ≡ Ok (line.Step (event.Put at load))
 put_read at count load field e right = rw e (grind (arith, nat_tests))
 
 hold_read : (at : End) (on : Bool) (field : List ℕ) → switch_of field ≡ Some on → hold_line at (field ∷ []) ≡ Ok (line.Step (event.Hold at on))
 hold_read at on field e = rw e refl
 
-nonce_read : (at : End) (profile : Profile) (id : ℕ) (field : List ℕ) → number_of 4294967295 field ≡ Some id → allows_id profile id ≡ true → nonce_line at profile (field ∷ []) ≡ Ok (line.Step (event.Nonce at id))
+nonce_read : (at : End) (profile : Profile) (id : ℕ) (field : List ℕ) → number_said 4294967295 field ≡ Some id → allows_id profile id ≡ true → nonce_line at profile (field ∷ []) ≡ Ok (line.Step (event.Nonce at id))
 nonce_read at profile id field e allowed = rw (e, allowed) refl
 
 word_spaceless : (first : ℕ) (end : End) → is_space first ≡ false → HasNoSpace (first ∷ end_letter end)
@@ -164,19 +165,19 @@ read_back sends profiles (event.Altered to back pos mask) typed fits =
     let is_byte = one_byte mask typed.2 in
     line_said sends profiles 97 word.Altered to (reference_text back ∷ place ∷ digits ∷ []) refl refl refl
     (no_space-reference back fits.0.1, (no_space-decimal pos (omega (arith, typed.1)), (no_space-hex (mask ∷ []) is_byte, tt)))
-    ∙ altered_read sends to back pos mask (reference_text back) place digits (number_of-decimal 65535 pos (omega (arith, typed.1)) (omega (arith, typed.1)))
-    (reference_of-text back fits.0.0 fits.0.1) (bytes_of-hex 1 (mask ∷ []) is_byte (omega arith) (omega arith)) fits.1
+    ∙ altered_read sends to back pos mask (reference_text back) place digits (number_said-decimal 65535 pos (omega (arith, typed.1)) (omega (arith, typed.1)))
+    (reference_of-text back fits.0.0 fits.0.1) (bytes_said-hex 1 (mask ∷ []) is_byte (omega arith) (omega arith)) fits.1
 read_back sends profiles (event.Raw to frame) typed fits =
     line_said sends profiles 114 word.Raw to (encode_lower frame ∷ []) refl refl refl (no_space-hex frame typed, tt)
-    ∙ raw_read to frame (encode_lower frame) (bytes_of-hex 255 frame typed fits.0.0 fits.0.1)
+    ∙ raw_read to frame (encode_lower frame) (bytes_said-hex MOST_FRAME frame typed fits.0.0 fits.0.1)
 read_back sends profiles (event.Tick at) typed fits = line_said sends profiles 116 word.Tick at [] refl refl refl tt
 read_back sends profiles (event.Put at load) typed fits =
     line_said sends profiles 112 word.Put at (encode_lower load ∷ []) refl refl refl (no_space-hex load typed, tt)
-    ∙ put_read at (sends at) load (encode_lower load) (bytes_of-hex 126 load typed fits.0.0 fits.0.1) fits.1
+    ∙ put_read at (sends at) load (encode_lower load) (bytes_said-hex MOST_DATA load typed fits.0.0 fits.0.1) fits.1
 read_back sends profiles (event.Hold at failsafe) typed fits =
     line_said sends profiles 104 word.Hold at (switch_text failsafe ∷ []) refl refl refl (no_space-switch failsafe, tt)
     ∙ hold_read at failsafe (switch_text failsafe) (switch_of-text failsafe)
 read_back sends profiles (event.Nonce at id) typed fits =
     line_said sends profiles 110 word.Nonce at (decimal id ∷ []) refl refl refl (no_space-decimal id (omega (arith, typed)), tt)
-    ∙ nonce_read at (profiles at) id (decimal id) (number_of-decimal 4294967295 id (omega (arith, typed)) (omega (arith, typed))) fits.1
+    ∙ nonce_read at (profiles at) id (decimal id) (number_said-decimal 4294967295 id (omega (arith, typed)) (omega (arith, typed))) fits.1
 read_back sends profiles (event.Local at) typed fits = line_said sends profiles 122 word.Local at [] refl refl refl tt

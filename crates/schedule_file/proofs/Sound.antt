@@ -21,7 +21,7 @@ use Rattle.param_load.specs.declared.profile.Profile.TheVariants as profile
 use Rattle.param_load.specs.declared.slave_settings.SlaveSettings.{SlaveSettings}
 use Rattle.schedule_file.specs.Field.{fields_of, some_bytes}
 use Rattle.schedule_file.specs.Fields.{◌>>=◌, map_ok, value_or, next_field, no_field, one_field, number_16, one_hex_field}
-use Rattle.schedule_file.specs.Header.{Heading, heading_new, heading_after, is_done, profile_given, profile_taken, taken, title_taken, fields_taken, IsMasterOf, IsSlaveOf}
+use Rattle.schedule_file.specs.Header.{Heading, heading_new, heading_after, heading_is_whole, profile_given, profile_taken, heading_with, title_taken, fields_taken, IsMasterOf, IsSlaveOf}
 use Rattle.schedule_file.specs.HeaderKind.{title_of}
 use Rattle.schedule_file.specs.HeaderLine.{InRange, RuleInRange, profile_line, lengths_line, end_numbers, master_line, slave_line, any_line, listed_line, rule_line, range_line, header_line}
 use Rattle.schedule_file.specs.HeaderPart.{lows_of, highs_of, list_with, rule_begun, rule_with_bytes, rule_with_pairs, master_with_app, slave_with_bytes, slave_with_pairs, profile_for}
@@ -203,7 +203,7 @@ profile_sound other h n s = (s.0, record { conn = s.1.conn; watchdog = s.1.watch
 with_rule : (h : Heading) (r : AppRule) → Sound h → IsTrue (is_acceptable r) → Sound (record h { slave = record h.slave { rule = r } })
 with_rule h r s is = (s.0, s.1, record { hand = s.2.hand; most = s.2.most; acceptable = is; allowed = s.2.allowed })
 
-taken_sound : (h : Heading) (line : HeaderLine) → InRange line → Sound h → IfOk (taken h line) Sound
+taken_sound : (h : Heading) (line : HeaderLine) → InRange line → Sound h → IfOk (heading_with h line) Sound
 taken_sound h (says.Lengths line) range s = (record { master = range.0; slave = range.1 }, s.1, s.2)
 taken_sound h (says.Master line) range s = (s.0, record { conn = range.0; watchdog = range.1; allowed = profile_allows line.nonce }, s.2)
 taken_sound h (says.Profile n) range s = profile_sound h.place h n s
@@ -239,7 +239,7 @@ step_by false h number rest later s next = next
 
 step_sound : (r : Result Heading LineCause) (number : ℕ) (rest : List (Result (List ℕ) InputCause)) (go_on : Heading → Result WholeHeader Stop) → IfOk r Sound
     → ((h : Heading) → Sound h → IfOk (go_on h) (λ whole. Sound whole.heading)) → IfOk (header_step number rest go_on r) (λ whole. Sound whole.heading)
-step_sound (Ok h) number rest go_on s next = step_by (is_done h) h number rest (go_on h) s (next h s)
+step_sound (Ok h) number rest go_on s next = step_by (heading_is_whole h) h number rest (go_on h) s (next h s)
 step_sound (Err cause) number rest go_on s next = tt
 
 lines_sound : (number : ℕ) (h : Heading) (lines : List (Result (List ℕ) InputCause)) → Sound h → IfOk (header_in number h lines) (λ whole. Sound whole.heading)

@@ -2,6 +2,7 @@
 use Rattle.std.specs.Prelude.{◌≡◌, ℕ, ◌<◌, ◌≤◌, length, IsTrue}
 use Rattle.fsoe_base.specs.declared.command.End.{End}
 use Rattle.fsoe_base.specs.declared.lengths.Lengths.{Lengths}
+use Rattle.fsoe_base.specs.declared.lengths.TheConstants.{MOST_DATA, MOST_FRAME}
 use Rattle.fsoe_base.specs.LengthsOf.{length_of}
 use Rattle.fsoe_base.specs.declared.command.End.TheVariants as side
 use Rattle.param_load.specs.declared.profile.Profile.{Profile}
@@ -23,8 +24,8 @@ profile_of profiles side.Slave = profiles.slave
 abbrev pub IsWritable : Event → Type 0
 IsWritable (event.Deliver to back) = (0 < back) × (back ≤ MAX_BACK)
 IsWritable (event.Altered to back pos mask) = (0 < back) × (back ≤ MAX_BACK)
-IsWritable (event.Raw to frame) = (0 < length frame) × (length frame ≤ 255)
-IsWritable (event.Put at load) = (0 < length load) × (length load ≤ 126)
+IsWritable (event.Raw to frame) = (0 < length frame) × (length frame ≤ MOST_FRAME)
+IsWritable (event.Put at load) = (0 < length load) × (length load ≤ MOST_DATA)
 IsWritable other = Unit {0}
 
 -- an event that ends may have which send so many safe data bytes and have these profiles: an altered place is one of that
@@ -42,7 +43,7 @@ Fits sends profiles event = IsWritable event × Suits sends profiles event
 -- an event that the node at this end may have, which sends so many safe data bytes: it is at this end, a frame has from 1 to 255 bytes,
 -- a put has exactly as many bytes as the end sends, and the profile allows the session id
 abbrev pub FitsEnd : End → ℕ → Profile → Event → Type 0
-FitsEnd end count profile (event.Raw to frame) = (to ≡ end) × (0 < length frame) × (length frame ≤ 255)
+FitsEnd end count profile (event.Raw to frame) = (to ≡ end) × (0 < length frame) × (length frame ≤ MOST_FRAME)
 FitsEnd end count profile (event.Tick at) = at ≡ end
 FitsEnd end count profile (event.Put at load) = (at ≡ end) × (length load ≡ count)
 FitsEnd end count profile (event.Hold at failsafe) = at ≡ end

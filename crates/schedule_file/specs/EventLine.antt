@@ -3,11 +3,12 @@
 use Rattle.std.specs.Prelude.{ℕ, ◌==◌, nat_lt, length, slice_index, Bool, true, false, List, [], ◌∷◌, codes, Option, Some, None, Result, Ok, Err, if◌then◌else◌}
 use Rattle.std.specs.Str.{bytes_eq}
 use Rattle.fsoe_base.specs.Lengths.{frame_len}
+use Rattle.fsoe_base.specs.declared.lengths.TheConstants.{MOST_DATA, MOST_FRAME}
 use Rattle.fsoe_base.specs.declared.command.End.{End}
 use Rattle.fsoe_base.specs.declared.command.End.TheVariants as side
 use Rattle.param_load.specs.Profile.{allows_id}
 use Rattle.param_load.specs.declared.profile.Profile.{Profile}
-use Rattle.schedule_file.specs.Field.{number_of, bytes_of}
+use Rattle.schedule_file.specs.Field.{number_said, bytes_said}
 use Rattle.schedule_file.specs.Fields.{◌>>=◌, map_ok, value_or, next_field, no_field, one_field, number_16, number_32, one_hex_field}
 use Rattle.schedule_file.specs.declared.event.Event.TheVariants as event
 use Rattle.schedule_file.specs.declared.event.TheConstants.{MAX_BACK}
@@ -31,7 +32,7 @@ not_zero (Some n) = if n == 0 then None else Some n
 -- a reference is a minus and a number from 1 to 64
 abbrev pub reference_of : List ℕ → Option ℕ
 reference_of [] = None
-reference_of (sign ∷ digits) = if sign == 45 then not_zero (number_of MAX_BACK digits) else None
+reference_of (sign ∷ digits) = if sign == 45 then not_zero (number_said MAX_BACK digits) else None
 
 -- the number of bytes of a frame that is delivered to an end, where the ends send so many safe data bytes: its peer sent it
 abbrev pub delivered_len : (End → ℕ) → End → ℕ
@@ -53,7 +54,7 @@ altered_line to sends fields = do
   digits ← one_field place.1
   pos ← number_16 place.0
   back ← value_or cause.Reference (reference_of reference.0)
-  mask ← value_or cause.Hex (bytes_of 1 digits)
+  mask ← value_or cause.Hex (bytes_said 1 digits)
   if nat_lt pos (delivered_len sends to) then Ok (line.Step (event.Altered to back pos (slice_index mask 0))) else Err cause.Position
 
 -- a word says this by itself
@@ -62,12 +63,12 @@ bare_line says fields = map_ok (λ none. says) (no_field fields)
 
 -- a frame of 1 to 255 bytes
 abbrev pub raw_line : End → List (List ℕ) → Result ScheduleLine LineCause
-raw_line to fields = map_ok (λ bytes. line.Step (event.Raw to bytes)) (one_hex_field 255 fields)
+raw_line to fields = map_ok (λ bytes. line.Step (event.Raw to bytes)) (one_hex_field MOST_FRAME fields)
 
 -- safe data bytes, exactly as many as the end sends
 abbrev pub put_line : End → ℕ → List (List ℕ) → Result ScheduleLine LineCause
 put_line at count fields = do
-  bytes ← one_hex_field 126 fields
+  bytes ← one_hex_field MOST_DATA fields
   if length bytes == count then Ok (line.Step (event.Put at bytes)) else Err cause.Length
 
 -- fail-safe data on or off

@@ -25,8 +25,8 @@ abbrev pub is_number : List ℕ → Bool
 is_number text = nat_lt 0 (length text) && all_ascii_digits text && (length text == 1 || nat_lt 48 (slice_index text 0))
 
 -- the number that a field says, where it is at most `most`
-abbrev pub number_of : ℕ → List ℕ → Option ℕ
-number_of most text = if is_number text && nat_le (digits_value 10 text) most then Some (digits_value 10 text) else None
+abbrev pub number_said : ℕ → List ℕ → Option ℕ
+number_said most text = if is_number text && nat_le (digits_value 10 text) most then Some (digits_value 10 text) else None
 
 -- bytes that are from one to `most`
 abbrev pub some_bytes : ℕ → Result (List ℕ) FromHexError → Option (List ℕ)
@@ -34,10 +34,10 @@ some_bytes most (Ok bytes) = if nat_lt 0 (length bytes) && nat_le (length bytes)
 some_bytes most (Err e) = None
 
 -- the bytes that a field says in hexadecimal, where they are from one to `most`
-abbrev pub bytes_of : ℕ → List ℕ → Option (List ℕ)
-bytes_of most text = some_bytes most (decode_of text)
+abbrev pub bytes_said : ℕ → List ℕ → Option (List ℕ)
+bytes_said most text = some_bytes most (decode_of text)
 
 -- a field says this many bytes in hexadecimal, from one to `most`: it has two digits for each; or it says none
 abbrev pub CountsBytes : Option ℕ → ℕ → List ℕ → Type 0
 CountsBytes (Some count) most text = (0 < count) × (count ≤ most) × (length text ≡ 2 * count) × IsTrue (list_all is_hex_digit text)
-CountsBytes None most text = bytes_of most text ≡ None
+CountsBytes None most text = bytes_said most text ≡ None

@@ -1,6 +1,6 @@
 -- The steps by which a line is read: each gives a value, or the cause for which the line is refused.
 use Rattle.std.specs.Prelude.{◌≡◌, List, [], ◌∷◌, ℕ, Option, Some, None, Result, Ok, Err, MatchResult}
-use Rattle.schedule_file.specs.Field.{fields_after, number_of, bytes_of}
+use Rattle.schedule_file.specs.Field.{fields_after, number_said, bytes_said}
 use Rattle.schedule_file.specs.declared.line_cause.LineCause.{LineCause}
 use Rattle.schedule_file.specs.declared.line_cause.LineCause.TheVariants as cause
 use denote.Ref.{Bor}
@@ -51,17 +51,17 @@ AreFields result said = MatchResult result (λ it. said ≡ Ok (it.0.now, fields
 
 -- a number of 16 bits
 abbrev pub number_16 : List ℕ → Result ℕ LineCause
-number_16 text = value_or cause.Number (number_of 65535 text)
+number_16 text = value_or cause.Number (number_said 65535 text)
 
 -- a number of 32 bits
 abbrev pub number_32 : List ℕ → Result ℕ LineCause
-number_32 text = value_or cause.Number (number_of 4294967295 text)
+number_32 text = value_or cause.Number (number_said 4294967295 text)
 
 -- the bytes that the only field says in hexadecimal, from one to `most`
 abbrev pub one_hex_field : ℕ → List (List ℕ) → Result (List ℕ) LineCause
 one_hex_field most fields = do
   field ← one_field fields
-  value_or cause.Hex (bytes_of most field)
+  value_or cause.Hex (bytes_said most field)
 
 -- why fields aren't one in hexadecimal: there isn't one, or it isn't
 abbrev pub not_hex : List (List ℕ) → LineCause

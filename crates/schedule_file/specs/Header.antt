@@ -25,7 +25,7 @@ use Rattle.schedule_file.specs.declared.place.Place.TheVariants as place
 use Rattle.schedule_file.specs.declared.place.Word.{Word}
 use Rattle.schedule_file.specs.declared.place.Word.TheVariants as word
 
--- what it describes, the line that was read last, and what the lines say
+-- the kind of a header, its place after the lines that were read, and what these lines say; what they don't say is as in a new one
 pub record Heading : Type 0 where
   pub kind : HeaderKind
   pub place : Place
@@ -43,13 +43,9 @@ heading_new kind = record {
   slave = slave_begun (record { address = 0; hand = 1; most = 1; nonce = 0 });
 }
 
--- what a header describes
-abbrev pub kind_of : Heading → HeaderKind
-kind_of h = h.kind
-
 -- a header is done once its line `go` is read
-abbrev pub is_done : Heading → Bool
-is_done h = is_last h.place
+abbrev pub heading_is_whole : Heading → Bool
+heading_is_whole h = is_last h.place
 
 -- where a header is after a `rule` line
 abbrev pub rule_place : RuleLine → Place
@@ -75,16 +71,16 @@ profile_taken place.Slave h word = record h { place = place.SlaveProfile; slave 
 profile_taken other h word = record h { place = place.App; master = record h.master { profile = profile.Two word } }
 
 -- a header after a line that says this
-abbrev pub taken : Heading → HeaderLine → Result Heading LineCause
-taken h (says.Lengths line) = Ok (record h { place = place.Lengths; lengths = line })
-taken h (says.Master line) = Ok (record h { place = place.Master; master = master_begun line })
-taken h (says.Profile word) = Ok (profile_taken h.place h word)
-taken h (says.App bytes) = map_ok (λ master. record h { place = place.App; master = master }) (master_with_app h.master bytes)
-taken h (says.Slave line) = Ok (record h { place = place.Slave; slave = slave_begun line })
-taken h (says.Rule line) = Ok (record h { place = rule_place line; slave = record h.slave { rule = rule_begun line } })
-taken h (says.Bytes bytes) = map_ok (λ slave. record h { place = place.RuleExact; slave = slave }) (slave_with_bytes h.slave bytes)
-taken h (says.Range pairs) = map_ok (λ slave. record h { place = place.RuleRanges; slave = slave }) (slave_with_pairs h.slave pairs)
-taken h says.Go = Ok (record h { place = place.Done })
+abbrev pub heading_with : Heading → HeaderLine → Result Heading LineCause
+heading_with h (says.Lengths line) = Ok (record h { place = place.Lengths; lengths = line })
+heading_with h (says.Master line) = Ok (record h { place = place.Master; master = master_begun line })
+heading_with h (says.Profile word) = Ok (profile_taken h.place h word)
+heading_with h (says.App bytes) = map_ok (λ master. record h { place = place.App; master = master }) (master_with_app h.master bytes)
+heading_with h (says.Slave line) = Ok (record h { place = place.Slave; slave = slave_begun line })
+heading_with h (says.Rule line) = Ok (record h { place = rule_place line; slave = record h.slave { rule = rule_begun line } })
+heading_with h (says.Bytes bytes) = map_ok (λ slave. record h { place = place.RuleExact; slave = slave }) (slave_with_bytes h.slave bytes)
+heading_with h (says.Range pairs) = map_ok (λ slave. record h { place = place.RuleRanges; slave = slave }) (slave_with_pairs h.slave pairs)
+heading_with h says.Go = Ok (record h { place = place.Done })
 
 -- a header after its first line
 abbrev pub title_taken : Heading → List ℕ → Result Heading LineCause
@@ -97,7 +93,7 @@ fields_taken h (first ∷ fields) = do
   word ← admitted h.kind h.place (header_word_of first)
   line ← header_line word fields
   given ← profile_given h word
-  taken h line
+  heading_with h line
 
 -- a header after its next line, or why that line is refused
 abbrev pub heading_after : Heading → List ℕ → Result Heading LineCause

@@ -5,7 +5,7 @@ use Rattle.std.specs.Str.{bytes_eq}
 use Rattle.fsoe_base.specs.declared.command.End.{End}
 use Rattle.fsoe_base.specs.declared.command.End.TheVariants as side
 use Rattle.param_load.specs.declared.profile.Profile.{Profile}
-use Rattle.schedule_file.specs.Header.{Heading, heading_new, heading_after, is_done}
+use Rattle.schedule_file.specs.Header.{Heading, heading_new, heading_after, heading_is_whole}
 use Rattle.schedule_file.specs.NodeEvent.{node_line}
 use Rattle.schedule_file.specs.PairEvent.{pair_line}
 use Rattle.schedule_file.specs.declared.event.Event.{Event}
@@ -60,7 +60,7 @@ pub record WholeHeader : Type 0 where
 
 -- a header after the line of this number: it is done, or goes on, or the line is refused
 abbrev pub header_step : ℕ → List (Result (List ℕ) InputCause) → (Heading → Result WholeHeader Stop) → Result Heading LineCause → Result WholeHeader Stop
-header_step number rest go_on (Ok h) = if is_done h then Ok (record { heading = h; lines = number; rest = rest }) else go_on h
+header_step number rest go_on (Ok h) = if heading_is_whole h then Ok (record { heading = h; lines = number; rest = rest }) else go_on h
 header_step number rest go_on (Err cause) = Err (Refused number (Line cause))
 
 -- the header of lines of which the first has this number

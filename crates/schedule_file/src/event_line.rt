@@ -15,7 +15,7 @@ use crate::field::{
     one_hex_field,
 };
 use crate::line_cause::LineCause;
-use fsoe_base::{End, FrameBuf, Image, Lengths, MOST_DATA};
+use fsoe_base::{End, FrameBuf, Image, Lengths, MOST_DATA, MOST_FRAME};
 use param_load::Profile;
 
 /// Off or on.
@@ -50,7 +50,7 @@ fn read_reference(text: &[u8]) -> Option<u8>
 /// The number of bytes of a frame that is delivered to this end, which its peer sent.
 fn delivered_len(to: End, lengths: &Lengths) -> usize
     ensures value { result ≡ delivered_len (length_of lengths.now) to }
-    ensures most { result ≤ 255 }
+    ensures most { result ≤ MOST_FRAME }
 {
     match to {
         End::Master => lengths.frame_len(End::Slave),

@@ -1,7 +1,7 @@
 //! The fields of a line, and what one field says.
 ghost use Rattle.std.specs.Prelude.{◌≡◌, ◌≤◌, ◌<◌, ◌∷◌, length, IfSome, IfOk, OnOk, OnErr};
 ghost use Rattle.schedule_file.specs.Fields.{next_field, no_field, one_field, number_16, number_32, one_hex_field, not_hex, IsField, AreFields, Becomes};
-ghost use Rattle.schedule_file.specs.Field.{CountsBytes, fields_of, fields_after, number_of, bytes_of};
+ghost use Rattle.schedule_file.specs.Field.{CountsBytes, fields_of, fields_after, number_said, bytes_said};
 
 use crate::hex_digits::{are_digits, decode};
 use crate::line_cause::LineCause;
@@ -21,7 +21,7 @@ pub fn cut(text: &[u8]) -> (&[u8], Option<&[u8]>)
 
 /// The number that a text says, in digits with no sign and no leading zero, where it is at most `most`.
 pub fn read_number(text: &[u8], most: u64) -> Option<u64>
-    ensures value { result ≡ number_of most text.now }
+    ensures value { result ≡ number_said most text.now }
     ensures most { IfSome result (λ n. n ≤ most) }
 {
     if text.is_empty() || (text.len() > 1 && text[0] == b'0') {
@@ -42,7 +42,7 @@ pub fn read_number(text: &[u8], most: u64) -> Option<u64>
 
 /// The same with at most 32 bits.
 pub fn number(text: &[u8], most: u32) -> Option<u32>
-    ensures { result ≡ number_of most text.now }
+    ensures { result ≡ number_said most text.now }
 {
     match read_number(text, u64::from(most)) {
         Some(n) => Some(n as u32),
@@ -89,7 +89,7 @@ impl HexBytes {
     /// The bytes that a field says in digits of either case, from one to `most`.
     pub fn read(text: &[u8], most: usize) -> Option<HexBytes>
         requires { most ≤ MAX_HEX }
-        ensures value { result ≡ bytes_of most text.now }
+        ensures value { result ≡ bytes_said most text.now }
         ensures count { IfSome result (λ bytes. (0 < length bytes) × (length bytes ≤ most)) }
     {
         let len = count_bytes(text, most)?;

@@ -1,7 +1,7 @@
 //! The header of an input, line by line.
 ghost use Rattle.std.specs.Prelude.{◌≡◌, ◌<◌, IsTrue, IfOk, OnOk, OnErr};
 ghost use Rattle.schedule_file.specs.Fields.{Becomes};
-ghost use Rattle.schedule_file.specs.Header.{heading_new, heading_after, wants_profile, profile_given, taken, profile_taken, title_taken, is_done, kind_of, rule_place, IsMasterOf, IsSlaveOf};
+ghost use Rattle.schedule_file.specs.Header.{heading_new, heading_after, wants_profile, profile_given, heading_with, profile_taken, title_taken, heading_is_whole, rule_place, IsMasterOf, IsSlaveOf};
 ghost use Rattle.schedule_file.specs.HeaderKind.{has_end};
 ghost use Rattle.schedule_file.specs.HeaderLine.{InRange};
 ghost use Rattle.schedule_file.specs.LinesLeft.{lines_left};
@@ -90,7 +90,7 @@ impl Header {
 
     /// Whether the line `go` is read.
     pub fn is_done(&self) -> bool
-        ensures { result ≡ is_done self.now }
+        ensures { result ≡ heading_is_whole self.now }
     {
         self.place.is_last()
     }
@@ -101,9 +101,9 @@ impl Header {
     /// `go`, is refused as `Header`. Each line leaves fewer to come: a header has at most 1,032.
     pub fn line(&mut self, line: &[u8]) -> Result<bool, LineCause>
         ensures next { Becomes result self.new (heading_after self.old line.now) }
-        ensures done { IfOk result (λ done. done ≡ is_done self.new) }
+        ensures done { IfOk result (λ done. done ≡ heading_is_whole self.new) }
         ensures refused { OnErr result (self.new.place ≡ Place.Refused) }
-        ensures kind { kind_of self.new ≡ kind_of self.old }
+        ensures kind { self.new.kind ≡ self.old.kind }
         ensures fewer { OnOk result (lines_left self.new < lines_left self.old) }
     {
         match self.read(line) {
@@ -117,7 +117,7 @@ impl Header {
 
     fn read(&mut self, line: &[u8]) -> Result<(), LineCause>
         ensures next { Becomes result self.new (heading_after self.old line.now) }
-        ensures kind { kind_of self.new ≡ kind_of self.old }
+        ensures kind { self.new.kind ≡ self.old.kind }
         ensures fewer { OnOk result (lines_left self.new < lines_left self.old) }
     {
         if self.place.is_start() {
@@ -133,7 +133,7 @@ impl Header {
     fn read_title(&mut self, line: &[u8]) -> Result<(), LineCause>
         requires { IsTrue (is_start self.old.place) }
         ensures next { Becomes result self.new (title_taken self.old line.now) }
-        ensures kind { kind_of self.new ≡ kind_of self.old }
+        ensures kind { self.new.kind ≡ self.old.kind }
         ensures fewer { OnOk result (lines_left self.new < lines_left self.old) }
     {
         if line == self.kind.title() {
@@ -169,8 +169,8 @@ impl Header {
     /// Takes what a line says.
     fn take(&mut self, says: HeaderLine) -> Result<(), LineCause>
         requires { InRange says }
-        ensures next { Becomes result self.new (taken self.old says) }
-        ensures kind { kind_of self.new ≡ kind_of self.old }
+        ensures next { Becomes result self.new (heading_with self.old says) }
+        ensures kind { self.new.kind ≡ self.old.kind }
     {
         match says {
             HeaderLine::Lengths(line) => {
@@ -234,8 +234,8 @@ impl Header {
 
     /// What the master is set to, once the header is done, where it describes a master.
     pub fn master(&self) -> MasterSettings
-        requires done { IsTrue (is_done self.now) }
-        requires master { IsTrue (has_end (kind_of self.now) End.Master) }
+        requires done { IsTrue (heading_is_whole self.now) }
+        requires master { IsTrue (has_end self.now.kind End.Master) }
         ensures { IsMasterOf self.now result }
     {
         self.master.settings(self.lengths())
@@ -243,8 +243,8 @@ impl Header {
 
     /// What the slave is set to, once the header is done, where it describes a slave.
     pub fn slave(&self) -> SlaveSettings
-        requires done { IsTrue (is_done self.now) }
-        requires slave { IsTrue (has_end (kind_of self.now) End.Slave) }
+        requires done { IsTrue (heading_is_whole self.now) }
+        requires slave { IsTrue (has_end self.now.kind End.Slave) }
         ensures { IsSlaveOf self.now result }
     {
         self.slave.settings(self.lengths())

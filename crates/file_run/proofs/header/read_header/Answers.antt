@@ -1,5 +1,5 @@
 use Rattle.std.proofs.Common.{◌≡◌, arith, ap, sym, ◌∙◌}
-use Rattle.schedule_file.specs.Header.{kind_of}
+use Rattle.schedule_file.specs.Header.{Heading}
 use Rattle.schedule_file.specs.LinesLeft.{lines_left}
 use Rattle.file_run.proofs.HeaderSeen.{header_none, header_line, header_done, header_halts}
 use Rattle.file_run.proofs.Taken.{halts_after, took_none, took_line}
@@ -10,7 +10,7 @@ loop-header-init g c =
     let most : lines_left c.new-header.result ≡ 1032 = ap lines_left c.new-header.ensures in (
       took_none _ _ _ c.requires.bytes c.requires.lines,
       omega (arith, most, c.requires.lines),
-      ap kind_of c.new-header.ensures,
+      ap (λ (h : Heading). h.kind) c.new-header.ensures,
       omega arith,
       header_none c.args.kind _ _ _ _ c.new-header.ensures c.requires.lines c.requires.bytes,
     )

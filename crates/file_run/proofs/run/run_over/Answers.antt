@@ -1,6 +1,6 @@
 use Rattle.std.proofs.Common.{◌+◌, [], arith, ◌∙◌}
 use Rattle.std.specs.Prelude.{Ok, Err}
-use Rattle.file_run.specs.Machine.{GoesOn}
+use Rattle.file_run.specs.Machine.{TakesEvent}
 use Rattle.file_run.proofs.Exact.{ran_by}
 use Rattle.file_run.proofs.Running.{running_start, running_sent, running_event, event_may_come, heads_as, ends_unsent, ends_lost, ends_at_end, ends_missed, ends_halted, header_halted}
 use Rattle.file_run.proofs.Sending.{rose_since}
@@ -62,7 +62,7 @@ returns-in-Err-put g c =
     let later = c.loop-output.invariant.sink_later in
     let puts = c.in-Err-put.ensures.puts in
     let cause = c.in-Err-put.ensures.cause in
-    let on : GoesOn (g.M.Machine.stands c.loop-output.machine) (g.M.Machine.stands c.report.new.self) c.in-Step.event (c.loop-output.events + 1) c.bytes.result.now = rw c.bytes.ensures.value c.in_default-report.ensures.goes_on in
+    let on : TakesEvent (g.M.Machine.stands c.loop-output.machine) (g.M.Machine.stands c.report.new.self) c.in-Step.event (c.loop-output.events + 1) c.bytes.result.now = rw c.bytes.ensures.value c.in_default-report.ensures.takes_event in
     ran_by _ _ _
     (ends_lost g.M.Machine.reporting (g.M.Machine.stands c.loop-output.machine) (g.M.Machine.stands c.report.new.self) _ _ _ _ _ _ _ _ _ c.in-Step.event c.bytes.result.now puts.0 c.write_failed-in-Err-put.result
     (c.laws.ensures.so_far c.report.new.self) sent (rw c.in-Step.is at next.finds) (rw c.in-Step.is at next.few) on puts.1 c.write_failed-in-Err-put.ensures.status c.write_failed-in-Err-put.ensures.place
@@ -73,7 +73,7 @@ pub loop-output-preserved : goal.loop-output-preserved
 loop-output-preserved g c =
     let sent = running_sent _ _ _ _ _ _ _ _ _ _ _ _ c.loop-output.invariant.running c.in_default.ensures.puts c.in_default.ensures.count in
     let next = c.in_default-next_event.ensures in
-    let on : GoesOn (g.M.Machine.stands c.loop-output.machine) (g.M.Machine.stands c.report.new.self) c.in-Step.event (c.loop-output.events + 1) c.bytes.result.now = rw c.bytes.ensures.value c.in_default-report.ensures.goes_on in
+    let on : TakesEvent (g.M.Machine.stands c.loop-output.machine) (g.M.Machine.stands c.report.new.self) c.in-Step.event (c.loop-output.events + 1) c.bytes.result.now = rw c.bytes.ensures.value c.in_default-report.ensures.takes_event in
     record {
       source_later = omega (arith, c.loop-output.invariant.source_later, next.later);
       sink_later = omega (arith, c.loop-output.invariant.sink_later, c.in_default.ensures.cause.later, c.in_default-put.ensures.cause.later);

@@ -4,8 +4,8 @@ use Rattle.duo_run.proofs.replay.DuoMachine.report.Goals as goal
 pub step-requires-clause-fits : goal.step-requires-clause-fits
 step-requires-clause-fits c = pair_fits c.args.self.now c.args.event.now c.args.number c.requires
 
-pub returns-in-Ok-clause-goes_on : goal.returns-in-Ok-clause-goes_on
-returns-in-Ok-clause-goes_on c =
+pub returns-in-Ok-clause-takes_event : goal.returns-in-Ok-clause-takes_event
+returns-in-Ok-clause-takes_event c =
     pair_goes_on c.args.self.now c.step.new.self c.args.event.now c.args.number c.in-Ok.entry c.write_entry.new.text c.in-Ok.ensures.steps c.write_entry.ensures
 
 pub returns-in-Err-NoSuchFrame-clause-unsent : goal.returns-in-Err-NoSuchFrame-clause-unsent

@@ -4,8 +4,8 @@ use Rattle.node_runner.proofs.node.SlaveNodeMachine.report.Goals as goal
 pub step_slave-did-requires : goal.step_slave-did-requires
 step_slave-did-requires c = slave_fits c.args.self.now.slave c.args.event.now c.args.number c.requires
 
-pub returns-clause-goes_on : goal.returns-clause-goes_on
-returns-clause-goes_on c =
+pub returns-clause-takes_event : goal.returns-clause-takes_event
+returns-clause-takes_event c =
     slave_goes_on c.args.self.now.slave c.step_slave-did.new.slave c.args.event.now c.args.number c.step_slave-did.result c.step_slave-did.new.sent c.state.result c.outputs.result.now c.write_entry.new.text (record {
       goes_on = c.step_slave-did.ensures.follows.is_after;
       did_is = c.step_slave-did.ensures.answers.did;

@@ -2,17 +2,17 @@
 use Rattle.std.specs.Prelude.{ℕ, List, codes}
 use Rattle.schedule_file.specs.Input as input
 use Rattle.schedule_file.specs.LineCause.{cause_name}
-use Rattle.file_run.specs.declared.cause.Cause.{Cause}
-use Rattle.file_run.specs.declared.cause.Cause.TheVariants as cause
+use Rattle.file_run.specs.declared.refusal.Refusal.{Refusal}
+use Rattle.file_run.specs.declared.refusal.Refusal.TheVariants as refusal
 
 -- a cause, as it is said of an input
-abbrev pub input_cause : Cause → input.InputCause
-input_cause cause.Long = input.Long
-input_cause cause.NoNewline = input.NoNewline
-input_cause cause.NoLine = input.NoLine
-input_cause cause.TooMany = input.TooMany
-input_cause cause.NoFrame = input.NoFrame
-input_cause (cause.Line why) = input.Line why
+abbrev pub input_cause : Refusal → input.InputCause
+input_cause refusal.Long = input.Long
+input_cause refusal.NoNewline = input.NoNewline
+input_cause refusal.NoLine = input.NoLine
+input_cause refusal.TooMany = input.TooMany
+input_cause refusal.NoFrame = input.NoFrame
+input_cause (refusal.Line why) = input.Line why
 
 -- the name of a cause in a report
 abbrev pub refusal_name : input.InputCause → List ℕ

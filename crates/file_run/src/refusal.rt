@@ -1,12 +1,12 @@
 //! Why a line of an input is refused.
 ghost use Rattle.std.specs.Prelude.{◌≡◌, ◌≤◌, length};
-ghost use Rattle.file_run.specs.Cause.{refusal_name, input_cause};
+ghost use Rattle.file_run.specs.Refusal.{refusal_name, input_cause};
 
 use schedule_file::LineCause;
 
 /// Why a line is refused: by itself, or by where it stands in the input.
 #[derive(Clone, Copy)]
-pub enum Cause {
+pub enum Refusal {
     /// It has more than 640 bytes.
     Long,
     /// The input ends inside it.
@@ -21,19 +21,19 @@ pub enum Cause {
     Line(LineCause),
 }
 
-impl Cause {
+impl Refusal {
     /// The name as reports write it.
     pub fn name(self) -> &'static str
         ensures text { result.now ≡ refusal_name (input_cause self) }
         ensures most { length result.now ≤ 10 }
     {
         match self {
-            Cause::Long => "Long",
-            Cause::NoNewline => "NoNewline",
-            Cause::NoLine => "End",
-            Cause::TooMany => "TooMany",
-            Cause::NoFrame => "NoFrame",
-            Cause::Line(cause) => cause.name(),
+            Refusal::Long => "Long",
+            Refusal::NoNewline => "NoNewline",
+            Refusal::NoLine => "End",
+            Refusal::TooMany => "TooMany",
+            Refusal::NoFrame => "NoFrame",
+            Refusal::Line(cause) => cause.name(),
         }
     }
 }
