@@ -10,15 +10,19 @@ use std::marker::Model;
 /// At most `MOST` bytes, which lie in the value itself. Contracts see them as a list.
 #[derive(Debug, Drop)]
 pub struct ByteList<const MOST: usize> {
-    inner: ArrayVec<u8, MOST>,
+    /// The bytes, and behind them what other bytes left there, so that none is blanked when the list gets shorter.
+    places: ArrayVec<u8, MOST>,
+    len: usize,
 }
 
 impl<const MOST: usize> Model for ByteList<MOST> {
-    ghost use Rattle.std.specs.Prelude.{ℕ, List};
+    ghost use Rattle.std.specs.Prelude.{◌≤◌, ℕ, List, length, take};
 
     ghost Value = { List ℕ };
 
-    ghost view = { λ l. l.inner.items };
+    ghost view = { λ l. take l.len l.places.items };
+
+    ghost invariant = { λ l. (l.len ≤ length l.places.items) × (length l.places.items ≤ MOST) };
 }
 
 /// The bytes of one frame, at most 255, or of none where it is empty.
@@ -52,7 +56,8 @@ impl<const MOST: usize> ByteList<MOST> {
         ensures { result ≡ [] }
     {
         ByteList {
-            inner: ArrayVec::new(),
+            places: ArrayVec::new(),
+            len: 0,
         }
     }
 
@@ -61,9 +66,10 @@ impl<const MOST: usize> ByteList<MOST> {
         requires { l ≤ MOST }
         ensures { result ≡ replicate l 0 }
     {
-        let mut list = ByteList::new();
-        list.set(&[0; MOST][..l]);
-        list
+        ByteList {
+            places: ArrayVec::from_array_in((), [0; MOST]),
+            len: l,
+        }
     }
 
     /// The number of bytes.
@@ -71,14 +77,14 @@ impl<const MOST: usize> ByteList<MOST> {
         ensures value { result ≡ length self.now }
         ensures most { result ≤ MOST }
     {
-        self.inner.len()
+        self.len
     }
 
     /// Whether there are no bytes.
     pub fn is_empty(&self) -> bool
         ensures { result ≡ (length self.now == 0) }
     {
-        self.inner.is_empty()
+        self.len == 0
     }
 
     /// The bytes.
@@ -86,7 +92,7 @@ impl<const MOST: usize> ByteList<MOST> {
         ensures value { result.now ≡ self.now }
         ensures most { length result.now ≤ MOST }
     {
-        self.inner.as_slice()
+        &self.places[..self.len]
     }
 
     /// The bytes, for writing over them.
@@ -94,7 +100,8 @@ impl<const MOST: usize> ByteList<MOST> {
         ensures* writes_back { sem 𝓛 (lends_bytes MOST.row self.entry result) }
         ensures value { result.now ≡ self.old }
     {
-        self.inner.as_mut_slice()
+        self.places.truncate(self.len);
+        self.places.as_mut_slice()
     }
 
     /// Has this many bytes from now on, at most `MOST`, whichever they are.
@@ -102,7 +109,9 @@ impl<const MOST: usize> ByteList<MOST> {
         requires { len ≤ MOST }
         ensures { length self.new ≡ len }
     {
-        if self.len() != len {
+        if len <= self.places.len() {
+            self.len = len;
+        } else {
             self.set(&[0; MOST][..len]);
         }
     }
@@ -111,17 +120,14 @@ impl<const MOST: usize> ByteList<MOST> {
     pub fn truncate(&mut self, len: usize)
         ensures { self.new ≡ take len self.old }
     {
-        self.inner.truncate(len);
+        self.len = self.len.min(len);
     }
 
     /// Forgets all bytes.
     pub fn clear(&mut self)
         ensures { self.new ≡ [] }
     {
-        // A new one costs less than to blank the bytes one by one.
-        if !self.is_empty() {
-            self.inner = ArrayVec::new();
-        }
+        self.len = 0;
     }
 
     /// Appends a byte where fewer than `MOST` stand.
@@ -129,7 +135,12 @@ impl<const MOST: usize> ByteList<MOST> {
         requires { length self.old < MOST }
         ensures { self.new ≡ self.old ++ b ∷ [] }
     {
-        self.inner.push(b);
+        if self.len < self.places.len() {
+            self.places[self.len] = b;
+        } else {
+            self.places.push(b);
+        }
+        self.len += 1;
     }
 
     /// Appends bytes where there is room for them among `MOST`.
@@ -137,7 +148,14 @@ impl<const MOST: usize> ByteList<MOST> {
         requires { length self.old + length piece.now ≤ MOST }
         ensures { self.new ≡ self.old ++ piece.now }
     {
-        let _fits = self.inner.try_extend_from_slice(piece);
+        let end = self.len + piece.len();
+        if end <= self.places.len() {
+            self.places.as_mut_slice()[self.len..end].copy_from_slice(piece);
+        } else {
+            self.places.truncate(self.len);
+            let _fits = self.places.try_extend_from_slice(piece);
+        }
+        self.len = end;
     }
 
     /// Takes these bytes, at most `MOST`, in place of its own.
@@ -145,12 +163,8 @@ impl<const MOST: usize> ByteList<MOST> {
         requires { length from.now ≤ MOST }
         ensures { self.new ≡ from.now }
     {
-        if self.len() == from.len() {
-            self.inner.as_mut_slice().copy_from_slice(from);
-        } else {
-            self.clear();
-            self.push_all(from);
-        }
+        self.clear();
+        self.push_all(from);
     }
 
     /// The same bytes again. It takes no memory.
@@ -177,8 +191,8 @@ impl<const MOST: usize> ByteList<MOST> {
     {
         let place = usize::from(b / 8);
         let mask = mask_of(b % 8);
-        let byte = self.inner[place];
-        self.inner[place] = if v { byte | mask } else { byte & (mask ^ 255) };
+        let byte = self.places[place];
+        self.places[place] = if v { byte | mask } else { byte & (mask ^ 255) };
     }
 }
 
