@@ -1,5 +1,5 @@
 //! The frames that an end sent last.
-ghost use Rattle.std.specs.Prelude.{◌≡◌, ◌≤◌, ◌↔◌, ◌+◌, ◌-◌, ◌^◌, true, false, min, [], ◌∷◌, length, take};
+ghost use Rattle.std.specs.Prelude.{◌≡◌, ◌≤◌, ◌↔◌, ◌+◌, ◌-◌, ◌^◌, true, false, min, [], ◌∷◌, length, take, is_some, option_copied};
 ghost use Rattle.black_channel.specs.Window.{back_th, found, window_of, Pushes, Tells};
 
 use arrayvec::ArrayVec;
@@ -72,9 +72,40 @@ impl Window {
         self.sent
     }
 
-    /// Writes the `j`-th frame back to `out`, in place of what it held: the newest for 1, the oldest that may be asked for 64.
-    /// False exactly where fewer than `j` were pushed; then `out` is as it was.
+    /// The `j`-th frame back: the newest for 1, the oldest that may be asked for 64. None exactly where fewer than `j` were pushed.
     #[tactic(auto, using(crate::proofs::Pushed::tells_by))]
+    pub fn look_back(&self, j: u8) -> Option<&FrameBuf>
+        requires some { 1 ≤ j }
+        requires within { j ≤ 64 }
+        ensures there { is_some result ≡ true ↔ (j ≤ self.now.sent) }
+        ensures tells { Tells self.now j (option_copied result) }
+        ensures frame { option_copied result ≡ back_th j self.now.frames }
+    {
+        self.find(j)
+    }
+
+    #[tactic(auto, using(crate::proofs::Pushed::found_at, crate::proofs::Pushed::not_found))]
+    fn find(&self, j: u8) -> Option<&FrameBuf>
+        requires some { 1 ≤ j }
+        requires within { j ≤ 64 }
+        ensures there { is_some result ≡ true ↔ (j ≤ self.now.sent) }
+        ensures frame { option_copied result ≡ back_th j self.now.frames }
+    {
+        let j = j as usize;
+        let len = self.ring.len();
+        if j > len {
+            return None;
+        }
+        let place = if j <= self.next {
+            self.next - j
+        } else {
+            self.next + len - j
+        };
+        Some(&self.ring[place])
+    }
+
+    /// Writes the `j`-th frame back to `out`, in place of what it held, as `look_back` gives it.
+    /// False exactly where fewer than `j` were pushed; then `out` is as it was.
     pub fn back(&self, j: u8, out: &mut FrameBuf) -> bool
         requires some { 1 ≤ j }
         requires within { j ≤ 64 }
@@ -83,29 +114,12 @@ impl Window {
         ensures frame { found result out.new ≡ back_th j self.now.frames }
         ensures kept { result ≡ false → out.new ≡ out.old }
     {
-        self.find(j, out)
-    }
-
-    #[tactic(auto, using(crate::proofs::Pushed::found_at, crate::proofs::Pushed::not_found))]
-    fn find(&self, j: u8, out: &mut FrameBuf) -> bool
-        requires some { 1 ≤ j }
-        requires within { j ≤ 64 }
-        ensures there { result ≡ true ↔ (j ≤ self.now.sent) }
-        ensures frame { found result out.new ≡ back_th j self.now.frames }
-        ensures kept { result ≡ false → out.new ≡ out.old }
-    {
-        let j = j as usize;
-        let len = self.ring.len();
-        if j > len {
-            return false;
+        match self.look_back(j) {
+            Some(frame) => {
+                out.set(frame.bytes());
+                true
+            }
+            None => false,
         }
-        let place = if j <= self.next {
-            self.next - j
-        } else {
-            self.next + len - j
-        };
-        let frame = &self.ring[place];
-        out.set(frame.bytes());
-        true
     }
 }
