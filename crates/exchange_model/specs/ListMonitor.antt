@@ -90,5 +90,5 @@ lists_after end_name.Slave v x = record v { slave = list_after (looked_up end_na
 abbrev pub listed_next : ListView → Entry → ListView
 listed_next v x = record (lists_after x.end v x) {
   noted = suc v.noted;
-  other = first_of_both v.other (is_other_to (looked_up x.end v) x) (suc v.noted);
+  other = first_of_both v.other (is_other_to (looked_up x.end v) x.did.passed (delivered x.what)) (suc v.noted);
 }

@@ -4,6 +4,7 @@ use Rattle.std.specs.Cmp.Lexicographic.{pointwise}
 use Rattle.fsoe_base.specs.declared.command.End.{End}
 use Rattle.fsoe_base.specs.declared.command.End.TheVariants as end_name
 use Rattle.fsoe_base.specs.declared.command.Command.TheVariants as command
+use Rattle.fsoe_base.specs.declared.did.Did.{Did}
 use Rattle.fsoe_base.specs.declared.did.Took.{Took}
 use Rattle.param_load.specs.declared.entry.Entry.{Entry}
 use Rattle.end_model.specs.Phases.{is_guarded, is_guarded_frame, has_command}
@@ -36,6 +37,17 @@ view_of w = record { noted = length w; other = first_other w; master = kept_of e
 -- a monitor that had noted some entries has noted this one too
 pub record NotesEntry (old : MonitorView) (x : Entry) (new : MonitorView) : Type 0 where
   pub notes : (w : List Entry) → old ≡ view_of w → new ≡ view_of (x ∷ w)
+
+-- an entry has these parts, by which a monitor notes it: its end, the bytes that came, what the end did and the frame that it sent
+pub record HasParts (x : Entry) (at : End) (came : List ℕ) (did : Did) (sent : List ℕ) : Type 0 where
+  pub end_is : x.end ≡ at
+  pub came_is : delivered x.what ≡ came
+  pub did_is : x.did ≡ did
+  pub sent_is : x.sent ≡ sent
+
+-- a monitor that had noted some entries has noted one with these parts too
+pub record NotesParts (old : MonitorView) (at : End) (came : List ℕ) (did : Did) (sent : List ℕ) (new : MonitorView) : Type 0 where
+  pub notes : (x : Entry) → HasParts x at came did sent → NotesEntry old x new
 
 -- an end that sent nothing
 abbrev pub first_side : Side
@@ -71,9 +83,10 @@ abbrev pub is_answer : Option Sent → Option ℕ → Bool
 is_answer None answer = false
 is_answer (Some s) answer = answers_to s.number answer
 
--- whether an entry of an end is other, by what is kept of it
-abbrev pub is_other_to : Side → Entry → Bool
-is_other_to own x = x.did.passed && is_guarded_frame (delivered x.what) && not (has (delivered x.what) own.awaited)
+-- whether an entry of an end is other at which these bytes came, by what is kept of the end and whether they passed the test of
+-- their CRCs
+abbrev pub is_other_to : Side → Bool → List ℕ → Bool
+is_other_to own passed came = passed && is_guarded_frame came && not (has came own.awaited)
 
 -- the number of the peer's item that an end took from these bytes
 abbrev pub number_taken : Side → Side → List ℕ → Option Took → Option ℕ
@@ -95,14 +108,13 @@ heard_next own peer frame answer = record {
   awaited = if not (has_command command.Reset frame) && is_answer peer.newest answer then Some (next_sent own frame) else peer.awaited;
 }
 
--- what is kept of an end after an entry of its own
-abbrev pub own_after : Side → Entry → Side
-own_after own x = if is_empty x.sent then own else sent_next own x.sent
+-- what is kept of an end after an entry of its own that sent this frame
+abbrev pub own_after : Side → List ℕ → Side
+own_after own sent = if is_empty sent then own else sent_next own sent
 
 -- what is kept of its peer then
-abbrev pub peer_after : Side → Side → Entry → Side
-peer_after own peer x =
-    if is_empty x.sent then peer else heard_next own peer x.sent (number_taken own peer (delivered x.what) x.did.took)
+abbrev pub peer_after : Side → Side → List ℕ → Option Took → List ℕ → Side
+peer_after own peer came took sent = if is_empty sent then peer else heard_next own peer sent (number_taken own peer came took)
 
 -- what is kept of an end
 abbrev pub side_of : End → MonitorView → Side
@@ -110,20 +122,20 @@ side_of end_name.Master v = v.master
 side_of end_name.Slave v = v.slave
 
 -- what is kept of the master after an entry of this end
-abbrev pub master_after : End → MonitorView → Entry → Side
-master_after end_name.Master v x = own_after v.master x
-master_after end_name.Slave v x = peer_after v.slave v.master x
+abbrev pub master_after : End → MonitorView → List ℕ → Option Took → List ℕ → Side
+master_after end_name.Master v came took sent = own_after v.master sent
+master_after end_name.Slave v came took sent = peer_after v.slave v.master came took sent
 
 -- what is kept of the slave after an entry of this end
-abbrev pub slave_after : End → MonitorView → Entry → Side
-slave_after end_name.Master v x = peer_after v.master v.slave x
-slave_after end_name.Slave v x = own_after v.slave x
+abbrev pub slave_after : End → MonitorView → List ℕ → Option Took → List ℕ → Side
+slave_after end_name.Master v came took sent = peer_after v.master v.slave came took sent
+slave_after end_name.Slave v came took sent = own_after v.slave sent
 
--- a monitor after an entry
-abbrev pub noted_next : MonitorView → Entry → MonitorView
-noted_next v x = record {
+-- a monitor after an entry, by its end, the bytes that came, what the end did and the frame that it sent
+abbrev pub noted_next : MonitorView → End → List ℕ → Did → List ℕ → MonitorView
+noted_next v at came did sent = record {
   noted = suc v.noted;
-  other = first_of_both v.other (is_other_to (side_of x.end v) x) (suc v.noted);
-  master = master_after x.end v x;
-  slave = slave_after x.end v x;
+  other = first_of_both v.other (is_other_to (side_of at v) did.passed came) (suc v.noted);
+  master = master_after at v came did.took sent;
+  slave = slave_after at v came did.took sent;
 }

@@ -2,6 +2,7 @@
 //! runs and in worked ones. Two monitors find the first other entry while a run goes on.
 #![tactic(auto)]
 
+mod kept;
 pub mod laws;
 mod list_monitor;
 mod monitor;

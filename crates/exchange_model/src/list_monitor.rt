@@ -1,8 +1,10 @@
 //! The plain monitor of a run, which lists all items.
 ghost use Rattle.std.specs.Prelude.{◌≡◌, ◌<◌, ◌≤◌, ◌+◌, ◌^◌, [], OnOk, OnErr, IfOk};
+ghost use Rattle.end_model.specs.Deed.{delivered};
 ghost use Rattle.exchange_model.specs.Monitor.{next_number, is_other_to};
 ghost use Rattle.exchange_model.specs.ListMonitor.{is_answer_to, last_sent, last_answer, side_in, list_after};
 
+use crate::kept::Kept;
 use crate::reading::{delivered, is_reset_frame};
 use crate::side::{Sent, Side};
 use fsoe_base::{End, Memory};
@@ -63,7 +65,10 @@ fn side(mine: &[Listed], theirs: &[Listed]) -> Side
         Some(sent) => last_answer(theirs, sent.number),
         None => None,
     };
-    Side { newest, awaited }
+    Side {
+        newest: Kept::of(newest),
+        awaited: Kept::of(awaited),
+    }
 }
 
 /// Appends the item of an entry of the end with the first of these lists, where it sent a frame. True exactly where the entry
@@ -71,26 +76,27 @@ fn side(mine: &[Listed], theirs: &[Listed]) -> Side
 #[tactic(auto, using(crate::proofs::Monitors::ListNoted::last_sent_more))]
 fn add(mine: &mut Vec<Listed>, theirs: &[Listed], entry: &Entry) -> Result<bool, Memory>
     requires { next_number (last_sent mine.old.items) < 2 ^ 64 }
-    ensures other { IfOk result (λ other. other ≡ is_other_to (side_in mine.old.items theirs.now) entry.now) }
+    ensures other { IfOk result (λ other. other ≡ is_other_to (side_in mine.old.items theirs.now) entry.now.did.passed (delivered entry.now.what)) }
     ensures items { OnOk result (mine.new.items ≡ list_after (side_in mine.old.items theirs.now) (side_in theirs.now mine.old.items) entry.now mine.old.items) }
     ensures numbers { OnOk result (next_number (last_sent mine.new.items) ≤ next_number (last_sent mine.old.items) + 1) }
     ensures err { OnErr result (mine.new.items ≡ mine.old.items) }
 {
     let own = side(mine, theirs);
     let peer = side(theirs, mine);
+    let came = delivered(&entry.what);
     if !entry.sent.is_empty() {
         let item = Listed {
             sent: Sent {
-                number: own.next_number(),
+                number: own.newest.next_number(),
                 bytes: entry.sent.copy(),
             },
-            answers: own.number_taken(&peer, delivered(&entry.what), &entry.did.took),
+            answers: own.number_taken(&peer, came, &entry.did.took),
         };
         if mine.push(item).is_err() {
             return Err(Memory);
         }
     }
-    Ok(own.is_other(entry))
+    Ok(own.is_other(entry.did.passed, came))
 }
 
 /// Finds the first other entry of a run of both ends, by lists of all frames that they sent: the plain program that `Monitor`

@@ -1,8 +1,9 @@
 //! The monitor of a run, which keeps no list.
 ghost use Rattle.std.specs.Prelude.{◌≡◌};
 
+use crate::reading::delivered;
 use crate::side::{Side, note};
-use fsoe_base::End;
+use fsoe_base::{Did, End, FrameBuf};
 use param_load::Entry;
 use std::marker::Model;
 
@@ -32,7 +33,7 @@ impl Monitor {
     ghost use Rattle.param_load.specs.declared.entry.Entry.{Entry};
     ghost use Rattle.exchange_model.specs.Items.{items, awaited};
     ghost use Rattle.exchange_model.specs.Other.{first_other};
-    ghost use Rattle.exchange_model.specs.Monitor.{item_number, noted_next, view_of, NotesEntry};
+    ghost use Rattle.exchange_model.specs.Monitor.{item_number, noted_next, view_of, NotesEntry, NotesParts};
 
     /// A monitor that noted no entry.
     pub fn new() -> Monitor
@@ -47,23 +48,34 @@ impl Monitor {
     }
 
     /// Notes the next entry of the run. Fewer than 2^64 - 1 entries were noted before.
-    #[tactic(auto, using(crate::proofs::Monitors::Noted::notes_by))]
+    #[tactic(auto, using(crate::proofs::Monitors::Noted::notes_whole))]
     pub fn note(&mut self, entry: &Entry)
         requires { self.old.noted + 1 < 2 ^ 64 }
         ensures notes { NotesEntry self.old entry.now self.new }
         ensures noted { self.new.noted ≡ self.old.noted + 1 }
     {
-        self.step(entry);
+        self.note_parts(entry.end, delivered(&entry.what), &entry.did, &entry.sent);
     }
 
-    fn step(&mut self, entry: &Entry)
+    /// Notes the next entry of the run by what is read of it: its end, the bytes that came, none where nothing did, what the end did,
+    /// and the frame that it sent. Fewer than 2^64 - 1 entries were noted before.
+    #[tactic(auto, using(crate::proofs::Monitors::Noted::notes_by))]
+    pub fn note_parts(&mut self, at: End, came: &[u8], did: &Did, sent: &FrameBuf)
         requires { self.old.noted + 1 < 2 ^ 64 }
-        ensures { self.new ≡ noted_next self.old entry.now }
+        ensures notes { NotesParts self.old at came.now did.now sent.now self.new }
+        ensures noted { self.new.noted ≡ self.old.noted + 1 }
+    {
+        self.step(at, came, did, sent);
+    }
+
+    fn step(&mut self, at: End, came: &[u8], did: &Did, sent: &FrameBuf)
+        requires { self.old.noted + 1 < 2 ^ 64 }
+        ensures { self.new ≡ noted_next self.old at came.now did.now sent.now }
     {
         self.noted += 1;
-        let other = match entry.end {
-            End::Master => note(&mut self.master, &mut self.slave, entry),
-            End::Slave => note(&mut self.slave, &mut self.master, entry),
+        let other = match at {
+            End::Master => note(&mut self.master, &mut self.slave, came, did, sent),
+            End::Slave => note(&mut self.slave, &mut self.master, came, did, sent),
         };
         if other && self.other.is_none() {
             self.other = Some(self.noted);
@@ -83,8 +95,8 @@ impl Monitor {
         ensures { (w : List Entry) → self.now ≡ view_of w → result ≡ item_number (awaited (items w) by) }
     {
         match by {
-            End::Master => self.master.awaited(),
-            End::Slave => self.slave.awaited(),
+            End::Master => self.master.awaited.number(),
+            End::Slave => self.slave.awaited.number(),
         }
     }
 }

@@ -1,10 +1,10 @@
 //! What a monitor keeps of one end.
-ghost use Rattle.std.specs.Prelude.{◌≡◌, ◌<◌, ◌^◌, Some};
-ghost use Rattle.exchange_model.specs.Monitor.{first_side, sent_number, has, number_of, next_number, is_answer, is_other_to, number_taken, sent_next, heard_next, own_after, peer_after};
+ghost use Rattle.std.specs.Prelude.{◌≡◌, ◌<◌, ◌^◌};
+ghost use Rattle.exchange_model.specs.Monitor.{first_side, next_number, is_answer, is_other_to, number_taken, sent_next, heard_next, own_after, peer_after};
 
-use crate::reading::{delivered, is_guarded, is_guarded_frame, is_reset_frame};
-use fsoe_base::{FrameBuf, Took};
-use param_load::Entry;
+use crate::kept::Kept;
+use crate::reading::{is_guarded, is_guarded_frame, is_reset_frame};
+use fsoe_base::{Did, FrameBuf, Took};
 
 /// A frame that an end sent: its number among those of this end, from 1, and its bytes.
 #[derive(Debug, Drop)]
@@ -16,8 +16,8 @@ pub struct Sent {
 /// The newest item of an end, and the item that it awaits.
 #[derive(Debug, Drop)]
 pub struct Side {
-    pub(crate) newest: Option<Sent>,
-    pub(crate) awaited: Option<Sent>,
+    pub(crate) newest: Kept,
+    pub(crate) awaited: Kept,
 }
 
 impl Sent {
@@ -30,23 +30,6 @@ impl Sent {
             bytes: self.bytes.copy(),
         }
     }
-
-    /// Whether it has these bytes.
-    fn is(&self, bytes: &[u8]) -> bool
-        ensures { result ≡ has bytes.now (Some self.now) }
-    {
-        self.bytes.bytes() == bytes
-    }
-}
-
-/// The number of an item, where there is one with these bytes.
-fn number_of(item: &Option<Sent>, bytes: &[u8]) -> Option<u64>
-    ensures { result ≡ number_of bytes.now item.now }
-{
-    match item {
-        Some(sent) if sent.is(bytes) => Some(sent.number),
-        _ => None,
-    }
 }
 
 impl Side {
@@ -55,37 +38,16 @@ impl Side {
         ensures { result ≡ first_side }
     {
         Side {
-            newest: None,
-            awaited: None,
+            newest: Kept::none(),
+            awaited: Kept::none(),
         }
     }
 
-    /// The number of the item that the end awaits, if it awaits one.
-    pub(crate) fn awaited(&self) -> Option<u64>
-        ensures { result ≡ sent_number self.now.awaited }
+    /// Whether an entry of the end is other at which these bytes came, by whether they passed the test of their CRCs.
+    pub(crate) fn is_other(&self, passed: bool, came: &[u8]) -> bool
+        ensures { result ≡ is_other_to self.now passed came.now }
     {
-        match &self.awaited {
-            Some(sent) => Some(sent.number),
-            None => None,
-        }
-    }
-
-    /// Whether the end awaits an item with these bytes.
-    fn awaits(&self, bytes: &[u8]) -> bool
-        ensures { result ≡ has bytes.now self.now.awaited }
-    {
-        match &self.awaited {
-            Some(sent) => sent.is(bytes),
-            None => false,
-        }
-    }
-
-    /// Whether an entry of the end is other.
-    pub(crate) fn is_other(&self, entry: &Entry) -> bool
-        ensures { result ≡ is_other_to self.now entry.now }
-    {
-        let bytes = delivered(&entry.what);
-        entry.did.passed && is_guarded_frame(bytes) && !self.awaits(bytes)
+        passed && is_guarded_frame(came) && !self.awaited.has(came)
     }
 
     /// The number of the peer's item that was taken from these bytes, if one was.
@@ -93,8 +55,8 @@ impl Side {
         ensures { result ≡ number_taken self.now peer.now bytes.now took.now }
     {
         match took {
-            Some(took) if is_guarded(took.command) => number_of(&self.awaited, bytes),
-            Some(_) => number_of(&peer.newest, bytes),
+            Some(took) if is_guarded(took.command) => self.awaited.number_of(bytes),
+            Some(_) => peer.newest.number_of(bytes),
             None => None,
         }
     }
@@ -103,20 +65,9 @@ impl Side {
     fn is_answer(&self, answer: Option<u64>) -> bool
         ensures { result ≡ is_answer self.now.newest answer }
     {
-        match (&self.newest, answer) {
-            (Some(sent), Some(number)) => number == sent.number,
+        match (self.newest.number(), answer) {
+            (Some(newest), Some(number)) => number == newest,
             _ => false,
-        }
-    }
-
-    /// The number of the end's next item.
-    pub(crate) fn next_number(&self) -> u64
-        requires { next_number self.now.newest < 2 ^ 64 }
-        ensures { result ≡ next_number self.now.newest }
-    {
-        match &self.newest {
-            Some(sent) => sent.number + 1,
-            None => 1,
         }
     }
 }
@@ -128,31 +79,26 @@ fn send(own: &mut Side, peer: &mut Side, frame: &FrameBuf, answer: Option<u64>)
     ensures own { own.new ≡ sent_next own.old frame.now }
     ensures peer { peer.new ≡ heard_next own.old peer.old frame.now answer }
 {
-    let number = own.next_number();
+    let number = own.newest.next_number();
     if !is_reset_frame(frame.bytes()) && peer.is_answer(answer) {
-        peer.awaited = Some(Sent {
-            number,
-            bytes: frame.copy(),
-        });
+        peer.awaited.set(number, frame.bytes());
     }
-    own.newest = Some(Sent {
-        number,
-        bytes: frame.copy(),
-    });
-    own.awaited = None;
+    own.newest.set(number, frame.bytes());
+    own.awaited.clear();
 }
 
-/// Notes an entry of an end at what is kept of it and of its peer. True exactly where the entry is other.
-pub(crate) fn note(own: &mut Side, peer: &mut Side, entry: &Entry) -> bool
+/// Notes an entry of an end at what is kept of it and of its peer: the bytes that came, what the end did, and the frame that it
+/// sent. True exactly where the entry is other.
+pub(crate) fn note(own: &mut Side, peer: &mut Side, came: &[u8], did: &Did, sent: &FrameBuf) -> bool
     requires { next_number own.old.newest < 2 ^ 64 }
-    ensures other { result ≡ is_other_to own.old entry.now }
-    ensures own { own.new ≡ own_after own.old entry.now }
-    ensures peer { peer.new ≡ peer_after own.old peer.old entry.now }
+    ensures other { result ≡ is_other_to own.old did.now.passed came.now }
+    ensures own { own.new ≡ own_after own.old sent.now }
+    ensures peer { peer.new ≡ peer_after own.old peer.old came.now did.now.took sent.now }
 {
-    let other = own.is_other(entry);
-    if !entry.sent.is_empty() {
-        let answer = own.number_taken(peer, delivered(&entry.what), &entry.did.took);
-        send(own, peer, &entry.sent, answer);
+    let other = own.is_other(did.passed, came);
+    if !sent.is_empty() {
+        let answer = own.number_taken(peer, came, &did.took);
+        send(own, peer, sent, answer);
     }
     other
 }

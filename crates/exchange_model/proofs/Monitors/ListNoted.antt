@@ -94,16 +94,16 @@ mine-is : (which : End) (x : Entry) (w : List Entry) → x.end ≡ which
 mine-is which x w h =
     ap₂ (λ (own other_side : Side). list_after own other_side x (listed (items_of which (items w)))) (looked-up-is which w) (looked-up-is (peer which) w) ∙ mine-by which x w (is_empty x.sent) h
 
-other-in : (which : End) (x : Entry) (w : List Entry) → x.end ≡ which → first_of_both (first_other w) (is_other_to (looked_up which (list_of w)) x) (suc (length w)) ≡ first_other (x ∷ w)
+other-in : (which : End) (x : Entry) (w : List Entry) → x.end ≡ which → first_of_both (first_other w) (is_other_to (looked_up which (list_of w)) x.did.passed (delivered x.what)) (suc (length w)) ≡ first_other (x ∷ w)
 other-in which x w h =
-    ap (λ (own : Side). first_of_both (first_other w) (is_other_to own x) (suc (length w))) (looked-up-is which w) ∙ ap (λ (b : Bool). first_of_both (first_other w) b (suc (length w))) (other_is which x w h)
+    ap (λ (own : Side). first_of_both (first_other w) (is_other_to own x.did.passed (delivered x.what)) (suc (length w))) (looked-up-is which w) ∙ ap (λ (b : Bool). first_of_both (first_other w) b (suc (length w))) (other_is which x w h)
 
 same-lists : (n : ℕ) (other other' : Option ℕ) (a a' b b' : List Listed) → other ≡ other' → a ≡ a' → b ≡ b'
     → (let v : ListView = record { noted = n; other = other; master = a; slave = b } in v) ≡ record { noted = n; other = other'; master = a'; slave = b' }
 same-lists n other other' a a' b b' h i j = cc
 
 next-is : (which : End) (x : Entry) (w : List Entry) → x.end ≡ which
-    → (record (lists_after which (list_of w) x) { noted = suc (length w); other = first_of_both (first_other w) (is_other_to (looked_up which (list_of w)) x) (suc (length w)) }) ≡ list_of (x ∷ w)
+    → (record (lists_after which (list_of w) x) { noted = suc (length w); other = first_of_both (first_other w) (is_other_to (looked_up which (list_of w)) x.did.passed (delivered x.what)) (suc (length w)) }) ≡ list_of (x ∷ w)
 next-is end_name.Master x w h = same-lists (suc (length w)) _ _ _ _ _ _ (other-in end_name.Master x w h) (mine-is end_name.Master x w h) (theirs-by end_name.Master x w (is_empty x.sent) h)
 next-is end_name.Slave x w h = same-lists (suc (length w)) _ _ _ _ _ _ (other-in end_name.Slave x w h) (theirs-by end_name.Slave x w (is_empty x.sent) h) (mine-is end_name.Slave x w h)
 

@@ -6,6 +6,7 @@ use Rattle.std.proofs.lemmas.Bool.Decides.{nat_tests}
 use Rattle.fsoe_base.specs.declared.command.End.{End}
 use Rattle.fsoe_base.specs.declared.command.End.TheVariants as end_name
 use Rattle.fsoe_base.specs.declared.command.Command.TheVariants as command
+use Rattle.fsoe_base.specs.declared.did.Did.{Did}
 use Rattle.fsoe_base.specs.declared.did.Took.{Took}
 use Rattle.param_load.specs.declared.entry.Entry.{Entry}
 use Rattle.end_model.specs.Phases.{is_guarded, is_guarded_frame, has_command}
@@ -15,7 +16,7 @@ use Rattle.exchange_model.specs.declared.side.Side.{Side}
 use Rattle.exchange_model.specs.Ends.{same_end, peer}
 use Rattle.exchange_model.specs.Items.{Item, newest, items_of, items, item_of, item_taken, awaited, answers_to, newest_answer, answer_among, has_bytes, number_if}
 use Rattle.exchange_model.specs.Other.{is_other, first_of_both, first_other}
-use Rattle.exchange_model.specs.Monitor.{sent_of, kept_of, MonitorView, view_of, NotesEntry, sent_number, item_number, has, number_of, next_number, is_answer, is_other_to, number_taken, sent_next, heard_next, own_after, peer_after, side_of, master_after, slave_after, noted_next}
+use Rattle.exchange_model.specs.Monitor.{sent_of, kept_of, MonitorView, view_of, NotesEntry, HasParts, NotesParts, sent_number, item_number, has, number_of, next_number, is_answer, is_other_to, number_taken, sent_next, heard_next, own_after, peer_after, side_of, master_after, slave_after, noted_next}
 use Rattle.exchange_model.proofs.Worlds.Projection.{same}
 use Rattle.exchange_model.proofs.Worlds.Numbered.{Numbered, Grown, Same, More, grown, numbered}
 use Rattle.exchange_model.proofs.Joint.Awaited.{awaited_found}
@@ -117,7 +118,7 @@ own-kept-by which x w false h k =
     back end_name.Master = answers-within end_name.Slave w
     back end_name.Slave = answers-within end_name.Master w
 
-own-kept : (which : End) (x : Entry) (w : List Entry) → x.end ≡ which → own_after (kept_of which (items w)) x ≡ kept_of which (items (x ∷ w))
+own-kept : (which : End) (x : Entry) (w : List Entry) → x.end ≡ which → own_after (kept_of which (items w)) x.sent ≡ kept_of which (items (x ∷ w))
 own-kept which x w h = own-kept-by which x w (is_empty x.sent) h refl
 
 -- its peer
@@ -165,14 +166,14 @@ peer-kept-by which x w false h k =
     ap₂ (λ (n : ℕ) (answer : Option ℕ). side (kept_of (peer which) (items w)).newest (if not (has_command command.Reset x.sent) && is_answer (kept_of (peer which) (items w)).newest answer then Some (record { number = n; bytes = x.sent }) else (kept_of (peer which) (items w)).awaited)) n a
     ∙ sym (peer-items which i (items w) h)
 
-peer-kept : (which : End) (x : Entry) (w : List Entry) → x.end ≡ which → peer_after (kept_of which (items w)) (kept_of (peer which) (items w)) x ≡ kept_of (peer which) (items (x ∷ w))
+peer-kept : (which : End) (x : Entry) (w : List Entry) → x.end ≡ which → peer_after (kept_of which (items w)) (kept_of (peer which) (items w)) (delivered x.what) x.did.took x.sent ≡ kept_of (peer which) (items (x ∷ w))
 peer-kept which x w h = peer-kept-by which x w (is_empty x.sent) h refl
 
 has-is : (bytes : List ℕ) (o : Option Item) → has bytes (sent_of o) ≡ has_bytes bytes o
 has-is bytes None = refl
 has-is bytes (Some i) = refl
 
-pub other_is : (which : End) (x : Entry) (w : List Entry) → x.end ≡ which → is_other_to (kept_of which (items w)) x ≡ is_other (items w) x
+pub other_is : (which : End) (x : Entry) (w : List Entry) → x.end ≡ which → is_other_to (kept_of which (items w)) x.did.passed (delivered x.what) ≡ is_other (items w) x
 other_is which x w h =
     ap (λ (b : Bool). x.did.passed && is_guarded_frame (delivered x.what) && not b) (has-is (delivered x.what) (awaited (items w) which) ∙ ap (λ (it : End). has_bytes (delivered x.what) (awaited (items w) it)) (sym h))
 
@@ -181,15 +182,24 @@ same-view : (n : ℕ) (other other' : Option ℕ) (a a' b b' : Side) → other �
 same-view n other other' a a' b b' h i j = cc
 
 next-is : (which : End) (x : Entry) (w : List Entry) → x.end ≡ which
-    → (let v : MonitorView = record { noted = suc (length w); other = first_of_both (first_other w) (is_other_to (side_of which (view_of w)) x) (suc (length w)); master = master_after which (view_of w) x; slave = slave_after which (view_of w) x } in v) ≡ view_of (x ∷ w)
+    → (let v : MonitorView = record { noted = suc (length w); other = first_of_both (first_other w) (is_other_to (side_of which (view_of w)) x.did.passed (delivered x.what)) (suc (length w)); master = master_after which (view_of w) (delivered x.what) x.did.took x.sent; slave = slave_after which (view_of w) (delivered x.what) x.did.took x.sent } in v) ≡ view_of (x ∷ w)
 next-is end_name.Master x w h =
     same-view (suc (length w)) _ _ _ _ _ _ (ap (λ (b : Bool). first_of_both (first_other w) b (suc (length w))) (other_is end_name.Master x w h)) (own-kept end_name.Master x w h) (peer-kept end_name.Master x w h)
 next-is end_name.Slave x w h =
     same-view (suc (length w)) _ _ _ _ _ _ (ap (λ (b : Bool). first_of_both (first_other w) b (suc (length w))) (other_is end_name.Slave x w h)) (peer-kept end_name.Slave x w h) (own-kept end_name.Slave x w h)
 
 -- a monitor that steps so notes the entry
-pub notes_by : {old new : MonitorView} {x : Entry} → new ≡ noted_next old x → NotesEntry old x new
-notes_by {old} {new} {x} h = record { notes = λ w is. h ∙ (ap (λ (v : MonitorView). noted_next v x) is ∙ next-is x.end x w refl) }
+notes-entry : (old new : MonitorView) (x : Entry) → new ≡ noted_next old x.end (delivered x.what) x.did x.sent → NotesEntry old x new
+notes-entry old new x h = record { notes = λ w is. h ∙ (ap (λ (v : MonitorView). noted_next v x.end (delivered x.what) x.did x.sent) is ∙ next-is x.end x w refl) }
+
+-- and each entry with the parts by which it steps
+pub notes_by : {old new : MonitorView} {at : End} {came sent : List ℕ} {did : Did} → new ≡ noted_next old at came did sent → NotesParts old at came did sent new
+notes_by {old} {new} {at} {came} {sent} {did} h = record {
+  notes = λ x parts. notes-entry old new x (h ∙ rw (parts.end_is, parts.came_is, parts.did_is, parts.sent_is) refl);
+}
+
+pub notes_whole : (old new : MonitorView) (x : Entry) → NotesParts old x.end (delivered x.what) x.did x.sent new → NotesEntry old x new
+notes_whole old new x noted = noted.notes x (record { end_is = refl; came_is = refl; did_is = refl; sent_is = refl })
 
 number-of-item : (o : Option Item) → sent_number (sent_of o) ≡ item_number o
 number-of-item None = refl
