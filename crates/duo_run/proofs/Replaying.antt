@@ -7,6 +7,8 @@ use Rattle.std.proofs.lemmas.List.{length_push, length-append}
 use Rattle.fsoe_base.specs.LengthsOf.{length_of}
 use Rattle.fsoe_base.specs.declared.command.End.{End}
 use Rattle.fsoe_base.specs.declared.command.End.TheVariants as end_name
+use Rattle.fsoe_base.specs.declared.command.State.{State}
+use Rattle.fsoe_base.specs.declared.did.Did.{Did}
 use Rattle.fsoe_io.specs.declared.status.Ended.{Ended}
 use Rattle.param_load.specs.declared.entry.Entry.{Entry}
 use Rattle.param_load.specs.declared.master_settings.MasterSettings.{MasterSettings}
@@ -28,11 +30,11 @@ use Rattle.file_run.specs.Reporting.{EndsReport, EndsUnsent, ReportsSoFar, input
 use Rattle.file_run.specs.declared.event.Grammar.{Grammar}
 use Rattle.file_run.proofs.Grammars.{same_word}
 use Rattle.exchange_model.specs.Other.{first_other}
-use Rattle.exchange_model.specs.World.{entry_at, world}
+use Rattle.exchange_model.specs.World.{end_of_event, entry_at, world}
 use Rattle.exchange_model.proofs.Worlds.Longer.{world_next, world_missed}
 use Rattle.exchange_model.proofs.Worlds.Others.{number_of_first}
-use Rattle.duo_run.specs.Duo.{DuoView, lengths_of, profiles_of, DuoStands, Steps, Misses}
-use Rattle.duo_run.specs.Replay.{entry_line, entry_lines, other_line, last_lines, ended_with, ended_at, run_stop, ReplayReports, ReplayStands, replay_reporting}
+use Rattle.duo_run.specs.Duo.{DuoView, lengths_of, profiles_of, DuoStands, NextEntry, Advances, Misses, ShowsLast}
+use Rattle.duo_run.specs.Replay.{line_of, entry_line, entry_lines, other_line, last_lines, ended_with, ended_at, run_stop, ReplayReports, ReplayStands, replay_reporting}
 use Rattle.duo_run.proofs.EntryLines.{lines_begin}
 
 -- the lengths and the profiles of a pair are those of its header
@@ -62,26 +64,39 @@ pair_fits v event number may =
 told_whole : (v : DuoView) (h : Heading) (log : List Event) (text : List ℕ) (k : ReplayStands v h log text) → length (world k.ms k.ss log) ≡ length log
 told_whole v h log text k = ap (length {A = Entry}) (sym k.is_world) ∙ k.whole
 
+-- the next entry has the line of the parts that were told
+line-is : (v : DuoView) (number : ℕ) (at : End) (did : Did) (state : State) (outputs sent : List ℕ) (ms : MasterSettings) (ss : SlaveSettings) (x : Entry) (w : List Entry) → ShowsLast v at state (λ x. x.state) → ShowsLast v at outputs (λ x. x.outputs)
+    → DuoStands ms ss v (x ∷ w) → x.end ≡ at → x.did ≡ did → x.sent ≡ sent → line_of number at did state outputs sent ≡ entry_line number x
+line-is v number at did state outputs sent ms ss x w states outs stands end_is did_is sent_is =
+    sym (rw (end_is, did_is, states.shows ms ss x w stands end_is, outs.shows ms ss x w stands end_is, sent_is) refl)
+
 -- a step goes on with its entry
-pair_goes : (old new : DuoView) (event : Event) (number : ℕ) (x : Entry) (piece : List ℕ) → Steps old event x new → piece ≡ entry_line number x → (h : Heading) (log : List Event) (text : List ℕ) → number ≡ length log + 1
+pair_goes : (old new : DuoView) (event : Event) (number : ℕ) (at : End) (did : Did) (state : State) (outputs sent piece : List ℕ) → Advances old event did sent new → at ≡ end_of_event event
+    → ShowsLast new at state (λ x. x.state) → ShowsLast new at outputs (λ x. x.outputs) → piece ≡ line_of number at did state outputs sent → (h : Heading) (log : List Event) (text : List ℕ) → number ≡ length log + 1
     → ReplayStands old h log text → ReplayStands new h (log ++ event ∷ []) (text ++ piece)
-pair_goes old new event number x piece steps is h log text n k =
-    let next : entry_at k.ms k.ss k.entries event ≡ Some x = steps.entry k.ms k.ss k.entries k.stands in
+pair_goes old new event number at did state outputs sent piece advances here states outs written h log text n k =
+    let goes : NextEntry k.ms k.ss k.entries event did sent new = advances.next k.ms k.ss k.entries k.stands in
+    let x : Entry = goes.entry in
+    let next : entry_at k.ms k.ss k.entries event ≡ Some x = goes.next in
+    let is : piece ≡ entry_line number x = written ∙ line-is new number at did state outputs sent k.ms k.ss x k.entries states outs goes.stands (goes.end_is ∙ sym here) goes.did_is goes.sent_is in
     let counted : number ≡ length k.entries + 1 = omega (arith, n, k.whole) in
     record {
       ms = k.ms;
       ss = k.ss;
       entries = x ∷ k.entries;
       set = k.set;
-      stands = steps.stands k.ms k.ss k.entries k.stands;
+      stands = goes.stands;
       is_world = ap (λ (w : List Entry). x ∷ w) k.is_world
           ∙ sym (world_next k.ms k.ss log event x (told_whole old h log text k) (subst (λ (w : List Entry). entry_at k.ms k.ss w event ≡ Some x) k.is_world next));
       whole = omega (arith, k.whole, length_push log event);
       lines = ap (λ (z : List ℕ). z ++ piece) k.lines ∙ ap (λ (z : List ℕ). entry_lines k.entries ++ z) (is ∙ ap (λ (n : ℕ). entry_line n x) counted);
     }
 
-pub pair_goes_on : (old new : DuoView) (event : Event) (number : ℕ) (x : Entry) (piece : List ℕ) → Steps old event x new → piece ≡ entry_line number x → TakesEvent (ReplayStands old) (ReplayStands new) event number piece
-pair_goes_on old new event number x piece steps is = record { takes = pair_goes old new event number x piece steps is }
+pub pair_goes_on : (old new : DuoView) (event : Event) (number : ℕ) (at : End) (did : Did) (state : State) (outputs sent piece : List ℕ) → Advances old event did sent new → at ≡ end_of_event event
+    → ShowsLast new at state (λ x. x.state) → ShowsLast new at outputs (λ x. x.outputs) → piece ≡ line_of number at did state outputs sent → TakesEvent (ReplayStands old) (ReplayStands new) event number piece
+pair_goes_on old new event number at did state outputs sent piece advances here states outs written = record {
+  takes = pair_goes old new event number at did state outputs sent piece advances here states outs written;
+}
 
 -- where each event has its entry, the run stops as the input does
 stops_with : (input : Input) (w : List Entry) → length w ≡ length input.events → run_stop input w ≡ input.stop

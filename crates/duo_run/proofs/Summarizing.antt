@@ -1,14 +1,17 @@
 -- What holds of a pair after so many events of a number.
 use Rattle.std.proofs.Common.{◌≡◌, ℕ, suc, ◌+◌, List, ◌∷◌, Some, None, sym, ap, subst, ◌∙◌, add-one, rules}
 use Rattle.std.specs.Prelude.{Result, Ok, Err, IsOk, OnErr}
+use Rattle.fsoe_base.specs.declared.command.End.{End}
+use Rattle.fsoe_base.specs.declared.command.State.{State}
+use Rattle.fsoe_base.specs.declared.did.Did.{Did}
 use Rattle.param_load.specs.declared.entry.Entry.{Entry}
 use Rattle.schedule_file.specs.Made.{event_at, made_lengths, made_profiles, made_master, made_slave}
 use Rattle.schedule_file.specs.Maker.{MakerView, IsMaker, Makes}
 use Rattle.schedule_file.specs.declared.event.Event.{Event}
-use Rattle.exchange_model.specs.World.{entry_at}
+use Rattle.exchange_model.specs.World.{end_of_event, entry_at}
 use Rattle.duo_run.specs.Bulk.{entries_of}
-use Rattle.duo_run.specs.Duo.{DuoView, DuoStands, Steps, Misses, lengths_of, profiles_of, steps_done}
-use Rattle.duo_run.specs.Summary.{summary_of}
+use Rattle.duo_run.specs.Duo.{DuoView, DuoStands, NextEntry, Advances, Misses, ShowsLast, lengths_of, profiles_of, steps_done}
+use Rattle.duo_run.specs.Summary.{summary_of, CountsEntry}
 use Rattle.duo_run.specs.declared.summary.Summary.{Summary}
 use Rattle.duo_run.proofs.WholeRuns.{Goes, entry_goes, entries_more, is_whole}
 
@@ -32,31 +35,34 @@ never_misses number count maker next duo summary event after made misses =
     let both : None ≡ Some goes.entry = sym none ∙ some in
     cc
 
-one_more : (number count : ℕ) (maker next : MakerView) (duo duo' : DuoView) (summary summary' : Summary) (event : Event) (x : Entry)
-    → AfterEvents number count maker duo summary → Makes maker event next → Steps duo event x duo' → lengths_of duo' ≡ lengths_of duo → profiles_of duo' ≡ profiles_of duo
-    → steps_done duo' ≡ steps_done duo + 1 → ((w : List Entry) → summary ≡ summary_of w → summary' ≡ summary_of (x ∷ w))
+one_more : (number count : ℕ) (maker next : MakerView) (duo duo' : DuoView) (summary summary' : Summary) (event : Event) (at : End) (did : Did) (sent : List ℕ) (state : State)
+    → AfterEvents number count maker duo summary → Makes maker event next → Advances duo event did sent duo' → at ≡ end_of_event event → ShowsLast duo' at state (λ x. x.state)
+    → lengths_of duo' ≡ lengths_of duo → profiles_of duo' ≡ profiles_of duo → steps_done duo' ≡ steps_done duo + 1 → CountsEntry summary at did state summary'
     → AfterEvents number (suc count) next duo' summary'
-one_more number count maker next duo duo' summary summary' event x after made stepped lengths profiles steps noted =
+one_more number count maker next duo duo' summary summary' event at did sent state after made advances here states lengths profiles steps noted =
+    let goes : NextEntry made_master made_slave (entries_of number count) event did sent duo' = advances.next made_master made_slave (entries_of number count) after.stands in
+    let x : Entry = goes.entry in
+    let end : x.end ≡ at = goes.end_is ∙ sym here in
     let is_next : entry_at made_master made_slave (entries_of number count) (event_at number (suc count)) ≡ Some x =
-    ap (entry_at made_master made_slave (entries_of number count)) (sym (made.makes number count after.makes)) ∙ stepped.entry made_master made_slave (entries_of number count) after.stands in
+    ap (entry_at made_master made_slave (entries_of number count)) (sym (made.makes number count after.makes)) ∙ goes.next in
     let more : entries_of number (suc count) ≡ x ∷ entries_of number count = entries_more number count x (is_whole number count) is_next in
     record {
       makes = made.stands number count after.makes;
-      stands = subst (DuoStands made_master made_slave duo') (sym more) (stepped.stands made_master made_slave (entries_of number count) after.stands);
+      stands = subst (DuoStands made_master made_slave duo') (sym more) goes.stands;
       lengths = lengths ∙ after.lengths;
       profiles = profiles ∙ after.profiles;
       steps = steps ∙ ap (λ (n : ℕ). n + 1) after.steps ∙ add-one count;
-      tells = noted (entries_of number count) after.tells ∙ ap summary_of (sym more);
+      tells = noted.counts x (entries_of number count) end goes.did_is (states.shows made_master made_slave x (entries_of number count) goes.stands end) after.tells ∙ ap summary_of (sym more);
     }
 
 -- after one event more
-pub goes_on : (number count : ℕ) (maker next : MakerView) (duo duo' : DuoView) (summary summary' : Summary) (event : Event) (x : Entry)
-    → AfterEvents number count maker duo summary → Makes maker event next → Steps duo event x duo' → lengths_of duo' ≡ lengths_of duo → profiles_of duo' ≡ profiles_of duo
-    → steps_done duo' ≡ steps_done duo + 1 → ((w : List Entry) → summary ≡ summary_of w → summary' ≡ summary_of (x ∷ w))
+pub goes_on : (number count : ℕ) (maker next : MakerView) (duo duo' : DuoView) (summary summary' : Summary) (event : Event) (at : End) (did : Did) (sent : List ℕ) (state : State)
+    → AfterEvents number count maker duo summary → Makes maker event next → Advances duo event did sent duo' → at ≡ end_of_event event → ShowsLast duo' at state (λ x. x.state)
+    → lengths_of duo' ≡ lengths_of duo → profiles_of duo' ≡ profiles_of duo → steps_done duo' ≡ steps_done duo + 1 → CountsEntry summary at did state summary'
     → AfterEvents number (count + 1) next duo' summary'
-goes_on number count maker next duo duo' summary summary' event x after made stepped lengths profiles steps noted =
+goes_on number count maker next duo duo' summary summary' event at did sent state after made advances here states lengths profiles steps noted =
     subst (λ (n : ℕ). AfterEvents number n next duo' summary') (sym (add-one count))
-    (one_more number count maker next duo duo' summary summary' event x after made stepped lengths profiles steps noted)
+    (one_more number count maker next duo duo' summary summary' event at did sent state after made advances here states lengths profiles steps noted)
 
 pub never_err : {X E : Type 0} (P : Type 0) (r : Result X E) → OnErr r P → (P → ⊥) → IsOk r
 never_err P (Ok x) h never = search rules

@@ -1,52 +1,78 @@
--- The entry that an end's readers give after a step tells its next deed.
-use Rattle.std.proofs.Common.{◌≡◌, ℕ, List, ◌∷◌, Option, refl, sym, ◌∙◌}
+-- What the readers of an end give after an entry of that end is what the entry tells.
+use Rattle.std.proofs.Common.{◌≡◌, ℕ, List, ◌∷◌, Option, if◌then◌else◌, sym, ap, subst, ◌∙◌}
 use Rattle.fsoe_base.specs.declared.command.End.{End}
 use Rattle.fsoe_base.specs.declared.command.End.TheVariants as end_name
 use Rattle.fsoe_base.specs.declared.command.State.{State}
-use Rattle.fsoe_base.specs.declared.did.Did.{Did}
 use Rattle.param_load.specs.declared.entry.Entry.{Entry}
-use Rattle.param_load.specs.declared.entry.Move.{Move}
+use Rattle.param_load.specs.declared.master_settings.MasterSettings.{MasterSettings}
+use Rattle.param_load.specs.declared.slave_settings.SlaveSettings.{SlaveSettings}
 use Rattle.param_load.specs.declared.terms.Terms.{Terms}
-use Rattle.end_model.specs.Setup.{Setup, OfMaster, OfSlave, end_of}
+use Rattle.end_model.specs.Setup.{Setup, OfMaster, OfSlave}
 use Rattle.end_model.specs.Deed.{Deed}
-use Rattle.end_model.specs.Step.{step, IsRun}
+use Rattle.end_model.specs.Step.{IsRun}
 use Rattle.end_model.specs.Readiness.{state_of, told_terms}
-use Rattle.end_model.specs.Outputs.{out}
+use Rattle.end_model.specs.Outputs.{outputs, out}
 use Rattle.end_model.proofs.Shown.{looking_back}
-use Rattle.exchange_model.specs.World.{next_entry}
-use Rattle.master_core.specs.MasterView.{MasterView}
+use Rattle.exchange_model.specs.Ends.{same_end}
+use Rattle.exchange_model.specs.World.{setup_of, deed_in, deeds, IsNextEntry}
 use Rattle.master_core.specs.Standing as master_core
-use Rattle.slave_core.specs.SlaveView.{SlaveView}
+use Rattle.master_core.specs.Standing.{MasterIsAfter}
 use Rattle.slave_core.specs.Standing as slave_core
-use Rattle.duo_run.specs.Acts.{MasterTells, SlaveTells}
+use Rattle.slave_core.specs.Standing.{SlaveIsAfter}
+use Rattle.duo_run.specs.Duo.{DuoView, DuoStands, ShowsLast}
 
-abbrev entry : End → Move → Did → List ℕ → State → List ℕ → Option Terms → Entry
-entry at what did sent state outputs terms = record { end = at; what = what; did = did; sent = sent; state = state; outputs = outputs; terms = terms }
+-- an entry tells a word of the deeds with its own
+record Tells {X : Type 0} (told : Entry → X) (word : Setup → List Deed → X) : Type 0 where
+  pub tells : (s : Setup) (x : Entry) (e : List Deed) → IsRun s (deed_in x ∷ e) → IsNextEntry s x e → told x ≡ word s (deed_in x ∷ e)
 
--- what is shown of a run is told of its last deed
-told : (s : Setup) (e : List Deed) (what : Move) (did : Did) (sent : List ℕ) (state : State) (outs : List ℕ) (terms : Option Terms) → IsRun s (step s e what ∷ e)
-    → did ≡ (step s e what).did → sent ≡ (step s e what).sent → state ≡ state_of s (step s e what ∷ e) → outs ≡ out s (step s e what ∷ e) → terms ≡ told_terms s (step s e what ∷ e)
-    → entry (end_of s) what did sent state outs terms ≡ next_entry s e what
-told s e what did sent state outs terms run a b c d f = rw (a, b, c, d ∙ sym (looking_back s (step s e what ∷ e) run), f) refl
+tells-state : Tells (λ (x : Entry). x.state) state_of
+tells-state = record { tells = λ s x e run next. ap (λ (x : Entry). x.state) next.stepped ∙ sym (ap (λ (x : Entry). state_of s (deed_in x ∷ e)) next.stepped) }
 
-pub master_tells : (old new : MasterView) (what : Move) (did : Did) (sent : List ℕ) (state : State) (shown outs : List ℕ) (shown_terms terms : Option Terms)
-    → master_core.Follows old what new → master_core.Answers old what did sent → master_core.Shows new state state_of
-    → outs ≡ shown → master_core.Shows new shown out → terms ≡ shown_terms → master_core.Shows new shown_terms told_terms
-    → MasterTells old what (entry end_name.Master what did sent state outs terms)
-master_tells old new what did sent state shown outs shown_terms terms follows answers states i outputs j terms_are = record {
-  tells = λ ms e h.
-      let after = follows.is_after ms e h in
-      told (OfMaster ms) e what did sent state outs terms after.reached (answers.did ms e h) (answers.sent ms e h)
-      (states.shows ms _ after) (i ∙ outputs.shows ms _ after) (j ∙ terms_are.shows ms _ after);
+tells-outputs : Tells (λ (x : Entry). x.outputs) out
+tells-outputs = record {
+  tells = λ s x e run next.
+      ap (λ (x : Entry). x.outputs) next.stepped ∙ sym (ap (λ (x : Entry). outputs s (deed_in x ∷ e)) next.stepped) ∙ looking_back s (deed_in x ∷ e) run;
 }
 
-pub slave_tells : (old new : SlaveView) (what : Move) (did : Did) (sent : List ℕ) (state : State) (shown outs : List ℕ) (shown_terms terms : Option Terms)
-    → slave_core.Follows old what new → slave_core.Answers old what did sent → slave_core.Shows new state state_of
-    → outs ≡ shown → slave_core.Shows new shown out → terms ≡ shown_terms → slave_core.Shows new shown_terms told_terms
-    → SlaveTells old what (entry end_name.Slave what did sent state outs terms)
-slave_tells old new what did sent state shown outs shown_terms terms follows answers states i outputs j terms_are = record {
-  tells = λ ss e h.
-      let after = follows.is_after ss e h in
-      told (OfSlave ss) e what did sent state outs terms after.reached (answers.did ss e h) (answers.sent ss e h)
-      (states.shows ss _ after) (i ∙ outputs.shows ss _ after) (j ∙ terms_are.shows ss _ after);
+tells-terms : Tells (λ (x : Entry). x.terms) told_terms
+tells-terms = record { tells = λ s x e run next. ap (λ (x : Entry). x.terms) next.stepped ∙ sym (ap (λ (x : Entry). told_terms s (deed_in x ∷ e)) next.stepped) }
+
+-- the deeds of an end after an entry of its own
+own-deeds : (which : End) (x : Entry) (w : List Entry) → x.end ≡ which → deeds which (x ∷ w) ≡ deed_in x ∷ deeds which w
+own-deeds end_name.Master x w h = ap (λ (at : End). if same_end end_name.Master at then deed_in x ∷ deeds end_name.Master w else deeds end_name.Master w) h
+own-deeds end_name.Slave x w h = ap (λ (at : End). if same_end end_name.Slave at then deed_in x ∷ deeds end_name.Slave w else deeds end_name.Slave w) h
+
+next-of : (which : End) (ms : MasterSettings) (ss : SlaveSettings) (v : DuoView) (x : Entry) (w : List Entry) → x.end ≡ which → DuoStands ms ss v (x ∷ w) → IsNextEntry (setup_of ms ss which) x (deeds which w)
+next-of which ms ss v x w h stands = subst (λ (at : End). IsNextEntry (setup_of ms ss at) x (deeds at w)) h stands.world.0
+
+master-shows : {X : Type 0} (v : DuoView) (shown : X) (told : Entry → X) (word : Setup → List Deed → X) → Tells told word → master_core.Shows v.master shown word → ShowsLast v end_name.Master shown told
+master-shows v shown told word t is = record {
+  shows = λ ms ss x w stands h.
+      let after : MasterIsAfter ms v.master (deed_in x ∷ deeds end_name.Master w) = subst (MasterIsAfter ms v.master) (own-deeds end_name.Master x w h) stands.master in
+      t.tells (OfMaster ms) x (deeds end_name.Master w) after.reached (next-of end_name.Master ms ss v x w h stands) ∙ sym (is.shows ms _ after);
 }
+
+slave-shows : {X : Type 0} (v : DuoView) (shown : X) (told : Entry → X) (word : Setup → List Deed → X) → Tells told word → slave_core.Shows v.slave shown word → ShowsLast v end_name.Slave shown told
+slave-shows v shown told word t is = record {
+  shows = λ ms ss x w stands h.
+      let after : SlaveIsAfter ss v.slave (deed_in x ∷ deeds end_name.Slave w) = subst (SlaveIsAfter ss v.slave) (own-deeds end_name.Slave x w h) stands.slave in
+      t.tells (OfSlave ss) x (deeds end_name.Slave w) after.reached (next-of end_name.Slave ms ss v x w h stands) ∙ sym (is.shows ss _ after);
+}
+
+pub master_state : (v : DuoView) (shown : State) → master_core.Shows v.master shown state_of → ShowsLast v end_name.Master shown (λ x. x.state)
+master_state v shown is = master-shows v shown _ _ tells-state is
+
+pub slave_state : (v : DuoView) (shown : State) → slave_core.Shows v.slave shown state_of → ShowsLast v end_name.Slave shown (λ x. x.state)
+slave_state v shown is = slave-shows v shown _ _ tells-state is
+
+pub master_outputs : (v : DuoView) (shown : List ℕ) → master_core.Shows v.master shown out → ShowsLast v end_name.Master shown (λ x. x.outputs)
+master_outputs v shown is = master-shows v shown _ _ tells-outputs is
+
+pub slave_outputs : (v : DuoView) (shown : List ℕ) → slave_core.Shows v.slave shown out → ShowsLast v end_name.Slave shown (λ x. x.outputs)
+slave_outputs v shown is = slave-shows v shown _ _ tells-outputs is
+
+pub master_terms : (v : DuoView) (shown : Option Terms) → master_core.Shows v.master shown told_terms → ShowsLast v end_name.Master shown (λ x. x.terms)
+master_terms v shown is = master-shows v shown _ _ tells-terms is
+
+pub slave_terms : (v : DuoView) (shown : Option Terms) → slave_core.Shows v.slave shown told_terms → ShowsLast v end_name.Slave shown (λ x. x.terms)
+slave_terms v shown is = slave-shows v shown _ _ tells-terms is

@@ -1,71 +1,77 @@
--- What one end of a pair does at a move, and what that changes of the pair.
-use Rattle.std.specs.Prelude.{◌≡◌, ℕ, List, ◌∷◌, length, IsTrue, if◌then◌else◌}
+-- What one end of a pair does at an event, and what that changes of the pair.
+use Rattle.std.specs.Prelude.{◌≡◌, ℕ, List, ◌∷◌, Some, IfSome, if◌then◌else◌}
 use Rattle.fsoe_base.specs.declared.command.End.{End}
 use Rattle.fsoe_base.specs.declared.command.End.TheVariants as end_name
-use Rattle.fsoe_base.specs.LengthsOf.{length_of}
-use Rattle.param_load.specs.Profile.{allows_id}
-use Rattle.param_load.specs.declared.entry.Entry.{Entry}
+use Rattle.fsoe_base.specs.declared.did.Did.{Did}
 use Rattle.param_load.specs.declared.entry.Move.{Move}
 use Rattle.param_load.specs.declared.entry.Move.TheVariants as move
-use Rattle.param_load.specs.declared.master_settings.MasterSettings.{MasterSettings}
-use Rattle.param_load.specs.declared.slave_settings.SlaveSettings.{SlaveSettings}
-use Rattle.black_channel.specs.Window.{WindowView, window_of}
-use Rattle.schedule_file.specs.Event.{profile_of}
+use Rattle.black_channel.specs.Altered.{altered}
+use Rattle.black_channel.specs.Window.{back_th, WindowView, window_of}
 use Rattle.schedule_file.specs.declared.event.Event.{Event}
-use Rattle.end_model.specs.Setup.{OfMaster, OfSlave}
-use Rattle.end_model.specs.Deed.{Deed, is_empty}
+use Rattle.schedule_file.specs.declared.event.Event.TheVariants as event
+use Rattle.end_model.specs.Deed.{delivered, is_empty}
 use Rattle.exchange_model.specs.Ends.{peer}
-use Rattle.exchange_model.specs.Monitor.{NotesEntry}
-use Rattle.exchange_model.specs.World.{end_of_event, next_entry}
-use Rattle.master_core.specs.MasterView.{MasterView}
+use Rattle.exchange_model.specs.Monitor.{NotesParts}
+use Rattle.exchange_model.specs.World.{end_of_event, move_from}
 use Rattle.master_core.specs.Standing as master_core
-use Rattle.master_core.specs.Standing.{MasterIsAfter}
-use Rattle.slave_core.specs.SlaveView.{SlaveView}
 use Rattle.slave_core.specs.Standing as slave_core
-use Rattle.slave_core.specs.Standing.{SlaveIsAfter}
-use Rattle.duo_run.specs.Duo.{DuoView, sent_by, lengths_of, profiles_of}
+use Rattle.duo_run.specs.Duo.{DuoView, sent_by}
 
 -- the last frames of the peer of the end at which an event happens
 abbrev pub heard_at : Event → DuoView → List (List ℕ)
 heard_at event v = (sent_by (peer (end_of_event event)) v).frames
 
--- an entry tells the next deed of a master that is after some
-pub record MasterTells (old : MasterView) (what : Move) (x : Entry) : Type 0 where
-  pub tells : (settings : MasterSettings) (e : List Deed) → MasterIsAfter settings old e → x ≡ next_entry (OfMaster settings) e what
+-- what an event is to its end, at which these bytes come
+abbrev pub move_at : Event → List ℕ → Move
+move_at (event.Deliver to back) came = move.Deliver came
+move_at (event.Altered to back pos mask) came = move.Deliver came
+move_at (event.Raw to frame) came = move.Deliver came
+move_at (event.Tick at) came = move.Tick
+move_at (event.Put at load) came = move.Put load
+move_at (event.Hold at failsafe) came = move.Hold failsafe
+move_at (event.Nonce at id) came = move.Nonce id
+move_at (event.Local at) came = move.Local
 
--- an entry tells the next deed of a slave that is after some
-pub record SlaveTells (old : SlaveView) (what : Move) (x : Entry) : Type 0 where
-  pub tells : (settings : SlaveSettings) (e : List Deed) → SlaveIsAfter settings old e → x ≡ next_entry (OfSlave settings) e what
+-- these bytes come at an event, by the frames that the peer sent; none where no frame comes
+pub record Comes (frames : List (List ℕ)) (event : Event) (came : List ℕ) : Type 0 where
+  pub is : move_from frames event ≡ Some (move_at event came)
+  pub delivered_is : delivered (move_at event came) ≡ came
+
+-- where an event alters a frame that was sent, this is the frame as it comes
+abbrev pub IsAltered : List (List ℕ) → Event → List ℕ → Type 0
+IsAltered frames (event.Altered to back pos mask) copy = IfSome (back_th back frames) (λ frame. copy ≡ altered pos mask frame)
+IsAltered frames _ copy = Unit {0}
 
 -- a window that stood for the frames of an end stands for these and the frame of a step, if one was sent
 pub record Hears (old : WindowView) (frame : List ℕ) (new : WindowView) : Type 0 where
   pub hears : (frames : List (List ℕ)) → old ≡ window_of frames → new ≡ window_of (if is_empty frame then frames else frame ∷ frames)
 
--- at this end of a pair a put has the end's length, and a nonce is one that its profile allows
-abbrev pub IsProperAt : End → DuoView → Move → Type 0
-IsProperAt at v (move.Put load) = length load ≡ length_of (lengths_of v) at
-IsProperAt at v (move.Nonce id) = IsTrue (allows_id (profile_of (profiles_of v) at) id)
-IsProperAt at v _ = Unit {0}
-
--- the master of a pair does its next deed: its window and the monitor note the entry, and all of the slave stays
-pub record MasterActs (old : DuoView) (what : Move) (x : Entry) (new : DuoView) : Type 0 where
+-- the master of a pair does its next deed, at which these bytes come: its window and the monitor note what it did and the frame that it
+-- sent, and all of the slave stays
+pub record MasterActs (old : DuoView) (what : Move) (came : List ℕ) (did : Did) (sent : List ℕ) (new : DuoView) : Type 0 where
   pub follows : master_core.Follows old.master what new.master
-  pub tells : MasterTells old.master what x
-  pub heard : Hears old.master_sent x.sent new.master_sent
-  pub noted : NotesEntry old.monitor x new.monitor
+  pub answers : master_core.Answers old.master what did sent
+  pub heard : Hears old.master_sent sent new.master_sent
+  pub noted : NotesParts old.monitor end_name.Master came did sent new.monitor
   pub slave : new.slave ≡ old.slave
   pub slave_sent : new.slave_sent ≡ old.slave_sent
 
 -- the slave of a pair does so
-pub record SlaveActs (old : DuoView) (what : Move) (x : Entry) (new : DuoView) : Type 0 where
+pub record SlaveActs (old : DuoView) (what : Move) (came : List ℕ) (did : Did) (sent : List ℕ) (new : DuoView) : Type 0 where
   pub follows : slave_core.Follows old.slave what new.slave
-  pub tells : SlaveTells old.slave what x
-  pub heard : Hears old.slave_sent x.sent new.slave_sent
-  pub noted : NotesEntry old.monitor x new.monitor
+  pub answers : slave_core.Answers old.slave what did sent
+  pub heard : Hears old.slave_sent sent new.slave_sent
+  pub noted : NotesParts old.monitor end_name.Slave came did sent new.monitor
   pub master : new.master ≡ old.master
   pub master_sent : new.master_sent ≡ old.master_sent
 
 -- one of both ends does its next deed
-abbrev pub Acts : End → DuoView → Move → Entry → DuoView → Type 0
-Acts end_name.Master old what x new = MasterActs old what x new
-Acts end_name.Slave old what x new = SlaveActs old what x new
+abbrev pub Acts : End → DuoView → Move → List ℕ → Did → List ℕ → DuoView → Type 0
+Acts end_name.Master old what came did sent new = MasterActs old what came did sent new
+Acts end_name.Slave old what came did sent new = SlaveActs old what came did sent new
+
+-- an event happens at an end of a pair, at which the end did this and sent this frame
+pub record Happens (at : End) (old : DuoView) (event : Event) (did : Did) (sent : List ℕ) (new : DuoView) : Type 0 where
+  pub came : List ℕ
+  pub comes : Comes (sent_by (peer at) old).frames event came
+  pub acts : Acts at old (move_at event came) came did sent new

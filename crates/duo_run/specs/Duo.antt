@@ -2,6 +2,7 @@
 use Rattle.std.specs.Prelude.{◌≡◌, ℕ, false, List, ◌∷◌, Some, None}
 use Rattle.fsoe_base.specs.declared.command.End.{End}
 use Rattle.fsoe_base.specs.declared.command.End.TheVariants as end_name
+use Rattle.fsoe_base.specs.declared.did.Did.{Did}
 use Rattle.fsoe_base.specs.declared.lengths.Lengths.{Lengths}
 use Rattle.param_load.specs.declared.entry.Entry.{Entry}
 use Rattle.param_load.specs.declared.master_settings.MasterSettings.{MasterSettings}
@@ -9,7 +10,7 @@ use Rattle.param_load.specs.declared.profile.Profiles.{Profiles}
 use Rattle.param_load.specs.declared.slave_settings.SlaveSettings.{SlaveSettings}
 use Rattle.black_channel.specs.Window.{WindowView, window_of}
 use Rattle.schedule_file.specs.declared.event.Event.{Event}
-use Rattle.exchange_model.specs.World.{deeds, frames_of, entry_at, SameLengths, IsWorld}
+use Rattle.exchange_model.specs.World.{deeds, frames_of, end_of_event, entry_at, SameLengths, IsWorld}
 use Rattle.exchange_model.specs.Monitor as monitor
 use Rattle.exchange_model.specs.Monitor.{MonitorView}
 use Rattle.master_core.specs.MasterView.{MasterView}
@@ -62,6 +63,23 @@ pub record DuoStands (ms : MasterSettings) (ss : SlaveSettings) (v : DuoView) (w
 pub record Steps (old : DuoView) (event : Event) (x : Entry) (new : DuoView) : Type 0 where
   pub entry : (ms : MasterSettings) (ss : SlaveSettings) (w : List Entry) → DuoStands ms ss old w → entry_at ms ss w event ≡ Some x
   pub stands : (ms : MasterSettings) (ss : SlaveSettings) (w : List Entry) → DuoStands ms ss old w → DuoStands ms ss new (x ∷ w)
+
+-- the entry of an event after these, in which its end did this and sent this frame; a pair stands then for it and those before
+pub record NextEntry (ms : MasterSettings) (ss : SlaveSettings) (w : List Entry) (event : Event) (did : Did) (sent : List ℕ) (new : DuoView) : Type 0 where
+  pub entry : Entry
+  pub next : entry_at ms ss w event ≡ Some entry
+  pub stands : DuoStands ms ss new (entry ∷ w)
+  pub end_is : entry.end ≡ end_of_event event
+  pub did_is : entry.did ≡ did
+  pub sent_is : entry.sent ≡ sent
+
+-- at this event a pair does the next entry of the world, in which its end did this and sent this frame
+pub record Advances (old : DuoView) (event : Event) (did : Did) (sent : List ℕ) (new : DuoView) : Type 0 where
+  pub next : (ms : MasterSettings) (ss : SlaveSettings) (w : List Entry) → DuoStands ms ss old w → NextEntry ms ss w event did sent new
+
+-- what a pair shows of an end is this word of the last entry, where that is one of the end
+pub record ShowsLast {X : Type 0} (v : DuoView) (at : End) (shown : X) (word : Entry → X) : Type 0 where
+  pub shows : (ms : MasterSettings) (ss : SlaveSettings) (x : Entry) (w : List Entry) → DuoStands ms ss v (x ∷ w) → x.end ≡ at → word x ≡ shown
 
 -- the world has no entry of this event: it names a frame that wasn't sent
 pub record Misses (v : DuoView) (event : Event) : Type 0 where

@@ -1,6 +1,9 @@
 -- What a replay reports of an input: a line for each entry of both ends, and last how the run stops; and what holds of its entries:
 -- fair before the first other one, and serving after an honest schedule. Lists of entries are newest first.
 use Rattle.std.specs.Prelude.{◌≡◌, ℕ, ◌+◌, ◌==◌, List, [], ◌∷◌, ◌++◌, length, codes, decimal, true, Option, Some, None, IfSome, if◌then◌else◌}
+use Rattle.fsoe_base.specs.declared.command.End.{End}
+use Rattle.fsoe_base.specs.declared.command.State.{State}
+use Rattle.fsoe_base.specs.declared.did.Did.{Did}
 use Rattle.fsoe_io.specs.declared.status.Ended.{Ended}
 use Rattle.fsoe_io.specs.declared.status.Status.TheVariants as status
 use Rattle.param_load.specs.declared.entry.Entry.{Entry}
@@ -23,9 +26,13 @@ use Rattle.exchange_model.specs.Serving.{Serves}
 use Rattle.exchange_model.specs.World.{world}
 use Rattle.duo_run.specs.Duo.{DuoView, DuoStands}
 
--- the line of an entry: its number from 1, the letter of its end, and what every report writes of an entry
+-- the line of an entry with these parts: its number from 1, the letter of its end, and what every report writes of an entry
+abbrev pub line_of : ℕ → End → Did → State → List ℕ → List ℕ → List ℕ
+line_of n at did state outputs sent = decimal n ++ codes " " ++ end_letter at ++ codes " " ++ entry_text did state outputs sent ++ codes "\n"
+
+-- the line of an entry
 abbrev pub entry_line : ℕ → Entry → List ℕ
-entry_line n x = decimal n ++ codes " " ++ end_letter x.end ++ codes " " ++ entry_text x.did x.state x.outputs x.sent ++ codes "\n"
+entry_line n x = line_of n x.end x.did x.state x.outputs x.sent
 
 -- the lines of these entries, oldest first
 abbrev pub entry_lines : List Entry → List ℕ

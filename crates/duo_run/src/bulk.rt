@@ -7,7 +7,9 @@ ghost use Rattle.duo_run.specs.Replay.{other_line};
 ghost use Rattle.duo_run.specs.Summary.{summary_of};
 ghost use Rattle.duo_run.specs.Bulk.{entries_of, ends_line, state_line, number_line, summary_lines, RanBulk};
 
+use crate::acting::Answer;
 use crate::closing::{ended_with, push_other};
+use crate::coming::end_of;
 use crate::duo::Duo;
 use crate::summary::Summary;
 use file_run::write_report;
@@ -24,11 +26,13 @@ fn summarize(number: u64, events: u64) -> (Summary, Option<u64>)
     let (master, slave) = Maker::settings();
     let mut maker = Maker::new(number);
     let mut duo = Duo::new(master, slave);
+    let mut answer = Answer::new();
     let mut summary = Summary::new();
     for _ in 0..events {
         let event = maker.next();
-        let entry = duo.step(&event).unwrap();
-        summary.note(&entry);
+        duo.advance(&event, &mut answer).unwrap();
+        let at = end_of(&event);
+        summary.note(at, &answer.did, duo.state_of(at));
     }
     (summary, duo.other())
 }

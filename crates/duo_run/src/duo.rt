@@ -1,13 +1,14 @@
 //! Both ends of a connection over a schedule.
-ghost use Rattle.std.specs.Prelude.{◌≡◌, ◌≤◌, ◌<◌, ◌+◌, ◌^◌, List, [], Some, None, IfOk, OnErr, OnOk};
+ghost use Rattle.std.specs.Prelude.{◌≡◌, ◌≤◌, ◌<◌, ◌+◌, ◌^◌, List, [], None, length, option_copied, IfOk, OnErr, OnOk};
 
-use crate::acting::{act_master, act_slave, end_of, hear};
+use crate::acting::{Answer, act_master, act_slave, copied, hear, image_of};
+use crate::coming::{alter, came, end_of, moved};
 use crate::fault::StepFault;
-use black_channel::{Window, altered};
+use black_channel::Window;
 use exchange_model::Monitor;
-use fsoe_base::{End, FrameBuf};
+use fsoe_base::{End, FrameBuf, MOST_DATA, State};
 use master_core::Master;
-use param_load::{Entry, MasterSettings, Move, SlaveSettings};
+use param_load::{Entry, MasterSettings, SlaveSettings, Terms};
 use schedule_file::Event;
 use slave_core::Slave;
 use std::marker::Model;
@@ -21,6 +22,8 @@ pub struct Duo {
     master_sent: Window,
     slave_sent: Window,
     monitor: Monitor,
+    /// Where a frame is copied to be altered.
+    altered: FrameBuf,
 }
 
 impl Model for Duo {
@@ -39,13 +42,12 @@ impl Duo {
     ghost use Rattle.param_load.specs.declared.entry.Entry.{Entry};
     ghost use Rattle.param_load.specs.declared.master_settings.MasterSettings.{MasterSettings};
     ghost use Rattle.param_load.specs.declared.slave_settings.SlaveSettings.{SlaveSettings};
-    ghost use Rattle.black_channel.specs.Window.{back_th};
     ghost use Rattle.schedule_file.specs.Event.{Fits, profile_of};
     ghost use Rattle.exchange_model.specs.Ends.{peer};
-    ghost use Rattle.exchange_model.specs.World.{move_from, SameLengths};
+    ghost use Rattle.exchange_model.specs.World.{end_of_event, move_from, SameLengths};
     ghost use Rattle.exchange_model.specs.Other.{first_other};
-    ghost use Rattle.duo_run.specs.Duo.{sent_by, lengths_of, profiles_of, steps_done, DuoStands, Steps, Misses};
-    ghost use Rattle.duo_run.specs.Acts.{heard_at, IsProperAt, MasterActs, SlaveActs, Acts};
+    ghost use Rattle.duo_run.specs.Duo.{sent_by, lengths_of, profiles_of, steps_done, DuoStands, Steps, Advances, Misses, ShowsLast};
+    ghost use Rattle.duo_run.specs.Acts.{Happens};
 
     /// Two new ends with these settings, which have the same lengths.
     #[tactic(auto, using(crate::proofs::Began::stands_new, crate::proofs::Began::is_duo))]
@@ -62,12 +64,13 @@ impl Duo {
             master_sent: Window::new(),
             slave_sent: Window::new(),
             monitor: Monitor::new(),
+            altered: FrameBuf::new(),
         }
     }
 
     /// Does an event at its end, and tells the entry. `NoSuchFrame` exactly where the event names a frame further back than its peer
     /// sent; then nothing is changed. The event fits the lengths and the profiles, and fewer than 2^64 - 1 steps were done before.
-    #[tactic(auto, using(crate::proofs::Moved::proper_at, crate::proofs::Stepped::steps_by, crate::proofs::Stepped::misses_by))]
+    #[tactic(auto, using(crate::proofs::Stepped::steps_by, crate::proofs::Stepped::misses_by))]
     pub fn step(&mut self, event: &Event) -> Result<Entry, StepFault>
         requires fits { Fits (length_of (lengths_of self.old)) (profile_of (profiles_of self.old)) event.now }
         requires fewer { steps_done self.old + 1 < 2 ^ 64 }
@@ -78,101 +81,124 @@ impl Duo {
         ensures profiles { profiles_of self.new ≡ profiles_of self.old }
         ensures done { OnOk result (steps_done self.new ≡ steps_done self.old + 1) }
     {
-        let what = self.moved(event)?;
-        Ok(self.act(end_of(event), what))
+        let at = end_of(event);
+        let what = moved(event, self.heard(at))?;
+        let mut answer = Answer::new();
+        self.advance(event, &mut answer)?;
+        Ok(Entry {
+            end: at,
+            what,
+            did: answer.did,
+            sent: answer.sent,
+            state: self.state_of(at),
+            outputs: image_of(self.outputs_of(at)),
+            terms: copied(self.terms_of(at)),
+        })
     }
 
-    /// The frame so many back of those that the peer of an end sent.
-    fn heard(&self, to: End, back: u8) -> Result<FrameBuf, StepFault>
-        requires some { 1 ≤ back }
-        requires within { back ≤ 64 }
-        ensures found { IfOk result (λ frame. back_th back (sent_by (peer to) self.now).frames ≡ Some frame) }
-        ensures missed { OnErr result (back_th back (sent_by (peer to) self.now).frames ≡ None) }
+    /// Does an event at its end, as `step` does, and makes no entry: what the end did and the frame that it sent are written to
+    /// `answer`, and the rest of the entry is read from the end.
+    #[tactic(auto, using(crate::proofs::Stepped::advances_by, crate::proofs::Stepped::misses_by))]
+    pub(crate) fn advance(&mut self, event: &Event, answer: &mut Answer) -> Result<(), StepFault>
+        requires fits { Fits (length_of (lengths_of self.old)) (profile_of (profiles_of self.old)) event.now }
+        requires fewer { steps_done self.old + 1 < 2 ^ 64 }
+        ensures advances { OnOk result (Advances self.old event.now answer.new.did answer.new.sent self.new) }
+        ensures misses { OnErr result (Misses self.old event.now) }
+        ensures kept { OnErr result (self.new ≡ self.old) }
+        ensures lengths { lengths_of self.new ≡ lengths_of self.old }
+        ensures profiles { profiles_of self.new ≡ profiles_of self.old }
+        ensures done { OnOk result (steps_done self.new ≡ steps_done self.old + 1) }
     {
-        let window = match to {
+        match end_of(event) {
+            End::Master => self.advance_master(event, answer),
+            End::Slave => self.advance_slave(event, answer),
+        }
+    }
+
+    #[tactic(auto, using(crate::proofs::Moved::master_proper, crate::proofs::Stepped::master_happens))]
+    fn advance_master(&mut self, event: &Event, answer: &mut Answer) -> Result<(), StepFault>
+        requires here { end_of_event event.now ≡ end_name.Master }
+        requires fits { Fits (length_of (lengths_of self.old)) (profile_of (profiles_of self.old)) event.now }
+        requires fewer { steps_done self.old + 1 < 2 ^ 64 }
+        ensures happens { OnOk result (Happens end_name.Master self.old event.now answer.new.did answer.new.sent self.new) }
+        ensures missed { OnErr result (move_from self.old.slave_sent.frames event.now ≡ None) }
+        ensures kept { OnErr result (self.new ≡ self.old) }
+        ensures lengths { lengths_of self.new ≡ lengths_of self.old }
+        ensures profiles { profiles_of self.new ≡ profiles_of self.old }
+        ensures done { OnOk result (steps_done self.new ≡ steps_done self.old + 1) }
+    {
+        alter(event, &self.slave_sent, &mut self.altered);
+        let came = came(event, &self.slave_sent, &self.altered)?;
+        act_master(&mut self.master, event, came, answer);
+        self.monitor
+            .note_parts(End::Master, came, &answer.did, &answer.sent);
+        hear(&mut self.master_sent, &answer.sent);
+        Ok(())
+    }
+
+    #[tactic(auto, using(crate::proofs::Moved::slave_proper, crate::proofs::Stepped::slave_happens))]
+    fn advance_slave(&mut self, event: &Event, answer: &mut Answer) -> Result<(), StepFault>
+        requires here { end_of_event event.now ≡ end_name.Slave }
+        requires fits { Fits (length_of (lengths_of self.old)) (profile_of (profiles_of self.old)) event.now }
+        requires fewer { steps_done self.old + 1 < 2 ^ 64 }
+        ensures happens { OnOk result (Happens end_name.Slave self.old event.now answer.new.did answer.new.sent self.new) }
+        ensures missed { OnErr result (move_from self.old.master_sent.frames event.now ≡ None) }
+        ensures kept { OnErr result (self.new ≡ self.old) }
+        ensures lengths { lengths_of self.new ≡ lengths_of self.old }
+        ensures profiles { profiles_of self.new ≡ profiles_of self.old }
+        ensures done { OnOk result (steps_done self.new ≡ steps_done self.old + 1) }
+    {
+        alter(event, &self.master_sent, &mut self.altered);
+        let came = came(event, &self.master_sent, &self.altered)?;
+        act_slave(&mut self.slave, event, came, answer);
+        self.monitor
+            .note_parts(End::Slave, came, &answer.did, &answer.sent);
+        hear(&mut self.slave_sent, &answer.sent);
+        Ok(())
+    }
+
+    /// The last frames of the peer of an end.
+    fn heard(&self, to: End) -> &Window
+        ensures { result.now ≡ sent_by (peer to) self.now }
+    {
+        match to {
             End::Master => &self.slave_sent,
             End::Slave => &self.master_sent,
-        };
-        let mut frame = FrameBuf::new();
-        if window.back(back, &mut frame) {
-            Ok(frame)
-        } else {
-            Err(StepFault::NoSuchFrame)
         }
     }
 
-    /// What an event is to its end.
-    fn moved(&self, event: &Event) -> Result<Move, StepFault>
-        requires { Fits (length_of (lengths_of self.now)) (profile_of (profiles_of self.now)) event.now }
-        ensures found { IfOk result (λ what. move_from (heard_at event.now self.now) event.now ≡ Some what) }
-        ensures missed { OnErr result (move_from (heard_at event.now self.now) event.now ≡ None) }
-    {
-        match event {
-            Event::Deliver { to, back } => Ok(Move::Deliver(self.heard(*to, *back)?)),
-            Event::Altered {
-                to,
-                back,
-                pos,
-                mask,
-            } => {
-                let mut frame = self.heard(*to, *back)?;
-                // The frame has this place, since the event fits; a window doesn't tell how long its frames are.
-                if usize::from(*pos) < frame.len() {
-                    altered(&mut frame, *pos, *mask);
-                }
-                Ok(Move::Deliver(frame))
-            }
-            Event::Raw { frame, .. } => Ok(Move::Deliver(frame.copy())),
-            Event::Tick { .. } => Ok(Move::Tick),
-            Event::Put { load, .. } => Ok(Move::Put(load.copy())),
-            Event::Hold { failsafe, .. } => Ok(Move::Hold(*failsafe)),
-            Event::Nonce { id, .. } => Ok(Move::Nonce(*id)),
-            Event::Local { .. } => Ok(Move::Local),
-        }
-    }
-
-    fn act(&mut self, at: End, what: Move) -> Entry
-        requires proper { IsProperAt at self.old what }
-        requires fewer { steps_done self.old + 1 < 2 ^ 64 }
-        ensures acts { Acts at self.old what result self.new }
-        ensures lengths { lengths_of self.new ≡ lengths_of self.old }
-        ensures profiles { profiles_of self.new ≡ profiles_of self.old }
-        ensures done { steps_done self.new ≡ steps_done self.old + 1 }
+    /// The state of an end.
+    #[tactic(auto, using(crate::proofs::Told::master_state, crate::proofs::Told::slave_state))]
+    pub(crate) fn state_of(&self, at: End) -> State
+        ensures { ShowsLast self.now at result (λ x. x.state) }
     {
         match at {
-            End::Master => self.act_at_master(what),
-            End::Slave => self.act_at_slave(what),
+            End::Master => self.master.state(),
+            End::Slave => self.slave.state(),
         }
     }
 
-    #[tactic(auto, using(crate::proofs::Moved::master_proper))]
-    fn act_at_master(&mut self, what: Move) -> Entry
-        requires proper { IsProperAt end_name.Master self.old what }
-        requires fewer { steps_done self.old + 1 < 2 ^ 64 }
-        ensures acts { MasterActs self.old what result self.new }
-        ensures lengths { lengths_of self.new ≡ lengths_of self.old }
-        ensures profiles { profiles_of self.new ≡ profiles_of self.old }
-        ensures done { steps_done self.new ≡ steps_done self.old + 1 }
+    /// The outputs of an end.
+    #[tactic(auto, using(crate::proofs::Told::master_outputs, crate::proofs::Told::slave_outputs))]
+    pub(crate) fn outputs_of(&self, at: End) -> &[u8]
+        ensures shown { ShowsLast self.now at result.now (λ x. x.outputs) }
+        ensures most { length result.now ≤ MOST_DATA }
     {
-        let entry = act_master(&mut self.master, what);
-        hear(&mut self.master_sent, &entry.sent);
-        self.monitor.note(&entry);
-        entry
+        match at {
+            End::Master => self.master.outputs(),
+            End::Slave => self.slave.outputs(),
+        }
     }
 
-    #[tactic(auto, using(crate::proofs::Moved::slave_proper))]
-    fn act_at_slave(&mut self, what: Move) -> Entry
-        requires proper { IsProperAt end_name.Slave self.old what }
-        requires fewer { steps_done self.old + 1 < 2 ^ 64 }
-        ensures acts { SlaveActs self.old what result self.new }
-        ensures lengths { lengths_of self.new ≡ lengths_of self.old }
-        ensures profiles { profiles_of self.new ≡ profiles_of self.old }
-        ensures done { steps_done self.new ≡ steps_done self.old + 1 }
+    /// The terms of an end, exactly in state Data.
+    #[tactic(auto, using(crate::proofs::Told::master_terms, crate::proofs::Told::slave_terms))]
+    fn terms_of(&self, at: End) -> Option<&Terms>
+        ensures { ShowsLast self.now at (option_copied result) (λ x. x.terms) }
     {
-        let entry = act_slave(&mut self.slave, what);
-        hear(&mut self.slave_sent, &entry.sent);
-        self.monitor.note(&entry);
-        entry
+        match at {
+            End::Master => self.master.terms(),
+            End::Slave => self.slave.terms(),
+        }
     }
 
     /// The number of the first other entry, from 1; None exactly where no entry so far is other.

@@ -6,6 +6,7 @@
 mod acting;
 mod bulk;
 mod closing;
+mod coming;
 mod duo;
 mod fault;
 pub mod laws;

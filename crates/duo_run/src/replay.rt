@@ -1,17 +1,20 @@
 //! The run of both ends over a pair file.
-ghost use Rattle.std.specs.Prelude.{◌≡◌, ◌++◌};
+ghost use Rattle.std.specs.Prelude.{◌≡◌, ◌≤◌, ◌++◌, length};
 ghost use Rattle.schedule_file.specs.declared.header_kind.HeaderKind.TheVariants as kind;
 ghost use Rattle.file_run.specs.Report.{events_line};
 ghost use Rattle.duo_run.specs.Duo.{lengths_of, profiles_of};
-ghost use Rattle.duo_run.specs.Replay.{entry_line, other_line, RanReplay};
+ghost use Rattle.duo_run.specs.Replay.{line_of, other_line, RanReplay};
 
+use crate::acting::Answer;
 use crate::closing::{ended_with, push_other};
+use crate::coming::end_of;
 use crate::duo::Duo;
 use crate::fault::StepFault;
 use entry_text::push_entry;
 use file_run::{Grammar, Machine, NotSent, run_over, write_events};
+use fsoe_base::{End, MOST_DATA, State};
 use fsoe_io::{Ended, LineText, Sink, Source};
-use param_load::{Entry, Profiles};
+use param_load::Profiles;
 use schedule_file::{Event, Header, HeaderKind, end_letter};
 
 /// How the lines of the events of a pair are read.
@@ -32,22 +35,24 @@ fn grammar_of(duo: &Duo) -> Grammar
     }
 }
 
-/// Writes the line of the entry of this number, from 1.
-fn write_entry(number: u64, entry: &Entry, text: &mut LineText)
-    ensures { text.new ≡ entry_line number entry.now }
+/// Writes the line of the entry of this number, from 1, of an end with this state and these outputs.
+fn write_entry(
+    number: u64,
+    at: End,
+    state: State,
+    outputs: &[u8],
+    answer: &Answer,
+    text: &mut LineText,
+)
+    requires { length outputs.now ≤ MOST_DATA }
+    ensures { text.new ≡ line_of number at answer.now.did state outputs.now answer.now.sent }
 {
     text.clear();
     text.push_decimal(number);
     text.push(b" ");
-    text.push(end_letter(entry.end));
+    text.push(end_letter(at));
     text.push(b" ");
-    push_entry(
-        &entry.did,
-        entry.state,
-        entry.outputs.bytes(),
-        entry.sent.bytes(),
-        text,
-    );
+    push_entry(&answer.did, state, outputs, answer.sent.bytes(), text);
     text.push(b"\n");
 }
 
@@ -81,9 +86,12 @@ impl Machine for Duo {
     }
 
     fn report(&mut self, event: &Event, number: u64, text: &mut LineText) -> Result<(), NotSent> {
-        match self.step(event) {
-            Ok(entry) => {
-                write_entry(number, &entry, text);
+        let mut answer = Answer::new();
+        match self.advance(event, &mut answer) {
+            Ok(()) => {
+                let at = end_of(event);
+                let outputs = self.outputs_of(at);
+                write_entry(number, at, self.state_of(at), outputs, &answer, text);
                 Ok(())
             }
             Err(StepFault::NoSuchFrame) => Err(NotSent),

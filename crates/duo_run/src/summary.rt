@@ -3,7 +3,6 @@ ghost use Rattle.std.specs.Prelude.{◌≡◌, ◌+◌, is_some, if◌then◌els
 ghost use Rattle.exchange_model.specs.Fair.{data_taken};
 
 use fsoe_base::{Command, Did, End, State};
-use param_load::Entry;
 
 /// What a summary tells of an end: in how many entries it took a data frame, was reset and dropped a frame, and the state that it told last.
 #[derive(Clone, Copy)]
@@ -53,30 +52,29 @@ impl Counts {
     }
 
     /// Counts the next entry of the end.
-    fn note(&mut self, entry: &Entry)
+    fn note(&mut self, did: &Did, state: State)
         requires { HasRoom self.old }
-        ensures taken { self.new.taken ≡ self.old.taken + (if is_some (data_taken entry.now.did.took) then 1 else 0) }
-        ensures resets { self.new.resets ≡ self.old.resets + (if is_some entry.now.did.reset then 1 else 0) }
-        ensures drops { self.new.drops ≡ self.old.drops + (if is_some entry.now.did.dropped then 1 else 0) }
-        ensures state { self.new.state ≡ entry.now.state }
+        ensures taken { self.new.taken ≡ self.old.taken + (if is_some (data_taken did.now.took) then 1 else 0) }
+        ensures resets { self.new.resets ≡ self.old.resets + (if is_some did.now.reset then 1 else 0) }
+        ensures drops { self.new.drops ≡ self.old.drops + (if is_some did.now.dropped then 1 else 0) }
+        ensures state { self.new.state ≡ state }
     {
-        if takes_data(&entry.did) {
+        if takes_data(did) {
             self.taken += 1;
         }
-        if entry.did.reset.is_some() {
+        if did.reset.is_some() {
             self.resets += 1;
         }
-        if entry.did.dropped.is_some() {
+        if did.dropped.is_some() {
             self.drops += 1;
         }
-        self.state = entry.state;
+        self.state = state;
     }
 }
 
 impl Summary {
-    ghost use Rattle.std.specs.Prelude.{◌≡◌, List, [], ◌∷◌};
-    ghost use Rattle.param_load.specs.declared.entry.Entry.{Entry};
-    ghost use Rattle.duo_run.specs.Summary.{HasRoom, summary_of};
+    ghost use Rattle.std.specs.Prelude.{◌≡◌, []};
+    ghost use Rattle.duo_run.specs.Summary.{HasRoom, summary_of, CountsEntry};
 
     /// What is told of no entries.
     pub(crate) fn new() -> Summary
@@ -88,16 +86,16 @@ impl Summary {
         }
     }
 
-    /// Counts the next entry.
+    /// Counts the next entry by its end, what the end did and its state.
     #[tactic(auto, using(crate::proofs::Counted::counted_at_master, crate::proofs::Counted::counted_at_slave))]
-    pub(crate) fn note(&mut self, entry: &Entry)
+    pub(crate) fn note(&mut self, at: End, did: &Did, state: State)
         requires master { HasRoom self.old.master }
         requires slave { HasRoom self.old.slave }
-        ensures { (w : List Entry) → self.old ≡ summary_of w → self.new ≡ summary_of (entry.now ∷ w) }
+        ensures { CountsEntry self.old at did.now state self.new }
     {
-        match entry.end {
-            End::Master => self.master.note(entry),
-            End::Slave => self.slave.note(entry),
+        match at {
+            End::Master => self.master.note(did, state),
+            End::Slave => self.slave.note(did, state),
         }
     }
 }

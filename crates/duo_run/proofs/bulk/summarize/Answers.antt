@@ -1,11 +1,11 @@
 use Rattle.duo_run.proofs.Summarizing.{never_misses, never_err, goes_on}
 use Rattle.duo_run.proofs.bulk.summarize.Goals as goal
 
-pub unwrap-entry-requires : goal.unwrap-entry-requires
-unwrap-entry-requires c = never_err _ c.step.result c.step.ensures.misses (never_misses _ _ _ _ _ _ _ c.loop.invariant c.next-event.ensures.makes)
+pub unwrap-requires : goal.unwrap-requires
+unwrap-requires c = never_err _ c.advance.result c.advance.ensures.misses (never_misses _ _ _ _ _ _ _ c.loop.invariant c.next-event.ensures.makes)
 
 pub loop-preserved : goal.loop-preserved
 loop-preserved c =
-    let steps = rw c.unwrap-entry.ensures at c.step.ensures.steps in
-    let done = rw c.unwrap-entry.ensures at c.step.ensures.done in
-    goes_on _ _ _ _ _ _ _ _ _ _ c.loop.invariant c.next-event.ensures.makes steps c.step.ensures.lengths c.step.ensures.profiles done c.note.ensures
+    let advances = rw c.unwrap.ensures at c.advance.ensures.advances in
+    let done = rw c.unwrap.ensures at c.advance.ensures.done in
+    goes_on _ _ _ _ _ _ _ _ _ _ _ _ _ c.loop.invariant c.next-event.ensures.makes advances c.end_of-at.ensures c.state_of.ensures c.advance.ensures.lengths c.advance.ensures.profiles done c.note.ensures
