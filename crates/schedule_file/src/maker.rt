@@ -45,15 +45,15 @@ impl Turn {
     ghost use Rattle.schedule_file.specs.Made.{FitsMade, event_in_turn};
     ghost use Rattle.schedule_file.specs.Maker.{turn_after};
 
-    /// The event of this turn.
-    fn event(self) -> Event
-        ensures value { (count : ℕ) → self ≡ turn_after count → result ≡ event_in_turn (suc count) }
-        ensures fits { FitsMade result }
+    /// Writes the event of this turn to `out`.
+    fn event(self, out: &mut Event)
+        ensures value { (count : ℕ) → self ≡ turn_after count → out.new ≡ event_in_turn (suc count) }
+        ensures fits { FitsMade out.new }
     {
         match self {
-            Turn::Tick => Event::Tick { at: End::Master },
-            Turn::ToSlave => last_to(End::Slave),
-            Turn::ToMaster => last_to(End::Master),
+            Turn::Tick => *out = Event::Tick { at: End::Master },
+            Turn::ToSlave => deliver(End::Slave, 1, out),
+            Turn::ToMaster => deliver(End::Master, 1, out),
         }
     }
 
@@ -89,26 +89,35 @@ impl Maker {
         ensures makes { Makes self.old result self.new }
         ensures fits { FitsMade result }
     {
+        let mut event = Event::Tick { at: End::Master };
+        self.next_into(&mut event);
+        event
+    }
+
+    /// Writes the next event of the number to `out`, in place of what it held. It fits ends that are set to `settings`.
+    pub fn next_into(&mut self, out: &mut Event)
+        ensures makes { Makes self.old out.new self.new }
+        ensures fits { FitsMade out.new }
+    {
         match self.left {
-            None => self.take_turn(),
-            Some(0) => event_of(self.words.next_word()),
+            None => self.take_turn(out),
+            Some(0) => event_of(self.words.next_word(), out),
             Some(left) => {
                 self.left = Some(left - 1);
-                self.take_turn()
+                self.take_turn(out)
             }
         }
     }
 
-    fn take_turn(&mut self) -> Event
-        ensures event { (count : ℕ) → self.old.turn ≡ turn_after count → result ≡ event_in_turn (suc count) }
+    fn take_turn(&mut self, out: &mut Event)
+        ensures event { (count : ℕ) → self.old.turn ≡ turn_after count → out.new ≡ event_in_turn (suc count) }
         ensures turn { (count : ℕ) → self.old.turn ≡ turn_after count → self.new.turn ≡ turn_after (suc count) }
-        ensures fits { FitsMade result }
+        ensures fits { FitsMade out.new }
         ensures left { self.new.left ≡ self.old.left }
         ensures words { self.new.words ≡ self.old.words }
     {
-        let event = self.turn.event();
+        self.turn.event(out);
         self.turn = self.turn.next();
-        event
     }
 
     /// What both ends of each number's schedule are set to: two safe data bytes each way, connection 1, address 2, watchdog 100, at most
@@ -125,11 +134,21 @@ impl Maker {
     }
 }
 
-/// The peer's last frame comes to an end.
-fn last_to(to: End) -> Event
-    ensures { result ≡ event.Deliver to 1 }
+/// Writes to `out` that a frame so many back of the peer comes to an end. Most events are such, so where `out` has one its fields are
+/// written alone, and not the room for the longest event.
+fn deliver(to: End, back: u8, out: &mut Event)
+    ensures { out.new ≡ event.Deliver to back }
 {
-    Event::Deliver { to, back: 1 }
+    if let Event::Deliver {
+        to: last_to,
+        back: last_back,
+    } = out
+    {
+        *last_to = to;
+        *last_back = back;
+    } else {
+        *out = Event::Deliver { to, back };
+    }
 }
 
 /// The peer's last frame comes to an end with one bit turned, at the place and by the mask of a word.
@@ -161,35 +180,31 @@ fn is_switch_on(word: u32) -> bool
     (word >> 8) % 2 == 1
 }
 
-/// The event of a word of the generator.
-fn event_of(word: u32) -> Event
-    ensures value { result ≡ event_of_word word }
-    ensures fits { FitsMade result }
+/// Writes the event of a word of the generator to `out`.
+fn event_of(word: u32, out: &mut Event)
+    ensures value { out.new ≡ event_of_word word }
+    ensures fits { FitsMade out.new }
 {
     match word % 64 {
-        0..=21 => last_to(End::Slave),
-        22..=43 => last_to(End::Master),
-        44..=47 => Event::Tick { at: End::Master },
-        48..=51 => Event::Tick { at: End::Slave },
-        52 => Event::Deliver {
-            to: End::Slave,
-            back: 2,
-        },
-        53 => Event::Deliver {
-            to: End::Master,
-            back: 2,
-        },
-        54 => altered_to(End::Slave, word),
-        55 => altered_to(End::Master, word),
-        56 | 57 => put_at(End::Master, word),
-        58 | 59 => put_at(End::Slave, word),
-        60 => hold_at(End::Master, word),
-        61 => hold_at(End::Slave, word),
-        62 => Event::Nonce {
-            at: End::Master,
-            id: word >> 16,
-        },
-        _ => reset_by(word),
+        0..=21 => deliver(End::Slave, 1, out),
+        22..=43 => deliver(End::Master, 1, out),
+        44..=47 => *out = Event::Tick { at: End::Master },
+        48..=51 => *out = Event::Tick { at: End::Slave },
+        52 => deliver(End::Slave, 2, out),
+        53 => deliver(End::Master, 2, out),
+        54 => *out = altered_to(End::Slave, word),
+        55 => *out = altered_to(End::Master, word),
+        56 | 57 => *out = put_at(End::Master, word),
+        58 | 59 => *out = put_at(End::Slave, word),
+        60 => *out = hold_at(End::Master, word),
+        61 => *out = hold_at(End::Slave, word),
+        62 => {
+            *out = Event::Nonce {
+                at: End::Master,
+                id: word >> 16,
+            }
+        }
+        _ => *out = reset_by(word),
     }
 }
 

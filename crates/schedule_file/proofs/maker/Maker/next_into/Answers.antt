@@ -1,7 +1,7 @@
 use Rattle.std.proofs.Common.{◌≡◌, ap, ◌∙◌, refl}
 use Rattle.std.specs.Prelude.{Some}
 use Rattle.schedule_file.proofs.Making.{first_in_turn, by_word}
-use Rattle.schedule_file.proofs.maker.Maker.next.Goals as goal
+use Rattle.schedule_file.proofs.maker.Maker.next_into.Goals as goal
 
 pub returns-in-Some-eq0-clause-makes : goal.returns-in-Some-eq0-clause-makes
 returns-in-Some-eq0-clause-makes c =
