@@ -4,5 +4,6 @@ pub mod Taken
 pub mod Passing
 pub mod Reading
 pub mod Newline
+pub mod Raised
 pub mod Shelves
 pub mod Loading

@@ -11,6 +11,7 @@ mod line_text;
 mod memory_desk;
 mod memory_sink;
 mod memory_source;
+mod numeral;
 mod output;
 mod planned;
 mod put;

@@ -3,7 +3,7 @@ ghost use Rattle.std.specs.Prelude.{◌≡◌, ◌+◌, ◌*◌, ◌≤◌, List
 ghost use Rattle.hex.specs.Hex.{encode_lower};
 
 use crate::hex_text::write_hex;
-use itoa::Buffer;
+use crate::numeral::Numeral;
 use std::marker::Model;
 
 /// A line of text as it is made, of at most 1,024 bytes. It is seen as its bytes.
@@ -11,6 +11,8 @@ use std::marker::Model;
 pub struct LineText {
     bytes: [u8; 1024],
     len: usize,
+    /// The number that was appended last.
+    number: Numeral,
 }
 
 impl Model for LineText {
@@ -31,6 +33,7 @@ impl LineText {
         LineText {
             bytes: [0; 1024],
             len: 0,
+            number: Numeral::zero(),
         }
     }
 
@@ -72,8 +75,11 @@ impl LineText {
         ensures text { self.new ≡ self.old ++ decimal n }
         ensures most { length self.new ≤ length self.old + 20 }
     {
-        let mut buffer = Buffer::new();
-        self.push(buffer.format(n).as_bytes());
+        self.number.set(n);
+        let (digits, count) = self.number.digits();
+        // A copy of a fixed length is made of few instructions.
+        self.bytes[self.len..self.len + 20].copy_from_slice(digits);
+        self.len += count;
     }
 
     /// Appends bytes as lower-case hexadecimal digits, two a byte.
