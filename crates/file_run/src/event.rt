@@ -5,11 +5,11 @@ ghost use Rattle.fsoe_io.specs.Line.{IsLine};
 ghost use Rattle.file_run.specs.Event.{FindsEvent, FitsGrammar, IsWithin, says, says_after, what_says};
 ghost use Rattle.file_run.specs.Halt.{Blames, Goes, Stalls};
 
+use crate::refusal::Refusal;
 use crate::halt::Halt;
 use crate::line::next_line;
-use crate::refusal::Refusal;
 use fsoe_base::Lengths;
-use fsoe_io::{Line, LineReader, Source};
+use fsoe_io::{LineReader, Source};
 use param_load::Profiles;
 use schedule_file::{
     HeaderKind, LineCause, MAX_EVENTS, ScheduleLine, profile_of, read_event_into,
@@ -41,21 +41,21 @@ fn read_by(line: &[u8], grammar: &Grammar, said: &mut ScheduleLine) -> Result<()
 
 /// What a line says that stands after so many events, written over `said`, or why it is refused.
 fn read_after(
-    line: &Line,
+    line: &[u8],
     events: u64,
     grammar: &Grammar,
     said: &mut ScheduleLine,
 ) -> Result<(), Refusal>
-    ensures says { what_says result said.new ≡ says_after grammar.now events line.now.bytes }
+    ensures says { what_says result said.new ≡ says_after grammar.now events line.now }
     ensures fits { OnOk result (FitsGrammar grammar.now said.new) }
     ensures few { OnOk result (IsWithin events said.new) }
 {
     if events < MAX_EVENTS {
-        match read_by(line.bytes(), grammar, said) {
+        match read_by(line, grammar, said) {
             Ok(()) => Ok(()),
             Err(cause) => Err(Refusal::Line(cause)),
         }
-    } else if line.bytes() == b"end".as_slice() {
+    } else if line == b"end".as_slice() {
         *said = ScheduleLine::End;
         Ok(())
     } else {
@@ -63,11 +63,10 @@ fn read_after(
     }
 }
 
-/// What the next line says, after so many events. The line is written to `line`, and what it says to `said`.
+/// What the next line says, after so many events, written over `said`.
 pub(crate) fn next_event<S: Source>(
     reader: &mut LineReader,
     source: &mut S,
-    line: &mut Line,
     events: u64,
     grammar: &Grammar,
     said: &mut ScheduleLine,
@@ -86,10 +85,10 @@ pub(crate) fn next_event<S: Source>(
     ensures later { S.faults source.old ≤ S.faults source.new }
     ensures cause { Blames result (S.faults source.old) (S.faults source.new) }
 {
-    match next_line(reader, source, line) {
-        Ok(()) => match read_after(line, events, grammar, said) {
+    match next_line(reader, source) {
+        Ok(()) => match read_after(reader.line(), events, grammar, said) {
             Ok(()) => Ok(()),
-            Err(cause) => Err(Halt::Refused(line.number(), cause)),
+            Err(cause) => Err(Halt::Refused(reader.lines(), cause)),
         },
         Err(why) => Err(why),
     }

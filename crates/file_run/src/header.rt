@@ -8,17 +8,16 @@ ghost use Rattle.file_run.specs.Halt.{Blames, Goes, Stalls};
 ghost use Rattle.file_run.specs.Header.{FindsHeading, ReadsHeader};
 ghost use Rattle.file_run.specs.WholeLines.{TookLines};
 
+use crate::refusal::Refusal;
 use crate::halt::Halt;
 use crate::line::next_line;
-use crate::refusal::Refusal;
-use fsoe_io::{Line, LineReader, Source};
+use fsoe_io::{LineReader, Source};
 use schedule_file::{Header, HeaderKind};
 
 /// Reads the next line of the header: whether it is the last.
 fn next_header_line<S: Source>(
     reader: &mut LineReader,
     source: &mut S,
-    line: &mut Line,
     header: &mut Header,
 ) -> Result<bool, Halt>
     requires { reader.old.lines < 2 ^ 64 - 1 }
@@ -35,10 +34,10 @@ fn next_header_line<S: Source>(
     ensures later { S.faults source.old ≤ S.faults source.new }
     ensures cause { Blames result (S.faults source.old) (S.faults source.new) }
 {
-    match next_line(reader, source, line) {
-        Ok(()) => match header.line(line.bytes()) {
+    match next_line(reader, source) {
+        Ok(()) => match header.line(reader.line()) {
             Ok(done) => Ok(done),
-            Err(cause) => Err(Halt::Refused(line.number(), Refusal::Line(cause))),
+            Err(cause) => Err(Halt::Refused(reader.lines(), Refusal::Line(cause))),
         },
         Err(why) => Err(why),
     }
@@ -67,9 +66,8 @@ pub(crate) fn read_header<S: Source>(
     ensures cause { Blames result (S.faults source.old) (S.faults source.new) }
 {
     let mut header = Header::new(kind);
-    let mut line = Line::new();
     loop {
-        match next_header_line(reader, source, &mut line, &mut header) {
+        match next_header_line(reader, source, &mut header) {
             Ok(true) => return Ok(header),
             Ok(false) => {}
             Err(why) => return Err(why),

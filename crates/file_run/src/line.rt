@@ -1,25 +1,20 @@
 //! The next line of an input.
 ghost use Rattle.std.specs.Io.KnownBytes.{prepend_known};
-ghost use Rattle.std.specs.Prelude.{◌≡◌, ◌-◌, ◌^◌, ◌≤◌, ◌<◌, OnOk};
+ghost use Rattle.std.specs.Prelude.{◌≡◌, ◌-◌, ◌^◌, ◌≤◌, ◌<◌};
 ghost use Rattle.fsoe_io.specs.Line.{IsLine};
 ghost use Rattle.file_run.specs.Halt.{Blames, Goes, Stalls};
 ghost use Rattle.file_run.specs.NextLine.{FindsLine};
 
-use crate::halt::{Halt, halt_of};
 use crate::refusal::Refusal;
-use fsoe_io::{Line, LineReader, Source};
+use crate::halt::{Halt, halt_of};
+use fsoe_io::{LineReader, Source};
 
-/// Writes the next line to `line`, or tells why there is none.
-pub(crate) fn next_line<S: Source>(
-    reader: &mut LineReader,
-    source: &mut S,
-    line: &mut Line,
-) -> Result<(), Halt>
+/// Takes the next line, which the reader lends then, or tells why there is none.
+pub(crate) fn next_line<S: Source>(reader: &mut LineReader, source: &mut S) -> Result<(), Halt>
     requires { reader.old.lines < 2 ^ 64 - 1 }
-    ensures finds { FindsLine result line.new.bytes
+    ensures finds { FindsLine result reader.new.line
         (prepend_known reader.old.bytes (S.left source.old))
         (prepend_known reader.new.bytes (S.left source.new)) }
-    ensures number { OnOk result (line.new.number ≡ reader.new.lines) }
     ensures goes { Goes result reader.old.lines reader.new.lines
         (prepend_known reader.old.bytes (S.left source.old))
         (prepend_known reader.new.bytes (S.left source.new)) }
@@ -29,7 +24,7 @@ pub(crate) fn next_line<S: Source>(
     ensures cause { Blames result (S.faults source.old) (S.faults source.new) }
 {
     let before = reader.lines();
-    match reader.next_into(source, line) {
+    match reader.advance(source) {
         Ok(true) => Ok(()),
         Ok(false) => Err(Halt::Refused(before + 1, Refusal::NoLine)),
         Err(fault) => Err(halt_of(fault, before)),

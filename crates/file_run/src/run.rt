@@ -7,7 +7,7 @@ use crate::header::read_header;
 use crate::machine::{Machine, NotSent};
 use crate::refusal::Refusal;
 use crate::stop::{close, halt, send_before_read, write_failed};
-use fsoe_io::{Ended, Line, LineReader, LineText, Output, Sink, Source};
+use fsoe_io::{Ended, LineReader, LineText, Output, Sink, Source};
 use schedule_file::ScheduleLine;
 
 /// Runs a machine over an input: reads its header, then an event a line up to `end`, and writes what the machine reports. Where a line
@@ -30,7 +30,6 @@ pub fn run_over<M: Machine, S: Source, K: Sink>(source: &mut S, sink: &mut K) ->
         Err(why) => return halt(&mut output, sink, why),
     };
     let grammar = machine.grammar();
-    let mut line = Line::new();
     let mut said = ScheduleLine::End;
     let mut text = LineText::new();
     let mut events = 0;
@@ -38,7 +37,7 @@ pub fn run_over<M: Machine, S: Source, K: Sink>(source: &mut S, sink: &mut K) ->
         if let Err(_) = send_before_read(&reader, &mut output, sink) {
             return write_failed(&output);
         }
-        if let Err(why) = next_event(&mut reader, source, &mut line, events, &grammar, &mut said) {
+        if let Err(why) = next_event(&mut reader, source, events, &grammar, &mut said) {
             return halt(&mut output, sink, why);
         }
         match &said {

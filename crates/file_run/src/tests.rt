@@ -3,7 +3,7 @@ use crate::halt::Halt;
 use crate::header::read_header;
 use crate::report::{write_events, write_refusal};
 use fsoe_base::Lengths;
-use fsoe_io::{Line, LineReader, LineText, SureSource};
+use fsoe_io::{LineReader, LineText, SureSource};
 use param_load::{Profile, Profiles};
 use schedule_file::{HeaderKind, ScheduleLine};
 use std::test::Fail;
@@ -39,9 +39,8 @@ fn stop_after_header(rt: &HostRuntime, after: &str, text: &mut LineText) -> Resu
     read_header(HeaderKind::Pair, &mut reader, &mut source)
         .ok()
         .ok_or("header")?;
-    let mut line = Line::new();
     let mut said = ScheduleLine::End;
-    match next_event(&mut reader, &mut source, &mut line, 0, &grammar, &mut said) {
+    match next_event(&mut reader, &mut source, 0, &grammar, &mut said) {
         Ok(()) => match said {
             ScheduleLine::Step(_) => text.clear(),
             ScheduleLine::End => write_events(0, text),

@@ -4,7 +4,7 @@ use Rattle.std.specs.Io.KnownBytes.{Consumes, IsAtEnd, Keeps}
 use Rattle.std.specs.declared.result.Result.{Result}
 use Rattle.std.specs.declared.option.Option.{Option}
 use Rattle.fsoe_io.specs.Faults.{Rose}
-use Rattle.fsoe_io.specs.Line.{Numbered, IsLine, HasNoNewline}
+use Rattle.fsoe_io.specs.Line.{Held, Numbered, IsLine, HasNoNewline}
 use Rattle.fsoe_io.specs.declared.line.LineFault.{LineFault}
 use Rattle.fsoe_io.specs.declared.line.LineFault.TheVariants.{Read, Long, NoNewline}
 use Rattle.fsoe_io.specs.declared.line_reader.Front as front
@@ -31,6 +31,10 @@ abbrev pub given : Result Bool LineFault → Numbered → Result (Option Numbere
 given (Ok true) line = Ok (Some line)
 given (Ok false) line = Ok None
 given (Err fault) line = Err fault
+
+-- the line that a reader gave last, and its number
+abbrev pub last_line : Held → Numbered
+last_line reader = record { number = reader.lines; bytes = reader.line }
 
 -- where a read failed, what is held is no whole line
 abbrev pub Stalls : Result (Option Numbered) LineFault → List ℕ → Type 0

@@ -3,7 +3,7 @@ ghost use Rattle.std.specs.Prelude.{◌≡◌, ◌+◌, ◌-◌, ◌^◌, ◌≤
 ghost use Rattle.std.specs.Io.KnownBytes.{prepend_known};
 ghost use Rattle.fsoe_io.specs.Faults.{HasCause};
 ghost use Rattle.fsoe_io.specs.Line.{IsLine};
-ghost use Rattle.fsoe_io.specs.LineReader.{Reads, given, BeginsAs, Finds, Fills, Counts, Blames, Stalls};
+ghost use Rattle.fsoe_io.specs.LineReader.{Reads, given, last_line, BeginsAs, Finds, Fills, Counts, Blames, Stalls};
 
 use crate::line::{Line, LineFault};
 use crate::source::{Failed, Source};
@@ -42,13 +42,16 @@ fn begins(bytes: &[u8]) -> Front
 }
 
 /// Lines from a source, which is read in large pieces. It is seen as the bytes that it holds, which were read and
-/// stand in no line yet, and the number of lines that it gave.
+/// stand in no line yet, the number of lines that it gave, and the last of these.
 #[derive(Drop)]
 pub struct LineReader {
     buffer: [u8; 4096],
     start: usize,
     end: usize,
     lines: u64,
+    /// Where the last line begins, which stays in the buffer until the next one is asked for, and where it ends.
+    line_start: usize,
+    line_end: usize,
     /// How what is held begins: a newline is sought once.
     front: Front,
 }
@@ -60,9 +63,9 @@ impl Model for LineReader {
 
     ghost Value = { Held };
 
-    ghost view = { λ r. record { bytes = take (r.end - r.start) (drop r.start r.buffer); lines = r.lines } };
+    ghost view = { λ r. record { bytes = take (r.end - r.start) (drop r.start r.buffer); lines = r.lines; line = take (r.line_end - r.line_start) (drop r.line_start r.buffer) } };
 
-    ghost invariant = { λ r. (r.start ≤ r.end) × (r.end ≤ 4096) × BeginsAs r.front (take (r.end - r.start) (drop r.start r.buffer)) };
+    ghost invariant = { λ r. (r.start ≤ r.end) × (r.end ≤ 4096) × (r.line_start ≤ r.line_end) × (r.line_end ≤ 4096) × BeginsAs r.front (take (r.end - r.start) (drop r.start r.buffer)) };
 }
 
 impl LineReader {
@@ -70,12 +73,15 @@ impl LineReader {
     pub fn new() -> LineReader
         ensures bytes { result.bytes ≡ [] }
         ensures lines { result.lines ≡ 0 }
+        ensures line { result.line ≡ [] }
     {
         LineReader {
             buffer: [0; 4096],
             start: 0,
             end: 0,
             lines: 0,
+            line_start: 0,
+            line_end: 0,
             front: Front::Open,
         }
     }
@@ -85,6 +91,13 @@ impl LineReader {
         ensures { result ≡ self.now.lines }
     {
         self.lines
+    }
+
+    /// The line that it gave last, without its newline, after `advance` answered true.
+    pub fn line(&self) -> &[u8]
+        ensures { result.now ≡ self.now.line }
+    {
+        &self.buffer[self.line_start..self.line_end]
     }
 
     fn held(&self) -> &[u8]
@@ -111,17 +124,16 @@ impl LineReader {
         }
     }
 
-    /// Takes a line of this length, and its newline, from what is held, and writes it to `line`.
-    fn take_line(&mut self, len: usize, line: &mut Line)
-        requires most { len ≤ 640 }
+    /// Takes a line of this length, and its newline, from what is held.
+    fn take_line(&mut self, len: usize)
         requires held { len < length self.old.bytes }
         requires lines { self.old.lines < 2 ^ 64 - 1 }
-        ensures line { line.new.bytes ≡ take len self.old.bytes }
-        ensures number { line.new.number ≡ self.old.lines + 1 }
+        ensures line { self.new.line ≡ take len self.old.bytes }
         ensures held { self.new.bytes ≡ drop (len + 1) self.old.bytes }
         ensures lines { self.new.lines ≡ self.old.lines + 1 }
     {
-        line.set(self.lines + 1, &self.buffer[self.start..self.start + len]);
+        self.line_start = self.start;
+        self.line_end = self.start + len;
         self.start += len + 1;
         self.lines += 1;
         self.front = begins(&self.buffer[self.start..self.end]);
@@ -144,8 +156,39 @@ impl LineReader {
         Ok(count)
     }
 
-    /// The next line of what is held and of the source, written over `line`. False exactly at the end of the input
-    /// where a line would begin. It may be called until it gives a fault, for at most 2^64 - 1 lines.
+    /// Takes the next line of what is held and of the source, which `line` lends then. False exactly at the end of the
+    /// input where a line would begin. It may be called until it gives a fault, for at most 2^64 - 1 lines.
+    pub fn advance<S: Source>(&mut self, source: &mut S) -> Result<bool, LineFault>
+        requires { self.old.lines < 2 ^ 64 - 1 }
+        ensures bytes { Reads (given result (last_line self.new))
+            (prepend_known self.old.bytes (S.left source.old))
+            (prepend_known self.new.bytes (S.left source.new)) }
+        ensures lines { Counts (given result (last_line self.new)) self.old.lines self.new.lines }
+        ensures stalls { Stalls (given result (last_line self.new)) self.new.bytes }
+        // The source is read only where more bytes have to come.
+        ensures unread { ¬ IsLine self.old.bytes → source.new ≡ source.old }
+        ensures later { S.faults source.old ≤ S.faults source.new }
+        ensures cause { Blames (given result (last_line self.new)) (S.faults source.old) (S.faults source.new) }
+    {
+        loop {
+            match self.front() {
+                Front::Line(len) => {
+                    self.take_line(len);
+                    return Ok(true);
+                }
+                Front::Long => return Err(LineFault::Long),
+                Front::Open => {}
+            }
+            match self.fill(source) {
+                Ok(0) if self.held().is_empty() => return Ok(false),
+                Ok(0) => return Err(LineFault::NoNewline),
+                Ok(_) => {}
+                Err(_) => return Err(LineFault::Read),
+            }
+        }
+    }
+
+    /// The same, with the line written over `line`.
     pub fn next_into<S: Source>(
         &mut self,
         source: &mut S,
@@ -162,21 +205,12 @@ impl LineReader {
         ensures later { S.faults source.old ≤ S.faults source.new }
         ensures cause { Blames (given result line.new) (S.faults source.old) (S.faults source.new) }
     {
-        loop {
-            match self.front() {
-                Front::Line(len) => {
-                    self.take_line(len, line);
-                    return Ok(true);
-                }
-                Front::Long => return Err(LineFault::Long),
-                Front::Open => {}
+        match self.advance(source) {
+            Ok(true) => {
+                line.set(self.lines(), self.line());
+                Ok(true)
             }
-            match self.fill(source) {
-                Ok(0) if self.held().is_empty() => return Ok(false),
-                Ok(0) => return Err(LineFault::NoNewline),
-                Ok(_) => {}
-                Err(_) => return Err(LineFault::Read),
-            }
+            answer => answer,
         }
     }
 

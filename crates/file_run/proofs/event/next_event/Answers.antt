@@ -5,7 +5,7 @@ use Rattle.file_run.proofs.event.next_event.Goals as goal
 pub returns-in-Err-read_after-clause-finds : goal.returns-in-Err-read_after-clause-finds
 returns-in-Err-read_after-clause-finds g c =
     let line = c.in-Ok.ensures.finds in
-    refused_event_line c.args.grammar.now c.args.events _ _ c.next_line.new.line.bytes c.in-Err-read_after.cause line.0 line.1 (sym c.in-Err-read_after.ensures.says)
+    refused_event_line c.args.grammar.now c.args.events _ _ c.next_line.new.reader.line c.in-Err-read_after.cause line.0 line.1 (sym (rw c.line.ensures at c.in-Err-read_after.ensures.says))
 
 pub returns-in-Err-clause-finds : goal.returns-in-Err-clause-finds
 returns-in-Err-clause-finds g c =

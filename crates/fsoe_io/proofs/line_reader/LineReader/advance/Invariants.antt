@@ -1,7 +1,7 @@
 use Rattle.std.proofs.Common.{◌≡◌, ◌≤◌, ◌-◌, length, []}
 use Rattle.std.specs.Io.KnownBytes.{Consumes, prepend_known}
 use Rattle.fsoe_io.specs.Line.{IsLine}
-use Rattle.fsoe_io.proofs.line_reader.LineReader.next_into.Given as goal
+use Rattle.fsoe_io.proofs.line_reader.LineReader.advance.Given as goal
 
 abbrev pub invariant-loop-len : goal.invariant-loop-len
 invariant-loop-len g l =
