@@ -2,7 +2,7 @@
 #![tactic(auto)]
 
 ghost use Rattle.std.specs.Prelude.{◌≡◌, ◌+◌, ◌*◌, ◌≤◌, ◌++◌, length, codes};
-ghost use Rattle.fsoe_base.specs.Command.{command_name};
+ghost use Rattle.fsoe_base.specs.Command.{command_name, state_name};
 ghost use Rattle.entry_text.specs.EntryText.{code_text, cause_text, dropped_text, did_text, sent_text, entry_text};
 
 use fsoe_base::{Cause, Code, Command, Did, Dropped, MOST_DATA, MOST_FRAME, State};
@@ -50,8 +50,14 @@ fn push_took(command: Command, text: &mut LineText)
     ensures text { text.new ≡ text.old ++ (codes "took " ++ command_name command) }
     ensures most { length text.new ≤ length text.old + 20 }
 {
-    text.push(b"took ");
-    text.push_str(command.name());
+    match command {
+        Command::Reset => text.push(b"took Reset"),
+        Command::Session => text.push(b"took Session"),
+        Command::Connection => text.push(b"took Connection"),
+        Command::Parameter => text.push(b"took Parameter"),
+        Command::FailSafeData => text.push(b"took FailSafeData"),
+        Command::ProcessData => text.push(b"took ProcessData"),
+    }
 }
 
 fn push_did(did: &Did, text: &mut LineText)
@@ -69,6 +75,22 @@ fn push_did(did: &Did, text: &mut LineText)
         text.push(b"again");
     } else {
         text.push(b"quiet");
+    }
+}
+
+/// Appends the name of a state between two spaces. Each is a piece by itself, as `push_took`'s are, since a copy whose length is known is
+/// made of few instructions.
+fn push_state(state: State, text: &mut LineText)
+    requires { length text.old ≤ 100 }
+    ensures text { text.new ≡ text.old ++ (codes " " ++ state_name state ++ codes " ") }
+    ensures most { length text.new ≤ length text.old + 12 }
+{
+    match state {
+        State::Reset => text.push(b" Reset "),
+        State::Session => text.push(b" Session "),
+        State::Connection => text.push(b" Connection "),
+        State::Parameter => text.push(b" Parameter "),
+        State::Data => text.push(b" Data "),
     }
 }
 
@@ -95,9 +117,7 @@ pub fn push_entry(did: &Did, state: State, outputs: &[u8], sent: &[u8], text: &m
     ensures most { length text.new ≤ length text.old + 900 }
 {
     push_did(did, text);
-    text.push(b" ");
-    text.push_str(state.name());
-    text.push(b" ");
+    push_state(state, text);
     text.push_hex(outputs);
     push_sent(sent, text);
 }
