@@ -102,13 +102,19 @@ pub fn read_altered(
     Ok(())
 }
 
-/// No field: a tick.
+/// No field: a tick. It's written over a tick alone where `says` has one: to write an event of another kind blanks a frame's room.
 pub fn read_tick(at: End, fields: Option<&[u8]>, says: &mut ScheduleLine) -> Result<(), LineCause>
     ensures value { Becomes result says.new (bare_line (ScheduleLine.Step (Event.Tick at)) (fields_after fields.entry)) }
     ensures unwritten { OnErr result (says.new ≡ says.old) }
 {
     no_field(fields)?;
-    *says = ScheduleLine::Step(Event::Tick { at });
+    match says {
+        ScheduleLine::Step(event) => match event {
+            Event::Tick { at: end } => *end = at,
+            _ => *event = Event::Tick { at },
+        },
+        ScheduleLine::End => *says = ScheduleLine::Step(Event::Tick { at }),
+    }
     Ok(())
 }
 
