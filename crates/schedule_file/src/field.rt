@@ -1,19 +1,31 @@
 //! The fields of a line, and what one field says.
 ghost use Rattle.std.specs.Prelude.{◌≡◌, ◌≤◌, ◌<◌, ◌∷◌, length, IfSome, IfOk, OnOk, OnErr};
+ghost use Rattle.memchr.specs.Find.{IsFirstByte, is_byte};
 ghost use Rattle.schedule_file.specs.Fields.{next_field, no_field, one_field, number_16, number_32, one_hex_field, not_hex, IsField, AreFields, Becomes};
 ghost use Rattle.schedule_file.specs.Field.{CountsBytes, fields_of, fields_after, number_said, bytes_said};
 
 use crate::hex_digits::{are_digits, decode};
 use crate::line_cause::LineCause;
 use fsoe_base::{FrameBuf, MOST_FRAME};
-use memchr::memchr;
 use std::marker::Model;
+
+/// Where the first space stands. Fields that are cut are short, so it's sought byte by byte.
+fn space(text: &[u8]) -> Option<usize>
+    ensures { IsFirstByte (is_byte 32) text.now result }
+{
+    for at in 0..text.len() {
+        if text[at] == b' ' {
+            return Some(at);
+        }
+    }
+    None
+}
 
 /// The first field, and what follows the space after it.
 pub fn cut(text: &[u8]) -> (&[u8], Option<&[u8]>)
     ensures { fields_of text.now ≡ result.0.now ∷ fields_after result.1 }
 {
-    match memchr(b' ', text) {
+    match space(text) {
         Some(at) => (&text[..at], Some(&text[at + 1..])),
         None => (text, None),
     }
