@@ -1,8 +1,11 @@
 -- Each transition of a typed state goes on as looking back says.
-use Rattle.std.proofs.Common.{◌≡◌, ℕ, List, ◌∷◌, Bool, true, false, IsTrue, Result, Ok, Err, IfOk, IfErr, MatchResult, IsOkAnd, OnOk, OnErr, if◌then◌else◌, refl, sym, ap, subst, ◌∙◌}
+use Rattle.std.proofs.Common.{◌≡◌, ℕ, List, ◌∷◌, Bool, true, false, IsTrue, Result, Ok, Err, IfOk, IfErr, OnOk, OnErr, if◌then◌else◌, refl, sym, ap, subst, ◌∙◌}
 use Rattle.fsoe_base.specs.declared.command.Code.{Code}
 use Rattle.fsoe_base.specs.declared.command.State.{State}
 use Rattle.fsoe_base.specs.declared.command.State.TheVariants as state
+use Rattle.fsoe_base.specs.declared.did.Cause.TheVariants as cause
+use Rattle.fsoe_base.specs.declared.did.Dropped.TheVariants as dropped
+use Rattle.failsafe_io.specs.Timer.{Timer}
 use Rattle.seq_chain.specs.Opened.{opened}
 use Rattle.seq_chain.specs.SessionFrame.{SessionFrameView}
 use Rattle.param_load.specs.declared.entry.Move.TheVariants as move
@@ -23,8 +26,8 @@ use Rattle.slave_core.specs.declared.states.InData.{InData}
 use Rattle.slave_core.specs.After.{after}
 use Rattle.slave_core.specs.GoesOn.{Meets, IsTaken, IsRefused, GoesOn}
 use Rattle.slave_core.specs.Kit.{KitView}
-use Rattle.slave_core.specs.Now.{kept_in, fault}
-use Rattle.slave_core.specs.Slave.{Outcome, settles, refuses, on_session, on_opened}
+use Rattle.slave_core.specs.Now.{is_reset, kept_in, fault}
+use Rattle.slave_core.specs.Slave.{Outcome, drops, falls, settles, refuses, on_session, on_opened}
 use Rattle.slave_core.specs.SlaveView.{SlaveView}
 use Rattle.slave_core.specs.States as states
 use Rattle.slave_core.specs.Taken.{as_now, next_state, reply}
@@ -176,8 +179,80 @@ pub data_refused : (s : InData) (kit : KitView) (f : SessionFrameView) (reset : 
     → GoesOn (now.Data s) kit f (Err (reset, x)) before sent
 data_refused s kit f reset x before sent i u = goes-by (now.Data s) kit f (Err (reset, x)) (reply kit (now.Data s) f) before sent (ap (as_now now.Data) i) refl (record { written = tt; unwritten = u })
 
--- a result that was mapped to one of the machine's states
-pub mapped : {S : Type 0} (g : S → Now) (r : Result S (InReset × Code)) (w : Result Now (InReset × Code)) → MatchResult r (λ s. IsOkAnd w (λ n. n ≡ g s)) (λ e. w ≡ Err e) → w ≡ as_now g r
-mapped g (Ok s) (Ok n) h = ap (λ (n : Now). Ok n) h
-mapped g (Ok s) (Err x) h = absurd h
-mapped g (Err x) w h = h
+pub session_taken : (s : InSession) (kit : KitView) (f : SessionFrameView) (next : InSession) (before sent : List ℕ) → is_whole s.upload ≡ false
+    → Ok next ≡ states.session_next kit s f → sent ≡ states.session_reply kit s f
+    → GoesOn (now.Session s) kit f (Ok (now.Session next)) before sent
+session_taken s kit f next before sent h i w = session_goes s kit f (Ok next) before sent h i w tt
+
+pub session_refused : (s : InSession) (kit : KitView) (f : SessionFrameView) (reset : InReset) (x : Code) (before sent : List ℕ) → is_whole s.upload ≡ false
+    → Err (reset, x) ≡ states.session_next kit s f → sent ≡ before
+    → GoesOn (now.Session s) kit f (Err (reset, x)) before sent
+session_refused s kit f reset x before sent h i u = session_goes s kit f (Err (reset, x)) before sent h i tt u
+
+pub connection_taken : (s : InConnection) (kit : KitView) (f : SessionFrameView) (next : InConnection) (before sent : List ℕ) → is_whole s.upload ≡ false
+    → Ok next ≡ states.connection_next kit s f → sent ≡ states.connection_reply kit s f
+    → GoesOn (now.Connection s) kit f (Ok (now.Connection next)) before sent
+connection_taken s kit f next before sent h i w = connection_goes s kit f (Ok next) before sent h i w tt
+
+pub connection_refused : (s : InConnection) (kit : KitView) (f : SessionFrameView) (reset : InReset) (x : Code) (before sent : List ℕ) → is_whole s.upload ≡ false
+    → Err (reset, x) ≡ states.connection_next kit s f → sent ≡ before
+    → GoesOn (now.Connection s) kit f (Err (reset, x)) before sent
+connection_refused s kit f reset x before sent h i u = connection_goes s kit f (Err (reset, x)) before sent h i tt u
+
+pub parameter_taken : (s : InParameter) (kit : KitView) (f : SessionFrameView) (next : InParameter) (before sent : List ℕ) → is_whole s.upload ≡ false
+    → Ok next ≡ states.parameter_next kit s f → sent ≡ states.parameter_reply kit s f
+    → GoesOn (now.Parameter s) kit f (Ok (now.Parameter next)) before sent
+parameter_taken s kit f next before sent h i w = parameter_goes s kit f (Ok next) before sent h i w tt
+
+pub parameter_refused : (s : InParameter) (kit : KitView) (f : SessionFrameView) (reset : InReset) (x : Code) (before sent : List ℕ) → is_whole s.upload ≡ false
+    → Err (reset, x) ≡ states.parameter_next kit s f → sent ≡ before
+    → GoesOn (now.Parameter s) kit f (Err (reset, x)) before sent
+parameter_refused s kit f reset x before sent h i u = parameter_goes s kit f (Err (reset, x)) before sent h i tt u
+
+-- a state that went on in place, as one of the machine's
+placed : {S : Type 0} (g : S → Now) (r : Result (Unit {0}) Code) (next : S) → states.or_reset r (g next) ≡ as_now g (states.or_reset r next)
+placed g (Ok done) next = refl
+placed g (Err x) next = refl
+
+pub stays_in_session : (s : InSession) (kit : KitView) (f : SessionFrameView) (r : Result (Unit {0}) Code) (next : InSession) → is_whole s.upload ≡ false
+    → states.or_reset r next ≡ states.session_next kit s f → states.or_reset r (now.Session next) ≡ next_state kit (now.Session s) f
+stays_in_session s kit f r next h i = more-then (is_whole s.upload) _ _ _ h (placed now.Session r next ∙ ap (as_now now.Session) i)
+
+pub stays_in_connection : (s : InConnection) (kit : KitView) (f : SessionFrameView) (r : Result (Unit {0}) Code) (next : InConnection) → is_whole s.upload ≡ false
+    → states.or_reset r next ≡ states.connection_next kit s f → states.or_reset r (now.Connection next) ≡ next_state kit (now.Connection s) f
+stays_in_connection s kit f r next h i = more-then (is_whole s.upload) _ _ _ h (placed now.Connection r next ∙ ap (as_now now.Connection) i)
+
+pub stays_in_parameter : (s : InParameter) (kit : KitView) (f : SessionFrameView) (r : Result (Unit {0}) Code) (next : InParameter) → is_whole s.upload ≡ false
+    → states.or_reset r next ≡ states.parameter_next kit s f → states.or_reset r (now.Parameter next) ≡ next_state kit (now.Parameter s) f
+stays_in_parameter s kit f r next h i = more-then (is_whole s.upload) _ _ _ h (placed now.Parameter r next ∙ ap (as_now now.Parameter) i)
+
+pub stays_in_data : (s : InData) (kit : KitView) (f : SessionFrameView) (r : Result (Unit {0}) Code) (next : InData)
+    → states.or_reset r next ≡ states.data_next kit s f → states.or_reset r (now.Data next) ≡ next_state kit (now.Data s) f
+stays_in_data s kit f r next i = placed now.Data r next ∙ ap (as_now now.Data) i
+
+-- there is one state Reset
+one-reset : (p q : Now) → is_reset p ≡ true → is_reset q ≡ true → q ≡ p
+one-reset (now.Reset s) (now.Reset r) h i = refl
+one-reset (now.Reset s) (now.Session r) h i = absurd (cc i)
+one-reset (now.Reset s) (now.Connection r) h i = absurd (cc i)
+one-reset (now.Reset s) (now.Parameter r) h i = absurd (cc i)
+one-reset (now.Reset s) (now.Data r) h i = absurd (cc i)
+one-reset (now.Session s) q h i = absurd (cc h)
+one-reset (now.Connection s) q h i = absurd (cc h)
+one-reset (now.Parameter s) q h i = absurd (cc h)
+one-reset (now.Data s) q h i = absurd (cc h)
+
+same-slave : (w v : SlaveView) → w.kit ≡ v.kit → w.state ≡ v.state → w.timer ≡ v.timer → w ≡ v
+same-slave w v k s t =
+    ap (λ (kit : KitView). record w { kit = kit }) k
+    ∙ ap (λ (state : Now). record w { kit = v.kit; state = state }) s
+    ∙ ap (λ (timer : Timer). record { kit = v.kit; state = v.state; timer = timer }) t
+
+refused-by : (b : Bool) (v w : SlaveView) (x : Code) → is_reset v.state ≡ b → is_reset w.state ≡ b → w.kit ≡ v.kit → w.timer ≡ v.timer
+    → (if b then drops w true dropped.InReset else falls w true (cause.Found x) x) ≡ (if b then drops v true dropped.InReset else falls v true (cause.Found x) x)
+refused-by true v w x h i k t = ap (λ (v : SlaveView). drops v true dropped.InReset) (same-slave w v k (one-reset v.state w.state h i) t)
+refused-by false v w x h i k t = ap (λ (k : KitView). falls (record v { kit = k }) true (cause.Found x) x) k
+
+-- a slave that is only left refuses a frame as it did before: in state Reset it is as it was
+pub refused_alike : (v w : SlaveView) (x : Code) → w.kit ≡ v.kit → is_reset w.state ≡ is_reset v.state → w.timer ≡ v.timer → refuses w true x ≡ refuses v true x
+refused_alike v w x k i t = ap (λ (b : Bool). if b then drops w true dropped.InReset else falls w true (cause.Found x) x) i ∙ refused-by (is_reset v.state) v w x refl i k t

@@ -23,6 +23,7 @@ impl Now {
     ghost use Rattle.seq_chain.specs.Session.{HasPassed, is_repeat};
     ghost use Rattle.end_model.specs.Setup.{OfSlave, receives};
     ghost use Rattle.slave_core.specs.Now.{IsUnder, state_of, is_reset, session_of, chain_of, kept_in, allows, has_conn, limit_of, terms_shown_in, fault};
+    ghost use Rattle.slave_core.specs.States.{or_reset};
     ghost use Rattle.slave_core.specs.Taken.{next_state, reply};
 
     pub(crate) fn state(&self) -> State
@@ -137,45 +138,57 @@ impl Now {
         }
     }
 
-    /// Takes a frame that passed the tests in this state.
-    pub(crate) fn take(
-        self,
+    /// Takes a frame that passed the tests in this state, in place. It begins the next phase where the payload of this one is
+    /// whole. After a refusal state Reset is as it was, and another state is only left.
+    #[tactic(auto, using(crate::proofs::Transitions::stays_in_session, crate::proofs::Transitions::stays_in_connection, crate::proofs::Transitions::stays_in_parameter, crate::proofs::Transitions::stays_in_data))]
+    #[inline(never)]
+    pub(crate) fn go_on(
+        &mut self,
         seen: &Seen<'_>,
         kit: &Kit,
         out: &mut FrameBuf,
-    ) -> Result<Now, (InReset, Code)>
-        requires allowed { IsTrue (allows self seen.now.frame.command) }
-        requires under { IsUnder kit.now.settings self }
-        requires passed { HasPassed (receives (OfSlave kit.now.settings)) (chain_of self) seen.now.frame seen.now.link }
-        ensures next { result ≡ next_state kit.now self seen.now.frame }
-        ensures sent { OnOk result (out.new ≡ reply kit.now self seen.now.frame) }
+    ) -> Result<(), Code>
+        requires allowed { IsTrue (allows self.old seen.now.frame.command) }
+        requires under { IsUnder kit.now.settings self.old }
+        requires passed { HasPassed (receives (OfSlave kit.now.settings)) (chain_of self.old) seen.now.frame seen.now.link }
+        ensures next { or_reset result self.new ≡ next_state kit.now self.old seen.now.frame }
+        ensures sent { OnOk result (out.new ≡ reply kit.now self.old seen.now.frame) }
         ensures unwritten { OnErr result (out.new ≡ out.old) }
-        ensures under { IfOk result (λ now. IsUnder kit.now.settings now) }
+        ensures under { IsUnder kit.now.settings self.new }
+        ensures reset { OnErr result (is_reset self.new ≡ is_reset self.old) }
     {
         match self {
-            Now::Reset(state) => state.start(seen, kit, out).map(Now::Session),
+            Now::Reset(_) => {
+                let mut first = InSession::first(kit);
+                first.go_on(seen, kit, out)?;
+                *self = Now::Session(first);
+            }
             Now::Session(state) => {
-                if state.upload.is_whole() {
-                    state.connect(seen, kit, out).map(Now::Connection)
-                } else {
-                    state.more(seen, kit, out).map(Now::Session)
+                if !state.upload.is_whole() {
+                    return state.go_on(seen, kit, out);
                 }
+                let mut first = state.to_connection(seen.frame.conn(), kit);
+                first.go_on(seen, kit, out)?;
+                *self = Now::Connection(first);
             }
             Now::Connection(state) => {
-                if state.upload.is_whole() {
-                    state.load(seen, kit, out).map(Now::Parameter)
-                } else {
-                    state.more(seen, kit, out).map(Now::Connection)
+                if !state.upload.is_whole() {
+                    return state.go_on(seen, kit, out);
                 }
+                let mut first = state.to_parameter(kit);
+                first.go_on(seen, kit, out)?;
+                *self = Now::Parameter(first);
             }
             Now::Parameter(state) => {
-                if state.upload.is_whole() {
-                    state.run(seen, kit, out).map(Now::Data)
-                } else {
-                    state.more(seen, kit, out).map(Now::Parameter)
+                if !state.upload.is_whole() {
+                    return state.go_on(seen, kit, out);
                 }
+                let mut first = state.to_data(kit);
+                first.go_on(seen, kit, out)?;
+                *self = Now::Data(first);
             }
-            Now::Data(state) => state.more(seen, kit, out).map(Now::Data),
+            Now::Data(state) => return state.go_on(seen, kit, out),
         }
+        Ok(())
     }
 }

@@ -11,7 +11,6 @@ use fsoe_frame::FrameView;
 use param_load::{SlaveSettings, Terms};
 use seq_chain::{Opened, SessionFrame, open, reset_frame};
 use std::marker::Model;
-use std::mem;
 
 /// The slave of a connection. It has no clock and no line of its own: frames and ticks are handed in, and the
 /// frames that it sends are handed out.
@@ -33,11 +32,13 @@ impl Model for Slave {
 }
 
 impl Slave {
-    ghost use Rattle.std.specs.Prelude.{IsTrue, false, [], length, option_copied};
+    ghost use Rattle.std.specs.Prelude.{IsTrue, false, [], length, OnOk, OnErr, option_copied};
+    ghost use Rattle.failsafe_io.specs.Timer.{started};
+    ghost use Rattle.slave_core.specs.States.{or_reset};
     ghost use Rattle.seq_chain.specs.Session.{HasPassed};
     ghost use Rattle.param_load.specs.Profile.{allows_id};
-    ghost use Rattle.slave_core.specs.Now.{allows, chain_of, outputs_in};
-    ghost use Rattle.slave_core.specs.Slave.{fallen, falls, refuses, reset_by_peer, settles, on_frame, tick_of};
+    ghost use Rattle.slave_core.specs.Now.{is_reset, allows, chain_of, limit_of, outputs_in};
+    ghost use Rattle.slave_core.specs.Slave.{fallen, falls, refuses, reset_by_peer, on_frame, tick_of};
     ghost use Rattle.slave_core.specs.Taken.{next_state, reply};
     ghost use Rattle.param_load.specs.declared.entry.Move.TheVariants as event;
     ghost use Rattle.end_model.specs.Setup.{OfSlave, sends, receives};
@@ -74,24 +75,30 @@ impl Slave {
     fn forget(&mut self)
         ensures { self.new ≡ fallen self.old }
     {
-        self.state = Now::Reset(InReset::new());
+        if !self.state.is_reset() {
+            self.state = Now::Reset(InReset::new());
+        }
         let hand = self.kit.settings().hand();
         self.watchdog.restart(hand);
     }
 
-    /// A test of a frame up to the CRCs failed with this code: in state Reset the frame is dropped.
+    /// A test of a frame failed with this code: in state Reset the frame is dropped. `passed` says whether it was one of the
+    /// contents.
     #[cold]
     #[inline(never)]
-    fn refuse(&mut self, code: Code, out: &mut FrameBuf) -> Did
-        ensures slave { self.new ≡ (refuses self.old false code).slave }
-        ensures did { result ≡ (refuses self.old false code).did }
-        ensures sent { out.new ≡ (refuses self.old false code).sent }
+    fn refuse(&mut self, passed: bool, code: Code, out: &mut FrameBuf) -> Did
+        ensures slave { self.new ≡ (refuses self.old passed code).slave }
+        ensures did { result ≡ (refuses self.old passed code).did }
+        ensures sent { out.new ≡ (refuses self.old passed code).sent }
     {
         if self.state.is_reset() {
             out.clear();
-            return Did::dropped(Dropped::InReset);
+            return Did {
+                passed,
+                ..Did::dropped(Dropped::InReset)
+            };
         }
-        self.fall(false, Cause::Found(code), code, out)
+        self.fall(passed, Cause::Found(code), code, out)
     }
 
     /// A valid Reset frame came: in state Reset it is taken.
@@ -115,44 +122,31 @@ impl Slave {
         self.fall(false, Cause::Peer(code), Code::LOCAL_RESET, out)
     }
 
-    /// Takes a frame that passed the tests, unless its contents are wrong, by a move of the state, whose cost no data
-    /// frame after the first is to bear.
-    #[inline(never)]
-    fn take_by_move(&mut self, seen: &Seen<'_>, out: &mut FrameBuf) -> Did
+    /// Takes a frame that passed the tests, in place. After a refusal state Reset is as it was, and another state is only left.
+    fn go_on(&mut self, seen: &Seen<'_>, out: &mut FrameBuf) -> Result<(), Code>
         requires allowed { IsTrue (allows self.old.state seen.now.frame.command) }
         requires passed { HasPassed (receives (OfSlave self.old.kit.settings)) (chain_of self.old.state) seen.now.frame seen.now.link }
-        ensures slave { self.new ≡ (settles self.old seen.now.frame (reply self.old.kit self.old.state seen.now.frame) (next_state self.old.kit self.old.state seen.now.frame)).slave }
-        ensures did { result ≡ (settles self.old seen.now.frame (reply self.old.kit self.old.state seen.now.frame) (next_state self.old.kit self.old.state seen.now.frame)).did }
-        ensures sent { out.new ≡ (settles self.old seen.now.frame (reply self.old.kit self.old.state seen.now.frame) (next_state self.old.kit self.old.state seen.now.frame)).sent }
+        ensures next { or_reset result self.new.state ≡ next_state self.old.kit self.old.state seen.now.frame }
+        ensures sent { OnOk result (out.new ≡ reply self.old.kit self.old.state seen.now.frame) }
+        ensures restarted { OnOk result (self.new.timer ≡ started (limit_of self.old.kit.settings self.new.state)) }
+        ensures timer { OnErr result (self.new.timer ≡ self.old.timer) }
+        ensures reset { OnErr result (is_reset self.new.state ≡ is_reset self.old.state) }
         ensures kit { self.new.kit ≡ self.old.kit }
     {
-        let was_reset = self.state.is_reset();
-        let old = mem::replace(&mut self.state, Now::Reset(InReset::new()));
-        match old.take(seen, &self.kit, out) {
-            Ok(next) => {
-                let limit = next.limit(&self.kit);
-                self.state = next;
-                self.watchdog.restart(limit);
-                Did::took(seen.frame.command(), seen.frame.load(), true)
-            }
-            Err((reset, code)) => {
-                self.state = Now::Reset(reset);
-                let hand = self.kit.settings().hand();
-                self.watchdog.restart(hand);
-                if was_reset {
-                    out.clear();
-                    return Did {
-                        passed: true,
-                        ..Did::dropped(Dropped::InReset)
-                    };
-                }
-                self.fall(true, Cause::Found(code), code, out)
-            }
-        }
+        let Now::Data(state) = &mut self.state else {
+            self.state.go_on(seen, &self.kit, out)?;
+            let limit = self.state.limit(&self.kit);
+            self.watchdog.restart(limit);
+            return Ok(());
+        };
+        state.go_on(seen, &self.kit, out)?;
+        let limit = state.terms.watchdog;
+        self.watchdog.restart(limit);
+        Ok(())
     }
 
-    /// Tests a frame of the master, and takes it unless a test fails or its contents are wrong. A data frame goes on in
-    /// place.
+    /// Tests a frame of the master, and takes it unless a test fails or its contents are wrong.
+    #[tactic(auto, using(crate::proofs::Transitions::refused_alike))]
     #[inline(never)]
     fn receive(&mut self, frame: &[u8], out: &mut FrameBuf) -> Did
         ensures slave { self.new ≡ (on_frame self.old frame.now).slave }
@@ -167,7 +161,7 @@ impl Slave {
                 out.clear();
                 return Did::dropped(why);
             }
-            Opened::Refuse(code) => return self.refuse(code, out),
+            Opened::Refuse(code) => return self.refuse(false, code, out),
             Opened::ResetFrame(code, view) => return self.acknowledge(code, &view, out),
             Opened::OfSession(unread) => unread,
         };
@@ -178,20 +172,13 @@ impl Slave {
         unread.load_into(&mut took.load);
         let frame = SessionFrame::new(unread, &took.load);
         let link = match self.state.test(&frame) {
-            Err(code) => return self.refuse(code, out),
+            Err(code) => return self.refuse(false, code, out),
             Ok(link) => link,
         };
         let seen = Seen { frame, link };
-        let Now::Data(state) = &mut self.state else {
-            return self.take_by_move(&seen, out);
-        };
-        match state.go_on(&seen, &self.kit, out) {
-            Err(code) => return self.fall(true, Cause::Found(code), code, out),
-            Ok(()) => {
-                let limit = state.terms.watchdog;
-                self.watchdog.restart(limit);
-                return Did::taken(took, true);
-            }
+        match self.go_on(&seen, out) {
+            Err(code) => return self.refuse(true, code, out),
+            Ok(()) => return Did::taken(took, true),
         }
     }
 

@@ -5,7 +5,7 @@
 ghost use Rattle.std.specs.Prelude.{◌≡◌, IsTrue, IfOk, OnOk, OnErr, false};
 ghost use Rattle.param_load.specs.Upload.{is_whole};
 ghost use Rattle.seq_chain.specs.Chain.{fresh};
-ghost use Rattle.seq_chain.specs.Session.{HasPassed};
+ghost use Rattle.seq_chain.specs.Session.{HasPassed, first_session};
 ghost use Rattle.fsoe_base.specs.Data.{is_data};
 ghost use Rattle.slave_core.specs.declared.now.Now.TheVariants as now;
 ghost use Rattle.end_model.specs.Setup.{OfSlave, receives};
@@ -20,6 +20,7 @@ use failsafe_io::{Outputs, data_holds};
 use fsoe_base::{Code, Command, FrameBuf};
 use param_load::{Payload, Terms, Upload, padded};
 use seq_chain::Session;
+use std::mem;
 
 /// No session.
 #[derive(Debug, Drop)]
@@ -85,12 +86,7 @@ impl InReset {
         ensures goes_on { GoesOn (now.Reset self) kit.now seen.now.frame (as_now now.Session result) out.old out.new }
         ensures under { IfOk result (λ s. SessionUnder kit.now.settings s) }
     {
-        let first = InSession {
-            session: Session::new(),
-            id: kit.nonce(),
-            upload: Upload::session(kit.settings().piece_len(), kit.profile()),
-        };
-        first.go_on(seen, kit, out)
+        InSession::first(kit).more(seen, kit, out)
     }
 
     /// State Reset.
@@ -104,9 +100,9 @@ impl InReset {
 impl InSession {
     /// Goes on by a Session frame, as long as the master's session id isn't whole: it is answered with the piece of the
     /// slave's own session id that has the same number. Refused with 07h where the padding isn't zeros.
-    #[tactic(auto, using(crate::proofs::Transitions::session_goes))]
+    #[tactic(auto, using(crate::proofs::Transitions::session_taken, crate::proofs::Transitions::session_refused))]
     pub fn more(
-        self,
+        mut self,
         seen: &Seen<'_>,
         kit: &Kit,
         out: &mut FrameBuf,
@@ -121,7 +117,10 @@ impl InSession {
         ensures goes_on { GoesOn (now.Session self) kit.now seen.now.frame (as_now now.Session result) out.old out.new }
         ensures under { IfOk result (λ s. SessionUnder kit.now.settings s) }
     {
-        self.go_on(seen, kit, out)
+        match self.go_on(seen, kit, out) {
+            Ok(()) => Ok(self),
+            Err(code) => Err((self.into_reset(), code)),
+        }
     }
 
     /// Goes on by the first Connection frame, once the master's session id is whole. The connection id of the
@@ -129,7 +128,7 @@ impl InSession {
     /// 06h for another slave address, then with 07h where the padding isn't zeros.
     #[tactic(auto, using(crate::proofs::Transitions::connect_goes))]
     pub fn connect(
-        self,
+        mut self,
         seen: &Seen<'_>,
         kit: &Kit,
         out: &mut FrameBuf,
@@ -144,43 +143,63 @@ impl InSession {
         ensures goes_on { GoesOn (now.Session self) kit.now seen.now.frame (as_now now.Connection result) out.old out.new }
         ensures under { IfOk result (λ s. ConnectionUnder kit.now.settings s) }
     {
-        let InSession { session, .. } = self;
-        let settings = kit.settings();
         let conn = seen.frame.conn();
-        let upload = Upload::connection(settings.piece_len(), conn, settings.address());
-        let first = InConnection {
-            session,
-            conn,
-            upload,
-        };
-        first.go_on(seen, kit, out)
+        self.to_connection(conn, kit).more(seen, kit, out)
     }
 
-    /// Takes a Session frame, and answers it with the piece of the slave's own session id that has the same number.
-    fn go_on(
-        mut self,
+    /// A new session, of whose session id nothing has come.
+    pub(crate) fn first(kit: &Kit) -> InSession
+        ensures begun { result ≡ starting kit.now }
+        ensures under { SessionUnder kit.now.settings result }
+    {
+        InSession {
+            session: Session::new(),
+            id: kit.nonce(),
+            upload: Upload::session(kit.settings().piece_len(), kit.profile()),
+        }
+    }
+
+    /// State Connection of this session with this connection id, of whose payload nothing has come. This state is only
+    /// left.
+    pub(crate) fn to_connection(&mut self, conn: u16, kit: &Kit) -> InConnection
+        ensures begun { result ≡ connecting kit.now self.old conn }
+        ensures under { ConnectionUnder kit.now.settings result }
+        ensures kept { self.new ≡ record self.old { session = first_session } }
+    {
+        let settings = kit.settings();
+        InConnection {
+            session: mem::replace(&mut self.session, Session::new()),
+            conn,
+            upload: Upload::connection(settings.piece_len(), conn, settings.address()),
+        }
+    }
+
+    /// The same in place: a Session frame is answered with the piece of the slave's own session id that has the same
+    /// number. After a refusal the state is only left.
+    pub(crate) fn go_on(
+        &mut self,
         seen: &Seen<'_>,
         kit: &Kit,
         out: &mut FrameBuf,
-    ) -> Result<InSession, (InReset, Code)>
-        requires more { is_whole self.upload ≡ false }
-        requires under { SessionUnder kit.now.settings self }
-        requires passed { HasPassed (receives (OfSlave kit.now.settings)) self.session.chain seen.now.frame seen.now.link }
-        ensures next { result ≡ session_next kit.now self seen.now.frame }
-        ensures sent { OnOk result (out.new ≡ session_reply kit.now self seen.now.frame) }
+    ) -> Result<(), Code>
+        requires more { is_whole self.old.upload ≡ false }
+        requires under { SessionUnder kit.now.settings self.old }
+        requires passed { HasPassed (receives (OfSlave kit.now.settings)) self.old.session.chain seen.now.frame seen.now.link }
+        ensures next { or_reset result self.new ≡ session_next kit.now self.old seen.now.frame }
+        ensures sent { OnOk result (out.new ≡ session_reply kit.now self.old seen.now.frame) }
         ensures unwritten { OnErr result (out.new ≡ out.old) }
-        ensures under { IfOk result (λ s. SessionUnder kit.now.settings s) }
+        ensures under { SessionUnder kit.now.settings self.new }
     {
         let from = self.upload.len();
         if let Err(code) = self.upload.take(seen.frame.load()) {
-            return Err((self.into_reset(), code));
+            return Err(code);
         }
         let own_id = Payload::session(self.id, kit.profile());
         let piece = own_id.piece_from(from, kit.settings().piece_len());
         let load = padded(piece, kit.settings().own_len());
         self.session.take(&seen.frame, seen.link);
         self.session.seal(Command::Session, 0, load.bytes(), out);
-        Ok(self)
+        Ok(())
     }
 
     /// State Reset; the session is forgotten.
@@ -194,9 +213,9 @@ impl InSession {
 impl InConnection {
     /// Goes on by a Connection frame, as long as the connection id and the address aren't whole, with the refusals
     /// of the first one: it is answered with its own piece.
-    #[tactic(auto, using(crate::proofs::Transitions::connection_goes))]
+    #[tactic(auto, using(crate::proofs::Transitions::connection_taken, crate::proofs::Transitions::connection_refused))]
     pub fn more(
-        self,
+        mut self,
         seen: &Seen<'_>,
         kit: &Kit,
         out: &mut FrameBuf,
@@ -211,7 +230,10 @@ impl InConnection {
         ensures goes_on { GoesOn (now.Connection self) kit.now seen.now.frame (as_now now.Connection result) out.old out.new }
         ensures under { IfOk result (λ s. ConnectionUnder kit.now.settings s) }
     {
-        self.go_on(seen, kit, out)
+        match self.go_on(seen, kit, out) {
+            Ok(()) => Ok(self),
+            Err(code) => Err((self.into_reset(), code)),
+        }
     }
 
     /// Goes on by the first Parameter frame, once the connection id and the address are whole. Refused, field by
@@ -220,7 +242,7 @@ impl InConnection {
     /// parameters, and 0Bh where these break the rule, then with 07h where the padding isn't zeros.
     #[tactic(auto, using(crate::proofs::Transitions::load_goes))]
     pub fn load(
-        self,
+        mut self,
         seen: &Seen<'_>,
         kit: &Kit,
         out: &mut FrameBuf,
@@ -235,46 +257,52 @@ impl InConnection {
         ensures goes_on { GoesOn (now.Connection self) kit.now seen.now.frame (as_now now.Parameter result) out.old out.new }
         ensures under { IfOk result (λ s. ParameterUnder kit.now.settings s) }
     {
-        let InConnection { session, conn, .. } = self;
-        let settings = kit.settings();
-        let upload = Upload::parameter(
-            settings.piece_len(),
-            settings.most(),
-            settings.rule(),
-            settings.profile(),
-        );
-        let first = InParameter {
-            session,
-            conn,
-            address: settings.address(),
-            upload,
-        };
-        first.go_on(seen, kit, out)
+        self.to_parameter(kit).more(seen, kit, out)
     }
 
-    /// Takes a Connection frame, and answers it with its own piece.
-    fn go_on(
-        mut self,
+    /// State Parameter of this session, of whose payload nothing has come. This state is only left.
+    pub(crate) fn to_parameter(&mut self, kit: &Kit) -> InParameter
+        ensures begun { result ≡ loading kit.now self.old }
+        ensures under { ParameterUnder kit.now.settings result }
+        ensures kept { self.new ≡ record self.old { session = first_session } }
+    {
+        let settings = kit.settings();
+        InParameter {
+            session: mem::replace(&mut self.session, Session::new()),
+            conn: self.conn,
+            address: settings.address(),
+            upload: Upload::parameter(
+                settings.piece_len(),
+                settings.most(),
+                settings.rule(),
+                settings.profile(),
+            ),
+        }
+    }
+
+    /// The same in place: a Connection frame is answered with its own piece. After a refusal the state is only left.
+    pub(crate) fn go_on(
+        &mut self,
         seen: &Seen<'_>,
         kit: &Kit,
         out: &mut FrameBuf,
-    ) -> Result<InConnection, (InReset, Code)>
-        requires more { is_whole self.upload ≡ false }
-        requires under { ConnectionUnder kit.now.settings self }
-        requires passed { HasPassed (receives (OfSlave kit.now.settings)) self.session.chain seen.now.frame seen.now.link }
-        ensures next { result ≡ connection_next kit.now self seen.now.frame }
-        ensures sent { OnOk result (out.new ≡ connection_reply kit.now self seen.now.frame) }
+    ) -> Result<(), Code>
+        requires more { is_whole self.old.upload ≡ false }
+        requires under { ConnectionUnder kit.now.settings self.old }
+        requires passed { HasPassed (receives (OfSlave kit.now.settings)) self.old.session.chain seen.now.frame seen.now.link }
+        ensures next { or_reset result self.new ≡ connection_next kit.now self.old seen.now.frame }
+        ensures sent { OnOk result (out.new ≡ connection_reply kit.now self.old seen.now.frame) }
         ensures unwritten { OnErr result (out.new ≡ out.old) }
-        ensures under { IfOk result (λ s. ConnectionUnder kit.now.settings s) }
+        ensures under { ConnectionUnder kit.now.settings self.new }
     {
         if let Err(code) = self.upload.take(seen.frame.load()) {
-            return Err((self.into_reset(), code));
+            return Err(code);
         }
         let load = self.upload.echo(kit.settings().own_len());
         self.session.take(&seen.frame, seen.link);
         self.session
             .seal(Command::Connection, self.conn, load.bytes(), out);
-        Ok(self)
+        Ok(())
     }
 
     /// State Reset; the session is forgotten.
@@ -288,9 +316,9 @@ impl InConnection {
 impl InParameter {
     /// Goes on by a Parameter frame, as long as the parameters aren't whole, with the refusals of the first one: it is
     /// answered with its own piece.
-    #[tactic(auto, using(crate::proofs::Transitions::parameter_goes))]
+    #[tactic(auto, using(crate::proofs::Transitions::parameter_taken, crate::proofs::Transitions::parameter_refused))]
     pub fn more(
-        self,
+        mut self,
         seen: &Seen<'_>,
         kit: &Kit,
         out: &mut FrameBuf,
@@ -305,14 +333,17 @@ impl InParameter {
         ensures goes_on { GoesOn (now.Parameter self) kit.now seen.now.frame (as_now now.Parameter result) out.old out.new }
         ensures under { IfOk result (λ s. ParameterUnder kit.now.settings s) }
     {
-        self.go_on(seen, kit, out)
+        match self.go_on(seen, kit, out) {
+            Ok(()) => Ok(self),
+            Err(code) => Err((self.into_reset(), code)),
+        }
     }
 
     /// Goes on by the first data frame, once the parameters are whole: from now on the outputs may be other than
     /// zeros. Refused with 07h where a FailSafeData frame has a byte that isn't 0.
     #[tactic(auto, using(crate::proofs::Transitions::run_goes))]
     pub fn run(
-        self,
+        mut self,
         seen: &Seen<'_>,
         kit: &Kit,
         out: &mut FrameBuf,
@@ -327,58 +358,53 @@ impl InParameter {
         ensures goes_on { GoesOn (now.Parameter self) kit.now seen.now.frame (as_now now.Data result) out.old out.new }
         ensures under { IfOk result (λ s. DataUnder kit.now.settings s) }
     {
-        self.into_data(kit).more(seen, kit, out)
+        self.to_data(kit).more(seen, kit, out)
     }
 
-    /// State Data under the terms that the whole parameters give.
-    fn into_data(self, kit: &Kit) -> InData
-        requires whole { IsTrue (is_whole self.upload) }
-        requires under { ParameterUnder kit.now.settings self }
-        ensures data { result ≡ running kit.now self }
+    /// State Data of this session under the terms that the whole parameters give. This state is only left.
+    pub(crate) fn to_data(&mut self, kit: &Kit) -> InData
+        requires whole { IsTrue (is_whole self.old.upload) }
+        requires under { ParameterUnder kit.now.settings self.old }
+        ensures begun { result ≡ running kit.now self.old }
         ensures under { DataUnder kit.now.settings result }
+        ensures kept { self.new ≡ record self.old { session = first_session } }
     {
-        let InParameter {
-            session,
-            conn,
-            address,
-            upload,
-        } = self;
         InData {
-            session,
+            session: mem::replace(&mut self.session, Session::new()),
             terms: Terms {
-                conn,
-                address,
-                watchdog: upload.watchdog(),
-                app: upload.app().copy(),
+                conn: self.conn,
+                address: self.address,
+                watchdog: self.upload.watchdog(),
+                app: self.upload.app().copy(),
                 profile: kit.profile(),
             },
             outputs: Outputs::new(kit.settings().peer_len()),
         }
     }
 
-    /// Takes a Parameter frame, and answers it with its own piece.
-    fn go_on(
-        mut self,
+    /// The same in place: a Parameter frame is answered with its own piece. After a refusal the state is only left.
+    pub(crate) fn go_on(
+        &mut self,
         seen: &Seen<'_>,
         kit: &Kit,
         out: &mut FrameBuf,
-    ) -> Result<InParameter, (InReset, Code)>
-        requires more { is_whole self.upload ≡ false }
-        requires under { ParameterUnder kit.now.settings self }
-        requires passed { HasPassed (receives (OfSlave kit.now.settings)) self.session.chain seen.now.frame seen.now.link }
-        ensures next { result ≡ parameter_next kit.now self seen.now.frame }
-        ensures sent { OnOk result (out.new ≡ parameter_reply kit.now self seen.now.frame) }
+    ) -> Result<(), Code>
+        requires more { is_whole self.old.upload ≡ false }
+        requires under { ParameterUnder kit.now.settings self.old }
+        requires passed { HasPassed (receives (OfSlave kit.now.settings)) self.old.session.chain seen.now.frame seen.now.link }
+        ensures next { or_reset result self.new ≡ parameter_next kit.now self.old seen.now.frame }
+        ensures sent { OnOk result (out.new ≡ parameter_reply kit.now self.old seen.now.frame) }
         ensures unwritten { OnErr result (out.new ≡ out.old) }
-        ensures under { IfOk result (λ s. ParameterUnder kit.now.settings s) }
+        ensures under { ParameterUnder kit.now.settings self.new }
     {
         if let Err(code) = self.upload.take(seen.frame.load()) {
-            return Err((self.into_reset(), code));
+            return Err(code);
         }
         let load = self.upload.echo(kit.settings().own_len());
         self.session.take(&seen.frame, seen.link);
         self.session
             .seal(Command::Parameter, self.conn, load.bytes(), out);
-        Ok(self)
+        Ok(())
     }
 
     /// State Reset; the session is forgotten.
