@@ -13,9 +13,9 @@ use crate::coming::end_of;
 use crate::duo::Duo;
 use crate::summary::Summary;
 use file_run::write_report;
-use fsoe_base::State;
+use fsoe_base::{End, State};
 use fsoe_io::{Ended, LineText, Sink};
-use schedule_file::Maker;
+use schedule_file::{Event, Maker};
 
 /// Does the first so many events of a number with a new pair: what is told of their entries, and the number of the first other one.
 fn summarize(number: u64, events: u64) -> (Summary, Option<u64>)
@@ -26,10 +26,11 @@ fn summarize(number: u64, events: u64) -> (Summary, Option<u64>)
     let (master, slave) = Maker::settings();
     let mut maker = Maker::new(number);
     let mut duo = Duo::new(master, slave);
-    let mut answer = Answer::new();
     let mut summary = Summary::new();
+    let mut event = Event::Tick { at: End::Master };
+    let mut answer = Answer::new();
     for _ in 0..events {
-        let event = maker.next();
+        maker.next_into(&mut event);
         duo.advance(&event, &mut answer).unwrap();
         let at = end_of(&event);
         summary.note(at, &answer.did, duo.state_of(at));

@@ -1,9 +1,13 @@
 //! The run of both ends over a pair file.
-ghost use Rattle.std.specs.Prelude.{◌≡◌, ◌≤◌, ◌++◌, length};
+ghost use Rattle.std.specs.Prelude.{◌≡◌, ◌≤◌, ℕ, ◌++◌, List, length, OnOk, OnErr};
+ghost use Rattle.schedule_file.specs.Header.{Heading};
+ghost use Rattle.schedule_file.specs.declared.event.Event.{Event};
 ghost use Rattle.schedule_file.specs.declared.header_kind.HeaderKind.TheVariants as kind;
+ghost use Rattle.file_run.specs.Machine.{TakesEvent, MayCome};
 ghost use Rattle.file_run.specs.Report.{events_line};
+ghost use Rattle.file_run.specs.Reporting.{EndsUnsent};
 ghost use Rattle.duo_run.specs.Duo.{lengths_of, profiles_of};
-ghost use Rattle.duo_run.specs.Replay.{line_of, other_line, RanReplay};
+ghost use Rattle.duo_run.specs.Replay.{line_of, other_line, ReplayStands, replay_reporting, RanReplay};
 
 use crate::acting::Answer;
 use crate::closing::{ended_with, push_other};
@@ -64,12 +68,43 @@ fn write_closing(events: u64, other: Option<u64>, text: &mut LineText)
     push_other(other, text);
 }
 
-impl Machine for Duo {
+/// Both ends over the lines of a source.
+#[derive(Drop)]
+struct PairRun {
+    duo: Duo,
+    /// What an end did last.
+    answer: Answer,
+}
+
+/// Does an event, and writes the line of its entry, which has this number, from 1.
+fn write_event(
+    duo: &mut Duo,
+    answer: &mut Answer,
+    event: &Event,
+    number: u64,
+    text: &mut LineText,
+) -> Result<(), NotSent>
+    requires { MayCome (ReplayStands duo.old) kind.Pair event.now number }
+    ensures takes_event { OnOk result (TakesEvent (ReplayStands duo.old) (ReplayStands duo.new) event.now number text.new) }
+    ensures unsent { OnErr result ((h : Heading) (log : List Event) (text : List ℕ) → ReplayStands duo.old h log text → EndsUnsent replay_reporting h log text event.now) }
+{
+    match duo.advance(event, answer) {
+        Ok(()) => {
+            let at = end_of(event);
+            let outputs = duo.outputs_of(at);
+            write_entry(number, at, duo.state_of(at), outputs, answer, text);
+            Ok(())
+        }
+        Err(StepFault::NoSuchFrame) => Err(NotSent),
+    }
+}
+
+impl Machine for PairRun {
     ghost use Rattle.duo_run.specs.Replay.{ReplayStands, replay_reporting};
 
     ghost reporting = { replay_reporting };
 
-    ghost stands = { ReplayStands };
+    ghost stands = { λ run. ReplayStands run.duo };
 
     fn laws() {}
 
@@ -77,29 +112,23 @@ impl Machine for Duo {
         HeaderKind::Pair
     }
 
-    fn begin(header: &Header) -> Duo {
-        Duo::new(header.master(), header.slave())
-    }
-
-    fn grammar(&self) -> Grammar {
-        grammar_of(self)
-    }
-
-    fn report(&mut self, event: &Event, number: u64, text: &mut LineText) -> Result<(), NotSent> {
-        let mut answer = Answer::new();
-        match self.advance(event, &mut answer) {
-            Ok(()) => {
-                let at = end_of(event);
-                let outputs = self.outputs_of(at);
-                write_entry(number, at, self.state_of(at), outputs, &answer, text);
-                Ok(())
-            }
-            Err(StepFault::NoSuchFrame) => Err(NotSent),
+    fn begin(header: &Header) -> PairRun {
+        PairRun {
+            duo: Duo::new(header.master(), header.slave()),
+            answer: Answer::new(),
         }
     }
 
+    fn grammar(&self) -> Grammar {
+        grammar_of(&self.duo)
+    }
+
+    fn report(&mut self, event: &Event, number: u64, text: &mut LineText) -> Result<(), NotSent> {
+        write_event(&mut self.duo, &mut self.answer, event, number, text)
+    }
+
     fn close(&self, events: u64, text: &mut LineText) -> Ended {
-        let other = self.other();
+        let other = self.duo.other();
         write_closing(events, other, text);
         ended_with(other)
     }
@@ -119,5 +148,5 @@ pub fn run_replay<S: Source, K: Sink>(source: &mut S, sink: &mut K) -> Ended
       sink = record { before = K.written sink.old; after = K.written sink.new; faults_before = K.faults sink.old; faults_after = K.faults sink.new };
     }) }
 {
-    run_over::<Duo, S, K>(source, sink)
+    run_over::<PairRun, S, K>(source, sink)
 }

@@ -2,10 +2,10 @@ use Rattle.duo_run.proofs.Summarizing.{never_misses, never_err, goes_on}
 use Rattle.duo_run.proofs.bulk.summarize.Goals as goal
 
 pub unwrap-requires : goal.unwrap-requires
-unwrap-requires c = never_err _ c.advance.result c.advance.ensures.misses (never_misses _ _ _ _ _ _ _ c.loop.invariant c.next-event.ensures.makes)
+unwrap-requires c = never_err _ c.advance.result c.advance.ensures.misses (never_misses _ _ _ _ _ _ _ c.loop.invariant c.next_into.ensures.makes)
 
 pub loop-preserved : goal.loop-preserved
 loop-preserved c =
     let advances = rw c.unwrap.ensures at c.advance.ensures.advances in
     let done = rw c.unwrap.ensures at c.advance.ensures.done in
-    goes_on _ _ _ _ _ _ _ _ _ _ _ _ _ c.loop.invariant c.next-event.ensures.makes advances c.end_of-at.ensures c.state_of.ensures c.advance.ensures.lengths c.advance.ensures.profiles done c.note.ensures
+    goes_on _ _ _ _ _ _ _ _ _ _ _ _ _ c.loop.invariant c.next_into.ensures.makes advances c.end_of-at.ensures c.state_of.ensures c.advance.ensures.lengths c.advance.ensures.profiles done c.note.ensures

@@ -1,9 +1,9 @@
 use Rattle.duo_run.proofs.OneReplay.{some_replay}
 use Rattle.duo_run.proofs.Replaying.{pair_so_far}
-use Rattle.duo_run.proofs.replay.DuoMachine.laws.Goals as goal
+use Rattle.duo_run.proofs.replay.PairRunMachine.laws.Goals as goal
 
 pub returns-clause-some : goal.returns-clause-some
 returns-clause-some c = some_replay
 
 pub returns-clause-so_far : goal.returns-clause-so_far
-returns-clause-so_far c = pair_so_far
+returns-clause-so_far c = λ run h log text k. pair_so_far run.duo h log text k
