@@ -5,9 +5,9 @@ use Rattle.slave_core.proofs.now.Now.go_on.Goals as goal
 pub returns-else-is_whole-2-clause-next : goal.returns-else-is_whole-2-clause-next
 returns-else-is_whole-2-clause-next c =
     rw c.in-Connection.is
-    (stays_in_connection c.in-Connection.state _ _ c.go_on-else-is_whole-2.result _ (sym c.is_whole-in-Connection.ensures ∙ c.if-is_whole-2.false) c.go_on-else-is_whole-2.ensures.next)
+    (stays_in_connection c.in-Connection.state c.args.kit.now c.args.seen.now.frame c.go_on-else-is_whole-2.result _ (sym c.is_whole-in-Connection.ensures ∙ c.if-is_whole-2.false) c.go_on-else-is_whole-2.ensures.next)
 
 pub returns-else-is_whole-3-clause-next : goal.returns-else-is_whole-3-clause-next
 returns-else-is_whole-3-clause-next c =
     rw c.in-Parameter.is
-    (stays_in_parameter c.in-Parameter.state _ _ c.go_on-else-is_whole-3.result _ (sym c.is_whole-in-Parameter.ensures ∙ c.if-is_whole-3.false) c.go_on-else-is_whole-3.ensures.next)
+    (stays_in_parameter c.in-Parameter.state c.args.kit.now c.args.seen.now.frame c.go_on-else-is_whole-3.result _ (sym c.is_whole-in-Parameter.ensures ∙ c.if-is_whole-3.false) c.go_on-else-is_whole-3.ensures.next)
