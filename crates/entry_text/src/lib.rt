@@ -8,9 +8,6 @@ ghost use Rattle.entry_text.specs.EntryText.{code_text, cause_text, dropped_text
 use fsoe_base::{Cause, Code, Command, Did, Dropped, MOST_DATA, MOST_FRAME, State};
 use fsoe_io::LineText;
 
-#[cfg(test)]
-mod tests;
-
 /// Appends a word of a reset and its code.
 fn push_coded(word: &[u8], code: Code, text: &mut LineText)
     requires word { length word.now ≤ 20 }

@@ -13,6 +13,3 @@ pub use bit::Bit;
 pub use offer::{Offer, data_holds, zeros};
 pub use outputs::Outputs;
 pub use watchdog::Watchdog;
-
-#[cfg(test)]
-mod tests;

@@ -12,8 +12,6 @@ mod refusal;
 mod report;
 mod run;
 mod stop;
-#[cfg(test)]
-mod tests;
 
 pub use event::Grammar;
 pub use machine::{Machine, NotSent};
