@@ -126,6 +126,3 @@ pub fn run_bulk<K: Sink>(number: u64, events: u64, sink: &mut K) -> Ended
     write_summary(number, events, &summary, other, &mut text);
     write_report(sink, text.bytes(), ended_with(other))
 }
-
-#[cfg(test)]
-mod tests;

@@ -21,6 +21,4 @@ pub use replay::run_replay;
 #[cfg(test)]
 mod fairness;
 #[cfg(test)]
-mod replay_tests;
-#[cfg(test)]
 mod tests;

@@ -4,7 +4,5 @@
 pub mod laws;
 mod node;
 mod run;
-#[cfg(test)]
-mod tests;
 
 pub use run::run_node;
