@@ -7,6 +7,3 @@ mod window;
 
 pub use altering::altered;
 pub use window::Window;
-
-#[cfg(test)]
-mod tests;

@@ -11,6 +11,3 @@ mod side;
 
 pub use list_monitor::ListMonitor;
 pub use monitor::Monitor;
-
-#[cfg(test)]
-mod tests;

@@ -13,6 +13,3 @@ mod two_hand;
 
 pub use block::Block;
 pub use kind::{BlockKind, MOST_INPUTS};
-
-#[cfg(test)]
-mod tests;

@@ -22,6 +22,3 @@ pub use net::Net;
 pub use spec::{BlockSpec, Drive};
 pub use wire::{Wire, Wires};
 pub use zeros::Zeros;
-
-#[cfg(test)]
-mod tests;

@@ -15,6 +15,3 @@ pub use command::{Code, Command, End, State};
 pub use did::{Cause, Did, Dropped, Took};
 pub use lengths::{BadLength, Lengths, MOST_DATA, MOST_FRAME, frame_len};
 pub use memory::Memory;
-
-#[cfg(test)]
-mod tests;

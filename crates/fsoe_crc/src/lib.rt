@@ -9,5 +9,3 @@ mod bitwise;
 pub mod laws;
 mod register;
 mod table;
-#[cfg(test)]
-mod tests;

@@ -7,6 +7,4 @@ pub use reading::{FrameView, view};
 pub use writing::write;
 
 mod reading;
-#[cfg(test)]
-mod tests;
 mod writing;

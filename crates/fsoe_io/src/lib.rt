@@ -19,8 +19,6 @@ mod sink;
 mod source;
 mod status;
 mod streams;
-#[cfg(test)]
-mod tests;
 
 pub use desk::{Desk, LoadFault};
 pub use file_desk::FileDesk;

@@ -40,6 +40,3 @@ mod now;
 pub mod states;
 
 pub use master::Master;
-
-#[cfg(test)]
-mod tests;

@@ -25,6 +25,3 @@ pub use profile::{Profile, Profiles};
 pub use slave_settings::SlaveSettings;
 pub use terms::Terms;
 pub use upload::{Progress, Upload};
-
-#[cfg(test)]
-mod tests;

@@ -19,8 +19,6 @@ mod maker;
 mod node_event;
 mod pair_event;
 mod place;
-#[cfg(test)]
-mod tests;
 
 pub use event::{Event, MAX_BACK, MAX_EVENTS, ScheduleLine};
 pub use event_text::{end_letter, write_event};

@@ -230,6 +230,3 @@ fn reset_by(word: u32) -> Event
         },
     }
 }
-
-#[cfg(test)]
-mod tests;

@@ -17,5 +17,3 @@ mod opened;
 mod reset;
 mod session;
 mod session_frame;
-#[cfg(test)]
-mod tests;

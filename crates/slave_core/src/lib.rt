@@ -38,6 +38,3 @@ pub mod states;
 pub use kit::Kit;
 pub use seen::Seen;
 pub use slave::Slave;
-
-#[cfg(test)]
-mod tests;

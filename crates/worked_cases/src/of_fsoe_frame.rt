@@ -1,5 +1,5 @@
-use super::*;
 use fsoe_base::{Command, FrameBuf, Image};
+use fsoe_frame::{laws, view, write};
 
 /// Reset frames with code 0: the CRCs of their groups, and their bytes.
 const ONE: [u8; 6] = [0x2A, 0x00, 0x86, 0xF8, 0x00, 0x00];

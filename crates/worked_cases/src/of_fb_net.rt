@@ -3,9 +3,9 @@ ghost use Rattle.failsafe_io.specs.Bits.{is_same_bit};
 ghost use Rattle.fb_net.specs.Mirror.{mirror_images};
 ghost use Rattle.fb_net.specs.Outputs.{zero_images};
 
-use super::*;
 use failsafe_io::{Application, Bit};
 use fb_lib::BlockKind;
+use fb_net::{AppKind, BlockSpec, Drive, KindOf, Mirror, Net, NetFault, Wire, Wires, Zeros};
 use fsoe_base::Image;
 use std::alloc::{AllocError, Global};
 use std::test::Fail;

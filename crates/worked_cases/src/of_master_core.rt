@@ -1,8 +1,8 @@
 ghost use Rattle.std.specs.Prelude.{◌≡◌, IfOk, false};
 ghost use Rattle.master_core.specs.Now.{is_due};
 
-use super::*;
-use fsoe_base::{Cause, Code, Dropped, FrameBuf, Lengths, State};
+use fsoe_base::{Cause, FrameBuf, Lengths, State};
+use master_core::Master;
 use param_load::{AppBytes, MasterSettings};
 use std::test::Fail;
 
@@ -103,74 +103,17 @@ fn a_handshake_goes_on_answer_by_answer(rt: HostRuntime) -> Result<(), Fail> {
 }
 
 #[test]
-fn a_reset_frame_is_taken_once(rt: HostRuntime) -> Result<(), Fail> {
-    let mut master = master()?;
+fn what_is_set_while_a_frame_is_due_is_in_it(rt: HostRuntime) -> Result<(), Fail> {
     let mut out = FrameBuf::new();
-    let other = [0x2A, 0x01, 0x00, 0x47, 0xB7, 0x00, 0x00];
-    let did = master.deliver(&other, &mut out);
-    assert_eq!(rt; did.dropped, Some(Dropped::InReset));
-    master.accept(&RESET);
-    assert!(rt; master.settings().profile().allows_id(0x0201));
-    master.nonce(0x0201);
-    assert!(rt; master.due());
-    master.reply(&mut out);
+    let mut first = master()?;
+    first.accept(&RESET);
+    assert!(rt; first.settings().profile().allows_id(0x0201));
+    first.nonce(0x0201);
+    assert!(rt; first.due());
+    first.reply(&mut out);
     assert_eq!(rt; out.len(), 7);
     assert_eq!(rt; &out.bytes()[..3], [0x4E, 0x01, 0x02].as_slice());
-    let did = master.deliver(&RESET, &mut out);
-    assert_eq!(rt; did.dropped, Some(Dropped::Repeat));
-    assert!(rt; out.is_empty());
-    assert_eq!(rt; master.state(), State::Session);
-    let did = master.deliver(&other, &mut out);
-    assert_eq!(rt; did.reset, Some(Cause::Peer(Code(0x01))));
-    assert_eq!(rt; out.bytes(), RESET.as_slice());
-    assert_eq!(rt; master.state(), State::Reset);
-    Ok(())
-}
-
-#[test]
-fn data_are_exchanged_until_the_watchdog_expires(rt: HostRuntime) -> Result<(), Fail> {
     let mut master = master()?;
-    let mut out = FrameBuf::new();
-    begin(&mut master, 8);
-    assert!(rt; !master.due());
-    let did = master.deliver(&HANDSHAKE[7].0, &mut out);
-    assert_eq!(rt; did.dropped, Some(Dropped::Repeat));
-    let did = master.deliver(&[0x08, 0x00, 0x00, 0xF6, 0x5B, 0x01, 0x00], &mut out);
-    assert!(rt; did.sent && did.passed);
-    assert_eq!(rt;
-        out.bytes(),
-        [0x36, 0x01, 0x00, 0xC0, 0xA4, 0x01, 0x00].as_slice()
-    );
-    assert_eq!(rt; master.outputs(), [0, 0].as_slice());
-    for _ in 1..100 {
-        assert!(rt; !master.due());
-        let did = master.tick(&mut out);
-        assert!(rt; !did.sent && out.is_empty());
-    }
-    assert!(rt; !master.due());
-    let did = master.tick(&mut out);
-    assert_eq!(rt; did.reset, Some(Cause::Found(Code(0x05))));
-    assert_eq!(rt;
-        out.bytes(),
-        [0x2A, 0x05, 0x00, 0x25, 0xAE, 0x00, 0x00].as_slice()
-    );
-    for _ in 1..100 {
-        assert!(rt; !master.due());
-        master.tick(&mut out);
-        assert!(rt; out.is_empty());
-    }
-    assert_eq!(rt; master.age(), 99);
-    assert!(rt; !master.due());
-    let did = master.tick(&mut out);
-    assert!(rt; did.sent && did.reset.is_none());
-    assert_eq!(rt; out.bytes(), RESET.as_slice());
-    Ok(())
-}
-
-#[test]
-fn a_reply_carries_the_last_offer(rt: HostRuntime) -> Result<(), Fail> {
-    let mut master = master()?;
-    let mut out = FrameBuf::new();
     begin(&mut master, 7);
     assert!(rt; !master.due());
     master.accept(&HANDSHAKE[7].0);

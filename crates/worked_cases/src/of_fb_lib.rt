@@ -1,4 +1,4 @@
-use super::*;
+use fb_lib::{Block, BlockKind};
 use std::alloc::{AllocError, Global};
 use std::test::Fail;
 

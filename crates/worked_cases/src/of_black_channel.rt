@@ -1,4 +1,4 @@
-use super::*;
+use black_channel::{Window, altered};
 use fsoe_base::FrameBuf;
 use std::test::Fail;
 

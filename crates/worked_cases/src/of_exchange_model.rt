@@ -1,6 +1,6 @@
 ghost use Rattle.std.specs.Prelude.{◌≡◌, ◌<◌, ◌≤◌, ◌+◌, ◌^◌, length};
 
-use super::*;
+use exchange_model::{ListMonitor, Monitor};
 use fsoe_base::{Cause, Code, Command, Did, End, FrameBuf, Image, State, Took};
 use param_load::{Entry, Move};
 use std::alloc::Global;

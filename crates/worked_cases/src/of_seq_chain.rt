@@ -1,9 +1,9 @@
 ghost use Rattle.std.specs.Prelude.{◌<◌, length, IsTrue};
 ghost use Rattle.fsoe_base.specs.Lengths.{is_length};
 
-use super::*;
 use fsoe_base::{Code, Command, FrameBuf};
 use fsoe_frame::view;
+use seq_chain::{Chain, reset_frame, reset_view};
 use std::process::Abort;
 
 /// A frame with two safe data bytes: command, data, number and CRC.

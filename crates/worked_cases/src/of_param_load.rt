@@ -1,8 +1,11 @@
 ghost use Rattle.std.specs.Prelude.{◌≡◌, IsTrue};
 ghost use Rattle.param_load.specs.AppRule.{is_acceptable};
 
-use super::*;
 use fsoe_base::{Code, Lengths};
+use param_load::{
+    AppBytes, AppRule, BadSetting, Download, MasterSettings, Payload, Profile, Progress,
+    SlaveSettings, Upload,
+};
 use std::test::Fail;
 
 /// What the last of these frames gives to an upload, or the first code; Whole also where frames are left.

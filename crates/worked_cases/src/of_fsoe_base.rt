@@ -1,17 +1,5 @@
-use super::*;
+use fsoe_base::{BadLength, Image};
 use std::test::Fail;
-
-#[test]
-fn lengths_are_one_or_even(rt: HostRuntime) -> Result<(), Fail> {
-    for (lm, ls) in [(3, 2), (2, 128), (0, 2), (2, 127), (2, 0)] {
-        assert_eq!(rt; Lengths::new(lm, ls), Err(BadLength), "{lm} {ls}");
-    }
-    let lengths = Lengths::new(1, 126)?;
-    assert_eq!(rt; lengths.piece(), 1);
-    assert_eq!(rt; lengths.frame_len(End::Master), 6);
-    assert_eq!(rt; lengths.frame_len(End::Slave), 255);
-    Ok(())
-}
 
 #[test]
 fn bits_count_from_the_lowest(rt: HostRuntime) {

@@ -1,4 +1,4 @@
-use super::*;
+use fsoe_crc::{Register, crc, crc_bitwise, laws};
 
 /// The CRC of each byte that is one bit.
 const ONE_BIT: [(u8, u16); 8] = [

@@ -1,4 +1,7 @@
-use super::*;
+use fsoe_io::{
+    Desk, Failed, FileDesk, Line, LineFault, LineReader, LineText, LoadFault, MemDesk, MemSink,
+    MemSource, Output, Partial, Source, Status, StdSink, StdSource, SureDesk, SureSink, put_all,
+};
 use std::test::Fail;
 use std::{env, fs, process};
 
