@@ -2,6 +2,7 @@ pub mod Accepting
 pub mod Agreed
 pub mod Agrees
 pub mod Arrived
+pub mod AtOnce
 pub mod Began
 pub mod Calls
 pub mod Law

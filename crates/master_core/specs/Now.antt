@@ -1,5 +1,5 @@
 -- What the tests of a frame and the readers ask of the state of a master, and how it goes on.
-use Rattle.std.specs.Prelude.{ℕ, Bool, true, false, List, [], replicate, Option, Some, None, Result, Err}
+use Rattle.std.specs.Prelude.{ℕ, Bool, true, false, List, [], replicate, Option, Some, None, Result, Ok, Err}
 use Rattle.fsoe_base.specs.declared.command.Code.{Code}
 use Rattle.fsoe_base.specs.declared.command.Command.{Command}
 use Rattle.fsoe_base.specs.declared.command.Command.TheVariants as command
@@ -122,6 +122,21 @@ due_frame kit (next.Session s) = piece_frame command.Session 0 kit s
 due_frame kit (next.Connection s) = piece_frame command.Connection kit.settings.conn kit s
 due_frame kit (next.Parameter s) = piece_frame command.Parameter kit.settings.conn kit s
 due_frame kit (next.Data s) = data_frame kit s
+
+-- the machine's state after a frame that passed the tests and the frame that follows it, or the code of its contents
+abbrev pub went_on : KitView → Result Next Code → Result Now Code
+went_on kit (Ok n) = Ok (sent_state kit n)
+went_on kit (Err x) = Err x
+
+-- the frame that follows it
+abbrev pub next_frame : KitView → Result Next Code → List ℕ
+next_frame kit (Ok n) = due_frame kit n
+next_frame kit (Err x) = []
+
+-- a state that went on in place
+abbrev pub placed : Result (Unit {0}) Code → Now → Result Now Code
+placed (Ok done) s = Ok s
+placed (Err x) s = Err x
 
 -- the machine's state after the frame that is due was sent, if one is
 abbrev pub replied : KitView → Now → Now

@@ -1,10 +1,13 @@
 //! The master of a connection.
-ghost use Rattle.fsoe_base.specs.Did.{nothing};
+ghost use Rattle.std.specs.Prelude.{◌≡◌, ◌==◌, false};
+ghost use Rattle.fsoe_base.specs.declared.command.Command.TheVariants as command;
+ghost use Rattle.fsoe_base.specs.Did.{nothing, takes};
+ghost use Rattle.fsoe_frame.specs.Parts.{bytes_of};
 
 use crate::due::{Due, Next};
 use crate::kit::Kit;
 use crate::now::Now;
-use crate::states::InReset;
+use crate::states::{InReset, InSession};
 use failsafe_io::Watchdog;
 use fsoe_base::{Cause, Code, Command, Did, Dropped, FrameBuf, Image, MOST_DATA, State, Took};
 use fsoe_frame::FrameView;
@@ -22,6 +25,34 @@ pub struct Master {
     watchdog: Watchdog,
 }
 
+/// Whether a Reset frame with this code begins a session in state Reset.
+fn begins(code: Code) -> bool
+    ensures { result ≡ (code.0 == 0) }
+{
+    code.0 == 0x00
+}
+
+/// The bytes of a Reset frame, which are kept as those of the frame taken last.
+fn kept(view: &FrameView<'_>) -> FrameBuf
+    ensures { result ≡ bytes_of view.now }
+{
+    let mut last = FrameBuf::new();
+    last.set(view.bytes());
+    last
+}
+
+/// What is told of a Reset frame that is taken.
+fn reset_taken(view: &FrameView<'_>) -> Did
+    ensures { result ≡ takes command.Reset view.now.load false }
+{
+    let mut took = Took {
+        command: Command::Reset,
+        load: Image::new(),
+    };
+    view.load_into(&mut took.load);
+    Did::taken(took, false)
+}
+
 impl Model for Master {
     ghost use Rattle.master_core.specs.MasterView.{MasterView, IsSoundMaster};
 
@@ -33,9 +64,10 @@ impl Model for Master {
 }
 
 impl Master {
-    ghost use Rattle.std.specs.Prelude.{◌≡◌, ◌≤◌, ◌||◌, ℕ, List, false, IsTrue, is_some, length, [], option_copied};
+    ghost use Rattle.std.specs.Prelude.{◌≤◌, ◌||◌, ℕ, List, true, IsTrue, OnOk, IfErr, is_some, length, [], option_copied};
+    ghost use Rattle.fsoe_base.specs.declared.did.Cause.TheVariants as cause;
     ghost use Rattle.param_load.specs.Profile.{allows_id};
-    ghost use Rattle.master_core.specs.Master.{makes_due, ends, refuses, on_reset_view, settles, accepted_by, accepted, replies, on_frame, falls, tick_of};
+    ghost use Rattle.master_core.specs.Master.{makes_due, ends, refuses, on_reset_view, settles, accepted_by, accepted, answered_by, replies, on_frame, tick_of};
     ghost use Rattle.master_core.specs.Now.{NextUnder, chain_of, is_due, next_state, reply};
     ghost use Rattle.param_load.specs.declared.entry.Move.TheVariants as event;
     ghost use Rattle.seq_chain.specs.Opened.{HasLen};
@@ -110,20 +142,13 @@ impl Master {
         if !self.state.is_reset() {
             return self.end(false, Cause::Peer(code), Code::LOCAL_RESET);
         }
-        if code.0 != 0x00 {
+        if !begins(code) {
             return Did::dropped(Dropped::InReset);
         }
-        let mut took = Took {
-            command: Command::Reset,
-            load: Image::new(),
-        };
-        view.load_into(&mut took.load);
-        let mut last = FrameBuf::new();
-        last.set(view.bytes());
-        self.leave(Next::Begin(last));
+        self.leave(Next::Begin(kept(view)));
         Did {
             sent: false,
-            ..Did::taken(took, false)
+            ..reset_taken(view)
         }
     }
 
@@ -232,22 +257,80 @@ impl Master {
         self.send(out);
     }
 
-    /// Sends the frame that is due after a frame was accepted, if one is.
+    /// Forgets the session, and sends the Reset frame with this code.
+    #[cold]
     #[inline(never)]
-    fn send_after(&mut self, mut did: Did, out: &mut FrameBuf) -> Did
-        ensures master { self.new ≡ replies self.old }
-        ensures did { result ≡ record did { sent = is_due self.old.state } }
-        ensures sent { out.new ≡ reply self.old.kit self.old.state }
-        ensures kit { self.new.kit ≡ self.old.kit }
-        ensures done { is_due self.new.state ≡ false }
+    fn fall(&mut self, passed: bool, why: Cause, code: Code, out: &mut FrameBuf) -> Did
+        ensures master { self.new ≡ (answered_by (ends self.old passed why code)).master }
+        ensures did { result ≡ (answered_by (ends self.old passed why code)).did }
+        ensures sent { out.new ≡ (answered_by (ends self.old passed why code)).sent }
     {
-        did.sent = self.due();
-        self.send(out);
-        did
+        self.state = Now::Reset(InReset::new());
+        let limit = self.kit.settings().watchdog();
+        self.watchdog.restart(limit);
+        reset_frame(code, self.kit.settings().own_len(), out);
+        Did::reset(passed, why)
     }
 
-    /// Tests a frame, and sends the frame that is due then. In state Data a data frame that passes all tests goes on in
-    /// place, so that it doesn't bear the cost of a move of the state.
+    /// A test of a frame failed with this code: in state Reset the frame is dropped, and else the Reset frame is sent at once.
+    #[tactic(auto, using(crate::proofs::AtOnce::stays, crate::proofs::AtOnce::reset_rests))]
+    #[cold]
+    #[inline(never)]
+    fn refuse_and_send(&mut self, code: Code, out: &mut FrameBuf) -> Did
+        ensures master { self.new ≡ (answered_by (refuses self.old code)).master }
+        ensures did { result ≡ (answered_by (refuses self.old code)).did }
+        ensures sent { out.new ≡ (answered_by (refuses self.old code)).sent }
+    {
+        if self.state.is_reset() {
+            out.clear();
+            return Did::dropped(Dropped::InReset);
+        }
+        self.fall(false, Cause::Found(code), code, out)
+    }
+
+    /// A valid Reset frame came: in state Reset the one with code 0 begins a session, and the frame that is due is sent at
+    /// once.
+    #[tactic(auto, using(crate::proofs::AtOnce::stays, crate::proofs::AtOnce::reset_rests))]
+    #[cold]
+    #[inline(never)]
+    fn acknowledge_and_send(&mut self, code: Code, view: &FrameView<'_>, out: &mut FrameBuf) -> Did
+        ensures master { self.new ≡ (answered_by (on_reset_view self.old code view.now)).master }
+        ensures did { result ≡ (answered_by (on_reset_view self.old code view.now)).did }
+        ensures sent { out.new ≡ (answered_by (on_reset_view self.old code view.now)).sent }
+    {
+        if !self.state.is_reset() {
+            return self.fall(false, Cause::Peer(code), Code::LOCAL_RESET, out);
+        }
+        if !begins(code) {
+            out.clear();
+            return Did::dropped(Dropped::InReset);
+        }
+        self.state = Now::Session(InSession::begin(kept(view), &self.kit, out));
+        let limit = self.kit.settings().watchdog();
+        self.watchdog.restart(limit);
+        reset_taken(view)
+    }
+
+    /// Takes a frame that passed the tests, and sends the frame that follows it, in place. After a refusal the state is only
+    /// left.
+    #[tactic(auto, using(crate::proofs::AtOnce::master_goes, crate::proofs::AtOnce::did_goes, crate::proofs::AtOnce::sent_goes, crate::proofs::AtOnce::refused))]
+    fn go_on(&mut self, seen: &SessionFrame<'_>, link: Link, out: &mut FrameBuf) -> Result<(), Code>
+        requires passed { HasPassed (receives (OfMaster self.old.kit.settings)) (chain_of self.old.state) seen.now link }
+        ensures master { OnOk result (self.new ≡ (answered_by (settles self.old seen.now (next_state self.old.kit self.old.state seen.now))).master) }
+        ensures did { OnOk result (takes seen.now.command seen.now.frame.load true ≡ (answered_by (settles self.old seen.now (next_state self.old.kit self.old.state seen.now))).did) }
+        ensures sent { OnOk result (out.new ≡ (answered_by (settles self.old seen.now (next_state self.old.kit self.old.state seen.now))).sent) }
+        ensures refused { IfErr result (λ code. answered_by (ends self.new true (cause.Found code) code) ≡ answered_by (settles self.old seen.now (next_state self.old.kit self.old.state seen.now))) }
+        ensures rest { OnOk result (is_due self.new.state ≡ false) }
+        ensures kit { self.new.kit ≡ self.old.kit }
+    {
+        self.state.go_on(seen, link, &self.kit, out)?;
+        let limit = self.kit.settings().watchdog();
+        self.watchdog.restart(limit);
+        Ok(())
+    }
+
+    /// Tests a frame, and sends the frame that is due then at once.
+    #[tactic(auto, using(crate::proofs::AtOnce::stays))]
     #[inline(never)]
     fn exchange(&mut self, frame: &[u8], out: &mut FrameBuf) -> Did
         requires { is_due self.old.state ≡ false }
@@ -260,11 +343,13 @@ impl Master {
         let repeats = self.state.is_repeat(frame);
         // Each answer is returned where it is made: a value that joins several is moved once more.
         let unread = match open(frame, self.kit.settings().peer_len(), repeats) {
-            Opened::OfSession(unread) => unread,
-            opened => {
-                let did = self.settle(opened);
-                return self.send_after(did, out);
+            Opened::Drop(why) => {
+                out.clear();
+                return Did::dropped(why);
             }
+            Opened::Refuse(code) => return self.refuse_and_send(code, out),
+            Opened::ResetFrame(code, view) => return self.acknowledge_and_send(code, &view, out),
+            Opened::OfSession(unread) => unread,
         };
         let mut took = Took {
             command: unread.command(),
@@ -273,27 +358,12 @@ impl Master {
         unread.load_into(&mut took.load);
         let seen = SessionFrame::new(unread, &took.load);
         let link = match self.state.test(self.kit.settings(), &seen) {
+            Err(code) => return self.refuse_and_send(code, out),
             Ok(link) => link,
-            Err(code) => {
-                let did = self.refuse(code);
-                return self.send_after(did, out);
-            }
         };
-        let Now::Data(state) = &mut self.state else {
-            let did = self.take(&seen, link);
-            return self.send_after(did, out);
-        };
-        match state.take(&seen, link, &self.kit) {
-            Ok(()) => {
-                state.send_next(&self.kit, out);
-                let limit = self.kit.settings().watchdog();
-                self.watchdog.restart(limit);
-                return Did::taken(took, true);
-            }
-            Err(code) => {
-                let did = self.end(true, Cause::Found(code), code);
-                return self.send_after(did, out);
-            }
+        match self.go_on(&seen, link, out) {
+            Err(code) => return self.fall(true, Cause::Found(code), code, out),
+            Ok(()) => return Did::taken(took, true),
         }
     }
 
@@ -307,21 +377,6 @@ impl Master {
         ensures done { is_due self.new.state ≡ false }
     {
         self.exchange(frame, out)
-    }
-
-    /// Forgets the session, and sends the Reset frame with this code.
-    #[cold]
-    #[inline(never)]
-    fn fall(&mut self, why: Cause, code: Code, out: &mut FrameBuf) -> Did
-        ensures master { self.new ≡ (falls self.old why code).master }
-        ensures did { result ≡ (falls self.old why code).did }
-        ensures sent { out.new ≡ (falls self.old why code).sent }
-    {
-        self.state = Now::Reset(InReset::new());
-        let limit = self.kit.settings().watchdog();
-        self.watchdog.restart(limit);
-        reset_frame(code, self.kit.settings().own_len(), out);
-        Did::reset(false, why)
     }
 
     /// Counts a tick.
@@ -345,6 +400,7 @@ impl Master {
             };
         }
         self.fall(
+            false,
             Cause::Found(Code::WATCHDOG_EXPIRED),
             Code::WATCHDOG_EXPIRED,
             out,
@@ -374,7 +430,7 @@ impl Master {
         ensures kit { self.new.kit ≡ self.old.kit }
         ensures done { is_due self.new.state ≡ false }
     {
-        self.fall(Cause::Local, Code::LOCAL_RESET, out)
+        self.fall(false, Cause::Local, Code::LOCAL_RESET, out)
     }
 
     /// Offers these safe data from now on, as many as the master's frames have, also in a frame that is due. The

@@ -8,7 +8,7 @@ use crate::kit::Kit;
 use crate::states::{InConnection, InData, InParameter, InReset, InSession};
 use failsafe_io::zeros;
 use fsoe_base::{Code, Command, FrameBuf, MOST_DATA, State};
-use param_load::{MasterSettings, Terms};
+use param_load::{MasterSettings, Progress, Terms};
 use seq_chain::{Link, Session, SessionFrame, test_session};
 
 /// The state that a master is in. While a frame is due the state after it is wrapped in `Due`.
@@ -33,12 +33,12 @@ fn has_conn(settings: &MasterSettings, command: Command, field: u16) -> bool
 }
 
 impl Now {
-    ghost use Rattle.std.specs.Prelude.{◌≡◌, ◌≤◌, length, Some, IfOk, option_copied};
+    ghost use Rattle.std.specs.Prelude.{◌≡◌, ◌≤◌, false, length, Some, IfOk, OnOk, option_copied};
     ghost use Rattle.std.specs.Result.{result_err};
     ghost use Rattle.seq_chain.specs.Chain.{tested};
     ghost use Rattle.seq_chain.specs.Session.{HasPassed, is_repeat};
     ghost use Rattle.end_model.specs.Setup.{OfMaster, receives};
-    ghost use Rattle.master_core.specs.Now.{IsUnder, NextUnder, state_of, is_reset, is_due, session_of, chain_of, kept_in, allows, fault, next_state, replied, reply, outputs_in, terms_shown_in};
+    ghost use Rattle.master_core.specs.Now.{IsUnder, NextUnder, state_of, is_reset, is_due, session_of, chain_of, kept_in, allows, fault, next_state, went_on, next_frame, placed, replied, reply, outputs_in, terms_shown_in};
 
     /// The state; while a frame is due, that after it is sent.
     pub(crate) fn state(&self) -> State
@@ -134,6 +134,82 @@ impl Now {
                 Err(code) => Err(code),
             },
         }
+    }
+
+    /// Takes a frame that passed the tests in this state, with what the chain notes of it, and sends the frame that follows
+    /// it, in place. After a refusal the state is only left.
+    #[tactic(auto, using(crate::proofs::AtOnce::went_on_by, crate::proofs::AtOnce::frame_by, crate::proofs::AtOnce::went_wrong))]
+    pub(crate) fn go_on(
+        &mut self,
+        seen: &SessionFrame<'_>,
+        link: Link,
+        kit: &Kit,
+        out: &mut FrameBuf,
+    ) -> Result<(), Code>
+        requires under { IsUnder kit.now.settings self.old }
+        requires passed { HasPassed (receives (OfMaster kit.now.settings)) (chain_of self.old) seen.now link }
+        ensures next { placed result self.new ≡ went_on kit.now (next_state kit.now self.old seen.now) }
+        ensures sent { OnOk result (out.new ≡ next_frame kit.now (next_state kit.now self.old seen.now)) }
+        ensures under { IsUnder kit.now.settings self.new }
+        ensures rest { OnOk result (is_due self.new ≡ false) }
+    {
+        let Now::Data(state) = self else {
+            return self.shake_hands(seen, link, kit, out);
+        };
+        state.take(seen, link, kit)?;
+        state.send_next(kit, out);
+        Ok(())
+    }
+
+    /// The same, apart from state Data, so that a data frame doesn't bear the cost of a change of phase.
+    #[tactic(auto, using(crate::proofs::AtOnce::went_on_by, crate::proofs::AtOnce::frame_by, crate::proofs::AtOnce::went_wrong))]
+    #[inline(never)]
+    fn shake_hands(
+        &mut self,
+        seen: &SessionFrame<'_>,
+        link: Link,
+        kit: &Kit,
+        out: &mut FrameBuf,
+    ) -> Result<(), Code>
+        requires under { IsUnder kit.now.settings self.old }
+        requires passed { HasPassed (receives (OfMaster kit.now.settings)) (chain_of self.old) seen.now link }
+        ensures next { placed result self.new ≡ went_on kit.now (next_state kit.now self.old seen.now) }
+        ensures sent { OnOk result (out.new ≡ next_frame kit.now (next_state kit.now self.old seen.now)) }
+        ensures under { IsUnder kit.now.settings self.new }
+        ensures rest { OnOk result (is_due self.new ≡ false) }
+    {
+        match self {
+            Now::Reset(_) | Now::Due(_) => return Err(Code::COMMAND_NOT_ALLOWED),
+            Now::Session(state) => match state.exchange.take(seen, link, kit)? {
+                Progress::More => state.send_next(kit, out),
+                Progress::Whole => {
+                    let mut next = state.to_connection(kit);
+                    next.send_next(kit, out);
+                    *self = Now::Connection(next);
+                }
+            },
+            Now::Connection(state) => match state.exchange.take(seen, link, kit)? {
+                Progress::More => state.send_next(kit, out),
+                Progress::Whole => {
+                    let mut next = state.to_parameter(kit);
+                    next.send_next(kit, out);
+                    *self = Now::Parameter(next);
+                }
+            },
+            Now::Parameter(state) => match state.exchange.take(seen, link, kit)? {
+                Progress::More => state.send_next(kit, out),
+                Progress::Whole => {
+                    let mut next = state.to_data(kit);
+                    next.send_next(kit, out);
+                    *self = Now::Data(next);
+                }
+            },
+            Now::Data(state) => {
+                state.take(seen, link, kit)?;
+                state.send_next(kit, out);
+            }
+        }
+        Ok(())
     }
 
     /// Sends the frame that is due, in place of what `out` held.

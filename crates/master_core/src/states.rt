@@ -7,7 +7,8 @@ ghost use Rattle.param_load.specs.Download.{outcome};
 ghost use Rattle.seq_chain.specs.Session.{HasPassed};
 ghost use Rattle.end_model.specs.Setup.{OfMaster, receives};
 ghost use Rattle.master_core.specs.Now.{NextUnder};
-ghost use Rattle.master_core.specs.States.{no_session, piece_sent, piece_frame, first_exchange, answered, first_data, session_next, connection_next, parameter_next, data_next, in_place, data_sent, data_frame};
+ghost use Rattle.master_core.specs.Kit.{connection_download, parameter_download};
+ghost use Rattle.master_core.specs.States.{no_session, piece_sent, piece_frame, first_exchange, answered, with_download, first_data, session_next, connection_next, parameter_next, data_next, in_place, data_sent, data_frame};
 ghost use Rattle.master_core.specs.Views.{ExchangeUnder, DataUnder};
 
 use crate::due::Next;
@@ -17,6 +18,7 @@ use fsoe_base::{Code, Command, FrameBuf};
 use param_load::{Download, Progress, Terms};
 use seq_chain::{Link, Session, SessionFrame};
 use std::marker::Model;
+use std::mem;
 
 /// No session.
 #[derive(Debug, Drop)]
@@ -82,12 +84,18 @@ impl Model for InParameter {
 }
 
 impl Exchange {
-    /// Takes the answer to the piece in turn. Refused with 07h where it isn't one; then the exchange is only left.
-    fn take(&mut self, seen: &SessionFrame<'_>, link: Link, kit: &Kit) -> Result<Progress, Code>
+    /// Takes the answer to the piece in turn. Refused with 07h where it isn't one; then the exchange is as it was.
+    pub(crate) fn take(
+        &mut self,
+        seen: &SessionFrame<'_>,
+        link: Link,
+        kit: &Kit,
+    ) -> Result<Progress, Code>
         requires under { ExchangeUnder kit.now.settings self.old }
         requires passed { HasPassed (receives (OfMaster kit.now.settings)) self.old.session.chain seen.now link }
         ensures outcome { result ≡ outcome self.old.download seen.now.frame.load }
         ensures taken { OnOk result (self.new ≡ answered self.old seen.now) }
+        ensures refused { OnErr result (self.new ≡ self.old) }
     {
         let progress = self.download.check(seen.load())?;
         self.session.take(seen, link);
@@ -128,6 +136,16 @@ impl InSession {
         InSession { exchange }.send(kit, out)
     }
 
+    /// Sends the piece in turn of the session id, in place.
+    pub(crate) fn send_next(&mut self, kit: &Kit, out: &mut FrameBuf)
+        requires { ExchangeUnder kit.now.settings self.old }
+        ensures next { self.new ≡ piece_sent command.Session 0 kit.now self.old }
+        ensures sent { out.new ≡ piece_frame command.Session 0 kit.now self.old }
+        ensures under { ExchangeUnder kit.now.settings self.new }
+    {
+        self.exchange.send(Command::Session, 0, kit, out);
+    }
+
     /// Sends the piece in turn of the session id.
     pub(crate) fn send(mut self, kit: &Kit, out: &mut FrameBuf) -> InSession
         requires { ExchangeUnder kit.now.settings self }
@@ -135,8 +153,20 @@ impl InSession {
         ensures sent { out.new ≡ piece_frame command.Session 0 kit.now self }
         ensures under { ExchangeUnder kit.now.settings result }
     {
-        self.exchange.send(Command::Session, 0, kit, out);
+        self.send_next(kit, out);
         self
+    }
+
+    /// State Connection of this session, of whose payload nothing was sent. This state is only left.
+    pub(crate) fn to_connection(&mut self, kit: &Kit) -> InConnection
+        ensures next { result ≡ with_download self.old (connection_download kit.now.settings) }
+        ensures under { ExchangeUnder kit.now.settings result }
+    {
+        let session = mem::replace(&mut self.exchange.session, Session::new());
+        let download = kit.connection_download();
+        InConnection {
+            exchange: Exchange { session, download },
+        }
     }
 
     /// Goes on by a Session frame: the next piece, else the first Connection frame, is to be sent. Refused with 07h
@@ -154,16 +184,23 @@ impl InSession {
     {
         match self.exchange.take(seen, link, kit)? {
             Progress::More => Ok(Next::Session(self)),
-            Progress::Whole => {
-                let InSession { mut exchange } = self;
-                exchange.download = kit.connection_download();
-                Ok(Next::Connection(InConnection { exchange }))
-            }
+            Progress::Whole => Ok(Next::Connection(self.to_connection(kit))),
         }
     }
 }
 
 impl InConnection {
+    /// Sends the piece in turn of the connection id and the address, in place.
+    pub(crate) fn send_next(&mut self, kit: &Kit, out: &mut FrameBuf)
+        requires { ExchangeUnder kit.now.settings self.old }
+        ensures next { self.new ≡ piece_sent command.Connection kit.now.settings.conn kit.now self.old }
+        ensures sent { out.new ≡ piece_frame command.Connection kit.now.settings.conn kit.now self.old }
+        ensures under { ExchangeUnder kit.now.settings self.new }
+    {
+        let conn = kit.settings().conn();
+        self.exchange.send(Command::Connection, conn, kit, out);
+    }
+
     /// Sends the piece in turn of the connection id and the address.
     pub(crate) fn send(mut self, kit: &Kit, out: &mut FrameBuf) -> InConnection
         requires { ExchangeUnder kit.now.settings self }
@@ -171,9 +208,20 @@ impl InConnection {
         ensures sent { out.new ≡ piece_frame command.Connection kit.now.settings.conn kit.now self }
         ensures under { ExchangeUnder kit.now.settings result }
     {
-        let conn = kit.settings().conn();
-        self.exchange.send(Command::Connection, conn, kit, out);
+        self.send_next(kit, out);
         self
+    }
+
+    /// State Parameter of this session, of whose payload nothing was sent. This state is only left.
+    pub(crate) fn to_parameter(&mut self, kit: &Kit) -> InParameter
+        ensures next { result ≡ with_download self.old (parameter_download kit.now.settings) }
+        ensures under { ExchangeUnder kit.now.settings result }
+    {
+        let session = mem::replace(&mut self.exchange.session, Session::new());
+        let download = kit.parameter_download();
+        InParameter {
+            exchange: Exchange { session, download },
+        }
     }
 
     /// Goes on by a Connection frame: the next piece, else the first Parameter frame, is to be sent. Refused with 07h
@@ -191,16 +239,23 @@ impl InConnection {
     {
         match self.exchange.take(seen, link, kit)? {
             Progress::More => Ok(Next::Connection(self)),
-            Progress::Whole => {
-                let InConnection { mut exchange } = self;
-                exchange.download = kit.parameter_download();
-                Ok(Next::Parameter(InParameter { exchange }))
-            }
+            Progress::Whole => Ok(Next::Parameter(self.to_parameter(kit))),
         }
     }
 }
 
 impl InParameter {
+    /// Sends the piece in turn of the parameters, in place.
+    pub(crate) fn send_next(&mut self, kit: &Kit, out: &mut FrameBuf)
+        requires { ExchangeUnder kit.now.settings self.old }
+        ensures next { self.new ≡ piece_sent command.Parameter kit.now.settings.conn kit.now self.old }
+        ensures sent { out.new ≡ piece_frame command.Parameter kit.now.settings.conn kit.now self.old }
+        ensures under { ExchangeUnder kit.now.settings self.new }
+    {
+        let conn = kit.settings().conn();
+        self.exchange.send(Command::Parameter, conn, kit, out);
+    }
+
     /// Sends the piece in turn of the parameters.
     pub(crate) fn send(mut self, kit: &Kit, out: &mut FrameBuf) -> InParameter
         requires { ExchangeUnder kit.now.settings self }
@@ -208,9 +263,20 @@ impl InParameter {
         ensures sent { out.new ≡ piece_frame command.Parameter kit.now.settings.conn kit.now self }
         ensures under { ExchangeUnder kit.now.settings result }
     {
-        let conn = kit.settings().conn();
-        self.exchange.send(Command::Parameter, conn, kit, out);
+        self.send_next(kit, out);
         self
+    }
+
+    /// State Data of this session as it is entered, with zeros as outputs. This state is only left.
+    pub(crate) fn to_data(&mut self, kit: &Kit) -> InData
+        ensures next { result ≡ first_data kit.now self.old }
+        ensures under { DataUnder kit.now.settings result }
+    {
+        InData {
+            session: mem::replace(&mut self.exchange.session, Session::new()),
+            terms: kit.settings().terms(),
+            outputs: Outputs::new(kit.settings().peer_len()),
+        }
     }
 
     /// Goes on by a Parameter frame: the next piece, else the first data frame, is to be sent. Refused with 07h where
@@ -228,27 +294,12 @@ impl InParameter {
     {
         match self.exchange.take(seen, link, kit)? {
             Progress::More => Ok(Next::Parameter(self)),
-            Progress::Whole => {
-                let InParameter { exchange } = self;
-                Ok(Next::Data(InData::first(exchange, kit)))
-            }
+            Progress::Whole => Ok(Next::Data(self.to_data(kit))),
         }
     }
 }
 
 impl InData {
-    /// State Data as it is entered, with zeros as outputs.
-    fn first(exchange: Exchange, kit: &Kit) -> InData
-        ensures next { result ≡ first_data kit.now exchange }
-        ensures under { DataUnder kit.now.settings result }
-    {
-        InData {
-            session: exchange.session,
-            terms: kit.settings().terms(),
-            outputs: Outputs::new(kit.settings().peer_len()),
-        }
-    }
-
     /// Goes on by a data frame, in place. Refused with 07h where a FailSafeData frame has a byte that isn't 0; then
     /// nothing is changed.
     pub(crate) fn take(
