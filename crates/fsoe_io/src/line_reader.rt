@@ -1,5 +1,5 @@
 //! Lines from a source.
-ghost use Rattle.std.specs.Prelude.{◌≡◌, ◌+◌, ◌-◌, ◌^◌, ◌≤◌, ◌<◌, false, [], length, take, drop, IsTrue};
+ghost use Rattle.std.specs.Prelude.{◌≡◌, ◌+◌, ◌-◌, ◌^◌, ◌≤◌, ◌<◌, false, [], length, take, drop, IsTrue, IfSome, Some};
 ghost use Rattle.std.specs.Io.KnownBytes.{prepend_known};
 ghost use Rattle.fsoe_io.specs.Faults.{HasCause};
 ghost use Rattle.fsoe_io.specs.Line.{IsLine};
@@ -9,6 +9,7 @@ use crate::line::{Line, LineFault};
 use crate::source::{Failed, Source};
 use memchr::memchr;
 use std::marker::Model;
+use std::simd::prelude::*;
 
 /// The most bytes of a line, without its newline.
 const MOST: usize = 640;
@@ -24,9 +25,26 @@ enum Front {
     Open,
 }
 
+/// The first newline, where there is one among the first 32 bytes.
+fn near_newline(bytes: &[u8]) -> Option<usize>
+    requires { 32 ≤ length bytes.now }
+    ensures { IfSome result (λ at. Finds (Some at) bytes.now) }
+{
+    let near = u8x32::from_slice(bytes);
+    let newlines = near.simd_eq(u8x32::splat(b'\n')).to_bitmask();
+    let at = newlines.trailing_zeros() as usize;
+    if at < 32 { Some(at) } else { None }
+}
+
+/// The first newline, which is mostly near.
 fn newline(bytes: &[u8]) -> Option<usize>
     ensures { Finds result bytes.now }
 {
+    if bytes.len() >= 32 {
+        if let Some(at) = near_newline(bytes) {
+            return Some(at);
+        }
+    }
     memchr(b'\n', bytes)
 }
 
@@ -140,6 +158,7 @@ impl LineReader {
     }
 
     /// Takes more bytes from the source, none only at its end.
+    #[inline(never)]
     fn fill<S: Source>(&mut self, source: &mut S) -> Result<usize, Failed>
         requires { length self.old.bytes ≤ 640 }
         ensures lines { self.new.lines ≡ self.old.lines }
