@@ -60,14 +60,14 @@ fn begins(bytes: &[u8]) -> Front
 }
 
 /// Lines from a source, which is read in large pieces. It is seen as the bytes that it holds, which were read and
-/// stand in no line yet, the number of lines that it gave, and the last of these.
+/// stand in no line yet, the number of lines that it gave, and the last of these, until the next one is asked for.
 #[derive(Drop)]
 pub struct LineReader {
     buffer: [u8; 4096],
     start: usize,
     end: usize,
     lines: u64,
-    /// Where the last line begins, which stays in the buffer until the next one is asked for, and where it ends.
+    /// Where the last line begins and ends. It stays in the buffer until the next one is asked for.
     line_start: usize,
     line_end: usize,
     /// How what is held begins: a newline is sought once.
@@ -111,7 +111,7 @@ impl LineReader {
         self.lines
     }
 
-    /// The line that it gave last, without its newline, after `advance` answered true.
+    /// The line that the last `advance` took, without its newline.
     pub fn line(&self) -> &[u8]
         ensures { result.now ≡ self.now.line }
     {
@@ -175,8 +175,8 @@ impl LineReader {
         Ok(count)
     }
 
-    /// Takes the next line of what is held and of the source, which `line` lends then. False exactly at the end of the
-    /// input where a line would begin. It may be called until it gives a fault, for at most 2^64 - 1 lines.
+    /// Takes the next line of what is held and of the source: `line` lends it. False exactly at the end of the input
+    /// where a line would begin. It may be called until it gives a fault, for at most 2^64 - 1 lines.
     pub fn advance<S: Source>(&mut self, source: &mut S) -> Result<bool, LineFault>
         requires { self.old.lines < 2 ^ 64 - 1 }
         ensures bytes { Reads (given result (last_line self.new))
