@@ -5,9 +5,9 @@ ghost use Rattle.fsoe_io.specs.Line.{IsLine};
 ghost use Rattle.file_run.specs.Event.{FindsEvent, FitsGrammar, IsWithin, says, says_after, what_says};
 ghost use Rattle.file_run.specs.Halt.{Blames, Goes, Stalls};
 
-use crate::refusal::Refusal;
 use crate::halt::Halt;
 use crate::line::next_line;
+use crate::refusal::Refusal;
 use fsoe_base::Lengths;
 use fsoe_io::{LineReader, Source};
 use param_load::Profiles;

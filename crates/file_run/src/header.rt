@@ -8,9 +8,9 @@ ghost use Rattle.file_run.specs.Halt.{Blames, Goes, Stalls};
 ghost use Rattle.file_run.specs.Header.{FindsHeading, ReadsHeader};
 ghost use Rattle.file_run.specs.WholeLines.{TookLines};
 
-use crate::refusal::Refusal;
 use crate::halt::Halt;
 use crate::line::next_line;
+use crate::refusal::Refusal;
 use fsoe_io::{LineReader, Source};
 use schedule_file::{Header, HeaderKind};
 

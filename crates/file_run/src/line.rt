@@ -5,8 +5,8 @@ ghost use Rattle.fsoe_io.specs.Line.{IsLine};
 ghost use Rattle.file_run.specs.Halt.{Blames, Goes, Stalls};
 ghost use Rattle.file_run.specs.NextLine.{FindsLine};
 
-use crate::refusal::Refusal;
 use crate::halt::{Halt, halt_of};
+use crate::refusal::Refusal;
 use fsoe_io::{LineReader, Source};
 
 /// Takes the next line, which the reader lends then, or tells why there is none.
