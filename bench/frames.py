@@ -1,7 +1,8 @@
 """A plain model of both ends' frames, written from docs/protocol.md: it makes the inputs that bench/run measures.
 
 `python3 frames.py END ticks N` and `python3 frames.py END frames LENGTH N` print a node file for `fsoe_tool node END`, where
-END is `master` or `slave`: N ticks, or the peer's frames of a session with N data frames.
+END is `master` or `slave`: N ticks, or the peer's frames of a session with N data frames. `python3 frames.py pair frames LENGTH N`
+prints a pair file for `fsoe_tool replay`, in which the last frame comes to each end in turn, so many times after the handshake.
 """
 import sys
 
@@ -116,8 +117,12 @@ HEADERS = {
 }
 
 
+HEADERS["pair"] = HEADERS["master"] + HEADERS["slave"]
+
+
 def header(end, length):
-    return f"fsoe 1 node {end}\nlengths {length} {length}\n{HEADERS[end]}go\n"
+    kind = "pair" if end == "pair" else f"node {end}"
+    return f"fsoe 1 {kind}\nlengths {length} {length}\n{HEADERS[end]}go\n"
 
 
 def frame_lines(end, length, data_frames):
@@ -129,13 +134,20 @@ def frame_lines(end, length, data_frames):
         yield f"d {frame.hex()}\n"
 
 
+def pair_lines(length, frames):
+    """The last frame comes to each end in turn, after the master's first tick: those of a handshake, and so many more."""
+    yield "tm\n"
+    for n in range(2 * (1 + len(list(handshake(length)))) + frames):
+        yield "dm -1\n" if n % 2 else "ds -1\n"
+
+
 def main(end, what, *numbers):
     if what == "ticks":
         sys.stdout.write(header(end, 2) + "t\n" * int(numbers[0]))
     else:
         length, data_frames = map(int, numbers)
         sys.stdout.write(header(end, length))
-        sys.stdout.writelines(frame_lines(end, length, data_frames))
+        sys.stdout.writelines(pair_lines(length, data_frames) if end == "pair" else frame_lines(end, length, data_frames))
     sys.stdout.write("end\n")
 
 
