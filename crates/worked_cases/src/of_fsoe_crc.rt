@@ -12,13 +12,23 @@ const ONE_BIT: [(u8, u16); 8] = [
     (0x80, 0x18FA),
 ];
 
+/// What is covered by the CRC of a data frame with number 65,535, and of the same with number 1, the next one.
+const AROUND_THE_HIGHEST_NUMBER: [([u8; 12], u16); 2] = [
+    ([0, 0, 1, 0, 0xFF, 0xFF, 0x36, 1, 0, 0, 0, 0], 0x321C),
+    ([0, 0, 1, 0, 1, 0, 0x36, 1, 0, 0, 0, 0], 0x82A1),
+];
+
 #[test]
-fn single_bytes(rt: HostRuntime) {
+fn worked_remainders(rt: HostRuntime) {
     for (byte, value) in ONE_BIT {
         assert_eq!(rt; crc(&[byte]), value, "at {byte}");
         assert_eq!(rt; crc_bitwise(&[byte]), value, "bit by bit at {byte}");
     }
     assert_eq!(rt; crc(&[0x03]), 0x4AD9);
+    for (bytes, value) in &AROUND_THE_HIGHEST_NUMBER {
+        assert_eq!(rt; crc(bytes), *value);
+        assert_eq!(rt; crc_bitwise(bytes), *value);
+    }
 }
 
 #[test]

@@ -1,9 +1,6 @@
-ghost use Rattle.std.specs.Prelude.{◌<◌, length, IsTrue};
-ghost use Rattle.fsoe_base.specs.Lengths.{is_length};
-
-use fsoe_base::{Code, Command, FrameBuf};
+use fsoe_base::{Command, FrameBuf};
 use fsoe_frame::view;
-use seq_chain::{Chain, reset_frame, reset_view};
+use seq_chain::Chain;
 use std::process::Abort;
 
 /// A frame with two safe data bytes: command, data, number and CRC.
@@ -57,22 +54,6 @@ const FORGED_DATA: [Row; 2] = [
 /// A forged frame in place of the master's second Parameter frame.
 const FORGED_PARAMETERS: [Row; 1] = [(Command::Parameter, [0x00, 0x00], 5, 0xA7BD)];
 
-/// Reset frames with two safe data bytes, by their code.
-const RESETS: [[u8; 7]; 12] = [
-    [0x2A, 0x00, 0x00, 0xC4, 0x2D, 0x00, 0x00],
-    [0x2A, 0x01, 0x00, 0x47, 0xB7, 0x00, 0x00],
-    [0x2A, 0x02, 0x00, 0x75, 0x21, 0x00, 0x00],
-    [0x2A, 0x03, 0x00, 0xF6, 0xBB, 0x00, 0x00],
-    [0x2A, 0x04, 0x00, 0xA6, 0x34, 0x00, 0x00],
-    [0x2A, 0x05, 0x00, 0x25, 0xAE, 0x00, 0x00],
-    [0x2A, 0x06, 0x00, 0x17, 0x38, 0x00, 0x00],
-    [0x2A, 0x07, 0x00, 0x94, 0xA2, 0x00, 0x00],
-    [0x2A, 0x08, 0x00, 0x00, 0x1F, 0x00, 0x00],
-    [0x2A, 0x09, 0x00, 0x83, 0x85, 0x00, 0x00],
-    [0x2A, 0x0A, 0x00, 0xB1, 0x13, 0x00, 0x00],
-    [0x2A, 0x0B, 0x00, 0x32, 0x89, 0x00, 0x00],
-];
-
 /// Seals the row's frame at one end and takes it at the other.
 fn passes(rt: &impl Abort, (command, data, number, crc): Row, from: &mut Chain, to: &mut Chain) {
     let conn = if command == Command::Session { 0 } else { 1 };
@@ -115,50 +96,4 @@ fn sessions(rt: HostRuntime) {
     pass_by_turns(&rt, &FORGED_DATA, master, slave);
     let (master, slave) = pass_by_turns(&rt, &HANDSHAKE[..8], Chain::new(), Chain::new());
     pass_by_turns(&rt, &FORGED_PARAMETERS, master, slave);
-}
-
-#[test]
-fn reset_frames(rt: HostRuntime) {
-    is_reset_frame(&rt, &[0x2A, 0x00, 0x86, 0xF8, 0x00, 0x00], 1);
-    for frame in RESETS {
-        is_reset_frame(&rt, &frame, 2);
-    }
-    let four = [
-        0x2A, 0x00, 0x00, 0xC4, 0x2D, 0x00, 0x00, 0xB9, 0x14, 0x00, 0x00,
-    ];
-    is_reset_frame(&rt, &four, 4);
-}
-
-/// This is the Reset frame of its length with the code in it, and is read back.
-fn is_reset_frame(rt: &impl Abort, frame: &[u8], l: usize)
-    requires frame { 1 < length frame.now }
-    requires valid { IsTrue (is_length l) }
-{
-    let code = Code(frame[1]);
-    let mut out = FrameBuf::new();
-    reset_frame(code, l, &mut out);
-    assert_eq!(rt; out.bytes(), frame, "code {code:?}");
-    assert_eq!(rt; seen(rt, frame, l), Ok(code));
-}
-
-#[test]
-fn wrong_reset_frames(rt: HostRuntime) {
-    let data = [
-        0x2A, 0x00, 0x00, 0xC4, 0x2D, 0x00, 0x01, 0xB9, 0x14, 0x00, 0x00,
-    ];
-    assert_eq!(rt; seen(&rt, &data, 4), Err(Code(4)));
-    let connection = [0x2A, 0x00, 0x00, 0xC4, 0x2D, 0x01, 0x00];
-    assert_eq!(rt; seen(&rt, &connection, 2), Err(Code(3)));
-    let mut out = FrameBuf::new();
-    Chain::new().seal(Command::Reset, 0, &[0, 1], &mut out);
-    assert_eq!(rt; seen(&rt, out.bytes(), 2), Err(Code(7)));
-}
-
-/// What a Reset frame of this length says.
-fn seen(rt: &impl Abort, bytes: &[u8], l: usize) -> Result<Code, Code>
-    requires { IsTrue (is_length l) }
-{
-    let frame = view(bytes, l).expect(rt, "a frame of this length");
-    assert_eq!(rt; frame.command_byte(), Command::Reset.byte());
-    reset_view(&frame)
 }
