@@ -1,8 +1,7 @@
 -- A frame that is accepted and answered in one call: the master goes on in place to where accepting and replying lead.
-use Rattle.std.proofs.Common.{◌≡◌, ℕ, List, [], Bool, true, false, Result, Ok, Err, refl, sym, ap, ◌∙◌}
+use Rattle.std.proofs.Common.{◌≡◌, ℕ, List, [], true, false, Result, Ok, Err, refl, ap, ◌∙◌}
 use Rattle.fsoe_base.specs.declared.command.Code.{Code}
 use Rattle.fsoe_base.specs.declared.did.Cause.TheVariants as cause
-use Rattle.fsoe_base.specs.declared.did.Did.{Did}
 use Rattle.fsoe_base.specs.declared.did.Dropped.{Dropped}
 use Rattle.fsoe_base.specs.Did as did
 use Rattle.fsoe_base.specs.Did.{takes}
@@ -12,7 +11,7 @@ use Rattle.master_core.specs.declared.due.Next.{Next}
 use Rattle.master_core.specs.declared.now.Now.{Now}
 use Rattle.master_core.specs.declared.now.Now.TheVariants as now
 use Rattle.master_core.specs.Kit.{KitView}
-use Rattle.master_core.specs.Master.{Accepted, Outcome, drops, ends, settles, answered_by}
+use Rattle.master_core.specs.Master.{Outcome, drops, ends, settles, answered_by}
 use Rattle.master_core.specs.MasterView.{MasterView}
 use Rattle.master_core.specs.Now.{is_reset, is_due, sent_state, due_frame, went_on, next_frame}
 
