@@ -1,6 +1,5 @@
 //! One step of either end.
-ghost use Rattle.std.specs.Prelude.{◌≡◌, ◌≤◌, [], false, length, option_copied};
-ghost use Rattle.fsoe_base.specs.Did.{nothing};
+ghost use Rattle.std.specs.Prelude.{◌≡◌, ◌≤◌, false, length, option_copied};
 ghost use Rattle.end_model.specs.Setup.{OfMaster, OfSlave};
 ghost use Rattle.end_model.specs.Step.{IsProper};
 ghost use Rattle.master_core.specs.Now.{is_due};
