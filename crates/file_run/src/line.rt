@@ -10,6 +10,7 @@ use crate::refusal::Refusal;
 use fsoe_io::{LineReader, Source};
 
 /// Takes the next line, which the reader lends then, or tells why there is none.
+#[inline(always)]
 pub(crate) fn next_line<S: Source>(reader: &mut LineReader, source: &mut S) -> Result<(), Halt>
     requires { reader.old.lines < 2 ^ 64 - 1 }
     ensures finds { FindsLine result reader.new.line

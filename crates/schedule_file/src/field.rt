@@ -186,6 +186,7 @@ pub fn one_hex_field(fields: Option<&[u8]>, most: usize) -> Result<HexBytes, Lin
 
 /// Writes to `frame` the bytes of the only field, from one to 255. `Fields` where there is no field or more than one, else
 /// `Hex`; the frame is then as it was.
+#[inline(always)]
 #[tactic(auto, using(crate::proofs::HexAlone::hex_said, crate::proofs::HexAlone::hex_unsaid))]
 pub fn frame_field(fields: Option<&[u8]>, frame: &mut FrameBuf) -> Result<(), LineCause>
     ensures value { Becomes result frame.new (one_hex_field MOST_FRAME (fields_after fields.entry)) }
