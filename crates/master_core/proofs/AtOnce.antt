@@ -1,5 +1,5 @@
 -- A frame that is accepted and answered in one call: the master goes on in place to where accepting and replying lead.
-use Rattle.std.proofs.Common.{◌≡◌, ℕ, List, [], true, false, Result, Ok, Err, refl, ap, ◌∙◌}
+use Rattle.std.proofs.Common.{◌≡◌, ℕ, List, [], true, false, Result, Ok, Err, refl, sym, ap, ◌∙◌}
 use Rattle.fsoe_base.specs.declared.command.Code.{Code}
 use Rattle.fsoe_base.specs.declared.did.Cause.TheVariants as cause
 use Rattle.fsoe_base.specs.declared.did.Dropped.{Dropped}
@@ -7,10 +7,16 @@ use Rattle.fsoe_base.specs.Did as did
 use Rattle.fsoe_base.specs.Did.{takes}
 use Rattle.failsafe_io.specs.Timer.{Timer, started}
 use Rattle.seq_chain.specs.SessionFrame.{SessionFrameView}
+use Rattle.param_load.specs.declared.upload.Progress.{Progress}
+use Rattle.param_load.specs.declared.upload.Progress.TheVariants as progress
+use Rattle.param_load.specs.Download.{outcome}
+use Rattle.master_core.specs.declared.states.Exchange.{Exchange}
 use Rattle.master_core.specs.declared.due.Next.{Next}
+use Rattle.master_core.specs.declared.due.Next.TheVariants as next
+use Rattle.master_core.specs.States.{answered, with_download, first_data, session_by, session_next, connection_by, connection_next, parameter_by, parameter_next}
 use Rattle.master_core.specs.declared.now.Now.{Now}
 use Rattle.master_core.specs.declared.now.Now.TheVariants as now
-use Rattle.master_core.specs.Kit.{KitView}
+use Rattle.master_core.specs.Kit.{KitView, connection_download, parameter_download}
 use Rattle.master_core.specs.Master.{Outcome, drops, ends, settles, answered_by}
 use Rattle.master_core.specs.MasterView.{MasterView}
 use Rattle.master_core.specs.Now.{is_reset, is_due, sent_state, due_frame, went_on, next_frame}
@@ -76,3 +82,22 @@ sent_goes v f r s frame h i = ap (λ (o : Outcome). o.sent) (goes-on v f r s fra
 pub refused : (v w : MasterView) (f : SessionFrameView) (r : Result Next Code) (x : Code) → Err x ≡ went_on v.kit r → w.kit ≡ v.kit → answered_by (ends w true (cause.Found x) x) ≡ answered_by (settles v f r)
 refused v w f (Ok n) x h k = absurd (cc h)
 refused v w f (Err y) x h k = ap (λ (kit : KitView). answered_by (ends (record v { kit = kit }) true (cause.Found x) x)) k ∙ ap (λ (x : Code). answered_by (ends v true (cause.Found x) x)) (err-is x y _ h refl)
+
+-- where the last answer of a phase leads
+pub session_over : (kit : KitView) (s v e : Exchange) (f : SessionFrameView) (p : Progress) → s ≡ v → Ok p ≡ outcome s.download f.frame.load → p ≡ progress.Whole → e ≡ answered s f → Ok (next.Connection (with_download e (connection_download kit.settings))) ≡ session_next kit v f
+session_over kit s v e f p k h w a =
+    ap (λ (e : Exchange). Ok (next.Connection (with_download e (connection_download kit.settings)))) a
+    ∙ ap (λ (r : Result Progress Code). session_by r kit (answered s f)) (ap (λ (p : Progress). Ok p) (sym w) ∙ h)
+    ∙ ap (λ (s : Exchange). session_next kit s f) k
+
+pub connection_over : (kit : KitView) (s v e : Exchange) (f : SessionFrameView) (p : Progress) → s ≡ v → Ok p ≡ outcome s.download f.frame.load → p ≡ progress.Whole → e ≡ answered s f → Ok (next.Parameter (with_download e (parameter_download kit.settings))) ≡ connection_next kit v f
+connection_over kit s v e f p k h w a =
+    ap (λ (e : Exchange). Ok (next.Parameter (with_download e (parameter_download kit.settings)))) a
+    ∙ ap (λ (r : Result Progress Code). connection_by r kit (answered s f)) (ap (λ (p : Progress). Ok p) (sym w) ∙ h)
+    ∙ ap (λ (s : Exchange). connection_next kit s f) k
+
+pub parameter_over : (kit : KitView) (s v e : Exchange) (f : SessionFrameView) (p : Progress) → s ≡ v → Ok p ≡ outcome s.download f.frame.load → p ≡ progress.Whole → e ≡ answered s f → Ok (next.Data (first_data kit e)) ≡ parameter_next kit v f
+parameter_over kit s v e f p k h w a =
+    ap (λ (e : Exchange). Ok (next.Data (first_data kit e))) a
+    ∙ ap (λ (r : Result Progress Code). parameter_by r kit (answered s f)) (ap (λ (p : Progress). Ok p) (sym w) ∙ h)
+    ∙ ap (λ (s : Exchange). parameter_next kit s f) k

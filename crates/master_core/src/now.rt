@@ -35,10 +35,16 @@ fn has_conn(settings: &MasterSettings, command: Command, field: u16) -> bool
 impl Now {
     ghost use Rattle.std.specs.Prelude.{◌≡◌, ◌≤◌, false, length, Some, IfOk, OnOk, option_copied};
     ghost use Rattle.std.specs.Result.{result_err};
+    ghost use Rattle.fsoe_base.specs.declared.command.State.TheVariants as state;
     ghost use Rattle.seq_chain.specs.Chain.{tested};
+    ghost use Rattle.master_core.specs.declared.states.Exchange.{Exchange};
+    ghost use Rattle.master_core.specs.declared.due.Next.TheVariants as next;
+    ghost use Rattle.master_core.specs.declared.now.Now.TheVariants as now;
+    ghost use Rattle.master_core.specs.Kit.{connection_download, parameter_download};
+    ghost use Rattle.master_core.specs.States.{with_download, first_data};
     ghost use Rattle.seq_chain.specs.Session.{HasPassed, is_repeat};
     ghost use Rattle.end_model.specs.Setup.{OfMaster, receives};
-    ghost use Rattle.master_core.specs.Now.{IsUnder, NextUnder, state_of, is_reset, is_due, session_of, chain_of, kept_in, allows, fault, next_state, went_on, next_frame, placed, replied, reply, outputs_in, terms_shown_in};
+    ghost use Rattle.master_core.specs.Now.{IsUnder, NextUnder, state_of, is_reset, is_due, session_of, chain_of, kept_in, allows, fault, next_state, sent_state, due_frame, went_on, next_frame, placed, replied, reply, outputs_in, terms_shown_in};
 
     /// The state; while a frame is due, that after it is sent.
     pub(crate) fn state(&self) -> State
@@ -161,6 +167,62 @@ impl Now {
         Ok(())
     }
 
+    // A function clears the room of all its locals, so that each change of phase, which makes a state, has one of its own.
+
+    /// Begins state Connection after the last answer in state Session, and sends its first frame.
+    #[inline(never)]
+    fn begin_connection(&mut self, kit: &Kit, out: &mut FrameBuf)
+        requires phase { state_of self.old ≡ state.Session }
+        requires rest { is_due self.old ≡ false }
+        ensures next { (e : Exchange) → self.old ≡ now.Session e → self.new ≡ sent_state kit.now (next.Connection (with_download e (connection_download kit.now.settings))) }
+        ensures sent { (e : Exchange) → self.old ≡ now.Session e → out.new ≡ due_frame kit.now (next.Connection (with_download e (connection_download kit.now.settings))) }
+        ensures under { IsUnder kit.now.settings self.new }
+        ensures rest { is_due self.new ≡ false }
+    {
+        let Now::Session(state) = self else {
+            unreachable!();
+        };
+        let mut next = state.to_connection(kit);
+        next.send_next(kit, out);
+        *self = Now::Connection(next);
+    }
+
+    /// Begins state Parameter after the last answer in state Connection, and sends its first frame.
+    #[inline(never)]
+    fn begin_parameter(&mut self, kit: &Kit, out: &mut FrameBuf)
+        requires phase { state_of self.old ≡ state.Connection }
+        requires rest { is_due self.old ≡ false }
+        ensures next { (e : Exchange) → self.old ≡ now.Connection e → self.new ≡ sent_state kit.now (next.Parameter (with_download e (parameter_download kit.now.settings))) }
+        ensures sent { (e : Exchange) → self.old ≡ now.Connection e → out.new ≡ due_frame kit.now (next.Parameter (with_download e (parameter_download kit.now.settings))) }
+        ensures under { IsUnder kit.now.settings self.new }
+        ensures rest { is_due self.new ≡ false }
+    {
+        let Now::Connection(state) = self else {
+            unreachable!();
+        };
+        let mut next = state.to_parameter(kit);
+        next.send_next(kit, out);
+        *self = Now::Parameter(next);
+    }
+
+    /// Begins state Data after the last answer in state Parameter, and sends its first frame.
+    #[inline(never)]
+    fn begin_data(&mut self, kit: &Kit, out: &mut FrameBuf)
+        requires phase { state_of self.old ≡ state.Parameter }
+        requires rest { is_due self.old ≡ false }
+        ensures next { (e : Exchange) → self.old ≡ now.Parameter e → self.new ≡ sent_state kit.now (next.Data (first_data kit.now e)) }
+        ensures sent { (e : Exchange) → self.old ≡ now.Parameter e → out.new ≡ due_frame kit.now (next.Data (first_data kit.now e)) }
+        ensures under { IsUnder kit.now.settings self.new }
+        ensures rest { is_due self.new ≡ false }
+    {
+        let Now::Parameter(state) = self else {
+            unreachable!();
+        };
+        let mut next = state.to_data(kit);
+        next.send_next(kit, out);
+        *self = Now::Data(next);
+    }
+
     /// The same, apart from state Data, so that a data frame doesn't bear the cost of a change of phase.
     #[tactic(auto, using(crate::proofs::AtOnce::went_on_by, crate::proofs::AtOnce::frame_by, crate::proofs::AtOnce::went_wrong))]
     #[inline(never)]
@@ -182,27 +244,15 @@ impl Now {
             Now::Reset(_) | Now::Due(_) => return Err(Code::COMMAND_NOT_ALLOWED),
             Now::Session(state) => match state.exchange.take(seen, link, kit)? {
                 Progress::More => state.send_next(kit, out),
-                Progress::Whole => {
-                    let mut next = state.to_connection(kit);
-                    next.send_next(kit, out);
-                    *self = Now::Connection(next);
-                }
+                Progress::Whole => self.begin_connection(kit, out),
             },
             Now::Connection(state) => match state.exchange.take(seen, link, kit)? {
                 Progress::More => state.send_next(kit, out),
-                Progress::Whole => {
-                    let mut next = state.to_parameter(kit);
-                    next.send_next(kit, out);
-                    *self = Now::Parameter(next);
-                }
+                Progress::Whole => self.begin_parameter(kit, out),
             },
             Now::Parameter(state) => match state.exchange.take(seen, link, kit)? {
                 Progress::More => state.send_next(kit, out),
-                Progress::Whole => {
-                    let mut next = state.to_data(kit);
-                    next.send_next(kit, out);
-                    *self = Now::Data(next);
-                }
+                Progress::Whole => self.begin_data(kit, out),
             },
             Now::Data(state) => {
                 state.take(seen, link, kit)?;
