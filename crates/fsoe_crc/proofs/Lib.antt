@@ -4,3 +4,4 @@ pub mod Linear
 pub mod Adjacent
 pub mod ByTable
 pub mod BitsLemmas
+pub mod TwoParts

@@ -1,6 +1,6 @@
-//! What the CRC is sure to tell apart.
+//! What the CRC is sure to tell apart, and how it is made of the CRCs of parts.
 
-ghost use Rattle.std.specs.Prelude.{◌≡◌, ◌<◌, ℕ, List, ◌∷◌, ◌++◌};
+ghost use Rattle.std.specs.Prelude.{◌≡◌, ◌<◌, ℕ, List, ◌∷◌, ◌++◌, length, replicate, bit_xor};
 ghost use Rattle.fsoe_crc.specs.Remainder.{rem};
 
 /// Two lists of bytes of one length that differ only within two adjacent bytes, or within one
@@ -8,4 +8,10 @@ ghost use Rattle.fsoe_crc.specs.Remainder.{rem};
 pub fn adjacent_bytes()
     ensures two { (before after : List ℕ) (a b c d : ℕ) → a < 256 → b < 256 → c < 256 → d < 256 → rem (before ++ a ∷ b ∷ after) ≡ rem (before ++ c ∷ d ∷ after) → (a ≡ c) × (b ≡ d) }
     ensures one { (before after : List ℕ) (a c : ℕ) → a < 256 → c < 256 → rem (before ++ a ∷ after) ≡ rem (before ++ c ∷ after) → a ≡ c }
+{}
+
+/// The CRC is linear: that of two parts is the exclusive-or of two CRCs, that of the first part with zeros in place of the
+/// second, and that of the second alone. So it can be made of what each part decides by itself.
+pub fn two_parts()
+    ensures { (first second : List ℕ) → rem (first ++ second) ≡ bit_xor (rem (first ++ replicate (length second) 0)) (rem second) }
 {}

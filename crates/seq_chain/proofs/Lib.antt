@@ -1,4 +1,5 @@
 pub mod NextGroup
+pub mod PartsOfCover
 pub mod ToldApart
 pub mod Steps
 pub mod OneChange

@@ -1,6 +1,6 @@
 //! The CRCs of a frame, over what they cover.
 
-ghost use Rattle.std.specs.Prelude.{◌≡◌, ◌<◌, [], ◌∷◌, ◌++◌, ℕ, List, length, IsTrue};
+ghost use Rattle.std.specs.Prelude.{◌≡◌, ◌<◌, [], ◌∷◌, ◌++◌, ℕ, List, length, replicate, IsTrue};
 ghost use Rattle.fsoe_base.specs.Lengths.{is_length, group_count};
 ghost use Rattle.fsoe_crc.specs.Remainder.{rem};
 ghost use Rattle.fsoe_base.specs.Bytes.{low_high};
@@ -13,20 +13,23 @@ use fsoe_crc::Register;
 pub(crate) type Crcs = ArrayVec<u16, 63>;
 
 /// The CRCs of the groups of a load, in place of what `out` held. The part that they cover in common
-/// is fed once and copied for each of them.
+/// is fed once for all of them.
 pub(crate) fn crcs_into(last: u16, conn: u16, number: u16, command: u8, load: &[u8], out: &mut Crcs)
     requires { IsTrue (is_length (length load.now)) }
     ensures items { out.new.items ≡ crcs last conn number command load.now }
     ensures count { length out.new.items ≡ group_count (length load.now) }
 {
-    out.clear();
+    // A new list is a few stores, where `clear` is a call.
+    *out = Crcs::new();
     let common = common_part(last, conn, number, command);
     if load.len() == 1 {
         out.push(byte_crc(&common, load[0]));
-    } else {
-        for group in 0..load.len() / 2 {
-            out.push(pair_crc(&common, group, load[2 * group], load[2 * group + 1]));
-        }
+        return;
+    }
+    out.push(first_crc(&common, load[0], load[1]));
+    let advanced = common_and_zeros(&common);
+    for group in 1..load.len() / 2 {
+        out.push(later_crc(advanced, group, load[2 * group], load[2 * group + 1]));
     }
 }
 
@@ -42,36 +45,70 @@ fn common_part(last: u16, conn: u16, number: u16, command: u8) -> Register
     register
 }
 
-/// The CRC of a group of two bytes at this place, after the common part.
-fn pair_crc(common: &Register, index: usize, first: u8, second: u8) -> u16
-    requires { index < 65536 }
-    ensures { (begun : List ℕ) → common.now ≡ rem begun → result ≡ rem (covered begun index (first ∷ second ∷ [])) }
-{
-    let mut register = common.copy();
-    feed_place(&mut register, index);
-    register.feed_pair_and_zeros(first, second);
-    register.value()
-}
-
 /// The CRC of a load of one byte, after the common part.
 fn byte_crc(common: &Register, byte: u8) -> u16
     ensures { (begun : List ℕ) → common.now ≡ rem begun → result ≡ rem (covered begun 0 (byte ∷ [])) }
 {
     let mut register = common.copy();
-    register.feed(byte);
+    register.feed_pair(byte, 0);
     register.feed_pair(0, 0);
-    register.feed(0);
     register.value()
 }
 
-/// Feeds the place of a group: nothing for the first.
-fn feed_place(register: &mut Register, index: usize)
-    requires { index < 65536 }
-    ensures { (fed : List ℕ) → register.old ≡ rem fed → register.new ≡ rem (fed ++ place index) }
+/// The CRC of a first group of two bytes, after the common part.
+fn first_crc(common: &Register, first: u8, second: u8) -> u16
+    ensures { (begun : List ℕ) → common.now ≡ rem begun → result ≡ rem (covered begun 0 (first ∷ second ∷ [])) }
 {
-    if index > 0 {
-        feed_number(register, index as u16);
-    }
+    let mut register = common.copy();
+    register.feed_pair_and_zeros(first, second);
+    register.value()
+}
+
+/// The CRC of the common part with zeros in place of all that a later group covers after it.
+fn common_and_zeros(common: &Register) -> u16
+    ensures { (begun : List ℕ) → common.now ≡ rem begun → result ≡ rem (begun ++ replicate 7 0) }
+{
+    let mut register = common.copy();
+    register.feed_pair(0, 0);
+    register.feed_pair_and_zeros(0, 0);
+    register.value()
+}
+
+/// The CRC of a later group of two bytes at this place, after the common part, of which `advanced` is the CRC with zeros.
+fn later_crc(advanced: u16, index: usize, first: u8, second: u8) -> u16
+    requires later { 0 < index }
+    requires place { index < 63 }
+    ensures { (begun : List ℕ) → advanced ≡ rem (begun ++ replicate 7 0) → result ≡ rem (covered begun index (first ∷ second ∷ [])) }
+{
+    // The CRC is linear: each of the three parts decides what it adds by exclusive-or, whatever the others are.
+    advanced ^ place_and_zeros(index) ^ pair_and_zeros(first, second)
+}
+
+/// The CRC of the place of each group with zeros in place of its two bytes, and of the three zeros after them.
+static PLACES: [u16; 63] = [
+    0x0000, 0x0DE3, 0x1BC6, 0x1625, 0x378C, 0x3A6F, 0x2C4A, 0x21A9, 0x6F18, 0x62FB, 0x74DE, 0x793D,
+    0x5894, 0x5577, 0x4352, 0x4EB1, 0xDE30, 0xD3D3, 0xC5F6, 0xC815, 0xE9BC, 0xE45F, 0xF27A, 0xFF99,
+    0xB128, 0xBCCB, 0xAAEE, 0xA70D, 0x86A4, 0x8B47, 0x9D62, 0x9081, 0x85D7, 0x8834, 0x9E11, 0x93F2,
+    0xB25B, 0xBFB8, 0xA99D, 0xA47E, 0xEACF, 0xE72C, 0xF109, 0xFCEA, 0xDD43, 0xD0A0, 0xC685, 0xCB66,
+    0x5BE7, 0x5604, 0x4021, 0x4DC2, 0x6C6B, 0x6188, 0x77AD, 0x7A4E, 0x34FF, 0x391C, 0x2F39, 0x22DA,
+    0x0373, 0x0E90, 0x18B5,
+];
+
+/// The CRC of the place of a group with zeros in place of its two bytes, and of the three zeros after them.
+fn place_and_zeros(index: usize) -> u16
+    requires { index < 63 }
+    ensures { result ≡ rem (place index ++ replicate 5 0) }
+{
+    PLACES[index]
+}
+
+/// The CRC of two bytes and three zeros.
+fn pair_and_zeros(first: u8, second: u8) -> u16
+    ensures { result ≡ rem (first ∷ second ∷ 0 ∷ 0 ∷ 0 ∷ []) }
+{
+    let mut register = Register::new();
+    register.feed_pair_and_zeros(first, second);
+    register.value()
 }
 
 /// Feeds a number of 16 bits, low byte first.

@@ -45,4 +45,5 @@ fn a_copied_register_goes_on_alone(rt: HostRuntime) {
     assert_eq!(rt; crc(&[0x01, 0x02]), register.value());
     assert_eq!(rt; crc_bitwise(&[0x01, 0x03]), copied.value());
     laws::adjacent_bytes();
+    laws::two_parts();
 }

@@ -7,9 +7,9 @@ use Rattle.seq_chain.proofs.cover.crcs_into.Goals as goal
 pub loop-group-preserved : goal.loop-group-preserved
 loop-group-preserved c = record {
   whole =
-      next_crc c.args.last c.args.conn c.args.number c.args.command c.loop-group.group c.pair_crc.result c.args.load.now c.loop-group.out.items c.push-in-loop-group.new.self.items
+      next_crc c.args.last c.args.conn c.args.number c.args.command c.loop-group.group c.later_crc.result c.args.load.now c.loop-group.out.items c.push-in-loop-group.new.self.items
       (crcs_from c.args.last c.args.conn c.args.number c.args.command 0 (groups c.args.load.now))
       (omega arith) c.loop-group.invariant.whole c.push-in-loop-group.ensures.items
-      (c.pair_crc.ensures (common c.args.last c.args.conn c.args.number c.args.command) c.common_part-common.ensures);
+      (c.later_crc.ensures (common c.args.last c.args.conn c.args.number c.args.command) (c.common_and_zeros-advanced.ensures (common c.args.last c.args.conn c.args.number c.args.command) c.common_part-common.ensures));
   len = omega (arith, c.push-in-loop-group.ensures.len);
 }
