@@ -1,9 +1,41 @@
-//! Bytes as hexadecimal text.
-ghost use Rattle.std.specs.Prelude.{◌≡◌, ◌*◌, ◌/◌, ◌%◌, length, slice_index};
+//! Bytes as hexadecimal text. Sixteen bytes are written at once, where there are as many. The last sixteen are written as well, though some
+//! of them were written before, so that none is written alone.
+ghost use Rattle.std.specs.Prelude.{◌≡◌, ◌*◌, ◌/◌, ◌%◌, ◌≤◌, ◌<◌, ◌++◌, ℕ, length, map, slice_index, take, drop};
 ghost use Rattle.hex.specs.Hex.{encode_lower, lower_digits};
 
+use std::simd::prelude::*;
+
+/// The lower-case digits.
+static DIGITS: [u8; 16] = [
+    b'0', b'1', b'2', b'3', b'4', b'5', b'6', b'7', b'8', b'9', b'a', b'b', b'c', b'd', b'e', b'f',
+];
+
+/// The digits of sixteen values of four bits.
+#[tactic(auto, using(crate::proofs::HexText::looks_up))]
+fn digits_of(values: u8x16) -> u8x16
+    requires count { length values ≡ 16 }
+    requires four_bits { (i : ℕ) → slice_index values i < 16 }
+    ensures { result ≡ map (slice_index lower_digits) values }
+{
+    u8x16::from_array(DIGITS).swizzle_dyn(values)
+}
+
+/// Writes the first sixteen bytes.
+fn write_sixteen(bytes: &[u8], out: &mut [u8])
+    requires bytes { 16 ≤ length bytes.now }
+    requires room { 32 ≤ length out.old }
+    ensures { out.new ≡ encode_lower (take 16 bytes.now) ++ drop 32 out.old }
+{
+    let sixteen = u8x16::from_slice(bytes);
+    let high = digits_of(sixteen >> u8x16::splat(4));
+    let low = digits_of(sixteen & u8x16::splat(15));
+    let (first, last) = high.interleave(low);
+    first.copy_to_slice(out);
+    last.copy_to_slice(&mut out[16..]);
+}
+
 /// The lower-case digits of each byte. The higher is the low byte of the number, as text goes.
-static DIGITS: [u16; 256] = [
+static PAIRS: [u16; 256] = [
     0x3030, 0x3130, 0x3230, 0x3330, 0x3430, 0x3530, 0x3630, 0x3730, 0x3830, 0x3930, 0x6130, 0x6230,
     0x6330, 0x6430, 0x6530, 0x6630, 0x3031, 0x3131, 0x3231, 0x3331, 0x3431, 0x3531, 0x3631, 0x3731,
     0x3831, 0x3931, 0x6131, 0x6231, 0x6331, 0x6431, 0x6531, 0x6631, 0x3032, 0x3132, 0x3232, 0x3332,
@@ -33,11 +65,11 @@ fn digits(byte: u8) -> u16
     ensures high { result % 256 ≡ slice_index lower_digits (byte / 16) }
     ensures low { result / 256 ≡ slice_index lower_digits (byte % 16) }
 {
-    DIGITS[byte as usize]
+    PAIRS[byte as usize]
 }
 
-/// Writes bytes as lower-case digits, two a byte.
-pub(crate) fn write_hex(bytes: &[u8], out: &mut [u8])
+/// Writes bytes one after another.
+fn write_each(bytes: &[u8], out: &mut [u8])
     requires { length out.old ≡ 2 * length bytes.now }
     ensures { out.new ≡ encode_lower bytes.now }
 {
@@ -46,4 +78,20 @@ pub(crate) fn write_hex(bytes: &[u8], out: &mut [u8])
         out[2 * i] = high;
         out[2 * i + 1] = low;
     }
+}
+
+/// Writes bytes as lower-case digits, two a byte.
+pub(crate) fn write_hex(bytes: &[u8], out: &mut [u8])
+    requires { length out.old ≡ 2 * length bytes.now }
+    ensures { out.new ≡ encode_lower bytes.now }
+{
+    let count = bytes.len();
+    if count < 16 {
+        write_each(bytes, out);
+        return;
+    }
+    for i in 0..(count - 1) / 16 {
+        write_sixteen(&bytes[16 * i..], &mut out[32 * i..]);
+    }
+    write_sixteen(&bytes[count - 16..], &mut out[2 * count - 32..]);
 }

@@ -1,16 +1,21 @@
-use Rattle.std.proofs.Common.{◌≡◌, ℕ, ◌/◌, ◌%◌, List, arith, slice_index, get_or, ap, ◌∙◌}
-use Rattle.hex.specs.Hex.{lower_digits}
-use Rattle.hex.proofs.Pairs.{encode_step, encode_done}
+use Rattle.std.proofs.Common.{ℕ, ◌+◌, ◌-◌, ◌*◌, List, length, arith}
+use Rattle.fsoe_io.proofs.HexText.{all_written, earlier, none_written, sixteen_more}
 use Rattle.fsoe_io.proofs.hex_text.write_hex.Goals as goal
+
+pub loop-i-init : goal.loop-i-init
+loop-i-init c = none_written c.args.bytes.now c.args.out.now
 
 pub loop-i-preserved : goal.loop-i-preserved
 loop-i-preserved c =
-    let byte : ℕ = slice_index c.args.bytes.now c.loop-i.i in
-    let both : ℕ = c.digits.result in
-    let rest : both / 256 % 256 ≡ both / 256 = omega arith in
-    let high : get_or c.to_le_bytes.result 0 0 ≡ slice_index lower_digits (byte / 16) = ap (λ (l : List ℕ). get_or l 0 0) c.to_le_bytes.ensures ∙ c.digits.ensures.high in
-    let low : get_or c.to_le_bytes.result 1 0 ≡ slice_index lower_digits (byte % 16) = ap (λ (l : List ℕ). get_or l 1 0) c.to_le_bytes.ensures ∙ rest ∙ c.digits.ensures.low in
-    encode_step lower_digits c.args.bytes.now c.loop-i.out c.loop-i.i _ _ (omega arith) (omega arith) high low c.loop-i.invariant
+    let bytes : List ℕ = c.args.bytes.now in
+    let i : ℕ = c.loop-i.i in
+    sixteen_more bytes c.loop-i.out c.write_sixteen.new.out _ (16 * i) (32 * i) (length bytes - 16 * i) (16 * (i + 1)) (omega arith)
+    (omega arith) (omega arith) (omega arith) c.loop-i.invariant c.write_sixteen.ensures _
 
 pub returns : goal.returns
-returns c = encode_done _ _ _ c.loop-i.i (omega arith) (omega arith) c.loop-i.invariant
+returns c =
+    let bytes : List ℕ = c.args.bytes.now in
+    let at : ℕ = length bytes - 16 in
+    all_written bytes _ (length bytes) (omega arith) (omega arith)
+    (sixteen_more bytes c.loop-i.out c.write_sixteen-2.new.out _ at (2 * length bytes - 32) (length bytes - at) (length bytes) (omega arith)
+    (omega arith) (omega arith) (omega arith) (earlier bytes c.loop-i.out at (16 * c.loop-i.i) (omega arith) c.loop-i.invariant) c.write_sixteen-2.ensures _)
