@@ -1,9 +1,12 @@
 -- The parts of a frame by their places, and from its layout.
-use Rattle.std.proofs.Common.{◌≡◌, subst, ◌≢◌, ℕ, zero, suc, ◌+◌, ◌-◌, ◌*◌, ◌/◌, ◌%◌, ◌<◌, ◌≤◌, List, [], ◌∷◌, ◌++◌, length, drop, get_or, slice_index, IsTrue, inl, inr, refl, sym, ap, ◌∙◌, arith, add-one, append_assoc}
+use Rattle.std.proofs.Common.{◌≡◌, subst, ◌≢◌, ℕ, zero, suc, ◌+◌, ◌-◌, ◌*◌, ◌/◌, ◌%◌, ◌<◌, ◌≤◌, List, [], ◌∷◌, ◌++◌, length, take, drop, get_or, slice_index, slice_set, IsTrue, inl, inr, refl, sym, ap, ◌∙◌, arith, add-one, append_assoc}
 use Rattle.std.proofs.lemmas.Bool.{cases_eq}
 use Rattle.std.proofs.lemmas.Bool.Decides.{nat_tests}
-use Rattle.std.proofs.Math.Seq.{drop-cons}
-use Rattle.std.proofs.Common.{length-drop, append-nil}
+use Rattle.std.proofs.Math.Seq.{drop-append_seam, drop-cons, take-append_seam}
+use Rattle.std.proofs.Common.{length-append, length-drop, append-nil}
+use Rattle.std.proofs.lemmas.List.{drop_all, length-take-le, take_all, take_at}
+use Rattle.std.specs.List.{refill}
+use borrow.Rule.Slice.PartMut.{put_mid}
 use Rattle.fsoe_base.specs.Lengths.{is_length, group_count, frame_len}
 use Rattle.fsoe_base.specs.Bytes.{low_high}
 use Rattle.fsoe_frame.specs.Layout.{groups, with_crcs, layout}
@@ -131,7 +134,7 @@ one_layout cmd conn (d ∷ d' ∷ load) crcs h k = absurd (omega arith)
 one_layout cmd conn (d ∷ []) [] h k = absurd (omega arith)
 one_layout cmd conn (d ∷ []) (c ∷ c' ∷ crcs) h k = absurd (omega arith)
 
-count_one : (l : ℕ) → l ≡ 1 → group_count l ≡ 1
+pub count_one : (l : ℕ) → l ≡ 1 → group_count l ≡ 1
 count_one l h = grind (arith, nat_tests)
 
 count_even : (l : ℕ) → l ≢ 1 → group_count l ≡ l / 2
@@ -337,6 +340,68 @@ writes_pair load crcs out new whole bytes i h k e fits b f =
     ∙ sym (ap (λ xs. out ++ xs) here)
     ∙ e
 
--- a pair has a CRC
-pub crc_of_pair : (load crcs : List ℕ) (i : ℕ) → IsTrue (is_length (length load)) → length load ≢ 1 → length crcs ≡ group_count (length load) → i < length load / 2 → (2 * i + 1 < length load) × (i < length crcs)
-crc_of_pair load crcs i valid other count lt = (omega (arith, even_length (length load) valid other), omega (arith, count, count_even (length load) other))
+-- a CRC of pairs has its pair
+pub pair_of_crc : (load crcs : List ℕ) (i : ℕ) → IsTrue (is_length (length load)) → length load ≢ 1 → length crcs ≡ group_count (length load) → i < length crcs → 2 * i + 1 < length load
+pair_of_crc load crcs i valid other count lt = omega (arith, even_length (length load) valid other, count, count_even (length load) other)
+
+-- a part that is put after a front stands there
+pub put_taken : (at next : ℕ) (out new piece post : List ℕ) → at ≤ length out → next ≡ at + length piece → new ≡ piece → take next (take at out ++ (new ++ post)) ≡ take at out ++ piece
+put_taken at next out new piece post le end is =
+    ap (λ xs. take next (take at out ++ (xs ++ post))) is
+    ∙ ap (take next) (sym (append_assoc (take at out) piece post))
+    ∙ take_at (take at out ++ piece) post next (omega (arith, length-append (take at out) piece, length-take-le at out le))
+
+-- bytes over which as many are written
+pub refilled : (old new : List ℕ) → length old ≡ length new → refill (length old) old new ≡ new
+refilled old new same = take_at new (drop (length new) old) (length old) (sym same)
+
+-- a group of one byte is written, with its CRC
+pub one_group : (load crcs bytes : List ℕ) → length load ≡ 1 → length crcs ≡ 1 → get_or crcs 0 0 < 65536
+    → bytes ≡ get_or crcs 0 0 % 256 ∷ get_or crcs 0 0 / 256 % 256 ∷ []
+    → get_or load 0 0 ∷ get_or bytes 0 0 ∷ get_or bytes 1 0 ∷ [] ≡ with_crcs (groups load) crcs
+one_group (d ∷ []) (c ∷ []) bytes h k fits b =
+    let high : c / 256 % 256 ≡ c / 256 = omega arith in
+    ap (λ xs. d ∷ get_or xs 0 0 ∷ get_or xs 1 0 ∷ []) b ∙ ap (λ n. d ∷ c % 256 ∷ n ∷ []) high
+one_group [] crcs bytes h k fits b = absurd (omega arith)
+one_group (d ∷ d' ∷ load) crcs bytes h k fits b = absurd (omega arith)
+one_group (d ∷ []) [] bytes h k fits b = absurd (omega arith)
+one_group (d ∷ []) (c ∷ c' ∷ crcs) bytes h k fits b = absurd (omega arith)
+
+-- all groups are written
+pub all_written : (load crcs out whole : List ℕ) (i : ℕ) → IsTrue (is_length (length load)) → length load ≢ 1 → length crcs ≡ group_count (length load)
+    → length crcs ≤ i → length out ≡ length load + 2 * length crcs
+    → take (4 * i) out ++ with_crcs (groups (drop (2 * i) load)) (drop i crcs) ≡ whole → out ≡ whole
+all_written load crcs out whole i valid other count le room e =
+    let even = even_length (length load) valid other in
+    let pairs_count = count_even (length load) other in
+    let none : with_crcs (groups (drop (2 * i) load)) (drop i crcs) ≡ [] =
+    ap (λ xs. with_crcs (groups xs) (drop i crcs)) (drop_all (2 * i) load (omega (arith, even, pairs_count))) in
+    sym (take_all (4 * i) out (omega (arith, even, pairs_count))) ∙ sym (append-nil (take (4 * i) out))
+    ∙ sym (ap (λ xs. take (4 * i) out ++ xs) none) ∙ e
+
+-- the command byte, what is written after it up to a place, and what is written there up to the end are all
+pub framed : (out middle last : List ℕ) (cmd end k k' : ℕ) → 0 < length out → end ≡ suc (length middle) → length out ≤ suc (k + k')
+    → put_mid end k' (put_mid 1 k (slice_set out 0 cmd) middle) last ≡ cmd ∷ (middle ++ last)
+framed (b ∷ out) middle last cmd end k k' some e room =
+    let rest : List ℕ = drop k out in
+    let long : length rest ≤ k' = omega (arith, length-drop k out) in
+    ap (λ n. take n (cmd ∷ (middle ++ rest)) ++ (last ++ drop k' (drop n (cmd ∷ (middle ++ rest))))) e
+    ∙ ap (λ xs. cmd ∷ (xs ++ (last ++ drop k' (drop (length middle) (middle ++ rest))))) (take-append_seam middle rest)
+    ∙ ap (λ xs. cmd ∷ (middle ++ (last ++ drop k' xs))) (drop-append_seam middle rest)
+    ∙ ap (λ xs. cmd ∷ (middle ++ (last ++ xs))) (drop_all k' rest long)
+    ∙ ap (λ xs. cmd ∷ (middle ++ xs)) (append-nil last)
+framed [] middle last cmd end k k' some e room = absurd (omega arith)
+
+-- the two bytes of a number of 16 bits
+pub two_bytes : (n : ℕ) (bytes : List ℕ) → n < 65536 → bytes ≡ n % 256 ∷ n / 256 % 256 ∷ [] → bytes ≡ low_high n
+two_bytes n bytes fits b =
+    let high : n / 256 % 256 ≡ n / 256 = omega arith in
+    b ∙ ap (λ h. n % 256 ∷ h ∷ []) high
+
+-- how many bytes the groups have with their CRCs
+pub group_bytes : (l n count : ℕ) → IsTrue (is_length l) → n ≡ frame_len l → count ≡ group_count l → n ≡ 3 + (l + 2 * count)
+group_bytes l n count valid right e =
+    elim (cases_eq l 1) [
+      | inl one ↦ (let six : frame_len l ≡ 6 = ap frame_len one in omega (arith, six, count_one l one))
+      | inr other ↦ omega (arith, even_length l valid other, len_other l other, count_even l other)
+    ]

@@ -57,14 +57,8 @@ impl<'a> FrameView<'a> {
         ensures valid { IsTrue (is_length (length out.new)) }
         ensures groups { length self.now.crcs ≡ group_count (length out.new) }
     {
-        out.clear();
-        if self.l == 1 {
-            out.push(self.bytes[1]);
-        } else {
-            for group in 0..self.l / 2 {
-                out.push_all(&[self.bytes[1 + 4 * group], self.bytes[2 + 4 * group]]);
-            }
-        }
+        out.resize(self.l);
+        read_load(self.bytes, out.bytes_mut());
     }
 
     /// The CRC of a group that exists.
@@ -92,6 +86,22 @@ impl<'a> FrameView<'a> {
         ensures most { length result.now ≤ MOST_FRAME }
     {
         self.bytes
+    }
+}
+
+/// Copies the safe data of a frame over bytes that are as many.
+fn read_load(bytes: &[u8], out: &mut [u8])
+    requires valid { IsTrue (is_length (length out.old)) }
+    requires right { length bytes.now ≡ frame_len (length out.old) }
+    ensures { out.new ≡ (frame_of (length out.old) bytes.now).load }
+{
+    if out.len() == 1 {
+        out[0] = bytes[1];
+    } else {
+        for group in 0..out.len() / 2 {
+            let pair = [bytes[1 + 4 * group], bytes[2 + 4 * group]];
+            out[2 * group..2 * group + 2].copy_from_slice(&pair);
+        }
     }
 }
 

@@ -1,12 +1,11 @@
 //! Writing a frame.
 
-ghost use Rattle.std.specs.Prelude.{◌≡◌, ◌≤◌, ◌+◌, ◌++◌, length, IsTrue};
+ghost use Rattle.std.specs.Prelude.{◌≡◌, ◌+◌, ◌*◌, length, IsTrue};
 ghost use Rattle.fsoe_base.specs.Command.{command_byte};
-ghost use Rattle.fsoe_base.specs.Lengths.{is_length, group_count};
-ghost use Rattle.fsoe_base.specs.Bytes.{low_high};
-ghost use Rattle.fsoe_frame.specs.Layout.{layout};
+ghost use Rattle.fsoe_base.specs.Lengths.{is_length, group_count, frame_len};
+ghost use Rattle.fsoe_frame.specs.Layout.{groups, layout, with_crcs};
 
-use fsoe_base::{Command, FrameBuf, MOST_FRAME};
+use fsoe_base::{Command, FrameBuf, frame_len};
 
 /// Writes into `out` the frame of a command with this load of safe data, these CRCs and this connection
 /// id, in place of what `out` held. The load has a valid number of bytes, 1 or an even number from
@@ -16,24 +15,38 @@ pub fn write(command: Command, load: &[u8], crcs: &[u16], conn: u16, out: &mut F
     requires one_each { length crcs.now ≡ group_count (length load.now) }
     ensures { out.new ≡ layout (command_byte command) load.now crcs.now conn }
 {
-    out.clear();
-    out.push(command.byte());
-    if load.len() == 1 {
-        out.push(load[0]);
-        push_number(out, crcs[0]);
-    } else {
-        for group in 0..load.len() / 2 {
-            let [low, high] = crcs[group].to_le_bytes();
-            out.push_all(&[load[2 * group], load[2 * group + 1], low, high]);
-        }
-    }
-    push_number(out, conn);
+    out.resize(frame_len(load.len()));
+    write_over(command.byte(), load, crcs, conn, out.bytes_mut());
 }
 
-/// Appends a number of 16 bits, low byte first.
-fn push_number(out: &mut FrameBuf, n: u16)
-    requires { length out.old + 2 ≤ MOST_FRAME }
-    ensures { out.new ≡ out.old ++ low_high n }
+/// Writes a frame over bytes that are as many.
+fn write_over(command: u8, load: &[u8], crcs: &[u16], conn: u16, out: &mut [u8])
+    requires valid { IsTrue (is_length (length load.now)) }
+    requires one_each { length crcs.now ≡ group_count (length load.now) }
+    requires room { length out.old ≡ frame_len (length load.now) }
+    ensures { out.new ≡ layout command load.now crcs.now conn }
 {
-    out.push_all(&n.to_le_bytes());
+    let end = out.len() - 2;
+    out[0] = command;
+    write_groups(load, crcs, &mut out[1..end]);
+    out[end..].copy_from_slice(&conn.to_le_bytes());
+}
+
+/// Writes each group followed by its CRC, low byte first, over bytes that are as many.
+fn write_groups(load: &[u8], crcs: &[u16], out: &mut [u8])
+    requires valid { IsTrue (is_length (length load.now)) }
+    requires one_each { length crcs.now ≡ group_count (length load.now) }
+    requires room { length out.old ≡ length load.now + 2 * length crcs.now }
+    ensures { out.new ≡ with_crcs (groups load.now) crcs.now }
+{
+    if load.len() == 1 {
+        let [low, high] = crcs[0].to_le_bytes();
+        out.copy_from_slice(&[load[0], low, high]);
+        return;
+    }
+    for group in 0..crcs.len() {
+        let [low, high] = crcs[group].to_le_bytes();
+        let bytes = [load[2 * group], load[2 * group + 1], low, high];
+        out[4 * group..4 * group + 4].copy_from_slice(&bytes);
+    }
 }
