@@ -10,10 +10,10 @@ pub(crate) fn crcs_are(view: &FrameView<'_>, crcs: &[u16]) -> bool
     requires { length crcs.now ≡ length view.now.crcs }
     ensures { result ≡ pointwise nat_eq view.now.crcs crcs.now }
 {
+    // All are compared, which takes less than a test after each.
+    let mut same = true;
     for group in 0..crcs.len() {
-        if view.crc_at(group) != crcs[group] {
-            return false;
-        }
+        same &= view.crc_at(group) == crcs[group];
     }
-    true
+    same
 }
