@@ -23,12 +23,24 @@ pub(crate) struct Answer {
 }
 
 impl Answer {
+    ghost use Rattle.std.specs.Prelude.{◌≡◌, []};
+    ghost use Rattle.fsoe_base.specs.Did.{nothing};
+
     /// No answer yet.
     pub(crate) fn new() -> Answer {
         Answer {
             did: Did::nothing(),
             sent: FrameBuf::new(),
         }
+    }
+
+    /// Nothing was done, and nothing sent.
+    fn clear(&mut self)
+        ensures did { self.new.did ≡ nothing }
+        ensures sent { self.new.sent ≡ [] }
+    {
+        self.did.clear();
+        self.sent.clear();
     }
 }
 
@@ -42,26 +54,25 @@ pub(crate) fn act_master(master: &mut Master, event: &Event, came: &[u8], answer
     ensures rest { is_due master.new.state ≡ false }
     ensures settings { master.new.kit.settings ≡ master.old.kit.settings }
 {
-    answer.sent.clear();
-    answer.did = match event {
+    match event {
         Event::Deliver { .. } | Event::Altered { .. } | Event::Raw { .. } => {
-            master.deliver(came, &mut answer.sent)
+            master.deliver_into(came, &mut answer.did, &mut answer.sent);
         }
-        Event::Tick { .. } => master.tick(&mut answer.sent),
-        Event::Local { .. } => master.reset(&mut answer.sent),
+        Event::Tick { .. } => master.tick_into(&mut answer.did, &mut answer.sent),
+        Event::Local { .. } => answer.did = master.reset(&mut answer.sent),
         Event::Put { load, .. } => {
             master.put(load.bytes());
-            Did::nothing()
+            answer.clear();
         }
         Event::Hold { failsafe, .. } => {
             master.hold(*failsafe);
-            Did::nothing()
+            answer.clear();
         }
         Event::Nonce { id, .. } => {
             master.nonce(*id);
-            Did::nothing()
+            answer.clear();
         }
-    };
+    }
 }
 
 /// The same at a slave.
@@ -72,26 +83,25 @@ pub(crate) fn act_slave(slave: &mut Slave, event: &Event, came: &[u8], answer: &
     ensures answers { slave_core.Answers slave.old (move_at event.now came.now) answer.new.did answer.new.sent }
     ensures settings { slave.new.kit.settings ≡ slave.old.kit.settings }
 {
-    answer.sent.clear();
-    answer.did = match event {
+    match event {
         Event::Deliver { .. } | Event::Altered { .. } | Event::Raw { .. } => {
-            slave.deliver(came, &mut answer.sent)
+            slave.deliver_into(came, &mut answer.did, &mut answer.sent);
         }
-        Event::Tick { .. } => slave.tick(&mut answer.sent),
-        Event::Local { .. } => slave.reset(&mut answer.sent),
+        Event::Tick { .. } => slave.tick_into(&mut answer.did, &mut answer.sent),
+        Event::Local { .. } => answer.did = slave.reset(&mut answer.sent),
         Event::Put { load, .. } => {
             slave.put(load.bytes());
-            Did::nothing()
+            answer.clear();
         }
         Event::Hold { failsafe, .. } => {
             slave.hold(*failsafe);
-            Did::nothing()
+            answer.clear();
         }
         Event::Nonce { id, .. } => {
             slave.nonce(*id);
-            Did::nothing()
+            answer.clear();
         }
-    };
+    }
 }
 
 pub(crate) fn image_of(bytes: &[u8]) -> Image

@@ -51,7 +51,7 @@ pub struct Did {
 }
 
 impl Did {
-    ghost use Rattle.std.specs.Prelude.{◌≡◌, ◌≤◌, length};
+    ghost use Rattle.std.specs.Prelude.{◌≡◌, ◌≤◌, length, true, None};
     ghost use Rattle.fsoe_base.specs.Did.{nothing, dropped, takes, resets};
 
     /// Nothing was taken, sent, reset or dropped.
@@ -119,5 +119,29 @@ impl Did {
             reset: Some(why),
             dropped: None,
         }
+    }
+
+    /// Nothing was taken, sent, reset or dropped, in place of what was told.
+    pub fn clear(&mut self)
+        ensures { self.new ≡ nothing }
+    {
+        // Most steps that take nothing follow one like it, and then the room for a frame's data isn't written.
+        if self.took.is_some() {
+            self.took = None;
+        }
+        self.passed = false;
+        self.sent = false;
+        self.reset = None;
+        self.dropped = None;
+    }
+
+    /// The frame that stands in `took` was taken, and one was sent. `passed` says whether it passed the CRC test of a session.
+    pub fn tell_taken(&mut self, passed: bool)
+        ensures { self.new ≡ record { took = self.old.took; passed = passed; sent = true; reset = None; dropped = None } }
+    {
+        self.passed = passed;
+        self.sent = true;
+        self.reset = None;
+        self.dropped = None;
     }
 }

@@ -260,32 +260,34 @@ impl Master {
     /// Forgets the session, and sends the Reset frame with this code.
     #[cold]
     #[inline(never)]
-    fn fall(&mut self, passed: bool, why: Cause, code: Code, out: &mut FrameBuf) -> Did
+    fn fall(&mut self, passed: bool, why: Cause, code: Code, did: &mut Did, out: &mut FrameBuf)
         ensures master { self.new ≡ (answered_by (ends self.old passed why code)).master }
-        ensures did { result ≡ (answered_by (ends self.old passed why code)).did }
+        ensures did { did.new ≡ (answered_by (ends self.old passed why code)).did }
         ensures sent { out.new ≡ (answered_by (ends self.old passed why code)).sent }
     {
         self.state = Now::Reset(InReset::new());
         let limit = self.kit.settings().watchdog();
         self.watchdog.restart(limit);
         reset_frame(code, self.kit.settings().own_len(), out);
-        Did::reset(passed, why)
+        *did = Did::reset(passed, why);
     }
 
     /// A test of a frame failed with this code: in state Reset the frame is dropped, and else the Reset frame is sent at once.
     #[tactic(auto, using(crate::proofs::AtOnce::stays, crate::proofs::AtOnce::reset_rests))]
     #[cold]
     #[inline(never)]
-    fn refuse_and_send(&mut self, code: Code, out: &mut FrameBuf) -> Did
+    fn refuse_and_send(&mut self, code: Code, did: &mut Did, out: &mut FrameBuf)
         ensures master { self.new ≡ (answered_by (refuses self.old code)).master }
-        ensures did { result ≡ (answered_by (refuses self.old code)).did }
+        ensures did { did.new ≡ (answered_by (refuses self.old code)).did }
         ensures sent { out.new ≡ (answered_by (refuses self.old code)).sent }
     {
         if self.state.is_reset() {
             out.clear();
-            return Did::dropped(Dropped::InReset);
+            did.clear();
+            did.dropped = Some(Dropped::InReset);
+            return;
         }
-        self.fall(false, Cause::Found(code), code, out)
+        self.fall(false, Cause::Found(code), code, did, out);
     }
 
     /// A valid Reset frame came: in state Reset the one with code 0 begins a session, and the frame that is due is sent at
@@ -293,22 +295,30 @@ impl Master {
     #[tactic(auto, using(crate::proofs::AtOnce::stays, crate::proofs::AtOnce::reset_rests))]
     #[cold]
     #[inline(never)]
-    fn acknowledge_and_send(&mut self, code: Code, view: &FrameView<'_>, out: &mut FrameBuf) -> Did
+    fn acknowledge_and_send(
+        &mut self,
+        code: Code,
+        view: &FrameView<'_>,
+        did: &mut Did,
+        out: &mut FrameBuf,
+    )
         ensures master { self.new ≡ (answered_by (on_reset_view self.old code view.now)).master }
-        ensures did { result ≡ (answered_by (on_reset_view self.old code view.now)).did }
+        ensures did { did.new ≡ (answered_by (on_reset_view self.old code view.now)).did }
         ensures sent { out.new ≡ (answered_by (on_reset_view self.old code view.now)).sent }
     {
         if !self.state.is_reset() {
-            return self.fall(false, Cause::Peer(code), Code::LOCAL_RESET, out);
+            return self.fall(false, Cause::Peer(code), Code::LOCAL_RESET, did, out);
         }
         if !begins(code) {
             out.clear();
-            return Did::dropped(Dropped::InReset);
+            did.clear();
+            did.dropped = Some(Dropped::InReset);
+            return;
         }
         self.state = Now::Session(InSession::begin(kept(view), &self.kit, out));
         let limit = self.kit.settings().watchdog();
         self.watchdog.restart(limit);
-        reset_taken(view)
+        *did = reset_taken(view);
     }
 
     /// Takes a frame that passed the tests, and sends the frame that follows it, in place. After a refusal the state is only
@@ -332,38 +342,41 @@ impl Master {
     /// Tests a frame, and sends the frame that is due then at once.
     #[tactic(auto, using(crate::proofs::AtOnce::stays))]
     #[inline(never)]
-    fn exchange(&mut self, frame: &[u8], out: &mut FrameBuf) -> Did
+    fn exchange(&mut self, frame: &[u8], did: &mut Did, out: &mut FrameBuf)
         requires { is_due self.old.state ≡ false }
         ensures master { self.new ≡ (on_frame self.old frame.now).master }
-        ensures did { result ≡ (on_frame self.old frame.now).did }
+        ensures did { did.new ≡ (on_frame self.old frame.now).did }
         ensures sent { out.new ≡ (on_frame self.old frame.now).sent }
         ensures kit { self.new.kit ≡ self.old.kit }
         ensures done { is_due self.new.state ≡ false }
     {
         let repeats = self.state.is_repeat(frame);
-        // Each answer is returned where it is made: a value that joins several is moved once more.
         let unread = match open(frame, self.kit.settings().peer_len(), repeats) {
             Opened::Drop(why) => {
                 out.clear();
-                return Did::dropped(why);
+                did.clear();
+                did.dropped = Some(why);
+                return;
             }
-            Opened::Refuse(code) => return self.refuse_and_send(code, out),
-            Opened::ResetFrame(code, view) => return self.acknowledge_and_send(code, &view, out),
+            Opened::Refuse(code) => return self.refuse_and_send(code, did, out),
+            Opened::ResetFrame(code, view) => return self.acknowledge_and_send(
+                code, &view, did, out,
+            ),
             Opened::OfSession(unread) => unread,
         };
-        let mut took = Took {
-            command: unread.command(),
-            load: Image::new(),
+        // The data are read where they are told, so that they aren't moved.
+        unread.took_into(did);
+        let Some(took) = &did.took else {
+            unreachable!();
         };
-        unread.load_into(&mut took.load);
         let seen = SessionFrame::new(unread, &took.load);
         let link = match self.state.test(self.kit.settings(), &seen) {
-            Err(code) => return self.refuse_and_send(code, out),
+            Err(code) => return self.refuse_and_send(code, did, out),
             Ok(link) => link,
         };
         match self.go_on(&seen, link, out) {
-            Err(code) => return self.fall(true, Cause::Found(code), code, out),
-            Ok(()) => return Did::taken(took, true),
+            Err(code) => self.fall(true, Cause::Found(code), code, did, out),
+            Ok(()) => did.tell_taken(true),
         }
     }
 
@@ -376,35 +389,49 @@ impl Master {
         ensures kit { self.new.kit ≡ self.old.kit }
         ensures done { is_due self.new.state ≡ false }
     {
-        self.exchange(frame, out)
+        let mut did = Did::nothing();
+        self.deliver_into(frame, &mut did, out);
+        did
+    }
+
+    /// As `deliver`, and writes what was done to `did`, in place of what it told: of a frame that is taken no data are moved.
+    pub fn deliver_into(&mut self, frame: &[u8], did: &mut Did, out: &mut FrameBuf)
+        requires { is_due self.old.state ≡ false }
+        ensures follows { Follows self.old (event.Deliver frame.now) self.new }
+        ensures answers { Answers self.old (event.Deliver frame.now) did.new out.new }
+        ensures kit { self.new.kit ≡ self.old.kit }
+        ensures done { is_due self.new.state ≡ false }
+    {
+        self.exchange(frame, did, out);
     }
 
     /// Counts a tick.
-    fn count(&mut self, out: &mut FrameBuf) -> Did
+    fn count(&mut self, did: &mut Did, out: &mut FrameBuf)
         requires { is_due self.old.state ≡ false }
         ensures master { self.new ≡ (tick_of self.old).master }
-        ensures did { result ≡ (tick_of self.old).did }
+        ensures did { did.new ≡ (tick_of self.old).did }
         ensures sent { out.new ≡ (tick_of self.old).sent }
         ensures kit { self.new.kit ≡ self.old.kit }
         ensures done { is_due self.new.state ≡ false }
     {
         out.clear();
         if !self.watchdog.tick() {
-            return Did::nothing();
+            did.clear();
+            return;
         }
         if self.state.is_reset() {
             reset_frame(Code::LOCAL_RESET, self.kit.settings().own_len(), out);
-            return Did {
-                sent: true,
-                ..Did::nothing()
-            };
+            did.clear();
+            did.sent = true;
+            return;
         }
         self.fall(
             false,
             Cause::Found(Code::WATCHDOG_EXPIRED),
             Code::WATCHDOG_EXPIRED,
+            did,
             out,
-        )
+        );
     }
 
     /// Counts a tick while no frame is due. Where the age reaches the watchdog the session ends with code 5: the
@@ -418,7 +445,21 @@ impl Master {
         ensures kit { self.new.kit ≡ self.old.kit }
         ensures done { is_due self.new.state ≡ false }
     {
-        self.count(out)
+        let mut did = Did::nothing();
+        self.count(&mut did, out);
+        did
+    }
+
+    /// As `tick`, and writes what was done to `did`, in place of what it told.
+    #[tactic(auto, using(crate::proofs::Law::follows_by, crate::proofs::Law::answers_by))]
+    pub fn tick_into(&mut self, did: &mut Did, out: &mut FrameBuf)
+        requires { is_due self.old.state ≡ false }
+        ensures follows { Follows self.old event.Tick self.new }
+        ensures answers { Answers self.old event.Tick did.new out.new }
+        ensures kit { self.new.kit ≡ self.old.kit }
+        ensures done { is_due self.new.state ≡ false }
+    {
+        self.count(did, out);
     }
 
     /// Ends the session, if there is one, while no frame is due, and writes Reset(0) to `out`.
@@ -430,7 +471,9 @@ impl Master {
         ensures kit { self.new.kit ≡ self.old.kit }
         ensures done { is_due self.new.state ≡ false }
     {
-        self.fall(false, Cause::Local, Code::LOCAL_RESET, out)
+        let mut did = Did::nothing();
+        self.fall(false, Cause::Local, Code::LOCAL_RESET, &mut did, out);
+        did
     }
 
     /// Offers these safe data from now on, as many as the master's frames have, also in a frame that is due. The

@@ -20,10 +20,12 @@ use param_load::{Profile, Profiles};
 use schedule_file::{Event, Header, HeaderKind};
 use slave_core::Slave;
 
-/// The node at a master, with the frame that it sent last.
+/// The node at a master, with what it did last and the frame that it sent. Both are kept from one event to the next, so that neither
+/// is made anew.
 #[derive(Drop)]
 pub(crate) struct MasterNode {
     master: Master,
+    did: Did,
     sent: FrameBuf,
 }
 
@@ -31,36 +33,37 @@ pub(crate) struct MasterNode {
 #[derive(Drop)]
 pub(crate) struct SlaveNode {
     slave: Slave,
+    did: Did,
     sent: FrameBuf,
 }
 
-/// One event at a master. The frame that it sends is written to `sent`, which is empty where it sends none.
+/// One event at a master. What it does is written to `did`, and the frame that it sends to `sent`, which is empty where it sends none.
 #[tactic(auto, using(master_core::proofs::Law::set_answers))]
-fn step_master(master: &mut Master, event: &Event, sent: &mut FrameBuf) -> Did
+fn step_master(master: &mut Master, event: &Event, did: &mut Did, sent: &mut FrameBuf)
     requires fits { FitsNode side.Master master.old.kit.settings.lengths master.old.kit.settings.profile event.now }
     requires rest { is_due master.old.state ≡ false }
     ensures follows { master_core.Follows master.old (move_of event.now) master.new }
-    ensures answers { master_core.Answers master.old (move_of event.now) result sent.new }
+    ensures answers { master_core.Answers master.old (move_of event.now) did.new sent.new }
     ensures rest { is_due master.new.state ≡ false }
 {
     match event {
-        Event::Raw { frame, .. } => master.deliver(frame.bytes(), sent),
-        Event::Tick { .. } => master.tick(sent),
-        Event::Local { .. } => master.reset(sent),
+        Event::Raw { frame, .. } => master.deliver_into(frame.bytes(), did, sent),
+        Event::Tick { .. } => master.tick_into(did, sent),
+        Event::Local { .. } => *did = master.reset(sent),
         Event::Put { load, .. } => {
             master.put(load.bytes());
             sent.clear();
-            Did::nothing()
+            did.clear();
         }
         Event::Hold { failsafe, .. } => {
             master.hold(*failsafe);
             sent.clear();
-            Did::nothing()
+            did.clear();
         }
         Event::Nonce { id, .. } => {
             master.nonce(*id);
             sent.clear();
-            Did::nothing()
+            did.clear();
         }
         Event::Deliver { .. } | Event::Altered { .. } => unreachable!(),
     }
@@ -68,29 +71,29 @@ fn step_master(master: &mut Master, event: &Event, sent: &mut FrameBuf) -> Did
 
 /// The same at a slave.
 #[tactic(auto, using(slave_core::proofs::Law::set_answers))]
-fn step_slave(slave: &mut Slave, event: &Event, sent: &mut FrameBuf) -> Did
+fn step_slave(slave: &mut Slave, event: &Event, did: &mut Did, sent: &mut FrameBuf)
     requires { FitsNode side.Slave slave.old.kit.settings.lengths slave.old.kit.settings.profile event.now }
     ensures follows { slave_core.Follows slave.old (move_of event.now) slave.new }
-    ensures answers { slave_core.Answers slave.old (move_of event.now) result sent.new }
+    ensures answers { slave_core.Answers slave.old (move_of event.now) did.new sent.new }
 {
     match event {
-        Event::Raw { frame, .. } => slave.deliver(frame.bytes(), sent),
-        Event::Tick { .. } => slave.tick(sent),
-        Event::Local { .. } => slave.reset(sent),
+        Event::Raw { frame, .. } => slave.deliver_into(frame.bytes(), did, sent),
+        Event::Tick { .. } => slave.tick_into(did, sent),
+        Event::Local { .. } => *did = slave.reset(sent),
         Event::Put { load, .. } => {
             slave.put(load.bytes());
             sent.clear();
-            Did::nothing()
+            did.clear();
         }
         Event::Hold { failsafe, .. } => {
             slave.hold(*failsafe);
             sent.clear();
-            Did::nothing()
+            did.clear();
         }
         Event::Nonce { id, .. } => {
             slave.nonce(*id);
             sent.clear();
-            Did::nothing()
+            did.clear();
         }
         Event::Deliver { .. } | Event::Altered { .. } => unreachable!(),
     }
@@ -161,6 +164,7 @@ impl Machine for MasterNode {
     fn begin(header: &Header) -> MasterNode {
         MasterNode {
             master: Master::new(header.master()),
+            did: Did::nothing(),
             sent: FrameBuf::new(),
         }
     }
@@ -171,10 +175,10 @@ impl Machine for MasterNode {
     }
 
     fn report(&mut self, event: &Event, number: u64, text: &mut LineText) -> Result<(), NotSent> {
-        let did = step_master(&mut self.master, event, &mut self.sent);
+        step_master(&mut self.master, event, &mut self.did, &mut self.sent);
         write_entry(
             number,
-            &did,
+            &self.did,
             self.master.state(),
             self.master.outputs(),
             &self.sent,
@@ -206,6 +210,7 @@ impl Machine for SlaveNode {
     fn begin(header: &Header) -> SlaveNode {
         SlaveNode {
             slave: Slave::new(header.slave()),
+            did: Did::nothing(),
             sent: FrameBuf::new(),
         }
     }
@@ -216,10 +221,10 @@ impl Machine for SlaveNode {
     }
 
     fn report(&mut self, event: &Event, number: u64, text: &mut LineText) -> Result<(), NotSent> {
-        let did = step_slave(&mut self.slave, event, &mut self.sent);
+        step_slave(&mut self.slave, event, &mut self.did, &mut self.sent);
         write_entry(
             number,
-            &did,
+            &self.did,
             self.slave.state(),
             self.slave.outputs(),
             &self.sent,

@@ -1,5 +1,5 @@
 //! A frame of a session, and the same before its safe data are read.
-use fsoe_base::{Command, Image, MOST_DATA, MOST_FRAME};
+use fsoe_base::{Command, Did, Image, MOST_DATA, MOST_FRAME, Took};
 use fsoe_frame::FrameView;
 use std::marker::Model;
 
@@ -24,7 +24,7 @@ impl<'a> Model for UnreadFrame<'a> {
 }
 
 impl<'a> UnreadFrame<'a> {
-    ghost use Rattle.std.specs.Prelude.{◌≡◌, IsTrue, length};
+    ghost use Rattle.std.specs.Prelude.{◌≡◌, IsTrue, Some, length};
     ghost use Rattle.fsoe_base.specs.Command.{command_byte};
     ghost use Rattle.fsoe_base.specs.Lengths.{is_length, group_count};
 
@@ -51,6 +51,26 @@ impl<'a> UnreadFrame<'a> {
         ensures groups { length self.now.frame.crcs ≡ group_count (length out.new) }
     {
         self.view.load_into(out);
+    }
+
+    /// Writes the command and the safe data to `did` as those of a frame taken, in place of another frame's, and leaves the rest of it
+    /// as it was.
+    pub fn took_into(&self, did: &mut Did)
+        ensures value { did.new.took ≡ Some (record { command = self.now.command; load = self.now.frame.load }) }
+        ensures valid { IsTrue (is_length (length self.now.frame.load)) }
+        ensures groups { length self.now.frame.crcs ≡ group_count (length self.now.frame.load) }
+    {
+        if let Some(took) = &mut did.took {
+            took.command = self.command;
+            self.view.load_into(&mut took.load);
+        } else {
+            let mut took = Took {
+                command: self.command,
+                load: Image::new(),
+            };
+            self.view.load_into(&mut took.load);
+            did.took = Some(took);
+        }
     }
 }
 

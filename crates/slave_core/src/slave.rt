@@ -62,14 +62,14 @@ impl Slave {
     /// Forgets the session, and sends the Reset frame with this code.
     #[cold]
     #[inline(never)]
-    fn fall(&mut self, passed: bool, why: Cause, code: Code, out: &mut FrameBuf) -> Did
+    fn fall(&mut self, passed: bool, why: Cause, code: Code, did: &mut Did, out: &mut FrameBuf)
         ensures slave { self.new ≡ (falls self.old passed why code).slave }
-        ensures did { result ≡ (falls self.old passed why code).did }
+        ensures did { did.new ≡ (falls self.old passed why code).did }
         ensures sent { out.new ≡ (falls self.old passed why code).sent }
     {
         self.forget();
         reset_frame(code, self.kit.settings().own_len(), out);
-        Did::reset(passed, why)
+        *did = Did::reset(passed, why);
     }
 
     fn forget(&mut self)
@@ -86,27 +86,27 @@ impl Slave {
     /// contents.
     #[cold]
     #[inline(never)]
-    fn refuse(&mut self, passed: bool, code: Code, out: &mut FrameBuf) -> Did
+    fn refuse(&mut self, passed: bool, code: Code, did: &mut Did, out: &mut FrameBuf)
         ensures slave { self.new ≡ (refuses self.old passed code).slave }
-        ensures did { result ≡ (refuses self.old passed code).did }
+        ensures did { did.new ≡ (refuses self.old passed code).did }
         ensures sent { out.new ≡ (refuses self.old passed code).sent }
     {
         if self.state.is_reset() {
             out.clear();
-            return Did {
-                passed,
-                ..Did::dropped(Dropped::InReset)
-            };
+            did.clear();
+            did.passed = passed;
+            did.dropped = Some(Dropped::InReset);
+            return;
         }
-        self.fall(passed, Cause::Found(code), code, out)
+        self.fall(passed, Cause::Found(code), code, did, out);
     }
 
     /// A valid Reset frame came: in state Reset it is taken.
     #[cold]
     #[inline(never)]
-    fn acknowledge(&mut self, code: Code, view: &FrameView<'_>, out: &mut FrameBuf) -> Did
+    fn acknowledge(&mut self, code: Code, view: &FrameView<'_>, did: &mut Did, out: &mut FrameBuf)
         ensures slave { self.new ≡ (reset_by_peer self.old code view.now.load).slave }
-        ensures did { result ≡ (reset_by_peer self.old code view.now.load).did }
+        ensures did { did.new ≡ (reset_by_peer self.old code view.now.load).did }
         ensures sent { out.new ≡ (reset_by_peer self.old code view.now.load).sent }
     {
         if self.state.is_reset() {
@@ -117,9 +117,10 @@ impl Slave {
             view.load_into(&mut took.load);
             self.forget();
             reset_frame(Code::LOCAL_RESET, self.kit.settings().own_len(), out);
-            return Did::taken(took, false);
+            *did = Did::taken(took, false);
+            return;
         }
-        self.fall(false, Cause::Peer(code), Code::LOCAL_RESET, out)
+        self.fall(false, Cause::Peer(code), Code::LOCAL_RESET, did, out);
     }
 
     /// Takes a frame that passed the tests, in place. After a refusal state Reset is as it was, and another state is only left.
@@ -148,37 +149,38 @@ impl Slave {
     /// Tests a frame of the master, and takes it unless a test fails or its contents are wrong.
     #[tactic(auto, using(crate::proofs::Transitions::refused_alike))]
     #[inline(never)]
-    fn receive(&mut self, frame: &[u8], out: &mut FrameBuf) -> Did
+    fn receive(&mut self, frame: &[u8], did: &mut Did, out: &mut FrameBuf)
         ensures slave { self.new ≡ (on_frame self.old frame.now).slave }
-        ensures did { result ≡ (on_frame self.old frame.now).did }
+        ensures did { did.new ≡ (on_frame self.old frame.now).did }
         ensures sent { out.new ≡ (on_frame self.old frame.now).sent }
         ensures kit { self.new.kit ≡ self.old.kit }
     {
         let repeats = self.state.is_repeat(frame);
-        // Each answer is returned where it is made: a value that joins several is moved once more.
         let unread = match open(frame, self.kit.settings().peer_len(), repeats) {
             Opened::Drop(why) => {
                 out.clear();
-                return Did::dropped(why);
+                did.clear();
+                did.dropped = Some(why);
+                return;
             }
-            Opened::Refuse(code) => return self.refuse(false, code, out),
-            Opened::ResetFrame(code, view) => return self.acknowledge(code, &view, out),
+            Opened::Refuse(code) => return self.refuse(false, code, did, out),
+            Opened::ResetFrame(code, view) => return self.acknowledge(code, &view, did, out),
             Opened::OfSession(unread) => unread,
         };
-        let mut took = Took {
-            command: unread.command(),
-            load: Image::new(),
+        // The data are read where they are told, so that they aren't moved.
+        unread.took_into(did);
+        let Some(took) = &did.took else {
+            unreachable!();
         };
-        unread.load_into(&mut took.load);
         let frame = SessionFrame::new(unread, &took.load);
         let link = match self.state.test(&frame) {
-            Err(code) => return self.refuse(false, code, out),
+            Err(code) => return self.refuse(false, code, did, out),
             Ok(link) => link,
         };
         let seen = Seen { frame, link };
         match self.go_on(&seen, out) {
-            Err(code) => return self.refuse(true, code, out),
-            Ok(()) => return Did::taken(took, true),
+            Err(code) => self.refuse(true, code, did, out),
+            Ok(()) => did.tell_taken(true),
         }
     }
 
@@ -192,26 +194,39 @@ impl Slave {
         ensures answers { Answers self.old (event.Deliver frame.now) result out.new }
         ensures kit { self.new.kit ≡ self.old.kit }
     {
-        self.receive(frame, out)
+        let mut did = Did::nothing();
+        self.deliver_into(frame, &mut did, out);
+        did
+    }
+
+    /// As `deliver`, and writes what was done to `did`, in place of what it told: of a frame that is taken no data are moved.
+    pub fn deliver_into(&mut self, frame: &[u8], did: &mut Did, out: &mut FrameBuf)
+        ensures follows { Follows self.old (event.Deliver frame.now) self.new }
+        ensures answers { Answers self.old (event.Deliver frame.now) did.new out.new }
+        ensures kit { self.new.kit ≡ self.old.kit }
+    {
+        self.receive(frame, did, out);
     }
 
     /// Counts a tick outside state Reset.
-    fn count(&mut self, out: &mut FrameBuf) -> Did
+    fn count(&mut self, did: &mut Did, out: &mut FrameBuf)
         ensures slave { self.new ≡ (tick_of self.old).slave }
-        ensures did { result ≡ (tick_of self.old).did }
+        ensures did { did.new ≡ (tick_of self.old).did }
         ensures sent { out.new ≡ (tick_of self.old).sent }
         ensures kit { self.new.kit ≡ self.old.kit }
     {
         out.clear();
         if self.state.is_reset() || !self.watchdog.tick() {
-            return Did::nothing();
+            did.clear();
+            return;
         }
         self.fall(
             false,
             Cause::Found(Code::WATCHDOG_EXPIRED),
             Code::WATCHDOG_EXPIRED,
+            did,
             out,
-        )
+        );
     }
 
     /// Counts a tick outside state Reset. Where the age reaches the limit the session ends with code 5: the
@@ -222,7 +237,19 @@ impl Slave {
         ensures answers { Answers self.old event.Tick result out.new }
         ensures kit { self.new.kit ≡ self.old.kit }
     {
-        self.count(out)
+        let mut did = Did::nothing();
+        self.count(&mut did, out);
+        did
+    }
+
+    /// As `tick`, and writes what was done to `did`, in place of what it told.
+    #[tactic(auto, using(crate::proofs::Law::follows_by, crate::proofs::Law::answers_by))]
+    pub fn tick_into(&mut self, did: &mut Did, out: &mut FrameBuf)
+        ensures follows { Follows self.old event.Tick self.new }
+        ensures answers { Answers self.old event.Tick did.new out.new }
+        ensures kit { self.new.kit ≡ self.old.kit }
+    {
+        self.count(did, out);
     }
 
     /// Ends the session, if there is one, and writes Reset(0) to `out`.
@@ -232,7 +259,9 @@ impl Slave {
         ensures answers { Answers self.old event.Local result out.new }
         ensures kit { self.new.kit ≡ self.old.kit }
     {
-        self.fall(false, Cause::Local, Code::LOCAL_RESET, out)
+        let mut did = Did::nothing();
+        self.fall(false, Cause::Local, Code::LOCAL_RESET, &mut did, out);
+        did
     }
 
     /// Offers these safe data from now on, as many as the slave's frames have. The offer outlasts resets.

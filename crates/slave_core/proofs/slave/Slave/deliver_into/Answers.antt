@@ -1,6 +1,6 @@
 use Rattle.std.proofs.Common.{arith}
 use Rattle.slave_core.proofs.Law.{follows_by, answers_by}
-use Rattle.slave_core.proofs.slave.Slave.deliver.Goals as goal
+use Rattle.slave_core.proofs.slave.Slave.deliver_into.Goals as goal
 
 pub returns-clause-follows : goal.returns-clause-follows
 returns-clause-follows c = follows_by _ _ _ tt (λ i. let fits = c.type_inv.frame i in omega arith) c.receive.ensures.slave
