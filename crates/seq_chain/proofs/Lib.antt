@@ -3,6 +3,9 @@ pub mod PartsOfCover
 pub mod ToldApart
 pub mod Steps
 pub mod OneChange
+pub mod Xored
+pub mod AnotherLast
+pub mod FirstGroups
 pub mod BothFit
 pub mod Received
 pub mod OpenedFrame

@@ -11,12 +11,12 @@ use Rattle.seq_chain.specs.Sealing.{fits, steps_again}
 use Rattle.seq_chain.specs.Differences.{DifferAt, DifferInCommand, DifferInConnection, DifferInGroup, DifferInCrc, SteppedAlike}
 use Rattle.seq_chain.proofs.ToldApart.{command_told, connection_told, groups_told, first_group, crc_0_is}
 
-refused : (b : Bool) → b ≢ true → b ≡ false
+pub refused : (b : Bool) → b ≢ true → b ≡ false
 refused true h = absurd (h refl)
 refused false h = refl
 
 -- the CRCs of a frame that fits are those under its number
-fitting : (last : ℕ) (before : Option Link) (f : Frame) → IsTrue (fits last before f) → f.crcs ≡ crcs last f.conn (number_of last before f.conn f.cmd f.load) f.cmd f.load
+pub fitting : (last : ℕ) (before : Option Link) (f : Frame) → IsTrue (fits last before f) → f.crcs ≡ crcs last f.conn (number_of last before f.conn f.cmd f.load) f.cmd f.load
 fitting last before f h = (bytes_decides f.crcs (crcs last f.conn (number_of last before f.conn f.cmd f.load) f.cmd f.load)).0 h
 
 -- two frames with the same CRCs that both fit, where the second step comes for both or for neither: their CRCs are those under one number

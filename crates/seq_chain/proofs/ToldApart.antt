@@ -35,11 +35,11 @@ command_told last conn n cmd cmd' i group h h' other e = other (rem-one (low_hig
 zeros_last : (first : List ℕ) (i : ℕ) (group : List ℕ) → rem (covered first i group) ≡ rem ((first ++ place i) ++ (group ++ 0 ∷ 0 ∷ 0 ∷ []))
 zeros_last first i group = ap rem (append_assoc (first ++ place i) group (0 ∷ 0 ∷ 0 ∷ []))
 
-one_told : (first : List ℕ) (i d d' : ℕ) → d < 256 → d' < 256 → rem (covered first i (d ∷ [])) ≡ rem (covered first i (d' ∷ [])) → (d ∷ []) ≡ (d' ∷ [])
+pub one_told : (first : List ℕ) (i d d' : ℕ) → d < 256 → d' < 256 → rem (covered first i (d ∷ [])) ≡ rem (covered first i (d' ∷ [])) → (d ∷ []) ≡ (d' ∷ [])
 one_told first i d d' h h' e =
     ap (λ x. x ∷ []) (rem-one (first ++ place i) (0 ∷ 0 ∷ 0 ∷ []) d d' h h' (sym (zeros_last first i (d ∷ [])) ∙ e ∙ zeros_last first i (d' ∷ [])))
 
-pair_told : (first : List ℕ) (i d b d' b' : ℕ) → d < 256 → b < 256 → d' < 256 → b' < 256 → rem (covered first i (d ∷ b ∷ [])) ≡ rem (covered first i (d' ∷ b' ∷ [])) → (d ∷ b ∷ []) ≡ (d' ∷ b' ∷ [])
+pub pair_told : (first : List ℕ) (i d b d' b' : ℕ) → d < 256 → b < 256 → d' < 256 → b' < 256 → rem (covered first i (d ∷ b ∷ [])) ≡ rem (covered first i (d' ∷ b' ∷ [])) → (d ∷ b ∷ []) ≡ (d' ∷ b' ∷ [])
 pair_told first i d b d' b' hd hb hd' hb' e =
     let both : (d ≡ d') × (b ≡ b') =
     rem-adjacent (first ++ place i) (0 ∷ 0 ∷ 0 ∷ []) d b d' b' hd hb hd' hb' (sym (zeros_last first i (d ∷ b ∷ [])) ∙ e ∙ zeros_last first i (d' ∷ b' ∷ [])) in

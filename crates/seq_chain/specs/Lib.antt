@@ -4,6 +4,7 @@ pub mod Sealing
 pub mod Chain
 pub mod Reset
 pub mod Differences
+pub mod FreshIds
 pub mod BothFit
 pub mod SessionFrame
 pub mod Session

@@ -1,6 +1,6 @@
 //! What the chain is sure to tell apart. The calls do nothing: each law is a contract.
 
-ghost use Rattle.std.specs.Prelude.{◌≡◌, ◌≢◌, ◌<◌, ◌≤◌, ℕ, List, length, Option, Some, IfSome, IsTrue, false};
+ghost use Rattle.std.specs.Prelude.{◌≡◌, ◌≢◌, ◌<◌, ◌≤◌, ℕ, List, [], ◌∷◌, length, Option, Some, None, IfSome, IsTrue, false, bit_xor};
 ghost use Rattle.fsoe_crc.specs.Remainder.{rem};
 ghost use Rattle.fsoe_base.specs.Lengths.{is_length, frame_len};
 ghost use Rattle.fsoe_frame.specs.Parts.{Frame, AreBytes, frame_of};
@@ -10,6 +10,7 @@ ghost use Rattle.seq_chain.specs.Numbers.{next, number_of};
 ghost use Rattle.seq_chain.specs.Sealing.{sealed, noted, fits};
 ghost use Rattle.seq_chain.specs.BothFit.{noted_before, stepped_frame, other_frame};
 ghost use Rattle.seq_chain.specs.Differences.{DifferInCommand, DifferInConnection, DifferInGroup, DifferInCrc, SteppedAlike};
+ghost use Rattle.seq_chain.specs.FreshIds.{first_number, SteppedAlikeAfter, step_in_last, step_in_load};
 
 /// Two covers that differ in one part alone have different CRCs: in the CRC_0 taken last, in the connection id, in
 /// the number, in the command, or in the data of the group, which are one byte or two in both.
@@ -63,6 +64,34 @@ pub fn proviso_is_needed()
     ensures one_fits { IsTrue (fits 0x672D noted_before stepped_frame) }
     ensures another_fits { IsTrue (fits 0x672D noted_before other_frame) }
     ensures differ { DifferInGroup 0 stepped_frame other_frame }
+{}
+
+/// A frame that fits after an own frame with one CRC_0 doesn't fit after an own frame with another, provided that the second
+/// step of the number comes for both or for neither. At the first frame of a session, before which none was taken, that is
+/// always so. At the second frame it needs no proviso, unless the two CRC_0 differ by 72B6h.
+#[tactic(auto, using(crate::proofs::AnotherLast::another_refused, crate::proofs::AnotherLast::first_refused, crate::proofs::AnotherLast::second_refused))]
+pub fn another_last()
+    ensures stepped_alike { (last last' : ℕ) (before : Option Link) (f : Frame) → last < 65536 → last' < 65536 → last ≢ last' → 0 < length f.load → SteppedAlikeAfter last last' before f → IsTrue (fits last before f) → fits last' before f ≡ false }
+    ensures first { (last last' : ℕ) (f : Frame) → last < 65536 → last' < 65536 → last ≢ last' → 0 < length f.load → IsTrue (fits last None f) → fits last' None f ≡ false }
+    ensures second { (last last' crc : ℕ) (f : Frame) → last < 65536 → last' < 65536 → last ≢ last' → bit_xor last last' ≢ step_in_last → 0 < length f.load → IsTrue (fits last (Some (record { number = 1; crc = crc })) f) → fits last' (Some (record { number = 1; crc = crc })) f ≡ false }
+{}
+
+/// Loads of one length that differ in their first group, whatever follows, have different CRC_0 under the same number; and so
+/// have two frames that would come next, provided that the second step of the number comes for both or for neither, as at the
+/// first frame of a session it always does. Their CRC_0 differ by 72B6h only where the first groups differ by 9985h.
+#[tactic(auto, using(crate::proofs::FirstGroups::first_told, crate::proofs::FirstGroups::frames_told, crate::proofs::FirstGroups::differ_in_load))]
+pub fn first_groups()
+    ensures loads { (last conn number cmd : ℕ) (load load' : List ℕ) → length load ≡ length load' → AreBytes load → AreBytes load' → first_number load ≢ first_number load' → crc_0 last conn number cmd load ≢ crc_0 last conn number cmd load' }
+    ensures frames { (last conn cmd : ℕ) (before : Option Link) (load load' : List ℕ) → length load ≡ length load' → AreBytes load → AreBytes load' → first_number load ≢ first_number load' → SteppedAlike last before (sealed last before conn cmd load) (sealed last before conn cmd load') → first_of (sealed last before conn cmd load).crcs ≢ first_of (sealed last before conn cmd load').crcs }
+    ensures by_step { (last conn number cmd : ℕ) (load load' : List ℕ) → length load ≡ length load' → AreBytes load → AreBytes load' → bit_xor (crc_0 last conn number cmd load) (crc_0 last conn number cmd load') ≡ step_in_last → bit_xor (first_number load) (first_number load') ≡ step_in_load }
+{}
+
+/// What these numbers are: 72B6h is the CRC of the bytes 85 99 and of three zeros; and the bytes B6 72 have, before a connection
+/// id of zeros and the difference of the numbers 2 and 3, the CRC 0.
+#[tactic(auto, using(crate::proofs::FirstGroups::step_is, crate::proofs::AnotherLast::step_is_nothing))]
+pub fn steps()
+    ensures in_load { rem (0x85 ∷ 0x99 ∷ 0 ∷ 0 ∷ 0 ∷ []) ≡ step_in_last }
+    ensures in_last { rem (0xB6 ∷ 0x72 ∷ 0 ∷ 0 ∷ 1 ∷ 0 ∷ []) ≡ 0 }
 {}
 
 /// A frame that is read from bytes, as many as a frame of its length has, meets the premises of these laws: it has a

@@ -1,0 +1,64 @@
+-- Frames whose loads differ in their first group.
+use Rattle.std.proofs.Common.{◌≡◌, ◌≢◌, ℕ, ◌*◌, ◌+◌, ◌<◌, List, [], ◌∷◌, length, bit_xor, Option, refl, sym, ap, ◌∙◌, lit<, arith}
+use Rattle.std.specs.Int.Bits.{xor_lt, xor_block}
+use Rattle.fsoe_crc.specs.Remainder.{computing, rem}
+use Rattle.fsoe_crc.proofs.Adjacent.{rem-adjacent}
+use Rattle.fsoe_frame.specs.Parts.{AreBytes}
+use Rattle.seq_chain.specs.declared.link.Link.{Link}
+use Rattle.seq_chain.specs.Cover.{common, first_of, crc_0}
+use Rattle.seq_chain.specs.Numbers.{following, stepped, number_of}
+use Rattle.seq_chain.specs.Sealing.{sealed}
+use Rattle.seq_chain.specs.Differences.{SteppedAlike}
+use Rattle.seq_chain.specs.FreshIds.{first_number, step_in_last, step_in_load}
+use Rattle.seq_chain.proofs.ToldApart.{one_told, pair_told}
+use Rattle.seq_chain.proofs.Xored.{rem-xored}
+
+pub first_told : (last conn n cmd : ℕ) (load load' : List ℕ) → length load ≡ length load' → AreBytes load → AreBytes load' → first_number load ≢ first_number load'
+    → crc_0 last conn n cmd load ≢ crc_0 last conn n cmd load'
+first_told last conn n cmd [] [] same h h' other e = other refl
+first_told last conn n cmd (d ∷ []) (d' ∷ []) same h h' other e = other (ap first_number (one_told (common last conn n cmd) 0 d d' (h 0) (h' 0) e))
+first_told last conn n cmd (d ∷ b ∷ load) (d' ∷ b' ∷ load') same h h' other e =
+    other (ap first_number (pair_told (common last conn n cmd) 0 d b d' b' (h 0) (h 1) (h' 0) (h' 1) e))
+first_told last conn n cmd load load' same h h' other e = absurd (omega arith)
+
+pub frames_told : (last conn cmd : ℕ) (before : Option Link) (load load' : List ℕ) → length load ≡ length load' → AreBytes load → AreBytes load' → first_number load ≢ first_number load'
+    → SteppedAlike last before (sealed last before conn cmd load) (sealed last before conn cmd load')
+    → first_of (sealed last before conn cmd load).crcs ≢ first_of (sealed last before conn cmd load').crcs
+frames_told last conn cmd before load load' same h h' other steps e =
+    first_told last conn (number_of last before conn cmd load) cmd load load' same h h' other (e ∙ ap (λ again. crc_0 last conn (stepped (following before) again) cmd load') (sym steps))
+
+-- the CRC of the bytes 85 99 and of three zeros
+pub step_is : rem (0x85 ∷ 0x99 ∷ 0 ∷ 0 ∷ 0 ∷ []) ≡ step_in_last
+unfolding computing
+step_is = refl
+
+-- a zero in front is nothing to a CRC
+zero_first : (x : ℕ) → rem (0 ∷ x ∷ 0 ∷ 0 ∷ 0 ∷ []) ≡ rem (x ∷ 0 ∷ 0 ∷ 0 ∷ [])
+unfolding computing
+zero_first x = refl
+
+-- where the CRC_0 of two loads differ by the step, their first groups do
+pub differ_in_load : (last conn n cmd : ℕ) (load load' : List ℕ) → length load ≡ length load' → AreBytes load → AreBytes load'
+    → bit_xor (crc_0 last conn n cmd load) (crc_0 last conn n cmd load') ≡ step_in_last → bit_xor (first_number load) (first_number load') ≡ step_in_load
+differ_in_load last conn n cmd [] [] same h h' e = absurd (cc e)
+differ_in_load last conn n cmd (d ∷ []) (d' ∷ []) same h h' e =
+    let x : ℕ = bit_xor d d' in
+    let hx : bit_xor d d' < 256 = xor_lt 8 d d' (h 0) (h' 0) in
+    let made : rem (x ∷ 0 ∷ 0 ∷ 0 ∷ []) ≡ step_in_last = sym (rem-xored (common last conn n cmd) (d ∷ 0 ∷ 0 ∷ 0 ∷ []) (d' ∷ 0 ∷ 0 ∷ 0 ∷ []) refl) ∙ e in
+    let both : (◌≡◌ {A = ℕ} 0 0x85) × (x ≡ 0x99) = rem-adjacent [] (0 ∷ 0 ∷ 0 ∷ []) 0 x 0x85 0x99 (lit< tt) hx (lit< tt) (lit< tt) (zero_first x ∙ made ∙ sym step_is) in
+    absurd (cc both.0)
+differ_in_load last conn n cmd (d ∷ b ∷ load) (d' ∷ b' ∷ load') same h h' e =
+    let x : ℕ = bit_xor d d' in
+    let y : ℕ = bit_xor b b' in
+    let hx : bit_xor d d' < 256 = xor_lt 8 d d' (h 0) (h' 0) in
+    let hy : bit_xor b b' < 256 = xor_lt 8 b b' (h 1) (h' 1) in
+    let made : rem (x ∷ y ∷ 0 ∷ 0 ∷ 0 ∷ []) ≡ step_in_last = sym (rem-xored (common last conn n cmd) (d ∷ b ∷ 0 ∷ 0 ∷ 0 ∷ []) (d' ∷ b' ∷ 0 ∷ 0 ∷ 0 ∷ []) refl) ∙ e in
+    let both : (x ≡ 0x85) × (y ≡ 0x99) = rem-adjacent [] (0 ∷ 0 ∷ 0 ∷ []) x y 0x85 0x99 hx hy (lit< tt) (lit< tt) (made ∙ sym step_is) in
+    let first : d + 256 * b ≡ b * 256 + d = omega arith in
+    let second : d' + 256 * b' ≡ b' * 256 + d' = omega arith in
+    ap (λ k. bit_xor k (d' + 256 * b')) first
+    ∙ ap (bit_xor (b * 256 + d)) second
+    ∙ xor_block 8 b b' d d' (h 0) (h' 0)
+    ∙ ap (λ k. k * 256 + x) both.1
+    ∙ ap (λ k. 0x99 * 256 + k) both.0
+differ_in_load last conn n cmd load load' same h h' e = absurd (omega arith)
