@@ -19,3 +19,9 @@ pub mod SealedFrames
 pub mod Neighbours
 pub mod Repeats
 pub mod WholeUploads
+pub mod CrcTest
+pub mod IdFront
+pub mod NoneYet
+pub mod FirstTaken
+pub mod FirstSent
+pub mod FreshIds

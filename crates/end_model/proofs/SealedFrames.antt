@@ -41,11 +41,11 @@ min_right : (m n : ℕ) → min m n ≤ n
 min_right m n = omega arith
 
 -- the piece of a payload has place in a frame
-piece_place : (s : Setup) → piece_len s ≤ sends s
+pub piece_place : (s : Setup) → piece_len s ≤ sends s
 piece_place (OfMaster ms) = min_left ms.lengths.master ms.lengths.slave
 piece_place (OfSlave ss) = min_right ss.lengths.master ss.lengths.slave
 
-taken_len : (n : ℕ) (xs : List ℕ) → length (take n xs) ≤ n
+pub taken_len : (n : ℕ) (xs : List ℕ) → length (take n xs) ≤ n
 taken_len n xs = simp length-take (min_left n (length xs))
 
 piece_sealed : (s : Setup) (e : List Deed) (c : Command) (xs : List ℕ) → IsSealed s e (with_piece s e c (take (piece_len s) xs))

@@ -2,7 +2,7 @@
 use Rattle.std.proofs.Common.{refl}
 use Rattle.hex.proofs.OnLiterals.{hex_on_literals}
 use Rattle.fsoe_crc.specs.Remainder.{computing}
-use Rattle.end_model.specs.WorkedRuns.{FirstTick, SlaveHandshake, SlaveExpires, SlaveGoesOn, SlaveRefusesOldFrame, SlaveResetItself, WrongAddress, WrongWatchdog, WrongParameters, LongSessionIds, MasterOfOtherProfile, QuietInReset, QuietAtItsLimit, MasterHandshake, MasterStepsNumber, MasterIsReset, SlaveTestsInOrder, MasterTestsInOrder, IdSetLater, OutlastsReset, SlaveExpiresInParameter, SlaveExpiresInSession, SlaveTestsConnection, MasterContents}
+use Rattle.end_model.specs.WorkedRuns.{FirstTick, SlaveHandshake, SlaveExpires, SlaveGoesOn, SlaveRefusesOldFrame, SlaveResetItself, WrongAddress, WrongWatchdog, WrongParameters, LongSessionIds, MasterOfOtherProfile, QuietInReset, QuietAtItsLimit, MasterHandshake, MasterStepsNumber, MasterIsReset, SlaveTestsInOrder, MasterTestsInOrder, IdSetLater, OutlastsReset, SlaveExpiresInParameter, SlaveExpiresInSession, SlaveTestsConnection, MasterContents, OldFrames, IdsByStep}
 
 pub first_tick : FirstTick
 unfolding FirstTick computing hex_on_literals
@@ -99,3 +99,11 @@ slave_tests_connection = refl
 pub master_contents : MasterContents
 unfolding MasterContents computing hex_on_literals
 master_contents = refl
+
+pub old_frames : OldFrames
+unfolding OldFrames computing hex_on_literals
+old_frames = refl
+
+pub ids_by_step : IdsByStep
+unfolding IdsByStep computing hex_on_literals
+ids_by_step = (refl, refl, refl)

@@ -12,3 +12,4 @@ pub mod Outputs
 pub mod Entries
 pub mod WorkedRuns
 pub mod Neighbours
+pub mod FreshIds

@@ -1,5 +1,5 @@
 -- Worked runs of one end: the events of a run, and each line that a report writes of them.
-use Rattle.std.specs.Prelude.{◌≡◌, ℕ, refl, List, [], ◌∷◌, ◌++◌, codes, take, drop, map, replicate, reverse, Bool, true, Option, Some, None, Result, Ok, Err}
+use Rattle.std.specs.Prelude.{◌≡◌, ℕ, refl, List, [], ◌∷◌, ◌++◌, codes, take, drop, map, replicate, reverse, Bool, true, Option, Some, None, Result, Ok, Err, bit_xor}
 use Rattle.std.proofs.lemmas.Bool.{ltb-true}
 use Rattle.hex.specs.Hex.{decode_of}
 use Rattle.hex.specs.declared.error.FromHexError.{FromHexError}
@@ -19,7 +19,7 @@ use Rattle.param_load.specs.declared.slave_settings.SlaveSettings.{SlaveSettings
 use Rattle.entry_text.specs.EntryText.{entry_text}
 use Rattle.fsoe_base.specs.declared.did.Dropped.TheVariants as why
 use Rattle.end_model.specs.Setup.{Setup, OfMaster, OfSlave, receives}
-use Rattle.end_model.specs.Verdict.{Verdict, Drop, Refused, contents, verdict}
+use Rattle.end_model.specs.Verdict.{Verdict, Valid, Drop, Refused, contents, verdict}
 use Rattle.end_model.specs.Step.{run}
 use Rattle.end_model.specs.Entries.{entries}
 
@@ -372,3 +372,36 @@ MasterIsReset =
     ≡ codes "took ProcessData Data 8000 > 360100e95d0100"
     ∷ codes "reset peer 00 Reset 0000 > 2a0000c42d0000"
     ∷ []
+
+-- a master with this session id, after the answer to its Reset frame; and a slave, after its first Session frame
+abbrev pub first_answers : MasterSettings → List (List ℕ) → List Verdict
+first_answers ms texts = verdicts (OfMaster ms) (t ∷ d (codes "2a0000c42d0000") ∷ []) texts
+
+abbrev pub second_frames : SlaveSettings → List (List ℕ) → List Verdict
+second_frames ss texts = verdicts (OfSlave ss) (d (codes "2a0000c42d0000") ∷ d (codes "4e0100123e0000") ∷ []) texts
+
+-- an old answer is taken by a master that uses its session id again, and refused with a fresh id; and so is an old Connection frame by a
+-- slave, and the second Session frame where a session id needs two
+unfoldable pub OldFrames : Type 0
+OldFrames =
+    first_answers master_values (codes "4e020090470000" ∷ [])
+    ++ first_answers (record master_values { nonce = 2; allowed = refl }) (codes "4e020090470000" ∷ [])
+    ++ second_frames slave_values (codes "640100642a0100" ∷ [])
+    ++ second_frames (record slave_values { nonce = 3; allowed = refl }) (codes "640100642a0100" ∷ [])
+    ++ second_frames (record slave_values { profile = profile.Two 7; allowed = refl }) (codes "4e000061230000" ∷ [])
+    ++ second_frames (record slave_values { nonce = 3; profile = profile.Two 7; allowed = refl }) (codes "4e000061230000" ∷ [])
+    ≡ Valid command.Session (2 ∷ 0 ∷ [])
+    ∷ Refused (code 0x04)
+    ∷ Valid command.Connection (1 ∷ 0 ∷ [])
+    ∷ Refused (code 0x04)
+    ∷ Valid command.Session (0 ∷ 0 ∷ [])
+    ∷ Refused (code 0x04)
+    ∷ []
+
+-- slaves with the session ids 56448 and 17669, which differ by 9985h, take the same Connection frame after the same Session frame: at the
+-- second its number is stepped once more
+unfoldable pub IdsByStep : Type 0
+IdsByStep =
+    (bit_xor 56448 17669 ≡ 0x9985)
+    × (second_frames (record slave_values { nonce = 56448; allowed = refl }) (codes "64010076f60100" ∷ []) ≡ Valid command.Connection (1 ∷ 0 ∷ []) ∷ [])
+    × (second_frames (record slave_values { nonce = 17669; allowed = refl }) (codes "64010076f60100" ∷ []) ≡ Valid command.Connection (1 ∷ 0 ∷ []) ∷ [])

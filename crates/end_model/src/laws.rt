@@ -25,7 +25,7 @@ ghost use Rattle.end_model.specs.Outputs.{zeros, outputs, out};
 ghost use Rattle.end_model.specs.Step.{step, run, continued, IsProper, IsRun};
 ghost use Rattle.end_model.specs.Reactions.{HasNoSession, IsReaction};
 ghost use Rattle.end_model.specs.Codes.{IsOwnReset};
-ghost use Rattle.end_model.specs.WorkedRuns.{FirstTick, MasterHandshake, MasterStepsNumber, MasterIsReset, SlaveHandshake, SlaveExpires, SlaveGoesOn, SlaveRefusesOldFrame, SlaveResetItself, WrongAddress, WrongWatchdog, WrongParameters, LongSessionIds, MasterOfOtherProfile, QuietInReset, QuietAtItsLimit, SlaveTestsInOrder, MasterTestsInOrder, IdSetLater, OutlastsReset, SlaveExpiresInParameter, SlaveExpiresInSession, SlaveTestsConnection, MasterContents};
+ghost use Rattle.end_model.specs.WorkedRuns.{FirstTick, MasterHandshake, MasterStepsNumber, MasterIsReset, SlaveHandshake, SlaveExpires, SlaveGoesOn, SlaveRefusesOldFrame, SlaveResetItself, WrongAddress, WrongWatchdog, WrongParameters, LongSessionIds, MasterOfOtherProfile, QuietInReset, QuietAtItsLimit, SlaveTestsInOrder, MasterTestsInOrder, IdSetLater, OutlastsReset, SlaveExpiresInParameter, SlaveExpiresInSession, SlaveTestsConnection, MasterContents, OldFrames};
 
 /// Worked runs of a master: each line of its report, with its state, its outputs and the frame that it sent.
 #[tactic(auto, using(crate::proofs::WorkedRuns::first_tick, crate::proofs::WorkedRuns::master_handshake, crate::proofs::WorkedRuns::master_steps_number, crate::proofs::WorkedRuns::master_is_reset))]
@@ -63,13 +63,15 @@ pub fn worked_refusals()
 {}
 
 /// Frames that fail several tests, at a slave and at a master in Data: the first of the tests decides. The connection ids
-/// that a slave refuses in a handshake, and the contents that a master refuses.
-#[tactic(auto, using(crate::proofs::WorkedRuns::slave_tests_in_order, crate::proofs::WorkedRuns::master_tests_in_order, crate::proofs::WorkedRuns::slave_tests_connection, crate::proofs::WorkedRuns::master_contents))]
+/// that a slave refuses in a handshake, and the contents that a master refuses. Old frames, which both ends take again with their session
+/// ids as they were, and refuse with fresh ones.
+#[tactic(auto, using(crate::proofs::WorkedRuns::slave_tests_in_order, crate::proofs::WorkedRuns::master_tests_in_order, crate::proofs::WorkedRuns::slave_tests_connection, crate::proofs::WorkedRuns::master_contents, crate::proofs::WorkedRuns::old_frames))]
 pub fn worked_verdicts()
     ensures slave { SlaveTestsInOrder }
     ensures master { MasterTestsInOrder }
     ensures connection { SlaveTestsConnection }
     ensures contents { MasterContents }
+    ensures old_frames { OldFrames }
 {}
 
 /// A run of moves is the run of its front, continued, and a run of proper moves is a run: each deed is the step of

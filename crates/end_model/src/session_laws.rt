@@ -1,15 +1,26 @@
 //! What holds of the frames of a session in all runs. The calls do nothing: each law is a contract.
 
-ghost use Rattle.std.specs.Prelude.{◌≡◌, ℕ, List, length, Some, None};
+ghost use Rattle.std.specs.Prelude.{◌≡◌, ◌≢◌, ◌<◌, ◌≤◌, ℕ, List, [], ◌∷◌, length, Some, None};
+ghost use Rattle.fsoe_base.specs.declared.command.Command.{Command};
+ghost use Rattle.fsoe_base.specs.declared.command.Command.TheVariants as command;
+ghost use Rattle.fsoe_base.specs.declared.command.State.TheVariants as state;
 ghost use Rattle.fsoe_base.specs.declared.did.Dropped.TheVariants as why;
 ghost use Rattle.fsoe_base.specs.Did.{dropped};
 ghost use Rattle.fsoe_base.specs.Lengths.{frame_len};
 ghost use Rattle.param_load.specs.declared.entry.Move.TheVariants as move;
-ghost use Rattle.end_model.specs.Chain.{since, own, kept};
-ghost use Rattle.end_model.specs.Setup.{Setup, sends, receives};
+ghost use Rattle.param_load.specs.declared.master_settings.MasterSettings.{MasterSettings};
+ghost use Rattle.param_load.specs.declared.slave_settings.SlaveSettings.{SlaveSettings};
+ghost use Rattle.param_load.specs.Profile.{id_len};
+ghost use Rattle.end_model.specs.Chain.{since, own, taken, kept};
+ghost use Rattle.end_model.specs.Setup.{Setup, OfMaster, OfSlave, sends, receives, piece_len};
 ghost use Rattle.end_model.specs.Deed.{Deed};
 ghost use Rattle.end_model.specs.Neighbours.{NeighboursDiffer};
+ghost use Rattle.end_model.specs.Payloads.{session_id};
+ghost use Rattle.end_model.specs.Readiness.{state_of};
+ghost use Rattle.end_model.specs.Verdict.{Valid, verdict};
 ghost use Rattle.end_model.specs.Step.{step, IsRun};
+ghost use Rattle.end_model.specs.FreshIds.{DifferInFront, NotByStep, EndsByCrcs};
+ghost use Rattle.end_model.specs.WorkedRuns.{IdsByStep};
 
 /// In every run of an end two frames that it sends after one another in a session have different CRC_0.
 #[tactic(auto, using(crate::proofs::Neighbours::neighbours))]
@@ -23,4 +34,31 @@ pub fn consecutive()
 pub fn no_repeat()
     ensures never_taken { (s : Setup) (e : List Deed) (bytes : List ℕ) → kept (since e) ≡ Some bytes → (step s e (move.Deliver bytes)).did.took ≡ None }
     ensures dropped { (s : Setup) (e : List Deed) (bytes : List ℕ) → length bytes ≡ frame_len (receives s) → kept (since e) ≡ Some bytes → (step s e (move.Deliver bytes)).did ≡ dropped why.Repeat }
+{}
+
+/// What a fresh session id excludes at a slave. Let two sessions of it have begun with the same Session frame, and let no other frame of the
+/// session have been taken yet. A frame of a session that would be taken next in the one, as an old frame was, is refused in the other with
+/// code 04h, if their session ids differ in their low 16 bits, or in their low 8 where a length is 1, and not by 9985h there.
+pub fn old_frames()
+    ensures { (ss : SlaveSettings) (e e' : List Deed) (first bytes load : List ℕ) (c : Command) → IsRun (OfSlave ss) e → IsRun (OfSlave ss) e' → taken (since e) ≡ first ∷ [] → taken (since e') ≡ first ∷ [] → DifferInFront (OfSlave ss) (session_id (OfSlave ss) e) (session_id (OfSlave ss) e') → NotByStep (OfSlave ss) (session_id (OfSlave ss) e) (session_id (OfSlave ss) e') → c ≢ command.Reset → verdict (OfSlave ss) e bytes ≡ Valid c load → EndsByCrcs (OfSlave ss) e' bytes }
+{}
+
+/// Which frame of a session a slave takes next after its first Session frame: the first Connection frame where a piece has room for the whole
+/// session id, else the second Session frame.
+pub fn after_first()
+    ensures connection { (ss : SlaveSettings) (e : List Deed) (first bytes load : List ℕ) (c : Command) → IsRun (OfSlave ss) e → taken (since e) ≡ first ∷ [] → id_len ss.profile ≤ piece_len (OfSlave ss) → c ≢ command.Reset → verdict (OfSlave ss) e bytes ≡ Valid c load → c ≡ command.Connection }
+    ensures session { (ss : SlaveSettings) (e : List Deed) (first bytes load : List ℕ) (c : Command) → IsRun (OfSlave ss) e → taken (since e) ≡ first ∷ [] → piece_len (OfSlave ss) < id_len ss.profile → c ≢ command.Reset → verdict (OfSlave ss) e bytes ≡ Valid c load → c ≡ command.Session }
+{}
+
+/// That condition on the ids is needed: two slaves with ids that differ by 9985h take the same Connection frame after the same Session frame.
+#[tactic(auto, using(crate::proofs::WorkedRuns::ids_by_step))]
+pub fn condition_is_needed()
+    ensures { IdsByStep }
+{}
+
+/// What a fresh session id excludes at a master. In two sessions let a master have sent its first Session frame and taken no answer to it yet. A
+/// frame of a session that would be taken as this answer in the one, as an old answer was, is refused in the other with code 04h, if their
+/// session ids differ in their low 16 bits, or in their low 8 where a length is 1.
+pub fn old_answers()
+    ensures { (ms : MasterSettings) (e e' : List Deed) (bytes load : List ℕ) (c : Command) → IsRun (OfMaster ms) e → IsRun (OfMaster ms) e' → state_of (OfMaster ms) e ≡ state.Session → state_of (OfMaster ms) e' ≡ state.Session → taken (since e) ≡ [] → taken (since e') ≡ [] → DifferInFront (OfMaster ms) (session_id (OfMaster ms) e) (session_id (OfMaster ms) e') → c ≢ command.Reset → verdict (OfMaster ms) e bytes ≡ Valid c load → EndsByCrcs (OfMaster ms) e' bytes }
 {}

@@ -1,11 +1,12 @@
 -- Frames whose loads differ in their first group.
 use Rattle.std.proofs.Common.{◌≡◌, ◌≢◌, ℕ, ◌*◌, ◌+◌, ◌<◌, List, [], ◌∷◌, length, bit_xor, Option, refl, sym, ap, ◌∙◌, lit<, arith}
 use Rattle.std.specs.Int.Bits.{xor_lt, xor_block}
-use Rattle.fsoe_crc.specs.Remainder.{computing, rem}
+use Rattle.fsoe_crc.specs.Remainder.{computing, fed_bytes, sixteen_zeros, rem}
+use Rattle.fsoe_crc.proofs.Linear.{fed_bits-below, fed_bytes-below, sixteen_zeros-are_bits}
 use Rattle.fsoe_crc.proofs.Adjacent.{rem-adjacent}
 use Rattle.fsoe_frame.specs.Parts.{AreBytes}
 use Rattle.seq_chain.specs.declared.link.Link.{Link}
-use Rattle.seq_chain.specs.Cover.{common, first_of, crc_0}
+use Rattle.seq_chain.specs.Cover.{common, cover, first_of, crc_0}
 use Rattle.seq_chain.specs.Numbers.{following, stepped, number_of}
 use Rattle.seq_chain.specs.Sealing.{sealed}
 use Rattle.seq_chain.specs.Differences.{SteppedAlike}
@@ -26,6 +27,10 @@ pub frames_told : (last conn cmd : ℕ) (before : Option Link) (load load' : Lis
     → first_of (sealed last before conn cmd load).crcs ≢ first_of (sealed last before conn cmd load').crcs
 frames_told last conn cmd before load load' same h h' other steps e =
     first_told last conn (number_of last before conn cmd load) cmd load load' same h h' other (e ∙ ap (λ again. crc_0 last conn (stepped (following before) again) cmd load') (sym steps))
+
+rem-below : (bytes : List ℕ) → rem bytes < 65536
+unfolding rem
+rem-below bytes = fed_bits-below (fed_bytes 0 bytes) sixteen_zeros (fed_bytes-below 0 bytes (lit< tt)) sixteen_zeros-are_bits
 
 -- the CRC of the bytes 85 99 and of three zeros
 pub step_is : rem (0x85 ∷ 0x99 ∷ 0 ∷ 0 ∷ 0 ∷ []) ≡ step_in_last
@@ -62,3 +67,9 @@ differ_in_load last conn n cmd (d ∷ b ∷ load) (d' ∷ b' ∷ load') same h h
     ∙ ap (λ k. k * 256 + x) both.1
     ∙ ap (λ k. 0x99 * 256 + k) both.0
 differ_in_load last conn n cmd load load' same h h' e = absurd (omega arith)
+
+-- the CRC_0 of a load has 16 bits
+pub crc_0_within : (last conn n cmd : ℕ) (load : List ℕ) → crc_0 last conn n cmd load < 65536
+crc_0_within last conn n cmd [] = lit< tt
+crc_0_within last conn n cmd (d ∷ []) = rem-below (cover last conn n cmd 0 (d ∷ []))
+crc_0_within last conn n cmd (d ∷ b ∷ load) = rem-below (cover last conn n cmd 0 (d ∷ b ∷ []))

@@ -1,0 +1,183 @@
+-- What a fresh session id excludes for certain, at a slave and at a master.
+use Rattle.std.proofs.Common.{◌≡◌, ◌≢◌, ℕ, ◌<◌, ◌≤◌, ◌==◌, nat_le, List, [], ◌∷◌, length, take, bit_xor, true, false, Option, Some, None, IsTrue, if◌then◌else◌, unwrap_or, refl, sym, ap, ◌∙◌, arith}
+use Rattle.std.proofs.lemmas.Bool.Decides.{nat_tests}
+use Rattle.std.proofs.lemmas.List.{length-take}
+use Rattle.fsoe_base.specs.declared.command.State.TheVariants as state
+use Rattle.fsoe_base.specs.declared.command.Command.{Command}
+use Rattle.fsoe_base.specs.declared.command.Command.TheVariants as command
+use Rattle.fsoe_base.specs.Codes.{wrong_crc}
+use Rattle.fsoe_base.specs.Command.{command_of}
+use Rattle.fsoe_frame.specs.Parts.{Frame, frame_of}
+use Rattle.fsoe_frame.proofs.Places as places
+use Rattle.seq_chain.specs.declared.link.Link.{Link}
+use Rattle.seq_chain.specs.Cover.{first_of, crc_0}
+use Rattle.seq_chain.specs.Sealing as sealing
+use Rattle.seq_chain.specs.FreshIds.{first_number, step_in_last}
+use Rattle.seq_chain.proofs.AnotherLast.{first_refused, second_refused}
+use Rattle.seq_chain.proofs.FirstGroups.{first_told, differ_in_load, crc_0_within}
+use Rattle.seq_chain.proofs.Received.{received_some}
+use Rattle.param_load.specs.declared.profile.Profile.{Profile}
+use Rattle.param_load.specs.declared.master_settings.MasterSettings.{MasterSettings}
+use Rattle.param_load.specs.declared.slave_settings.SlaveSettings.{SlaveSettings}
+use Rattle.param_load.specs.Profile.{id_len}
+use Rattle.end_model.specs.Setup.{Setup, OfMaster, OfSlave, sends, receives, piece_len}
+use Rattle.end_model.specs.Phases.{is_guarded}
+use Rattle.end_model.specs.Deed.{Deed}
+use Rattle.end_model.specs.Chain.{since, own, taken, kept, newest_crc, taken_link, fits}
+use Rattle.end_model.specs.Payloads.{nonce, session_id, first_conn, whole}
+use Rattle.end_model.specs.Readiness.{state_of, slave_allows, master_allows, upload_is_whole, allowed}
+use Rattle.end_model.specs.Verdict.{Valid, Refused, is_slave_conn, has_conn, verdict}
+use Rattle.end_model.specs.Step.{on_fault, on_verdict, IsRun}
+use Rattle.end_model.specs.Reactions.{parts, IsValid}
+use Rattle.end_model.specs.FreshIds.{id_front, DifferInFront, NotByStep, EndsByCrcs}
+use Rattle.end_model.proofs.CrcTest.{ComesToCrcs, valid_is, crc_refused}
+use Rattle.end_model.proofs.IdFront.{first_load, load_bytes, load_len, front_is}
+use Rattle.end_model.proofs.NoneYet.{none_taken_link, valid_received}
+use Rattle.end_model.proofs.FirstTaken.{TookFirst, took_first}
+use Rattle.end_model.proofs.FirstSent.{SentFirst, sent_first}
+
+-- the frames with the first pieces of two ids that differ in front have different CRC_0
+crc_differs : (s : Setup) (p : Profile) (last id id' : ℕ) → DifferInFront s id id' → crc_0 last 0 1 0x4E (first_load s p id) ≢ crc_0 last 0 1 0x4E (first_load s p id')
+crc_differs s p last id id' differ =
+    first_told last 0 1 0x4E (first_load s p id) (first_load s p id') (load_len s p id ∙ sym (load_len s p id')) (load_bytes s p id) (load_bytes s p id')
+    (λ e. differ (sym (front_is s p id) ∙ e ∙ front_is s p id'))
+
+-- and these differ by the step only where the ids do
+not_by_step : (s : Setup) (p : Profile) (last id id' : ℕ) → NotByStep s id id' → bit_xor (crc_0 last 0 1 0x4E (first_load s p id)) (crc_0 last 0 1 0x4E (first_load s p id')) ≢ step_in_last
+not_by_step s p last id id' by e =
+    by (ap (λ k. bit_xor k (id_front s id')) (sym (front_is s p id)) ∙ ap (bit_xor (first_number (first_load s p id))) (sym (front_is s p id'))
+    ∙ differ_in_load last 0 1 0x4E (first_load s p id) (first_load s p id') (load_len s p id ∙ sym (load_len s p id')) (load_bytes s p id) (load_bytes s p id') e)
+
+-- a frame that was read has safe data
+some_load : (s : Setup) (e : List Deed) (bytes : List ℕ) (c : Command) (load : List ℕ) → IsValid s e bytes c load → 0 < length (parts s bytes).load
+some_load s e bytes c load v = received_some (receives s) bytes (valid_received s) v.is_read.has_length
+
+-- what fits is decided by the CRC_0 of the newest own frame and by what is noted of the newest one taken
+fits_by : (s : Setup) (e : List Deed) (f : Frame) (last : ℕ) (before : Option Link) → newest_crc (sends s) (own (since e)) ≡ last → taken_link s (since e) ≡ before → fits s (since e) f ≡ sealing.fits last before f
+fits_by s e f last before own_is taken_is = ap (λ n. sealing.fits n (taken_link s (since e)) f) own_is ∙ ap (λ b. sealing.fits last b f) taken_is
+
+-- a frame of a session that is refused by its CRCs ends the session in state Session
+ends : (s : Setup) (e : List Deed) (bytes : List ℕ) (c : Command) → state_of s e ≡ state.Session → ComesToCrcs s e bytes c → EndsByCrcs s e bytes
+ends s e bytes c now comes =
+    let refused : verdict s e bytes ≡ Refused wrong_crc = crc_refused s e bytes c comes in
+    record { refused = refused; ends = ap (on_verdict (state_of s e) s) refused ∙ ap (λ now. on_fault now false wrong_crc) now }
+
+-- at a slave what is allowed, and which connection ids are right, doesn't depend on its session id
+slave_allowed : (ss : SlaveSettings) (e : List Deed) (first : List ℕ) (id : ℕ) (c : Command) → TookFirst ss e first id
+    → allowed (OfSlave ss) e c ≡ slave_allows state.Session (whole ss.profile state.Session (take (piece_len (OfSlave ss)) (frame_of (receives (OfSlave ss)) first).load)) c
+slave_allowed ss e first id c t =
+    ap (λ now. slave_allows now (upload_is_whole ss now e) c) t.state_is ∙ ap (λ u. slave_allows state.Session (whole ss.profile state.Session u) c) t.uploaded_is
+
+slave_conn_right : (ss : SlaveSettings) (e e' : List Deed) (first : List ℕ) (c : Command) (field : ℕ) → taken (since e) ≡ first ∷ [] → taken (since e') ≡ first ∷ [] → has_conn (OfSlave ss) e c field ≡ has_conn (OfSlave ss) e' c field
+slave_conn_right ss e e' first c field h h' =
+    ap (λ frames. if is_guarded c then is_slave_conn (first_conn ss.lengths.master frames) field else field == 0) (h ∙ sym h')
+
+slave_refuses : (ss : SlaveSettings) (e e' : List Deed) (first bytes load : List ℕ) (c : Command) (id id' : ℕ) → TookFirst ss e first id → TookFirst ss e' first id' → taken (since e) ≡ first ∷ [] → taken (since e') ≡ first ∷ []
+    → DifferInFront (OfSlave ss) id id' → NotByStep (OfSlave ss) id id' → c ≢ command.Reset → IsValid (OfSlave ss) e bytes c load → EndsByCrcs (OfSlave ss) e' bytes
+slave_refuses ss e e' first bytes load c id id' t t' h h' differ by n v =
+    let s : Setup = OfSlave ss in
+    let f : Frame = parts s bytes in
+    let crc : ℕ = first_of (frame_of (receives s) first).crcs in
+    let before : Option Link = Some (record { number = 1; crc = crc }) in
+    let last : ℕ = crc_0 crc 0 1 0x4E (first_load s ss.profile id) in
+    let last' : ℕ = crc_0 crc 0 1 0x4E (first_load s ss.profile id') in
+    let fitted : IsTrue (sealing.fits last before f) = sym (fits_by s e f last before t.crc_is t.link_is) ∙ v.does_fit in
+    let refused : sealing.fits last' before f ≡ false =
+    second_refused last last' crc f (crc_0_within crc 0 1 0x4E (first_load s ss.profile id)) (crc_0_within crc 0 1 0x4E (first_load s ss.profile id'))
+    (crc_differs s ss.profile crc id id' differ) (not_by_step s ss.profile crc id id' by) (some_load s e bytes c load v) fitted in
+    ends s e' bytes c t'.state_is
+    (record {
+      other = n;
+      is_read = record { has_length = v.is_read.has_length; is_new = λ k. v.is_read.is_new (t.kept_is ∙ sym t'.kept_is ∙ k); command_is = v.is_read.command_is };
+      is_allowed = slave_allowed ss e' first id' c t' ∙ sym (slave_allowed ss e first id c t) ∙ v.is_allowed;
+      has_conn_id = sym (slave_conn_right ss e e' first c f.conn h h') ∙ v.has_conn_id;
+      does_not_fit = fits_by s e' f last' before t'.crc_is t'.link_is ∙ refused;
+    })
+
+pub old_frame_refused : (ss : SlaveSettings) (e e' : List Deed) (first bytes load : List ℕ) (c : Command) → IsRun (OfSlave ss) e → IsRun (OfSlave ss) e' → taken (since e) ≡ first ∷ [] → taken (since e') ≡ first ∷ []
+    → DifferInFront (OfSlave ss) (session_id (OfSlave ss) e) (session_id (OfSlave ss) e') → NotByStep (OfSlave ss) (session_id (OfSlave ss) e) (session_id (OfSlave ss) e')
+    → c ≢ command.Reset → verdict (OfSlave ss) e bytes ≡ Valid c load → EndsByCrcs (OfSlave ss) e' bytes
+old_frame_refused ss e e' first bytes load c r r' h h' differ by n v =
+    let s : Setup = OfSlave ss in
+    let t : (id : ℕ) × TookFirst ss e first id = took_first ss e first r h in
+    let t' : (id : ℕ) × TookFirst ss e' first id = took_first ss e' first r' h' in
+    let id_is : session_id s e ≡ t.0 = ap (λ id. unwrap_or id (nonce s e)) t.1.id_is in
+    let id_is' : session_id s e' ≡ t'.0 = ap (λ id. unwrap_or id (nonce s e')) t'.1.id_is in
+    slave_refuses ss e e' first bytes load c t.0 t'.0 t.1 t'.1 h h'
+    (λ k. differ (ap (id_front s) id_is ∙ k ∙ sym (ap (id_front s) id_is')))
+    (λ k. by (ap (λ id. bit_xor (id_front s id) (id_front s (session_id s e'))) id_is ∙ ap (λ id. bit_xor (id_front s t.0) (id_front s id)) id_is' ∙ k))
+    n (valid_is s e bytes c load n v)
+
+-- how much of the session id a slave's first Session frame brings
+first_len : (ss : SlaveSettings) (e : List Deed) (first : List ℕ) (id : ℕ) → TookFirst ss e first id → length (take (piece_len (OfSlave ss)) (frame_of (receives (OfSlave ss)) first).load) ≡ piece_len (OfSlave ss)
+first_len ss e first id t =
+    let load : length (frame_of (receives (OfSlave ss)) first).load ≡ receives (OfSlave ss) = (places.whole (receives (OfSlave ss)) first (valid_received (OfSlave ss)) t.len_is).load in
+    omega (arith, length-take (piece_len (OfSlave ss)) (frame_of (receives (OfSlave ss)) first).load)
+
+allowed_by_len : (ss : SlaveSettings) (e : List Deed) (first : List ℕ) (id : ℕ) (c : Command) → TookFirst ss e first id → allowed (OfSlave ss) e c ≡ slave_allows state.Session (nat_le (id_len ss.profile) (piece_len (OfSlave ss))) c
+allowed_by_len ss e first id c t = slave_allowed ss e first id c t ∙ ap (λ n. slave_allows state.Session (nat_le (id_len ss.profile) n) c) (first_len ss e first id t)
+
+after_whole : (c : Command) → slave_allows state.Session true c ≡ true → c ≡ command.Connection
+after_whole command.Connection h = refl
+after_whole _ h = cc
+
+after_part : (c : Command) → slave_allows state.Session false c ≡ true → c ≡ command.Session
+after_part command.Session h = refl
+after_part _ h = cc
+
+pub connection_next : (ss : SlaveSettings) (e : List Deed) (first bytes load : List ℕ) (c : Command) → IsRun (OfSlave ss) e → taken (since e) ≡ first ∷ [] → id_len ss.profile ≤ piece_len (OfSlave ss)
+    → c ≢ command.Reset → verdict (OfSlave ss) e bytes ≡ Valid c load → c ≡ command.Connection
+connection_next ss e first bytes load c r h room n v =
+    let t : (id : ℕ) × TookFirst ss e first id = took_first ss e first r h in
+    let valid : IsValid (OfSlave ss) e bytes c load = valid_is (OfSlave ss) e bytes c load n v in
+    let done : nat_le (id_len ss.profile) (piece_len (OfSlave ss)) ≡ true = grind (arith, nat_tests) in
+    after_whole c (ap (λ b. slave_allows state.Session b c) (sym done) ∙ sym (allowed_by_len ss e first t.0 c t.1) ∙ valid.is_allowed)
+
+pub session_next : (ss : SlaveSettings) (e : List Deed) (first bytes load : List ℕ) (c : Command) → IsRun (OfSlave ss) e → taken (since e) ≡ first ∷ [] → piece_len (OfSlave ss) < id_len ss.profile
+    → c ≢ command.Reset → verdict (OfSlave ss) e bytes ≡ Valid c load → c ≡ command.Session
+session_next ss e first bytes load c r h short n v =
+    let t : (id : ℕ) × TookFirst ss e first id = took_first ss e first r h in
+    let valid : IsValid (OfSlave ss) e bytes c load = valid_is (OfSlave ss) e bytes c load n v in
+    let part : nat_le (id_len ss.profile) (piece_len (OfSlave ss)) ≡ false = grind (arith, nat_tests) in
+    after_part c (ap (λ b. slave_allows state.Session b c) (sym part) ∙ sym (allowed_by_len ss e first t.0 c t.1) ∙ valid.is_allowed)
+
+-- the Reset frame that a master keeps isn't an answer
+not_kept : (ms : MasterSettings) (e : List Deed) (bytes : List ℕ) (id : ℕ) (c : Command) → SentFirst ms e id → c ≢ command.Reset → command_of (parts (OfMaster ms) bytes).cmd ≡ Some c → kept (since e) ≢ Some bytes
+not_kept ms e bytes id c t n command_is k =
+    let same : Some t.reset ≡ Some bytes = sym t.kept_is ∙ k in
+    let frames : t.reset ≡ bytes = cc in
+    let commands : Some c ≡ Some command.Reset = sym command_is ∙ ap (λ f. command_of (frame_of (receives (OfMaster ms)) f).cmd) (sym frames) ∙ t.reset_is in
+    n (cc)
+
+master_refuses : (ms : MasterSettings) (e e' : List Deed) (bytes load : List ℕ) (c : Command) (id id' : ℕ) → SentFirst ms e id → SentFirst ms e' id' → state_of (OfMaster ms) e ≡ state.Session → state_of (OfMaster ms) e' ≡ state.Session
+    → taken (since e) ≡ [] → taken (since e') ≡ [] → DifferInFront (OfMaster ms) id id' → c ≢ command.Reset → IsValid (OfMaster ms) e bytes c load → EndsByCrcs (OfMaster ms) e' bytes
+master_refuses ms e e' bytes load c id id' t t' now now' h h' differ n v =
+    let s : Setup = OfMaster ms in
+    let f : Frame = parts s bytes in
+    let last : ℕ = crc_0 0 0 1 0x4E (first_load s ms.profile id) in
+    let last' : ℕ = crc_0 0 0 1 0x4E (first_load s ms.profile id') in
+    let fitted : IsTrue (sealing.fits last None f) = sym (fits_by s e f last None t.crc_is (none_taken_link s (since e) h)) ∙ v.does_fit in
+    let refused : sealing.fits last' None f ≡ false =
+    first_refused last last' f (crc_0_within 0 0 1 0x4E (first_load s ms.profile id)) (crc_0_within 0 0 1 0x4E (first_load s ms.profile id'))
+    (crc_differs s ms.profile 0 id id' differ) (some_load s e bytes c load v) fitted in
+    ends s e' bytes c now'
+    (record {
+      other = n;
+      is_read = record { has_length = v.is_read.has_length; is_new = not_kept ms e' bytes id' c t' n v.is_read.command_is; command_is = v.is_read.command_is };
+      is_allowed = ap (λ now. master_allows now c) (now' ∙ sym now) ∙ v.is_allowed;
+      has_conn_id = v.has_conn_id;
+      does_not_fit = fits_by s e' f last' None t'.crc_is (none_taken_link s (since e') h') ∙ refused;
+    })
+
+pub old_answer_refused : (ms : MasterSettings) (e e' : List Deed) (bytes load : List ℕ) (c : Command) → IsRun (OfMaster ms) e → IsRun (OfMaster ms) e' → state_of (OfMaster ms) e ≡ state.Session → state_of (OfMaster ms) e' ≡ state.Session
+    → taken (since e) ≡ [] → taken (since e') ≡ [] → DifferInFront (OfMaster ms) (session_id (OfMaster ms) e) (session_id (OfMaster ms) e')
+    → c ≢ command.Reset → verdict (OfMaster ms) e bytes ≡ Valid c load → EndsByCrcs (OfMaster ms) e' bytes
+old_answer_refused ms e e' bytes load c r r' now now' h h' differ n v =
+    let s : Setup = OfMaster ms in
+    let t : (id : ℕ) × SentFirst ms e id = sent_first ms e r now h in
+    let t' : (id : ℕ) × SentFirst ms e' id = sent_first ms e' r' now' h' in
+    let id_is : session_id s e ≡ t.0 = ap (λ id. unwrap_or id (nonce s e)) t.1.id_is in
+    let id_is' : session_id s e' ≡ t'.0 = ap (λ id. unwrap_or id (nonce s e')) t'.1.id_is in
+    master_refuses ms e e' bytes load c t.0 t'.0 t.1 t'.1 now now' h h'
+    (λ k. differ (ap (id_front s) id_is ∙ k ∙ sym (ap (id_front s) id_is')))
+    n (valid_is s e bytes c load n v)
