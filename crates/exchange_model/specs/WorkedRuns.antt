@@ -9,6 +9,7 @@ use Rattle.param_load.specs.declared.profile.Profile.TheVariants as profile
 use Rattle.param_load.specs.declared.entry.Entry.{Entry}
 use Rattle.param_load.specs.declared.master_settings.MasterSettings.{MasterSettings}
 use Rattle.param_load.specs.declared.slave_settings.SlaveSettings.{SlaveSettings}
+use Rattle.schedule_file.specs.declared.event.Event.{Event}
 use Rattle.end_model.specs.Setup.{OfSlave}
 use Rattle.end_model.specs.Readiness.{age}
 use Rattle.end_model.specs.WorkedRuns.{two_and_two, four_and_four, slave_values}
@@ -16,7 +17,7 @@ use Rattle.exchange_model.specs.World.{deeds, entry_at, world}
 use Rattle.exchange_model.specs.Other.{first_other, before_other}
 use Rattle.exchange_model.specs.Fair.{Fair}
 use Rattle.exchange_model.specs.Honest.{Match, exchanges, keeps_time, IsHonest}
-use Rattle.exchange_model.specs.Schedules.{master_values, dm, ds, altered_ds, rs, tm, ts, pm, hs, zs, rounds, until_data, pair_lines, short_lines, sizes, begin_with}
+use Rattle.exchange_model.specs.Schedules.{master_values, dm, ds, altered_ds, rs, tm, ts, pm, hs, ns, zs, rounds, until_data, pair_lines, short_lines, sizes, begin_with}
 
 -- the lines of a run after the first so many, and the number of its first other entry
 abbrev pub told_from : ℕ → List Entry → List (List ℕ) × Option ℕ
@@ -255,6 +256,63 @@ unfoldable pub OldConnection : Type 0
 OldConnection =
     told_from 21 old_connection_run
     ≡ (codes "s took Connection Connection 0000 > 64010093d60100" ∷ [], Some 22)
+
+-- the frames of a master in a session in which it sends `ff00`
+abbrev pub old_frames : List Event
+old_frames =
+    rs (codes "2a0000c42d0000")
+    ∷ rs (codes "4e0100123e0000")
+    ∷ rs (codes "640100642a0100")
+    ∷ rs (codes "640200625f0100")
+    ∷ rs (codes "520200ee740100")
+    ∷ rs (codes "52640058da0100")
+    ∷ rs (codes "52000071990100")
+    ∷ rs (codes "36ff007d030100")
+    ∷ rs (codes "36ff009a250100")
+    ∷ []
+
+-- that session, of which the slave took both data frames; then zeros are put at the master, and the slave resets and tells the master
+abbrev pub session_over : List Event
+session_over = pm (codes "ff00") ∷ tm ∷ rounds 8 ++ ds 1 ∷ pm (codes "0000") ∷ zs ∷ dm 1 ∷ []
+
+-- the old frames come to the slave, whose session id is as it was
+abbrev pub equal_ids_run : List Entry
+equal_ids_run = world master_values slave_values (session_over ++ old_frames)
+
+-- the slave takes the whole old session, and the first guarded frame of it is other
+unfoldable pub EqualIds : Type 0
+EqualIds =
+    told_from 22 equal_ids_run
+    ≡ (
+      codes "s took Reset Reset 0000 > 2a0000c42d0000"
+          ∷ codes "s took Session Session 0000 > 4e020090470000"
+          ∷ codes "s took Connection Connection 0000 > 64010093d60100"
+          ∷ codes "s took Connection Connection 0000 > 64020047080100"
+          ∷ codes "s took Parameter Parameter 0000 > 52020030580100"
+          ∷ codes "s took Parameter Parameter 0000 > 526400ae680100"
+          ∷ codes "s took Parameter Parameter 0000 > 520000772d0100"
+          ∷ codes "s took ProcessData Data ff00 > 36000053240100"
+          ∷ codes "s took ProcessData Data ff00 > 36000033cd0100"
+          ∷ [],
+      Some 25,
+    )
+
+-- the old frames come to the slave, which has a fresh session id
+abbrev pub fresh_id_run : List Entry
+fresh_id_run = world master_values slave_values (session_over ++ ns 3 ∷ old_frames)
+
+-- the slave refuses the first Connection frame, whose CRC covers that of another answer, and drops the rest
+unfoldable pub FreshId : Type 0
+FreshId =
+    told_from 22 fresh_id_run
+    ≡ (
+      codes "s quiet Reset 0000"
+          ∷ codes "s took Reset Reset 0000 > 2a0000c42d0000"
+          ∷ codes "s took Session Session 0000 > 4e030013dd0000"
+          ∷ codes "s reset found 04 Reset 0000 > 2a0400a6340000"
+          ∷ replicate 6 (codes "s drop InReset Reset 0000"),
+      None,
+    )
 
 -- the first of these data frames of the master would have the CRC_0 of the frame before it under the next number, so that its
 -- number is stepped once more; the slave takes it, and the master's next frame goes on from there

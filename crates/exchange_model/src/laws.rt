@@ -24,7 +24,7 @@ ghost use Rattle.exchange_model.specs.Serving.{Serves};
 ghost use Rattle.exchange_model.specs.WorkedServing.{ReachesData};
 ghost use Rattle.exchange_model.specs.WorkedItems.{Answering, AnsweringLate, Carrying, Awaiting, Taking};
 ghost use Rattle.exchange_model.specs.WorkedSchedules.{Mismatches, NotPlain, OutOfTurn, TickedLate};
-ghost use Rattle.exchange_model.specs.WorkedRuns.{FirstData, ByteByByte, LongestFrames, ProfileTwo, NumberStepped, NoFrame, OtherAddress, LongWatchdog, NoParameters, HighParameter, ForgedWatchdog, OtherWord, OtherProfile, OtherProfileLater, Repeated, AlteredGroup, OldData, FiveTicks, AnswerUnderWay, OldSession, ForgedData, HeldSlave, OldConnection, FirstDataFair, AnswerUnderWayFair, OldSessionFair, HeldSlaveFair, ProfileTwoFair, ForgedDataFair, OldConnectionFair, Honest, HonestTicks, Exchanges};
+ghost use Rattle.exchange_model.specs.WorkedRuns.{FirstData, ByteByByte, LongestFrames, ProfileTwo, NumberStepped, NoFrame, OtherAddress, LongWatchdog, NoParameters, HighParameter, ForgedWatchdog, OtherWord, OtherProfile, OtherProfileLater, Repeated, AlteredGroup, OldData, FiveTicks, AnswerUnderWay, OldSession, ForgedData, HeldSlave, OldConnection, EqualIds, FreshId, FirstDataFair, AnswerUnderWayFair, OldSessionFair, HeldSlaveFair, ProfileTwoFair, ForgedDataFair, OldConnectionFair, Honest, HonestTicks, Exchanges};
 
 /// A schedule of proper events makes a world, each of whose entries is the next one of its end; and in each world the
 /// entries of an end are those of the run of that end's own events alone.
@@ -128,6 +128,13 @@ pub fn worked_data()
     ensures forged_data { ForgedData }
     ensures held_slave { HeldSlave }
     ensures old_connection { OldConnection }
+{}
+
+/// A whole old session, whose frames come to the slave again after its reset: with its session id as it was it is taken, and other; with
+/// a fresh one it is refused at its first Connection frame.
+pub fn worked_old_sessions()
+    ensures equal_ids { EqualIds }
+    ensures fresh_id { FreshId }
 {}
 
 /// The items of worked runs: what they answer and carry, which is awaited, and which gave data.
