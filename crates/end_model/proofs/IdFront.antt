@@ -1,5 +1,6 @@
 -- The first piece of a session id, as a frame carries it.
-use Rattle.std.proofs.Common.{◌≡◌, ℕ, zero, suc, ◌+◌, ◌-◌, ◌*◌, ◌/◌, ◌%◌, ◌==◌, ◌<◌, List, [], ◌∷◌, ◌++◌, length, take, drop, replicate, false, if◌then◌else◌, IsTrue, refl, sym, ap, ◌∙◌, lit<, arith}
+use Rattle.std.proofs.Common.{◌≡◌, ℕ, zero, suc, ◌+◌, ◌-◌, ◌*◌, ◌/◌, ◌%◌, ◌==◌, ◌<◌, List, [], ◌∷◌, ◌++◌, length, take, drop, replicate, Bool, true, false, bit_xor, if◌then◌else◌, IsTrue, refl, sym, ap, ◌∙◌, lit<, arith}
+use Rattle.std.specs.Int.Bits.{xor_self, xor_mod, xor_lt}
 use Rattle.std.proofs.lemmas.Bool.Decides.{nat_tests}
 use Rattle.fsoe_base.specs.Lengths.{is_length}
 use Rattle.fsoe_frame.specs.Parts.{AreBytes}
@@ -9,7 +10,7 @@ use Rattle.param_load.specs.Payload.{session_payload, padded}
 use Rattle.seq_chain.specs.FreshIds.{first_number}
 use Rattle.end_model.specs.Setup.{Setup, OfMaster, OfSlave, sends, piece_len}
 use Rattle.end_model.specs.Payloads.{piece}
-use Rattle.end_model.specs.FreshIds.{id_front}
+use Rattle.end_model.specs.FreshIds.{id_front, NotByStep}
 use Rattle.end_model.proofs.SealedFrames.{padded_len, piece_place, taken_len}
 
 -- the load with the first piece of a session id
@@ -81,3 +82,28 @@ front_is s profile.One id =
 front_is s (profile.Two word) id =
     front_by (piece_len s) (sends s) (id % 256) (id / 256 % 256) (id / 65536 % 256 ∷ id / 16777216 % 256 ∷ []) (piece_some s)
     ∙ ap (λ k. if piece_len s == 1 then id % 256 else k) (low_sixteen id)
+
+front_parity : (s : Setup) (id : ℕ) → id_front s id % 2 ≡ id % 2
+front_parity s id = by_one (piece_len s == 1) id
+  where
+    by_one : (one : Bool) (id : ℕ) → (if one then id % 256 else id % 65536) % 2 ≡ id % 2
+    by_one true id = omega arith
+    by_one false id = omega arith
+
+-- ids that are both even or both odd differ by an even number
+pub even_not_by_step : (s : Setup) (id id' : ℕ) → id % 2 ≡ id' % 2 → NotByStep s id id'
+even_not_by_step s id id' same e =
+    let x : ℕ = id_front s id in
+    let y : ℕ = id_front s id' in
+    let parities : x % 2 ≡ y % 2 = front_parity s id ∙ same ∙ sym (front_parity s id') in
+    let none : bit_xor x y % 2 ≡ 0 = xor_mod x y 1 ∙ ap (λ k. bit_xor k (y % 2)) parities ∙ xor_self (y % 2) in
+    let odd : bit_xor x y % 2 ≡ 1 = ap (λ k. k % 2) e in
+    omega arith
+
+-- ids differ by less than 256 where a piece has one byte
+pub byte_not_by_step : (s : Setup) (id id' : ℕ) → piece_len s ≡ 1 → NotByStep s id id'
+byte_not_by_step s id id' one e =
+    let first : id_front s id ≡ id % 256 = ap (λ c. if c == 1 then id % 256 else id % 65536) one in
+    let second : id_front s id' ≡ id' % 256 = ap (λ c. if c == 1 then id' % 256 else id' % 65536) one in
+    let small : bit_xor (id_front s id) (id_front s id') < 256 = xor_lt 8 (id_front s id) (id_front s id') (omega arith) (omega arith) in
+    omega arith

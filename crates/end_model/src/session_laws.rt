@@ -1,6 +1,6 @@
 //! What holds of the frames of a session in all runs. The calls do nothing: each law is a contract.
 
-ghost use Rattle.std.specs.Prelude.{◌≡◌, ◌≢◌, ◌<◌, ◌≤◌, ℕ, List, [], ◌∷◌, length, Some, None};
+ghost use Rattle.std.specs.Prelude.{◌≡◌, ◌≢◌, ◌<◌, ◌≤◌, ℕ, ◌%◌, List, [], ◌∷◌, length, Some, None};
 ghost use Rattle.fsoe_base.specs.declared.command.Command.{Command};
 ghost use Rattle.fsoe_base.specs.declared.command.Command.TheVariants as command;
 ghost use Rattle.fsoe_base.specs.declared.command.State.TheVariants as state;
@@ -48,6 +48,13 @@ pub fn old_frames()
 pub fn after_first()
     ensures connection { (ss : SlaveSettings) (e : List Deed) (first bytes load : List ℕ) (c : Command) → IsRun (OfSlave ss) e → taken (since e) ≡ first ∷ [] → id_len ss.profile ≤ piece_len (OfSlave ss) → c ≢ command.Reset → verdict (OfSlave ss) e bytes ≡ Valid c load → c ≡ command.Connection }
     ensures session { (ss : SlaveSettings) (e : List Deed) (first bytes load : List ℕ) (c : Command) → IsRun (OfSlave ss) e → taken (since e) ≡ first ∷ [] → piece_len (OfSlave ss) < id_len ss.profile → c ≢ command.Reset → verdict (OfSlave ss) e bytes ≡ Valid c load → c ≡ command.Session }
+{}
+
+/// Session ids that are both even, or both odd, don't differ by 9985h; and none do where a length is 1.
+#[tactic(auto, using(crate::proofs::IdFront::even_not_by_step, crate::proofs::IdFront::byte_not_by_step))]
+pub fn never_by_step()
+    ensures even { (s : Setup) (id id' : ℕ) → id % 2 ≡ id' % 2 → NotByStep s id id' }
+    ensures one_byte { (s : Setup) (id id' : ℕ) → piece_len s ≡ 1 → NotByStep s id id' }
 {}
 
 /// That condition on the ids is needed: two slaves with ids that differ by 9985h take the same Connection frame after the same Session frame.

@@ -7,6 +7,8 @@
 #[cfg(test)]
 mod of_black_channel;
 #[cfg(test)]
+mod of_end_model;
+#[cfg(test)]
 mod of_exchange_model;
 #[cfg(test)]
 mod of_fb_lib;

@@ -1,6 +1,6 @@
 ghost use Rattle.std.specs.Prelude.{◌≡◌, ◌<◌, ◌≤◌, ◌+◌, ◌^◌, length};
 
-use exchange_model::{ListMonitor, Monitor};
+use exchange_model::{ListMonitor, Monitor, laws};
 use fsoe_base::{Cause, Code, Command, Did, End, FrameBuf, Image, State, Took};
 use param_load::{Entry, Move};
 use std::alloc::Global;
@@ -300,6 +300,7 @@ fn monitors_find_the_first_other_entry(rt: HostRuntime) -> Result<(), Fail> {
     } in RUNS {
         assert_eq!(rt; judged(rt.alloc(), begun, &then), Some(other), "{name}");
     }
+    laws::worked_old_sessions();
     Ok(())
 }
 

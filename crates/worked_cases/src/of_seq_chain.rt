@@ -1,6 +1,6 @@
 use fsoe_base::{Command, FrameBuf};
 use fsoe_frame::view;
-use seq_chain::Chain;
+use seq_chain::{Chain, laws};
 use std::process::Abort;
 
 /// A frame with two safe data bytes: command, data, number and CRC.
@@ -96,4 +96,7 @@ fn sessions(rt: HostRuntime) {
     pass_by_turns(&rt, &FORGED_DATA, master, slave);
     let (master, slave) = pass_by_turns(&rt, &HANDSHAKE[..8], Chain::new(), Chain::new());
     pass_by_turns(&rt, &FORGED_PARAMETERS, master, slave);
+    laws::another_last();
+    laws::first_groups();
+    laws::steps();
 }
