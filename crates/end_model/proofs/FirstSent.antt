@@ -42,6 +42,7 @@ quiet : (ms : MasterSettings) (m : Move) (passed sent : Bool) (reset : Option Ca
     → SentFirst ms (deed m (record { took = None; passed = passed; sent = sent; reset = reset; dropped = because }) [] ∷ e) id
 quiet ms m passed sent reset because e id h = record { reset = h.reset; kept_is = h.kept_is; reset_is = h.reset_is; crc_is = h.crc_is; id_is = h.id_is }
 
+-- a master that takes the answer to its Reset frame
 starts : (ms : MasterSettings) (e : List Deed) (bytes load : List ℕ) → HasNoSession e → IsResetFrame (OfMaster ms) e bytes load
     → SentFirst ms (with_answer bytes command.Reset load (download_frame ms (received bytes command.Reset load e) command.Session 1) e) (nonce (OfMaster ms) e)
 starts ms e bytes load none frame =

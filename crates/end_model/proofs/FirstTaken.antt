@@ -47,18 +47,20 @@ quiet : (ss : SlaveSettings) (m : Move) (passed sent : Bool) (reset : Option Cau
 quiet ss m passed sent reset because e first id h =
     record { len_is = h.len_is; state_is = h.state_is; kept_is = h.kept_is; uploaded_is = h.uploaded_is; link_is = h.link_is; crc_is = h.crc_is; id_is = h.id_is }
 
--- the piece of the session id that answers the first Session frame
-count_one : (frames : List (List ℕ)) (bytes : List ℕ) → frames ≡ [] → (phase : State) → phase ≡ state.Session → (if same_phase state.Session phase then suc (count_in state.Session frames) else count_in state.Session frames) ≡ 1
-count_one frames bytes none phase is = rw (is, none) refl
+-- the first Session frame is one
+count_one : (frames : List (List ℕ)) (phase : State) → frames ≡ [] → phase ≡ state.Session → (if same_phase state.Session phase then suc (count_in state.Session frames) else count_in state.Session frames) ≡ 1
+count_one frames phase none is = rw (is, none) refl
 
+-- the piece of the session id that answers it is the first
 id_piece_is : (ss : SlaveSettings) (e : List Deed) (bytes load : List ℕ) → HasNoSession e → IsValid (OfSlave ss) e bytes command.Session load
     → id_piece ss (received bytes command.Session load e) ≡ take (piece_len (OfSlave ss)) (session_payload (nonce (OfSlave ss) e) ss.profile)
 id_piece_is ss e bytes load none valid =
     let phase = phase_is (OfSlave ss) bytes command.Session valid.is_read.has_length valid.is_read.command_is in
     ap (λ id. piece (session_payload (unwrap_or id (nonce (OfSlave ss) e)) ss.profile) (piece_len (OfSlave ss)) (count_in state.Session (bytes ∷ taken (since e)))) (none_id (OfSlave ss) e none.none_sent)
-    ∙ ap (piece (session_payload (nonce (OfSlave ss) e) ss.profile) (piece_len (OfSlave ss))) (count_one (taken (since e)) bytes none.none_taken (phase_of_frame bytes) phase)
+    ∙ ap (piece (session_payload (nonce (OfSlave ss) e) ss.profile) (piece_len (OfSlave ss))) (count_one (taken (since e)) (phase_of_frame bytes) none.none_taken phase)
     ∙ first_piece (session_payload (nonce (OfSlave ss) e) ss.profile) (piece_len (OfSlave ss))
 
+-- a slave that takes its first Session frame
 starts : (ss : SlaveSettings) (e : List Deed) (bytes load : List ℕ) → HasNoSession e → IsValid (OfSlave ss) e bytes command.Session load
     → TookFirst ss (with_answer bytes command.Session load (slave_answer ss (received bytes command.Session load e) command.Session load) e) bytes (nonce (OfSlave ss) e)
 starts ss e bytes load none valid =
