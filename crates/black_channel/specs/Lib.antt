@@ -1,2 +1,5 @@
 pub mod Altered
+pub mod Holds
+pub mod Listed
+pub mod Told
 pub mod Window
