@@ -4,11 +4,12 @@ ghost use Rattle.black_channel.specs.Told.{Told, Begins, PushesParcel, PullsParc
 
 use fsoe_base::{End, FrameBuf, MOST_FRAME};
 
-/// Where a frame goes: an end of a connection.
+/// Where a frame goes.
 #[derive(Clone, Copy, Debug, PartialEq, Eq)]
 pub struct Place {
     /// The number of the connection.
     pub link: u16,
+    /// Which of its ends.
     pub end: End,
 }
 

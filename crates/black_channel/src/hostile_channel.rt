@@ -1,7 +1,7 @@
 //! A channel of chance.
-ghost use Rattle.std.specs.Prelude.{◌≡◌, ◌≢◌, ◌≤◌, ◌<◌, ◌%◌, [], ◌∷◌, None, Some, codes, length, List, IfOk, IfSome};
+ghost use Rattle.std.specs.Prelude.{◌≡◌, ◌≤◌, ◌%◌, [], ◌∷◌, None, codes, length, List, IfOk};
 ghost use Rattle.std.specs.Option.{option_or};
-ghost use Rattle.black_channel.specs.Holds.{Chance, HasFrame, IsRing, generator_of, given_by, pulled, turned_frame};
+ghost use Rattle.black_channel.specs.Holds.{Chance, IsRing, generator_of, given_by, pulled, turned_frame};
 ghost use Rattle.black_channel.specs.Told.{Told, Begins, PushesParcel, PullsParcel, empties_after, holding, parcel_of};
 ghost use Rattle.black_channel.specs.declared.channel.Parcel.{Parcel};
 
@@ -94,7 +94,7 @@ impl GivenLast {
 
 /// Turns the bit of a frame of 1 to 255 bytes that a word names.
 fn turn(word: u32, frame: &mut FrameBuf)
-    requires some { 1 ≤ length frame.old }
+    requires { 1 ≤ length frame.old }
     ensures { frame.new ≡ turned_frame word frame.old }
 {
     let place = (word >> 8) as usize % frame.len();

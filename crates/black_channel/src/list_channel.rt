@@ -14,7 +14,7 @@ pub struct ListChannel {
     gifts: Vec<Parcel>,
     /// How many of the gifts were given.
     given: usize,
-    /// The parcels that were pushed, None once there were more than `room`.
+    /// The parcels that were pushed, `None` once they were more than `room`.
     pushed: Option<Vec<Parcel>>,
     room: usize,
     empties: u64,
@@ -38,8 +38,8 @@ impl Model for ListChannel {
 }
 
 impl ListChannel {
-    /// A channel that is to give these parcels, and tells what was pushed as long as that are at most `room` parcels. `Memory` where there
-    /// is none for so many.
+    /// A channel that is to give these parcels, and tells what was pushed as long as at most `room` parcels were. `Memory` where there is
+    /// none for so many.
     pub fn new(alloc: Global, gifts: Vec<Parcel>, room: usize) -> Result<ListChannel, Memory>
         ensures { IfOk result (λ c. c ≡ listing gifts.items room) }
     {
@@ -65,7 +65,9 @@ impl Channel for ListChannel {
         "list"
     }
 
-    fn begin(&mut self, _seed: u64) {}
+    fn begin(&mut self, _seed: u64)
+        ensures { self.new ≡ self.old }
+    {}
 
     fn push(&mut self, to: Place, frame: &[u8])
         requires some { 1 ≤ length frame.now }
