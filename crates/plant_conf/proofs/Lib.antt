@@ -1,0 +1,4 @@
+pub mod ArrayLaws
+pub mod Hex
+pub mod Dots
+pub mod Pairs

@@ -1,0 +1,177 @@
+-- What the value of a key may be: first its kind, and then its range or its form.
+use Rattle.std.specs.Prelude.{ℕ, ℤ, pos, negsuc, Bool, ◌==◌, nat_le, ◌&&◌, codes, length, List, [], ◌∷◌, Option, Some, None, Result, Ok, Err, option_map, option_and_then, if◌then◌else◌}
+use Rattle.std.specs.List.{slice_split}
+use Rattle.std.specs.Str.{bytes_eq}
+use Rattle.hex.specs.Hex.{decode_of}
+use Rattle.hex.specs.declared.error.FromHexError.{FromHexError}
+use Rattle.toml.specs.Data.{Data, Items, no_items, item, Members, as_str, as_integer, as_array, as_table}
+use Rattle.fsoe_base.specs.Lengths.{is_length}
+use Rattle.failsafe_io.specs.declared.bit.Bit.{Bit}
+use Rattle.fb_lib.specs.declared.kind.BlockKind.{BlockKind}
+use Rattle.fb_lib.specs.declared.kind.BlockKind.TheVariants as kind
+use Rattle.fb_net.specs.declared.wire.Wire.{Wire}
+use Rattle.fb_net.specs.declared.wire.Wire.TheVariants as wire
+use Rattle.param_load.specs.declared.app_rule.AppRule.{AppRule}
+use Rattle.param_load.specs.declared.app_rule.AppRule.TheVariants as rule
+use Rattle.schedule_file.specs.Field.{number_said}
+use Rattle.plant_conf.specs.declared.key.Key.{Key}
+use Rattle.plant_conf.specs.declared.fault.ConfFault.{ConfFault}
+use Rattle.plant_conf.specs.declared.fault.ConfFault.TheVariants as fault
+use Rattle.plant_conf.specs.Steps.{◌>>=◌, value_or, all_give}
+use denote.Ref.{Bor}
+
+-- what a value says at a key, or why not
+abbrev pub Form : Type 0 → Type 0
+Form A = Key → Data → Result A ConfFault
+
+-- a value of this kind, else `Kind`; and in this form, else `Range`
+abbrev pub formed : {A B : Type 0} → (Data → Option B) → (B → Option A) → Form A
+formed kind form key d = do
+  found ← value_or (fault.Kind key) (kind d)
+  value_or (fault.Range key) (form found)
+
+-- a whole number of these
+abbrev pub whole_said : (ℕ → Bool) → ℤ → Option ℕ
+whole_said allowed (pos n) = if allowed n then Some n else None
+whole_said allowed (negsuc n) = None
+
+-- a whole number from `low` to `high`
+abbrev pub number : ℕ → ℕ → Form ℕ
+number low high = formed as_integer (whole_said (λ n. nat_le low n && nat_le n high))
+
+-- a number of safe data bytes that an end may have
+abbrev pub data_length : Form ℕ
+data_length = formed as_integer (whole_said is_length)
+
+-- any text
+abbrev pub text : Form (List ℕ)
+text = formed as_str Some
+
+-- bytes that are at most so many
+abbrev pub at_most : ℕ → Result (List ℕ) FromHexError → Option (List ℕ)
+at_most most (Ok bytes) = if nat_le (length bytes) most then Some bytes else None
+at_most most (Err e) = None
+
+-- a text that is at most `most` bytes in hexadecimal, or none
+abbrev pub hex_bytes : ℕ → Form (List ℕ)
+hex_bytes most = formed as_str (λ t. at_most most (decode_of t))
+
+-- what a rule says of application parameters: any of as many bytes as these, or exactly these
+abbrev pub rule_said : List ℕ → List ℕ → Option AppRule
+rule_said app t =
+    if bytes_eq t (codes "any") then Some (rule.Any (length app))
+        else if bytes_eq t (codes "exact") then Some (rule.Exact app)
+        else None
+
+abbrev pub app_rule : List ℕ → Form AppRule
+app_rule app = formed as_str (rule_said app)
+
+-- the kinds of blocks
+abbrev pub kind_said : List ℕ → Option BlockKind
+kind_said t =
+    if bytes_eq t (codes "const0") then Some kind.Const0
+        else if bytes_eq t (codes "const1") then Some kind.Const1
+        else if bytes_eq t (codes "and") then Some kind.And
+        else if bytes_eq t (codes "or") then Some kind.Or
+        else if bytes_eq t (codes "latch") then Some kind.Latch
+        else if bytes_eq t (codes "estop") then Some kind.Estop
+        else if bytes_eq t (codes "twohand") then Some kind.TwoHand
+        else if bytes_eq t (codes "ondelay") then Some kind.OnDelay
+        else if bytes_eq t (codes "offdelay") then Some kind.OffDelay
+        else if bytes_eq t (codes "feedback") then Some kind.Feedback
+        else None
+
+abbrev pub block_kind : Form BlockKind
+block_kind = formed as_str kind_said
+
+-- the letters of an input bit, an output bit and a block
+abbrev pub letter_i : ℕ
+letter_i = 105
+
+abbrev pub letter_o : ℕ
+letter_o = 111
+
+abbrev pub letter_b : ℕ
+letter_b = 98
+
+-- what follows a letter
+abbrev pub after_letter : ℕ → List ℕ → Option (List ℕ)
+after_letter letter [] = None
+after_letter letter (c ∷ rest) = if c == letter then Some rest else None
+
+abbrev pub is_dot : ℕ → Bool
+is_dot b = b == 46
+
+-- the parts of a text between dots, and those after a dot, where there is one
+abbrev pub parts_of : List ℕ → List (List ℕ)
+parts_of t = slice_split is_dot t
+
+abbrev pub parts_after : Option (Bor (List ℕ)) → List (List ℕ)
+parts_after None = []
+parts_after (Some rest) = parts_of rest.now
+
+-- `<k>.<bit>`: a connection and a bit of its image, each a number of 16 bits
+abbrev pub place_said : List (List ℕ) → Option Bit
+place_said (k ∷ b ∷ []) =
+    option_and_then (λ link. option_map (λ bit. record { link = link; bit = bit }) (number_said 65535 b)) (number_said 65535 k)
+place_said _ = None
+
+-- a letter, and then `<k>.<bit>`
+abbrev pub bit_said : ℕ → List ℕ → Option Bit
+bit_said letter t = option_and_then (λ rest. place_said (parts_of rest)) (after_letter letter t)
+
+-- `b<number>`
+abbrev pub block_said : List ℕ → Option ℕ
+block_said t = option_and_then (number_said 65535) (after_letter letter_b t)
+
+-- the first of two that is there
+abbrev pub first_of : {A : Type 0} → Option A → Option A → Option A
+first_of (Some x) other = Some x
+first_of None other = other
+
+-- `i<k>.<bit>`, or `b<number>`
+abbrev pub wire_said : List ℕ → Option Wire
+wire_said t = first_of (option_map wire.Input (bit_said letter_i t)) (option_map wire.Block (block_said t))
+
+-- a bit after a letter: of an input, and of an output
+abbrev pub bit_after : ℕ → Form Bit
+bit_after letter = formed as_str (bit_said letter)
+
+abbrev pub input_bit : Form Bit
+input_bit = bit_after letter_i
+
+abbrev pub output_bit : Form Bit
+output_bit = bit_after letter_o
+
+abbrev pub one_wire : Form Wire
+one_wire = formed as_str wire_said
+
+-- the values of an array
+abbrev pub values_of : Items → List Data
+values_of no_items = []
+values_of (item d ds) = d ∷ values_of ds
+
+-- an array whose values are all of one kind
+abbrev pub as_array_of : {A : Type 0} → (Data → Option A) → Data → Option (List A)
+as_array_of kind d = option_and_then (λ ds. all_give kind (values_of ds)) (as_array d)
+
+-- an array of texts, each of which is a wire
+abbrev pub wires : Form (List Wire)
+wires = formed (as_array_of as_str) (all_give wire_said)
+
+-- a table, and an array of tables
+abbrev pub one_table : Form Members
+one_table = formed as_table Some
+
+abbrev pub tables : Form (List Members)
+tables = formed (as_array_of as_table) Some
+
+-- what is read of a value of an array of tables
+abbrev pub entry : {A : Type 0} → (ℕ → Members → Result A ConfFault) → Key → ℕ → Data → Result A ConfFault
+entry says key k d = do
+  t ← value_or (fault.Kind key) (as_table d)
+  says k t
+
+-- the wire of a value of an array of wires
+abbrev pub wire_in : Data → Option Wire
+wire_in d = option_and_then wire_said (as_str d)

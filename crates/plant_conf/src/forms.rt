@@ -1,0 +1,212 @@
+//! The keys of a table: each is there or not, is of a kind, and in its range or its form.
+ghost use Rattle.std.specs.Prelude.{◌≡◌, ◌≢◌, ◌≤◌, ◌-◌, ◌^◌, IsTrue, IfSome, IfOk, IfErr, option_map, string_bytes, length, []};
+ghost use Rattle.fsoe_base.specs.Lengths.{is_length};
+ghost use Rattle.param_load.specs.AppRule.{is_acceptable};
+ghost use Rattle.param_load.specs.declared.app_rule.AppRule.TheVariants as rule;
+ghost use Rattle.toml.specs.View.{view, table_view};
+ghost use Rattle.plant_conf.specs.declared.fault.ConfFault.TheVariants.{Memory};
+ghost use Rattle.plant_conf.specs.Forms.{number, whole_said, data_length, text, hex_bytes, app_rule, block_kind, bit_after, one_wire};
+ghost use Rattle.plant_conf.specs.Keys.{value_at, required, optional};
+
+use crate::fault::ConfFault;
+use crate::key::Key;
+use crate::words;
+use failsafe_io::Bit;
+use fb_lib::BlockKind;
+use fb_net::Wire;
+use fsoe_base::Lengths;
+use param_load::{AppBytes, AppRule};
+use std::alloc::Global;
+use toml::{Table, Value};
+
+/// The value at a key.
+pub(crate) fn find<'a>(table: &'a Table, key: Key) -> Option<&'a Value>
+    ensures { option_map (λ v. view v.now) result ≡ value_at key (table_view table.now) }
+{
+    table.get(key.word())
+}
+
+/// A whole number from `low` to `high`.
+fn number(value: &Value, key: Key, low: u64, high: u64) -> Result<u64, ConfFault>
+    ensures value { result ≡ number low high key (view value.now) }
+    ensures low { IfOk result (λ n. low ≤ n) }
+    ensures high { IfOk result (λ n. n ≤ high) }
+{
+    match value.as_integer() {
+        None => Err(ConfFault::Kind(key)),
+        Some(z) => {
+            if z < 0 {
+                return Err(ConfFault::Range(key));
+            }
+            let n = z as u64;
+            if low <= n && n <= high {
+                Ok(n)
+            } else {
+                Err(ConfFault::Range(key))
+            }
+        }
+    }
+}
+
+/// A number of 16 bits that is at least `low`.
+fn number_16(value: &Value, key: Key, low: u16) -> Result<u16, ConfFault>
+    ensures value { result ≡ number low 65535 key (view value.now) }
+    ensures low { IfOk result (λ n. low ≤ n) }
+{
+    let n = number(value, key, u64::from(low), 65_535)?;
+    Ok(n as u16)
+}
+
+/// A number of 16 bits that has to be there, and is at least `low`.
+pub(crate) fn required_number(table: &Table, key: Key, low: u16) -> Result<u16, ConfFault>
+    ensures value { result ≡ required (number low 65535) key (table_view table.now) }
+    ensures low { IfOk result (λ n. low ≤ n) }
+{
+    match find(table, key) {
+        Some(value) => number_16(value, key, low),
+        None => Err(ConfFault::Missing(key)),
+    }
+}
+
+/// A number of 16 bits that is at least `low`, or the default.
+pub(crate) fn optional_number(
+    table: &Table,
+    key: Key,
+    low: u16,
+    default: u16,
+) -> Result<u16, ConfFault>
+    requires { low ≤ default }
+    ensures value { result ≡ optional default (number low 65535) key (table_view table.now) }
+    ensures low { IfOk result (λ n. low ≤ n) }
+{
+    match find(table, key) {
+        Some(value) => number_16(value, key, low),
+        None => Ok(default),
+    }
+}
+
+/// A seed, or 0.
+pub(crate) fn optional_seed(table: &Table, key: Key) -> Result<u64, ConfFault>
+    ensures { result ≡ optional 0 (number 0 (2 ^ 63 - 1)) key (table_view table.now) }
+{
+    match find(table, key) {
+        Some(value) => number(value, key, 0, i64::MAX as u64),
+        None => Ok(0),
+    }
+}
+
+/// A number of safe data bytes, which has to be there.
+pub(crate) fn required_length(table: &Table, key: Key) -> Result<usize, ConfFault>
+    ensures value { result ≡ required data_length key (table_view table.now) }
+    ensures valid { IfOk result (λ l. IsTrue (is_length l)) }
+{
+    match find(table, key) {
+        None => Err(ConfFault::Missing(key)),
+        Some(value) => match value.as_integer() {
+            None => Err(ConfFault::Kind(key)),
+            Some(z) => length_in(z).ok_or(ConfFault::Range(key)),
+        },
+    }
+}
+
+/// A number of safe data bytes, where frames can carry so many.
+fn length_in(z: i64) -> Option<usize>
+    ensures value { result ≡ whole_said is_length z }
+    ensures valid { IfSome result (λ l. IsTrue (is_length l)) }
+{
+    if z < 0 {
+        return None;
+    }
+    let len = z as usize;
+    match Lengths::new(len, len) {
+        Ok(_) => Some(len),
+        Err(_) => None,
+    }
+}
+
+/// A text that has to be there.
+pub(crate) fn required_text(alloc: Global, table: &Table, key: Key) -> Result<String, ConfFault>
+    ensures reads { IfOk result (λ t. required text key (table_view table.now) ≡ Ok (string_bytes t)) }
+    ensures refuses { IfErr result (λ fault. fault ≢ Memory → required text key (table_view table.now) ≡ Err fault) }
+{
+    match find(table, key) {
+        None => Err(ConfFault::Missing(key)),
+        Some(value) => match value.as_str() {
+            None => Err(ConfFault::Kind(key)),
+            Some(text) => match String::from_str(alloc, text) {
+                Ok(text) => Ok(text),
+                Err(_) => Err(ConfFault::Memory),
+            },
+        },
+    }
+}
+
+/// Application parameters in hexadecimal, or none.
+pub(crate) fn optional_bytes(table: &Table, key: Key) -> Result<AppBytes, ConfFault>
+    ensures { result ≡ optional [] (hex_bytes 512) key (table_view table.now) }
+{
+    match find(table, key) {
+        None => Ok(AppBytes::new()),
+        Some(value) => match value.as_str() {
+            None => Err(ConfFault::Kind(key)),
+            Some(text) => words::hex_bytes(text.as_bytes()).ok_or(ConfFault::Range(key)),
+        },
+    }
+}
+
+/// A rule for application parameters, which are these; any of their number where there is none.
+pub(crate) fn optional_rule(
+    table: &Table,
+    key: Key,
+    app: &AppBytes,
+) -> Result<AppRule, ConfFault>
+    ensures value { result ≡ optional (rule.Any (length app.now)) (app_rule app.now) key (table_view table.now) }
+    ensures acceptable { IfOk result (λ r. IsTrue (is_acceptable r)) }
+{
+    match find(table, key) {
+        None => Ok(AppRule::Any(app.len() as u16)),
+        Some(value) => match value.as_str() {
+            None => Err(ConfFault::Kind(key)),
+            Some(text) => words::rule(text.as_bytes(), app).ok_or(ConfFault::Range(key)),
+        },
+    }
+}
+
+/// The kind of a block, which has to be there.
+pub(crate) fn required_kind(table: &Table, key: Key) -> Result<BlockKind, ConfFault>
+    ensures { result ≡ required block_kind key (table_view table.now) }
+{
+    match find(table, key) {
+        None => Err(ConfFault::Missing(key)),
+        Some(value) => match value.as_str() {
+            None => Err(ConfFault::Kind(key)),
+            Some(text) => words::kind(text.as_bytes()).ok_or(ConfFault::Range(key)),
+        },
+    }
+}
+
+/// A bit, which has to be there: one of an input after `i`, or one of an output after `o`.
+pub(crate) fn required_bit(table: &Table, key: Key, letter: u8) -> Result<Bit, ConfFault>
+    ensures { result ≡ required (bit_after letter) key (table_view table.now) }
+{
+    match find(table, key) {
+        None => Err(ConfFault::Missing(key)),
+        Some(value) => match value.as_str() {
+            None => Err(ConfFault::Kind(key)),
+            Some(text) => words::bit(text.as_bytes(), letter).ok_or(ConfFault::Range(key)),
+        },
+    }
+}
+
+/// A wire, which has to be there.
+pub(crate) fn required_wire(table: &Table, key: Key) -> Result<Wire, ConfFault>
+    ensures { result ≡ required one_wire key (table_view table.now) }
+{
+    match find(table, key) {
+        None => Err(ConfFault::Missing(key)),
+        Some(value) => match value.as_str() {
+            None => Err(ConfFault::Kind(key)),
+            Some(text) => words::wire(text.as_bytes()).ok_or(ConfFault::Range(key)),
+        },
+    }
+}
