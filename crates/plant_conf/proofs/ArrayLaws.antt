@@ -1,15 +1,22 @@
 -- Arrays that are read value by value.
 use Rattle.std.proofs.Common.{◌≡◌, ◌∙◌, sym, ℕ, suc, ◌+◌, ◌<◌, ◌≤◌, Bool, true, false, List, [], ◌∷◌, ◌++◌, length, get_or, map, drop, zero, subst, Option, Some, None, is_some, option_map, Result, Ok, Err, refl, ap, arith, append_assoc, add-one}
-use Rattle.std.specs.Prelude.{option_and_then}
+use Rattle.std.specs.Prelude.{option_and_then, unwrap_or}
 use Rattle.std.proofs.lemmas.Grind.{common_steps}
-use Rattle.toml.specs.Data.{Data, Members, as_str, as_table}
+use Rattle.toml.specs.Data.{Data, Members, as_str, as_table, as_array}
 use Rattle.toml.specs.View.{view, items_of}
 use Rattle.toml.specs.declared.value.Value.{Value}
 use Rattle.fb_net.specs.declared.wire.Wire.{Wire}
 use Rattle.plant_conf.specs.declared.fault.ConfFault.{ConfFault}
 use Rattle.plant_conf.specs.declared.key.Key.{Key}
-use Rattle.plant_conf.specs.Steps.{◌>>=◌, each, with_first, all_give}
-use Rattle.plant_conf.specs.Forms.{values_of, entry, wire_in, wire_said}
+use Rattle.plant_conf.specs.declared.fault.ConfFault.TheVariants as fault
+use Rattle.plant_conf.specs.Steps.{◌>>=◌, value_or, each, with_first, all_give}
+use Rattle.plant_conf.specs.Forms.{Form, formed, values_of, as_array_of, entry, wire_in, wire_said, wires, tables}
+use Rattle.plant_conf.specs.declared.key.KeyTable.{KeyTable}
+use Rattle.plant_conf.specs.declared.key.KeyTable.TheVariants as table
+use Rattle.plant_conf.specs.Keys.{value_at, required, optional, connection}
+use Rattle.plant_conf.specs.Meaning.{whole, count_of, some_tables, connections, all_of}
+use Rattle.plant_conf.specs.Values.{LinkValues}
+use Rattle.std.proofs.lemmas.List.{length-map}
 
 pub values_of-items_of : (ds : List Data) → values_of (items_of ds) ≡ ds
 values_of-items_of [] = refl
@@ -159,3 +166,79 @@ length-cases n ys (Some y) (Some zs) h later =
 pub length-given : {B : Type 0} (f : Data → Option B) (ds : List Data) (ys : List B) → all_give f ds ≡ Some ys → length ys ≡ length ds
 length-given f [] ys h = let e : ys ≡ [] = cc in rw e refl
 length-given f (d ∷ ds) ys h = length-cases (length ds) ys (f d) (all_give f ds) h (λ zs q. length-given f ds zs q)
+
+-- the values of an array
+pub array-given : {B : Type 0} (kind : Data → Option B) (d : Data) (vs : List Value) → Some (items_of (map view vs)) ≡ as_array d → as_array_of kind d ≡ all_give kind (map view vs)
+array-given kind d vs e = rw (← e) (ap (all_give kind) (values_of-items_of (map view vs)))
+
+none_from : {B : Type 0} (o : Option B) → is_some o ≡ false → o ≡ None
+none_from None e = refl
+none_from (Some x) e = absurd (cc)
+
+pub array-none : {B : Type 0} (kind : Data → Option B) (d : Data) (vs : List Value) → Some (items_of (map view vs)) ≡ as_array d → is_some (all_give kind (map view vs)) ≡ false
+    → as_array_of kind d ≡ None
+array-none kind d vs e un = array-given kind d vs e ∙ none_from _ un
+
+-- a key that is there
+pub required-at : {A : Type 0} (form : Form A) (key : Key) (t : Members) (d : Data) (r : Result A ConfFault) → Some d ≡ value_at key t → form key d ≡ r → required form key t ≡ r
+required-at form key t d r e h = rw (← e) h
+
+pub optional-at : {A : Type 0} (default : A) (form : Form A) (key : Key) (t : Members) (d : Data) (r : Result A ConfFault) → Some d ≡ value_at key t → form key d ≡ r → optional default form key t ≡ r
+optional-at default form key t d r e h = rw (← e) h
+
+wires-cases : (key : Key) (ds : List Data) (o : Option (List (List ℕ))) (r : Result (List Wire) ConfFault) → o ≡ all_give as_str ds → is_some o ≡ true
+    → value_or (fault.Range key) (all_give wire_in ds) ≡ r → (value_or (fault.Kind key) o >>= (λ ts. value_or (fault.Range key) (all_give wire_said ts))) ≡ r
+wires-cases key ds None r q some h = absurd (cc)
+wires-cases key ds (Some ts) r q some h = ap (value_or (fault.Range key)) (given-texts ds ts (sym q)) ∙ h
+
+-- an array of texts as wires, and one of other values
+pub wires-read : (key : Key) (d : Data) (vs : List Value) (r : Result (List Wire) ConfFault) → Some (items_of (map view vs)) ≡ as_array d → is_some (all_give as_str (map view vs)) ≡ true
+    → value_or (fault.Range key) (all_give wire_in (map view vs)) ≡ r → wires key d ≡ r
+wires-read key d vs r e some h = rw (array-given as_str d vs e) (wires-cases key (map view vs) (all_give as_str (map view vs)) r refl some h)
+
+pub wires-kind : (key : Key) (d : Data) (vs : List Value) → Some (items_of (map view vs)) ≡ as_array d → is_some (all_give as_str (map view vs)) ≡ false → wires key d ≡ Err (fault.Kind key)
+wires-kind key d vs e un = rw (array-none as_str d vs e un) refl
+
+pub no-array : {B : Type 0} (kind : Data → Option B) (d : Data) → None ≡ as_array d → as_array_of kind d ≡ None
+no-array kind d e = rw (← e) refl
+
+count-cases : (ds : List Data) (o : Option (List Members)) → o ≡ all_give as_table ds → is_some o ≡ true → length (unwrap_or o []) ≡ length ds
+count-cases ds None q some = absurd (cc)
+count-cases ds (Some ts) q some = length-given as_table ds ts (sym q)
+
+-- how many tables there are
+pub count-at : (of : KeyTable) (document : Members) (key : Key) (d : Data) (vs : List Value) → key ≡ whole of → Some d ≡ value_at key document
+    → as_array_of as_table d ≡ all_give as_table (map view vs) → is_some (all_give as_table (map view vs)) ≡ true → count_of of document ≡ length vs
+count-at of document key d vs same e given some =
+    let there : Some d ≡ value_at (whole of) document = e ∙ ap (λ k. value_at k document) same in
+    rw (← there, given) (count-cases (map view vs) (all_give as_table (map view vs)) refl some ∙ length-map vs view)
+
+all-cases : {B : Type 0} (key : Key) (says : ℕ → Members → Result B ConfFault) (ds : List Data) (o : Option (List Members)) (r : Result (List B) ConfFault) → o ≡ all_give as_table ds
+    → is_some o ≡ true → each (entry says key) 1 ds ≡ r → (value_or (fault.Kind key) o >>= (λ ts. value_or (fault.Range key) (Some ts))) >>= (λ ts. each says 1 ts) ≡ r
+all-cases key says ds None r q some h = absurd (cc)
+all-cases key says ds (Some ts) r q some h = each-entry says key 1 ds ts (sym q) ∙ h
+
+-- tables that may be none
+pub all_of-read : {B : Type 0} (of : KeyTable) (says : ℕ → Members → Result B ConfFault) (document : Members) (key : Key) (d : Data) (vs : List Value) (r : Result (List B) ConfFault)
+    → key ≡ whole of → Some d ≡ value_at key document → as_array_of as_table d ≡ all_give as_table (map view vs) → is_some (all_give as_table (map view vs)) ≡ true
+    → each (entry says key) 1 (map view vs) ≡ r → all_of of says document ≡ r
+all_of-read of says document key d vs r same e given some h =
+    let there : Some d ≡ value_at (whole of) document = e ∙ ap (λ k. value_at k document) same in
+    let read : each (entry says (whole of)) 1 (map view vs) ≡ r = ap (λ k. each (entry says k) 1 (map view vs)) (sym same) ∙ h in
+    rw (← there, given) (all-cases (whole of) says (map view vs) (all_give as_table (map view vs)) r refl some read)
+
+links-cases : (key : Key) (ds : List Data) (o : Option (List Members)) (r : Result (List LinkValues) ConfFault) → o ≡ all_give as_table ds → is_some o ≡ true → 0 < length ds
+    → each (entry connection key) 1 ds ≡ r → (value_or (fault.Kind key) o >>= (λ ts. value_or (fault.Range key) (Some ts))) >>= (λ ts. some_tables ts >>= (λ us. each connection 1 us)) ≡ r
+links-cases key ds None r q some long h = absurd (cc)
+links-cases key ds (Some []) r q some long h = let none = length-given as_table ds [] (sym q) in absurd (omega arith)
+links-cases key ds (Some (t ∷ ts)) r q some long h = each-entry connection key 1 ds (t ∷ ts) (sym q) ∙ h
+
+-- connections, of which there is one
+pub connections-read : (document : Members) (key : Key) (d : Data) (vs : List Value) (r : Result (List LinkValues) ConfFault)
+    → key ≡ whole table.Connection → Some d ≡ value_at key document → as_array_of as_table d ≡ all_give as_table (map view vs) → is_some (all_give as_table (map view vs)) ≡ true
+    → 0 < length vs → each (entry connection key) 1 (map view vs) ≡ r → connections document ≡ r
+connections-read document key d vs r same e given some long h =
+    let there : Some d ≡ value_at (whole table.Connection) document = e ∙ ap (λ k. value_at k document) same in
+    let read : each (entry connection (whole table.Connection)) 1 (map view vs) ≡ r = ap (λ k. each (entry connection k) 1 (map view vs)) (sym same) ∙ h in
+    let more : 0 < length (map view vs) = omega (arith, length-map vs view) in
+    rw (← there, given) (links-cases (whole table.Connection) (map view vs) (all_give as_table (map view vs)) r refl some more read)

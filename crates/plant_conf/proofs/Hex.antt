@@ -13,7 +13,7 @@ long-cases : (text : List ℕ) (r : Result (List ℕ) FromHexError) → r ≡ de
 long-cases text (Err e) q h = refl
 long-cases text (Ok bytes) q h =
     let ok = decode_of-ok text bytes (sym q) in
-    let two : length text ≡ 2 * length bytes = ok.2.2.0 in
+    let two : length text ≡ 2 * length bytes = ok.2 in
     grind (arith, common_steps)
 
 -- more digits than those of 512 bytes aren't at most 512 bytes

@@ -60,8 +60,8 @@ hex_bytes most = formed as_str (λ t. at_most most (decode_of t))
 abbrev pub rule_said : List ℕ → List ℕ → Option AppRule
 rule_said app t =
     if bytes_eq t (codes "any") then Some (rule.Any (length app))
-        else if bytes_eq t (codes "exact") then Some (rule.Exact app)
-        else None
+    else if bytes_eq t (codes "exact") then Some (rule.Exact app)
+    else None
 
 abbrev pub app_rule : List ℕ → Form AppRule
 app_rule app = formed as_str (rule_said app)
@@ -70,16 +70,16 @@ app_rule app = formed as_str (rule_said app)
 abbrev pub kind_said : List ℕ → Option BlockKind
 kind_said t =
     if bytes_eq t (codes "const0") then Some kind.Const0
-        else if bytes_eq t (codes "const1") then Some kind.Const1
-        else if bytes_eq t (codes "and") then Some kind.And
-        else if bytes_eq t (codes "or") then Some kind.Or
-        else if bytes_eq t (codes "latch") then Some kind.Latch
-        else if bytes_eq t (codes "estop") then Some kind.Estop
-        else if bytes_eq t (codes "twohand") then Some kind.TwoHand
-        else if bytes_eq t (codes "ondelay") then Some kind.OnDelay
-        else if bytes_eq t (codes "offdelay") then Some kind.OffDelay
-        else if bytes_eq t (codes "feedback") then Some kind.Feedback
-        else None
+    else if bytes_eq t (codes "const1") then Some kind.Const1
+    else if bytes_eq t (codes "and") then Some kind.And
+    else if bytes_eq t (codes "or") then Some kind.Or
+    else if bytes_eq t (codes "latch") then Some kind.Latch
+    else if bytes_eq t (codes "estop") then Some kind.Estop
+    else if bytes_eq t (codes "twohand") then Some kind.TwoHand
+    else if bytes_eq t (codes "ondelay") then Some kind.OnDelay
+    else if bytes_eq t (codes "offdelay") then Some kind.OffDelay
+    else if bytes_eq t (codes "feedback") then Some kind.Feedback
+    else None
 
 abbrev pub block_kind : Form BlockKind
 block_kind = formed as_str kind_said

@@ -5,6 +5,7 @@ use Rattle.toml.specs.Data.{Data, Members, get_member}
 use Rattle.fb_lib.specs.Standing.{block_of}
 use Rattle.fb_net.specs.declared.spec.BlockSpec.{BlockSpec}
 use Rattle.fb_net.specs.declared.spec.Drive.{Drive}
+use Rattle.param_load.specs.declared.app_rule.AppRule.{AppRule}
 use Rattle.param_load.specs.declared.app_rule.AppRule.TheVariants as rule
 use Rattle.param_load.specs.declared.profile.Profile.TheVariants as profile
 use Rattle.plant_conf.specs.declared.conf.BoundSpec.{BoundSpec}
@@ -55,39 +56,72 @@ plant t = do
   seed ← optional 0 (number 0 (2 ^ 63 - 1)) (key_of table.Plant 0 name.Seed) t
   Ok (record { app = app; channel = channel; seed = seed })
 
--- connection k
-abbrev pub connection : ℕ → Members → Result LinkValues ConfFault
-connection k t = do
+-- what connection k has to say, and its application parameters
+pub record LinkKeys : Type 0 where
+  pub id : ℕ
+  pub address : ℕ
+  pub watchdog : ℕ
+  pub master_length : ℕ
+  pub slave_length : ℕ
+  pub app : List ℕ
+
+abbrev pub link_keys : ℕ → Members → Result LinkKeys ConfFault
+link_keys k t = do
   id ← required (number 1 65535) (key_of table.Connection k name.Id) t
   address ← required (number 0 65535) (key_of table.Connection k name.Address) t
   watchdog ← required (number 1 65535) (key_of table.Connection k name.Watchdog) t
   master_length ← required data_length (key_of table.Connection k name.MasterLength) t
   slave_length ← required data_length (key_of table.Connection k name.SlaveLength) t
   app ← optional [] (hex_bytes 512) (key_of table.Connection k name.App) t
-  rule ← optional (rule.Any (length app)) (app_rule app) (key_of table.Connection k name.Rule) t
-  slave_address ← optional address (number 0 65535) (key_of table.Connection k name.SlaveAddress) t
-  hand ← optional watchdog (number 1 65535) (key_of table.Connection k name.Hand) t
+  Ok (record {
+    id = id;
+    address = address;
+    watchdog = watchdog;
+    master_length = master_length;
+    slave_length = slave_length;
+    app = app;
+  })
+
+-- what connection k may say of its slave
+pub record SlaveKeys : Type 0 where
+  pub rule : AppRule
+  pub address : ℕ
+  pub hand : ℕ
+  pub most : ℕ
+
+abbrev pub slave_keys : ℕ → LinkKeys → Members → Result SlaveKeys ConfFault
+slave_keys k link t = do
+  rule ← optional (rule.Any (length link.app)) (app_rule link.app) (key_of table.Connection k name.Rule) t
+  address ← optional link.address (number 0 65535) (key_of table.Connection k name.SlaveAddress) t
+  hand ← optional link.watchdog (number 1 65535) (key_of table.Connection k name.Hand) t
   most ← optional 65535 (number 1 65535) (key_of table.Connection k name.Most) t
+  Ok (record { rule = rule; address = address; hand = hand; most = most })
+
+-- connection k, in profile One
+abbrev pub connection : ℕ → Members → Result LinkValues ConfFault
+connection k t = do
+  link ← link_keys k t
+  slave ← slave_keys k link t
   master_nonce ← optional 1 (number 0 65535) (key_of table.Connection k name.MasterNonce) t
   slave_nonce ← optional 2 (number 0 65535) (key_of table.Connection k name.SlaveNonce) t
   Ok (record {
     master = record {
-      master_length = master_length;
-      slave_length = slave_length;
-      conn = id;
-      address = address;
-      watchdog = watchdog;
-      app = app;
+      master_length = link.master_length;
+      slave_length = link.slave_length;
+      conn = link.id;
+      address = link.address;
+      watchdog = link.watchdog;
+      app = link.app;
       nonce = master_nonce;
       profile = profile.One;
     };
     slave = record {
-      master_length = master_length;
-      slave_length = slave_length;
-      address = slave_address;
-      hand = hand;
-      most = most;
-      rule = rule;
+      master_length = link.master_length;
+      slave_length = link.slave_length;
+      address = slave.address;
+      hand = slave.hand;
+      most = slave.most;
+      rule = slave.rule;
       nonce = slave_nonce;
       profile = profile.One;
     };

@@ -3,6 +3,6 @@ pub mod Steps
 pub mod Forms
 pub mod Values
 pub mod Keys
-pub mod Plant
+pub mod Kept
 pub mod ConfView
 pub mod Meaning

@@ -59,7 +59,7 @@ fn are_texts(array: &Array) -> bool
 pub(crate) fn tables_in(value: &Value) -> Option<&Array>
     ensures { MatchOption result (as_array_of as_table (view value.now) ≡ None)
         (λ a. (as_array_of as_table (view value.now) ≡ all_give as_table (map view a.now.items))
-            × (is_some (all_give as_table (map view a.now.items)) ≡ true)) }
+        × (is_some (all_give as_table (map view a.now.items)) ≡ true)) }
 {
     let array = value.as_array()?;
     if are_tables(array) { Some(array) } else { None }
@@ -89,6 +89,7 @@ pub(crate) fn read_each<T: FromTable + Drop>(
 ) -> Result<Vec<T>, ConfFault>
     requires { vec_len array.now ≤ 1024 }
     ensures reads { IfOk result (λ v. each (entry T.says key) 1 (map view array.now.items) ≡ Ok (map T.values v.items)) }
+    ensures count { IfOk result (λ v. vec_len v ≡ vec_len array.now) }
     ensures refuses { IfErr result (λ e. e ≢ fault.Memory → each (entry T.says key) 1 (map view array.now.items) ≡ Err e) }
 {
     let mut all = Vec::new(alloc);
@@ -143,10 +144,12 @@ pub(crate) fn required_wires(alloc: Global, table: &Table, key: Key) -> Result<W
         Some(value) => match value.as_array() {
             None => Err(ConfFault::Kind(key)),
             Some(array) => {
-                if are_texts(array) {
-                    read_wires(alloc, array, key)
-                } else {
-                    Err(ConfFault::Kind(key))
+                if !are_texts(array) {
+                    return Err(ConfFault::Kind(key));
+                }
+                match read_wires(alloc, array, key) {
+                    Ok(wires) => Ok(wires),
+                    Err(e) => Err(e),
                 }
             }
         },

@@ -155,11 +155,7 @@ pub(crate) fn optional_bytes(table: &Table, key: Key) -> Result<AppBytes, ConfFa
 }
 
 /// A rule for application parameters, which are these; any of their number where there is none.
-pub(crate) fn optional_rule(
-    table: &Table,
-    key: Key,
-    app: &AppBytes,
-) -> Result<AppRule, ConfFault>
+pub(crate) fn optional_rule(table: &Table, key: Key, app: &AppBytes) -> Result<AppRule, ConfFault>
     ensures value { result ≡ optional (rule.Any (length app.now)) (app_rule app.now) key (table_view table.now) }
     ensures acceptable { IfOk result (λ r. IsTrue (is_acceptable r)) }
 {

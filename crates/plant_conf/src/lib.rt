@@ -6,6 +6,7 @@ mod arrays;
 mod conf;
 mod fault;
 mod forms;
+mod ids;
 mod key;
 mod read;
 mod tables;

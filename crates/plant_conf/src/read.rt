@@ -1,19 +1,21 @@
 //! Reads a configuration from its text.
-ghost use Rattle.std.specs.Prelude.{◌≡◌, ◌≢◌, ◌≤◌, ◌+◌, ◌<◌, Ok, Err, Some, None, IfOk, IfErr, IfSome, map, drop, length};
+ghost use Rattle.std.specs.Prelude.{◌≡◌, ◌≢◌, ◌≤◌, ◌+◌, ◌<◌, Ok, Err, Some, None, IfOk, IfErr, map, length, vec_len};
 ghost use Rattle.toml.specs.View.{table_view};
 ghost use Rattle.plant_conf.specs.declared.conf.LinkConf.{LinkConf};
 ghost use Rattle.plant_conf.specs.declared.fault.ConfFault.TheVariants as fault;
-ghost use Rattle.plant_conf.specs.Meaning.{whole, count_of, has_too_many, few_tables, place_of, same_conn, apart, plant_keys, connections, all_of, document_meaning, text_meaning, Means};
+ghost use Rattle.plant_conf.specs.Meaning.{whole, count_of, has_too_many, same_conn, apart, plant_keys, connections, all_of, document_meaning, text_meaning, Means};
 ghost use Rattle.plant_conf.specs.ConfView.{conf_values};
-ghost use Rattle.plant_conf.specs.Plant.{plant_said};
+ghost use Rattle.plant_conf.specs.Kept.{plant_said};
 ghost use Rattle.plant_conf.specs.Values.{link_values};
 
 use crate::arrays::{FromTable, read_each, tables_in};
 use crate::conf::{LinkConf, PlantConf};
 use crate::fault::ConfFault;
 use crate::forms::find;
+use crate::ids::same_conn;
 use crate::key::{Key, KeyName, KeyTable};
 use crate::tables::{PlantTable, read_plant};
+use arrayvec::ArrayVec;
 use fb_net::{BlockSpec, Drive};
 use std::alloc::Global;
 use toml::Table;
@@ -83,6 +85,8 @@ fn plant_keys(alloc: Global, document: &Table) -> Result<PlantTable, ConfFault>
 fn connections(alloc: Global, document: &Table) -> Result<Vec<LinkConf>, ConfFault>
     requires { count_of KeyTable.Connection (table_view document.now) ≤ 1024 }
     ensures reads { IfOk result (λ v. connections (table_view document.now) ≡ Ok (map link_values v.items)) }
+    ensures count { IfOk result (λ v. vec_len v ≡ count_of KeyTable.Connection (table_view document.now)) }
+    ensures some { IfOk result (λ v. 0 < vec_len v) }
     ensures refuses { IfErr result (λ e. e ≢ fault.Memory → connections (table_view document.now) ≡ Err e) }
 {
     let key = whole(KeyTable::Connection);
@@ -92,9 +96,11 @@ fn connections(alloc: Global, document: &Table) -> Result<Vec<LinkConf>, ConfFau
             None => Err(ConfFault::Kind(key)),
             Some(array) => {
                 if array.is_empty() {
-                    Err(ConfFault::Missing(key))
-                } else {
-                    read_each(alloc, array, key)
+                    return Err(ConfFault::Missing(key));
+                }
+                match read_each(alloc, array, key) {
+                    Ok(links) => Ok(links),
+                    Err(e) => Err(e),
                 }
             }
         },
@@ -109,6 +115,7 @@ fn all_of<T: FromTable + Drop>(
 ) -> Result<Vec<T>, ConfFault>
     requires { count_of of (table_view document.now) ≤ 1024 }
     ensures reads { IfOk result (λ v. all_of of T.says (table_view document.now) ≡ Ok (map T.values v.items)) }
+    ensures count { IfOk result (λ v. vec_len v ≡ count_of of (table_view document.now)) }
     ensures refuses { IfErr result (λ e. e ≢ fault.Memory → all_of of T.says (table_view document.now) ≡ Err e) }
 {
     let key = whole(of);
@@ -116,40 +123,35 @@ fn all_of<T: FromTable + Drop>(
         None => Ok(Vec::new(alloc)),
         Some(value) => match tables_in(value) {
             None => Err(ConfFault::Kind(key)),
-            Some(array) => read_each(alloc, array, key),
+            Some(array) => match read_each(alloc, array, key) {
+                Ok(all) => Ok(all),
+                Err(e) => Err(e),
+            },
         },
     }
 }
 
-/// The number of the first connection with this id, from the place `from` on.
-fn place_of(links: &[LinkConf], id: u16, from: usize) -> Option<usize>
-    requires { from ≤ length links.now }
-    ensures value { result ≡ place_of id (from + 1) (map (λ link. link.master.conn) (drop from links.now)) }
-    ensures within { IfSome result (λ n. n ≤ length links.now) }
+/// The connection ids, in order.
+fn ids_of(links: &[LinkConf]) -> ArrayVec<u16, MOST_LINKS>
+    requires { length links.now ≤ 64 }
+    ensures { result.items ≡ map (λ link. link.master.conn) links.now }
 {
-    for at in from..links.len() {
-        if links[at].master.conn() == id {
-            return Some(at + 1);
-        }
+    let mut ids = ArrayVec::new();
+    for link in links {
+        ids.push(link.master.conn());
     }
-    None
+    ids
 }
 
 /// `SameConn` where two connections have one id.
 fn apart(links: &[LinkConf]) -> Result<(), ConfFault>
-    requires { length links.now ≤ 1024 }
+    requires { length links.now ≤ 64 }
     ensures { result ≡ apart (same_conn 1 (map (λ link. link.master.conn) links.now)) }
 {
-    for at in 0..links.len() {
-        let id = links[at].master.conn();
-        if let Some(b) = place_of(links, id, at + 1) {
-            return Err(ConfFault::SameConn {
-                a: at as u16 + 1,
-                b: b as u16,
-            });
-        }
+    match same_conn(ids_of(links).as_slice()) {
+        Some((a, b)) => Err(ConfFault::SameConn { a, b }),
+        None => Ok(()),
     }
-    Ok(())
 }
 
 /// Reads the configuration of a plant: UTF-8 that is a TOML document. Refused with the first fault: `Syntax`, `TooMany`, those of the
@@ -194,7 +196,9 @@ fn read_document(alloc: Global, document: &Table) -> Result<PlantConf, ConfFault
     let blocks = all_of(alloc, document, KeyTable::Block)?;
     let drives = all_of(alloc, document, KeyTable::Drive)?;
     let bounds = all_of(alloc, document, KeyTable::Bound)?;
-    apart(links.as_slice())?;
+    if let Err(e) = apart(links.as_slice()) {
+        return Err(e);
+    }
     Ok(PlantConf {
         links,
         blocks,

@@ -1,22 +1,27 @@
 //! What the tables of a configuration say, key by key.
-ghost use Rattle.std.specs.Prelude.{◌≡◌, ◌≢◌, IfOk, IfErr, string_bytes};
+ghost use Rattle.std.specs.Prelude.{◌≡◌, ◌≢◌, ◌<◌, IsTrue, IfOk, IfErr};
 ghost use Rattle.toml.specs.View.{table_view};
+ghost use Rattle.fsoe_base.specs.Lengths.{is_length};
+ghost use Rattle.param_load.specs.AppRule.{is_acceptable};
+ghost use Rattle.param_load.specs.MasterSettings.{IsMasterSetTo};
+ghost use Rattle.param_load.specs.SlaveSettings.{IsSlaveSetTo};
+ghost use Rattle.param_load.specs.declared.profile.Profile.TheVariants as profile;
 ghost use Rattle.plant_conf.specs.declared.fault.ConfFault.TheVariants as fault;
-ghost use Rattle.plant_conf.specs.Keys.{key_of, plant, connection};
-ghost use Rattle.plant_conf.specs.Plant.{plant_said};
+ghost use Rattle.plant_conf.specs.Keys.{key_of, plant, link_keys, slave_keys, connection};
+ghost use Rattle.plant_conf.specs.Kept.{plant_said, keys_said, slave_said};
 ghost use Rattle.plant_conf.specs.Values.{link_values};
 
 use crate::arrays::{FromTable, required_wires};
 use crate::conf::{BoundSpec, LinkConf};
 use crate::fault::ConfFault;
 use crate::forms::{
-    optional_bytes, optional_number, optional_rule, required_bit, required_kind, required_length,
-    required_number, required_text, required_wire, optional_seed,
+    optional_bytes, optional_number, optional_rule, optional_seed, required_bit, required_kind,
+    required_length, required_number, required_text, required_wire,
 };
 use crate::key::{Key, KeyName, KeyTable};
 use fb_net::{BlockSpec, Drive};
 use fsoe_base::Lengths;
-use param_load::{MasterSettings, SlaveSettings};
+use param_load::{AppBytes, AppRule, MasterSettings, SlaveSettings};
 use std::alloc::Global;
 use toml::Table;
 
@@ -74,7 +79,10 @@ impl FromTable for BlockSpec {
     fn read(alloc: Global, table: &Table, number: u16) -> Result<BlockSpec, ConfFault> {
         let kind = required_kind(table, key(KeyTable::Block, number, KeyName::Kind))?;
         let ins = required_wires(alloc, table, key(KeyTable::Block, number, KeyName::Ins))?;
-        let n = optional_number(table, key(KeyTable::Block, number, KeyName::N), 0, 0)?;
+        let n = match optional_number(table, key(KeyTable::Block, number, KeyName::N), 0, 0) {
+            Ok(n) => n,
+            Err(e) => return Err(e),
+        };
         Ok(BlockSpec::new(kind, n, ins))
     }
 }
@@ -94,10 +102,25 @@ impl FromTable for LinkConf {
     }
 }
 
-/// What both ends of the connection with this number are set to. It takes no memory.
-fn read_connection(table: &Table, number: u16) -> Result<LinkConf, ConfFault>
-    ensures reads { IfOk result (λ link. connection number (table_view table.now) ≡ Ok (link_values link)) }
-    ensures refuses { IfErr result (λ e. connection number (table_view table.now) ≡ Err e) }
+/// What a connection has to say, and its application parameters.
+#[derive(Drop)]
+struct LinkKeys {
+    id: u16,
+    address: u16,
+    watchdog: u16,
+    master_length: usize,
+    slave_length: usize,
+    app: AppBytes,
+}
+
+/// Reads what the connection with this number has to say, and its application parameters.
+fn read_keys(table: &Table, number: u16) -> Result<LinkKeys, ConfFault>
+    ensures reads { IfOk result (λ link. link_keys number (table_view table.now) ≡ Ok (keys_said link)) }
+    ensures refuses { IfErr result (λ e. link_keys number (table_view table.now) ≡ Err e) }
+    ensures id { IfOk result (λ link. 0 < link.id) }
+    ensures watchdog { IfOk result (λ link. 0 < link.watchdog) }
+    ensures master { IfOk result (λ link. IsTrue (is_length link.master_length)) }
+    ensures slave { IfOk result (λ link. IsTrue (is_length link.slave_length)) }
 {
     let of = KeyTable::Connection;
     let id = required_number(table, key(of, number, KeyName::Id), 1)?;
@@ -106,16 +129,102 @@ fn read_connection(table: &Table, number: u16) -> Result<LinkConf, ConfFault>
     let master_length = required_length(table, key(of, number, KeyName::MasterLength))?;
     let slave_length = required_length(table, key(of, number, KeyName::SlaveLength))?;
     let app = optional_bytes(table, key(of, number, KeyName::App))?;
-    let rule = optional_rule(table, key(of, number, KeyName::Rule), &app)?;
-    let slave_address = optional_number(table, key(of, number, KeyName::SlaveAddress), 0, address)?;
-    let hand = optional_number(table, key(of, number, KeyName::Hand), 1, watchdog)?;
+    Ok(LinkKeys {
+        id,
+        address,
+        watchdog,
+        master_length,
+        slave_length,
+        app,
+    })
+}
+
+/// What a connection may say of its slave.
+#[derive(Drop)]
+struct SlaveKeys {
+    rule: AppRule,
+    address: u16,
+    hand: u16,
+    most: u16,
+}
+
+/// Reads what the connection with this number may say of its slave, where `link` is what it has to say.
+fn read_slave(table: &Table, number: u16, link: &LinkKeys) -> Result<SlaveKeys, ConfFault>
+    requires { 0 < link.now.watchdog }
+    ensures reads { IfOk result (λ s. slave_keys number (keys_said link.now) (table_view table.now) ≡ Ok (slave_said s)) }
+    ensures refuses { IfErr result (λ e. slave_keys number (keys_said link.now) (table_view table.now) ≡ Err e) }
+    ensures hand { IfOk result (λ s. 0 < s.hand) }
+    ensures most { IfOk result (λ s. 0 < s.most) }
+    ensures rule { IfOk result (λ s. IsTrue (is_acceptable s.rule)) }
+{
+    let of = KeyTable::Connection;
+    let rule = optional_rule(table, key(of, number, KeyName::Rule), &link.app)?;
+    let address = optional_number(
+        table,
+        key(of, number, KeyName::SlaveAddress),
+        0,
+        link.address,
+    )?;
+    let hand = optional_number(table, key(of, number, KeyName::Hand), 1, link.watchdog)?;
     let most = optional_number(table, key(of, number, KeyName::Most), 1, u16::MAX)?;
+    Ok(SlaveKeys {
+        rule,
+        address,
+        hand,
+        most,
+    })
+}
+
+/// What both ends of the connection with this number are set to. It takes no memory.
+fn read_connection(table: &Table, number: u16) -> Result<LinkConf, ConfFault>
+    ensures reads { IfOk result (λ link. connection number (table_view table.now) ≡ Ok (link_values link)) }
+    ensures refuses { IfErr result (λ e. connection number (table_view table.now) ≡ Err e) }
+{
+    let of = KeyTable::Connection;
+    let link = read_keys(table, number)?;
+    let slave = read_slave(table, number, &link)?;
     let master_nonce = optional_number(table, key(of, number, KeyName::MasterNonce), 0, 1)?;
     let slave_nonce = optional_number(table, key(of, number, KeyName::SlaveNonce), 0, 2)?;
-    let lengths = Lengths::new(master_length, slave_length).unwrap();
-    let master = MasterSettings::new(lengths, id, address, watchdog, app, master_nonce).unwrap();
-    let slave = SlaveSettings::new(lengths, slave_address, hand, most, rule, slave_nonce).unwrap();
-    Ok(LinkConf { master, slave })
+    let lengths = Lengths::new(link.master_length, link.slave_length).unwrap();
+    Ok(LinkConf {
+        master: master_of(link, lengths, master_nonce),
+        slave: slave_of(slave, lengths, slave_nonce),
+    })
+}
+
+/// The settings of a master.
+fn master_of(link: LinkKeys, lengths: Lengths, nonce: u16) -> MasterSettings
+    requires id { 0 < link.id }
+    requires watchdog { 0 < link.watchdog }
+    ensures { IsMasterSetTo result lengths link.id link.address link.watchdog link.app nonce profile.One }
+{
+    MasterSettings::new(
+        lengths,
+        link.id,
+        link.address,
+        link.watchdog,
+        link.app,
+        nonce,
+    )
+    .unwrap()
+}
+
+/// The settings of a slave.
+fn slave_of(slave: SlaveKeys, lengths: Lengths, nonce: u16) -> SlaveSettings
+    requires hand { 0 < slave.hand }
+    requires most { 0 < slave.most }
+    requires rule { IsTrue (is_acceptable slave.rule) }
+    ensures { IsSlaveSetTo result lengths slave.address slave.hand slave.most slave.rule nonce profile.One }
+{
+    SlaveSettings::new(
+        lengths,
+        slave.address,
+        slave.hand,
+        slave.most,
+        slave.rule,
+        nonce,
+    )
+    .unwrap()
 }
 
 /// What the table `plant` says.

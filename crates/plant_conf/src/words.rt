@@ -51,7 +51,7 @@ fn place(text: &[u8]) -> Option<Bit>
 {
     let (link, rest) = cut(text);
     let (bit, more) = cut(rest?);
-    if more.is_some() {
+    if let Some(_third) = more {
         return None;
     }
     let link = number(link)?;
