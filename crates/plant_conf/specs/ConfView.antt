@@ -1,7 +1,10 @@
 -- What contracts see of a configuration.
-use Rattle.std.specs.Prelude.{ℕ, List, map}
+use Rattle.std.specs.Prelude.{◌≡◌, ℕ, ◌<◌, ◌≤◌, List, length, map, None}
+use Rattle.std.specs.List.{All}
 use Rattle.fb_net.specs.declared.spec.BlockSpec.{BlockSpec}
 use Rattle.fb_net.specs.declared.spec.Drive.{Drive}
+use Rattle.fb_net.specs.New.{IsNew}
+use Rattle.plant_conf.specs.Ids.{same_conn}
 use Rattle.plant_conf.specs.declared.conf.LinkConf.{LinkConf}
 use Rattle.plant_conf.specs.declared.conf.BoundSpec.{BoundSpec}
 use Rattle.plant_conf.specs.Values.{LinkValues, link_values}
@@ -15,7 +18,18 @@ pub record ConfView : Type 0 where
   pub channel : List ℕ
   pub seed : ℕ
 
--- the same, with the settings of the connections as plain values
+-- what holds of each configuration: it has 1 to 64 connections with different ids, and at most 256 blocks, which have had no cycle,
+-- 1,024 drives and 16 bounds
+pub record IsConf (conf : ConfView) : Type 0 where
+  pub some_links : 0 < length conf.links
+  pub few_links : length conf.links ≤ 64
+  pub few_blocks : length conf.blocks ≤ 256
+  pub few_drives : length conf.drives ≤ 1024
+  pub few_bounds : length conf.bounds ≤ 16
+  pub new_blocks : All IsNew conf.blocks
+  pub different : same_conn 1 (map (λ link. link.master.conn) conf.links) ≡ None
+
+-- a configuration with the settings of the connections as plain values
 pub record ConfValues : Type 0 where
   pub links : List LinkValues
   pub blocks : List BlockSpec

@@ -1,6 +1,6 @@
 -- What a configuration means, or its first fault: that there are too many tables, then those of the keys, table by table, and then that
 -- two connections have one id.
-use Rattle.std.specs.Prelude.{◌≡◌, ℕ, suc, ◌==◌, nat_lt, Bool, ◌||◌, length, List, [], ◌∷◌, map, Option, Some, None, Result, Ok, Err, unwrap_or, option_map, option_and_then, if◌then◌else◌, IsUtf8}
+use Rattle.std.specs.Prelude.{◌≡◌, ℕ, suc, ◌==◌, nat_lt, Bool, ◌||◌, length, List, [], ◌∷◌, map, Option, Some, None, Result, Ok, Err, unwrap_or, option_and_then, if◌then◌else◌, IsUtf8}
 use Rattle.toml.specs.Data.{Members, as_table}
 use Rattle.toml.specs.Parse.{parse_document}
 use Rattle.plant_conf.specs.declared.fault.ConfFault.{ConfFault}
@@ -10,9 +10,10 @@ use Rattle.plant_conf.specs.declared.key.KeyName.TheVariants as name
 use Rattle.plant_conf.specs.declared.key.KeyTable.{KeyTable}
 use Rattle.plant_conf.specs.declared.key.KeyTable.TheVariants as table
 use Rattle.plant_conf.specs.ConfView.{ConfValues}
+use Rattle.plant_conf.specs.Ids.{same_conn}
 use Rattle.plant_conf.specs.Values.{LinkValues}
 use Rattle.plant_conf.specs.Steps.{◌>>=◌, value_or, each}
-use Rattle.plant_conf.specs.Forms.{first_of, as_array_of, one_table, tables}
+use Rattle.plant_conf.specs.Forms.{as_array_of, one_table, tables}
 use Rattle.plant_conf.specs.Keys.{PlantKeys, key_of, value_at, required, optional, plant, connection, block, drive, bound}
 
 -- a table as a whole
@@ -37,16 +38,6 @@ few_tables document = if has_too_many document then Err fault.TooMany else Ok tt
 abbrev pub some_tables : List Members → Result (List Members) ConfFault
 some_tables [] = Err (fault.Missing (whole table.Connection))
 some_tables (t ∷ ts) = Ok (t ∷ ts)
-
--- the place of this id in a list of ids, which is counted from k on
-abbrev pub place_of : ℕ → ℕ → List ℕ → Option ℕ
-place_of id k [] = None
-place_of id k (x ∷ xs) = if x == id then Some k else place_of id (suc k) xs
-
--- the first place whose id stands again at a later one, and the first such, counted from k on
-abbrev pub same_conn : ℕ → List ℕ → Option (ℕ × ℕ)
-same_conn k [] = None
-same_conn k (x ∷ xs) = first_of (option_map (λ b. (k, b)) (place_of x (suc k) xs)) (same_conn (suc k) xs)
 
 -- no two connections have one id
 abbrev pub apart : Option (ℕ × ℕ) → Result (Unit {0}) ConfFault

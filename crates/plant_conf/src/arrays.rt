@@ -1,5 +1,6 @@
 //! Arrays of a configuration: of tables, each of which is read, and of wires.
 ghost use Rattle.std.specs.Prelude.{◌≡◌, ◌≢◌, ◌≤◌, ℕ, IfOk, IfErr, MatchOption, Some, None, true, is_some, map, vec_len, Result};
+ghost use Rattle.std.specs.List.{All};
 ghost use Rattle.toml.specs.Data.{Members, as_str, as_table};
 ghost use Rattle.toml.specs.View.{view, table_view};
 ghost use Rattle.plant_conf.specs.declared.fault.ConfFault.{ConfFault};
@@ -19,15 +20,20 @@ use toml::{Table, Value};
 
 /// What is read of a table that has a number.
 pub(crate) trait FromTable: Sized {
+    // What a text says of it.
     ghost Values: { Type 0 };
 
     ghost values: { Self → Values };
+
+    // What holds of each that is read.
+    ghost Holds: { Self → Type 0 };
 
     ghost says: { ℕ → Members → Result Values ConfFault };
 
     /// Reads the table, which is the one with this number among those of its name.
     fn read(alloc: Global, table: &Table, number: u16) -> Result<Self, ConfFault>
         ensures reads { IfOk result (λ x. says number (table_view table.now) ≡ Ok (values x)) }
+        ensures holds { IfOk result (λ x. Holds x) }
         ensures refuses { IfErr result (λ e. e ≢ fault.Memory → says number (table_view table.now) ≡ Err e) };
 }
 
@@ -73,6 +79,7 @@ fn read_entry<T: FromTable>(
     number: u16,
 ) -> Result<T, ConfFault>
     ensures reads { IfOk result (λ x. entry T.says key number (view value.now) ≡ Ok (T.values x)) }
+    ensures holds { IfOk result (λ x. T.Holds x) }
     ensures refuses { IfErr result (λ e. e ≢ fault.Memory → entry T.says key number (view value.now) ≡ Err e) }
 {
     match value.as_table() {
@@ -90,6 +97,7 @@ pub(crate) fn read_each<T: FromTable + Drop>(
     requires { vec_len array.now ≤ 1024 }
     ensures reads { IfOk result (λ v. each (entry T.says key) 1 (map view array.now.items) ≡ Ok (map T.values v.items)) }
     ensures count { IfOk result (λ v. vec_len v ≡ vec_len array.now) }
+    ensures holds { IfOk result (λ v. All T.Holds v.items) }
     ensures refuses { IfErr result (λ e. e ≢ fault.Memory → each (entry T.says key) 1 (map view array.now.items) ≡ Err e) }
 {
     let mut all = Vec::new(alloc);

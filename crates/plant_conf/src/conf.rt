@@ -1,10 +1,9 @@
 //! The configuration of a plant.
-ghost use Rattle.std.specs.Prelude.{◌≡◌, []};
+ghost use Rattle.std.specs.Prelude.{◌≡◌};
 
 use failsafe_io::Bit;
 use fb_net::{BlockSpec, Drive};
 use param_load::{MasterSettings, SlaveSettings};
-use std::alloc::Global;
 use std::marker::Model;
 use std::mem;
 
@@ -41,9 +40,105 @@ pub struct PlantConf {
 
 impl Model for PlantConf {
     ghost use Rattle.std.specs.Prelude.{string_bytes};
-    ghost use Rattle.plant_conf.specs.ConfView.{ConfView};
+    ghost use Rattle.plant_conf.specs.ConfView.{ConfView, IsConf};
 
     ghost Value = { ConfView };
 
-    ghost view = { λ c. record { links = c.links.items; blocks = c.blocks.items; drives = c.drives.items; bounds = c.bounds.items; app = string_bytes c.app; channel = string_bytes c.channel; seed = c.seed } };
+    ghost view = { λ c. record {
+        links = c.links.items;
+        blocks = c.blocks.items;
+        drives = c.drives.items;
+        bounds = c.bounds.items;
+        app = string_bytes c.app;
+        channel = string_bytes c.channel;
+        seed = c.seed;
+    } };
+
+    ghost invariant = { λ c. IsConf (record {
+        links = c.links.items;
+        blocks = c.blocks.items;
+        drives = c.drives.items;
+        bounds = c.bounds.items;
+        app = string_bytes c.app;
+        channel = string_bytes c.channel;
+        seed = c.seed;
+    }) };
+}
+
+impl PlantConf {
+    ghost use Rattle.std.specs.Prelude.{◌≤◌, ◌<◌, [], None, length, map, vec_len};
+    ghost use Rattle.std.specs.List.{All};
+    ghost use Rattle.fb_net.specs.New.{IsNew};
+    ghost use Rattle.plant_conf.specs.Ids.{same_conn};
+
+    /// The connections, from 1 to 64, with different ids.
+    pub fn links(&self) -> &[LinkConf]
+        ensures value { result.now ≡ self.now.links }
+        ensures some { 0 < length result.now }
+        ensures most { length result.now ≤ 64 }
+        ensures different { same_conn 1 (map (λ link. link.master.conn) result.now) ≡ None }
+    {
+        self.links.as_slice()
+    }
+
+    /// The blocks of the net, at most 256, which have had no cycle yet.
+    pub fn blocks(&self) -> &[BlockSpec]
+        ensures value { result.now ≡ self.now.blocks }
+        ensures most { length result.now ≤ 256 }
+        ensures new { All IsNew result.now }
+    {
+        self.blocks.as_slice()
+    }
+
+    /// The output bits that the net drives, at most 1,024.
+    pub fn drives(&self) -> &[Drive]
+        ensures value { result.now ≡ self.now.drives }
+        ensures most { length result.now ≤ 1024 }
+    {
+        self.drives.as_slice()
+    }
+
+    /// The bounds that are watched, at most 16.
+    pub fn bounds(&self) -> &[BoundSpec]
+        ensures value { result.now ≡ self.now.bounds }
+        ensures most { length result.now ≤ 16 }
+    {
+        self.bounds.as_slice()
+    }
+
+    /// The name of the application: `net` for the net of this configuration.
+    pub fn app(&self) -> &str
+        ensures { result.now ≡ self.now.app }
+    {
+        self.app.as_str()
+    }
+
+    /// The name of the channel.
+    pub fn channel(&self) -> &str
+        ensures { result.now ≡ self.now.channel }
+    {
+        self.channel.as_str()
+    }
+
+    /// What the channel begins with.
+    pub fn seed(&self) -> u64
+        ensures { result ≡ self.now.seed }
+    {
+        self.seed
+    }
+
+    /// Hands out the blocks and the drives, as a net is made of them. Both lists are then empty; nothing else changes.
+    pub fn take_net(&mut self) -> (Vec<BlockSpec>, Vec<Drive>)
+        ensures blocks { result.0.items ≡ self.old.blocks }
+        ensures drives { result.1.items ≡ self.old.drives }
+        ensures rest { self.new ≡ record self.old { blocks = []; drives = [] } }
+        ensures most { vec_len result.0 ≤ 256 }
+        ensures most_drives { vec_len result.1 ≤ 1024 }
+        ensures new { All IsNew result.0.items }
+    {
+        let alloc = *self.blocks.allocator();
+        let blocks = mem::replace(&mut self.blocks, Vec::new(alloc));
+        let drives = mem::replace(&mut self.drives, Vec::new(alloc));
+        (blocks, drives)
+    }
 }

@@ -1,6 +1,6 @@
 //! Ids that stand twice.
 ghost use Rattle.std.specs.Prelude.{◌≡◌, ◌≤◌, ◌+◌, drop, length, IfSome};
-ghost use Rattle.plant_conf.specs.Meaning.{place_of, same_conn};
+ghost use Rattle.plant_conf.specs.Ids.{place_of, same_conn};
 
 /// The place of an id in a list, counted from 1, where the places before `from` don't count.
 fn place_of(ids: &[u16], id: u16, from: usize) -> Option<usize>

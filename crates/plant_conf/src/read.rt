@@ -1,10 +1,12 @@
 //! Reads a configuration from its text.
 ghost use Rattle.std.specs.Prelude.{◌≡◌, ◌≢◌, ◌≤◌, ◌+◌, ◌<◌, Ok, Err, Some, None, IfOk, IfErr, map, length, vec_len};
+ghost use Rattle.std.specs.List.{All};
 ghost use Rattle.toml.specs.View.{table_view};
 ghost use Rattle.plant_conf.specs.declared.conf.LinkConf.{LinkConf};
 ghost use Rattle.plant_conf.specs.declared.fault.ConfFault.TheVariants as fault;
-ghost use Rattle.plant_conf.specs.Meaning.{whole, count_of, has_too_many, same_conn, apart, plant_keys, connections, all_of, document_meaning, text_meaning, Means};
+ghost use Rattle.plant_conf.specs.Meaning.{whole, count_of, has_too_many, apart, plant_keys, connections, all_of, document_meaning, text_meaning, Means};
 ghost use Rattle.plant_conf.specs.ConfView.{conf_values};
+ghost use Rattle.plant_conf.specs.Ids.{same_conn};
 ghost use Rattle.plant_conf.specs.Kept.{plant_said};
 ghost use Rattle.plant_conf.specs.Values.{link_values};
 
@@ -116,6 +118,7 @@ fn all_of<T: FromTable + Drop>(
     requires { count_of of (table_view document.now) ≤ 1024 }
     ensures reads { IfOk result (λ v. all_of of T.says (table_view document.now) ≡ Ok (map T.values v.items)) }
     ensures count { IfOk result (λ v. vec_len v ≡ count_of of (table_view document.now)) }
+    ensures holds { IfOk result (λ v. All T.Holds v.items) }
     ensures refuses { IfErr result (λ e. e ≢ fault.Memory → all_of of T.says (table_view document.now) ≡ Err e) }
 {
     let key = whole(of);

@@ -40,6 +40,8 @@ impl FromTable for Drive {
 
     ghost values = { λ x. x };
 
+    ghost Holds = { λ _. Unit {0} };
+
     ghost says = { drive };
 
     fn read(_alloc: Global, table: &Table, number: u16) -> Result<Drive, ConfFault> {
@@ -57,6 +59,8 @@ impl FromTable for BoundSpec {
 
     ghost values = { λ x. x };
 
+    ghost Holds = { λ _. Unit {0} };
+
     ghost says = { bound };
 
     fn read(_alloc: Global, table: &Table, number: u16) -> Result<BoundSpec, ConfFault> {
@@ -67,12 +71,15 @@ impl FromTable for BoundSpec {
 }
 
 impl FromTable for BlockSpec {
+    ghost use Rattle.fb_net.specs.New.{IsNew};
     ghost use Rattle.fb_net.specs.declared.spec.BlockSpec.{BlockSpec};
     ghost use Rattle.plant_conf.specs.Keys.{block};
 
     ghost Values = { BlockSpec };
 
     ghost values = { λ x. x };
+
+    ghost Holds = { IsNew };
 
     ghost says = { block };
 
@@ -94,6 +101,8 @@ impl FromTable for LinkConf {
     ghost Values = { LinkValues };
 
     ghost values = { link_values };
+
+    ghost Holds = { λ _. Unit {0} };
 
     ghost says = { connection };
 

@@ -1,4 +1,4 @@
-use Rattle.std.proofs.Common.{◌≡◌, ◌+◌, map, drop, vec_len}
+use Rattle.std.proofs.Common.{◌≡◌, ◌+◌, map, drop, vec_len, All}
 use Rattle.toml.specs.View.{view}
 use Rattle.plant_conf.specs.Steps.{each}
 use Rattle.plant_conf.specs.Forms.{entry}
@@ -11,4 +11,5 @@ invariant-loop-i g l = record {
       each (entry g.T.FromTable.says l.key) 1 (map view l.array.items)
       ≡ after_read (map g.T.FromTable.values l.all.items) (each (entry g.T.FromTable.says l.key) (l.i + 1) (map view (drop l.i l.array.items)));
   count : vec_len l.all ≡ l.i;
+  holds : All g.T.FromTable.Holds l.all.items;
 }

@@ -1,5 +1,5 @@
 use Rattle.std.proofs.Common.{◌≡◌, ◌+◌, drop}
-use Rattle.plant_conf.specs.Meaning.{place_of}
+use Rattle.plant_conf.specs.Ids.{place_of}
 use Rattle.plant_conf.proofs.ids.place_of.Given as goal
 
 abbrev pub invariant-loop-at : goal.invariant-loop-at

@@ -1,5 +1,5 @@
 use Rattle.std.proofs.Common.{◌≡◌, ◌+◌, drop}
-use Rattle.plant_conf.specs.Meaning.{same_conn}
+use Rattle.plant_conf.specs.Ids.{same_conn}
 use Rattle.plant_conf.proofs.ids.same_conn.Given as goal
 
 abbrev pub invariant-loop-at : goal.invariant-loop-at

@@ -1,7 +1,8 @@
 use Rattle.std.proofs.Common.{◌≡◌, ◌∙◌, sym, ap, map, Ok}
 use Rattle.toml.specs.View.{table_view}
 use Rattle.plant_conf.specs.Kept.{plant_said}
-use Rattle.plant_conf.specs.Meaning.{same_conn, apart}
+use Rattle.plant_conf.specs.Ids.{same_conn}
+use Rattle.plant_conf.specs.Meaning.{apart}
 use Rattle.plant_conf.proofs.Documents.{document-known, apart-refuses, apart-reads}
 use Rattle.plant_conf.proofs.read.read_document.Goals as goal
 
