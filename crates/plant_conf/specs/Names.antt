@@ -1,5 +1,6 @@
 -- The names of tables and keys, which a configuration has and a refusal writes.
-use Rattle.std.specs.Prelude.{ℕ, List, codes}
+use Rattle.std.specs.Prelude.{ℕ, List, [], ◌++◌, codes, decimal}
+use Rattle.plant_conf.specs.declared.key.Key.{Key}
 use Rattle.plant_conf.specs.declared.key.KeyTable.{KeyTable}
 use Rattle.plant_conf.specs.declared.key.KeyTable.TheVariants as table
 use Rattle.plant_conf.specs.declared.key.KeyName.{KeyName}
@@ -41,3 +42,17 @@ key_name name.Drive = codes "drive"
 abbrev pub key_word : KeyTable → KeyName → List ℕ
 key_word of name.Whole = table_name of
 key_word of key = key_name key
+
+-- the number of a table, which `plant` has none of
+abbrev pub number_text : KeyTable → ℕ → List ℕ
+number_text table.Plant index = []
+number_text of index = codes " " ++ decimal index
+
+-- the key in its table, where a whole table has none
+abbrev pub rest_text : KeyTable → ℕ → KeyName → List ℕ
+rest_text of index name.Whole = []
+rest_text of index key = number_text of index ++ codes " " ++ key_name key
+
+-- a key as a refusal writes it: `plant seed`, `connection 2 watchdog`, and a whole table by its name alone
+abbrev pub key_text : Key → List ℕ
+key_text key = table_name key.table ++ rest_text key.table key.index key.name

@@ -45,23 +45,23 @@ impl Model for PlantConf {
     ghost Value = { ConfView };
 
     ghost view = { λ c. record {
-        links = c.links.items;
-        blocks = c.blocks.items;
-        drives = c.drives.items;
-        bounds = c.bounds.items;
-        app = string_bytes c.app;
-        channel = string_bytes c.channel;
-        seed = c.seed;
+      links = c.links.items;
+      blocks = c.blocks.items;
+      drives = c.drives.items;
+      bounds = c.bounds.items;
+      app = string_bytes c.app;
+      channel = string_bytes c.channel;
+      seed = c.seed;
     } };
 
     ghost invariant = { λ c. IsConf (record {
-        links = c.links.items;
-        blocks = c.blocks.items;
-        drives = c.drives.items;
-        bounds = c.bounds.items;
-        app = string_bytes c.app;
-        channel = string_bytes c.channel;
-        seed = c.seed;
+      links = c.links.items;
+      blocks = c.blocks.items;
+      drives = c.drives.items;
+      bounds = c.bounds.items;
+      app = string_bytes c.app;
+      channel = string_bytes c.channel;
+      seed = c.seed;
     }) };
 }
 

@@ -1,6 +1,8 @@
 //! The keys of a plant's configuration.
-ghost use Rattle.std.specs.Prelude.{◌≡◌};
-ghost use Rattle.plant_conf.specs.Names.{table_name, key_name};
+ghost use Rattle.std.specs.Prelude.{◌≡◌, ◌≤◌, ◌+◌, ◌++◌, length};
+ghost use Rattle.plant_conf.specs.Names.{table_name, key_name, key_word, number_text, rest_text, key_text};
+
+use fsoe_io::LineText;
 
 /// A table of a plant's configuration.
 #[derive(Clone, Copy, Debug, PartialEq, Eq)]
@@ -20,7 +22,8 @@ pub enum KeyTable {
 impl KeyTable {
     /// The name of the table, as a configuration and a refusal write it.
     pub fn name(self) -> &'static str
-        ensures { result.now ≡ table_name self }
+        ensures text { result.now ≡ table_name self }
+        ensures most { length result.now ≤ 10 }
     {
         match self {
             KeyTable::Plant => "plant",
@@ -84,7 +87,8 @@ pub enum KeyName {
 impl KeyName {
     /// The key, as a configuration and a refusal write it. A whole table has no key of its own: the text is empty.
     pub fn text(self) -> &'static str
-        ensures { result.now ≡ key_name self }
+        ensures text { result.now ≡ key_name self }
+        ensures most { length result.now ≤ 13 }
     {
         match self {
             KeyName::Whole => "",
@@ -125,8 +129,6 @@ pub struct Key {
 }
 
 impl Key {
-    ghost use Rattle.plant_conf.specs.Names.{key_word};
-
     /// The word under which the key stands in its table, or the table in the document.
     pub fn word(self) -> &'static str
         ensures { result.now ≡ key_word self.table self.name }
@@ -134,6 +136,45 @@ impl Key {
         match self.name {
             KeyName::Whole => self.table.name(),
             name => name.text(),
+        }
+    }
+
+    /// Appends the key as a refusal writes it: `plant seed`, `connection 2 watchdog`, and a whole table by its name alone.
+    pub fn push(self, text: &mut LineText)
+        requires { length text.old ≤ 900 }
+        ensures { text.new ≡ text.old ++ key_text self }
+    {
+        text.push_str(self.table.name());
+        self.push_rest(text);
+    }
+
+    // What stands after the name of the table.
+    fn push_rest(self, text: &mut LineText)
+        requires { length text.old ≤ 910 }
+        ensures { text.new ≡ text.old ++ rest_text self.table self.index self.name }
+    {
+        match self.name {
+            KeyName::Whole => {}
+            name => {
+                push_number(self.table, self.index, text);
+                text.push_str(" ");
+                text.push_str(name.text());
+            }
+        }
+    }
+}
+
+/// Appends the number of a table after a space, or nothing for `plant`.
+fn push_number(table: KeyTable, index: u16, text: &mut LineText)
+    requires { length text.old ≤ 910 }
+    ensures text { text.new ≡ text.old ++ number_text table index }
+    ensures most { length text.new ≤ length text.old + 21 }
+{
+    match table {
+        KeyTable::Plant => {}
+        _ => {
+            text.push_str(" ");
+            text.push_decimal(u64::from(index));
         }
     }
 }
