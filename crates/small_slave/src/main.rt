@@ -1,5 +1,6 @@
 //! The smallest program around a slave: it hands in frames and ticks, sends what the slave writes, and drives by the slave's
-//! outputs. What comes is a list here; in a device it comes from the bus and from a timer.
+//! outputs. What comes is a list here; in a device it comes from the bus and from a timer, and each session has a fresh id, where this one
+//! has 2.
 #![tactic(auto)]
 
 use fsoe_base::{FrameBuf, Lengths};
