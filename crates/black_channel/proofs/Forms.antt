@@ -1,13 +1,13 @@
 -- What a channel holds stays one of the forms.
-use Rattle.std.proofs.Common.{◌≡◌, ℕ, ◌/◌, ◌%◌, ◌^◌, ◌≤◌, List, [], ◌∷◌, ◌++◌, length, Bool, true, false, if◌then◌else◌, nat_le, ◌==◌, All, Some, None, refl, arith}
-use Rattle.std.specs.Prelude.{IfSome, ⊤, bit_xor, slice_index}
+use Rattle.std.proofs.Common.{ℕ, ◌/◌, ◌%◌, ◌^◌, List, [], ◌∷◌, ◌++◌, length, Bool, true, false, if◌then◌else◌, nat_le, ◌==◌, Some, None, arith}
+use Rattle.std.specs.Prelude.{IfSome, bit_xor, slice_index}
 use Rattle.std.specs.Option.{option_or}
 use Rattle.std.specs.declared.option.Option.{Option}
 use Rattle.std.proofs.lemmas.List.{length-set, length-append}
 use Rattle.std.proofs.lemmas.List.Elements.{All-nil, All-cons, All-append, All-drop}
 use Rattle.rand_pcg.specs.Lcg.{Lcg}
 use Rattle.rand_pcg.specs.Pcg.{pcg32}
-use Rattle.black_channel.specs.Holds.{HasFrame, IsRing, IsForm, Given, taken, turned, turned_frame, given_by, with_last, pulled, Chance}
+use Rattle.black_channel.specs.Holds.{HasFrame, IsRing, IsForm, Given, taken, turned, given_by, with_last, pulled, Chance}
 use Rattle.black_channel.specs.declared.channel.Parcel.{Parcel}
 
 -- what is given has a frame, and what is left is a ring

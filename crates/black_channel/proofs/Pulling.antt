@@ -1,15 +1,14 @@
 -- A pull of a channel that tells what it holds.
-use Rattle.std.proofs.Common.{◌≡◌, ℕ, ◌+◌, ◌-◌, ◌^◌, ◌≤◌, ◌<◌, min, List, [], ◌∷◌, Some, None, refl, sym, ap, subst, ◌∙◌, arith}
-use Rattle.std.specs.Prelude.{IfSome}
+use Rattle.std.proofs.Common.{◌≡◌, ℕ, ◌^◌, ◌≤◌, ◌<◌, List, Some, None, sym, ap, subst, ◌∙◌, arith}
 use Rattle.std.specs.Option.{option_or}
 use Rattle.std.specs.declared.option.Option.{Option}
 use Rattle.fsoe_io.specs.Faults.{Rose}
 use Rattle.rand_pcg.specs.Lcg.{Lcg}
-use Rattle.black_channel.specs.Holds.{Holds, HasFrame, IsRing, IsForm, taken, pulled, Ring, Chance}
+use Rattle.black_channel.specs.Holds.{Holds, IsRing, IsForm, taken, pulled, Chance}
 use Rattle.black_channel.specs.Told.{PullsParcel, holding, parcel_of, empties_after}
 use Rattle.black_channel.specs.declared.channel.Parcel.{Parcel}
 use Rattle.black_channel.specs.declared.channel.Place.{Place}
-use Rattle.black_channel.proofs.Forms.{IsSound, sound_taken, form_after}
+use Rattle.black_channel.proofs.Forms.{sound_taken, form_after}
 
 grows : (answer : Option Place) (n : ℕ) → n < 2 ^ 64 → n ≤ empties_after answer n
 grows None n h = omega arith
