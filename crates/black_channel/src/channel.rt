@@ -33,7 +33,7 @@ pub trait Channel: Drop {
     fn name(&self) -> &str
         ensures { result.now ≡ name self.now };
 
-    /// Begins anew. Where chance decides what it does, it does the same again after the same seed.
+    /// Begins anew, with the seed of what it leaves to chance.
     fn begin(&mut self, seed: u64)
         ensures name_stays { name self.new ≡ name self.old }
         ensures begins { Begins seed (told self.old) (told self.new) };
@@ -45,8 +45,8 @@ pub trait Channel: Drop {
         ensures name_stays { name self.new ≡ name self.old }
         ensures pushes { PushesParcel (record { to = to; frame = frame.now }) (told self.old) (told self.new) };
 
-    /// Writes a frame to `out`, in place of what it held, and says where it goes. None where nothing comes; its count of these
-    /// rises with it, or stands at 2^64 - 1.
+    /// Writes a frame to `out`, in place of what it held, and says where it goes. None where nothing comes: only where the channel's count
+    /// of that rose in this call, or stands at 2^64 - 1.
     fn pull(&mut self, out: &mut FrameBuf) -> Option<Place>
         ensures name_stays { name self.new ≡ name self.old }
         ensures pulls { PullsParcel (parcel_of result out.new) (told self.old) (told self.new) };
