@@ -1,11 +1,11 @@
 -- A pull of a channel that tells what it holds.
-use Rattle.std.proofs.Common.{◌≡◌, ℕ, ◌^◌, ◌≤◌, ◌<◌, List, Some, None, sym, ap, subst, ◌∙◌, arith}
+use Rattle.std.proofs.Common.{◌≡◌, ℕ, ◌^◌, ◌≤◌, ◌<◌, List, Some, None, refl, sym, ap, subst, ◌∙◌, arith}
 use Rattle.std.specs.Option.{option_or}
 use Rattle.std.specs.declared.option.Option.{Option}
 use Rattle.fsoe_io.specs.Faults.{Rose}
 use Rattle.rand_pcg.specs.Lcg.{Lcg}
 use Rattle.black_channel.specs.Holds.{Holds, IsRing, IsForm, taken, pulled, Chance}
-use Rattle.black_channel.specs.Told.{PullsParcel, holding, parcel_of, empties_after}
+use Rattle.black_channel.specs.Told.{GrowsByGift, PullsParcel, holding, parcel_of, empties_after}
 use Rattle.black_channel.specs.declared.channel.Parcel.{Parcel}
 use Rattle.black_channel.specs.declared.channel.Place.{Place}
 use Rattle.black_channel.proofs.Forms.{sound_taken, form_after}
@@ -18,6 +18,11 @@ rises : (answer : Option Place) (frame : List ℕ) (n : ℕ) → n < 2 ^ 64 → 
 rises None frame n h e = λ below. omega arith
 rises (Some place) frame n h e = cc
 
+-- a list that isn't told stays untold
+untold : (answer : Option Place) (frame : List ℕ) → GrowsByGift (parcel_of answer frame) None None
+untold None frame = refl
+untold (Some place) frame = tt
+
 -- a channel that tells no parcels
 pub pulls_by : (old new : Holds) (answer : Option Place) (frame : List ℕ) (before now : ℕ) → before < 2 ^ 64 → now ≡ empties_after answer before
     → IsForm new → parcel_of answer frame ≡ (pulled old).gift → new ≡ (pulled old).holds → PullsParcel (parcel_of answer frame) (holding old before) (holding new now)
@@ -27,8 +32,8 @@ pulls_by old new answer frame before now fits count form gift holds = subst (λ 
   form = form;
   empties = grows answer before fits;
   nothing = rises answer frame before fits;
-  pushed = tt;
-  given = tt;
+  pushed = refl;
+  given = untold answer frame;
 })
 
 -- a ring stays a ring

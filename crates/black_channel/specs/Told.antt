@@ -1,5 +1,5 @@
 -- What a channel tells of itself, and what each call makes of that.
-use Rattle.std.specs.Prelude.{◌≡◌, ℕ, ◌+◌, ◌-◌, ◌^◌, ◌≤◌, min, List, [], ◌∷◌, ◌++◌, Option, Some, None, IfSome, option_map, option_to_list}
+use Rattle.std.specs.Prelude.{◌≡◌, ℕ, ◌+◌, ◌-◌, ◌^◌, ◌≤◌, min, List, [], ◌∷◌, ◌++◌, Option, Some, None, IfSome, option_map}
 use Rattle.fsoe_io.specs.Faults.{Rose}
 use Rattle.black_channel.specs.Holds.{Holds, IsForm, begun, pushed, pulled}
 use Rattle.black_channel.specs.declared.channel.Parcel.{Parcel}
@@ -17,13 +17,14 @@ pub record Told : Type 0 where
 abbrev pub holding : Holds → ℕ → Told
 holding holds empties = record { holds = Some holds; empties = empties; pushed = None; given = None }
 
--- a list that is told was told before, as it is
-abbrev pub Stays : Option (List Parcel) → Option (List Parcel) → Type 0
-Stays old new = IfSome new (λ parcels. old ≡ Some parcels)
+-- a list that is told was told before, without this parcel at its end; from now on it may stay untold
+abbrev pub GrowsBy : Parcel → Option (List Parcel) → Option (List Parcel) → Type 0
+GrowsBy parcel old new = IfSome new (λ parcels. option_map (λ before. before ++ parcel ∷ []) old ≡ Some parcels)
 
--- a list that is told was told before, without these parcels at its end
-abbrev pub GrowsBy : List Parcel → Option (List Parcel) → Option (List Parcel) → Type 0
-GrowsBy more old new = IfSome new (λ parcels. option_map (λ before. before ++ more) old ≡ Some parcels)
+-- so by a parcel that is given; where none is, nothing changes
+abbrev pub GrowsByGift : Option Parcel → Option (List Parcel) → Option (List Parcel) → Type 0
+GrowsByGift (Some parcel) old new = GrowsBy parcel old new
+GrowsByGift None old new = new ≡ old
 
 -- a begin with a seed
 pub record Begins (seed : ℕ) (old new : Told) : Type 0 where
@@ -38,8 +39,8 @@ pub record PushesParcel (parcel : Parcel) (old new : Told) : Type 0 where
   pub holds : new.holds ≡ option_map (pushed parcel) old.holds
   pub form : IfSome new.holds IsForm
   pub empties : new.empties ≡ old.empties
-  pub pushed : GrowsBy (parcel ∷ []) old.pushed new.pushed
-  pub given : Stays old.given new.given
+  pub pushed : GrowsBy parcel old.pushed new.pushed
+  pub given : new.given ≡ old.given
 
 -- the parcel that a pull gives, by its answer and the frame that it wrote
 abbrev pub parcel_of : Option Place → List ℕ → Option Parcel
@@ -52,8 +53,8 @@ pub record PullsParcel (parcel : Option Parcel) (old new : Told) : Type 0 where
   pub form : IfSome new.holds IsForm
   pub empties : old.empties ≤ new.empties
   pub nothing : parcel ≡ None → Rose old.empties new.empties
-  pub pushed : Stays old.pushed new.pushed
-  pub given : GrowsBy (option_to_list parcel) old.given new.given
+  pub pushed : new.pushed ≡ old.pushed
+  pub given : GrowsByGift parcel old.given new.given
 
 -- the number of pulls that gave nothing, which stays at 2^64 - 1, after one more pull
 abbrev pub empties_after : Option Place → ℕ → ℕ
