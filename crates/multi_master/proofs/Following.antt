@@ -1,0 +1,134 @@
+-- What a call does, from what it does to the masters, the inputs and the application.
+use Rattle.std.proofs.Common.{◌≡◌, ℕ, zero, suc, ◌-◌, List, [], ◌∷◌, map, length, slice_get, slice_set, Option, Some, None, option_map, Bool, true, false, IfSome, All, if◌then◌else◌, refl, sym, ap, ap₂, subst, ◌∙◌, arith}
+use Rattle.std.specs.List.{AllZip}
+use Rattle.fsoe_base.specs.declared.did.Did.{Did}
+use Rattle.failsafe_io.specs.Application.{Answer}
+use Rattle.param_load.specs.declared.entry.Move.{Move}
+use Rattle.param_load.specs.declared.entry.Move.TheVariants as move
+use Rattle.param_load.specs.declared.master_settings.MasterSettings.{MasterSettings}
+use Rattle.end_model.specs.Deed.{Deed}
+use Rattle.master_core.specs.MasterView.{MasterView}
+use Rattle.multi_master.specs.Connection.{Connection, setup, next_deed, with_event, outputs_at, offer_at, offer_len, with_offers}
+use Rattle.multi_master.specs.Calls.{AppView, Call, Deliver, Tick, Nonce, ChangeApp, Meant, connection, replaced, event_at, all_tick, answer, is_heard, cycle_in, with_cycle, after, meant, changed_from, changed}
+use Rattle.multi_master.specs.Puts.{own_len, PutsEach, TicksEach}
+use Rattle.multi_master.specs.Standing.{MultiView, IsWhere, StandsFor, Follows, Offers, AnswersTick}
+use Rattle.multi_master.proofs.Putting.{puts_where, all_shown, offers_put, all_outputs_put, puts_told}
+use Rattle.multi_master.proofs.Ticking.{ticks_where, ticks_read, ticks_did, ticks_sent, told_ticked}
+
+-- masters have the lengths of their connections
+pub own_lens : (cs : List Connection) (ms : List MasterView) → AllZip IsWhere cs ms → map own_len ms ≡ map offer_len cs
+own_lens [] [] h = refl
+own_lens [] (m ∷ ms) h = absurd h
+own_lens (c ∷ cs) [] h = absurd h
+own_lens (c ∷ cs) (m ∷ ms) h = ap₂ (λ (n : ℕ) (ns : List ℕ). n ∷ ns) (ap own_len h.0.is) (own_lens cs ms h.1)
+
+-- what a cycle does: it answers by the rule of the application that runs, which then holds what its answer says
+pub record Cycles (old : AppView) (ticked : Bool) (inputs : List (List ℕ)) (lens : List ℕ) (answers : List (List ℕ)) (new : AppView) : Type 0 where
+  pub answers_are : answers ≡ (old.rule old.holds ticked inputs lens).outputs
+  pub app_is : new ≡ record old { holds = (old.rule old.holds ticked inputs lens).holds }
+
+-- the answer of that cycle, by what is meant
+pub cycle_answers : (m : Meant) (old new : AppView) (ticked : Bool) (inputs : List (List ℕ)) (ms : List MasterView) (answers : List (List ℕ)) → old ≡ m.app → inputs ≡ map outputs_at m.connections
+    → AllZip IsWhere m.connections ms → Cycles old ticked inputs (map own_len ms) answers new
+    → (answers ≡ (answer ticked m).outputs) × (new ≡ record m.app { holds = (answer ticked m).holds })
+cycle_answers m old new ticked inputs ms answers a i w c =
+    let lens : map own_len ms ≡ map offer_len m.connections = own_lens m.connections ms w in
+    let same : old.rule old.holds ticked inputs (map own_len ms) ≡ answer ticked m =
+        ap (λ (app : AppView). app.rule app.holds ticked inputs (map own_len ms)) a
+        ∙ ap₂ (λ (xs : List (List ℕ)) (ns : List ℕ). m.app.rule m.app.holds ticked xs ns) i lens
+    in
+    (c.answers_are ∙ ap (λ (x : Answer). x.outputs) same,
+     c.app_is ∙ ap₂ (λ (app : AppView) (x : Answer). record app { holds = x.holds }) a same)
+
+-- a cycle was run over what is meant, and its answers were put
+pub record CycleDone (m : Meant) (ticked : Bool) (masters : List MasterView) (app : AppView) (inputs : List (List ℕ)) (told : List ℕ) : Type 0 where
+  pub masters_are : AllZip IsWhere (with_cycle (Some (answer ticked m)) m).connections masters
+  pub app_is : app ≡ (with_cycle (Some (answer ticked m)) m).app
+  pub inputs_are : inputs ≡ map outputs_at (with_cycle (Some (answer ticked m)) m).connections
+  pub told_are : told ≡ changed_from 1 m.connections (with_cycle (Some (answer ticked m)) m).connections
+  pub offers_are : map offer_at (with_cycle (Some (answer ticked m)) m).connections ≡ (answer ticked m).outputs
+
+pub cycle_done : (m : Meant) (old new : AppView) (ticked : Bool) (inputs : List (List ℕ)) (middle masters : List MasterView) (answers : List (List ℕ)) (told : List ℕ) → old ≡ m.app
+    → inputs ≡ map outputs_at m.connections → AllZip IsWhere m.connections middle → Cycles old ticked inputs (map own_len middle) answers new → PutsEach middle answers masters told
+    → CycleDone m ticked masters new inputs told
+cycle_done m old new ticked inputs middle masters answers told a i w c p =
+    let at : AllZip IsWhere m.connections (map (λ x. x.old) p.steps) = subst (λ (ms : List MasterView). AllZip IsWhere m.connections ms) (sym p.old_are) w in
+    let both = cycle_answers m old new ticked inputs middle answers a i w c in
+    let load : map (λ x. x.answer) p.steps ≡ (answer ticked m).outputs = p.answers_are ∙ both.0 in
+    let shown = all_shown m.connections p.steps at p.each in
+    record {
+      masters_are =
+          subst (λ (ms : List MasterView). AllZip IsWhere (with_offers (answer ticked m).outputs m.connections) ms) p.new_are
+          (subst (λ (loads : List (List ℕ)). AllZip IsWhere (with_offers loads m.connections) (map (λ x. x.new) p.steps)) load (puts_where m.connections p.steps at p.each));
+      app_is = both.1;
+      inputs_are = i ∙ sym (all_outputs_put m.connections (answer ticked m).outputs);
+      told_are = p.changed_are ∙ sym (puts_told 1 m.connections p.steps shown) ∙ ap (λ (loads : List (List ℕ)). changed_from 1 m.connections (with_offers loads m.connections)) load;
+      offers_are = ap (λ (loads : List (List ℕ)). map offer_at (with_offers loads m.connections)) (sym load) ∙ offers_put m.connections p.steps shown ∙ load;
+    }
+
+-- a tick of all connections
+pub record Ticks (old new : MultiView) (dids : List Did) (frames : List (List ℕ)) : Type 0 where
+  pub middle : List MasterView
+  pub answers : List (List ℕ)
+  pub ticks : TicksEach old.masters old.inputs middle new.inputs dids frames
+  pub cycle : Cycles old.app true new.inputs (map own_len middle) answers new.app
+  pub puts : PutsEach middle answers new.masters new.changed
+
+ticked-at : (settings : List MasterSettings) (app : AppView) (old new : MultiView) (dids : List Did) (frames : List (List ℕ)) (calls : List Call) → StandsFor settings app old calls
+    → (t : Ticks old new dids frames) → AllZip IsWhere (meant settings app calls).connections (map (λ x. x.old) t.ticks.steps)
+ticked-at settings app old new dids frames calls h t = subst (λ (ms : List MasterView). AllZip IsWhere (meant settings app calls).connections ms) (sym t.ticks.old_are) h.masters
+
+tick-done : (settings : List MasterSettings) (app : AppView) (old new : MultiView) (dids : List Did) (frames : List (List ℕ)) (calls : List Call) → StandsFor settings app old calls
+    → Ticks old new dids frames → CycleDone (all_tick (meant settings app calls)) true new.masters new.app new.inputs new.changed
+tick-done settings app old new dids frames calls h t =
+    let m : Meant = meant settings app calls in
+    let at = ticked-at settings app old new dids frames calls h t in
+    cycle_done (all_tick m) old.app new.app true new.inputs t.middle new.masters t.answers new.changed h.app_is
+    (sym t.ticks.after_are ∙ ticks_read m.connections t.ticks.steps at t.ticks.each (t.ticks.before_are ∙ h.inputs_are))
+    (subst (λ (ms : List MasterView). AllZip IsWhere (all_tick m).connections ms) t.ticks.new_are (ticks_where m.connections t.ticks.steps at t.ticks.each))
+    t.cycle t.puts
+
+pub tick_follows : (old new : MultiView) (dids : List Did) (frames : List (List ℕ)) → Ticks old new dids frames → Follows old Tick new
+tick_follows old new dids frames t = record {
+  stands = λ settings app calls h.
+      let d = tick-done settings app old new dids frames calls h t in
+      record {
+        masters = d.masters_are;
+        app_is = d.app_is;
+        inputs_are = d.inputs_are;
+        changed_are = d.told_are ∙ told_ticked 1 (meant settings app calls).connections _;
+      };
+}
+
+pub tick_offers : (old new : MultiView) (dids : List Did) (frames : List (List ℕ)) → Ticks old new dids frames → Offers old Tick
+tick_offers old new dids frames t = record { offers = λ settings app calls h. (tick-done settings app old new dids frames calls h t).offers_are }
+
+pub tick_answers : (old new : MultiView) (dids : List Did) (frames : List (List ℕ)) → Ticks old new dids frames → AnswersTick old dids frames
+tick_answers old new dids frames t = record {
+  dids = λ settings app calls h.
+      sym t.ticks.dids_are ∙ ticks_did (meant settings app calls).connections t.ticks.steps (ticked-at settings app old new dids frames calls h t) t.ticks.each;
+  sent = λ settings app calls h.
+      sym t.ticks.sent_are ∙ ticks_sent (meant settings app calls).connections t.ticks.steps (ticked-at settings app old new dids frames calls h t) t.ticks.each;
+}
+
+-- another application runs
+pub record Changes (old : MultiView) (app : AppView) (new : MultiView) : Type 0 where
+  pub answers : List (List ℕ)
+  pub cycle : Cycles app false old.inputs (map own_len old.masters) answers new.app
+  pub inputs_are : new.inputs ≡ old.inputs
+  pub puts : PutsEach old.masters answers new.masters new.changed
+
+change-done : (settings : List MasterSettings) (first app : AppView) (old new : MultiView) (calls : List Call) → StandsFor settings first old calls → Changes old app new
+    → CycleDone (record (meant settings first calls) { app = app }) false new.masters new.app old.inputs new.changed
+change-done settings first app old new calls h t =
+    cycle_done (record (meant settings first calls) { app = app }) app new.app false old.inputs old.masters new.masters t.answers new.changed refl h.inputs_are h.masters t.cycle t.puts
+
+pub change_follows : (old new : MultiView) (app : AppView) → Changes old app new → Follows old (ChangeApp app) new
+change_follows old new app t = record {
+  stands = λ settings first calls h.
+      let d = change-done settings first app old new calls h t in
+      record { masters = d.masters_are; app_is = d.app_is; inputs_are = t.inputs_are ∙ d.inputs_are; changed_are = d.told_are };
+}
+
+pub change_offers : (old new : MultiView) (app : AppView) → Changes old app new → Offers old (ChangeApp app)
+change_offers old new app t = record { offers = λ settings first calls h. (change-done settings first app old new calls h t).offers_are }

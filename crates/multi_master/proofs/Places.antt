@@ -1,0 +1,75 @@
+-- Two lists side by side, at a place.
+use Rattle.std.proofs.Common.{◌≡◌, ℕ, zero, suc, ◌<◌, List, [], ◌∷◌, map, length, slice_get, slice_set, Option, Some, None, nat_eq, true, refl, sym, ap, subst, ◌∙◌, arith}
+use Rattle.std.specs.Cmp.Lexicographic.{pointwise}
+use Rattle.std.specs.List.{AllZip}
+use Rattle.std.proofs.lemmas.Cmp.{nat_list_eq_equiv}
+
+-- what is at a place of the first list goes with what is at that place of the second
+pub record At {A B : Type 0} (R : A → B → Type 0) (xs : List A) (k : ℕ) (y : B) : Type 0 where
+  pub there : A
+  pub is : slice_get xs k ≡ Some there
+  pub holds : R there y
+
+pub at_place : {A B : Type 0} (R : A → B → Type 0) (xs : List A) (ys : List B) (k : ℕ) (y : B) → AllZip R xs ys → slice_get ys k ≡ Some y → At R xs k y
+at_place R [] [] k y h e = cc
+at_place R [] (b ∷ ys) k y h e = absurd h
+at_place R (a ∷ xs) [] k y h e = absurd h
+at_place R (a ∷ xs) (b ∷ ys) zero y h e = let i : b ≡ y = cc in record { there = a; is = refl; holds = subst (λ z. R a z) i h.0 }
+at_place R (a ∷ xs) (b ∷ ys) (suc k) y h e = let p = at_place R xs ys k y h.1 e in record { there = p.there; is = p.is; holds = p.holds }
+
+-- both lists with others at a place
+pub zip_set : {A B : Type 0} (R : A → B → Type 0) (xs : List A) (ys : List B) (k : ℕ) (x : A) (y : B) → AllZip R xs ys → R x y → AllZip R (slice_set xs k x) (slice_set ys k y)
+zip_set R [] [] k x y h r = tt
+zip_set R [] (b ∷ ys) k x y h r = absurd h
+zip_set R (a ∷ xs) [] k x y h r = absurd h
+zip_set R (a ∷ xs) (b ∷ ys) zero x y h r = (r, h.1)
+zip_set R (a ∷ xs) (b ∷ ys) (suc k) x y h r = (h.0, zip_set R xs ys k x y h.1 r)
+
+-- the same list where what stands at a place goes to the same as what stood there
+pub map_set : {A B : Type 0} (f : A → B) (xs : List A) (k : ℕ) (x y : A) → slice_get xs k ≡ Some x → f y ≡ f x → map f (slice_set xs k y) ≡ map f xs
+map_set f [] k x y e h = absurd (cc e)
+map_set {B = B} f (a ∷ xs) zero x y e h = let i : a ≡ x = cc in ap (λ (z : B). z ∷ map f xs) (h ∙ ap f (sym i))
+map_set {B = B} f (a ∷ xs) (suc k) x y e h = ap (λ (zs : List B). f a ∷ zs) (map_set f xs k x y e h)
+
+-- at two lists that map to the same, what is at a place maps to the same
+pub same_at : {A B C : Type 0} (f : A → C) (g : B → C) (xs : List A) (ys : List B) (k : ℕ) (x : A) (y : B) → map f xs ≡ map g ys → slice_get xs k ≡ Some x → slice_get ys k ≡ Some y → f x ≡ g y
+same_at f g [] ys k x y h i j = absurd (cc i)
+same_at f g (a ∷ xs) [] k x y h i j = absurd (cc j)
+same_at f g (a ∷ xs) (b ∷ ys) zero x y h i j = let p : a ≡ x = cc in let q : b ≡ y = cc in let r : f a ≡ g b = cc in sym (ap f p) ∙ r ∙ ap g q
+same_at f g (a ∷ xs) (b ∷ ys) (suc k) x y h i j = same_at f g xs ys k x y (cc) i j
+
+-- what is set at a place is there
+pub set_there : {A : Type 0} (xs : List A) (k : ℕ) (x y : A) → slice_get xs k ≡ Some x → slice_get (slice_set xs k y) k ≡ Some y
+set_there [] k x y h = absurd (cc h)
+set_there (a ∷ xs) zero x y h = refl
+set_there (a ∷ xs) (suc k) x y h = set_there xs k x y h
+
+-- what is there, set there, changes nothing
+pub set_same : {A : Type 0} (xs : List A) (k : ℕ) (x : A) → slice_get xs k ≡ Some x → slice_set xs k x ≡ xs
+set_same [] k x h = refl
+set_same (a ∷ xs) zero x h = let i : a ≡ x = cc in ap (λ z. z ∷ xs) (sym i)
+set_same (a ∷ xs) (suc k) x h = ap (λ zs. a ∷ zs) (set_same xs k x h)
+
+-- there is something at each place of a list
+pub some_at : {A : Type 0} (xs : List A) (k : ℕ) → k < length xs → (x : A) × (slice_get xs k ≡ Some x)
+some_at [] k h = absurd (omega arith)
+some_at (a ∷ xs) zero h = (a, refl)
+some_at (a ∷ xs) (suc k) h = some_at xs k (omega arith)
+
+-- lists that map to the same are as long
+pub same_length : {A B C : Type 0} (f : A → C) (g : B → C) (xs : List A) (ys : List B) → map f xs ≡ map g ys → length xs ≡ length ys
+same_length f g [] [] h = refl
+same_length f g [] (b ∷ ys) h = absurd (cc h)
+same_length f g (a ∷ xs) [] h = absurd (cc h)
+same_length f g (a ∷ xs) (b ∷ ys) h = ap suc (same_length f g xs ys (cc))
+
+pub same_bytes : (xs : List ℕ) → pointwise nat_eq xs xs ≡ true
+same_bytes xs = nat_list_eq_equiv.refl xs
+
+-- a later place is as before
+pub set_before : {A : Type 0} (xs : List A) (i k : ℕ) (y : A) → i < k → slice_get (slice_set xs i y) k ≡ slice_get xs k
+set_before [] i k y h = refl
+set_before (a ∷ xs) zero zero y h = absurd (omega arith)
+set_before (a ∷ xs) zero (suc k) y h = refl
+set_before (a ∷ xs) (suc i) zero y h = absurd (omega arith)
+set_before (a ∷ xs) (suc i) (suc k) y h = set_before xs i k y (omega arith)

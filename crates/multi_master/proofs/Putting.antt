@@ -1,0 +1,103 @@
+-- The answers of a cycle, put master by master.
+use Rattle.std.proofs.Common.{◌≡◌, ℕ, zero, suc, List, [], ◌∷◌, map, slice_get, slice_set, Option, Some, None, Bool, true, false, not, All, if◌then◌else◌, nat_eq, refl, sym, ap, subst, ◌∙◌}
+use Rattle.std.specs.Cmp.Lexicographic.{pointwise, same_text}
+use Rattle.std.specs.List.{AllZip}
+use Rattle.std.proofs.lemmas.List.Elements.{All-head, All-tail}
+use Rattle.fsoe_base.specs.declared.did.Did.{Did}
+use Rattle.param_load.specs.declared.entry.Move.TheVariants as move
+use Rattle.end_model.specs.Readiness.{offer}
+use Rattle.master_core.specs.MasterView.{MasterView}
+use Rattle.master_core.specs.Now.{is_due}
+use Rattle.master_core.specs.Waiting.{Delivery, Waits, Replies, its_deed}
+use Rattle.multi_master.specs.Connection.{Connection, setup, next_deed, with_event, outputs_at, offer_at, is_offer, with_offer, with_offers}
+use Rattle.multi_master.specs.Calls.{changed_from}
+use Rattle.multi_master.specs.Puts.{PutStep, IsPutStep, MayBePut, has_changed, changed_steps}
+use Rattle.multi_master.specs.Standing.{IsWhere}
+use Rattle.multi_master.proofs.Places.{same_bytes}
+
+-- what a step was shown as the offer is the offer of its connection
+abbrev pub IsShown : Connection → PutStep → Type 0
+IsShown c x = x.shown ≡ offer_at c
+
+-- one master at rest
+put-case : (c : Connection) (load : List ℕ) (old new : MasterView) (b : Bool) → IsWhere c old → MayBePut (not b) old load new
+    → IsWhere (if b then c else with_event (move.Put load) c) new
+put-case c load old new true h p = subst (λ (m : MasterView). IsWhere c m) (sym p) h
+put-case c load old new false h p = p.follows.is_after c.settings c.deeds h
+
+pub shown_at_rest : (c : Connection) (x : PutStep) → IsWhere c x.old → IsPutStep x → IsShown c x
+shown_at_rest c x h s = s.shows.shows.shows c.settings c.deeds h
+
+pub put_at_rest : (c : Connection) (x : PutStep) → IsWhere c x.old → IsPutStep x → IsWhere (with_offer x.answer c) x.new
+put_at_rest c x h s =
+    put-case c x.answer x.old x.new (is_offer x.answer c) h
+    (subst (λ (shown : List ℕ). MayBePut (not (pointwise nat_eq shown x.answer)) x.old x.answer x.new) (shown_at_rest c x h s) s.put)
+
+-- one master whose frame is due
+abbrev pub delivery_at : Connection → List ℕ → Did → Delivery
+delivery_at c bytes did = record { settings = c.settings; before = c.deeds; bytes = bytes; did = did }
+
+due-case : (c : Connection) (bytes : List ℕ) (did : Did) (load : List ℕ) (old new : MasterView) (b : Bool) → Waits old (delivery_at c bytes did) → MayBePut (not b) old load new
+    → Waits new (delivery_at (if b then c else with_event (move.Put load) c) bytes did)
+due-case c bytes did load old new true h p = subst (λ (m : MasterView). Waits m (delivery_at c bytes did)) (sym p) h
+due-case c bytes did load old new false h p = p.keeps.waits (delivery_at c bytes did) h
+
+pub shown_due : (c : Connection) (bytes : List ℕ) (did : Did) (x : PutStep) → Waits x.old (delivery_at c bytes did) → IsPutStep x → IsShown c x
+shown_due c bytes did x h s = s.shows.shows_due.shows (delivery_at c bytes did) h
+
+pub put_due : (c : Connection) (bytes : List ℕ) (did : Did) (x : PutStep) → Waits x.old (delivery_at c bytes did) → IsPutStep x
+    → Waits x.new (delivery_at (with_offer x.answer c) bytes did)
+put_due c bytes did x h s =
+    due-case c bytes did x.answer x.old x.new (is_offer x.answer c) h
+    (subst (λ (shown : List ℕ). MayBePut (not (pointwise nat_eq shown x.answer)) x.old x.answer x.new) (shown_due c bytes did x h s) s.put)
+
+-- all masters at rest
+pub puts_where : (cs : List Connection) (steps : List PutStep) → AllZip IsWhere cs (map (λ x. x.old) steps) → All IsPutStep steps
+    → AllZip IsWhere (with_offers (map (λ x. x.answer) steps) cs) (map (λ x. x.new) steps)
+puts_where [] [] h s = tt
+puts_where [] (x ∷ xs) h s = absurd h
+puts_where (c ∷ cs) [] h s = absurd h
+puts_where (c ∷ cs) (x ∷ xs) h s = (put_at_rest c x h.0 (All-head IsPutStep x xs s), puts_where cs xs h.1 (All-tail IsPutStep x xs s))
+
+pub all_shown : (cs : List Connection) (steps : List PutStep) → AllZip IsWhere cs (map (λ x. x.old) steps) → All IsPutStep steps → AllZip IsShown cs steps
+all_shown [] [] h s = tt
+all_shown [] (x ∷ xs) h s = absurd h
+all_shown (c ∷ cs) [] h s = absurd h
+all_shown (c ∷ cs) (x ∷ xs) h s = (shown_at_rest c x h.0 (All-head IsPutStep x xs s), all_shown cs xs h.1 (All-tail IsPutStep x xs s))
+
+-- the offers after it are the answers
+put-offer : (c : Connection) (load : List ℕ) (b : Bool) → is_offer load c ≡ b → offer_at (if b then c else with_event (move.Put load) c) ≡ load
+put-offer c load true h = same_text (offer_at c) load (sym h)
+put-offer c load false h = refl
+
+pub offer_put : (c : Connection) (load : List ℕ) → offer_at (with_offer load c) ≡ load
+offer_put c load = put-offer c load (is_offer load c) refl
+
+pub offers_put : (cs : List Connection) (steps : List PutStep) → AllZip IsShown cs steps
+    → map offer_at (with_offers (map (λ x. x.answer) steps) cs) ≡ map (λ x. x.answer) steps
+offers_put [] [] h = refl
+offers_put [] (x ∷ xs) h = absurd h
+offers_put (c ∷ cs) [] h = absurd h
+offers_put (c ∷ cs) (x ∷ xs) h = rw (offer_put c x.answer, offers_put cs xs h.1) refl
+
+-- no outputs are other than before
+put-outputs : (c : Connection) (load : List ℕ) (b : Bool) → outputs_at (if b then c else with_event (move.Put load) c) ≡ outputs_at c
+put-outputs c load true = refl
+put-outputs c load false = refl
+
+pub outputs_put : (c : Connection) (load : List ℕ) → outputs_at (with_offer load c) ≡ outputs_at c
+outputs_put c load = put-outputs c load (is_offer load c)
+
+pub all_outputs_put : (cs : List Connection) (loads : List (List ℕ)) → map outputs_at (with_offers loads cs) ≡ map outputs_at cs
+all_outputs_put [] [] = refl
+all_outputs_put [] (load ∷ loads) = refl
+all_outputs_put (c ∷ cs) [] = refl
+all_outputs_put (c ∷ cs) (load ∷ loads) = rw (outputs_put c load, all_outputs_put cs loads) refl
+
+-- the connections are told that have another offer
+pub puts_told : (n : ℕ) (cs : List Connection) (steps : List PutStep) → AllZip IsShown cs steps
+    → changed_from n cs (with_offers (map (λ x. x.answer) steps) cs) ≡ changed_steps n steps
+puts_told n [] [] h = refl
+puts_told n [] (x ∷ xs) h = absurd h
+puts_told n (c ∷ cs) [] h = absurd h
+puts_told n (c ∷ cs) (x ∷ xs) h = rw (offer_put c x.answer, h.0, puts_told (suc n) cs xs h.1) refl

@@ -1,0 +1,64 @@
+-- Events that leave offers and outputs as they are.
+use Rattle.std.proofs.Common.{◌≡◌, ◌≢◌, ℕ, zero, suc, List, [], ◌∷◌, map, slice_get, slice_set, Option, Some, None, is_some, Bool, true, false, ◌||◌, if◌then◌else◌, nat_eq, refl, sym, ap, subst, ◌∙◌}
+use Rattle.std.specs.Cmp.Lexicographic.{pointwise}
+use Rattle.fsoe_base.specs.declared.command.State.TheVariants as state
+use Rattle.fsoe_base.specs.declared.did.Cause.{Cause}
+use Rattle.fsoe_base.specs.declared.did.Did.{Did}
+use Rattle.fsoe_base.specs.declared.did.Took.{Took}
+use Rattle.param_load.specs.declared.entry.Move.{Move}
+use Rattle.param_load.specs.declared.entry.Move.TheVariants as move
+use Rattle.end_model.specs.Setup.{Setup}
+use Rattle.end_model.specs.Deed.{Deed}
+use Rattle.end_model.specs.Outputs.{outputs, out, zeros, held_up, out_after}
+use Rattle.end_model.specs.Readiness.{state_of}
+use Rattle.end_model.specs.Reactions.{Reaction, Rests, Ages, Expires, SendsAgain}
+use Rattle.end_model.specs.Step.{step, IsRun}
+use Rattle.end_model.proofs.Runs.{deed}
+use Rattle.end_model.proofs.Shown.{looking_back, fail_safe}
+use Rattle.end_model.proofs.SoundRuns.{reacts}
+use Rattle.master_core.specs.Calls.{tells_due}
+use Rattle.multi_master.specs.Connection.{Connection, setup, next_deed, with_event, outputs_at, offer_at, is_offer}
+use Rattle.multi_master.specs.Calls.{changed_from}
+use Rattle.multi_master.proofs.Places.{same_bytes}
+
+-- a tick that ends no session
+abbrev IsTick : Move → Type 0
+IsTick move.Tick = Unit {0}
+IsTick _ = ⊥
+
+tick-kept : (s : Setup) (e : List Deed) (m : Move) (d : Did) (f : List ℕ) → IsTick m → d.reset ≡ None → IsRun s e → Reaction s e m d f → outputs s (deed m d f ∷ e) ≡ outputs s e
+tick-kept s e m d f k h r (Rests slave now) = refl
+tick-kept s e m d f k h r (Ages counts below) = refl
+tick-kept s e m d f k h r (Expires now old) = absurd (cc h)
+tick-kept s e m d f k h r (SendsAgain master now old) = sym (fail_safe s e r (λ i. absurd (cc (now, i))))
+tick-kept s e m d f k h r _ = absurd k
+
+pub quiet_tick : (s : Setup) (e : List Deed) → IsRun s e → (step s e move.Tick).did.reset ≡ None → out s (step s e move.Tick ∷ e) ≡ out s e
+quiet_tick s e r h =
+    let x : Deed = step s e move.Tick in
+    sym (looking_back s (x ∷ e) (record { proper = tt; stepped = refl }, r))
+    ∙ tick-kept s e move.Tick x.did x.sent tt h r (reacts s e move.Tick r tt)
+    ∙ looking_back s e r
+
+-- a frame of which nothing is taken and which ends no session
+quiet-parts : (s : Setup) (e : List Deed) (x : Deed) (n : ℕ) (took : Option Took) (reset : Option Cause) (before : List ℕ) → (is_some took || is_some reset) ≡ false
+    → (if is_some reset then zeros s else held_up s (x ∷ e) n took before) ≡ before
+quiet-parts s e x n None None before h = refl
+quiet-parts s e x n (Some t) reset before h = absurd (cc h)
+quiet-parts s e x n None (Some why) before h = absurd (cc h)
+
+pub quiet_frame : (s : Setup) (e : List Deed) (bytes : List ℕ) → tells_due (step s e (move.Deliver bytes)).did ≡ false
+    → out s (step s e (move.Deliver bytes) ∷ e) ≡ out s e
+quiet_frame s e bytes h =
+    let x : Deed = step s e (move.Deliver bytes) in
+    quiet-parts s e x 0 x.did.took x.did.reset (out_after s 0 e) h
+
+-- where no offer is other, none is told
+pub none_told : (n : ℕ) (olds news : List Connection) → map offer_at news ≡ map offer_at olds → changed_from n olds news ≡ []
+none_told n [] [] h = refl
+none_told n [] (c ∷ news) h = refl
+none_told n (c ∷ olds) [] h = refl
+none_told n (c ∷ olds) (d ∷ news) h =
+    let i : offer_at d ≡ offer_at c = cc in
+    let j : map offer_at news ≡ map offer_at olds = cc in
+    rw (i, same_bytes (offer_at c)) (none_told (suc n) olds news j)

@@ -1,0 +1,47 @@
+use Rattle.std.proofs.Common.{◌≡◌, ◌<◌, ◌≤◌, ◌+◌, ◌++◌, ◌∷◌, [], ℕ, List, Some, Bool, true, false, not, map, length, slice_get, slice_set, slice_index_or, nat_eq, sym, ap, subst, ◌∙◌, arith, if◌then◌else◌, refl}
+use Rattle.std.specs.Cmp.Lexicographic.{pointwise}
+use Rattle.std.proofs.lemmas.Grind.{common_steps}
+use Rattle.std.proofs.lemmas.Option.{slice_get_read, slice_get-get_or}
+use Rattle.master_core.specs.MasterView.{MasterView}
+use Rattle.multi_master.specs.Puts.{own_len, PutStep}
+use Rattle.multi_master.proofs.Places.{same_at, same_length, map_set}
+use Rattle.multi_master.proofs.Looping.{puts_more, told_put, told_none}
+use Rattle.multi_master.proofs.cycle.put_answers.Goals.{then-put_answer, else-put_answer}
+use Rattle.multi_master.proofs.cycle.put_answers.Goals as goal
+
+pub put_answer-requires : goal.put_answer-requires
+put_answer-requires c =
+    let i : ℕ = c.loop-i.i in
+    let m : MasterView = slice_index_or c.loop-i.masters i c.index-masters-i.result in
+    let len : length c.args.answers.now ≡ length c.loop-i.masters = same_length length own_len c.args.answers.now c.loop-i.masters c.loop-i.invariant.fits in
+    let within : i < length c.loop-i.masters = omega arith in
+    let at : slice_get c.loop-i.masters i ≡ Some m = slice_get-get_or c.loop-i.masters i c.index-masters-i.result within in
+    let of : slice_get c.args.answers.now i ≡ Some c.index-answers-i.result = slice_get_read c.args.answers.now _ i _ refl (omega arith) c.index-answers-i.is in
+    ap length c.bytes.ensures.value ∙ same_at length own_len c.args.answers.now c.loop-i.masters i _ m c.loop-i.invariant.fits of at
+
+pub loop-i-preserved : goal.loop-i-preserved
+loop-i-preserved c =
+    let i : ℕ = c.loop-i.i in
+    let m : MasterView = slice_index_or c.loop-i.masters i c.index-masters-i.result in
+    let len : length c.args.answers.now ≡ length c.loop-i.masters = same_length length own_len c.args.answers.now c.loop-i.masters c.loop-i.invariant.fits in
+    let within : i < length c.loop-i.masters = omega arith in
+    let at : slice_get c.loop-i.masters i ≡ Some m = slice_get-get_or c.loop-i.masters i c.index-masters-i.result within in
+    let of : slice_get c.args.answers.now i ≡ Some c.index-answers-i.result = slice_get_read c.args.answers.now _ i _ refl (omega arith) c.index-answers-i.is in
+    let answer : List ℕ = c.bytes.result.now in
+    let is : slice_get c.args.answers.now i ≡ Some answer = of ∙ ap (λ (xs : List ℕ). Some xs) (sym c.bytes.ensures.value) in
+    let x : PutStep = record { old = m; shown = c.put_answer.ensures.shown; answer = answer; new = c.put_answer.new.master } in
+    let same : Bool = pointwise nat_eq c.put_answer.ensures.shown answer in
+    let told : c.if-put_answer.changed.items ≡ (if same then c.loop-i.changed.items else c.loop-i.changed.items ++ (i + 1) ∷ []) =
+        elim c.if-put_answer.branch [
+          | then-put_answer w ↦ told_put same c.put_answer.result c.loop-i.changed.items _ (i + 1) c.put_answer.ensures.told_is w.if-put_answer.true (cc)
+          | else-put_answer w ↦ told_none same c.put_answer.result c.loop-i.changed.items _ (i + 1) c.put_answer.ensures.told_is w.if-put_answer.false (cc)
+        ]
+    in
+    record {
+      fits = c.loop-i.invariant.fits ∙ sym (map_set own_len c.loop-i.masters i m c.put_answer.new.master at (ap (λ s. s.lengths.master) c.put_answer.ensures.step.settings));
+      counted = elim c.if-put_answer.branch [
+        | then-put_answer w ↦ grind (arith, common_steps)
+        | else-put_answer w ↦ grind (arith, common_steps)
+      ];
+      so_far = puts_more c.args.masters.now c.args.answers.now c.loop-i.masters _ c.loop-i.changed.items c.if-put_answer.changed.items i x c.loop-i.invariant.so_far at is c.put_answer.ensures.step refl told;
+    }

@@ -1,0 +1,11 @@
+use Rattle.std.proofs.Common.{◌≡◌, ◌≤◌, ◌<◌, ℕ, false, length, slice_get, Some}
+use Rattle.master_core.specs.MasterView.{MasterView}
+use Rattle.master_core.specs.Now.{is_due}
+use Rattle.multi_master.proofs.Looping.{TicksSoFar}
+use Rattle.multi_master.proofs.cycle.tick_all.Given as goal
+
+abbrev pub invariant-loop-i : goal.invariant-loop-i
+invariant-loop-i l = record {
+  rest : (k : ℕ) (m : MasterView) → l.i ≤ k → slice_get l.masters k ≡ Some m → is_due m.state ≡ false;
+  so_far : TicksSoFar l.initial.masters l.initial.inputs l.masters l.inputs l.dids l.outs l.i;
+}

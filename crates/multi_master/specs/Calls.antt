@@ -1,0 +1,97 @@
+-- What the calls of a master of many connections mean, newest first: what each connection's master did, and the application that runs.
+use Rattle.std.specs.Prelude.{ℕ, zero, suc, ◌-◌, Bool, true, false, List, [], ◌∷◌, map, slice_get, slice_set, Option, Some, None, option_map, if◌then◌else◌}
+use Rattle.failsafe_io.specs.declared.bit.Bit.{Bit}
+use Rattle.failsafe_io.specs.Application.{Answer}
+use Rattle.param_load.specs.declared.entry.Move.{Move}
+use Rattle.param_load.specs.declared.entry.Move.TheVariants as move
+use Rattle.param_load.specs.declared.master_settings.MasterSettings.{MasterSettings}
+use Rattle.end_model.specs.Deed.{Deed}
+use Rattle.master_core.specs.Calls.{tells_due}
+use Rattle.multi_master.specs.Connection.{Connection, fresh, next_deed, with_event, outputs_at, offer_at, offer_len, is_offer, with_offers}
+
+-- how an application answers: by what it holds, whether the cycle is ticked, the inputs, and the lengths of the outputs
+abbrev pub Rule : Type 0
+Rule = List ℕ → Bool → List (List ℕ) → List ℕ → Answer
+
+-- an application: the rule by which it answers, what it holds, and what it guards
+pub record AppView : Type 0 where
+  pub rule : Rule
+  pub holds : List ℕ
+  pub guards : Bit → Bit → Bool
+
+-- a call: a frame comes for a connection, all connections tick, a connection gets a session id, or another application runs from now on.
+-- Connections are numbered from 1
+pub data Call : Type 0 where
+  Deliver : ℕ → List ℕ → Call
+  Tick : Call
+  Nonce : ℕ → ℕ → Call
+  ChangeApp : AppView → Call
+
+-- what calls mean: the connections in their order, and the application that runs
+pub record Meant : Type 0 where
+  pub connections : List Connection
+  pub app : AppView
+
+-- the connection with this number, if there is one
+abbrev pub connection : ℕ → Meant → Option Connection
+connection zero m = None
+connection (suc place) m = slice_get m.connections place
+
+-- with this one in its place
+abbrev pub replaced : ℕ → Option Connection → Meant → Meant
+replaced link None m = m
+replaced link (Some c) m = record m { connections = slice_set m.connections (link - 1) c }
+
+-- an event at the connection with this number, and at no other
+abbrev pub event_at : ℕ → Move → Meant → Meant
+event_at link what m = replaced link (option_map (with_event what) (connection link m)) m
+
+-- a tick at each connection
+abbrev pub all_tick : Meant → Meant
+all_tick m = record m { connections = map (with_event move.Tick) m.connections }
+
+-- what the application that runs answers, in a cycle, to the masters' outputs
+abbrev pub answer : Bool → Meant → Answer
+answer ticked m = m.app.rule m.app.holds ticked (map outputs_at m.connections) (map offer_len m.connections)
+
+-- whether a frame for a connection is taken there, or ends its session: its deed says so
+abbrev pub is_heard : List ℕ → Option Connection → Bool
+is_heard bytes None = false
+is_heard bytes (Some c) = tells_due (next_deed (move.Deliver bytes) c).did
+
+-- the answer of the one cycle that a call runs, if it runs one: over the outputs with the frame that came, if it was taken or ended the
+-- session; over those after all connections ticked; or that of the new application
+abbrev pub cycle_in : Call → Meant → Option Answer
+cycle_in (Deliver link bytes) m =
+    if is_heard bytes (connection link m) then Some (answer false (event_at link (move.Deliver bytes) m)) else None
+cycle_in Tick m = Some (answer true (all_tick m))
+cycle_in (Nonce link id) m = None
+cycle_in (ChangeApp app) m = Some (answer false (record m { app = app }))
+
+-- the answers of a cycle, if one is run, are put as all connections' offers, and the application holds then what its answer says
+abbrev pub with_cycle : Option Answer → Meant → Meant
+with_cycle None m = m
+with_cycle (Some a) m = record { connections = with_offers a.outputs m.connections; app = record m.app { holds = a.holds } }
+
+-- what a call means after those before: in a delivery the answers are put before the deed of the frame, so that its reply carries them
+abbrev pub after : Call → Meant → Meant
+after (Deliver link bytes) m = event_at link (move.Deliver bytes) (with_cycle (cycle_in (Deliver link bytes) m) m)
+after Tick m = with_cycle (cycle_in Tick m) (all_tick m)
+after (Nonce link id) m = event_at link (move.Nonce id) m
+after (ChangeApp app) m = with_cycle (cycle_in (ChangeApp app) m) (record m { app = app })
+
+-- what these calls mean, from new masters with these settings and this application on
+abbrev pub meant : List MasterSettings → AppView → List Call → Meant
+meant settings app [] = record { connections = map fresh settings; app = app }
+meant settings app (call ∷ calls) = after call (meant settings app calls)
+
+-- the numbers, from n on, of the connections that have another offer than they had before
+abbrev pub changed_from : ℕ → List Connection → List Connection → List ℕ
+changed_from n (old ∷ olds) (new ∷ news) =
+    if is_offer (offer_at new) old then changed_from (suc n) olds news else n ∷ changed_from (suc n) olds news
+changed_from n _ _ = []
+
+-- the connections whose offers the newest call changed, in their order
+abbrev pub changed : List MasterSettings → AppView → List Call → List ℕ
+changed settings app [] = []
+changed settings app (call ∷ calls) = changed_from 1 (meant settings app calls).connections (meant settings app (call ∷ calls)).connections

@@ -1,0 +1,116 @@
+-- What it means that a master of many connections does what looking back over its calls says.
+use Rattle.std.specs.Prelude.{◌≡◌, ◌≤◌, ℕ, Bool, false, List, [], ◌∷◌, map, length, All, slice_get, IfSome, Option, Some, None, option_map}
+use Rattle.std.specs.List.{AllZip}
+use Rattle.std.specs.Option.{option_map_or}
+use Rattle.fsoe_base.specs.declared.did.Did.{Did}
+use Rattle.failsafe_io.specs.declared.bit.Bit.{Bit}
+use Rattle.param_load.specs.declared.entry.Move.TheVariants as move
+use Rattle.param_load.specs.declared.master_settings.MasterSettings.{MasterSettings}
+use Rattle.end_model.specs.Deed.{Deed}
+use Rattle.master_core.specs.MasterView.{MasterView}
+use Rattle.master_core.specs.Now.{is_due}
+use Rattle.master_core.specs.Standing.{MasterIsAfter}
+use Rattle.multi_master.specs.Connection.{Connection, next_deed, outputs_at, offer_at}
+use Rattle.multi_master.specs.Puts.{own_len}
+use Rattle.multi_master.specs.Calls.{Rule, AppView, Call, Deliver, Tick, Meant, connection, cycle_in, meant, changed}
+
+-- what a master of many connections is, with an application of any type: the masters in the order of the connections, the application
+-- that runs, the inputs that it reads in a cycle, and the connections whose offers the last call changed
+pub record MultiValue (A : Type 0) : Type 0 where
+  pub masters : List MasterView
+  pub app : A
+  pub inputs : List (List ℕ)
+  pub changed : List ℕ
+
+-- the same, with the application as what it means
+pub record MultiView : Type 0 where
+  pub masters : List MasterView
+  pub app : AppView
+  pub inputs : List (List ℕ)
+  pub changed : List ℕ
+
+-- what an application of this type means
+abbrev pub app_view : {A : Type 0} → (A → Rule) → (A → List ℕ) → (A → Bit → Bit → Bool) → A → AppView
+app_view rule holds guards a = record { rule = rule a; holds = holds a; guards = guards a }
+
+-- what contracts see, by the rule, what is held and the guards of an application of this type
+abbrev pub seen : {A : Type 0} → (A → Rule) → (A → List ℕ) → (A → Bit → Bit → Bool) → MultiValue A → MultiView
+seen rule holds guards v = record { masters = v.masters; app = app_view rule holds guards v.app; inputs = v.inputs; changed = v.changed }
+
+-- the number of connections
+abbrev pub links : {A : Type 0} → MultiValue A → ℕ
+links v = length v.masters
+
+-- the settings of each connection
+abbrev pub settings_of : {A : Type 0} → MultiValue A → List MasterSettings
+settings_of v = map (λ m. m.kit.settings) v.masters
+
+-- there is a connection with this number
+pub record HasLink {A : Type 0} (v : MultiValue A) (link : ℕ) : Type 0 where
+  pub first : 1 ≤ link
+  pub last : link ≤ links v
+
+-- no frame of a master is due, there is an input for each connection and an answer of the length of its master's frames, and there are
+-- at most 64 connections
+pub record IsMulti (masters : List MasterView) (inputs answers : List (List ℕ)) : Type 0 where
+  pub rest : All (λ m. is_due m.state ≡ false) masters
+  pub inputs_fit : length inputs ≡ length masters
+  pub answers_fit : map length answers ≡ map own_len masters
+  pub most : length masters ≤ 64
+
+-- a master is where the deeds of its connection leave it
+abbrev pub IsWhere : Connection → MasterView → Type 0
+IsWhere c m = MasterIsAfter c.settings m c.deeds
+
+-- it was made with these settings and this application, and stands for these calls: each master is where the deeds of its connection
+-- leave it, the application is that which runs, its inputs are the masters' outputs, and the changed offers are told
+pub record StandsFor (settings : List MasterSettings) (app : AppView) (v : MultiView) (calls : List Call) : Type 0 where
+  pub masters : AllZip IsWhere (meant settings app calls).connections v.masters
+  pub app_is : v.app ≡ (meant settings app calls).app
+  pub inputs_are : v.inputs ≡ map outputs_at (meant settings app calls).connections
+  pub changed_are : v.changed ≡ changed settings app calls
+
+-- what stood for some calls stands for these and this one
+pub record Follows (old : MultiView) (call : Call) (new : MultiView) : Type 0 where
+  pub stands : (settings : List MasterSettings) (app : AppView) (calls : List Call) → StandsFor settings app old calls
+      → StandsFor settings app new (call ∷ calls)
+
+-- where a call runs a cycle, its answers are the offers of all connections after it
+pub record Offers (old : MultiView) (call : Call) : Type 0 where
+  pub offers : (settings : List MasterSettings) (app : AppView) (calls : List Call) → StandsFor settings app old calls
+      → IfSome (cycle_in call (meant settings app calls)) (λ a. map offer_at (meant settings app (call ∷ calls)).connections ≡ a.outputs)
+
+-- the deeds of the connection with this number, none where there is no such connection
+abbrev pub deeds_at : ℕ → Meant → List Deed
+deeds_at link m = option_map_or (λ c. c.deeds) (connection link m) []
+
+-- the newest deed of the connection with this number
+abbrev pub newest_at : ℕ → Meant → Option Deed
+newest_at link m = slice_get (deeds_at link m) 0
+
+-- what is done with a frame, and the frame that is sent, are those of the newest deed of its connection
+pub record AnswersFrame (old : MultiView) (link : ℕ) (bytes : List ℕ) (done : Did) (sent : List ℕ) : Type 0 where
+  pub answers : (settings : List MasterSettings) (app : AppView) (calls : List Call) → StandsFor settings app old calls
+      → newest_at link (meant settings app (Deliver link bytes ∷ calls)) ≡ Some (record { what = move.Deliver bytes; did = done; sent = sent })
+
+-- what each connection does at a tick, and the frame that it sends, are those of its next deed
+pub record AnswersTick (old : MultiView) (done : List Did) (frames : List (List ℕ)) : Type 0 where
+  pub dids : (settings : List MasterSettings) (app : AppView) (calls : List Call) → StandsFor settings app old calls
+      → done ≡ map (λ c. (next_deed move.Tick c).did) (meant settings app calls).connections
+  pub sent : (settings : List MasterSettings) (app : AppView) (calls : List Call) → StandsFor settings app old calls
+      → frames ≡ map (λ c. (next_deed move.Tick c).sent) (meant settings app calls).connections
+
+-- what is shown of a connection is this word of it
+pub record ShowsAt {X : Type 0} (v : MultiView) (link : ℕ) (shown : X) (word : Connection → X) : Type 0 where
+  pub shows : (settings : List MasterSettings) (app : AppView) (calls : List Call) → StandsFor settings app v calls
+      → option_map word (connection link (meant settings app calls)) ≡ Some shown
+
+-- what is shown is this word of the application that runs
+pub record ShowsApp {X : Type 0} (v : MultiView) (shown : X) (word : AppView → X) : Type 0 where
+  pub shows : (settings : List MasterSettings) (app : AppView) (calls : List Call) → StandsFor settings app v calls
+      → shown ≡ word (meant settings app calls).app
+
+-- the connections are told whose offers the newest call changed
+pub record ShowsChanged (v : MultiView) (shown : List ℕ) : Type 0 where
+  pub shows : (settings : List MasterSettings) (app : AppView) (calls : List Call) → StandsFor settings app v calls
+      → shown ≡ changed settings app calls

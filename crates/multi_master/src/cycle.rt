@@ -1,0 +1,70 @@
+//! All masters tick, and the answers of a cycle are put.
+ghost use Rattle.std.specs.Prelude.{◌≡◌, ◌≤◌, false, length, map, All};
+ghost use Rattle.master_core.specs.Now.{is_due};
+ghost use Rattle.multi_master.specs.Puts.{own_len, PutsAnswer, PutsEach, IsTickStep, TicksEach};
+
+use crate::making::MOST_LINKS;
+use arrayvec::ArrayVec;
+use fsoe_base::{Did, FrameBuf, Image};
+use master_core::Master;
+
+/// Puts an answer as the offer of a master where it isn't the offer already, and tells whether it wasn't.
+fn put_answer(master: &mut Master, answer: &[u8]) -> bool
+    requires { length answer.now ≡ own_len master.old }
+    ensures { PutsAnswer master.old answer.now master.new result }
+{
+    if master.offer() == answer {
+        return false;
+    }
+    master.put(answer);
+    true
+}
+
+/// Puts each answer as the offer of its master where it isn't the offer already, and lists the connections where it wasn't.
+pub(crate) fn put_answers(
+    masters: &mut [Master],
+    answers: &[Image],
+    changed: &mut ArrayVec<u16, MOST_LINKS>,
+)
+    requires fits { map length answers.now ≡ map own_len masters.old }
+    requires most { length masters.old ≤ MOST_LINKS }
+    ensures puts { PutsEach masters.old answers.now masters.new changed.new.items }
+{
+    changed.clear();
+    for i in 0..masters.len() {
+        if put_answer(&mut masters[i], answers[i].bytes()) {
+            changed.push(i as u16 + 1);
+        }
+    }
+}
+
+/// Counts a tick at a master, and reads its outputs where its session ended.
+fn tick_one(master: &mut Master, input: &mut Image, out: &mut FrameBuf) -> Did
+    requires { is_due master.old.state ≡ false }
+    ensures { IsTickStep (record { old = master.old; new = master.new; did = result; sent = out.new; before = input.old; after = input.new }) }
+{
+    let did = master.tick(out);
+    if did.reset.is_some() {
+        input.set(master.outputs());
+    }
+    did
+}
+
+/// Counts a tick at each master: what it did and the frame that it sent, empty where it sent none, are written to its places. Its
+/// outputs are read where its session ended, since a tick changes none else.
+pub(crate) fn tick_all(
+    masters: &mut [Master],
+    inputs: &mut [Image],
+    outs: &mut [FrameBuf],
+    dids: &mut [Did],
+)
+    requires rest { All (λ m. is_due m.state ≡ false) masters.old }
+    requires inputs { length inputs.old ≡ length masters.old }
+    requires outs { length outs.old ≡ length masters.old }
+    requires dids { length dids.old ≡ length masters.old }
+    ensures ticks { TicksEach masters.old inputs.old masters.new inputs.new dids.new outs.new }
+{
+    for i in 0..masters.len() {
+        dids[i] = tick_one(&mut masters[i], &mut inputs[i], &mut outs[i]);
+    }
+}

@@ -1,0 +1,219 @@
+//! A master of many connections.
+ghost use Rattle.std.specs.Prelude.{◌≡◌, ◌≤◌, ◌-◌, [], length, slice_get, option_copied, IfOk, IfErr, IfSome, IsErrAnd, None, Some, IsTrue};
+ghost use Rattle.std.specs.Result.{result_err};
+ghost use Rattle.param_load.specs.Profile.{allows_id};
+ghost use Rattle.end_model.specs.Readiness as model;
+ghost use Rattle.multi_master.specs.declared.fault.NewFault.TheVariants as fault;
+
+use crate::cycle::{put_answers, tick_all};
+use crate::fault::NewFault;
+use crate::making::{MOST_LINKS, answers_of, first_fault, inputs_of, masters_of};
+use arrayvec::ArrayVec;
+use failsafe_io::{Application, Bit};
+use fsoe_base::{Did, FrameBuf, Image, State};
+use master_core::Master;
+use param_load::{MasterSettings, Terms};
+use std::marker::Model;
+
+/// The master of up to 64 connections. The application decides the offers of all of them from the outputs of all, in one
+/// cycle at a time; what comes for one connection changes no other in any other way. No call but `new` takes memory.
+#[derive(Drop)]
+pub struct MultiMaster<A: Application> {
+    masters: Vec<Master>,
+    app: A,
+    /// The outputs of each master, as a cycle reads them: one is written where they changed, and stays for later cycles.
+    inputs: Vec<Image>,
+    /// Where the application writes its answers.
+    answers: Vec<Image>,
+    /// The connections whose offers the last call changed.
+    changed: ArrayVec<u16, MOST_LINKS>,
+}
+
+impl<A: Application> Model for MultiMaster<A> {
+    ghost use Rattle.multi_master.specs.Standing.{MultiValue, IsMulti};
+
+    ghost Value = { MultiValue A };
+
+    ghost view = { λ m. record {
+        masters = m.masters.items;
+        app = m.app;
+        inputs = m.inputs.items;
+        changed = m.changed.items;
+    } };
+
+    ghost invariant = { λ m. IsMulti m.masters.items m.inputs.items m.answers.items };
+}
+
+impl<A: Application> MultiMaster<A> {
+    ghost use Rattle.multi_master.specs.Connection.{setup, outputs_at, offer_at};
+    ghost use Rattle.multi_master.specs.Calls.{Deliver, Tick, Nonce, ChangeApp};
+    ghost use Rattle.multi_master.specs.New.{first_fault};
+    ghost use Rattle.multi_master.specs.Standing.{app_view, seen, links, HasLink, StandsFor, Follows, Offers, AnswersFrame, AnswersTick, ShowsAt, ShowsApp, ShowsChanged, settings_of};
+
+    /// The masters of connections with these settings, in this order, each in state Reset, and this application. No cycle is
+    /// run: the offers are zeros until the first one. There may be no connection at all. Refused are more than 64 connections; then
+    /// two with the same connection id, with the first two places of one; then want of memory. Settings and application are dropped
+    /// then.
+    pub fn new(settings: Vec<MasterSettings>, app: A) -> Result<MultiMaster<A>, NewFault>
+        ensures refused { IfSome (first_fault settings.items) (λ found. result_err result ≡ Some found) }
+        ensures memory_alone { IfErr result (λ found. first_fault settings.items ≡ None → found ≡ fault.Memory) }
+        ensures stands { IfOk result (λ m. StandsFor settings.items (app_view A.rule A.holds A.guards app) (seen A.rule A.holds A.guards m) []) }
+        ensures settings { IfOk result (λ m. settings_of m ≡ settings.items) }
+    {
+        if let Some(found) = first_fault(settings.as_slice()) {
+            return Err(found);
+        }
+        let alloc = *settings.allocator();
+        let masters = masters_of(settings)?;
+        let inputs = inputs_of(alloc, masters.as_slice())?;
+        let answers = answers_of(alloc, masters.as_slice())?;
+        Ok(MultiMaster {
+            masters,
+            app,
+            inputs,
+            answers,
+            changed: ArrayVec::new(),
+        })
+    }
+
+    /// A frame of the slave of this connection, of any number of bytes. Where it is taken, or ends the session, the application has a
+    /// cycle over all outputs with this frame, which isn't ticked, and its answers are the offers of all connections before the
+    /// frame that is due is written to `out`; so it carries the connection's new offer where it carries process data. A dropped frame
+    /// changes nothing, and `out` is empty.
+    pub fn deliver(&mut self, link: u16, frame: &[u8], out: &mut FrameBuf) -> Did
+        requires { HasLink self.old link }
+        ensures follows { let seen = seen A.rule A.holds A.guards in Follows (seen self.old) (Deliver link frame.now) (seen self.new) }
+        ensures offers { Offers (seen A.rule A.holds A.guards self.old) (Deliver link frame.now) }
+        ensures answers { AnswersFrame (seen A.rule A.holds A.guards self.old) link frame.now result out.new }
+        ensures settings { settings_of self.new ≡ settings_of self.old }
+    {
+        let place = usize::from(link) - 1;
+        let mut did = self.masters[place].accept(frame);
+        if !self.masters[place].due() {
+            self.changed.clear();
+            out.clear();
+            return did;
+        }
+        self.inputs[place].set(self.masters[place].outputs());
+        self.app
+            .cycle(false, self.inputs.as_slice(), self.answers.as_mut_slice());
+        put_answers(
+            self.masters.as_mut_slice(),
+            self.answers.as_slice(),
+            &mut self.changed,
+        );
+        self.masters[place].reply(out);
+        did.sent = true;
+        did
+    }
+
+    /// Counts a tick at each connection, in their order, and writes what each did to its place in `dids`, and the frame that it sent
+    /// to its place in `outs`, empty where it sent none. Then the application has one cycle, which is ticked, and its answers are the
+    /// offers of all connections. Both have a place for each connection.
+    pub fn tick(&mut self, outs: &mut [FrameBuf], dids: &mut [Did])
+        requires outs { length outs.old ≡ links self.old }
+        requires dids { length dids.old ≡ links self.old }
+        ensures follows { let seen = seen A.rule A.holds A.guards in Follows (seen self.old) Tick (seen self.new) }
+        ensures offers { Offers (seen A.rule A.holds A.guards self.old) Tick }
+        ensures answers { AnswersTick (seen A.rule A.holds A.guards self.old) dids.new outs.new }
+        ensures settings { settings_of self.new ≡ settings_of self.old }
+    {
+        tick_all(
+            self.masters.as_mut_slice(),
+            self.inputs.as_mut_slice(),
+            outs,
+            dids,
+        );
+        self.app
+            .cycle(true, self.inputs.as_slice(), self.answers.as_mut_slice());
+        put_answers(
+            self.masters.as_mut_slice(),
+            self.answers.as_slice(),
+            &mut self.changed,
+        );
+    }
+
+    /// Drops the application that runs, and has this one in its place. It has a first cycle, which isn't ticked, and its answers are
+    /// the offers of all connections; between both no offer of the old one is left, and no frame is made.
+    pub fn change_app(&mut self, app: A)
+        ensures follows { let seen = seen A.rule A.holds A.guards in Follows (seen self.old) (ChangeApp (app_view A.rule A.holds A.guards app)) (seen self.new) }
+        ensures offers { Offers (seen A.rule A.holds A.guards self.old) (ChangeApp (app_view A.rule A.holds A.guards app)) }
+        ensures settings { settings_of self.new ≡ settings_of self.old }
+    {
+        self.app = app;
+        self.app
+            .cycle(false, self.inputs.as_slice(), self.answers.as_mut_slice());
+        put_answers(
+            self.masters.as_mut_slice(),
+            self.answers.as_slice(),
+            &mut self.changed,
+        );
+    }
+
+    /// The session id of the sessions of this connection that begin from now on. At most 65,535 in profile One.
+    pub fn nonce(&mut self, link: u16, id: u32)
+        requires link { HasLink self.old link }
+        requires allowed { IfSome (slice_get (settings_of self.old) (link - 1)) (λ s. IsTrue (allows_id s.profile id)) }
+        ensures follows { let seen = seen A.rule A.holds A.guards in Follows (seen self.old) (Nonce link id) (seen self.new) }
+        ensures settings { settings_of self.new ≡ settings_of self.old }
+    {
+        self.changed.clear();
+        self.masters[usize::from(link) - 1].nonce(id);
+    }
+
+    /// The number of connections, which are numbered from 1.
+    pub fn links(&self) -> u16
+        ensures { result ≡ links self.now }
+    {
+        self.masters.len() as u16
+    }
+
+    /// The state of the master of this connection.
+    pub fn state(&self, link: u16) -> State
+        requires { HasLink self.now link }
+        ensures { ShowsAt (seen A.rule A.holds A.guards self.now) link result (λ c. model.state_of (setup c) c.deeds) }
+    {
+        self.masters[usize::from(link) - 1].state()
+    }
+
+    /// The outputs of the master of this connection, which are the application's inputs: as many bytes as its slave's frames have,
+    /// and zeros in every state but Data.
+    pub fn outputs(&self, link: u16) -> &[u8]
+        requires { HasLink self.now link }
+        ensures { ShowsAt (seen A.rule A.holds A.guards self.now) link result.now outputs_at }
+    {
+        self.masters[usize::from(link) - 1].outputs()
+    }
+
+    /// The terms of this connection's session, exactly in state Data.
+    pub fn terms(&self, link: u16) -> Option<&Terms>
+        requires { HasLink self.now link }
+        ensures { ShowsAt (seen A.rule A.holds A.guards self.now) link (option_copied result) (λ c. model.told_terms (setup c) c.deeds) }
+    {
+        self.masters[usize::from(link) - 1].terms()
+    }
+
+    /// The safe data that this connection's next data frame carries, as many bytes as its master's frames have: what the application
+    /// answered last, and zeros before the first cycle.
+    pub fn offer(&self, link: u16) -> &[u8]
+        requires { HasLink self.now link }
+        ensures { ShowsAt (seen A.rule A.holds A.guards self.now) link result.now offer_at }
+    {
+        self.masters[usize::from(link) - 1].offer()
+    }
+
+    /// The connections whose offers the last call changed, in their order, by their numbers: those to which its cycle put another
+    /// offer. None after a call that ran no cycle.
+    pub fn changed(&self) -> &[u16]
+        ensures { ShowsChanged (seen A.rule A.holds A.guards self.now) result.now }
+    {
+        self.changed.as_slice()
+    }
+
+    /// What `guards` of the application that runs says.
+    pub fn guards(&self, out: Bit, inp: Bit) -> bool
+        ensures { ShowsApp (seen A.rule A.holds A.guards self.now) result (λ app. app.guards out inp) }
+    {
+        self.app.guards(out, inp)
+    }
+}
