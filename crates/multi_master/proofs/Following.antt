@@ -10,7 +10,7 @@ use Rattle.end_model.specs.Deed.{Deed}
 use Rattle.master_core.specs.MasterView.{MasterView}
 use Rattle.multi_master.specs.Connection.{Connection, setup, next_deed, with_event, outputs_at, offer_at, offer_len, with_offers}
 use Rattle.multi_master.specs.Calls.{AppView, Call, Deliver, Tick, Nonce, ChangeApp, Meant, connection, replaced, event_at, all_tick, answer, is_heard, cycle_in, with_cycle, after, meant, changed_from, changed}
-use Rattle.multi_master.specs.Puts.{own_len, PutsEach, TicksEach}
+use Rattle.multi_master.specs.Puts.{own_len, PutsEach, Cycles, RunsCycle, TicksEach}
 use Rattle.multi_master.specs.Standing.{MultiView, IsWhere, StandsFor, Follows, Offers, AnswersTick}
 use Rattle.multi_master.proofs.Putting.{puts_where, all_shown, offers_put, all_outputs_put, puts_told}
 use Rattle.multi_master.proofs.Ticking.{ticks_where, ticks_read, ticks_did, ticks_sent, told_ticked}
@@ -22,20 +22,14 @@ own_lens [] (m ∷ ms) h = absurd h
 own_lens (c ∷ cs) [] h = absurd h
 own_lens (c ∷ cs) (m ∷ ms) h = ap₂ (λ (n : ℕ) (ns : List ℕ). n ∷ ns) (ap own_len h.0.is) (own_lens cs ms h.1)
 
--- what a cycle does: it answers by the rule of the application that runs, which then holds what its answer says
-pub record Cycles (old : AppView) (ticked : Bool) (inputs : List (List ℕ)) (lens : List ℕ) (answers : List (List ℕ)) (new : AppView) : Type 0 where
-  pub answers_are : answers ≡ (old.rule old.holds ticked inputs lens).outputs
-  pub app_is : new ≡ record old { holds = (old.rule old.holds ticked inputs lens).holds }
-
--- the answer of that cycle, by what is meant
-pub cycle_answers : (m : Meant) (old new : AppView) (ticked : Bool) (inputs : List (List ℕ)) (ms : List MasterView) (answers : List (List ℕ)) → old ≡ m.app → inputs ≡ map outputs_at m.connections
-    → AllZip IsWhere m.connections ms → Cycles old ticked inputs (map own_len ms) answers new
+-- the answer of a cycle, by what is meant
+pub cycle_answers : (m : Meant) (old new : AppView) (ticked : Bool) (inputs : List (List ℕ)) (lens : List ℕ) (answers : List (List ℕ)) → old ≡ m.app → inputs ≡ map outputs_at m.connections
+    → lens ≡ map offer_len m.connections → Cycles old ticked inputs lens answers new
     → (answers ≡ (answer ticked m).outputs) × (new ≡ record m.app { holds = (answer ticked m).holds })
-cycle_answers m old new ticked inputs ms answers a i w c =
-    let lens : map own_len ms ≡ map offer_len m.connections = own_lens m.connections ms w in
-    let same : old.rule old.holds ticked inputs (map own_len ms) ≡ answer ticked m =
-        ap (λ (app : AppView). app.rule app.holds ticked inputs (map own_len ms)) a
-        ∙ ap₂ (λ (xs : List (List ℕ)) (ns : List ℕ). m.app.rule m.app.holds ticked xs ns) i lens
+cycle_answers m old new ticked inputs lens answers a i n c =
+    let same : old.rule old.holds ticked inputs lens ≡ answer ticked m =
+        ap (λ (app : AppView). app.rule app.holds ticked inputs lens) a
+        ∙ ap₂ (λ (xs : List (List ℕ)) (ns : List ℕ). m.app.rule m.app.holds ticked xs ns) i n
     in
     (c.answers_are ∙ ap (λ (x : Answer). x.outputs) same,
      c.app_is ∙ ap₂ (λ (app : AppView) (x : Answer). record app { holds = x.holds }) a same)
@@ -48,12 +42,13 @@ pub record CycleDone (m : Meant) (ticked : Bool) (masters : List MasterView) (ap
   pub told_are : told ≡ changed_from 1 m.connections (with_cycle (Some (answer ticked m)) m).connections
   pub offers_are : map offer_at (with_cycle (Some (answer ticked m)) m).connections ≡ (answer ticked m).outputs
 
-pub cycle_done : (m : Meant) (old new : AppView) (ticked : Bool) (inputs : List (List ℕ)) (middle masters : List MasterView) (answers : List (List ℕ)) (told : List ℕ) → old ≡ m.app
-    → inputs ≡ map outputs_at m.connections → AllZip IsWhere m.connections middle → Cycles old ticked inputs (map own_len middle) answers new → PutsEach middle answers masters told
+pub cycle_done : (m : Meant) (old new : AppView) (ticked : Bool) (inputs : List (List ℕ)) (middle masters : List MasterView) (told : List ℕ) → old ≡ m.app
+    → inputs ≡ map outputs_at m.connections → AllZip IsWhere m.connections middle → RunsCycle old ticked inputs middle new masters told
     → CycleDone m ticked masters new inputs told
-cycle_done m old new ticked inputs middle masters answers told a i w c p =
+cycle_done m old new ticked inputs middle masters told a i w r =
+    let p : PutsEach middle r.answers masters told = r.puts in
     let at : AllZip IsWhere m.connections (map (λ x. x.old) p.steps) = subst (λ (ms : List MasterView). AllZip IsWhere m.connections ms) (sym p.old_are) w in
-    let both = cycle_answers m old new ticked inputs middle answers a i w c in
+    let both = cycle_answers m old new ticked inputs (map own_len middle) r.answers a i (own_lens m.connections middle w) r.cycle in
     let load : map (λ x. x.answer) p.steps ≡ (answer ticked m).outputs = p.answers_are ∙ both.0 in
     let shown = all_shown m.connections p.steps at p.each in
     record {
@@ -69,10 +64,8 @@ cycle_done m old new ticked inputs middle masters answers told a i w c p =
 -- a tick of all connections
 pub record Ticks (old new : MultiView) (dids : List Did) (frames : List (List ℕ)) : Type 0 where
   pub middle : List MasterView
-  pub answers : List (List ℕ)
   pub ticks : TicksEach old.masters old.inputs middle new.inputs dids frames
-  pub cycle : Cycles old.app true new.inputs (map own_len middle) answers new.app
-  pub puts : PutsEach middle answers new.masters new.changed
+  pub cycle : RunsCycle old.app true new.inputs middle new.app new.masters new.changed
 
 ticked-at : (settings : List MasterSettings) (app : AppView) (old new : MultiView) (dids : List Did) (frames : List (List ℕ)) (calls : List Call) → StandsFor settings app old calls
     → (t : Ticks old new dids frames) → AllZip IsWhere (meant settings app calls).connections (map (λ x. x.old) t.ticks.steps)
@@ -83,10 +76,10 @@ tick-done : (settings : List MasterSettings) (app : AppView) (old new : MultiVie
 tick-done settings app old new dids frames calls h t =
     let m : Meant = meant settings app calls in
     let at = ticked-at settings app old new dids frames calls h t in
-    cycle_done (all_tick m) old.app new.app true new.inputs t.middle new.masters t.answers new.changed h.app_is
+    cycle_done (all_tick m) old.app new.app true new.inputs t.middle new.masters new.changed h.app_is
     (sym t.ticks.after_are ∙ ticks_read m.connections t.ticks.steps at t.ticks.each (t.ticks.before_are ∙ h.inputs_are))
     (subst (λ (ms : List MasterView). AllZip IsWhere (all_tick m).connections ms) t.ticks.new_are (ticks_where m.connections t.ticks.steps at t.ticks.each))
-    t.cycle t.puts
+    t.cycle
 
 pub tick_follows : (old new : MultiView) (dids : List Did) (frames : List (List ℕ)) → Ticks old new dids frames → Follows old Tick new
 tick_follows old new dids frames t = record {
@@ -113,15 +106,13 @@ tick_answers old new dids frames t = record {
 
 -- another application runs
 pub record Changes (old : MultiView) (app : AppView) (new : MultiView) : Type 0 where
-  pub answers : List (List ℕ)
-  pub cycle : Cycles app false old.inputs (map own_len old.masters) answers new.app
+  pub cycle : RunsCycle app false old.inputs old.masters new.app new.masters new.changed
   pub inputs_are : new.inputs ≡ old.inputs
-  pub puts : PutsEach old.masters answers new.masters new.changed
 
 change-done : (settings : List MasterSettings) (first app : AppView) (old new : MultiView) (calls : List Call) → StandsFor settings first old calls → Changes old app new
     → CycleDone (record (meant settings first calls) { app = app }) false new.masters new.app old.inputs new.changed
 change-done settings first app old new calls h t =
-    cycle_done (record (meant settings first calls) { app = app }) app new.app false old.inputs old.masters new.masters t.answers new.changed refl h.inputs_are h.masters t.cycle t.puts
+    cycle_done (record (meant settings first calls) { app = app }) app new.app false old.inputs old.masters new.masters new.changed refl h.inputs_are h.masters t.cycle
 
 pub change_follows : (old new : MultiView) (app : AppView) → Changes old app new → Follows old (ChangeApp app) new
 change_follows old new app t = record {
@@ -132,3 +123,25 @@ change_follows old new app t = record {
 
 pub change_offers : (old new : MultiView) (app : AppView) → Changes old app new → Offers old (ChangeApp app)
 change_offers old new app t = record { offers = λ settings first calls h. (change-done settings first app old new calls h t).offers_are }
+
+-- a cycle over lists that are the same
+pub runs_alike : (old new : AppView) (ticked : Bool) (inputs inputs' : List (List ℕ)) (before before' put put' : List MasterView) (told : List ℕ) → RunsCycle old ticked inputs before new put told
+    → inputs ≡ inputs' → before ≡ before' → put ≡ put' → RunsCycle old ticked inputs' before' new put' told
+runs_alike old new ticked inputs inputs' before before' put put' told r i b p =
+    subst (λ (x : List MasterView). RunsCycle old ticked inputs' before' new x told) p
+    (subst (λ (x : List MasterView). RunsCycle old ticked inputs' x new put told) b
+    (subst (λ (x : List (List ℕ)). RunsCycle old ticked x before new put told) i r))
+
+-- ticks over lists that are the same
+pub ticks_alike : (old old' : List MasterView) (inputs inputs' : List (List ℕ)) (new new' : List MasterView) (read read' : List (List ℕ)) (dids : List Did) (sent : List (List ℕ))
+    → TicksEach old inputs new read dids sent → old ≡ old' → inputs ≡ inputs' → new ≡ new' → read ≡ read' → TicksEach old' inputs' new' read' dids sent
+ticks_alike old old' inputs inputs' new new' read read' dids sent t o i n r = record {
+  steps = t.steps;
+  each = t.each;
+  old_are = t.old_are ∙ o;
+  new_are = t.new_are ∙ n;
+  dids_are = t.dids_are;
+  sent_are = t.sent_are;
+  before_are = t.before_are ∙ i;
+  after_are = t.after_are ∙ r;
+}

@@ -1,5 +1,5 @@
 -- A frame that is taken, or ends a session, among many masters: the answers are put while its master's frame is due.
-use Rattle.std.proofs.Common.{◌≡◌, ℕ, zero, suc, List, [], ◌∷◌, map, slice_get, slice_set, Option, Some, None, All, true, refl, sym, ap, subst, ◌∙◌}
+use Rattle.std.proofs.Common.{◌≡◌, ℕ, zero, suc, List, [], ◌∷◌, map, slice_get, slice_set, Option, Some, None, All, Bool, true, false, if◌then◌else◌, refl, sym, ap, subst, ◌∙◌}
 use Rattle.std.specs.List.{AllZip}
 use Rattle.std.proofs.lemmas.List.Elements.{All-head, All-tail}
 use Rattle.fsoe_base.specs.declared.did.Did.{Did}
@@ -8,24 +8,30 @@ use Rattle.end_model.specs.Deed.{Deed}
 use Rattle.master_core.specs.MasterView.{MasterView}
 use Rattle.master_core.specs.Now.{is_due}
 use Rattle.master_core.specs.Waiting.{Waits, Replies, its_deed}
-use Rattle.multi_master.specs.Connection.{Connection, next_deed, with_event, outputs_at, offer_at, with_offer, with_offers}
+use Rattle.multi_master.specs.Connection.{Connection, next_deed, with_event, outputs_at, offer_at, is_offer, with_offer, with_offers}
 use Rattle.multi_master.specs.Puts.{PutStep, IsPutStep}
 use Rattle.multi_master.specs.Standing.{IsWhere}
-use Rattle.multi_master.proofs.Putting.{IsShown, delivery_at, shown_due, put_due, puts_where, all_shown, put_at_rest, shown_at_rest}
+use Rattle.multi_master.proofs.Putting.{IsShown, delivery_at, shown_due, put_due, puts_where, all_shown, put_at_rest, shown_at_rest, outputs_put}
 
 -- the connection at a place, with the answer that was put there, replied: all masters are where their deeds leave them
-pub record Replied (cs : List Connection) (steps : List PutStep) (k : ℕ) (bytes : List ℕ) (did : Did) (ready last : MasterView) (frame : List ℕ) : Type 0 where
+pub record Replied (cs : List Connection) (steps : List PutStep) (k : ℕ) (bytes : List ℕ) (did : Did) (c : Connection) (ready last : MasterView) (frame : List ℕ) : Type 0 where
   pub there : Connection
   pub is : slice_get (with_offers (map (λ x. x.answer) steps) cs) k ≡ Some there
   pub masters : AllZip IsWhere (slice_set (with_offers (map (λ x. x.answer) steps) cs) k (with_event (move.Deliver bytes) there)) (slice_set (map (λ x. x.new) steps) k last)
   pub shown : AllZip IsShown cs steps
+  pub settings_are : there.settings ≡ c.settings
+  pub outputs_are : outputs_at there ≡ outputs_at c
   pub did_is : (next_deed (move.Deliver bytes) there).did ≡ record did { sent = is_due ready.state }
   pub sent_is : frame ≡ (next_deed (move.Deliver bytes) there).sent
+
+settings_put : (c : Connection) (load : List ℕ) (b : Bool) → (if b then c else with_event (move.Put load) c).settings ≡ c.settings
+settings_put c load true = refl
+settings_put c load false = refl
 
 pub replied : (cs : List Connection) (olds : List MasterView) (steps : List PutStep) (k : ℕ) (c : Connection) (accepted ready last : MasterView) (bytes frame : List ℕ) (did : Did)
     → AllZip IsWhere cs olds → slice_get cs k ≡ Some c → map (λ x. x.old) steps ≡ slice_set olds k accepted → All IsPutStep steps
     → Waits accepted (delivery_at c bytes did) → slice_get (map (λ x. x.new) steps) k ≡ Some ready → Replies ready last frame
-    → Replied cs steps k bytes did ready last frame
+    → Replied cs steps k bytes did c ready last frame
 replied [] olds steps k c accepted ready last bytes frame did h g e s w n r = absurd (cc g)
 replied (c0 ∷ cs) [] steps k c accepted ready last bytes frame did h g e s w n r = absurd h
 replied (c0 ∷ cs) (m ∷ olds) [] zero c accepted ready last bytes frame did h g e s w n r = absurd (cc e)
@@ -45,6 +51,8 @@ replied (c0 ∷ cs) (m ∷ olds) (x ∷ xs) zero c accepted ready last bytes fra
       is = refl;
       masters = (r.is_after (delivery_at (with_offer x.answer c0) bytes did) put, puts_where cs xs others (All-tail IsPutStep x xs s));
       shown = (shown_due c0 bytes did x waits one, all_shown cs xs others (All-tail IsPutStep x xs s));
+      settings_are = settings_put c0 x.answer (is_offer x.answer c0) ∙ ap (λ d. d.settings) (sym same);
+      outputs_are = outputs_put c0 x.answer ∙ ap outputs_at (sym same);
       did_is = r.did (delivery_at (with_offer x.answer c0) bytes did) put;
       sent_is = r.sent (delivery_at (with_offer x.answer c0) bytes did) put;
     }
@@ -59,6 +67,8 @@ replied (c0 ∷ cs) (m ∷ olds) (x ∷ xs) (suc k) c accepted ready last bytes 
       is = p.is;
       masters = (put_at_rest c0 x at one, p.masters);
       shown = (shown_at_rest c0 x at one, p.shown);
+      settings_are = p.settings_are;
+      outputs_are = p.outputs_are;
       did_is = p.did_is;
       sent_is = p.sent_is;
     }

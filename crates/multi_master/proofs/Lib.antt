@@ -1,7 +1,10 @@
 pub mod Places
+pub mod Delivering
 pub mod Following
 pub mod Hearing
+pub mod Keeping
 pub mod Looping
 pub mod Putting
+pub mod Reading
 pub mod Ticking
 pub mod Quiet

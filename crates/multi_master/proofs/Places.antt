@@ -1,5 +1,5 @@
 -- Two lists side by side, at a place.
-use Rattle.std.proofs.Common.{◌≡◌, ℕ, zero, suc, ◌<◌, List, [], ◌∷◌, map, length, slice_get, slice_set, Option, Some, None, nat_eq, true, refl, sym, ap, subst, ◌∙◌, arith}
+use Rattle.std.proofs.Common.{◌≡◌, ℕ, zero, suc, ◌<◌, List, [], ◌∷◌, map, length, slice_get, slice_set, slice_index_or, Option, Some, None, nat_eq, true, refl, sym, ap, subst, ◌∙◌, arith}
 use Rattle.std.specs.Cmp.Lexicographic.{pointwise}
 use Rattle.std.specs.List.{AllZip}
 use Rattle.std.proofs.lemmas.Cmp.{nat_list_eq_equiv}
@@ -73,3 +73,9 @@ set_before (a ∷ xs) zero zero y h = absurd (omega arith)
 set_before (a ∷ xs) zero (suc k) y h = refl
 set_before (a ∷ xs) (suc i) zero y h = absurd (omega arith)
 set_before (a ∷ xs) (suc i) (suc k) y h = set_before xs i k y (omega arith)
+
+-- what was set at a place is read there
+pub read_back : {A : Type 0} (xs : List A) (k : ℕ) (y r : A) → k < length xs → r ≡ slice_index_or (slice_set xs k y) k r → r ≡ y
+read_back [] k y r h e = absurd (omega arith)
+read_back (a ∷ xs) zero y r h e = e
+read_back (a ∷ xs) (suc k) y r h e = read_back xs k y r (omega arith) e

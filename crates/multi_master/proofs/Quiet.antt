@@ -1,5 +1,5 @@
 -- Events that leave offers and outputs as they are.
-use Rattle.std.proofs.Common.{◌≡◌, ◌≢◌, ℕ, zero, suc, List, [], ◌∷◌, map, slice_get, slice_set, Option, Some, None, is_some, Bool, true, false, ◌||◌, if◌then◌else◌, nat_eq, refl, sym, ap, subst, ◌∙◌}
+use Rattle.std.proofs.Common.{◌≡◌, ◌≢◌, ℕ, zero, suc, List, [], ◌∷◌, map, slice_get, slice_set, Option, Some, None, is_some, Bool, true, false, ◌||◌, if◌then◌else◌, nat_eq, refl, sym, ap, ap₂, subst, ◌∙◌}
 use Rattle.std.specs.Cmp.Lexicographic.{pointwise}
 use Rattle.fsoe_base.specs.declared.command.State.TheVariants as state
 use Rattle.fsoe_base.specs.declared.did.Cause.{Cause}
@@ -7,11 +7,12 @@ use Rattle.fsoe_base.specs.declared.did.Did.{Did}
 use Rattle.fsoe_base.specs.declared.did.Took.{Took}
 use Rattle.param_load.specs.declared.entry.Move.{Move}
 use Rattle.param_load.specs.declared.entry.Move.TheVariants as move
-use Rattle.end_model.specs.Setup.{Setup}
+use Rattle.param_load.specs.declared.master_settings.MasterSettings.{MasterSettings}
+use Rattle.end_model.specs.Setup.{Setup, OfMaster}
 use Rattle.end_model.specs.Deed.{Deed}
 use Rattle.end_model.specs.Outputs.{outputs, out, zeros, held_up, out_after}
 use Rattle.end_model.specs.Readiness.{state_of}
-use Rattle.end_model.specs.Reactions.{Reaction, Rests, Ages, Expires, SendsAgain}
+use Rattle.end_model.specs.Reactions.{Reaction, Rests, Ages, Expires, SendsAgain, ResetsItself, Refuses, PeerResets, Answers}
 use Rattle.end_model.specs.Step.{step, IsRun}
 use Rattle.end_model.proofs.Runs.{deed}
 use Rattle.end_model.proofs.Shown.{looking_back, fail_safe}
@@ -53,6 +54,48 @@ quiet_frame s e bytes h =
     let x : Deed = step s e (move.Deliver bytes) in
     quiet-parts s e x 0 x.did.took x.did.reset (out_after s 0 e) h
 
+-- it sends nothing
+abbrev IsDelivery : Move → Type 0
+IsDelivery (move.Deliver bytes) = Unit {0}
+IsDelivery _ = ⊥
+
+quiet-sent : (s : Setup) (e : List Deed) (m : Move) (d : Did) (f : List ℕ) → IsDelivery m → tells_due d ≡ false → Reaction s e m d f → deed m d f ≡ deed m (record d { sent = false }) []
+quiet-sent s e m d f k h (Refuses bytes passed found now told fails) = absurd (cc h)
+quiet-sent s e m d f k h (PeerResets bytes load now frame) = absurd (cc h)
+quiet-sent s e m d f k h (Answers bytes load c answer taking) = absurd (cc h)
+quiet-sent s e m d f k h (Expires now old) = absurd k
+quiet-sent s e m d f k h (SendsAgain master now old) = absurd k
+quiet-sent s e m d f k h ResetsItself = absurd k
+quiet-sent s e m d f k h _ = refl
+
+pub quiet_deed : (s : Setup) (e : List Deed) (bytes : List ℕ) → IsRun s e → tells_due (step s e (move.Deliver bytes)).did ≡ false
+    → step s e (move.Deliver bytes) ≡ deed (move.Deliver bytes) (record (step s e (move.Deliver bytes)).did { sent = false }) []
+quiet_deed s e bytes r h =
+    let x : Deed = step s e (move.Deliver bytes) in
+    quiet-sent s e (move.Deliver bytes) x.did x.sent tt h (reacts s e (move.Deliver bytes) r tt)
+
+-- what a frame leaves as outputs goes by what was taken, whether the session ended, and the outputs before
+held-same : (ms : MasterSettings) (e f : List Deed) (took : Option Took) (before : List ℕ) → held_up (OfMaster ms) e 0 took before ≡ held_up (OfMaster ms) f 0 took before
+held-same ms e f None before = refl
+held-same ms e f (Some t) before = refl
+
+abbrev brought_by : MasterSettings → Option Took → Option Cause → List ℕ → List ℕ
+brought_by ms took reset before = if is_some reset then zeros (OfMaster ms) else held_up (OfMaster ms) [] 0 took before
+
+frame-brings : (c : Connection) (bytes : List ℕ) → outputs_at (with_event (move.Deliver bytes) c) ≡ brought_by c.settings (next_deed (move.Deliver bytes) c).did.took (next_deed (move.Deliver bytes) c).did.reset (outputs_at c)
+frame-brings c bytes =
+    let x : Deed = next_deed (move.Deliver bytes) c in
+    ap (λ (later : List ℕ). if is_some x.did.reset then zeros (setup c) else later) (held-same c.settings (x ∷ c.deeds) [] x.did.took (outputs_at c))
+
+pub same_outputs : (c d : Connection) (bytes : List ℕ) → d.settings ≡ c.settings → outputs_at d ≡ outputs_at c
+    → (next_deed (move.Deliver bytes) d).did.took ≡ (next_deed (move.Deliver bytes) c).did.took → (next_deed (move.Deliver bytes) d).did.reset ≡ (next_deed (move.Deliver bytes) c).did.reset
+    → outputs_at (with_event (move.Deliver bytes) d) ≡ outputs_at (with_event (move.Deliver bytes) c)
+same_outputs c d bytes s o t r =
+    frame-brings d bytes
+    ∙ ap₂ (λ (ms : MasterSettings) (before : List ℕ). brought_by ms (next_deed (move.Deliver bytes) d).did.took (next_deed (move.Deliver bytes) d).did.reset before) s o
+    ∙ ap₂ (λ (took : Option Took) (reset : Option Cause). brought_by c.settings took reset (outputs_at c)) t r
+    ∙ sym (frame-brings c bytes)
+
 -- where no offer is other, none is told
 pub none_told : (n : ℕ) (olds news : List Connection) → map offer_at news ≡ map offer_at olds → changed_from n olds news ≡ []
 none_told n [] [] h = refl
@@ -62,3 +105,16 @@ none_told n (c ∷ olds) (d ∷ news) h =
     let i : offer_at d ≡ offer_at c = cc in
     let j : map offer_at news ≡ map offer_at olds = cc in
     rw (i, same_bytes (offer_at c)) (none_told (suc n) olds news j)
+
+-- what is told goes by the offers
+pub told_set : (n : ℕ) (olds news : List Connection) (k : ℕ) (x y : Connection) → slice_get news k ≡ Some x → offer_at y ≡ offer_at x
+    → changed_from n olds (slice_set news k y) ≡ changed_from n olds news
+told_set n olds [] k x y h e = absurd (cc h)
+told_set n [] (d ∷ news) zero x y h e = refl
+told_set n [] (d ∷ news) (suc k) x y h e = refl
+told_set n (c ∷ olds) (d ∷ news) zero x y h e =
+    let i : d ≡ x = cc in
+    let j : offer_at y ≡ offer_at d = e ∙ ap offer_at (sym i) in
+    rw j refl
+told_set n (c ∷ olds) (d ∷ news) (suc k) x y h e =
+    ap (λ (later : List ℕ). if is_offer (offer_at d) c then later else n ∷ later) (told_set (suc n) olds news k x y h e)

@@ -1,4 +1,5 @@
--- How the answers of a cycle are put, master by master, and how all masters tick. A frame of a master may be due while answers are put.
+-- How a cycle is run and its answers are put, master by master, and how all masters tick. A frame of a master may be due while answers
+-- are put.
 use Rattle.std.specs.Prelude.{◌≡◌, ℕ, suc, nat_eq, Bool, true, false, not, List, [], ◌∷◌, map, replicate, All, Option, Some, None, if◌then◌else◌}
 use Rattle.std.specs.Cmp.Lexicographic.{pointwise}
 use Rattle.fsoe_base.specs.declared.did.Cause.{Cause}
@@ -11,10 +12,15 @@ use Rattle.master_core.specs.MasterView.{MasterView}
 use Rattle.master_core.specs.Now.{is_due}
 use Rattle.master_core.specs.Standing.{Follows, Answers, Shows}
 use Rattle.master_core.specs.Waiting.{Keeps, ShowsDue}
+use Rattle.multi_master.specs.Calls.{AppView}
 
 -- the safe data bytes of a master's frames
 abbrev pub own_len : MasterView → ℕ
 own_len m = sends (OfMaster m.kit.settings)
+
+-- whether a master's frame is due
+abbrev pub due_in : MasterView → Bool
+due_in m = is_due m.state
 
 -- the outputs of a new master
 abbrev pub first_input : MasterView → List ℕ
@@ -72,6 +78,17 @@ pub record PutsEach (old : List MasterView) (answers : List (List ℕ)) (new : L
   pub answers_are : map (λ x. x.answer) steps ≡ answers
   pub new_are : map (λ x. x.new) steps ≡ new
   pub changed_are : changed ≡ changed_steps 1 steps
+
+-- what a cycle does: the application that runs answers by its rule, and holds then what its answer says
+pub record Cycles (old : AppView) (ticked : Bool) (inputs : List (List ℕ)) (lens : List ℕ) (answers : List (List ℕ)) (new : AppView) : Type 0 where
+  pub answers_are : answers ≡ (old.rule old.holds ticked inputs lens).outputs
+  pub app_is : new ≡ record old { holds = (old.rule old.holds ticked inputs lens).holds }
+
+-- a cycle is run, and each of its answers is put
+pub record RunsCycle (old : AppView) (ticked : Bool) (inputs : List (List ℕ)) (before : List MasterView) (new : AppView) (put : List MasterView) (changed : List ℕ) : Type 0 where
+  pub answers : List (List ℕ)
+  pub cycle : Cycles old ticked inputs (map own_len before) answers new
+  pub puts : PutsEach before answers put changed
 
 -- a master that ticks, with its outputs as they are read before and after
 pub record TickStep : Type 0 where

@@ -8,10 +8,9 @@ use Rattle.param_load.specs.declared.entry.Move.TheVariants as move
 use Rattle.param_load.specs.declared.master_settings.MasterSettings.{MasterSettings}
 use Rattle.end_model.specs.Deed.{Deed}
 use Rattle.master_core.specs.MasterView.{MasterView}
-use Rattle.master_core.specs.Now.{is_due}
 use Rattle.master_core.specs.Standing.{MasterIsAfter}
 use Rattle.multi_master.specs.Connection.{Connection, next_deed, outputs_at, offer_at}
-use Rattle.multi_master.specs.Puts.{own_len}
+use Rattle.multi_master.specs.Puts.{own_len, due_in}
 use Rattle.multi_master.specs.Calls.{Rule, AppView, Call, Deliver, Tick, Meant, connection, cycle_in, meant, changed}
 
 -- what a master of many connections is, with an application of any type: the masters in the order of the connections, the application
@@ -41,9 +40,13 @@ seen rule holds guards v = record { masters = v.masters; app = app_view rule hol
 abbrev pub links : {A : Type 0} → MultiValue A → ℕ
 links v = length v.masters
 
+-- the settings of a master
+abbrev pub settings_in : MasterView → MasterSettings
+settings_in m = m.kit.settings
+
 -- the settings of each connection
 abbrev pub settings_of : {A : Type 0} → MultiValue A → List MasterSettings
-settings_of v = map (λ m. m.kit.settings) v.masters
+settings_of v = map settings_in v.masters
 
 -- there is a connection with this number
 pub record HasLink {A : Type 0} (v : MultiValue A) (link : ℕ) : Type 0 where
@@ -53,7 +56,7 @@ pub record HasLink {A : Type 0} (v : MultiValue A) (link : ℕ) : Type 0 where
 -- no frame of a master is due, there is an input for each connection and an answer of the length of its master's frames, and there are
 -- at most 64 connections
 pub record IsMulti (masters : List MasterView) (inputs answers : List (List ℕ)) : Type 0 where
-  pub rest : All (λ m. is_due m.state ≡ false) masters
+  pub rest : All (λ m. due_in m ≡ false) masters
   pub inputs_fit : length inputs ≡ length masters
   pub answers_fit : map length answers ≡ map own_len masters
   pub most : length masters ≤ 64

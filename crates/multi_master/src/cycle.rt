@@ -1,10 +1,12 @@
 //! All masters tick, and the answers of a cycle are put.
 ghost use Rattle.std.specs.Prelude.{◌≡◌, ◌≤◌, false, length, map, All};
 ghost use Rattle.master_core.specs.Now.{is_due};
-ghost use Rattle.multi_master.specs.Puts.{own_len, PutsAnswer, PutsEach, IsTickStep, TicksEach};
+ghost use Rattle.multi_master.specs.Standing.{app_view, settings_in};
+ghost use Rattle.multi_master.specs.Puts.{own_len, due_in, PutsAnswer, PutsEach, RunsCycle, IsTickStep, TicksEach};
 
 use crate::making::MOST_LINKS;
 use arrayvec::ArrayVec;
+use failsafe_io::Application;
 use fsoe_base::{Did, FrameBuf, Image};
 use master_core::Master;
 
@@ -21,7 +23,7 @@ fn put_answer(master: &mut Master, answer: &[u8]) -> bool
 }
 
 /// Puts each answer as the offer of its master where it isn't the offer already, and lists the connections where it wasn't.
-pub(crate) fn put_answers(
+fn put_answers(
     masters: &mut [Master],
     answers: &[Image],
     changed: &mut ArrayVec<u16, MOST_LINKS>,
@@ -36,6 +38,27 @@ pub(crate) fn put_answers(
             changed.push(i as u16 + 1);
         }
     }
+}
+
+/// Has the application run one cycle over the inputs, and puts its answers as the offers of the masters; the connections that have
+/// another offer then are listed.
+pub(crate) fn run_cycle<A: Application>(
+    app: &mut A,
+    ticked: bool,
+    inputs: &[Image],
+    answers: &mut [Image],
+    masters: &mut [Master],
+    changed: &mut ArrayVec<u16, MOST_LINKS>,
+)
+    requires fits { map length answers.old ≡ map own_len masters.old }
+    requires most { length masters.old ≤ MOST_LINKS }
+    ensures runs { let view = app_view A.rule A.holds A.guards in RunsCycle (view app.old) ticked inputs.now masters.old (view app.new) masters.new changed.new.items }
+    ensures fit { map length answers.new ≡ map own_len masters.new }
+    ensures settings { map settings_in masters.new ≡ map settings_in masters.old }
+    ensures due { map due_in masters.new ≡ map due_in masters.old }
+{
+    app.cycle(ticked, inputs, answers);
+    put_answers(masters, answers, changed);
 }
 
 /// Counts a tick at a master, and reads its outputs where its session ended.
@@ -58,11 +81,11 @@ pub(crate) fn tick_all(
     outs: &mut [FrameBuf],
     dids: &mut [Did],
 )
-    requires rest { All (λ m. is_due m.state ≡ false) masters.old }
+    requires rest { All (λ m. due_in m ≡ false) masters.old }
     requires inputs { length inputs.old ≡ length masters.old }
     requires outs { length outs.old ≡ length masters.old }
     requires dids { length dids.old ≡ length masters.old }
-    ensures ticks { TicksEach masters.old inputs.old masters.new inputs.new dids.new outs.new }
+    ensures { TicksEach masters.old inputs.old masters.new inputs.new dids.new outs.new }
 {
     for i in 0..masters.len() {
         dids[i] = tick_one(&mut masters[i], &mut inputs[i], &mut outs[i]);

@@ -5,7 +5,7 @@ ghost use Rattle.param_load.specs.Profile.{allows_id};
 ghost use Rattle.end_model.specs.Readiness as model;
 ghost use Rattle.multi_master.specs.declared.fault.NewFault.TheVariants as fault;
 
-use crate::cycle::{put_answers, tick_all};
+use crate::cycle::{run_cycle, tick_all};
 use crate::fault::NewFault;
 use crate::making::{MOST_LINKS, answers_of, first_fault, inputs_of, masters_of};
 use arrayvec::ArrayVec;
@@ -95,11 +95,12 @@ impl<A: Application> MultiMaster<A> {
             return did;
         }
         self.inputs[place].set(self.masters[place].outputs());
-        self.app
-            .cycle(false, self.inputs.as_slice(), self.answers.as_mut_slice());
-        put_answers(
+        run_cycle(
+            &mut self.app,
+            false,
+            self.inputs.as_slice(),
+            self.answers.as_mut_slice(),
             self.masters.as_mut_slice(),
-            self.answers.as_slice(),
             &mut self.changed,
         );
         self.masters[place].reply(out);
@@ -124,11 +125,12 @@ impl<A: Application> MultiMaster<A> {
             outs,
             dids,
         );
-        self.app
-            .cycle(true, self.inputs.as_slice(), self.answers.as_mut_slice());
-        put_answers(
+        run_cycle(
+            &mut self.app,
+            true,
+            self.inputs.as_slice(),
+            self.answers.as_mut_slice(),
             self.masters.as_mut_slice(),
-            self.answers.as_slice(),
             &mut self.changed,
         );
     }
@@ -141,11 +143,12 @@ impl<A: Application> MultiMaster<A> {
         ensures settings { settings_of self.new ≡ settings_of self.old }
     {
         self.app = app;
-        self.app
-            .cycle(false, self.inputs.as_slice(), self.answers.as_mut_slice());
-        put_answers(
+        run_cycle(
+            &mut self.app,
+            false,
+            self.inputs.as_slice(),
+            self.answers.as_mut_slice(),
             self.masters.as_mut_slice(),
-            self.answers.as_slice(),
             &mut self.changed,
         );
     }

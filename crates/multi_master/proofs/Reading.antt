@@ -1,0 +1,77 @@
+-- What is shown of one connection, and an event at one.
+use Rattle.std.proofs.Common.{◌≡◌, ◌≤◌, ◌<◌, ℕ, zero, suc, ◌-◌, List, [], ◌∷◌, map, length, slice_get, slice_set, Option, Some, None, option_map, Bool, true, false, All, if◌then◌else◌, refl, sym, ap, ap₂, subst, ◌∙◌, arith}
+use Rattle.std.specs.List.{AllZip}
+use Rattle.std.specs.Option.{option_map_or}
+use Rattle.fsoe_base.specs.declared.did.Did.{Did}
+use Rattle.param_load.specs.declared.entry.Move.{Move}
+use Rattle.param_load.specs.declared.entry.Move.TheVariants as move
+use Rattle.param_load.specs.declared.master_settings.MasterSettings.{MasterSettings}
+use Rattle.end_model.specs.Deed.{Deed}
+use Rattle.end_model.specs.Setup.{Setup}
+use Rattle.master_core.specs.MasterView.{MasterView}
+use Rattle.master_core.specs.Standing as core
+use Rattle.multi_master.specs.Connection.{Connection, setup, next_deed, with_event, outputs_at, offer_at}
+use Rattle.multi_master.specs.Calls.{AppView, Call, Deliver, Nonce, Meant, connection, replaced, event_at, after, meant, changed_from, changed}
+use Rattle.multi_master.specs.Standing.{MultiView, IsWhere, StandsFor, Follows, ShowsAt}
+use Rattle.multi_master.proofs.Places.{At, at_place, zip_set, map_set}
+use Rattle.multi_master.proofs.Quiet.{none_told}
+
+-- a word of the master at a place is that word of its connection
+pub shown_at : {X : Type 0} (v : MultiView) (link place : ℕ) (m : MasterView) (shown : X) (word : Setup → List Deed → X) → link ≡ suc place → slice_get v.masters place ≡ Some m
+    → core.Shows m shown word → ShowsAt v link shown (λ c. word (setup c) c.deeds)
+shown_at v link place m shown word n at s = record {
+  shows = λ settings app calls h.
+      let p = at_place IsWhere (meant settings app calls).connections v.masters place m h.masters at in
+      rw (n, p.is) (ap (λ x. Some x) (sym (s.shows p.there.settings p.there.deeds p.holds)));
+}
+
+-- an event at a connection that exists
+pub event_is : (m : Meant) (place : ℕ) (c : Connection) (what : Move) → slice_get m.connections place ≡ Some c
+    → event_at (suc place) what m ≡ record m { connections = slice_set m.connections place (with_event what c) }
+event_is m place c what h =
+    let n : suc place - 1 ≡ place = omega arith in
+    rw (h, n) refl
+
+-- it stands where a call led, from what was meant before
+pub record StandsIn (before after_it : Meant) (v : MultiView) : Type 0 where
+  pub masters : AllZip IsWhere after_it.connections v.masters
+  pub app_is : v.app ≡ after_it.app
+  pub inputs_are : v.inputs ≡ map outputs_at after_it.connections
+  pub changed_are : v.changed ≡ changed_from 1 before.connections after_it.connections
+
+pub stands_so : (settings : List MasterSettings) (app : AppView) (v : MultiView) (calls : List Call) (call : Call) (after_it : Meant) → after call (meant settings app calls) ≡ after_it
+    → StandsIn (meant settings app calls) after_it v → StandsFor settings app v (call ∷ calls)
+stands_so settings app v calls call after_it e s =
+    let t : StandsIn (meant settings app calls) (after call (meant settings app calls)) v = subst (λ (m : Meant). StandsIn (meant settings app calls) m v) (sym e) s in
+    record { masters = t.masters; app_is = t.app_is; inputs_are = t.inputs_are; changed_are = t.changed_are }
+
+-- an event at one master that changes no offer and no outputs
+pub record Quiets (m : Meant) (place : ℕ) (what : Move) (c : Connection) : Type 0 where
+  pub is : slice_get m.connections place ≡ Some c
+  pub offer : offer_at (with_event what c) ≡ offer_at c
+  pub outputs : outputs_at (with_event what c) ≡ outputs_at c
+
+pub quiet_stands : (settings : List MasterSettings) (app : AppView) (old new : MultiView) (calls : List Call) (call : Call) (place : ℕ) (what : Move) (c : Connection) (last : MasterView)
+    → StandsFor settings app old calls → after call (meant settings app calls) ≡ event_at (suc place) what (meant settings app calls)
+    → Quiets (meant settings app calls) place what c → IsWhere (with_event what c) last → new.masters ≡ slice_set old.masters place last → new.app ≡ old.app → new.inputs ≡ old.inputs → new.changed ≡ []
+    → StandsFor settings app new (call ∷ calls)
+quiet_stands settings app old new calls call place what c last h a q w nm na ni nc =
+    let m : Meant = meant settings app calls in
+    stands_so settings app new calls call (record m { connections = slice_set m.connections place (with_event what c) }) (a ∙ event_is m place c what q.is)
+    (record {
+      masters = rw nm (zip_set IsWhere m.connections old.masters place (with_event what c) last h.masters w);
+      app_is = na ∙ h.app_is;
+      inputs_are = ni ∙ h.inputs_are ∙ sym (map_set outputs_at m.connections place c (with_event what c) q.is q.outputs);
+      changed_are = nc ∙ sym (none_told 1 m.connections (slice_set m.connections place (with_event what c)) (map_set offer_at m.connections place c (with_event what c) q.is q.offer));
+    })
+
+-- a session id is set at one connection
+pub nonce_follows : (old new : MultiView) (link place id : ℕ) (m last : MasterView) → link ≡ suc place → slice_get old.masters place ≡ Some m → core.Follows m (move.Nonce id) last
+    → new.masters ≡ slice_set old.masters place last → new.app ≡ old.app → new.inputs ≡ old.inputs → new.changed ≡ [] → Follows old (Nonce link id) new
+nonce_follows old new link place id m last n at f nm na ni nc = record {
+  stands = λ settings app calls h.
+      let p = at_place IsWhere (meant settings app calls).connections old.masters place m h.masters at in
+      let c : Connection = p.there in
+      quiet_stands settings app old new calls (Nonce link id) place (move.Nonce id) c last h (ap (λ k. event_at k (move.Nonce id) (meant settings app calls)) n)
+      (record { is = p.is; offer = refl; outputs = refl }) (f.is_after c.settings c.deeds p.holds) nm na ni nc;
+}

@@ -1,0 +1,34 @@
+use Rattle.std.proofs.Common.{◌≡◌, ◌++◌, List, map, length, take, drop, refl, sym, ◌∙◌, arith}
+use Rattle.master_core.specs.MasterView.{MasterView}
+use Rattle.multi_master.specs.Puts.{own_len, due_in}
+use Rattle.multi_master.proofs.Following.{runs_alike, change_follows, change_offers}
+use Rattle.multi_master.proofs.Keeping.{written_back, all_rest, same_lens}
+use Rattle.multi_master.proofs.multi_master.MultiMaster.change_app.Goals as goal
+
+pub invariant_of-self : goal.invariant_of-self
+invariant_of-self g c =
+    let masters : List MasterView = c.self.inside.masters.items in
+    let back = written_back c.run_cycle.new.masters masters c.self.inside.masters.len (cc) (cc) in
+    let answers = written_back c.run_cycle.new.answers c.self.inside.answers.items c.self.inside.answers.len (cc) (cc) in
+    rw (back, answers) (record {
+      rest = all_rest c.run_cycle.new.masters masters (c.run_cycle.ensures.due ∙ cc) c.self.invariant.rest;
+      inputs_fit = c.self.invariant.inputs_fit ∙ cc;
+      answers_fit = c.run_cycle.ensures.fit;
+      most = grind arith;
+    })
+
+pub returns-clause-follows : goal.returns-clause-follows
+returns-clause-follows g c =
+    rw (← c.self.view_is)
+    (change_follows _ _ _ (record {
+      cycle = runs_alike _ _ _ _ _ _ _ _ _ _ c.run_cycle.ensures.runs c.as_slice.ensures.value c.as_mut_slice-2.ensures.value (sym (written_back c.run_cycle.new.masters c.self.inside.masters.items c.self.inside.masters.len (cc) (cc)));
+      inputs_are = refl;
+    }))
+
+pub returns-clause-offers : goal.returns-clause-offers
+returns-clause-offers g c =
+    rw (← c.self.view_is)
+    (change_offers _ _ _ (record {
+      cycle = runs_alike _ _ _ _ _ _ _ _ _ _ c.run_cycle.ensures.runs c.as_slice.ensures.value c.as_mut_slice-2.ensures.value refl;
+      inputs_are = refl;
+    }))

@@ -1,0 +1,83 @@
+use Rattle.std.proofs.Common.{◌≡◌, ◌++◌, ℕ, List, map, length, take, drop, refl, sym, ap, ◌∙◌, arith}
+use Rattle.master_core.specs.MasterView.{MasterView}
+use Rattle.multi_master.specs.Puts.{own_len, due_in}
+use Rattle.multi_master.specs.Standing.{settings_in}
+use Rattle.multi_master.proofs.Following.{runs_alike, ticks_alike, tick_follows, tick_offers, tick_answers}
+use Rattle.multi_master.proofs.Keeping.{written_back, all_rest, same_lens, ticks_settings, ticks_rest}
+use Rattle.multi_master.proofs.multi_master.MultiMaster.tick.Goals as goal
+
+pub run_cycle-requires-clause-fits : goal.run_cycle-requires-clause-fits
+run_cycle-requires-clause-fits g c =
+    let ticked : c.as_mut_slice-4.result.now ≡ c.tick_all.new.masters =
+        c.as_mut_slice-4.ensures.value ∙ written_back c.tick_all.new.masters c.self.inside.masters.items c.self.inside.masters.len (cc) (cc)
+    in
+    let settings : map settings_in c.tick_all.new.masters ≡ map settings_in c.self.inside.masters.items = ticks_settings _ _ _ _ _ _ c.tick_all.ensures ∙ ap (map settings_in) c.as_mut_slice.ensures.value in
+    ap (map length) c.as_mut_slice-3.ensures.value ∙ c.self.invariant.answers_fit
+    ∙ sym (same_lens c.tick_all.new.masters c.self.inside.masters.items settings) ∙ ap (map own_len) (sym ticked)
+
+pub invariant_of-self : goal.invariant_of-self
+invariant_of-self g c =
+    let ticked : c.as_mut_slice-4.result.now ≡ c.tick_all.new.masters =
+        c.as_mut_slice-4.ensures.value ∙ written_back c.tick_all.new.masters c.self.inside.masters.items c.self.inside.masters.len (cc) (cc)
+    in
+    let first = written_back c.tick_all.new.masters c.self.inside.masters.items c.self.inside.masters.len (cc) (cc) in
+    let back = written_back c.run_cycle.new.masters c.tick_all.new.masters c.self.inside.masters.len (cc) (cc) in
+    let inputs = written_back c.tick_all.new.inputs c.self.inside.inputs.items c.self.inside.inputs.len (cc) (cc) in
+    let answers = written_back c.run_cycle.new.answers c.self.inside.answers.items c.self.inside.answers.len (cc) (cc) in
+    rw (first, back, inputs, answers) (record {
+      rest = all_rest c.run_cycle.new.masters c.tick_all.new.masters (c.run_cycle.ensures.due ∙ ap (map due_in) ticked) (ticks_rest _ _ _ _ _ _ c.tick_all.ensures);
+      inputs_fit = cc;
+      answers_fit = c.run_cycle.ensures.fit;
+      most = grind arith;
+    })
+
+pub returns-clause-follows : goal.returns-clause-follows
+returns-clause-follows g c =
+    let ticked : c.as_mut_slice-4.result.now ≡ c.tick_all.new.masters =
+        c.as_mut_slice-4.ensures.value ∙ written_back c.tick_all.new.masters c.self.inside.masters.items c.self.inside.masters.len (cc) (cc)
+    in
+    let first = written_back c.tick_all.new.masters c.self.inside.masters.items c.self.inside.masters.len (cc) (cc) in
+    let back = written_back c.run_cycle.new.masters c.tick_all.new.masters c.self.inside.masters.len (cc) (cc) in
+    let inputs = written_back c.tick_all.new.inputs c.self.inside.inputs.items c.self.inside.inputs.len (cc) (cc) in
+    rw (← c.self.view_is, first, back, inputs)
+    (tick_follows _ _ _ _ (record {
+      middle = c.tick_all.new.masters;
+      ticks = ticks_alike _ _ _ _ _ _ _ _ _ _ c.tick_all.ensures c.as_mut_slice.ensures.value c.as_mut_slice-2.ensures.value refl refl;
+      cycle = runs_alike _ _ _ _ _ _ _ _ _ _ c.run_cycle.ensures.runs (c.as_slice.ensures.value ∙ inputs) ticked refl;
+    }))
+
+pub returns-clause-offers : goal.returns-clause-offers
+returns-clause-offers g c =
+    let ticked : c.as_mut_slice-4.result.now ≡ c.tick_all.new.masters =
+        c.as_mut_slice-4.ensures.value ∙ written_back c.tick_all.new.masters c.self.inside.masters.items c.self.inside.masters.len (cc) (cc)
+    in
+    let inputs = written_back c.tick_all.new.inputs c.self.inside.inputs.items c.self.inside.inputs.len (cc) (cc) in
+    rw (← c.self.view_is)
+    (tick_offers _ _ _ _ (record {
+      middle = c.tick_all.new.masters;
+      ticks = ticks_alike _ _ _ _ _ _ _ _ _ _ c.tick_all.ensures c.as_mut_slice.ensures.value c.as_mut_slice-2.ensures.value refl refl;
+      cycle = runs_alike _ _ _ _ _ _ _ _ _ _ c.run_cycle.ensures.runs (c.as_slice.ensures.value ∙ inputs) ticked refl;
+    }))
+
+pub returns-clause-answers : goal.returns-clause-answers
+returns-clause-answers g c =
+    let ticked : c.as_mut_slice-4.result.now ≡ c.tick_all.new.masters =
+        c.as_mut_slice-4.ensures.value ∙ written_back c.tick_all.new.masters c.self.inside.masters.items c.self.inside.masters.len (cc) (cc)
+    in
+    let inputs = written_back c.tick_all.new.inputs c.self.inside.inputs.items c.self.inside.inputs.len (cc) (cc) in
+    rw (← c.self.view_is)
+    (tick_answers _ _ _ _ (record {
+      middle = c.tick_all.new.masters;
+      ticks = ticks_alike _ _ _ _ _ _ _ _ _ _ c.tick_all.ensures c.as_mut_slice.ensures.value c.as_mut_slice-2.ensures.value refl refl;
+      cycle = runs_alike _ _ _ _ _ _ _ _ _ _ c.run_cycle.ensures.runs (c.as_slice.ensures.value ∙ inputs) ticked refl;
+    }))
+
+pub returns-clause-settings : goal.returns-clause-settings
+returns-clause-settings g c =
+    let ticked : c.as_mut_slice-4.result.now ≡ c.tick_all.new.masters =
+        c.as_mut_slice-4.ensures.value ∙ written_back c.tick_all.new.masters c.self.inside.masters.items c.self.inside.masters.len (cc) (cc)
+    in
+    let first = written_back c.tick_all.new.masters c.self.inside.masters.items c.self.inside.masters.len (cc) (cc) in
+    let back = written_back c.run_cycle.new.masters c.tick_all.new.masters c.self.inside.masters.len (cc) (cc) in
+    rw (← c.self.view_is, first, back)
+    (c.run_cycle.ensures.settings ∙ ap (map settings_in) ticked ∙ ticks_settings _ _ _ _ _ _ c.tick_all.ensures ∙ ap (map settings_in) c.as_mut_slice.ensures.value)
