@@ -1,9 +1,12 @@
 pub mod Places
+pub mod Beginning
+pub mod Between
 pub mod Delivering
 pub mod Following
 pub mod Hearing
 pub mod Keeping
 pub mod Looping
+pub mod Neighbours
 pub mod Putting
 pub mod Reading
 pub mod Ticking

@@ -32,6 +32,7 @@
 
 mod cycle;
 mod fault;
+pub mod laws;
 mod making;
 mod multi_master;
 

@@ -1,0 +1,76 @@
+-- A master of many connections that was just made.
+use Rattle.std.proofs.Common.{◌≡◌, ◌≤◌, ℕ, suc, List, [], ◌∷◌, map, length, replicate, All, Option, Some, None, Bool, true, false, nat_lt, if◌then◌else◌, refl, sym, ap, ap₂, subst, ◌∙◌, arith}
+use Rattle.std.specs.List.{AllZip}
+use Rattle.std.proofs.lemmas.Grind.{common_steps}
+use Rattle.std.proofs.lemmas.List.Elements.{All-nil, All-cons}
+use Rattle.param_load.specs.declared.master_settings.MasterSettings.{MasterSettings}
+use Rattle.end_model.specs.Setup.{OfMaster, receives}
+use Rattle.master_core.specs.MasterView.{MasterView}
+use Rattle.multi_master.specs.declared.fault.NewFault.{NewFault}
+use Rattle.multi_master.specs.declared.fault.NewFault.TheVariants as fault
+use Rattle.multi_master.specs.Connection.{fresh, outputs_at}
+use Rattle.multi_master.specs.Calls.{AppView}
+use Rattle.multi_master.specs.New.{IsNewMaster, first_fault, first_pair}
+use Rattle.multi_master.specs.Puts.{own_len, due_in, first_input}
+use Rattle.multi_master.specs.Standing.{MultiView, settings_in, IsWhere, IsMulti, StandsFor}
+use Rattle.multi_master.proofs.Places.{same_length}
+
+new-where : (settings : List MasterSettings) (ms : List MasterView) → AllZip IsNewMaster settings ms → AllZip IsWhere (map fresh settings) ms
+new-where [] [] h = tt
+new-where [] (m ∷ ms) h = absurd h
+new-where (s ∷ ss) [] h = absurd h
+new-where (s ∷ ss) (m ∷ ms) h = (h.0.is_after, new-where ss ms h.1)
+
+pub new_settings : (settings : List MasterSettings) (ms : List MasterView) → AllZip IsNewMaster settings ms → map settings_in ms ≡ settings
+new_settings [] [] h = refl
+new_settings [] (m ∷ ms) h = absurd h
+new_settings (s ∷ ss) [] h = absurd h
+new_settings (s ∷ ss) (m ∷ ms) h = ap₂ (λ (x : MasterSettings) (xs : List MasterSettings). x ∷ xs) h.0.settings_are (new_settings ss ms h.1)
+
+new-rest : (settings : List MasterSettings) (ms : List MasterView) → AllZip IsNewMaster settings ms → All (λ m. due_in m ≡ false) ms
+new-rest [] [] h = All-nil (λ m. due_in m ≡ false)
+new-rest [] (m ∷ ms) h = absurd h
+new-rest (s ∷ ss) [] h = absurd h
+new-rest (s ∷ ss) (m ∷ ms) h = All-cons (λ m. due_in m ≡ false) m ms h.0.rest (new-rest ss ms h.1)
+
+new-inputs : (settings : List MasterSettings) (ms : List MasterView) → AllZip IsNewMaster settings ms → map first_input ms ≡ map outputs_at (map fresh settings)
+new-inputs [] [] h = refl
+new-inputs [] (m ∷ ms) h = absurd h
+new-inputs (s ∷ ss) [] h = absurd h
+new-inputs (s ∷ ss) (m ∷ ms) h =
+    ap₂ (λ (x : List ℕ) (xs : List (List ℕ)). x ∷ xs) (ap (λ (x : MasterSettings). replicate (receives (OfMaster x)) 0) h.0.settings_are) (new-inputs ss ms h.1)
+
+few : (settings : List MasterSettings) (b : Bool) → nat_lt 64 (length settings) ≡ b → (if b then Some fault.TooMany else first_pair 1 settings) ≡ None → length settings ≤ 64
+few settings true h e = absurd (cc e)
+few settings false h e = grind arith
+
+pub few_settings : (settings : List MasterSettings) → first_fault settings ≡ None → length settings ≤ 64
+few_settings settings h = few settings (nat_lt 64 (length settings)) refl h
+
+same : (xs : List MasterSettings) → map (λ s. s) xs ≡ xs
+same [] = refl
+same (x ∷ xs) = ap (λ (ys : List MasterSettings). x ∷ ys) (same xs)
+
+mapped : (f : MasterView → List ℕ) (ms : List MasterView) → length (map f ms) ≡ length ms
+mapped f [] = refl
+mapped f (m ∷ ms) = ap (λ (n : ℕ). suc n) (mapped f ms)
+
+pub new_multi : (settings : List MasterSettings) (ms : List MasterView) (inputs answers : List (List ℕ)) → AllZip IsNewMaster settings ms → first_fault settings ≡ None
+    → inputs ≡ map first_input ms → map length answers ≡ map own_len ms → IsMulti ms inputs answers
+new_multi settings ms inputs answers h none i a =
+    let len : length ms ≡ length settings = same_length settings_in (λ s. s) ms settings (new_settings settings ms h ∙ sym (same settings)) in
+    record {
+      rest = new-rest settings ms h;
+      inputs_fit = ap length i ∙ mapped first_input ms;
+      answers_fit = a;
+      most = rw len (few_settings settings none);
+    }
+
+pub new_stands : (settings : List MasterSettings) (app : AppView) (v : MultiView) → AllZip IsNewMaster settings v.masters → v.app ≡ app → v.inputs ≡ map first_input v.masters → v.changed ≡ []
+    → StandsFor settings app v []
+new_stands settings app v h a i c = record {
+  masters = new-where settings v.masters h;
+  app_is = a;
+  inputs_are = i ∙ new-inputs settings v.masters h;
+  changed_are = c;
+}

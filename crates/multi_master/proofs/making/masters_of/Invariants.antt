@@ -1,0 +1,6 @@
+use Rattle.std.specs.List.{AllZip}
+use Rattle.multi_master.specs.New.{IsNewMaster}
+use Rattle.multi_master.proofs.making.masters_of.Given as goal
+
+abbrev pub invariant-loop-own : goal.invariant-loop-own
+invariant-loop-own l = AllZip IsNewMaster l.yielded l.masters.items

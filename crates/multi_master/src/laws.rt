@@ -1,0 +1,28 @@
+//! What holds of a master of many connections over all its calls. The calls do nothing: each law is a contract.
+
+ghost use Rattle.std.specs.Prelude.{◌≡◌, ℕ, List, [], map, replicate, Some, IfSome, slice_get};
+ghost use Rattle.param_load.specs.declared.master_settings.MasterSettings.{MasterSettings};
+ghost use Rattle.param_load.specs.declared.entry.Move.TheVariants as event;
+ghost use Rattle.end_model.specs.Deed.{events_of};
+ghost use Rattle.end_model.specs.Step.{run};
+ghost use Rattle.master_core.specs.MasterView.{MasterView};
+ghost use Rattle.multi_master.specs.Connection.{Connection, setup, with_event, with_offer, offer_len};
+ghost use Rattle.multi_master.specs.Calls.{AppView, Call, connection, meant};
+ghost use Rattle.multi_master.specs.Own.{own_events, without_puts};
+ghost use Rattle.multi_master.specs.Standing.{IsWhere};
+
+/// Nothing enters a connection from its neighbours: over every list of calls its deeds are the run of events of its own, which
+/// are its deliveries, ticks and session ids among these calls, in their order, and offers that were put to it in between. Its
+/// settings are those that it was made with.
+pub fn neighbours()
+    ensures run { (settings : List MasterSettings) (app : AppView) (calls : List Call) (link : ℕ) → IfSome (connection link (meant settings app calls)) (λ c. c.deeds ≡ run (setup c) (events_of c.deeds)) }
+    ensures events { (settings : List MasterSettings) (app : AppView) (calls : List Call) (link : ℕ) → IfSome (connection link (meant settings app calls)) (λ c. without_puts (events_of c.deeds) ≡ own_events link calls) }
+    ensures settings { (settings : List MasterSettings) (app : AppView) (calls : List Call) → map (λ c. c.settings) (meant settings app calls).connections ≡ settings }
+{}
+
+/// When another application comes, all offers are zeros until its first answers are put. No frame is made in between and no call
+/// ends there, so that nothing tells it: a master to which zeros were put, and then an answer, is where the answer alone leaves it,
+/// where that isn't the offer from before.
+pub fn change()
+    ensures { (c : Connection) (m : MasterView) (load : List ℕ) → IsWhere (with_event (event.Put load) (with_event (event.Put (replicate (offer_len c) 0)) c)) m → IsWhere (with_offer load c) m }
+{}
