@@ -13,7 +13,6 @@ use Rattle.multi_master.specs.Calls.{AppView}
 use Rattle.multi_master.specs.New.{IsNewMaster, first_fault, first_pair}
 use Rattle.multi_master.specs.Puts.{own_len, due_in, first_input}
 use Rattle.multi_master.specs.Standing.{MultiView, settings_in, IsWhere, IsMulti, StandsFor}
-use Rattle.multi_master.proofs.Places.{same_length}
 
 new-where : (settings : List MasterSettings) (ms : List MasterView) → AllZip IsNewMaster settings ms → AllZip IsWhere (map fresh settings) ms
 new-where [] [] h = tt
@@ -47,18 +46,20 @@ few settings false h e = grind arith
 pub few_settings : (settings : List MasterSettings) → first_fault settings ≡ None → length settings ≤ 64
 few_settings settings h = few settings (nat_lt 64 (length settings)) refl h
 
-same : (xs : List MasterSettings) → map (λ s. s) xs ≡ xs
-same [] = refl
-same (x ∷ xs) = ap (λ (ys : List MasterSettings). x ∷ ys) (same xs)
-
 mapped : (f : MasterView → List ℕ) (ms : List MasterView) → length (map f ms) ≡ length ms
 mapped f [] = refl
 mapped f (m ∷ ms) = ap (λ (n : ℕ). suc n) (mapped f ms)
 
+pub new_links : (settings : List MasterSettings) (ms : List MasterView) → AllZip IsNewMaster settings ms → length ms ≡ length settings
+new_links [] [] h = refl
+new_links [] (m ∷ ms) h = absurd h
+new_links (s ∷ ss) [] h = absurd h
+new_links (s ∷ ss) (m ∷ ms) h = ap (λ (n : ℕ). suc n) (new_links ss ms h.1)
+
 pub new_multi : (settings : List MasterSettings) (ms : List MasterView) (inputs answers : List (List ℕ)) → AllZip IsNewMaster settings ms → first_fault settings ≡ None
     → inputs ≡ map first_input ms → map length answers ≡ map own_len ms → IsMulti ms inputs answers
 new_multi settings ms inputs answers h none i a =
-    let len : length ms ≡ length settings = same_length settings_in (λ s. s) ms settings (new_settings settings ms h ∙ sym (same settings)) in
+    let len : length ms ≡ length settings = new_links settings ms h in
     record {
       rest = new-rest settings ms h;
       inputs_fit = ap length i ∙ mapped first_input ms;

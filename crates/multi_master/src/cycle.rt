@@ -62,15 +62,14 @@ pub(crate) fn run_cycle<A: Application>(
 }
 
 /// Counts a tick at a master, and reads its outputs where its session ended.
-fn tick_one(master: &mut Master, input: &mut Image, out: &mut FrameBuf) -> Did
+fn tick_one(master: &mut Master, input: &mut Image, did: &mut Did, out: &mut FrameBuf)
     requires { is_due master.old.state ≡ false }
-    ensures { IsTickStep (record { old = master.old; new = master.new; did = result; sent = out.new; before = input.old; after = input.new }) }
+    ensures { IsTickStep (record { old = master.old; new = master.new; did = did.new; sent = out.new; before = input.old; after = input.new }) }
 {
-    let did = master.tick(out);
+    master.tick_into(did, out);
     if did.reset.is_some() {
         input.set(master.outputs());
     }
-    did
 }
 
 /// Counts a tick at each master: what it did and the frame that it sent, empty where it sent none, are written to its places. Its
@@ -88,6 +87,11 @@ pub(crate) fn tick_all(
     ensures { TicksEach masters.old inputs.old masters.new inputs.new dids.new outs.new }
 {
     for i in 0..masters.len() {
-        dids[i] = tick_one(&mut masters[i], &mut inputs[i], &mut outs[i]);
+        tick_one(
+            &mut masters[i],
+            &mut inputs[i],
+            &mut dids[i],
+            &mut outs[i],
+        );
     }
 }

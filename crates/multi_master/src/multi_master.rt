@@ -1,5 +1,5 @@
 //! A master of many connections.
-ghost use Rattle.std.specs.Prelude.{◌≡◌, ◌≤◌, ◌-◌, [], length, slice_get, option_copied, IfOk, IfErr, IfSome, IsErrAnd, None, Some, IsTrue};
+ghost use Rattle.std.specs.Prelude.{◌≡◌, ◌≤◌, ◌-◌, [], length, vec_len, slice_get, option_copied, IfOk, IfErr, IfSome, IsErrAnd, None, Some, IsTrue};
 ghost use Rattle.std.specs.Result.{result_err};
 ghost use Rattle.param_load.specs.Profile.{allows_id};
 ghost use Rattle.end_model.specs.Readiness as model;
@@ -59,6 +59,7 @@ impl<A: Application> MultiMaster<A> {
         ensures memory_alone { IfErr result (λ found. first_fault settings.items ≡ None → found ≡ fault.Memory) }
         ensures stands { IfOk result (λ m. StandsFor settings.items (app_view A.rule A.holds A.guards app) (seen A.rule A.holds A.guards m) []) }
         ensures settings { IfOk result (λ m. settings_of m ≡ settings.items) }
+        ensures links { IfOk result (λ m. links m ≡ vec_len settings) }
     {
         if let Some(found) = first_fault(settings.as_slice()) {
             return Err(found);
@@ -86,6 +87,7 @@ impl<A: Application> MultiMaster<A> {
         ensures offers { Offers (seen A.rule A.holds A.guards self.old) (Deliver link frame.now) }
         ensures answers { AnswersFrame (seen A.rule A.holds A.guards self.old) link frame.now result out.new }
         ensures settings { settings_of self.new ≡ settings_of self.old }
+        ensures links { links self.new ≡ links self.old }
     {
         let place = usize::from(link) - 1;
         let mut did = self.masters[place].accept(frame);
@@ -118,6 +120,7 @@ impl<A: Application> MultiMaster<A> {
         ensures offers { Offers (seen A.rule A.holds A.guards self.old) Tick }
         ensures answers { AnswersTick (seen A.rule A.holds A.guards self.old) dids.new outs.new }
         ensures settings { settings_of self.new ≡ settings_of self.old }
+        ensures links { links self.new ≡ links self.old }
     {
         tick_all(
             self.masters.as_mut_slice(),
@@ -141,6 +144,7 @@ impl<A: Application> MultiMaster<A> {
         ensures follows { let seen = seen A.rule A.holds A.guards in Follows (seen self.old) (ChangeApp (app_view A.rule A.holds A.guards app)) (seen self.new) }
         ensures offers { Offers (seen A.rule A.holds A.guards self.old) (ChangeApp (app_view A.rule A.holds A.guards app)) }
         ensures settings { settings_of self.new ≡ settings_of self.old }
+        ensures links { links self.new ≡ links self.old }
     {
         self.app = app;
         run_cycle(
@@ -159,6 +163,7 @@ impl<A: Application> MultiMaster<A> {
         requires allowed { IfSome (slice_get (settings_of self.old) (link - 1)) (λ s. IsTrue (allows_id s.profile id)) }
         ensures follows { let seen = seen A.rule A.holds A.guards in Follows (seen self.old) (Nonce link id) (seen self.new) }
         ensures settings { settings_of self.new ≡ settings_of self.old }
+        ensures links { links self.new ≡ links self.old }
     {
         self.changed.clear();
         self.masters[usize::from(link) - 1].nonce(id);

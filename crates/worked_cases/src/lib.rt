@@ -25,6 +25,8 @@ mod of_fsoe_io;
 #[cfg(test)]
 mod of_master_core;
 #[cfg(test)]
+mod of_multi_master;
+#[cfg(test)]
 mod of_param_load;
 #[cfg(test)]
 mod of_schedule_file;

@@ -17,7 +17,7 @@ loop-i-preserved c =
     let at-b : slice_get c.loop-i.inputs i ≡ Some input = slice_get-get_or c.loop-i.inputs i c.index-inputs-i.result (omega arith) in
     let at-f : slice_get c.loop-i.outs i ≡ Some frame = slice_get-get_or c.loop-i.outs i c.index-outs-i.result (omega arith) in
     let did = some_at c.loop-i.dids i (omega arith) in
-    let x : TickStep = record { old = m; new = c.tick_one.new.master; did = c.tick_one.result; sent = c.tick_one.new.out; before = input; after = c.tick_one.new.input } in
+    let x : TickStep = record { old = m; new = c.tick_one.new.master; did = c.tick_one.new.did; sent = c.tick_one.new.out; before = input; after = c.tick_one.new.input } in
     record {
       rest = λ k n late is. c.loop-i.invariant.rest k n (omega arith) (sym (set_before c.loop-i.masters i k c.tick_one.new.master (omega arith)) ∙ is);
       so_far = ticks_more c.args.masters.now c.args.inputs.now c.loop-i.masters _ c.loop-i.inputs _ c.loop-i.dids _ c.loop-i.outs _ i x did.0 frame

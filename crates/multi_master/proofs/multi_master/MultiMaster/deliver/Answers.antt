@@ -297,3 +297,9 @@ returns-clause-settings g c =
     rw (← c.self.view_is, back)
     (map_set settings_in put place c.index_mut-3.result.now c.reply.new.self ready_at (ap (λ k. k.settings) c.reply.ensures.kit)
     ∙ c.run_cycle.ensures.settings ∙ ap (map settings_in) c.as_mut_slice-2.ensures.value ∙ map_set settings_in masters place c.index_mut.result.now accepted at (ap (λ k. k.settings) c.accept-did.ensures.kit))
+
+pub returns-then-not-due-clause-links : goal.returns-then-not-due-clause-links
+returns-then-not-due-clause-links g c = same_length settings_in settings_in _ _ (returns-then-not-due-clause-settings g c)
+
+pub returns-clause-links : goal.returns-clause-links
+returns-clause-links g c = same_length settings_in settings_in _ _ (returns-clause-settings g c)

@@ -2,7 +2,7 @@ use Rattle.std.proofs.Common.{◌≡◌, ◌≤◌, ◌<◌, ◌-◌, ℕ, suc, 
 use Rattle.std.proofs.lemmas.Option.{slice_get_read}
 use Rattle.multi_master.specs.Standing.{settings_in}
 use Rattle.multi_master.proofs.Keeping.{multi_set}
-use Rattle.multi_master.proofs.Places.{map_set}
+use Rattle.multi_master.proofs.Places.{map_set, same_length}
 use Rattle.multi_master.proofs.Reading.{nonce_follows}
 use Rattle.multi_master.proofs.multi_master.MultiMaster.nonce.Goals as goal
 
@@ -26,3 +26,6 @@ returns-clause-settings g c =
     let fits : c.args.link ≤ length c.self.inside.masters.items = subst (λ v. c.args.link ≤ length v.masters) (sym c.self.view_is) c.requires.link.last in
     let at : slice_get c.self.inside.masters.items place ≡ Some c.index_mut.result.now = slice_get_read c.self.inside.masters.items _ place _ refl (omega arith) c.index_mut.ensures.value in
     rw (← c.self.view_is) (map_set settings_in c.self.inside.masters.items place c.index_mut.result.now c.nonce.new.self at c.nonce.ensures.settings)
+
+pub returns-clause-links : goal.returns-clause-links
+returns-clause-links g c = same_length settings_in settings_in _ _ (returns-clause-settings g c)
