@@ -18,7 +18,7 @@ use std::marker::Model;
 /// The master of up to 64 connections. The application decides the offers of all of them from the outputs of all, in one
 /// cycle at a time; what comes for one connection changes no other in any other way. No call but `new` takes memory.
 #[derive(Drop)]
-pub struct MultiMaster<A: Application> {
+pub struct MultiMaster<A> {
     masters: Vec<Master>,
     app: A,
     /// The outputs of each master, as a cycle reads them: one is written where they changed, and stays for later cycles.
@@ -29,7 +29,7 @@ pub struct MultiMaster<A: Application> {
     changed: ArrayVec<u16, MOST_LINKS>,
 }
 
-impl<A: Application> Model for MultiMaster<A> {
+impl<A> Model for MultiMaster<A> {
     ghost use Rattle.multi_master.specs.Standing.{MultiValue, IsMulti};
 
     ghost Value = { MultiValue A };

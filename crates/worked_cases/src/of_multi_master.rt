@@ -1,4 +1,4 @@
-ghost use Rattle.std.specs.Prelude.{◌+◌, min, false, [], ◌∷◌, get_or};
+ghost use Rattle.std.specs.Prelude.{◌≡◌, ◌+◌, min, false, [], ◌∷◌, get_or};
 ghost use Rattle.fb_net.specs.Mirror.{mirror_images};
 
 use failsafe_io::{Application, Bit};
@@ -60,9 +60,11 @@ fn a_connection_leaves_its_neighbour_alone(rt: HostRuntime) -> Result<(), Fail> 
         assert_eq!(rt; multi.state(1), State::Session);
         assert_eq!(rt; multi.state(2), State::Reset);
         for _ in 0..4 {
+            assert!(rt; multi.links() == 2);
             multi.tick(&mut outs, &mut dids);
             assert!(rt; !dids[0].sent && outs[0].is_empty() && !dids[1].sent && outs[1].is_empty());
         }
+        assert!(rt; multi.links() == 2);
         multi.tick(&mut outs, &mut dids);
         assert_eq!(rt; dids[0].reset, Some(Cause::Found(Code::WATCHDOG_EXPIRED)));
         assert_eq!(rt; outs[0].bytes(), EXPIRED.as_slice());
