@@ -1,6 +1,6 @@
 -- Arrays that are read value by value.
 use Rattle.std.proofs.Common.{◌≡◌, ◌∙◌, sym, ℕ, suc, ◌+◌, ◌<◌, ◌≤◌, Bool, true, false, List, [], ◌∷◌, ◌++◌, length, get_or, map, drop, zero, subst, Option, Some, None, is_some, option_map, Result, Ok, Err, refl, ap, arith, append_assoc, add-one}
-use Rattle.std.specs.Prelude.{option_and_then, unwrap_or}
+use Rattle.std.specs.Prelude.{option_and_then, unwrap_or, IfOk, IfErr}
 use Rattle.std.proofs.lemmas.Grind.{common_steps}
 use Rattle.toml.specs.Data.{Data, Members, as_str, as_table, as_array}
 use Rattle.toml.specs.View.{view, items_of}
@@ -242,3 +242,12 @@ connections-read document key d vs r same e given some long h =
     let read : each (entry connection (whole table.Connection)) 1 (map view vs) ≡ r = ap (λ k. each (entry connection k) 1 (map view vs)) (sym same) ∙ h in
     let more : 0 < length (map view vs) = omega (arith, length-map vs view) in
     rw (← there, given) (links-cases (whole table.Connection) (map view vs) (all_give as_table (map view vs)) r refl some more read)
+
+-- a fact of a result's value or fault, and what follows from it
+pub ok-then : {A E : Type 0} (r : Result A E) (P Q : A → Type 0) → IfOk r P → ((x : A) → P x → Q x) → IfOk r Q
+ok-then (Ok x) P Q h f = f x h
+ok-then (Err e) P Q h f = tt
+
+pub err-then : {A E : Type 0} (r : Result A E) (P Q : E → Type 0) → IfErr r P → ((e : E) → P e → Q e) → IfErr r Q
+err-then (Ok x) P Q h f = tt
+err-then (Err e) P Q h f = f e h

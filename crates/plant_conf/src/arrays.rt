@@ -20,14 +20,16 @@ use toml::{Table, Value};
 
 /// What is read of a table that has a number.
 pub(crate) trait FromTable: Sized {
-    // What a text says of it.
+    // The type of what a table says.
     ghost Values: { Type 0 };
 
+    // What a table says from which a value was read.
     ghost values: { Self → Values };
 
-    // What holds of each that is read.
+    // What holds of each value that is read.
     ghost Holds: { Self → Type 0 };
 
+    // What the table with this number says, or its first fault.
     ghost says: { ℕ → Members → Result Values ConfFault };
 
     /// Reads the table, which is the one with this number among those of its name.
@@ -155,10 +157,7 @@ pub(crate) fn required_wires(alloc: Global, table: &Table, key: Key) -> Result<W
                 if !are_texts(array) {
                     return Err(ConfFault::Kind(key));
                 }
-                match read_wires(alloc, array, key) {
-                    Ok(wires) => Ok(wires),
-                    Err(e) => Err(e),
-                }
+                read_wires(alloc, array, key)
             }
         },
     }

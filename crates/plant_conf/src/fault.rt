@@ -8,9 +8,9 @@ pub enum ConfFault {
     Syntax,
     /// There are more than 64 connections, 256 blocks, 1,024 drives or 16 bounds.
     TooMany,
-    /// A required key or table isn't there. A list of no connection counts as none.
+    /// A key or a table that has to be there isn't. An empty array of connections counts as missing.
     Missing(Key),
-    /// The value of the key is of another kind, or the table is none, or not a list of tables.
+    /// The value of the key is of another kind; or `plant` is no table, or a list of tables isn't one.
     Kind(Key),
     /// The value of the key is outside its range, or not in its form.
     Range(Key),

@@ -100,10 +100,7 @@ fn connections(alloc: Global, document: &Table) -> Result<Vec<LinkConf>, ConfFau
                 if array.is_empty() {
                     return Err(ConfFault::Missing(key));
                 }
-                match read_each(alloc, array, key) {
-                    Ok(links) => Ok(links),
-                    Err(e) => Err(e),
-                }
+                read_each(alloc, array, key)
             }
         },
     }
@@ -126,10 +123,7 @@ fn all_of<T: FromTable + Drop>(
         None => Ok(Vec::new(alloc)),
         Some(value) => match tables_in(value) {
             None => Err(ConfFault::Kind(key)),
-            Some(array) => match read_each(alloc, array, key) {
-                Ok(all) => Ok(all),
-                Err(e) => Err(e),
-            },
+            Some(array) => read_each(alloc, array, key),
         },
     }
 }

@@ -243,7 +243,7 @@ pub(crate) struct PlantTable {
     pub app: String,
     /// The name of the channel.
     pub channel: String,
-    /// What begins the channel.
+    /// What the channel begins with.
     pub seed: u64,
 }
 

@@ -2,7 +2,7 @@ use Rattle.std.proofs.Common.{◌<◌, length, arith}
 use Rattle.std.proofs.lemmas.Bool.Decides.{nat_tests}
 use Rattle.toml.specs.View.{view, table_view}
 use Rattle.plant_conf.specs.declared.key.KeyTable.TheVariants as table
-use Rattle.plant_conf.proofs.ArrayLaws.{count-at, connections-read}
+use Rattle.plant_conf.proofs.ArrayLaws.{count-at, connections-read, ok-then, err-then}
 use Rattle.plant_conf.proofs.read.connections.Goals as goal
 
 pub read_each-requires : goal.read_each-requires
@@ -11,20 +11,25 @@ read_each-requires c =
     c.in-Some.ensures c.in-Some-tables_in.ensures.0 c.in-Some-tables_in.ensures.1 in
     omega (arith, counted)
 
-pub returns-in-Ok-clause-reads : goal.returns-in-Ok-clause-reads
-returns-in-Ok-clause-reads c =
+pub returns-else-is_empty-clause-reads : goal.returns-else-is_empty-clause-reads
+returns-else-is_empty-clause-reads c = ok-then c.read_each.result _ _ c.read_each.ensures.reads (λ all said.
     let long : 0 < length c.in-Some-tables_in.array.now.items = grind (arith, nat_tests) in
     connections-read (table_view c.args.document.now) c.whole-key.result (view c.in-Some.value.now) c.in-Some-tables_in.array.now.items _ c.whole-key.ensures
-    c.in-Some.ensures c.in-Some-tables_in.ensures.0 c.in-Some-tables_in.ensures.1 long c.in-Ok.ensures.reads
+    c.in-Some.ensures c.in-Some-tables_in.ensures.0 c.in-Some-tables_in.ensures.1 long said)
 
-pub returns-in-Ok-clause-count : goal.returns-in-Ok-clause-count
-returns-in-Ok-clause-count c =
+pub returns-else-is_empty-clause-count : goal.returns-else-is_empty-clause-count
+returns-else-is_empty-clause-count c = ok-then c.read_each.result _ _ c.read_each.ensures.count (λ all as_many.
     let counted = count-at table.Connection (table_view c.args.document.now) c.whole-key.result (view c.in-Some.value.now) c.in-Some-tables_in.array.now.items c.whole-key.ensures
     c.in-Some.ensures c.in-Some-tables_in.ensures.0 c.in-Some-tables_in.ensures.1 in
-    omega (arith, counted, c.in-Ok.ensures.count)
+    omega (arith, counted, as_many))
 
-pub returns-in-Err-clause-refuses : goal.returns-in-Err-clause-refuses
-returns-in-Err-clause-refuses c = λ other.
+pub returns-else-is_empty-clause-some : goal.returns-else-is_empty-clause-some
+returns-else-is_empty-clause-some c = ok-then c.read_each.result _ _ c.read_each.ensures.count (λ all as_many.
+    let long : 0 < length c.in-Some-tables_in.array.now.items = grind (arith, nat_tests) in
+    omega (arith, long, as_many))
+
+pub returns-else-is_empty-clause-refuses : goal.returns-else-is_empty-clause-refuses
+returns-else-is_empty-clause-refuses c = err-then c.read_each.result _ _ c.read_each.ensures.refuses (λ e said other.
     let long : 0 < length c.in-Some-tables_in.array.now.items = grind (arith, nat_tests) in
     connections-read (table_view c.args.document.now) c.whole-key.result (view c.in-Some.value.now) c.in-Some-tables_in.array.now.items _ c.whole-key.ensures
-    c.in-Some.ensures c.in-Some-tables_in.ensures.0 c.in-Some-tables_in.ensures.1 long (c.in-Err.ensures.refuses other)
+    c.in-Some.ensures c.in-Some-tables_in.ensures.0 c.in-Some-tables_in.ensures.1 long (said other))
