@@ -10,7 +10,8 @@ use Rattle.plant_conf.specs.declared.fault.ConfFault.{ConfFault}
 use Rattle.plant_conf.specs.declared.key.Key.{Key}
 use Rattle.plant_conf.specs.declared.fault.ConfFault.TheVariants as fault
 use Rattle.plant_conf.specs.Steps.{◌>>=◌, value_or, each, with_first, all_give}
-use Rattle.plant_conf.specs.Forms.{Form, formed, values_of, as_array_of, entry, wire_in, wire_said, wires, tables}
+use Rattle.plant_conf.specs.Forms.{Form, formed, values_of, as_array_of, wire_said, wires, tables}
+use Rattle.plant_conf.specs.Kept.{entry, wire_in}
 use Rattle.plant_conf.specs.declared.key.KeyTable.{KeyTable}
 use Rattle.plant_conf.specs.declared.key.KeyTable.TheVariants as table
 use Rattle.plant_conf.specs.Keys.{value_at, required, optional, connection}

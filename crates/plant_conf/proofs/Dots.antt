@@ -5,7 +5,8 @@ use Rattle.std.proofs.lemmas.List.{drop_more, get_or-take, get_or_default, lengt
 use Rattle.std.proofs.lemmas.List.Splits.{slice_split_at, slice_split_none, length-slice_split}
 use Rattle.std.proofs.lemmas.Bool.{false_from_ne_true}
 use Rattle.memchr.specs.Find.{Nowhere, Passes, IsFirstByte, is_byte}
-use Rattle.plant_conf.specs.Forms.{is_dot, parts_of, parts_after, place_said}
+use Rattle.plant_conf.specs.Forms.{is_dot, parts_of, place_said}
+use Rattle.plant_conf.specs.Kept.{parts_after}
 use denote.Ref.{Bor}
 
 -- none of the first n bytes is found

@@ -18,7 +18,6 @@ use Rattle.plant_conf.specs.declared.key.Key.{Key}
 use Rattle.plant_conf.specs.declared.fault.ConfFault.{ConfFault}
 use Rattle.plant_conf.specs.declared.fault.ConfFault.TheVariants as fault
 use Rattle.plant_conf.specs.Steps.{◌>>=◌, value_or, all_give}
-use denote.Ref.{Bor}
 
 -- what a value says at a key, or why not
 abbrev pub Form : Type 0 → Type 0
@@ -102,13 +101,9 @@ after_letter letter (c ∷ rest) = if c == letter then Some rest else None
 abbrev pub is_dot : ℕ → Bool
 is_dot b = b == 46
 
--- the parts of a text between dots, and those after a dot, where there is one
+-- the parts of a text between dots
 abbrev pub parts_of : List ℕ → List (List ℕ)
 parts_of t = slice_split is_dot t
-
-abbrev pub parts_after : Option (Bor (List ℕ)) → List (List ℕ)
-parts_after None = []
-parts_after (Some rest) = parts_of rest.now
 
 -- `<k>.<bit>`: a connection and a bit of its image, each a number of 16 bits
 abbrev pub place_said : List (List ℕ) → Option Bit
@@ -165,13 +160,3 @@ one_table = formed as_table Some
 
 abbrev pub tables : Form (List Members)
 tables = formed (as_array_of as_table) Some
-
--- what is read of a value of an array of tables
-abbrev pub entry : {A : Type 0} → (ℕ → Members → Result A ConfFault) → Key → ℕ → Data → Result A ConfFault
-entry says key k d = do
-  t ← value_or (fault.Kind key) (as_table d)
-  says k t
-
--- the wire of a value of an array of wires
-abbrev pub wire_in : Data → Option Wire
-wire_in d = option_and_then wire_said (as_str d)

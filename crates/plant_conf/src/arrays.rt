@@ -6,7 +6,8 @@ ghost use Rattle.toml.specs.View.{view, table_view};
 ghost use Rattle.plant_conf.specs.declared.fault.ConfFault.{ConfFault};
 ghost use Rattle.plant_conf.specs.declared.fault.ConfFault.TheVariants as fault;
 ghost use Rattle.plant_conf.specs.Steps.{each, value_or, all_give};
-ghost use Rattle.plant_conf.specs.Forms.{as_array_of, wire_in, wires, entry};
+ghost use Rattle.plant_conf.specs.Forms.{as_array_of, wires};
+ghost use Rattle.plant_conf.specs.Kept.{entry, wire_in};
 ghost use Rattle.plant_conf.specs.Keys.{required};
 
 use crate::fault::ConfFault;

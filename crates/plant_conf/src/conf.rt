@@ -69,13 +69,16 @@ impl PlantConf {
     ghost use Rattle.std.specs.Prelude.{◌≤◌, ◌<◌, [], None, length, map, vec_len};
     ghost use Rattle.std.specs.List.{All};
     ghost use Rattle.fb_net.specs.New.{IsNew};
+    ghost use Rattle.plant_conf.specs.ConfView.{HasSameLengths, IsProfileOne};
     ghost use Rattle.plant_conf.specs.Ids.{same_conn};
 
-    /// The connections, from 1 to 64, with different ids.
+    /// The connections, from 1 to 64, with different ids. Both ends of each are of profile One, with the same lengths.
     pub fn links(&self) -> &[LinkConf]
         ensures value { result.now ≡ self.now.links }
         ensures some { 0 < length result.now }
         ensures most { length result.now ≤ 64 }
+        ensures same_lengths { All HasSameLengths result.now }
+        ensures profile_one { All IsProfileOne result.now }
         ensures different { same_conn 1 (map (λ link. link.master.conn) result.now) ≡ None }
     {
         self.links.as_slice()

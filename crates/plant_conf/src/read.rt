@@ -5,7 +5,7 @@ ghost use Rattle.toml.specs.View.{table_view};
 ghost use Rattle.plant_conf.specs.declared.conf.LinkConf.{LinkConf};
 ghost use Rattle.plant_conf.specs.declared.fault.ConfFault.TheVariants as fault;
 ghost use Rattle.plant_conf.specs.Meaning.{whole, count_of, has_too_many, apart, plant_keys, connections, all_of, document_meaning, text_meaning, Means};
-ghost use Rattle.plant_conf.specs.ConfView.{conf_values};
+ghost use Rattle.plant_conf.specs.ConfView.{HasSameLengths, IsProfileOne, conf_values};
 ghost use Rattle.plant_conf.specs.Ids.{same_conn};
 ghost use Rattle.plant_conf.specs.Kept.{plant_said};
 ghost use Rattle.plant_conf.specs.Values.{link_values};
@@ -89,6 +89,8 @@ fn connections(alloc: Global, document: &Table) -> Result<Vec<LinkConf>, ConfFau
     ensures reads { IfOk result (λ v. connections (table_view document.now) ≡ Ok (map link_values v.items)) }
     ensures count { IfOk result (λ v. vec_len v ≡ count_of KeyTable.Connection (table_view document.now)) }
     ensures some { IfOk result (λ v. 0 < vec_len v) }
+    ensures same_lengths { IfOk result (λ v. All HasSameLengths v.items) }
+    ensures profile_one { IfOk result (λ v. All IsProfileOne v.items) }
     ensures refuses { IfErr result (λ e. e ≢ fault.Memory → connections (table_view document.now) ≡ Err e) }
 {
     let key = whole(KeyTable::Connection);

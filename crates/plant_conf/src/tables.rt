@@ -9,6 +9,7 @@ ghost use Rattle.param_load.specs.declared.profile.Profile.TheVariants as profil
 ghost use Rattle.plant_conf.specs.declared.fault.ConfFault.TheVariants as fault;
 ghost use Rattle.plant_conf.specs.Keys.{key_of, plant, link_keys, slave_keys, connection};
 ghost use Rattle.plant_conf.specs.Kept.{plant_said, keys_said, slave_said};
+ghost use Rattle.plant_conf.specs.ConfView.{HasSameLengths, IsProfileOne};
 ghost use Rattle.plant_conf.specs.Values.{link_values};
 
 use crate::arrays::{FromTable, required_wires};
@@ -95,6 +96,7 @@ impl FromTable for BlockSpec {
 }
 
 impl FromTable for LinkConf {
+    ghost use Rattle.plant_conf.specs.ConfView.{HasSameLengths, IsProfileOne};
     ghost use Rattle.plant_conf.specs.Keys.{connection};
     ghost use Rattle.plant_conf.specs.Values.{LinkValues, link_values};
 
@@ -102,7 +104,7 @@ impl FromTable for LinkConf {
 
     ghost values = { link_values };
 
-    ghost Holds = { λ _. Unit {0} };
+    ghost Holds = { λ link. HasSameLengths link × IsProfileOne link };
 
     ghost says = { connection };
 
@@ -187,6 +189,7 @@ fn read_slave(table: &Table, number: u16, link: &LinkKeys) -> Result<SlaveKeys, 
 /// What both ends of the connection with this number are set to. It takes no memory.
 fn read_connection(table: &Table, number: u16) -> Result<LinkConf, ConfFault>
     ensures reads { IfOk result (λ link. connection number (table_view table.now) ≡ Ok (link_values link)) }
+    ensures holds { IfOk result (λ link. HasSameLengths link × IsProfileOne link) }
     ensures refuses { IfErr result (λ e. connection number (table_view table.now) ≡ Err e) }
 {
     let of = KeyTable::Connection;

@@ -3,7 +3,8 @@ ghost use Rattle.std.specs.Prelude.{◌≡◌, ◌∷◌, IsTrue, IfSome, option
 ghost use Rattle.hex.specs.Hex.{decode_of};
 ghost use Rattle.param_load.specs.AppRule.{is_acceptable};
 ghost use Rattle.schedule_file.specs.Field.{number_said};
-ghost use Rattle.plant_conf.specs.Forms.{after_letter, parts_of, parts_after, place_said, bit_said, wire_said, kind_said, rule_said, at_most};
+ghost use Rattle.plant_conf.specs.Kept.{parts_after};
+ghost use Rattle.plant_conf.specs.Forms.{after_letter, parts_of, place_said, bit_said, wire_said, kind_said, rule_said, at_most};
 
 use failsafe_io::Bit;
 use fb_lib::BlockKind;

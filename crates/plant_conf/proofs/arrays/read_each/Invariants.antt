@@ -1,7 +1,7 @@
 use Rattle.std.proofs.Common.{◌≡◌, ◌+◌, map, drop, vec_len, All}
 use Rattle.toml.specs.View.{view}
 use Rattle.plant_conf.specs.Steps.{each}
-use Rattle.plant_conf.specs.Forms.{entry}
+use Rattle.plant_conf.specs.Kept.{entry}
 use Rattle.plant_conf.proofs.ArrayLaws.{after_read}
 use Rattle.plant_conf.proofs.arrays.read_each.Given as goal
 

@@ -1,7 +1,7 @@
 use Rattle.std.proofs.Common.{◌≡◌, map, drop}
 use Rattle.toml.specs.View.{view}
 use Rattle.plant_conf.specs.Steps.{all_give}
-use Rattle.plant_conf.specs.Forms.{wire_in}
+use Rattle.plant_conf.specs.Kept.{wire_in}
 use Rattle.plant_conf.proofs.ArrayLaws.{after_given}
 use Rattle.plant_conf.proofs.arrays.read_wires.Given as goal
 
