@@ -80,8 +80,8 @@ drop_follows old new link place bytes did n d = record {
       let m : Meant = meant settings app calls in
       let x = dropped settings app old new calls place bytes did h d in
       let is : after (Deliver link bytes) m ≡ event_at (suc place) (move.Deliver bytes) m =
-          ap (λ (k : ℕ). after (Deliver k bytes) m) n
-          ∙ ap (λ (o : Option Answer). event_at (suc place) (move.Deliver bytes) (with_cycle o m)) (cycle-is m place x.there bytes false x.is x.none)
+      ap (λ (k : ℕ). after (Deliver k bytes) m) n
+      ∙ ap (λ (o : Option Answer). event_at (suc place) (move.Deliver bytes) (with_cycle o m)) (cycle-is m place x.there bytes false x.is x.none)
       in
       quiet_stands settings app old new calls (Deliver link bytes) place (move.Deliver bytes) x.there d.last h is
       (record { is = x.is; offer = refl; outputs = quiet_frame (setup x.there) x.there.deeds bytes x.none }) x.holds d.masters_are d.app_is d.inputs_are d.changed_are;
@@ -104,8 +104,8 @@ drop_answers old new link place bytes did frame n f d = record {
       let x = dropped settings app old new calls place bytes did h d in
       let later : Meant = record m { connections = slice_set m.connections place (with_event (move.Deliver bytes) x.there) } in
       let is : after (Deliver (suc place) bytes) m ≡ later =
-          ap (λ (o : Option Answer). event_at (suc place) (move.Deliver bytes) (with_cycle o m)) (cycle-is m place x.there bytes false x.is x.none)
-          ∙ event_is m place x.there (move.Deliver bytes) x.is
+      ap (λ (o : Option Answer). event_at (suc place) (move.Deliver bytes) (with_cycle o m)) (cycle-is m place x.there bytes false x.is x.none)
+      ∙ event_is m place x.there (move.Deliver bytes) x.is
       in
       ap (λ (k : ℕ). newest_at k (after (Deliver k bytes) m)) n
       ∙ ap (λ (y : Meant). newest_at (suc place) y) is
@@ -159,10 +159,10 @@ heard settings app old new calls place bytes did frame h t =
     let frame_is : event_at (suc place) (move.Deliver bytes) m ≡ with_frame = event_is m place c (move.Deliver bytes) p.is in
     let input_is : t.input ≡ outputs_at d = t.reads.shows _ u.waits in
     let inputs : new.inputs ≡ map outputs_at with_frame.connections =
-        t.inputs_are ∙ ap₂ (λ (xs : List (List ℕ)) (x : List ℕ). slice_set xs place x) h.inputs_are input_is ∙ sym (map-set outputs_at cs place d)
+    t.inputs_are ∙ ap₂ (λ (xs : List (List ℕ)) (x : List ℕ). slice_set xs place x) h.inputs_are input_is ∙ sym (map-set outputs_at cs place d)
     in
     let lens : map own_len (slice_set old.masters place t.accepted) ≡ map offer_len with_frame.connections =
-        map_set own_len old.masters place t.before t.accepted t.at (ap (λ s. s.lengths.master) t.settings) ∙ own_lens cs old.masters h.masters ∙ sym (map_set offer_len cs place c d p.is refl)
+    map_set own_len old.masters place t.before t.accepted t.at (ap (λ s. s.lengths.master) t.settings) ∙ own_lens cs old.masters h.masters ∙ sym (map_set offer_len cs place c d p.is refl)
     in
     let a : Answer = answer false with_frame in
     let said = cycle_answers with_frame old.app new.app false new.inputs (map own_len (slice_set old.masters place t.accepted)) t.cycle.answers h.app_is inputs lens t.cycle.cycle in

@@ -28,11 +28,12 @@ pub cycle_answers : (m : Meant) (old new : AppView) (ticked : Bool) (inputs : Li
     → (answers ≡ (answer ticked m).outputs) × (new ≡ record m.app { holds = (answer ticked m).holds })
 cycle_answers m old new ticked inputs lens answers a i n c =
     let same : old.rule old.holds ticked inputs lens ≡ answer ticked m =
-        ap (λ (app : AppView). app.rule app.holds ticked inputs lens) a
-        ∙ ap₂ (λ (xs : List (List ℕ)) (ns : List ℕ). m.app.rule m.app.holds ticked xs ns) i n
-    in
-    (c.answers_are ∙ ap (λ (x : Answer). x.outputs) same,
-     c.app_is ∙ ap₂ (λ (app : AppView) (x : Answer). record app { holds = x.holds }) a same)
+    ap (λ (app : AppView). app.rule app.holds ticked inputs lens) a
+    ∙ ap₂ (λ (xs : List (List ℕ)) (ns : List ℕ). m.app.rule m.app.holds ticked xs ns) i n
+    in (
+      c.answers_are ∙ ap (λ (x : Answer). x.outputs) same,
+      c.app_is ∙ ap₂ (λ (app : AppView) (x : Answer). record app { holds = x.holds }) a same,
+    )
 
 -- a cycle was run over what is meant, and its answers were put
 pub record CycleDone (m : Meant) (ticked : Bool) (masters : List MasterView) (app : AppView) (inputs : List (List ℕ)) (told : List ℕ) : Type 0 where

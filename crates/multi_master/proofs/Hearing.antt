@@ -44,7 +44,7 @@ replied (c0 ∷ cs) (m ∷ olds) (x ∷ xs) zero c accepted ready last bytes fra
     let one : IsPutStep x = All-head IsPutStep x xs s in
     let waits : Waits x.old (delivery_at c0 bytes did) = subst (λ (v : MasterView). Waits v (delivery_at c0 bytes did)) old (subst (λ (d : Connection). Waits accepted (delivery_at d bytes did)) same w) in
     let put : Waits ready (delivery_at (with_offer x.answer c0) bytes did) =
-        subst (λ (v : MasterView). Waits v (delivery_at (with_offer x.answer c0) bytes did)) (sym new) (put_due c0 bytes did x waits one) in
+    subst (λ (v : MasterView). Waits v (delivery_at (with_offer x.answer c0) bytes did)) (sym new) (put_due c0 bytes did x waits one) in
     let others : AllZip IsWhere cs (map (λ x. x.old) xs) = subst (λ (ms : List MasterView). AllZip IsWhere cs ms) rest h.1 in
     record {
       there = with_offer x.answer c0;

@@ -83,11 +83,11 @@ pub one_rest : (masters put : List MasterView) (k : ℕ) (m accepted last : Mast
     → due_in m ≡ false → due_in last ≡ false → All (λ m. due_in m ≡ false) masters → All (λ m. due_in m ≡ false) (slice_set put k last)
 one_rest masters put k m accepted last e at was is h =
     let same : map due_in (slice_set put k last) ≡ map due_in masters =
-        map-set due_in put k last
-        ∙ ap (λ (bs : List Bool). slice_set bs k (due_in last)) (e ∙ map-set due_in masters k accepted)
-        ∙ set-set (map due_in masters) k (due_in accepted) (due_in last)
-        ∙ sym (map-set due_in masters k last)
-        ∙ map_set due_in masters k m last at (is ∙ sym was)
+    map-set due_in put k last
+    ∙ ap (λ (bs : List Bool). slice_set bs k (due_in last)) (e ∙ map-set due_in masters k accepted)
+    ∙ set-set (map due_in masters) k (due_in accepted) (due_in last)
+    ∙ sym (map-set due_in masters k last)
+    ∙ map_set due_in masters k m last at (is ∙ sym was)
     in
     all_rest (slice_set put k last) masters same h
 

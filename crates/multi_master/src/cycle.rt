@@ -23,11 +23,7 @@ fn put_answer(master: &mut Master, answer: &[u8]) -> bool
 }
 
 /// Puts each answer as the offer of its master where it isn't the offer already, and lists the connections where it wasn't.
-fn put_answers(
-    masters: &mut [Master],
-    answers: &[Image],
-    changed: &mut ArrayVec<u16, MOST_LINKS>,
-)
+fn put_answers(masters: &mut [Master], answers: &[Image], changed: &mut ArrayVec<u16, MOST_LINKS>)
     requires fits { map length answers.now ≡ map own_len masters.old }
     requires most { length masters.old ≤ MOST_LINKS }
     ensures puts { PutsEach masters.old answers.now masters.new changed.new.items }
@@ -87,11 +83,6 @@ pub(crate) fn tick_all(
     ensures { TicksEach masters.old inputs.old masters.new inputs.new dids.new outs.new }
 {
     for i in 0..masters.len() {
-        tick_one(
-            &mut masters[i],
-            &mut inputs[i],
-            &mut dids[i],
-            &mut outs[i],
-        );
+        tick_one(&mut masters[i], &mut inputs[i], &mut dids[i], &mut outs[i]);
     }
 }

@@ -35,10 +35,10 @@ impl<A> Model for MultiMaster<A> {
     ghost Value = { MultiValue A };
 
     ghost view = { λ m. record {
-        masters = m.masters.items;
-        app = m.app;
-        inputs = m.inputs.items;
-        changed = m.changed.items;
+      masters = m.masters.items;
+      app = m.app;
+      inputs = m.inputs.items;
+      changed = m.changed.items;
     } };
 
     ghost invariant = { λ m. IsMulti m.masters.items m.inputs.items m.answers.items };

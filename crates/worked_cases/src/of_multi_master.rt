@@ -25,14 +25,7 @@ fn settings(alloc: Global, conns: &[u16]) -> Result<Vec<MasterSettings>, Fail> {
     for conn in conns {
         let lengths = Lengths::new(2, 2)?;
         let address = conn.saturating_add(10);
-        settings.push(MasterSettings::new(
-            lengths,
-            *conn,
-            address,
-            5,
-            AppBytes::new(),
-            1,
-        )?)?;
+        settings.push(MasterSettings::new(lengths, *conn, address, 5, AppBytes::new(), 1)?)?;
     }
     Ok(settings)
 }
@@ -91,7 +84,10 @@ fn settings_of_many_connections_are_refused_in_order(rt: HostRuntime) -> Result<
     assert_eq!(rt; fault_of(rt.alloc(), &[1, 2, 1])?, same(1, 3));
     assert_eq!(rt; fault_of(rt.alloc(), &[3, 7, 7, 3, 3])?, same(1, 4));
     many.push(1)?;
-    assert_eq!(rt; fault_of(rt.alloc(), many.as_slice())?, Some(NewFault::TooMany));
+    assert_eq!(rt;
+        fault_of(rt.alloc(), many.as_slice())?,
+        Some(NewFault::TooMany)
+    );
     Ok(())
 }
 

@@ -32,10 +32,10 @@ loop-i-preserved c =
     let x : PutStep = record { old = m; shown = c.put_answer.ensures.shown; answer = answer; new = c.put_answer.new.master } in
     let same : Bool = pointwise nat_eq c.put_answer.ensures.shown answer in
     let told : c.if-put_answer.changed.items ≡ (if same then c.loop-i.changed.items else c.loop-i.changed.items ++ (i + 1) ∷ []) =
-        elim c.if-put_answer.branch [
-          | then-put_answer w ↦ told_put same c.put_answer.result c.loop-i.changed.items _ (i + 1) c.put_answer.ensures.told_is w.if-put_answer.true (cc)
-          | else-put_answer w ↦ told_none same c.put_answer.result c.loop-i.changed.items _ (i + 1) c.put_answer.ensures.told_is w.if-put_answer.false (cc)
-        ]
+    elim c.if-put_answer.branch [
+      | then-put_answer w ↦ told_put same c.put_answer.result c.loop-i.changed.items _ (i + 1) c.put_answer.ensures.told_is w.if-put_answer.true (cc)
+      | else-put_answer w ↦ told_none same c.put_answer.result c.loop-i.changed.items _ (i + 1) c.put_answer.ensures.told_is w.if-put_answer.false (cc)
+    ]
     in
     record {
       fits = c.loop-i.invariant.fits ∙ sym (map_set own_len c.loop-i.masters i m c.put_answer.new.master at (ap (λ s. s.lengths.master) c.put_answer.ensures.step.settings));

@@ -10,7 +10,7 @@ use Rattle.multi_master.proofs.multi_master.MultiMaster.tick.Goals as goal
 pub run_cycle-requires-clause-fits : goal.run_cycle-requires-clause-fits
 run_cycle-requires-clause-fits g c =
     let ticked : c.as_mut_slice-4.result.now ≡ c.tick_all.new.masters =
-        c.as_mut_slice-4.ensures.value ∙ written_back c.tick_all.new.masters c.self.inside.masters.items c.self.inside.masters.len (cc) (cc)
+    c.as_mut_slice-4.ensures.value ∙ written_back c.tick_all.new.masters c.self.inside.masters.items c.self.inside.masters.len (cc) (cc)
     in
     let settings : map settings_in c.tick_all.new.masters ≡ map settings_in c.self.inside.masters.items = ticks_settings _ _ _ _ _ _ c.tick_all.ensures ∙ ap (map settings_in) c.as_mut_slice.ensures.value in
     ap (map length) c.as_mut_slice-3.ensures.value ∙ c.self.invariant.answers_fit
@@ -19,7 +19,7 @@ run_cycle-requires-clause-fits g c =
 pub invariant_of-self : goal.invariant_of-self
 invariant_of-self g c =
     let ticked : c.as_mut_slice-4.result.now ≡ c.tick_all.new.masters =
-        c.as_mut_slice-4.ensures.value ∙ written_back c.tick_all.new.masters c.self.inside.masters.items c.self.inside.masters.len (cc) (cc)
+    c.as_mut_slice-4.ensures.value ∙ written_back c.tick_all.new.masters c.self.inside.masters.items c.self.inside.masters.len (cc) (cc)
     in
     let first = written_back c.tick_all.new.masters c.self.inside.masters.items c.self.inside.masters.len (cc) (cc) in
     let back = written_back c.run_cycle.new.masters c.tick_all.new.masters c.self.inside.masters.len (cc) (cc) in
@@ -35,7 +35,7 @@ invariant_of-self g c =
 pub returns-clause-follows : goal.returns-clause-follows
 returns-clause-follows g c =
     let ticked : c.as_mut_slice-4.result.now ≡ c.tick_all.new.masters =
-        c.as_mut_slice-4.ensures.value ∙ written_back c.tick_all.new.masters c.self.inside.masters.items c.self.inside.masters.len (cc) (cc)
+    c.as_mut_slice-4.ensures.value ∙ written_back c.tick_all.new.masters c.self.inside.masters.items c.self.inside.masters.len (cc) (cc)
     in
     let first = written_back c.tick_all.new.masters c.self.inside.masters.items c.self.inside.masters.len (cc) (cc) in
     let back = written_back c.run_cycle.new.masters c.tick_all.new.masters c.self.inside.masters.len (cc) (cc) in
@@ -50,7 +50,7 @@ returns-clause-follows g c =
 pub returns-clause-offers : goal.returns-clause-offers
 returns-clause-offers g c =
     let ticked : c.as_mut_slice-4.result.now ≡ c.tick_all.new.masters =
-        c.as_mut_slice-4.ensures.value ∙ written_back c.tick_all.new.masters c.self.inside.masters.items c.self.inside.masters.len (cc) (cc)
+    c.as_mut_slice-4.ensures.value ∙ written_back c.tick_all.new.masters c.self.inside.masters.items c.self.inside.masters.len (cc) (cc)
     in
     let inputs = written_back c.tick_all.new.inputs c.self.inside.inputs.items c.self.inside.inputs.len (cc) (cc) in
     rw (← c.self.view_is)
@@ -63,7 +63,7 @@ returns-clause-offers g c =
 pub returns-clause-answers : goal.returns-clause-answers
 returns-clause-answers g c =
     let ticked : c.as_mut_slice-4.result.now ≡ c.tick_all.new.masters =
-        c.as_mut_slice-4.ensures.value ∙ written_back c.tick_all.new.masters c.self.inside.masters.items c.self.inside.masters.len (cc) (cc)
+    c.as_mut_slice-4.ensures.value ∙ written_back c.tick_all.new.masters c.self.inside.masters.items c.self.inside.masters.len (cc) (cc)
     in
     let inputs = written_back c.tick_all.new.inputs c.self.inside.inputs.items c.self.inside.inputs.len (cc) (cc) in
     rw (← c.self.view_is)
@@ -76,7 +76,7 @@ returns-clause-answers g c =
 pub returns-clause-settings : goal.returns-clause-settings
 returns-clause-settings g c =
     let ticked : c.as_mut_slice-4.result.now ≡ c.tick_all.new.masters =
-        c.as_mut_slice-4.ensures.value ∙ written_back c.tick_all.new.masters c.self.inside.masters.items c.self.inside.masters.len (cc) (cc)
+    c.as_mut_slice-4.ensures.value ∙ written_back c.tick_all.new.masters c.self.inside.masters.items c.self.inside.masters.len (cc) (cc)
     in
     let first = written_back c.tick_all.new.masters c.self.inside.masters.items c.self.inside.masters.len (cc) (cc) in
     let back = written_back c.run_cycle.new.masters c.tick_all.new.masters c.self.inside.masters.len (cc) (cc) in
