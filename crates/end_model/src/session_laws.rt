@@ -50,7 +50,8 @@ pub fn after_first()
     ensures session { (ss : SlaveSettings) (e : List Deed) (first bytes load : List ℕ) (c : Command) → IsRun (OfSlave ss) e → taken (since e) ≡ first ∷ [] → piece_len (OfSlave ss) < id_len ss.profile → c ≢ command.Reset → verdict (OfSlave ss) e bytes ≡ Valid c load → c ≡ command.Session }
 {}
 
-/// Session ids that are both even, or both odd, don't differ by 9985h; and none do where a length is 1.
+/// Session ids that are both even, or both odd, don't differ by 9985h in what the first group of a frame carries of them; and where a length
+/// is 1 none do, since it carries 8 bits.
 #[tactic(auto, using(crate::proofs::IdFront::even_not_by_step, crate::proofs::IdFront::byte_not_by_step))]
 pub fn never_by_step()
     ensures even { (s : Setup) (id id' : ℕ) → id % 2 ≡ id' % 2 → NotByStep s id id' }
