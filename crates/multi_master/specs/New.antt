@@ -26,7 +26,7 @@ first_pair n (s ∷ rest) = pair_or n (first_with s.conn (suc n) rest) (first_pa
 abbrev pub first_fault : List MasterSettings → Option NewFault
 first_fault settings = if nat_lt 64 (length settings) then Some fault.TooMany else first_pair 1 settings
 
--- a master with these settings to which nothing happened yet
+-- a master with these settings to which nothing happened yet; contracts of private functions alone rest on it
 pub record IsNewMaster (settings : MasterSettings) (m : MasterView) : Type 0 where
   pub is_after : MasterIsAfter settings m []
   pub settings_are : m.kit.settings ≡ settings

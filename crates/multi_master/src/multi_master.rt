@@ -1,7 +1,6 @@
 //! A master of many connections.
-ghost use Rattle.std.specs.Prelude.{◌≡◌, ◌≤◌, ◌-◌, [], length, vec_len, slice_get, option_copied, IfOk, IfErr, IfSome, IsErrAnd, None, Some, IsTrue};
+ghost use Rattle.std.specs.Prelude.{◌≡◌, ◌≤◌, [], length, vec_len, option_copied, IfOk, IfErr, IfSome, IsErrAnd, None, Some};
 ghost use Rattle.std.specs.Result.{result_err};
-ghost use Rattle.param_load.specs.Profile.{allows_id};
 ghost use Rattle.end_model.specs.Readiness as model;
 ghost use Rattle.multi_master.specs.declared.fault.NewFault.TheVariants as fault;
 
@@ -52,7 +51,7 @@ impl<A: Application> MultiMaster<A> {
 
     /// The masters of connections with these settings, in this order, each in state Reset, and this application. No cycle is
     /// run: the offers are zeros until the first one. There may be no connection at all. Refused are more than 64 connections; then
-    /// two with the same connection id, with the first two places of one; then want of memory. Settings and application are dropped
+    /// a connection id that stands twice, with its places; then want of memory. Settings and application are dropped
     /// then.
     pub fn new(settings: Vec<MasterSettings>, app: A) -> Result<MultiMaster<A>, NewFault>
         ensures refused { IfSome (first_fault settings.items) (λ found. result_err result ≡ Some found) }
@@ -138,8 +137,9 @@ impl<A: Application> MultiMaster<A> {
         );
     }
 
-    /// Drops the application that runs, and has this one in its place. It has a first cycle, which isn't ticked, and its answers are
-    /// the offers of all connections; between both no offer of the old one is left, and no frame is made.
+    /// Drops the application that runs, and has this one in its place. All offers become zeros; then the new one has its first cycle,
+    /// which isn't ticked, and its answers are the offers of all connections. No frame is made in between, so none carries an offer of
+    /// the old one.
     pub fn change_app(&mut self, app: A)
         ensures follows { let seen = seen A.rule A.holds A.guards in Follows (seen self.old) (ChangeApp (app_view A.rule A.holds A.guards app)) (seen self.new) }
         ensures offers { Offers (seen A.rule A.holds A.guards self.old) (ChangeApp (app_view A.rule A.holds A.guards app)) }
@@ -157,16 +157,15 @@ impl<A: Application> MultiMaster<A> {
         );
     }
 
-    /// The session id of the sessions of this connection that begin from now on. At most 65,535 in profile One.
-    pub fn nonce(&mut self, link: u16, id: u32)
-        requires link { HasLink self.old link }
-        requires allowed { IfSome (slice_get (settings_of self.old) (link - 1)) (λ s. IsTrue (allows_id s.profile id)) }
+    /// The session id of the sessions of this connection that begin from now on, which is one in both profiles.
+    pub fn nonce(&mut self, link: u16, id: u16)
+        requires { HasLink self.old link }
         ensures follows { let seen = seen A.rule A.holds A.guards in Follows (seen self.old) (Nonce link id) (seen self.new) }
         ensures settings { settings_of self.new ≡ settings_of self.old }
         ensures links { links self.new ≡ links self.old }
     {
         self.changed.clear();
-        self.masters[usize::from(link) - 1].nonce(id);
+        self.masters[usize::from(link) - 1].nonce(u32::from(id));
     }
 
     /// The number of connections, which are numbered from 1.
