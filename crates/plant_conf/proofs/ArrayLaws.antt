@@ -1,6 +1,6 @@
 -- Arrays that are read value by value.
-use Rattle.std.proofs.Common.{◌≡◌, ◌∙◌, sym, ℕ, suc, ◌+◌, ◌<◌, ◌≤◌, Bool, true, false, List, [], ◌∷◌, ◌++◌, length, get_or, map, drop, zero, subst, Option, Some, None, is_some, option_map, Result, Ok, Err, refl, ap, arith, append_assoc, add-one}
-use Rattle.std.specs.Prelude.{option_and_then, unwrap_or, IfOk, IfErr}
+use Rattle.std.proofs.Common.{◌≡◌, ◌∙◌, sym, ℕ, suc, ◌+◌, ◌<◌, ◌≤◌, true, false, List, [], ◌∷◌, ◌++◌, length, get_or, map, drop, zero, Option, Some, None, is_some, Result, Ok, Err, refl, ap, arith, append_assoc, add-one}
+use Rattle.std.specs.Prelude.{unwrap_or, IfOk, IfErr}
 use Rattle.std.proofs.lemmas.Grind.{common_steps}
 use Rattle.toml.specs.Data.{Data, Members, as_str, as_table, as_array}
 use Rattle.toml.specs.View.{view, items_of}
@@ -10,7 +10,7 @@ use Rattle.plant_conf.specs.declared.fault.ConfFault.{ConfFault}
 use Rattle.plant_conf.specs.declared.key.Key.{Key}
 use Rattle.plant_conf.specs.declared.fault.ConfFault.TheVariants as fault
 use Rattle.plant_conf.specs.Steps.{◌>>=◌, value_or, each, with_first, all_give}
-use Rattle.plant_conf.specs.Forms.{Form, formed, values_of, as_array_of, wire_said, wires, tables}
+use Rattle.plant_conf.specs.Forms.{Form, values_of, as_array_of, wire_said, wires}
 use Rattle.plant_conf.specs.Kept.{entry, wire_in}
 use Rattle.plant_conf.specs.declared.key.KeyTable.{KeyTable}
 use Rattle.plant_conf.specs.declared.key.KeyTable.TheVariants as table

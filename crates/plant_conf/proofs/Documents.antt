@@ -19,7 +19,7 @@ use Rattle.fb_lib.specs.declared.kind.BlockKind.{BlockKind}
 use Rattle.fb_net.specs.declared.wire.Wire.{Wire}
 use Rattle.plant_conf.specs.Meaning.{has_too_many, few_tables, apart, plant_keys, connections, all_of, document_meaning}
 use Rattle.plant_conf.specs.Steps.{◌>>=◌}
-use Rattle.plant_conf.specs.Values.{LinkValues, link_values}
+use Rattle.plant_conf.specs.Values.{link_values}
 
 bind : {A B : Type 0} (r : Result A ConfFault) (x : A) (f : A → Result B ConfFault) → r ≡ Ok x → (r >>= f) ≡ f x
 bind r x f e = ap (λ q. q >>= f) e

@@ -1,5 +1,5 @@
 -- Bytes in hexadecimal, decoded into as much room as their digits need.
-use Rattle.std.proofs.Common.{◌≡◌, ◌∙◌, sym, ℕ, ◌+◌, ◌*◌, ◌/◌, ◌<◌, List, length, Option, None, Some, Result, Ok, Err, refl, ap, arith}
+use Rattle.std.proofs.Common.{◌≡◌, sym, ℕ, ◌*◌, ◌/◌, ◌<◌, List, length, None, Result, Ok, Err, refl, arith}
 use Rattle.std.proofs.lemmas.Grind.{common_steps}
 use Rattle.hex.specs.Hex.{decode_of, decode_sized}
 use Rattle.hex.specs.declared.error.FromHexError.{FromHexError}

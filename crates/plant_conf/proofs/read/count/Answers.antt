@@ -1,4 +1,4 @@
-use Rattle.std.proofs.Common.{◌≡◌, ◌∙◌, sym, length, arith}
+use Rattle.std.proofs.Common.{arith}
 use Rattle.toml.specs.View.{view, table_view}
 use Rattle.plant_conf.proofs.ArrayLaws.{count-at}
 use Rattle.plant_conf.proofs.read.count.Goals as goal

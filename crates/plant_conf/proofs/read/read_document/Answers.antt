@@ -1,4 +1,4 @@
-use Rattle.std.proofs.Common.{◌≡◌, ◌∙◌, sym, ap, map, Ok}
+use Rattle.std.proofs.Common.{◌∙◌, sym, ap, map}
 use Rattle.toml.specs.View.{table_view}
 use Rattle.plant_conf.specs.Kept.{plant_said}
 use Rattle.plant_conf.specs.Ids.{same_conn}
