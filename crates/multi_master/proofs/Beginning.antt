@@ -1,12 +1,10 @@
 -- A master of many connections that was just made.
-use Rattle.std.proofs.Common.{◌≡◌, ◌≤◌, ℕ, suc, List, [], ◌∷◌, map, length, replicate, All, Option, Some, None, Bool, true, false, nat_lt, if◌then◌else◌, refl, sym, ap, ap₂, subst, ◌∙◌, arith}
+use Rattle.std.proofs.Common.{◌≡◌, ◌≤◌, ℕ, suc, List, [], ◌∷◌, map, length, replicate, All, Some, None, Bool, true, false, nat_lt, if◌then◌else◌, refl, ap, ap₂, ◌∙◌, arith}
 use Rattle.std.specs.List.{AllZip}
-use Rattle.std.proofs.lemmas.Grind.{common_steps}
 use Rattle.std.proofs.lemmas.List.Elements.{All-nil, All-cons}
 use Rattle.param_load.specs.declared.master_settings.MasterSettings.{MasterSettings}
 use Rattle.end_model.specs.Setup.{OfMaster, receives}
 use Rattle.master_core.specs.MasterView.{MasterView}
-use Rattle.multi_master.specs.declared.fault.NewFault.{NewFault}
 use Rattle.multi_master.specs.declared.fault.NewFault.TheVariants as fault
 use Rattle.multi_master.specs.Connection.{fresh, outputs_at}
 use Rattle.multi_master.specs.Calls.{AppView}

@@ -1,12 +1,10 @@
 -- Zeros that are put before an answer leave nothing.
-use Rattle.std.proofs.Common.{◌≡◌, ℕ, List, ◌∷◌, Bool, true, false, replicate, nat_eq, if◌then◌else◌, refl, sym, ap, subst, ◌∙◌}
-use Rattle.std.specs.Cmp.Lexicographic.{pointwise, same_text}
+use Rattle.std.proofs.Common.{◌≡◌, ℕ, List, Bool, true, false, replicate, if◌then◌else◌, refl, sym, ap, ◌∙◌}
+use Rattle.std.specs.Cmp.Lexicographic.{same_text}
 use Rattle.param_load.specs.declared.entry.Move.TheVariants as move
-use Rattle.end_model.specs.Deed.{Deed}
-use Rattle.end_model.specs.Readiness.{offer}
 use Rattle.master_core.specs.MasterView.{MasterView}
 use Rattle.master_core.specs.ViewOf.{view_of}
-use Rattle.multi_master.specs.Connection.{Connection, setup, next_deed, with_event, offer_at, offer_len, is_offer, with_offer}
+use Rattle.multi_master.specs.Connection.{Connection, with_event, offer_at, offer_len, is_offer, with_offer}
 use Rattle.multi_master.specs.Standing.{IsWhere}
 
 -- a master is where the last put leaves it

@@ -1,5 +1,5 @@
 -- A delivery to one of many connections, by what its master and the application do.
-use Rattle.std.proofs.Common.{◌≡◌, ℕ, zero, suc, ◌-◌, List, [], ◌∷◌, map, length, slice_get, slice_set, Option, Some, None, option_map, is_some, Bool, true, false, ◌||◌, IfSome, All, if◌then◌else◌, refl, sym, ap, ap₂, subst, ◌∙◌, arith}
+use Rattle.std.proofs.Common.{◌≡◌, ℕ, suc, List, [], ◌∷◌, map, slice_get, slice_set, Option, Some, None, Bool, true, false, IfSome, if◌then◌else◌, refl, sym, ap, ap₂, subst, ◌∙◌}
 use Rattle.std.specs.List.{AllZip}
 use Rattle.std.specs.Option.{option_map_or}
 use Rattle.std.proofs.lemmas.List.{map-set}
@@ -15,15 +15,15 @@ use Rattle.master_core.specs.MasterView.{MasterView}
 use Rattle.master_core.specs.Now.{is_due}
 use Rattle.master_core.specs.Waiting.{Accepts, Replies, ShowsDue}
 use Rattle.multi_master.specs.Connection.{Connection, setup, next_deed, with_event, outputs_at, offer_at, offer_len, with_offers}
-use Rattle.multi_master.specs.Calls.{AppView, Call, Deliver, Meant, connection, event_at, answer, is_heard, cycle_in, with_cycle, after, meant, changed_from}
+use Rattle.multi_master.specs.Calls.{AppView, Call, Deliver, Meant, event_at, answer, is_heard, cycle_in, with_cycle, after, meant}
 use Rattle.multi_master.specs.Puts.{own_len, PutsEach, RunsCycle}
-use Rattle.multi_master.specs.Standing.{MultiView, settings_in, IsWhere, StandsFor, Follows, Offers, AnswersFrame, deeds_at, newest_at}
+use Rattle.multi_master.specs.Standing.{MultiView, settings_in, IsWhere, StandsFor, Follows, Offers, AnswersFrame, newest_at}
 use Rattle.multi_master.proofs.Following.{own_lens, cycle_answers}
-use Rattle.multi_master.proofs.Hearing.{Replied, replied}
-use Rattle.multi_master.proofs.Places.{At, at_place, map_set, set_there}
+use Rattle.multi_master.proofs.Hearing.{replied}
+use Rattle.multi_master.proofs.Places.{at_place, map_set, set_there}
 use Rattle.multi_master.proofs.Putting.{offers_put, all_outputs_put, puts_told}
 use Rattle.multi_master.proofs.Quiet.{quiet_frame, quiet_deed, same_outputs, told_set}
-use Rattle.multi_master.proofs.Reading.{StandsIn, stands_so, event_is, Quiets, quiet_stands}
+use Rattle.multi_master.proofs.Reading.{StandsIn, stands_so, event_is, quiet_stands}
 
 -- the cycle of a delivery to a connection that exists
 cycle-is : (m : Meant) (place : ℕ) (c : Connection) (bytes : List ℕ) (b : Bool) → slice_get m.connections place ≡ Some c → tells_due (next_deed (move.Deliver bytes) c).did ≡ b

@@ -1,15 +1,12 @@
 -- What a call does, from what it does to the masters, the inputs and the application.
-use Rattle.std.proofs.Common.{◌≡◌, ℕ, zero, suc, ◌-◌, List, [], ◌∷◌, map, length, slice_get, slice_set, Option, Some, None, option_map, Bool, true, false, IfSome, All, if◌then◌else◌, refl, sym, ap, ap₂, subst, ◌∙◌, arith}
+use Rattle.std.proofs.Common.{◌≡◌, ℕ, List, [], ◌∷◌, map, Some, Bool, true, false, refl, sym, ap, ap₂, subst, ◌∙◌}
 use Rattle.std.specs.List.{AllZip}
 use Rattle.fsoe_base.specs.declared.did.Did.{Did}
 use Rattle.failsafe_io.specs.Application.{Answer}
-use Rattle.param_load.specs.declared.entry.Move.{Move}
-use Rattle.param_load.specs.declared.entry.Move.TheVariants as move
 use Rattle.param_load.specs.declared.master_settings.MasterSettings.{MasterSettings}
-use Rattle.end_model.specs.Deed.{Deed}
 use Rattle.master_core.specs.MasterView.{MasterView}
-use Rattle.multi_master.specs.Connection.{Connection, setup, next_deed, with_event, outputs_at, offer_at, offer_len, with_offers}
-use Rattle.multi_master.specs.Calls.{AppView, Call, Deliver, Tick, Nonce, ChangeApp, Meant, connection, replaced, event_at, all_tick, answer, is_heard, cycle_in, with_cycle, after, meant, changed_from, changed}
+use Rattle.multi_master.specs.Connection.{Connection, outputs_at, offer_at, offer_len, with_offers}
+use Rattle.multi_master.specs.Calls.{AppView, Call, Tick, ChangeApp, Meant, all_tick, answer, with_cycle, meant, changed_from}
 use Rattle.multi_master.specs.Puts.{own_len, PutsEach, Cycles, RunsCycle, TicksEach}
 use Rattle.multi_master.specs.Standing.{MultiView, IsWhere, StandsFor, Follows, Offers, AnswersTick}
 use Rattle.multi_master.proofs.Putting.{puts_where, all_shown, offers_put, all_outputs_put, puts_told}

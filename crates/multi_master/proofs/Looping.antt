@@ -1,12 +1,11 @@
 -- Loops over all masters, step by step.
-use Rattle.std.proofs.Common.{◌≡◌, ℕ, zero, suc, ◌+◌, ◌<◌, List, [], ◌∷◌, ◌++◌, map, length, slice_get, slice_set, Option, Some, None, Bool, true, false, not, All, if◌then◌else◌, nat_eq, refl, sym, ap, subst, ◌∙◌, arith}
+use Rattle.std.proofs.Common.{◌≡◌, ℕ, suc, ◌+◌, List, [], ◌∷◌, ◌++◌, map, length, slice_get, slice_set, Some, Bool, true, false, not, All, if◌then◌else◌, nat_eq, refl, sym, ap, subst, ◌∙◌, arith}
 use Rattle.std.specs.Cmp.Lexicographic.{pointwise}
 use Rattle.std.proofs.lemmas.Grind.{common_steps}
 use Rattle.std.proofs.lemmas.List.Elements.{All-push, All-nil}
 use Rattle.fsoe_base.specs.declared.did.Did.{Did}
 use Rattle.master_core.specs.MasterView.{MasterView}
 use Rattle.multi_master.specs.Puts.{PutStep, IsPutStep, PutsEach, changed_steps, TickStep, IsTickStep, TicksEach}
-use Rattle.multi_master.proofs.Places.{set_same}
 
 -- some steps are done, and what is left follows
 pub get_after : {S A : Type 0} (f : S → A) (steps : List S) (rest : List A) → slice_get (map f steps ++ rest) (length steps) ≡ slice_get rest 0

@@ -1,5 +1,5 @@
 -- Each connection's deeds are the run of its own events.
-use Rattle.std.proofs.Common.{◌≡◌, ◌≢◌, ℕ, zero, suc, ◌-◌, ◌==◌, nat_eq, List, [], ◌∷◌, ◌++◌, map, length, filter, slice_get, slice_set, Option, Some, None, option_map, IfSome, Bool, true, false, if◌then◌else◌, refl, sym, ap, ap₂, subst, ◌∙◌, append_assoc, arith}
+use Rattle.std.proofs.Common.{◌≡◌, ℕ, zero, suc, ◌-◌, ◌==◌, List, [], ◌∷◌, ◌++◌, map, slice_get, slice_set, Option, Some, None, option_map, IfSome, Bool, true, false, if◌then◌else◌, refl, sym, ap, ap₂, subst, ◌∙◌, append_assoc, arith}
 use lib.Dec.{compare_is_eq}
 use Prim.Native.Nat.compare
 use Rattle.failsafe_io.specs.Application.{Answer}
@@ -7,10 +7,9 @@ use Rattle.param_load.specs.declared.entry.Move.{Move}
 use Rattle.param_load.specs.declared.entry.Move.TheVariants as move
 use Rattle.param_load.specs.declared.master_settings.MasterSettings.{MasterSettings}
 use Rattle.end_model.specs.Deed.{Deed, events_of}
-use Rattle.end_model.specs.Setup.{Setup, OfMaster}
 use Rattle.end_model.specs.Step.{step, run}
 use Rattle.end_model.proofs.Runs.{run_append}
-use Rattle.multi_master.specs.Connection.{Connection, fresh, setup, next_deed, with_event, is_offer, with_offer, with_offers}
+use Rattle.multi_master.specs.Connection.{Connection, fresh, setup, with_event, is_offer, with_offer, with_offers}
 use Rattle.multi_master.specs.Calls.{AppView, Call, Deliver, Tick, Nonce, ChangeApp, Meant, connection, replaced, event_at, all_tick, cycle_in, with_cycle, after, meant}
 use Rattle.multi_master.proofs.Places.{map_set}
 use Rattle.multi_master.specs.Own.{own_part, own_events, is_no_put, without_puts}

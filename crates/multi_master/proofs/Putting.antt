@@ -1,19 +1,16 @@
 -- The answers of a cycle, put master by master.
-use Rattle.std.proofs.Common.{◌≡◌, ℕ, zero, suc, List, [], ◌∷◌, map, slice_get, slice_set, Option, Some, None, Bool, true, false, not, All, if◌then◌else◌, nat_eq, refl, sym, ap, subst, ◌∙◌}
+use Rattle.std.proofs.Common.{◌≡◌, ℕ, suc, List, [], ◌∷◌, map, Bool, true, false, not, All, if◌then◌else◌, nat_eq, refl, sym, subst}
 use Rattle.std.specs.Cmp.Lexicographic.{pointwise, same_text}
 use Rattle.std.specs.List.{AllZip}
 use Rattle.std.proofs.lemmas.List.Elements.{All-head, All-tail}
 use Rattle.fsoe_base.specs.declared.did.Did.{Did}
 use Rattle.param_load.specs.declared.entry.Move.TheVariants as move
-use Rattle.end_model.specs.Readiness.{offer}
 use Rattle.master_core.specs.MasterView.{MasterView}
-use Rattle.master_core.specs.Now.{is_due}
-use Rattle.master_core.specs.Waiting.{Delivery, Waits, Replies, its_deed}
-use Rattle.multi_master.specs.Connection.{Connection, setup, next_deed, with_event, outputs_at, offer_at, is_offer, with_offer, with_offers}
+use Rattle.master_core.specs.Waiting.{Delivery, Waits}
+use Rattle.multi_master.specs.Connection.{Connection, with_event, outputs_at, offer_at, is_offer, with_offer, with_offers}
 use Rattle.multi_master.specs.Calls.{changed_from}
-use Rattle.multi_master.specs.Puts.{PutStep, IsPutStep, MayBePut, has_changed, changed_steps}
+use Rattle.multi_master.specs.Puts.{PutStep, IsPutStep, MayBePut, changed_steps}
 use Rattle.multi_master.specs.Standing.{IsWhere}
-use Rattle.multi_master.proofs.Places.{same_bytes}
 
 -- what a step was shown as the offer is the offer of its connection
 abbrev pub IsShown : Connection → PutStep → Type 0

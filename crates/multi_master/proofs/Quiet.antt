@@ -1,7 +1,5 @@
 -- Events that leave offers and outputs as they are.
-use Rattle.std.proofs.Common.{◌≡◌, ◌≢◌, ℕ, zero, suc, List, [], ◌∷◌, map, slice_get, slice_set, Option, Some, None, is_some, Bool, true, false, ◌||◌, if◌then◌else◌, nat_eq, refl, sym, ap, ap₂, subst, ◌∙◌}
-use Rattle.std.specs.Cmp.Lexicographic.{pointwise}
-use Rattle.fsoe_base.specs.declared.command.State.TheVariants as state
+use Rattle.std.proofs.Common.{◌≡◌, ℕ, zero, suc, List, [], ◌∷◌, map, slice_get, slice_set, Option, Some, None, is_some, false, ◌||◌, if◌then◌else◌, refl, sym, ap, ap₂, ◌∙◌}
 use Rattle.fsoe_base.specs.declared.did.Cause.{Cause}
 use Rattle.fsoe_base.specs.declared.did.Did.{Did}
 use Rattle.fsoe_base.specs.declared.did.Took.{Took}
@@ -11,7 +9,6 @@ use Rattle.param_load.specs.declared.master_settings.MasterSettings.{MasterSetti
 use Rattle.end_model.specs.Setup.{Setup, OfMaster}
 use Rattle.end_model.specs.Deed.{Deed}
 use Rattle.end_model.specs.Outputs.{outputs, out, zeros, held_up, out_after}
-use Rattle.end_model.specs.Readiness.{state_of}
 use Rattle.end_model.specs.Reactions.{Reaction, Rests, Ages, Expires, SendsAgain, ResetsItself, Refuses, PeerResets, Answers}
 use Rattle.end_model.specs.Step.{step, IsRun}
 use Rattle.end_model.proofs.Runs.{deed}

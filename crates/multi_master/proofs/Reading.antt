@@ -1,8 +1,6 @@
 -- What is shown of one connection, and an event at one.
-use Rattle.std.proofs.Common.{◌≡◌, ◌≤◌, ◌<◌, ℕ, zero, suc, ◌-◌, List, [], ◌∷◌, map, length, slice_get, slice_set, Option, Some, None, option_map, Bool, true, false, All, if◌then◌else◌, refl, sym, ap, ap₂, subst, ◌∙◌, arith}
+use Rattle.std.proofs.Common.{◌≡◌, ℕ, suc, ◌-◌, List, [], ◌∷◌, map, slice_get, slice_set, Some, refl, sym, ap, subst, ◌∙◌, arith}
 use Rattle.std.specs.List.{AllZip}
-use Rattle.std.specs.Option.{option_map_or}
-use Rattle.fsoe_base.specs.declared.did.Did.{Did}
 use Rattle.param_load.specs.declared.entry.Move.{Move}
 use Rattle.param_load.specs.declared.entry.Move.TheVariants as move
 use Rattle.param_load.specs.declared.master_settings.MasterSettings.{MasterSettings}
@@ -10,10 +8,10 @@ use Rattle.end_model.specs.Deed.{Deed}
 use Rattle.end_model.specs.Setup.{Setup}
 use Rattle.master_core.specs.MasterView.{MasterView}
 use Rattle.master_core.specs.Standing as core
-use Rattle.multi_master.specs.Connection.{Connection, setup, next_deed, with_event, outputs_at, offer_at}
-use Rattle.multi_master.specs.Calls.{AppView, Call, Deliver, Nonce, Meant, connection, replaced, event_at, after, meant, changed_from, changed}
+use Rattle.multi_master.specs.Connection.{Connection, setup, with_event, outputs_at, offer_at}
+use Rattle.multi_master.specs.Calls.{AppView, Call, Nonce, Meant, event_at, after, meant, changed_from}
 use Rattle.multi_master.specs.Standing.{MultiView, IsWhere, StandsFor, Follows, ShowsAt}
-use Rattle.multi_master.proofs.Places.{At, at_place, zip_set, map_set}
+use Rattle.multi_master.proofs.Places.{at_place, zip_set, map_set}
 use Rattle.multi_master.proofs.Quiet.{none_told}
 
 -- a word of the master at a place is that word of its connection

@@ -1,12 +1,11 @@
 -- All masters tick.
-use Rattle.std.proofs.Common.{◌≡◌, ℕ, zero, suc, List, [], ◌∷◌, map, All, Option, Some, None, refl, sym, ap, subst, ◌∙◌}
+use Rattle.std.proofs.Common.{◌≡◌, ℕ, suc, List, [], ◌∷◌, map, All, Option, Some, None, refl, sym, ap, ◌∙◌}
 use Rattle.std.specs.List.{AllZip}
 use Rattle.std.proofs.lemmas.List.Elements.{All-head, All-tail}
 use Rattle.fsoe_base.specs.declared.did.Cause.{Cause}
 use Rattle.param_load.specs.declared.entry.Move.TheVariants as move
-use Rattle.end_model.specs.Outputs.{out}
 use Rattle.master_core.specs.MasterView.{MasterView}
-use Rattle.multi_master.specs.Connection.{Connection, setup, next_deed, with_event, outputs_at, offer_at}
+use Rattle.multi_master.specs.Connection.{Connection, setup, next_deed, with_event, outputs_at}
 use Rattle.multi_master.specs.Calls.{changed_from}
 use Rattle.multi_master.specs.Puts.{TickStep, IsTickStep, MayBeRead}
 use Rattle.multi_master.specs.Standing.{IsWhere}

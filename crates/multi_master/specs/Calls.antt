@@ -5,7 +5,6 @@ use Rattle.failsafe_io.specs.Application.{Answer}
 use Rattle.param_load.specs.declared.entry.Move.{Move}
 use Rattle.param_load.specs.declared.entry.Move.TheVariants as move
 use Rattle.param_load.specs.declared.master_settings.MasterSettings.{MasterSettings}
-use Rattle.end_model.specs.Deed.{Deed}
 use Rattle.master_core.specs.Calls.{tells_due}
 use Rattle.multi_master.specs.Connection.{Connection, fresh, next_deed, with_event, outputs_at, offer_at, offer_len, is_offer, with_offers}
 

@@ -1,5 +1,5 @@
 -- What it means that a master of many connections does what looking back over its calls says.
-use Rattle.std.specs.Prelude.{◌≡◌, ◌≤◌, ℕ, Bool, false, List, [], ◌∷◌, map, length, All, slice_get, IfSome, Option, Some, None, option_map}
+use Rattle.std.specs.Prelude.{◌≡◌, ◌≤◌, ℕ, Bool, false, List, [], ◌∷◌, map, length, All, slice_get, IfSome, Option, Some, option_map}
 use Rattle.std.specs.List.{AllZip}
 use Rattle.std.specs.Option.{option_map_or}
 use Rattle.fsoe_base.specs.declared.did.Did.{Did}
@@ -11,7 +11,7 @@ use Rattle.master_core.specs.MasterView.{MasterView}
 use Rattle.master_core.specs.Standing.{MasterIsAfter}
 use Rattle.multi_master.specs.Connection.{Connection, next_deed, outputs_at, offer_at}
 use Rattle.multi_master.specs.Puts.{own_len, due_in}
-use Rattle.multi_master.specs.Calls.{Rule, AppView, Call, Deliver, Tick, Meant, connection, cycle_in, meant, changed}
+use Rattle.multi_master.specs.Calls.{Rule, AppView, Call, Deliver, Meant, connection, cycle_in, meant, changed}
 
 -- what a master of many connections is, with an application of any type: the masters in the order of the connections, the application
 -- that runs, the inputs that it reads in a cycle, and the connections whose offers the last call changed

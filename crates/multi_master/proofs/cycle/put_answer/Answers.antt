@@ -1,4 +1,4 @@
-use Rattle.std.proofs.Common.{◌≡◌, true, false, not, nat_eq, refl, sym, ap, subst, ◌∙◌}
+use Rattle.std.proofs.Common.{◌≡◌, true, false, not, nat_eq, refl, sym, ap, subst}
 use Rattle.std.specs.Cmp.Lexicographic.{pointwise}
 use Rattle.multi_master.specs.Puts.{MayBePut}
 use Rattle.multi_master.proofs.cycle.put_answer.Goals as goal

@@ -1,4 +1,4 @@
-use Rattle.std.proofs.Common.{◌≡◌, ◌<◌, ◌≤◌, ◌+◌, ◌++◌, ◌∷◌, [], ℕ, List, Some, Bool, true, false, not, map, length, slice_get, slice_set, slice_index_or, nat_eq, sym, ap, subst, ◌∙◌, arith, if◌then◌else◌, refl}
+use Rattle.std.proofs.Common.{◌≡◌, ◌<◌, ◌+◌, ◌++◌, ◌∷◌, [], ℕ, List, Some, Bool, length, slice_get, slice_index_or, nat_eq, sym, ap, ◌∙◌, arith, if◌then◌else◌, refl}
 use Rattle.std.specs.Cmp.Lexicographic.{pointwise}
 use Rattle.std.proofs.lemmas.Grind.{common_steps}
 use Rattle.std.proofs.lemmas.Option.{slice_get_read, slice_get-get_or}

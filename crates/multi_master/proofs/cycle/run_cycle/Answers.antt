@@ -1,4 +1,4 @@
-use Rattle.std.proofs.Common.{◌≡◌, sym, ◌∙◌}
+use Rattle.std.proofs.Common.{sym, ◌∙◌}
 use Rattle.multi_master.proofs.Keeping.{same_lens, puts_settings, puts_due}
 use Rattle.multi_master.proofs.cycle.run_cycle.Goals as goal
 

@@ -1,6 +1,5 @@
-use Rattle.std.proofs.Common.{◌≡◌, ◌<◌, ◌≤◌, ◌+◌, ℕ, List, Some, length, slice_get, slice_set, slice_index_or, refl, sym, ◌∙◌, arith}
+use Rattle.std.proofs.Common.{◌≡◌, ℕ, List, Some, slice_get, slice_index_or, refl, sym, ◌∙◌, arith}
 use Rattle.std.proofs.lemmas.Option.{slice_get-get_or}
-use Rattle.fsoe_base.specs.declared.did.Did.{Did}
 use Rattle.master_core.specs.MasterView.{MasterView}
 use Rattle.multi_master.specs.Puts.{TickStep}
 use Rattle.multi_master.proofs.Places.{some_at, set_before}

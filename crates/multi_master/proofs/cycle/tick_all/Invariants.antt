@@ -1,4 +1,4 @@
-use Rattle.std.proofs.Common.{◌≡◌, ◌≤◌, ◌<◌, ℕ, false, length, slice_get, Some}
+use Rattle.std.proofs.Common.{◌≡◌, ◌≤◌, ℕ, false, slice_get, Some}
 use Rattle.master_core.specs.MasterView.{MasterView}
 use Rattle.master_core.specs.Now.{is_due}
 use Rattle.multi_master.proofs.Looping.{TicksSoFar}

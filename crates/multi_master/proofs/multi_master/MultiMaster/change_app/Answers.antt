@@ -1,8 +1,7 @@
-use Rattle.std.proofs.Common.{◌≡◌, ◌++◌, List, map, length, take, drop, refl, sym, ◌∙◌, arith}
+use Rattle.std.proofs.Common.{List, refl, sym, ◌∙◌, arith}
 use Rattle.master_core.specs.MasterView.{MasterView}
-use Rattle.multi_master.specs.Puts.{own_len, due_in}
 use Rattle.multi_master.proofs.Following.{runs_alike, change_follows, change_offers}
-use Rattle.multi_master.proofs.Keeping.{written_back, all_rest, same_lens}
+use Rattle.multi_master.proofs.Keeping.{written_back, all_rest}
 use Rattle.multi_master.proofs.multi_master.MultiMaster.change_app.Goals as goal
 
 pub invariant_of-self : goal.invariant_of-self

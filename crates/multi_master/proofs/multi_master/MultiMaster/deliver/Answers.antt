@@ -1,4 +1,4 @@
-use Rattle.std.proofs.Common.{◌≡◌, ◌≤◌, ◌<◌, ◌-◌, ◌++◌, ℕ, List, [], suc, Some, Bool, true, false, not, is_some, ◌||◌, IsTrue, map, length, take, drop, slice_get, slice_set, slice_index_or, refl, sym, ap, subst, ◌∙◌, arith}
+use Rattle.std.proofs.Common.{◌≡◌, ◌≤◌, ◌-◌, ℕ, List, Some, true, false, map, length, slice_get, slice_set, refl, sym, ap, subst, ◌∙◌, arith}
 use Rattle.std.proofs.lemmas.Grind.{common_steps}
 use Rattle.std.proofs.lemmas.Option.{slice_get_read}
 use Rattle.end_model.specs.Outputs.{out}
@@ -6,7 +6,7 @@ use Rattle.master_core.specs.MasterView.{MasterView}
 use Rattle.master_core.specs.Now.{is_due}
 use Rattle.master_core.specs.Waiting.{ShowsDue}
 use Rattle.multi_master.specs.Puts.{own_len, due_in}
-use Rattle.multi_master.specs.Standing.{settings_in, IsMulti}
+use Rattle.multi_master.specs.Standing.{settings_in}
 use Rattle.multi_master.proofs.Delivering.{drop_follows, drop_offers, drop_answers, hear_follows, hear_offers, hear_answers}
 use Rattle.multi_master.proofs.Following.{runs_alike}
 use Rattle.multi_master.proofs.Keeping.{multi_set, one_rest, rest_at, written_back}

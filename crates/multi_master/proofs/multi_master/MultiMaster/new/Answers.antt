@@ -1,4 +1,4 @@
-use Rattle.std.proofs.Common.{◌≡◌, ◌≢◌, List, map, length, Option, Some, None, refl, sym, ap, subst, ◌∙◌}
+use Rattle.std.proofs.Common.{◌≡◌, List, map, length, None, refl, sym, ap, ◌∙◌}
 use Rattle.master_core.specs.MasterView.{MasterView}
 use Rattle.multi_master.specs.New.{first_fault}
 use Rattle.multi_master.specs.Puts.{own_len, first_input}

@@ -1,5 +1,4 @@
-use Rattle.std.proofs.Common.{◌≡◌, ◌++◌, ℕ, List, map, length, take, drop, refl, sym, ap, ◌∙◌, arith}
-use Rattle.master_core.specs.MasterView.{MasterView}
+use Rattle.std.proofs.Common.{◌≡◌, map, length, refl, sym, ap, ◌∙◌, arith}
 use Rattle.multi_master.specs.Puts.{own_len, due_in}
 use Rattle.multi_master.specs.Standing.{settings_in}
 use Rattle.multi_master.proofs.Following.{runs_alike, ticks_alike, tick_follows, tick_offers, tick_answers}
