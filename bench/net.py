@@ -5,12 +5,10 @@
 The net has 256 blocks of all kinds, each of which reads input bits or the block before it, and 1,024 drives, one for each
 output bit of 64 connections with images of 2 bytes. The program takes the number of cycles, and turns an input bit in each.
 """
-import pathlib
-import shutil
-import subprocess
 import sys
 
-TOP = pathlib.Path(__file__).resolve().parent.parent
+import program
+
 BELOW = ["fsoe_base", "failsafe_io", "fb_lib", "fb_net"]
 
 PROGRAM = """//! Runs cycles of the largest net.
@@ -162,33 +160,11 @@ loop-number-preserved c =
 """
 
 
-def listed():
-    """The lines of crates.txt, by crate."""
-    lines = (TOP / "crates.txt").read_text().splitlines()
-    return {line.split(":")[0].strip(): line for line in lines if ":" in line and not line.startswith("#")}
-
-
-def main():
-    target = pathlib.Path(sys.argv[1])
-    for name in BELOW:
-        for part in ("src", "specs", "proofs"):
-            source = TOP / "crates" / name / part
-            if source.is_dir():
-                shutil.copytree(source, target / "crates" / name / part)
-    lines = [listed()[name] for name in BELOW] + ["net_bench: " + " ".join(BELOW)]
-    (target / "crates.txt").write_text("\n".join(lines) + "\n")
-    shutil.copy(TOP / "HANDLES", target / "HANDLES")
-    crate = target / "crates" / "net_bench"
-    (crate / "src").mkdir(parents=True)
-    (crate / "src" / "main.rt").write_text(PROGRAM)
-    (crate / "proofs" / "blocks_of").mkdir(parents=True)
-    (crate / "proofs" / "Lib.antt").write_text("")
-    (crate / "proofs" / "blocks_of" / "Invariants.antt").write_text(INVARIANTS)
-    (crate / "proofs" / "blocks_of" / "Answers.antt").write_text(ANSWERS)
-    ran = subprocess.run(["rt", "run", "--", "100"], cwd=crate, stdout=subprocess.PIPE, stderr=subprocess.STDOUT, text=True)
-    if ran.returncode != 0:
-        sys.exit(f"bench: the net's program didn't run:\n{ran.stdout[-3000:]}")
-    print(crate / "out" / "net_bench")
-
-
-main()
+program.build(
+    sys.argv[1],
+    "net_bench",
+    BELOW,
+    PROGRAM,
+    {"blocks_of/Invariants": INVARIANTS, "blocks_of/Answers": ANSWERS},
+    ["100"],
+)
