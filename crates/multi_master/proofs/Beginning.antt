@@ -37,7 +37,7 @@ new-inputs (s ∷ ss) [] h = absurd h
 new-inputs (s ∷ ss) (m ∷ ms) h =
     ap₂ (λ (x : List ℕ) (xs : List (List ℕ)). x ∷ xs) (ap (λ (x : MasterSettings). replicate (receives (OfMaster x)) 0) h.0.settings_are) (new-inputs ss ms h.1)
 
-few : (settings : List MasterSettings) (b : Bool) → nat_lt 64 (length settings) ≡ b → (if b then Some fault.TooMany else first_pair 1 settings) ≡ None → length settings ≤ 64
+few : (settings : List MasterSettings) (b : Bool) → nat_lt 64 (length settings) ≡ b → (if b then Some fault.TooMany else first_pair settings) ≡ None → length settings ≤ 64
 few settings true h e = absurd (cc e)
 few settings false h e = grind arith
 

@@ -1,44 +1,39 @@
 //! Whether there is such a master of many connections, and what it is made of.
-ghost use Rattle.std.specs.Prelude.{◌≡◌, ◌≤◌, ◌<◌, ◌+◌, ◌^◌, length, map, IfOk, IfErr};
+ghost use Rattle.std.specs.Prelude.{◌≡◌, ◌≤◌, length, map, IfOk, IfErr};
 ghost use Rattle.std.specs.List.{AllZip};
 ghost use Rattle.multi_master.specs.declared.fault.NewFault.TheVariants as fault;
-ghost use Rattle.multi_master.specs.New.{first_with, first_pair, first_fault, IsNewMaster};
+ghost use Rattle.multi_master.specs.New.{first_pair, first_fault, IsNewMaster};
 ghost use Rattle.multi_master.specs.Puts.{own_len, first_input};
 
 use crate::fault::NewFault;
+use arrayvec::ArrayVec;
 use fsoe_base::Image;
 use master_core::Master;
-use param_load::MasterSettings;
+use param_load::{MasterSettings, same_conn};
 use std::alloc::Global;
 
 /// The most connections of a master of many.
 pub(crate) const MOST_LINKS: usize = 64;
 
-/// The place, from `n` on, of the first of these settings with this connection id.
-fn first_with(conn: u16, n: u16, rest: &[MasterSettings]) -> Option<u16>
-    requires { n + length rest.now < 2 ^ 16 }
-    ensures { result ≡ first_with conn n rest.now }
+/// The connection ids of these settings, in their order.
+fn ids_of(settings: &[MasterSettings]) -> ArrayVec<u16, MOST_LINKS>
+    requires { length settings.now ≤ MOST_LINKS }
+    ensures { result.items ≡ map (λ s. s.conn) settings.now }
 {
-    for i in 0..rest.len() {
-        if rest[i].conn() == conn {
-            return Some(n + i as u16);
-        }
+    let mut ids = ArrayVec::new();
+    for own in settings {
+        ids.push(own.conn());
     }
-    None
+    ids
 }
 
 /// The first pair of places with the same connection id.
 fn first_pair(settings: &[MasterSettings]) -> Option<NewFault>
     requires { length settings.now ≤ MOST_LINKS }
-    ensures { result ≡ first_pair 1 settings.now }
+    ensures { result ≡ first_pair settings.now }
 {
-    for i in 0..settings.len() {
-        let a = i as u16 + 1;
-        if let Some(b) = first_with(settings[i].conn(), a + 1, &settings[i + 1..]) {
-            return Some(NewFault::SameConn { a, b });
-        }
-    }
-    None
+    let (a, b) = same_conn(ids_of(settings).as_slice())?;
+    Some(NewFault::SameConn { a, b })
 }
 
 /// The first fault of these settings.

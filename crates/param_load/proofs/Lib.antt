@@ -1,1 +1,2 @@
 pub mod Watchdog
+pub mod SameConn

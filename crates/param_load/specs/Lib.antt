@@ -5,6 +5,7 @@ pub mod DownloadView
 pub mod MasterSettings
 pub mod Payload
 pub mod Profile
+pub mod SameConn
 pub mod SlaveSettings
 pub mod Upload
 pub mod UploadView

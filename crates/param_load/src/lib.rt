@@ -4,6 +4,7 @@
 
 pub mod app_rule;
 mod bad_setting;
+mod connection_ids;
 mod contents;
 mod download;
 mod entry;
@@ -17,6 +18,7 @@ mod upload;
 
 pub use app_rule::{AppBytes, AppRule};
 pub use bad_setting::BadSetting;
+pub use connection_ids::same_conn;
 pub use download::Download;
 pub use entry::{Entry, Move};
 pub use master_settings::MasterSettings;

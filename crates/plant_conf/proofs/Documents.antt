@@ -12,7 +12,7 @@ use Rattle.plant_conf.specs.ConfView.{ConfValues}
 use Rattle.plant_conf.specs.declared.key.Key.{Key}
 use Rattle.plant_conf.specs.declared.key.KeyName.TheVariants as name
 use Rattle.plant_conf.specs.Forms.{number, block_kind, wires}
-use Rattle.plant_conf.specs.Ids.{same_conn}
+use Rattle.param_load.specs.SameConn.{same_conn}
 use Rattle.plant_conf.specs.Keys.{PlantKeys, key_of, required, optional, block, drive, bound}
 use Rattle.fb_lib.specs.Standing.{block_of}
 use Rattle.fb_lib.specs.declared.kind.BlockKind.{BlockKind}

@@ -5,7 +5,7 @@ use Rattle.fb_net.specs.declared.spec.BlockSpec.{BlockSpec}
 use Rattle.fb_net.specs.declared.spec.Drive.{Drive}
 use Rattle.fb_net.specs.New.{IsNew}
 use Rattle.param_load.specs.declared.profile.Profile.TheVariants as profile
-use Rattle.plant_conf.specs.Ids.{same_conn}
+use Rattle.param_load.specs.SameConn.{same_conn}
 use Rattle.plant_conf.specs.declared.conf.LinkConf.{LinkConf}
 use Rattle.plant_conf.specs.declared.conf.BoundSpec.{BoundSpec}
 use Rattle.plant_conf.specs.Values.{LinkValues, link_values}

@@ -1,7 +1,6 @@
 pub mod Names
 pub mod Steps
 pub mod Forms
-pub mod Ids
 pub mod Values
 pub mod Keys
 pub mod Kept

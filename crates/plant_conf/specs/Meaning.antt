@@ -10,7 +10,7 @@ use Rattle.plant_conf.specs.declared.key.KeyName.TheVariants as name
 use Rattle.plant_conf.specs.declared.key.KeyTable.{KeyTable}
 use Rattle.plant_conf.specs.declared.key.KeyTable.TheVariants as table
 use Rattle.plant_conf.specs.ConfView.{ConfValues}
-use Rattle.plant_conf.specs.Ids.{same_conn}
+use Rattle.param_load.specs.SameConn.{same_conn}
 use Rattle.plant_conf.specs.Values.{LinkValues}
 use Rattle.plant_conf.specs.Steps.{◌>>=◌, value_or, each}
 use Rattle.plant_conf.specs.Forms.{as_array_of, one_table, tables}

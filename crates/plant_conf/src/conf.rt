@@ -70,7 +70,7 @@ impl PlantConf {
     ghost use Rattle.std.specs.List.{All};
     ghost use Rattle.fb_net.specs.New.{IsNew};
     ghost use Rattle.plant_conf.specs.ConfView.{HasSameLengths, IsProfileOne};
-    ghost use Rattle.plant_conf.specs.Ids.{same_conn};
+    ghost use Rattle.param_load.specs.SameConn.{same_conn};
 
     /// The connections, from 1 to 64, with different ids. Both ends of each are of profile One, with the same lengths.
     pub fn links(&self) -> &[LinkConf]

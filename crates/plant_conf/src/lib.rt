@@ -6,7 +6,6 @@ mod arrays;
 mod conf;
 mod fault;
 mod forms;
-mod ids;
 mod key;
 mod read;
 mod tables;

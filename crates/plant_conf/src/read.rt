@@ -6,7 +6,7 @@ ghost use Rattle.plant_conf.specs.declared.conf.LinkConf.{LinkConf};
 ghost use Rattle.plant_conf.specs.declared.fault.ConfFault.TheVariants as fault;
 ghost use Rattle.plant_conf.specs.Meaning.{whole, count_of, has_too_many, apart, plant_keys, connections, all_of, document_meaning, text_meaning, Means};
 ghost use Rattle.plant_conf.specs.ConfView.{HasSameLengths, IsProfileOne, conf_values};
-ghost use Rattle.plant_conf.specs.Ids.{same_conn};
+ghost use Rattle.param_load.specs.SameConn.{same_conn};
 ghost use Rattle.plant_conf.specs.Kept.{plant_said};
 ghost use Rattle.plant_conf.specs.Values.{link_values};
 
@@ -14,11 +14,11 @@ use crate::arrays::{FromTable, read_each, tables_in};
 use crate::conf::{LinkConf, PlantConf};
 use crate::fault::ConfFault;
 use crate::forms::find;
-use crate::ids::same_conn;
 use crate::key::{Key, KeyName, KeyTable};
 use crate::tables::{PlantTable, read_plant};
 use arrayvec::ArrayVec;
 use fb_net::{BlockSpec, Drive};
+use param_load::same_conn;
 use std::alloc::Global;
 use toml::Table;
 

@@ -1,7 +1,7 @@
 use Rattle.std.proofs.Common.{◌∙◌, sym, ap, map}
 use Rattle.toml.specs.View.{table_view}
 use Rattle.plant_conf.specs.Kept.{plant_said}
-use Rattle.plant_conf.specs.Ids.{same_conn}
+use Rattle.param_load.specs.SameConn.{same_conn}
 use Rattle.plant_conf.specs.Meaning.{apart}
 use Rattle.plant_conf.proofs.Documents.{document-known, apart-refuses, apart-reads}
 use Rattle.plant_conf.proofs.read.read_document.Goals as goal

@@ -3,7 +3,7 @@ use Rattle.std.proofs.Common.{◌≡◌, ◌∙◌, ℕ, suc, ◌+◌, ◌<◌, 
 use Rattle.std.proofs.lemmas.List.{drop_more}
 use Rattle.std.proofs.lemmas.Grind.{common_steps}
 use Rattle.std.proofs.lemmas.Bool.Decides.{nat_tests}
-use Rattle.plant_conf.specs.Ids.{place_of, same_conn}
+use Rattle.param_load.specs.SameConn.{place_of, same_conn}
 
 -- the place of an id, one place further
 pub place-next : (ids : List ℕ) (id at : ℕ) → at < length ids → (get_or ids at 0 ≡ id → ⊥) → place_of id (at + 1) (drop at ids) ≡ place_of id (at + 1 + 1) (drop (at + 1) ids)

@@ -1,6 +1,6 @@
-//! Ids that stand twice.
+//! Connection ids that stand twice.
 ghost use Rattle.std.specs.Prelude.{◌≡◌, ◌≤◌, ◌+◌, drop, length, IfSome};
-ghost use Rattle.plant_conf.specs.Ids.{place_of, same_conn};
+ghost use Rattle.param_load.specs.SameConn.{place_of, same_conn};
 
 /// The place of an id in a list, counted from 1, where the places before `from` don't count.
 fn place_of(ids: &[u16], id: u16, from: usize) -> Option<usize>
@@ -16,8 +16,9 @@ fn place_of(ids: &[u16], id: u16, from: usize) -> Option<usize>
     None
 }
 
-/// The first place, counted from 1, whose id stands again at a later one, and the first such.
-pub(crate) fn same_conn(ids: &[u16]) -> Option<(u16, u16)>
+/// The first place, counted from 1, whose connection id stands again at a later one, and the first such later place. None exactly where
+/// all ids differ. There are at most 65,535.
+pub fn same_conn(ids: &[u16]) -> Option<(u16, u16)>
     requires { length ids.now ≤ 65535 }
     ensures { result ≡ same_conn 1 ids.now }
 {
