@@ -16,19 +16,14 @@ use Rattle.param_load.specs.declared.profile.Profile.{Profile}
 use Rattle.param_load.specs.declared.slave_settings.SlaveSettings.{SlaveSettings}
 use Rattle.schedule_file.specs.Event.{Fits, profile_of}
 use Rattle.schedule_file.specs.Header.{Heading}
-use Rattle.schedule_file.specs.Input.{NoFrame, Stop, AtEnd, Refused, Input, own_length, heading_profile}
+use Rattle.schedule_file.specs.Input.{NoFrame, Stop, AtEnd, Refused, Input, own_length, heading_profile, schedule_format}
+use Rattle.schedule_file.proofs.Fitting.{pair_event_fits}
 use Rattle.schedule_file.specs.declared.event.Event.{Event}
-use Rattle.schedule_file.specs.declared.event.ScheduleLine.{ScheduleLine}
-use Rattle.schedule_file.specs.declared.event.ScheduleLine.TheVariants as line
-use Rattle.schedule_file.specs.declared.header_kind.HeaderKind.{HeaderKind}
 use Rattle.schedule_file.specs.declared.header_kind.HeaderKind.TheVariants as kind
-use Rattle.file_run.specs.Event.{FitsKind}
 use Rattle.file_run.specs.Machine.{TakesEvent, MayCome}
 use Rattle.file_run.specs.Ran.{EndsWhole}
 use Rattle.file_run.specs.Report.{events_line, refused_line}
-use Rattle.file_run.specs.Reporting.{EndsReport, EndsUnsent, ReportsSoFar, input_stopped}
-use Rattle.file_run.specs.declared.event.Grammar.{Grammar}
-use Rattle.file_run.proofs.Grammars.{same_word}
+use Rattle.file_run.specs.Reporting.{EndsReport, EndsUnmet, ReportsSoFar, input_stopped}
 use Rattle.exchange_model.specs.Other.{first_other}
 use Rattle.exchange_model.specs.World.{end_of_event, entry_at, world}
 use Rattle.exchange_model.proofs.Worlds.Longer.{world_next, world_missed}
@@ -47,19 +42,19 @@ stood_profiles v h log text k end_name.Master = ap (λ v. v.kit.settings.profile
 stood_profiles v h log text k end_name.Slave = ap (λ v. v.kit.settings.profile) k.stands.slave.is ∙ k.set.1.2.profile_is
 
 -- an event that may come fits the pair
-fits_kind : (k : HeaderKind) (grammar : Grammar) (said : ScheduleLine) → k ≡ kind.Pair → FitsKind k grammar.lengths grammar.profiles said → FitsKind kind.Pair grammar.lengths grammar.profiles said
-fits_kind k grammar said e fits = subst (λ (k : HeaderKind). FitsKind k grammar.lengths grammar.profiles said) e fits
+same_word : {X : Type 0} (f g : End → X) → ((end : End) → f end ≡ g end) → f ≡ g
+same_word f g same = λ i. λ end. same end i
 
 fits_ends : (f g : End → ℕ) (p q : End → Profile) (event : Event) → f ≡ g → p ≡ q → Fits f p event → Fits g q event
 fits_ends f g p q event e d fits = subst (λ (q : End → Profile). Fits g q event) d (subst (λ (g : End → ℕ). Fits g p event) e fits)
 
-pub pair_fits : (v : DuoView) (event : Event) (number : ℕ) → MayCome (ReplayStands v) kind.Pair event number → Fits (length_of (lengths_of v)) (profile_of (profiles_of v)) event
+pub pair_fits : (v : DuoView) (event : Event) (number : ℕ) → MayCome (ReplayStands v) (schedule_format kind.Pair) event number → Fits (length_of (lengths_of v)) (profile_of (profiles_of v)) event
 pair_fits v event number may =
-    let g : Grammar = may.grammar in
-    fits_ends (length_of g.lengths) (length_of (lengths_of v)) (profile_of g.profiles) (profile_of (profiles_of v)) event
-    (same_word (length_of g.lengths) (length_of (lengths_of v)) (λ end. may.is_of.lengths end ∙ sym (stood_lengths v may.heading may.log may.text may.stands end)))
-    (same_word (profile_of g.profiles) (profile_of (profiles_of v)) (λ end. may.is_of.profiles end refl ∙ sym (stood_profiles v may.heading may.log may.text may.stands end)))
-    (fits_kind g.kind g (line.Step event) may.is_of.kind_is may.fits)
+    let h : Heading = may.heading in
+    fits_ends (own_length h) (length_of (lengths_of v)) (heading_profile h) (profile_of (profiles_of v)) event
+    (same_word (own_length h) (length_of (lengths_of v)) (λ end. sym (stood_lengths v h may.log may.text may.stands end)))
+    (same_word (heading_profile h) (profile_of (profiles_of v)) (λ end. sym (stood_profiles v h may.log may.text may.stands end)))
+    (pair_event_fits h may.said.0 may.said.1 event may.said.2 may.said.3)
 
 told_whole : (v : DuoView) (h : Heading) (log : List Event) (text : List ℕ) (k : ReplayStands v h log text) → length (world k.ms k.ss log) ≡ length log
 told_whole v h log text k = ap (length {A = Entry}) (sym k.is_world) ∙ k.whole
@@ -138,7 +133,7 @@ pair_so_far v h log text k = record {
 }
 
 -- an event comes whose frame wasn't sent
-pub pair_unsent : (v : DuoView) (event : Event) → Misses v event → (h : Heading) (log : List Event) (text : List ℕ) → ReplayStands v h log text → EndsUnsent replay_reporting h log text event
+pub pair_unsent : (v : DuoView) (event : Event) → Misses v event → (h : Heading) (log : List Event) (text : List ℕ) → ReplayStands v h log text → EndsUnmet replay_reporting h log text event NoFrame
 pair_unsent v event misses h log text k = λ n more stop.
     let w : List Entry = k.entries in
     let number : ℕ = n + length log + 1 in

@@ -12,13 +12,14 @@ use Rattle.param_load.specs.declared.slave_settings.SlaveSettings.{SlaveSettings
 use Rattle.entry_text.specs.EntryText.{entry_text}
 use Rattle.schedule_file.specs.EventText.{end_letter}
 use Rattle.schedule_file.specs.Header.{Heading, IsMasterOf, IsSlaveOf}
-use Rattle.schedule_file.specs.Input.{Input, NoFrame, Stop, AtEnd, Refused, input_of}
+use Rattle.schedule_file.specs.Input.{Input, NoFrame, Stop, AtEnd, Refused, input_of, schedule_format}
 use Rattle.schedule_file.specs.declared.header_kind.HeaderKind.TheVariants as kind
 use Rattle.schedule_file.specs.declared.event.Event.{Event}
+use Rattle.schedule_file.specs.declared.event.ScheduleLine.{ScheduleLine}
 use Rattle.file_run.specs.Outside.{Outside}
 use Rattle.file_run.specs.Ran.{RanOver}
 use Rattle.file_run.specs.Report.{events_line, refused_line}
-use Rattle.file_run.specs.Reporting.{Reporting}
+use Rattle.file_run.specs.Reporting.{Reporting, Never}
 use Rattle.exchange_model.specs.Fair.{Fair}
 use Rattle.exchange_model.specs.Honest.{Match, IsHonest}
 use Rattle.exchange_model.specs.Other.{before_other, first_other}
@@ -80,9 +81,9 @@ ReplayReports input ended text =
     × (text ≡ entry_lines w ++ last_lines w (run_stop input w))
     × (ended ≡ ended_at w (run_stop input w))
 
--- what a replay reports
-abbrev pub replay_reporting : Reporting
-replay_reporting = record { kind = kind.Pair; judges = true; reports = ReplayReports }
+-- what a replay reports; it takes no memory
+abbrev pub replay_reporting : Reporting Heading ScheduleLine Event
+replay_reporting = record { format = schedule_format kind.Pair; judges = true; memory = Never; reports = ReplayReports }
 
 -- the entries over an input before the first other one, all where there is none, are fair
 abbrev pub RunsFairly : Input → Type 0

@@ -1,12 +1,12 @@
 //! The run of both ends over a pair file.
-ghost use Rattle.std.specs.Prelude.{◌≡◌, ◌≤◌, ℕ, ◌++◌, List, length, OnOk, OnErr};
+ghost use Rattle.std.specs.Prelude.{◌≡◌, ◌≤◌, ℕ, ◌++◌, List, length, IfErr, OnOk};
 ghost use Rattle.schedule_file.specs.Header.{Heading};
+ghost use Rattle.schedule_file.specs.Input.{schedule_format};
 ghost use Rattle.schedule_file.specs.declared.event.Event.{Event};
 ghost use Rattle.schedule_file.specs.declared.header_kind.HeaderKind.TheVariants as kind;
 ghost use Rattle.file_run.specs.Machine.{TakesEvent, MayCome};
 ghost use Rattle.file_run.specs.Report.{events_line};
-ghost use Rattle.file_run.specs.Reporting.{EndsUnsent};
-ghost use Rattle.duo_run.specs.Duo.{lengths_of, profiles_of};
+ghost use Rattle.file_run.specs.Reporting.{EndsStopped};
 ghost use Rattle.duo_run.specs.Replay.{line_of, other_line, ReplayStands, replay_reporting, RanReplay};
 
 use crate::acting::Answer;
@@ -15,29 +15,10 @@ use crate::coming::end_of;
 use crate::duo::Duo;
 use crate::fault::StepFault;
 use entry_text::push_entry;
-use file_run::{Grammar, Machine, NotSent, run_over, write_events};
-use fsoe_base::{End, MOST_DATA, State};
+use file_run::{Machine, Schedule, Stopped, run_over, write_events};
+use fsoe_base::{End, MOST_DATA, Memory, State};
 use fsoe_io::{Ended, LineText, Sink, Source};
-use param_load::Profiles;
-use schedule_file::{Event, Header, HeaderKind, end_letter};
-
-/// How the lines of the events of a pair are read.
-fn grammar_of(duo: &Duo) -> Grammar
-    ensures kind { result.kind ≡ kind.Pair }
-    ensures lengths { result.lengths ≡ lengths_of duo.now }
-    ensures profiles { result.profiles ≡ profiles_of duo.now }
-{
-    let master = duo.master().settings();
-    let slave = duo.slave().settings();
-    Grammar {
-        kind: HeaderKind::Pair,
-        lengths: *master.lengths(),
-        profiles: Profiles {
-            master: master.profile(),
-            slave: slave.profile(),
-        },
-    }
-}
+use schedule_file::{Event, Header, HeaderKind, MAX_EVENTS, end_letter};
 
 /// Writes the line of the entry of this number, from 1, of an end with this state and these outputs.
 fn write_entry(
@@ -83,10 +64,10 @@ fn write_event(
     event: &Event,
     number: u64,
     text: &mut LineText,
-) -> Result<(), NotSent>
-    requires { MayCome (ReplayStands duo.old) kind.Pair event.now number }
+) -> Result<(), Stopped>
+    requires { MayCome (ReplayStands duo.old) (schedule_format kind.Pair) event.now number }
     ensures takes_event { OnOk result (TakesEvent (ReplayStands duo.old) (ReplayStands duo.new) event.now number text.new) }
-    ensures unsent { OnErr result ((h : Heading) (log : List Event) (text : List ℕ) → ReplayStands duo.old h log text → EndsUnsent replay_reporting h log text event.now) }
+    ensures stopped { IfErr result (λ why. (h : Heading) (log : List Event) (text : List ℕ) → ReplayStands duo.old h log text → EndsStopped replay_reporting h log text event.now why) }
 {
     match duo.advance(event, answer) {
         Ok(()) => {
@@ -95,39 +76,49 @@ fn write_event(
             write_entry(number, at, duo.state_of(at), outputs, answer, text);
             Ok(())
         }
-        Err(StepFault::NoSuchFrame) => Err(NotSent),
+        Err(StepFault::NoSuchFrame) => Err(Stopped::NoFrame),
     }
 }
 
 impl Machine for PairRun {
     ghost use Rattle.duo_run.specs.Replay.{ReplayStands, replay_reporting};
 
-    ghost reporting = { replay_reporting };
+    type Format = Schedule;
 
-    ghost stands = { λ run. ReplayStands run.duo };
+    type Handed = ();
+
+    ghost reporting = { λ handed. replay_reporting };
+
+    ghost stands = { λ first run now. ReplayStands run.duo };
 
     fn laws() {}
 
-    fn kind() -> HeaderKind {
-        HeaderKind::Pair
+    fn open(_: &()) -> Result<Header, Memory> {
+        Ok(Header::new(HeaderKind::Pair))
     }
 
-    fn begin(header: &Header) -> PairRun {
-        PairRun {
+    fn begin(header: &Header, _: &mut ()) -> Result<PairRun, Memory> {
+        Ok(PairRun {
             duo: Duo::new(header.master(), header.slave()),
             answer: Answer::new(),
-        }
+        })
     }
 
-    fn grammar(&self) -> Grammar {
-        grammar_of(&self.duo)
+    fn is_full(&self, _: &(), events: u64) -> bool {
+        events == MAX_EVENTS
     }
 
-    fn report(&mut self, event: &Event, number: u64, text: &mut LineText) -> Result<(), NotSent> {
+    fn report(
+        &mut self,
+        _: &mut (),
+        event: &Event,
+        number: u64,
+        text: &mut LineText,
+    ) -> Result<(), Stopped> {
         write_event(&mut self.duo, &mut self.answer, event, number, text)
     }
 
-    fn close(&self, events: u64, text: &mut LineText) -> Ended {
+    fn close(&self, _: &(), events: u64, text: &mut LineText) -> Ended {
         let other = self.duo.other();
         write_closing(events, other, text);
         ended_with(other)
@@ -148,5 +139,5 @@ pub fn run_replay<S: Source, K: Sink>(source: &mut S, sink: &mut K) -> Ended
       sink = record { before = K.written sink.old; after = K.written sink.new; faults_before = K.faults sink.old; faults_after = K.faults sink.new };
     }) }
 {
-    run_over::<PairRun, S, K>(source, sink)
+    run_over::<PairRun, S, K>(&mut (), source, sink)
 }

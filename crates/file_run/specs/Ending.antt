@@ -31,6 +31,7 @@ Appended count before now = (text : List ℕ) × Grew before now text × (count 
 abbrev pub Halts : {T : Type 0} → Result T Halt → Option (List ℕ) → Option (List ℕ) → Type 0
 Halts (Ok x) old left = Unit {0}
 Halts (Err (halt.Read lines)) old left = ReadLines lines old left
+Halts (Err halt.Memory) old left = Unit {0}
 Halts (Err (halt.Refused line cause)) old left = LinesBefore line old
 
 -- the sink failed after a first part of a text; the place is the bytes sent in all, with so many before it

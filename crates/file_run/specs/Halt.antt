@@ -13,21 +13,25 @@ use Rattle.file_run.specs.declared.halt.Halt.TheVariants as halt
 abbrev pub Refuses : ℕ → Halt → Type 0
 Refuses number (halt.Refused line cause) = line ≡ number
 Refuses number (halt.Read lines) = ⊥
+Refuses number halt.Memory = ⊥
 
 -- one line more was taken; a refused line is the one after those before; a failed read took nothing
 abbrev pub Goes : {T : Type 0} → Result T Halt → ℕ → ℕ → Option (List ℕ) → Option (List ℕ) → Type 0
 Goes (Ok says) before lines old new = lines ≡ before + 1
 Goes (Err (halt.Read count)) before lines old new = (count ≡ before) × Consumes old new []
+Goes (Err halt.Memory) before lines old new = Unit {0}
 Goes (Err (halt.Refused line cause)) before lines old new = line ≡ before + 1
 
 -- where a read failed, what is held is no whole line
 abbrev pub Stalls : {T : Type 0} → Result T Halt → List ℕ → Type 0
 Stalls (Ok says) held = Unit {0}
 Stalls (Err (halt.Read lines)) held = HasNoNewline held
+Stalls (Err halt.Memory) held = Unit {0}
 Stalls (Err (halt.Refused line cause)) held = Unit {0}
 
 -- only a failed read is blamed on the source
 abbrev pub Blames : {T : Type 0} → Result T Halt → ℕ → ℕ → Type 0
 Blames (Ok says) before now = Unit {0}
 Blames (Err (halt.Read lines)) before now = Rose before now
+Blames (Err halt.Memory) before now = Unit {0}
 Blames (Err (halt.Refused line cause)) before now = Unit {0}

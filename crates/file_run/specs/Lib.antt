@@ -10,5 +10,6 @@ pub mod Ran
 pub mod Refusal
 pub mod Report
 pub mod Reporting
+pub mod Schedule
 pub mod Stop
 pub mod WholeLines

@@ -17,4 +17,5 @@ first_line (line ∷ rest) = line
 abbrev pub FindsLine : Result (Unit {0}) Halt → List ℕ → Option (List ℕ) → Option (List ℕ) → Type 0
 FindsLine (Ok done) text old new = IsLine text × Consumes old new (text ++ 10 ∷ [])
 FindsLine (Err (halt.Read lines)) text old new = Unit {0}
+FindsLine (Err halt.Memory) text old new = ⊥
 FindsLine (Err (halt.Refused number why)) text old new = IfSome old (λ input. first_line (lines_of input) ≡ Err (input_cause why))

@@ -1,5 +1,5 @@
 -- How a run over an input ended, and what it wrote.
-use Rattle.std.specs.Prelude.{◌≡◌, ℕ, ◌+◌, ◌≤◌, ◌<◌, Bool, IsTrue, List, ◌++◌, length, IfSome, Some}
+use Rattle.std.specs.Prelude.{◌≡◌, ℕ, ◌+◌, ◌≤◌, ◌<◌, Bool, IsTrue, List, [], ◌++◌, length, IfSome, Some}
 use Rattle.std.specs.declared.option.Option.{Option}
 use Rattle.std.specs.Io.KnownBytes.{Consumes, prepend_known}
 use Rattle.fsoe_io.specs.Faults.{Rose}
@@ -7,11 +7,12 @@ use Rattle.fsoe_io.specs.Line.{HasNoNewline}
 use Rattle.fsoe_io.specs.declared.status.Ended.{Ended}
 use Rattle.fsoe_io.specs.declared.status.Status.{Status}
 use Rattle.fsoe_io.specs.declared.status.Status.TheVariants as status
-use Rattle.schedule_file.specs.Input.{NoLine, Refused, input_of}
+use Rattle.schedule_file.specs.Input.{NoLine, Refused, input_read}
 use Rattle.file_run.specs.Ending.{Appended, LinesBefore, ReadLines}
 use Rattle.file_run.specs.Outside.{Outside, Wrote}
 use Rattle.file_run.specs.Report.{refused_line}
-use Rattle.file_run.specs.Reporting.{Reporting, BeginsReport, refused_at}
+use Rattle.fsoe_io.specs.Sink.{Grew}
+use Rattle.file_run.specs.Reporting.{Reporting, MemoryUse, Never, BeforeEvents, Always, BeginsReport, refused_at}
 
 -- a run to the `end` of its input ends with status 0 and place 0, or, where the command looks for other entries, with status 1 and a
 -- place above 0; that the place is the number of the first other entry is the report's
@@ -27,39 +28,51 @@ EndsWhole judges status.Write place = ⊥
 EndsWhole judges status.Memory place = ⊥
 
 -- the run came to the `end` of its input, and wrote its whole report
-pub record CameToEnd (r : Reporting) (ended : Ended) (o : Outside) : Type 0 where
+pub record CameToEnd {H L E : Type 0} (r : Reporting H L E) (ended : Ended) (o : Outside) : Type 0 where
   pub ends : EndsWhole r.judges ended.status ended.place
-  pub wrote : Wrote o (λ input text. r.reports (input_of r.kind input) ended text)
+  pub wrote : Wrote o (λ input text. r.reports (input_read r.format input) ended text)
 
 -- a line is refused, whose number is the place, and the whole report was written
-pub record CameToRefused (r : Reporting) (ended : Ended) (o : Outside) : Type 0 where
+pub record CameToRefused {H L E : Type 0} (r : Reporting H L E) (ended : Ended) (o : Outside) : Type 0 where
   pub number : LinesBefore ended.place o.source.before
-  pub wrote : Wrote o (λ input text. r.reports (input_of r.kind input) ended text)
+  pub wrote : Wrote o (λ input text. r.reports (input_read r.format input) ended text)
 
 -- a text is the report of so many whole lines that were taken, without its last line, which says that no line comes after them
-pub record ReportsReadLines (r : Reporting) (lines : ℕ) (input : List ℕ) (left : Option (List ℕ)) (text : List ℕ) : Type 0 where
+pub record ReportsReadLines {H L E : Type 0} (r : Reporting H L E) (lines : ℕ) (input : List ℕ) (left : Option (List ℕ)) (text : List ℕ) : Type 0 where
   pub taken : List ℕ
   pub held : List ℕ
   pub goes : Consumes (Some input) (prepend_known held left) taken
   pub open_line : HasNoNewline held
-  pub stops : (input_of r.kind taken).stop ≡ Refused (lines + 1) NoLine
-  pub writes : r.reports (input_of r.kind taken) (refused_at (lines + 1)) (text ++ refused_line (lines + 1) NoLine)
-  pub begins : BeginsReport r (input_of r.kind input) text
+  pub stops : (input_read r.format taken).stop ≡ Refused (lines + 1) NoLine
+  pub writes : r.reports (input_read r.format taken) (refused_at (lines + 1)) (text ++ refused_line (lines + 1) NoLine)
+  pub begins : BeginsReport r (input_read r.format input) text
 
 -- a read failed after so many whole lines, and the report of these was written
-pub record FailedRead (r : Reporting) (lines : ℕ) (o : Outside) : Type 0 where
+pub record FailedRead {H L E : Type 0} (r : Reporting H L E) (lines : ℕ) (o : Outside) : Type 0 where
   pub read : ReadLines lines o.source.before o.source.after
   pub wrote : Wrote o (λ input text. ReportsReadLines r lines input o.source.after text)
   pub cause : Rose o.source.faults_before o.source.faults_after
 
 -- a write failed after so many bytes, which are a first part of the report
-pub record FailedWrite (r : Reporting) (bytes : ℕ) (o : Outside) : Type 0 where
+pub record FailedWrite {H L E : Type 0} (r : Reporting H L E) (bytes : ℕ) (o : Outside) : Type 0 where
   pub appended : Appended bytes o.sink.before o.sink.after
-  pub wrote : Wrote o (λ input text. (bytes ≡ length text) × BeginsReport r (input_of r.kind input) text)
+  pub wrote : Wrote o (λ input text. (bytes ≡ length text) × BeginsReport r (input_read r.format input) text)
   pub cause : Rose o.sink.faults_before o.sink.faults_after
 
+-- a command may want memory that takes it so, where this says that nothing was written
+abbrev pub MayWant : MemoryUse → Type 0 → Type 0
+MayWant Never nothing = ⊥
+MayWant BeforeEvents nothing = nothing
+MayWant Always nothing = Unit {0}
+
+-- there was no memory to begin with or to go on, and what was written is a first part of the report
+pub record HadNoMemory {H L E : Type 0} (r : Reporting H L E) (ended : Ended) (o : Outside) : Type 0 where
+  pub place_is : ended.place ≡ 0
+  pub takes : MayWant r.memory (Grew o.sink.before o.sink.after [])
+  pub wrote : Wrote o (λ input text. BeginsReport r (input_read r.format input) text)
+
 -- what each status says of a run, with its place
-abbrev pub EndsAs : Reporting → Status → Ended → Outside → Type 0
+abbrev pub EndsAs : {H L E : Type 0} → Reporting H L E → Status → Ended → Outside → Type 0
 EndsAs r status.Ok ended o = CameToEnd r ended o
 EndsAs r status.Other ended o = CameToEnd r ended o
 EndsAs r status.Line ended o = CameToRefused r ended o
@@ -68,12 +81,13 @@ EndsAs r status.Write ended o = FailedWrite r ended.place o
 EndsAs r status.Usage ended o = ⊥
 EndsAs r status.Config ended o = ⊥
 EndsAs r status.Desk ended o = ⊥
-EndsAs r status.Memory ended o = ⊥
+EndsAs r status.Memory ended o = HadNoMemory r ended o
 
--- a command ran over an input: how it ended; where neither count of faults rose, as the input says; and no count fell
-pub record RanOver (r : Reporting) (ended : Ended) (o : Outside) : Type 0 where
+-- a command ran over an input: how it ended; where neither count of faults rose and memory wasn't wanted, as the input says; and no count
+-- fell
+pub record RanOver {H L E : Type 0} (r : Reporting H L E) (ended : Ended) (o : Outside) : Type 0 where
   pub ends : EndsAs r ended.status ended o
-  pub stops : (Rose o.source.faults_before o.source.faults_after → ⊥) → (Rose o.sink.faults_before o.sink.faults_after → ⊥)
-      → IfSome o.source.before (λ input. (report : List ℕ) × r.reports (input_of r.kind input) ended report)
+  pub stops : (Rose o.source.faults_before o.source.faults_after → ⊥) → (Rose o.sink.faults_before o.sink.faults_after → ⊥) → (ended.status ≡ status.Memory → ⊥)
+      → IfSome o.source.before (λ input. (report : List ℕ) × r.reports (input_read r.format input) ended report)
   pub source_later : o.source.faults_before ≤ o.source.faults_after
   pub sink_later : o.sink.faults_before ≤ o.sink.faults_after

@@ -12,6 +12,7 @@ input_cause refusal.NoNewline = input.NoNewline
 input_cause refusal.NoLine = input.NoLine
 input_cause refusal.TooMany = input.TooMany
 input_cause refusal.NoFrame = input.NoFrame
+input_cause refusal.NoApp = input.NoApp
 input_cause (refusal.Line why) = input.Line why
 
 -- the name of a cause in a report
@@ -21,4 +22,5 @@ refusal_name input.NoNewline = codes "NoNewline"
 refusal_name input.NoLine = codes "End"
 refusal_name input.TooMany = codes "TooMany"
 refusal_name input.NoFrame = codes "NoFrame"
+refusal_name input.NoApp = codes "NoApp"
 refusal_name (input.Line why) = cause_name why

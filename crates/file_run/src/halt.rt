@@ -1,8 +1,9 @@
 //! Why an input goes no further.
 ghost use Rattle.std.specs.Prelude.{◌≡◌, ◌-◌, ◌^◌, ◌<◌};
-ghost use Rattle.file_run.specs.HaltOf.{halt_of};
+ghost use Rattle.file_run.specs.HaltOf.{halt_of, halt_stopped};
 
 use crate::refusal::Refusal;
+use crate::stopped::Stopped;
 use fsoe_io::LineFault;
 
 /// Why the input goes no further.
@@ -12,6 +13,19 @@ pub enum Halt {
     Read(u64),
     /// The line of this number, from 1, is refused.
     Refused(u64, Refusal),
+    /// There is no memory to go on.
+    Memory,
+}
+
+/// Why an input goes no further where an event of the line of this number isn't done.
+pub(crate) fn halt_stopped(why: Stopped, line: u64) -> Halt
+    ensures { result ≡ halt_stopped why line }
+{
+    match why {
+        Stopped::NoFrame => Halt::Refused(line, Refusal::NoFrame),
+        Stopped::NoApp => Halt::Refused(line, Refusal::NoApp),
+        Stopped::Memory => Halt::Memory,
+    }
 }
 
 /// Why there is no next line after so many whole lines.

@@ -1,30 +1,29 @@
 //! The header of an input.
-ghost use Rattle.std.specs.Prelude.{◌≡◌, ◌-◌, ◌^◌, ◌≤◌, ◌<◌, [], IfOk, IsTrue, OnOk};
+ghost use Rattle.std.specs.Prelude.{◌≡◌, ◌+◌, ◌-◌, ◌^◌, ◌≤◌, ◌<◌, [], IfOk, IsTrue, OnOk};
 ghost use Rattle.std.specs.Io.KnownBytes.{prepend_known};
-ghost use Rattle.schedule_file.specs.Header.{heading_is_whole};
-ghost use Rattle.schedule_file.specs.LinesLeft.{lines_left};
 ghost use Rattle.file_run.specs.Ending.{Halts};
 ghost use Rattle.file_run.specs.Halt.{Blames, Goes, Stalls};
-ghost use Rattle.file_run.specs.Header.{FindsHeading, ReadsHeader};
+ghost use Rattle.file_run.specs.Header.{FindsHeading, ReadsHeader, most_lines};
 ghost use Rattle.file_run.specs.WholeLines.{TookLines};
 
+use crate::format::Format;
 use crate::halt::Halt;
 use crate::line::next_line;
 use crate::refusal::Refusal;
+use crate::stopped::Untaken;
 use fsoe_io::{LineReader, Source};
-use schedule_file::{Header, HeaderKind};
 
 /// Reads the next line of the header: whether it is the last.
-fn next_header_line<S: Source>(
+fn next_header_line<F: Format, S: Source>(
     reader: &mut LineReader,
     source: &mut S,
-    header: &mut Header,
+    header: &mut F::Header,
 ) -> Result<bool, Halt>
     requires { reader.old.lines < 2 ^ 64 - 1 }
-    ensures kind { header.new.kind ≡ header.old.kind }
-    ensures done { IfOk result (λ done. done ≡ heading_is_whole header.new) }
-    ensures fewer { OnOk result (lines_left header.new < lines_left header.old) }
-    ensures finds { FindsHeading header.old result header.new
+    ensures kind { F.kind header.new ≡ F.kind header.old }
+    ensures done { IfOk result (λ done. done ≡ (F.format (F.kind header.old)).is_whole header.new) }
+    ensures fewer { OnOk result (F.lines_left header.new < F.lines_left header.old) }
+    ensures finds { FindsHeading (F.format (F.kind header.old)) F.takes header.old result header.new
         (prepend_known reader.old.bytes (S.left source.old))
         (prepend_known reader.new.bytes (S.left source.new)) }
     ensures goes { Goes result reader.old.lines reader.new.lines
@@ -35,29 +34,34 @@ fn next_header_line<S: Source>(
     ensures cause { Blames result (S.faults source.old) (S.faults source.new) }
 {
     match next_line(reader, source) {
-        Ok(()) => match header.line(reader.line()) {
+        Ok(()) => match F::line(header, reader.line()) {
             Ok(done) => Ok(done),
-            Err(cause) => Err(Halt::Refused(reader.lines(), Refusal::Line(cause))),
+            Err(Untaken::Line(cause)) => {
+                Err(Halt::Refused(reader.lines(), Refusal::Line(cause)))
+            }
+            Err(Untaken::Memory) => Err(Halt::Memory),
         },
         Err(why) => Err(why),
     }
 }
 
-/// Reads a header of this kind up to its `go`. The reader gave no line and holds nothing.
-pub(crate) fn read_header<S: Source>(
-    kind: HeaderKind,
+/// Reads a header, of which no line is read, up to its last line. The reader gave no line and holds nothing.
+pub(crate) fn read_header<F: Format, S: Source>(
+    header: &mut F::Header,
     reader: &mut LineReader,
     source: &mut S,
-) -> Result<Header, Halt>
+) -> Result<(), Halt>
     requires bytes { reader.old.bytes ≡ [] }
     requires lines { reader.old.lines ≡ 0 }
+    requires few { F.lines_left header.old ≤ most_lines }
+    requires start { header.old ≡ (F.format (F.kind header.old)).start }
     ensures took { OnOk result (TookLines reader.new.lines
         (S.left source.old)
         (prepend_known reader.new.bytes (S.left source.new))) }
-    ensures most { OnOk result (reader.new.lines ≤ 1032) }
-    ensures done { IfOk result (λ header. IsTrue (heading_is_whole header)) }
-    ensures kind { IfOk result (λ header. header.kind ≡ kind) }
-    ensures heads { ReadsHeader kind result reader.new.lines
+    ensures most { OnOk result (reader.new.lines ≤ most_lines) }
+    ensures done { OnOk result (IsTrue ((F.format (F.kind header.old)).is_whole header.new)) }
+    ensures kind { F.kind header.new ≡ F.kind header.old }
+    ensures heads { ReadsHeader (F.format (F.kind header.old)) F.takes result header.new reader.new.lines
         (S.left source.old)
         (prepend_known reader.new.bytes (S.left source.new)) }
     ensures stalls { Stalls result reader.new.bytes }
@@ -65,10 +69,9 @@ pub(crate) fn read_header<S: Source>(
     ensures later { S.faults source.old ≤ S.faults source.new }
     ensures cause { Blames result (S.faults source.old) (S.faults source.new) }
 {
-    let mut header = Header::new(kind);
     loop {
-        match next_header_line(reader, source, &mut header) {
-            Ok(true) => return Ok(header),
+        match next_header_line::<F, S>(reader, source, header) {
+            Ok(true) => return Ok(()),
             Ok(false) => {}
             Err(why) => return Err(why),
         }

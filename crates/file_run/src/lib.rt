@@ -1,8 +1,10 @@
 //! What every command does with its input: reads the header and the events, line by line, and closes the report of a run over them.
-//! What an event does, and what is written of it, is the command's: it brings a `Machine`.
+//! How lines are read is the input's: its kind is a `Format`. What an event does, and what is written of it, is the command's: it brings a
+//! `Machine`.
 #![tactic(auto)]
 
 mod event;
+mod format;
 mod halt;
 mod header;
 pub mod laws;
@@ -11,10 +13,14 @@ mod machine;
 mod refusal;
 mod report;
 mod run;
+mod schedule;
 mod stop;
+mod stopped;
 
-pub use event::Grammar;
-pub use machine::{Machine, NotSent};
+pub use format::Format;
+pub use machine::Machine;
 pub use report::write_events;
 pub use run::run_over;
+pub use schedule::{Grammar, Schedule};
 pub use stop::write_report;
+pub use stopped::{Stopped, Untaken};

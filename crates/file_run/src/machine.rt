@@ -1,60 +1,80 @@
 //! What a command runs over the events of its input.
-ghost use Rattle.std.specs.Prelude.{◌≡◌, ℕ, ◌++◌, List, [], IsTrue, OnOk, OnErr, length};
+ghost use Rattle.std.specs.Prelude.{◌≡◌, ◌<◌, ◌≤◌, ◌^◌, ℕ, ◌++◌, Bool, List, [], IsTrue, IfOk, IfErr, OnOk, OnErr, false, length};
 ghost use Rattle.fsoe_io.specs.declared.status.Ended.{Ended};
-ghost use Rattle.schedule_file.specs.Header.{Heading, heading_is_whole};
-ghost use Rattle.schedule_file.specs.Input.{InputCause, Input, Refused, input_of};
-ghost use Rattle.schedule_file.specs.declared.event.Event.{Event};
-ghost use Rattle.file_run.specs.Machine.{TakesEvent, IsGrammarOf, MayCome};
+ghost use Rattle.schedule_file.specs.Input.{InputCause, Refused, input_read};
+ghost use Rattle.schedule_file.specs.declared.event.TheConstants.{MAX_EVENTS};
+ghost use Rattle.file_run.specs.Header.{most_lines};
+ghost use Rattle.file_run.specs.Machine.{TakesEvent, MayCome};
 ghost use Rattle.file_run.specs.Ran.{EndsWhole};
 ghost use Rattle.file_run.specs.Report.{refused_line};
-ghost use Rattle.file_run.specs.Reporting.{EndsReport, EndsUnsent, Reporting, ReportsSoFar, input_headless, refused_at};
+ghost use Rattle.file_run.specs.Reporting.{EndsReport, EndsStopped, Reporting, ReportsSoFar, TakesMemory, input_headless, refused_at};
 
-use crate::event::Grammar;
+use crate::format::Format;
+use crate::stopped::Stopped;
+use fsoe_base::Memory;
 use fsoe_io::{Ended, LineText};
-use schedule_file::{Event, Header, HeaderKind};
-
-/// The frame that an event names wasn't sent.
-#[derive(Clone, Copy, Debug)]
-pub struct NotSent;
 
 /// What a command runs over the events of its input: a new command brings one of these.
 pub trait Machine: Drop {
-    // What the command reports of its inputs.
-    ghost reporting: { Reporting };
+    /// How its inputs are read.
+    type Format: Format;
 
-    // It was set to what a header says, did these events, and wrote this text of them.
-    ghost stands: { Self → Heading → List Event → List ℕ → Type 0 };
+    /// What the command is handed beside its input, and has back after the run.
+    type Handed;
+
+    // What the command reports of its inputs, by what it was handed.
+    ghost reporting: { Self.Handed → Reporting Self.Format.Header Self.Format.Line Self.Format.Event };
+
+    // Handed this first and now that, it was set to what a header says, did these events, and wrote this text of them.
+    ghost stands: { Self.Handed → Self → Self.Handed → Self.Format.Header → List Self.Format.Event → List ℕ → Type 0 };
 
     /// What holds of the reports. The call does nothing: the laws are its contract.
     fn laws()
         // Each input has a report; without a whole header it is one line.
-        ensures some { (bytes : List ℕ) → (report : List ℕ) × (ended : Ended) × reporting.reports (input_of reporting.kind bytes) ended report }
-        ensures headless { (number : ℕ) (why : InputCause) → reporting.reports (input_headless (Refused number why)) (refused_at number) (refused_line number why) }
-        ensures so_far { (v : Self) (h : Heading) (log : List Event) (text : List ℕ) → stands v h log text → ReportsSoFar reporting h log text };
+        ensures some { (handed : Self.Handed) (bytes : List ℕ) → (report : List ℕ) × (ended : Ended) × (reporting handed).reports (input_read (reporting handed).format bytes) ended report }
+        ensures headless { (handed : Self.Handed) (number : ℕ) (why : InputCause) → (reporting handed).reports (input_headless (Refused number why)) (refused_at number) (refused_line number why) }
+        ensures so_far { (first : Self.Handed) (v : Self) (now : Self.Handed) (h : Self.Format.Header) (log : List Self.Format.Event) (text : List ℕ) → stands first v now h log text → ReportsSoFar (reporting first) h log text }
+        // Where the lines of a header take memory, so does the command.
+        ensures memory { (handed : Self.Handed) → IsTrue Self.Format.takes → TakesMemory (reporting handed).memory };
 
-    /// The kind of its header.
-    fn kind() -> HeaderKind
-        ensures { result ≡ reporting.kind };
+    /// The header of an input, of which no line is read.
+    fn open(handed: &Self::Handed) -> Result<<Self::Format as Format>::Header, Memory>
+        ensures start { IfOk result (λ h. h ≡ (reporting handed.now).format.start) }
+        ensures format { IfOk result (λ h. Self.Format.format (Self.Format.kind h) ≡ (reporting handed.now).format) }
+        ensures few { IfOk result (λ h. Self.Format.lines_left h ≤ most_lines) }
+        ensures memory { OnErr result (TakesMemory (reporting handed.now).memory) };
 
     /// A new one, set to what a header says that is done.
-    fn begin(header: &Header) -> Self
-        requires done { IsTrue (heading_is_whole header.now) }
-        requires kind { header.now.kind ≡ reporting.kind }
-        ensures { stands result header.now [] [] };
+    fn begin(
+        header: &<Self::Format as Format>::Header,
+        handed: &mut Self::Handed,
+    ) -> Result<Self, Memory>
+        requires done { IsTrue ((reporting handed.old).format.is_whole header.now) }
+        requires kind { Self.Format.kind header.now ≡ Self.Format.kind (reporting handed.old).format.start }
+        ensures stands { IfOk result (λ v. stands handed.old v handed.new header.now [] []) }
+        ensures memory { OnErr result (TakesMemory (reporting handed.old).memory) }
+        ensures kept { OnErr result (handed.new ≡ handed.old) };
 
-    /// How the lines of its events are read.
-    fn grammar(&self) -> Grammar
-        ensures { (h : Heading) (log : List Event) (text : List ℕ) → stands self.now h log text → IsGrammarOf reporting.kind h result };
+    /// Whether there may be no event after those that were done, which are so many. No input has more than 200,000.
+    fn is_full(&self, handed: &Self::Handed, events: u64) -> bool
+        requires { events ≤ MAX_EVENTS }
+        ensures full { (first : Self.Handed) (h : Self.Format.Header) (log : List Self.Format.Event) (text : List ℕ) → length log ≡ events → stands first self.now handed.now h log text → result ≡ (reporting first).format.is_full h log }
+        ensures few { result ≡ false → events < MAX_EVENTS };
 
-    /// Does the event of this number, from 1, and writes its line; or tells that the frame that the event names wasn't sent, which ends
-    /// the run.
-    fn report(&mut self, event: &Event, number: u64, text: &mut LineText) -> Result<(), NotSent>
-        requires { MayCome (stands self.old) reporting.kind event.now number }
-        ensures takes_event { OnOk result (TakesEvent (stands self.old) (stands self.new) event.now number text.new) }
-        ensures unsent { OnErr result ((h : Heading) (log : List Event) (text : List ℕ) → stands self.old h log text → EndsUnsent reporting h log text event.now) };
+    /// Does the event of this number, from 1, and writes its text; or tells why it isn't done, which ends the run.
+    fn report(
+        &mut self,
+        handed: &mut Self::Handed,
+        event: &<Self::Format as Format>::Event,
+        number: u64,
+        text: &mut LineText,
+    ) -> Result<(), Stopped>
+        requires { (first : Self.Handed) × MayCome (stands first self.old handed.old) (reporting first).format event.now number }
+        ensures takes_event { OnOk result ((first : Self.Handed) → TakesEvent (stands first self.old handed.old) (stands first self.new handed.new) event.now number text.new) }
+        ensures stopped { IfErr result (λ why. (first : Self.Handed) (h : Self.Format.Header) (log : List Self.Format.Event) (text : List ℕ) → stands first self.old handed.old h log text → EndsStopped (reporting first) h log text event.now why) };
 
     /// Writes the last lines after all events, which are so many, and tells how the run ends.
-    fn close(&self, events: u64, text: &mut LineText) -> Ended
-        ensures reports { (h : Heading) (log : List Event) (lines : List ℕ) → length log ≡ events → stands self.now h log lines → EndsReport reporting h log (lines ++ text.new) result }
-        ensures ends { (h : Heading) (log : List Event) (lines : List ℕ) → stands self.now h log lines → EndsWhole reporting.judges result.status result.place };
+    fn close(&self, handed: &Self::Handed, events: u64, text: &mut LineText) -> Ended
+        ensures reports { (first : Self.Handed) (h : Self.Format.Header) (log : List Self.Format.Event) (lines : List ℕ) → length log ≡ events → stands first self.now handed.now h log lines → EndsReport (reporting first) h log (lines ++ text.new) result }
+        ensures ends { (first : Self.Handed) (h : Self.Format.Header) (log : List Self.Format.Event) (lines : List ℕ) → stands first self.now handed.now h log lines → EndsWhole (reporting first).judges result.status result.place };
 }

@@ -17,6 +17,8 @@ pub enum Refusal {
     TooMany,
     /// It names a frame that wasn't sent.
     NoFrame,
+    /// It names an application of which none is left.
+    NoApp,
     /// It says what no line there may say.
     Line(LineCause),
 }
@@ -33,6 +35,7 @@ impl Refusal {
             Refusal::NoLine => "End",
             Refusal::TooMany => "TooMany",
             Refusal::NoFrame => "NoFrame",
+            Refusal::NoApp => "NoApp",
             Refusal::Line(cause) => cause.name(),
         }
     }

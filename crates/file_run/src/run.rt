@@ -2,22 +2,26 @@
 ghost use Rattle.file_run.specs.Ran.{RanOver};
 
 use crate::event::next_event;
-use crate::halt::Halt;
+use crate::format::Format;
+use crate::halt::{Halt, halt_stopped};
 use crate::header::read_header;
-use crate::machine::{Machine, NotSent};
-use crate::refusal::Refusal;
+use crate::machine::Machine;
 use crate::stop::{close, halt, send_before_read, write_failed};
 use fsoe_io::{Ended, LineReader, LineText, Output, Sink, Source};
-use schedule_file::ScheduleLine;
 
-/// Runs a machine over an input: reads its header, then an event a line up to `end`, and writes what the machine reports. Where a line
-/// is refused, also as it names a frame that wasn't sent, it writes `refused <line> <cause>`. What waits for output is sent before a read
-/// that may block, and when the run ends.
+/// Runs a machine over an input: reads its header, then an event a line up to the last, and writes what the machine reports. Where a line
+/// is refused, also as it names what the run so far hasn't, it writes `refused <line> <cause>`. What waits for output is sent before a
+/// read that may block, and when the run ends.
 ///
 /// The status is `Ok` or `Other` as the machine says; `Line` with the number of the refused line; `Read` with the whole lines
-/// read, only where the source failed; or `Write` with the bytes written, only where the sink failed.
-pub fn run_over<M: Machine, S: Source, K: Sink>(source: &mut S, sink: &mut K) -> Ended
-    ensures { RanOver M.reporting result (record {
+/// read, only where the source failed; `Write` with the bytes written, only where the sink failed; or `Memory`, only of a command that
+/// takes memory, with nothing written where it takes all of it before its first event.
+pub fn run_over<M: Machine, S: Source, K: Sink>(
+    handed: &mut M::Handed,
+    source: &mut S,
+    sink: &mut K,
+) -> Ended
+    ensures { RanOver (M.reporting handed.old) result (record {
       source = record { before = S.left source.old; after = S.left source.new; faults_before = S.faults source.old; faults_after = S.faults source.new };
       sink = record { before = K.written sink.old; after = K.written sink.new; faults_before = K.faults sink.old; faults_after = K.faults sink.new };
     }) }
@@ -25,34 +29,45 @@ pub fn run_over<M: Machine, S: Source, K: Sink>(source: &mut S, sink: &mut K) ->
     M::laws();
     let mut reader = LineReader::new();
     let mut output = Output::new();
-    let mut machine = match read_header(M::kind(), &mut reader, source) {
-        Ok(header) => M::begin(&header),
-        Err(why) => return halt(&mut output, sink, why),
+    let Ok(mut header) = M::open(handed) else {
+        return halt(&mut output, sink, Halt::Memory);
     };
-    let grammar = machine.grammar();
-    let mut said = ScheduleLine::End;
+    if let Err(why) = read_header::<M::Format, S>(&mut header, &mut reader, source) {
+        return halt(&mut output, sink, why);
+    }
+    let grammar = M::Format::grammar(&header);
+    let Ok(mut machine) = M::begin(&header, handed) else {
+        return halt(&mut output, sink, Halt::Memory);
+    };
+    let mut said = M::Format::end();
     let mut text = LineText::new();
     let mut events = 0;
     loop {
         if let Err(_) = send_before_read(&reader, &mut output, sink) {
             return write_failed(&output);
         }
-        if let Err(why) = next_event(&mut reader, source, events, &grammar, &mut said) {
+        let full = machine.is_full(handed, events);
+        if let Err(why) = next_event::<M::Format, S>(
+            &mut reader,
+            source,
+            full,
+            &grammar,
+            &mut said,
+        ) {
             return halt(&mut output, sink, why);
         }
-        match &said {
-            ScheduleLine::Step(event) => {
+        match M::Format::event(&said) {
+            Some(event) => {
                 events += 1;
-                if let Err(NotSent) = machine.report(event, events, &mut text) {
-                    let why = Halt::Refused(reader.lines(), Refusal::NoFrame);
-                    return halt(&mut output, sink, why);
+                if let Err(why) = machine.report(handed, event, events, &mut text) {
+                    return halt(&mut output, sink, halt_stopped(why, reader.lines()));
                 }
                 if let Err(_) = output.put(sink, text.bytes()) {
                     return write_failed(&output);
                 }
             }
-            ScheduleLine::End => {
-                let ended = machine.close(events, &mut text);
+            None => {
+                let ended = machine.close(handed, events, &mut text);
                 return close(&mut output, sink, text.bytes(), ended);
             }
         }

@@ -80,6 +80,15 @@ pub(crate) fn halt<K: Sink>(output: &mut Output, sink: &mut K, why: Halt) -> End
                 place: lines,
             },
         ),
+        Halt::Memory => close(
+            output,
+            sink,
+            b"",
+            Ended {
+                status: Status::Memory,
+                place: 0,
+            },
+        ),
         Halt::Refused(line, cause) => {
             let mut text = LineText::new();
             write_refusal(line, cause, &mut text);

@@ -1,6 +1,5 @@
 -- A node does over its events what looking back says, and reports it.
 use Rattle.std.proofs.Common.{◌≡◌, ℕ, ◌+◌, false, List, [], ◌∷◌, ◌++◌, length, refl, arith, ap, ◌∙◌, sym, subst, append_assoc}
-use Rattle.std.specs.Prelude.{IsTrue}
 use Rattle.fsoe_base.specs.LengthsOf.{length_of}
 use Rattle.fsoe_base.specs.declared.command.End.{End}
 use Rattle.fsoe_base.specs.declared.command.End.TheVariants as side
@@ -9,20 +8,15 @@ use Rattle.fsoe_base.specs.declared.did.Did.{Did}
 use Rattle.fsoe_base.specs.declared.lengths.Lengths.{Lengths}
 use Rattle.fsoe_io.specs.declared.status.Ended.{Ended}
 use Rattle.param_load.specs.declared.profile.Profile.{Profile}
-use Rattle.schedule_file.specs.Event as schedule_file
 use Rattle.schedule_file.specs.Event.{FitsEnd, FitsNode}
 use Rattle.schedule_file.specs.Header.{Heading}
-use Rattle.schedule_file.specs.HeaderKind.{has_end}
-use Rattle.schedule_file.specs.Input.{AtEnd, own_length, heading_profile, input_of}
+use Rattle.schedule_file.specs.Input.{AtEnd, own_length, heading_profile, input_of, schedule_format}
+use Rattle.schedule_file.proofs.Fitting.{node_event_fits}
 use Rattle.schedule_file.specs.declared.event.Event.{Event}
-use Rattle.schedule_file.specs.declared.event.ScheduleLine.TheVariants as line
-use Rattle.schedule_file.specs.declared.header_kind.HeaderKind.{HeaderKind}
 use Rattle.schedule_file.specs.declared.header_kind.HeaderKind.TheVariants as kind
-use Rattle.file_run.specs.Event.{FitsGrammar, FitsKind}
-use Rattle.file_run.specs.Machine.{TakesEvent, IsGrammarOf, MayCome}
+use Rattle.file_run.specs.Machine.{TakesEvent, IsSaid, MayCome}
 use Rattle.file_run.specs.Report.{events_line, last_line}
 use Rattle.file_run.specs.Reporting.{EndsReport, ReportsSoFar}
-use Rattle.file_run.specs.declared.event.Grammar.{Grammar}
 use Rattle.end_model.specs.Setup.{Setup, OfMaster, OfSlave}
 use Rattle.end_model.specs.Deed.{Deed}
 use Rattle.end_model.specs.Outputs.{out}
@@ -44,14 +38,10 @@ use Rattle.node_runner.proofs.OneReport.{some_report}
 fits_terms : (end : End) (n m : ℕ) (p q : Profile) (event : Event) → n ≡ m → p ≡ q → FitsEnd end n p event → FitsEnd end m q event
 fits_terms end n m p q event e f fits = subst (λ (q : Profile). FitsEnd end m q event) f (subst (λ (m : ℕ). FitsEnd end m p event) e fits)
 
-fits_kind : (k own : HeaderKind) (grammar : Grammar) (event : Event) → k ≡ own → FitsKind k grammar.lengths grammar.profiles (line.Step event) → FitsKind own grammar.lengths grammar.profiles (line.Step event)
-fits_kind k own grammar event e fits = subst (λ (k : HeaderKind). FitsKind k grammar.lengths grammar.profiles (line.Step event)) e fits
-
-fits_end : (end : End) (h : Heading) (grammar : Grammar) (lengths : Lengths) (profile : Profile) (event : Event) → IsTrue (has_end (kind.Node end) end) → IsGrammarOf (kind.Node end) h grammar
-    → length_of lengths end ≡ own_length h end → profile ≡ heading_profile h end → FitsGrammar grammar (line.Step event) → FitsNode end lengths profile event
-fits_end end h grammar lengths profile event own of e f fits =
-    fits_terms end (length_of grammar.lengths end) (length_of lengths end) (schedule_file.profile_of grammar.profiles end) profile event (of.lengths end ∙ sym e) (of.profiles end own ∙ sym f)
-    (fits_kind grammar.kind (kind.Node end) grammar event of.kind_is fits)
+fits_end : (end : End) (h : Heading) (lengths : Lengths) (profile : Profile) (event : Event) → length_of lengths end ≡ own_length h end → profile ≡ heading_profile h end → IsSaid (schedule_format (kind.Node end)) h event
+    → FitsNode end lengths profile event
+fits_end end h lengths profile event e f said =
+    fits_terms end (own_length h end) (length_of lengths end) (heading_profile h end) profile event (sym e) (sym f) (node_event_fits end h said.0 said.1 event said.2 said.3)
 
 -- the terms of a master that stands so are those of its header
 master_lengths : (v : MasterView) (h : Heading) (log : List Event) (text : List ℕ) → MasterStands v h log text → (end : End) → length_of v.kit.settings.lengths end ≡ own_length h end
@@ -68,15 +58,15 @@ slave_lengths v h log text k side.Slave = ap (λ v. v.kit.settings.lengths.slave
 slave_profile : (v : SlaveView) (h : Heading) (log : List Event) (text : List ℕ) → SlaveStands v h log text → v.kit.settings.profile ≡ h.slave.profile
 slave_profile v h log text k = ap (λ v. v.kit.settings.profile) k.is_after.is ∙ k.set.2.profile_is
 
-pub master_fits : (v : MasterView) (event : Event) (number : ℕ) → MayCome (MasterStands v) (kind.Node side.Master) event number → FitsNode side.Master v.kit.settings.lengths v.kit.settings.profile event
+pub master_fits : (v : MasterView) (event : Event) (number : ℕ) → MayCome (MasterStands v) (schedule_format (kind.Node side.Master)) event number → FitsNode side.Master v.kit.settings.lengths v.kit.settings.profile event
 master_fits v event number may =
-    fits_end side.Master may.heading may.grammar v.kit.settings.lengths v.kit.settings.profile event refl may.is_of (master_lengths v may.heading may.log may.text may.stands side.Master)
-    (master_profile v may.heading may.log may.text may.stands) may.fits
+    fits_end side.Master may.heading v.kit.settings.lengths v.kit.settings.profile event (master_lengths v may.heading may.log may.text may.stands side.Master)
+    (master_profile v may.heading may.log may.text may.stands) may.said
 
-pub slave_fits : (v : SlaveView) (event : Event) (number : ℕ) → MayCome (SlaveStands v) (kind.Node side.Slave) event number → FitsNode side.Slave v.kit.settings.lengths v.kit.settings.profile event
+pub slave_fits : (v : SlaveView) (event : Event) (number : ℕ) → MayCome (SlaveStands v) (schedule_format (kind.Node side.Slave)) event number → FitsNode side.Slave v.kit.settings.lengths v.kit.settings.profile event
 slave_fits v event number may =
-    fits_end side.Slave may.heading may.grammar v.kit.settings.lengths v.kit.settings.profile event refl may.is_of (slave_lengths v may.heading may.log may.text may.stands side.Slave)
-    (slave_profile v may.heading may.log may.text may.stands) may.fits
+    fits_end side.Slave may.heading v.kit.settings.lengths v.kit.settings.profile event (slave_lengths v may.heading may.log may.text may.stands side.Slave)
+    (slave_profile v may.heading may.log may.text may.stands) may.said
 
 -- an event at an end, which did this and sent this frame, and what is shown after it, as a line
 pub record Reports {S V : Type 0} (setup : S → Setup) (IsAfter : S → V → List Deed → Type 0) (old new : V) (event : Event) (number : ℕ) (did : Did) (sent : List ℕ) (state : State) (outputs piece : List ℕ) : Type 0 where

@@ -3,11 +3,14 @@ use Rattle.std.specs.Prelude.{◌≡◌, ℕ, false, List}
 use Rattle.fsoe_base.specs.declared.command.End.{End}
 use Rattle.fsoe_io.specs.declared.status.Ended.{Ended}
 use Rattle.fsoe_io.specs.declared.status.Status.TheVariants as status
-use Rattle.schedule_file.specs.Input.{Stop, AtEnd, Refused, Input}
+use Rattle.schedule_file.specs.Header.{Heading}
+use Rattle.schedule_file.specs.Input.{Stop, AtEnd, Refused, Input, schedule_format}
+use Rattle.schedule_file.specs.declared.event.Event.{Event}
+use Rattle.schedule_file.specs.declared.event.ScheduleLine.{ScheduleLine}
 use Rattle.schedule_file.specs.declared.header_kind.HeaderKind.TheVariants as kind
 use Rattle.file_run.specs.Outside.{Outside}
 use Rattle.file_run.specs.Ran.{RanOver}
-use Rattle.file_run.specs.Reporting.{Reporting}
+use Rattle.file_run.specs.Reporting.{Reporting, Never}
 use Rattle.node_runner.specs.Report.{IsReport}
 
 -- how a run ends whose input stops so, where neither a read nor a write failed
@@ -19,9 +22,9 @@ node_ended (Refused number why) = record { status = status.Line; place = number 
 abbrev pub NodeReports : End → Input → Ended → List ℕ → Type 0
 NodeReports end input ended text = IsReport end input text × (ended ≡ node_ended input.stop)
 
--- what a node reports
-abbrev pub node_reporting : End → Reporting
-node_reporting end = record { kind = kind.Node end; judges = false; reports = NodeReports end }
+-- what a node reports; it takes no memory
+abbrev pub node_reporting : End → Reporting Heading ScheduleLine Event
+node_reporting end = record { format = schedule_format (kind.Node end); judges = false; memory = Never; reports = NodeReports end }
 
 -- the node at this end ran over an input
 abbrev pub RanNode : End → Ended → Outside → Type 0

@@ -3,7 +3,6 @@ ghost use Rattle.std.specs.Prelude.{◌≡◌, ◌≤◌, false, length};
 ghost use Rattle.fsoe_base.specs.declared.command.End.TheVariants as side;
 ghost use Rattle.fsoe_io.specs.declared.status.Status.TheVariants as status;
 ghost use Rattle.schedule_file.specs.Event.{FitsNode};
-ghost use Rattle.schedule_file.specs.declared.header_kind.HeaderKind.TheVariants as kind;
 ghost use Rattle.file_run.specs.Report.{events_line};
 ghost use Rattle.node_runner.specs.Report.{step_line};
 ghost use Rattle.node_runner.specs.Move.{move_of};
@@ -12,12 +11,11 @@ ghost use Rattle.master_core.specs.Standing as master_core;
 ghost use Rattle.slave_core.specs.Standing as slave_core;
 
 use entry_text::push_entry;
-use file_run::{Grammar, Machine, NotSent, write_events};
-use fsoe_base::{Did, End, FrameBuf, Lengths, MOST_DATA, State};
+use file_run::{Machine, Schedule, Stopped, write_events};
+use fsoe_base::{Did, End, FrameBuf, MOST_DATA, Memory, State};
 use fsoe_io::{Ended, LineText, Status};
 use master_core::Master;
-use param_load::{Profile, Profiles};
-use schedule_file::{Event, Header, HeaderKind};
+use schedule_file::{Event, Header, HeaderKind, MAX_EVENTS};
 use slave_core::Slave;
 
 /// The node at a master, with what it did last and the frame that it sent. Both are kept from one event to the next, so that neither
@@ -99,22 +97,6 @@ fn step_slave(slave: &mut Slave, event: &Event, did: &mut Did, sent: &mut FrameB
     }
 }
 
-/// How the lines of a node at this end are read.
-fn grammar_of(end: End, lengths: &Lengths, profile: Profile) -> Grammar
-    ensures kind { result.kind ≡ kind.Node end }
-    ensures lengths { result.lengths ≡ lengths.now }
-    ensures profiles { result.profiles ≡ record { master = profile; slave = profile } }
-{
-    Grammar {
-        kind: HeaderKind::Node(end),
-        lengths: *lengths,
-        profiles: Profiles {
-            master: profile,
-            slave: profile,
-        },
-    }
-}
-
 /// Writes the line of the event of this number, from 1.
 fn write_entry(
     number: u64,
@@ -151,30 +133,39 @@ impl Machine for MasterNode {
     ghost use Rattle.node_runner.specs.Node.{MasterStands};
     ghost use Rattle.node_runner.specs.Ran.{node_reporting};
 
-    ghost reporting = { node_reporting side.Master };
+    type Format = Schedule;
 
-    ghost stands = { λ v. MasterStands v.master };
+    type Handed = ();
+
+    ghost reporting = { λ handed. node_reporting side.Master };
+
+    ghost stands = { λ first v now. MasterStands v.master };
 
     fn laws() {}
 
-    fn kind() -> HeaderKind {
-        HeaderKind::Node(End::Master)
+    fn open(_: &()) -> Result<Header, Memory> {
+        Ok(Header::new(HeaderKind::Node(End::Master)))
     }
 
-    fn begin(header: &Header) -> MasterNode {
-        MasterNode {
+    fn begin(header: &Header, _: &mut ()) -> Result<MasterNode, Memory> {
+        Ok(MasterNode {
             master: Master::new(header.master()),
             did: Did::nothing(),
             sent: FrameBuf::new(),
-        }
+        })
     }
 
-    fn grammar(&self) -> Grammar {
-        let settings = self.master.settings();
-        grammar_of(End::Master, settings.lengths(), settings.profile())
+    fn is_full(&self, _: &(), events: u64) -> bool {
+        events == MAX_EVENTS
     }
 
-    fn report(&mut self, event: &Event, number: u64, text: &mut LineText) -> Result<(), NotSent> {
+    fn report(
+        &mut self,
+        _: &mut (),
+        event: &Event,
+        number: u64,
+        text: &mut LineText,
+    ) -> Result<(), Stopped> {
         step_master(&mut self.master, event, &mut self.did, &mut self.sent);
         write_entry(
             number,
@@ -187,7 +178,7 @@ impl Machine for MasterNode {
         Ok(())
     }
 
-    fn close(&self, events: u64, text: &mut LineText) -> Ended {
+    fn close(&self, _: &(), events: u64, text: &mut LineText) -> Ended {
         write_end(events, text)
     }
 }
@@ -197,30 +188,39 @@ impl Machine for SlaveNode {
     ghost use Rattle.node_runner.specs.Node.{SlaveStands};
     ghost use Rattle.node_runner.specs.Ran.{node_reporting};
 
-    ghost reporting = { node_reporting side.Slave };
+    type Format = Schedule;
 
-    ghost stands = { λ v. SlaveStands v.slave };
+    type Handed = ();
+
+    ghost reporting = { λ handed. node_reporting side.Slave };
+
+    ghost stands = { λ first v now. SlaveStands v.slave };
 
     fn laws() {}
 
-    fn kind() -> HeaderKind {
-        HeaderKind::Node(End::Slave)
+    fn open(_: &()) -> Result<Header, Memory> {
+        Ok(Header::new(HeaderKind::Node(End::Slave)))
     }
 
-    fn begin(header: &Header) -> SlaveNode {
-        SlaveNode {
+    fn begin(header: &Header, _: &mut ()) -> Result<SlaveNode, Memory> {
+        Ok(SlaveNode {
             slave: Slave::new(header.slave()),
             did: Did::nothing(),
             sent: FrameBuf::new(),
-        }
+        })
     }
 
-    fn grammar(&self) -> Grammar {
-        let settings = self.slave.settings();
-        grammar_of(End::Slave, settings.lengths(), settings.profile())
+    fn is_full(&self, _: &(), events: u64) -> bool {
+        events == MAX_EVENTS
     }
 
-    fn report(&mut self, event: &Event, number: u64, text: &mut LineText) -> Result<(), NotSent> {
+    fn report(
+        &mut self,
+        _: &mut (),
+        event: &Event,
+        number: u64,
+        text: &mut LineText,
+    ) -> Result<(), Stopped> {
         step_slave(&mut self.slave, event, &mut self.did, &mut self.sent);
         write_entry(
             number,
@@ -233,7 +233,7 @@ impl Machine for SlaveNode {
         Ok(())
     }
 
-    fn close(&self, events: u64, text: &mut LineText) -> Ended {
+    fn close(&self, _: &(), events: u64, text: &mut LineText) -> Ended {
         write_end(events, text)
     }
 }

@@ -20,7 +20,7 @@ pub fn run_node<S: Source, K: Sink>(end: End, source: &mut S, sink: &mut K) -> E
     }) }
 {
     match end {
-        End::Master => run_over::<MasterNode, S, K>(source, sink),
-        End::Slave => run_over::<SlaveNode, S, K>(source, sink),
+        End::Master => run_over::<MasterNode, S, K>(&mut (), source, sink),
+        End::Slave => run_over::<SlaveNode, S, K>(&mut (), source, sink),
     }
 }

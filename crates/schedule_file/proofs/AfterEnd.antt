@@ -1,15 +1,10 @@
 -- What comes after the line `end` changes nothing.
-use Rattle.std.proofs.Common.{◌≡◌, ℕ, zero, suc, ◌+◌, Bool, true, false, List, [], ◌∷◌, ◌++◌, length, take, map, refl, ap, ◌∙◌, sym}
+use Rattle.std.proofs.Common.{◌≡◌, ℕ, ◌+◌, Bool, true, false, List, [], ◌∷◌, ◌++◌, length, map, refl, ap, ◌∙◌, sym}
 use Rattle.std.specs.Prelude.{◌==◌, Result, Ok, Err, Option, Some, None, slice_get, if◌then◌else◌}
 use Rattle.std.specs.List.{slice_split, onto_first}
 use Rattle.std.proofs.lemmas.List.Splits.{slice_split-cons_yes, slice_split-cons_no, length-slice_split}
-use Rattle.schedule_file.specs.declared.event.TheConstants.{MAX_EVENTS}
 use Rattle.schedule_file.proofs.OneField.{some_part}
-use Rattle.schedule_file.specs.Header.{Heading, heading_new, heading_after, heading_is_whole}
-use Rattle.schedule_file.specs.Input.{InputCause, NoLine, Stop, AtEnd, Refused, WholeHeader, whole_line, open_line, lines_in, lines_of, header_step, header_in, said_after, steps, texts, events_after, stop_at, input_after, input_by, input_of}
-use Rattle.schedule_file.specs.declared.event.Event.{Event}
-use Rattle.schedule_file.specs.declared.event.ScheduleLine.{ScheduleLine}
-use Rattle.schedule_file.specs.declared.event.ScheduleLine.TheVariants as line
+use Rattle.schedule_file.specs.Input.{InputCause, InputFormat, NoLine, Stop, AtEnd, Refused, WholeHeaderOf, whole_line, open_line, lines_in, lines_of, header_step, header_in, before_more, steps, texts, with_room, events_after, stop_at, input_after, input_by, input_read, input_of, schedule_format}
 use Rattle.schedule_file.specs.declared.header_kind.HeaderKind.{HeaderKind}
 use Rattle.schedule_file.specs.declared.line_cause.LineCause.{LineCause}
 
@@ -81,85 +76,97 @@ open_is : (text : List ℕ) → IsOpen (open_line text)
 open_is [] = tt
 open_is (b ∷ text) = tt
 
--- the first so many events in lines
-abbrev events_in : (List ℕ → Result ScheduleLine LineCause) → ℕ → Lines → List Event
-events_in said most rest = take most (steps (map said (texts rest)))
+-- the events in lines that come after others
+abbrev events_in : {H L E : Type 0} → InputFormat H L E → H → List E → Lines → List E
+events_in f h log rest = with_room (f.is_full h) log (steps f.event (map (f.line h) (texts rest)))
 
--- where the line after the events is a line, it and the events are the same with other lines after the first
-abbrev IsSame : (List ℕ → Result ScheduleLine LineCause) → ℕ → Lines → Lines → List ℕ → Type 0
-IsSame said most lines others text = (events_in said most others ≡ events_in said most lines) × (slice_get others (length (events_in said most lines)) ≡ Some (Ok text))
+-- where the line after these events is a line, the events are those of other lines, in which the same line comes after them
+abbrev IsSame : {E : Type 0} → List E → List E → Lines → List ℕ → Type 0
+IsSame events others lines text = (others ≡ events) × (slice_get lines (length events) ≡ Some (Ok text))
 
-same_after : (r : Result ScheduleLine LineCause) (said : List ℕ → Result ScheduleLine LineCause) (most : ℕ) (first : List ℕ) (lines others : Lines) (text : List ℕ)
-    → (slice_get lines (length (events_in said most lines)) ≡ Some (Ok text) → IsSame said most lines others text)
-    → slice_get (Ok first ∷ lines) (length (take (suc most) (steps (r ∷ map said (texts lines))))) ≡ Some (Ok text)
-    → (take (suc most) (steps (r ∷ map said (texts others))) ≡ take (suc most) (steps (r ∷ map said (texts lines))))
-    × (slice_get (Ok first ∷ others) (length (take (suc most) (steps (r ∷ map said (texts lines))))) ≡ Some (Ok text))
-same_after (Ok (line.Step event)) said most first lines others text rest at =
-    let same = rest at in
-    (ap (λ (events : List Event). event ∷ events) same.0, same.1)
-same_after (Ok line.End) said most first lines others text rest at = (refl, at)
-same_after (Err cause) said most first lines others text rest at = (refl, at)
+same_room : {E : Type 0} (full : Bool) (event : E) (events others : List E) (first text : List ℕ) (lines more : Lines) → (slice_get lines (length events) ≡ Some (Ok text) → IsSame events others more text)
+    → slice_get (Ok first ∷ lines) (length (if full then [] else event ∷ events)) ≡ Some (Ok text)
+    → IsSame (if full then [] else event ∷ events) (if full then [] else event ∷ others) (Ok first ∷ more) text
+same_room true event events others first text lines more later at = (refl, at)
+same_room {E} false event events others first text lines more later at =
+    let same = later at in
+    (ap (λ (es : List E). event ∷ es) same.0, same.1)
 
-same_events : (said : List ℕ → Result ScheduleLine LineCause) (most : ℕ) (w t u : Lines) (text : List ℕ) → IsOpen t → slice_get (w ++ t) (length (events_in said most (w ++ t))) ≡ Some (Ok text)
-    → IsSame said most (w ++ t) (w ++ u) text
-same_events said zero [] [] u text is at = cc
-same_events said zero [] (Ok first ∷ t) u text is at = absurd is
-same_events said zero [] (Err why ∷ t) u text is at = cc
-same_events said zero (first ∷ w) t u text is at = (refl, at)
-same_events said (suc most) [] [] u text is at = cc
-same_events said (suc most) [] (Ok first ∷ t) u text is at = absurd is
-same_events said (suc most) [] (Err why ∷ t) u text is at = cc
-same_events said (suc most) (Err why ∷ w) t u text is at = cc
-same_events said (suc most) (Ok first ∷ w) t u text is at =
-    same_after (said first) said most first (w ++ t) (w ++ u) text (λ later. same_events said most w t u text is later) at
+same_said : {H L E : Type 0} (f : InputFormat H L E) (h : H) (log : List E) (said : Option E) (first text : List ℕ) (lines more : Lines)
+    → ((log : List E) → slice_get lines (length (events_in f h log lines)) ≡ Some (Ok text) → IsSame (events_in f h log lines) (events_in f h log more) more text)
+    → slice_get (Ok first ∷ lines) (length (with_room (f.is_full h) log (before_more said (steps f.event (map (f.line h) (texts lines)))))) ≡ Some (Ok text)
+    → IsSame (with_room (f.is_full h) log (before_more said (steps f.event (map (f.line h) (texts lines)))))
+    (with_room (f.is_full h) log (before_more said (steps f.event (map (f.line h) (texts more))))) (Ok first ∷ more) text
+same_said f h log None first text lines more later at = (refl, at)
+same_said f h log (Some event) first text lines more later at =
+    same_room (f.is_full h log) event (events_in f h (log ++ event ∷ []) lines) (events_in f h (log ++ event ∷ []) more) first text lines more (later (log ++ event ∷ [])) at
+
+same_after : {H L E : Type 0} (f : InputFormat H L E) (h : H) (log : List E) (r : Result L LineCause) (first text : List ℕ) (lines more : Lines)
+    → ((log : List E) → slice_get lines (length (events_in f h log lines)) ≡ Some (Ok text) → IsSame (events_in f h log lines) (events_in f h log more) more text)
+    → slice_get (Ok first ∷ lines) (length (with_room (f.is_full h) log (steps f.event (r ∷ map (f.line h) (texts lines))))) ≡ Some (Ok text)
+    → IsSame (with_room (f.is_full h) log (steps f.event (r ∷ map (f.line h) (texts lines)))) (with_room (f.is_full h) log (steps f.event (r ∷ map (f.line h) (texts more)))) (Ok first ∷ more) text
+same_after f h log (Ok line) first text lines more later at = same_said f h log (f.event line) first text lines more later at
+same_after f h log (Err cause) first text lines more later at = (refl, at)
+
+same_events : {H L E : Type 0} (f : InputFormat H L E) (h : H) (w t u : Lines) (text : List ℕ) → IsOpen t → (log : List E) → slice_get (w ++ t) (length (events_in f h log (w ++ t))) ≡ Some (Ok text)
+    → IsSame (events_in f h log (w ++ t)) (events_in f h log (w ++ u)) (w ++ u) text
+same_events f h [] [] u text is log at = cc
+same_events f h [] (Ok first ∷ t) u text is log at = absurd is
+same_events f h [] (Err why ∷ t) u text is log at = cc
+same_events f h (Err why ∷ w) t u text is log at = cc
+same_events f h (Ok first ∷ w) t u text is log at = same_after f h log (f.line h first) first text (w ++ t) (w ++ u) (same_events f h w t u text is) at
 
 -- an input stops by `end` at a line
-at_line : (kind : HeaderKind) (h : Heading) (number events : ℕ) (next : Option (Result (List ℕ) InputCause)) → stop_at kind h number events next ≡ AtEnd → (text : List ℕ) × (next ≡ Some (Ok text))
-at_line kind h number events None e = cc
-at_line kind h number events (Some (Err why)) e = cc
-at_line kind h number events (Some (Ok text)) e = (text, refl)
+at_line : {H L E : Type 0} (f : InputFormat H L E) (h : H) (number : ℕ) (full : Bool) (next : Option (Result (List ℕ) InputCause)) → stop_at f h number full next ≡ AtEnd → (text : List ℕ) × (next ≡ Some (Ok text))
+at_line f h number full None e = cc
+at_line f h number full (Some (Err why)) e = cc
+at_line f h number full (Some (Ok text)) e = (text, refl)
 
-after_same : (kind : HeaderKind) (h : Heading) (n : ℕ) (w t u : Lines) → IsOpen t → (input_after kind (record { heading = h; lines = n; rest = w ++ t })).stop ≡ AtEnd
-    → input_after kind (record { heading = h; lines = n; rest = w ++ u }) ≡ input_after kind (record { heading = h; lines = n; rest = w ++ t })
-after_same kind h n w t u is e =
-    let events : List Event = events_after kind h (w ++ t) in
-    let stops = at_line kind h (n + length events + 1) (length events) (slice_get (w ++ t) (length events)) e in
-    let same = same_events (said_after kind h) MAX_EVENTS w t u stops.0 is stops.1 in
-    ap (λ (es : List Event). record { heading = Some h; lines = n; events = es; stop = stop_at kind h (n + length es + 1) (length es) (slice_get (w ++ u) (length es)) }) same.0
-    ∙ ap (λ (next : Option (Result (List ℕ) InputCause)). record { heading = Some h; lines = n; events = events; stop = stop_at kind h (n + length events + 1) (length events) next }) (same.1 ∙ sym stops.1)
+after_same : {H L E : Type 0} (f : InputFormat H L E) (h : H) (n : ℕ) (w t u : Lines) → IsOpen t → (input_after f (record { heading = h; lines = n; rest = w ++ t })).stop ≡ AtEnd
+    → input_after f (record { heading = h; lines = n; rest = w ++ u }) ≡ input_after f (record { heading = h; lines = n; rest = w ++ t })
+after_same {E = E} f h n w t u is e =
+    let events : List E = events_after f h (w ++ t) in
+    let stops = at_line f h (n + length events + 1) (f.is_full h events) (slice_get (w ++ t) (length events)) e in
+    let same = same_events f h w t u stops.0 is [] stops.1 in
+    ap (λ (es : List E). record { heading = Some h; lines = n; events = es; stop = stop_at f h (n + length es + 1) (f.is_full h es) (slice_get (w ++ u) (length es)) }) same.0
+    ∙ ap (λ (next : Option (Result (List ℕ) InputCause)). record { heading = Some h; lines = n; events = events; stop = stop_at f h (n + length events + 1) (f.is_full h events) next }) (same.1 ∙ sym stops.1)
 
 -- the input after a header that has no more lines before these
-abbrev Goes : HeaderKind → Result WholeHeader Stop → Result WholeHeader Stop → Type 0
-Goes kind this other = (input_by kind this).stop ≡ AtEnd → input_by kind other ≡ input_by kind this
+abbrev Goes : {H L E : Type 0} → InputFormat H L E → Result (WholeHeaderOf H) Stop → Result (WholeHeaderOf H) Stop → Type 0
+Goes f this other = (input_by f this).stop ≡ AtEnd → input_by f other ≡ input_by f this
 
-step_done : (done : Bool) (kind : HeaderKind) (n : ℕ) (next : Heading) (w t u : Lines) → IsOpen t → Goes kind (header_in (n + 1) next (w ++ t)) (header_in (n + 1) next (w ++ u))
-    → Goes kind (if done then Ok (record { heading = next; lines = n; rest = w ++ t }) else header_in (n + 1) next (w ++ t))
-    (if done then Ok (record { heading = next; lines = n; rest = w ++ u }) else header_in (n + 1) next (w ++ u))
-step_done true kind n next w t u is later = λ e. after_same kind next n w t u is e
-step_done false kind n next w t u is later = later
+step_done : {H L E : Type 0} (f : InputFormat H L E) (done : Bool) (n : ℕ) (next : H) (w t u : Lines) → IsOpen t → Goes f (header_in f (n + 1) next (w ++ t)) (header_in f (n + 1) next (w ++ u))
+    → Goes f (if done then Ok (record { heading = next; lines = n; rest = w ++ t }) else header_in f (n + 1) next (w ++ t))
+    (if done then Ok (record { heading = next; lines = n; rest = w ++ u }) else header_in f (n + 1) next (w ++ u))
+step_done f true n next w t u is later = λ e. after_same f next n w t u is e
+step_done f false n next w t u is later = later
 
-step_same : (r : Result Heading LineCause) (kind : HeaderKind) (n : ℕ) (w t u : Lines) → IsOpen t → ((next : Heading) → Goes kind (header_in (n + 1) next (w ++ t)) (header_in (n + 1) next (w ++ u)))
-    → Goes kind (header_step n (w ++ t) (λ next. header_in (n + 1) next (w ++ t)) r) (header_step n (w ++ u) (λ next. header_in (n + 1) next (w ++ u)) r)
-step_same (Ok next) kind n w t u is later = step_done (heading_is_whole next) kind n next w t u is (later next)
-step_same (Err cause) kind n w t u is later = λ e. refl
+step_same : {H L E : Type 0} (f : InputFormat H L E) (r : Result H LineCause) (n : ℕ) (w t u : Lines) → IsOpen t → ((next : H) → Goes f (header_in f (n + 1) next (w ++ t)) (header_in f (n + 1) next (w ++ u)))
+    → Goes f (header_step f.is_whole n (w ++ t) (λ next. header_in f (n + 1) next (w ++ t)) r) (header_step f.is_whole n (w ++ u) (λ next. header_in f (n + 1) next (w ++ u)) r)
+step_same f (Ok next) n w t u is later = step_done f (f.is_whole next) n next w t u is (later next)
+step_same f (Err cause) n w t u is later = λ e. refl
 
-header_same : (kind : HeaderKind) (n : ℕ) (h : Heading) (w t u : Lines) → IsOpen t → Goes kind (header_in n h (w ++ t)) (header_in n h (w ++ u))
-header_same kind n h [] [] u is = λ e. let never : Refused n NoLine ≡ AtEnd = e in cc
-header_same kind n h [] (Ok first ∷ t) u is = absurd is
-header_same kind n h [] (Err why ∷ t) u is = λ e. let never : Refused n why ≡ AtEnd = e in cc
-header_same kind n h (Err why ∷ w) t u is = λ e. refl
-header_same kind n h (Ok text ∷ w) t u is = step_same (heading_after h text) kind n w t u is (λ next. header_same kind (n + 1) next w t u is)
+header_same : {H L E : Type 0} (f : InputFormat H L E) (n : ℕ) (h : H) (w t u : Lines) → IsOpen t → Goes f (header_in f n h (w ++ t)) (header_in f n h (w ++ u))
+header_same f n h [] [] u is = λ e. let never : Refused n NoLine ≡ AtEnd = e in cc
+header_same f n h [] (Ok first ∷ t) u is = absurd is
+header_same f n h [] (Err why ∷ t) u is = λ e. let never : Refused n why ≡ AtEnd = e in cc
+header_same f n h (Err why ∷ w) t u is = λ e. refl
+header_same f n h (Ok text ∷ w) t u is = step_same f (f.header_line h text) n w t u is (λ next. header_same f (n + 1) next w t u is)
 
-pub after_end : (kind : HeaderKind) (bytes more : List ℕ) → (input_of kind bytes).stop ≡ AtEnd → input_of kind (bytes ++ more) ≡ input_of kind bytes
-after_end kind bytes more e =
+-- whatever is read so
+pub nothing_after : {H L E : Type 0} (f : InputFormat H L E) (bytes more : List ℕ) → (input_read f bytes).stop ≡ AtEnd → input_read f (bytes ++ more) ≡ input_read f bytes
+nothing_after f bytes more e =
     let c = cut bytes more in
     let w : Lines = map whole_line c.front in
     let t : Lines = open_line c.last in
     let u : Lines = lines_in (c.next ∷ c.tail) in
     let this : lines_of bytes ≡ w ++ t = ap lines_in c.parts ∙ whole_lines c.front c.last [] in
     let other : lines_of (bytes ++ more) ≡ w ++ u = ap lines_in c.longer ∙ whole_lines c.front c.next c.tail in
-    let stops : (input_by kind (header_in 1 (heading_new kind) (w ++ t))).stop ≡ AtEnd =
-    ap (λ (z : Lines). (input_by kind (header_in 1 (heading_new kind) z)).stop) (sym this) ∙ e in
-    ap (λ (z : Lines). input_by kind (header_in 1 (heading_new kind) z)) other
-    ∙ header_same kind 1 (heading_new kind) w t u (open_is c.last) stops
-    ∙ sym (ap (λ (z : Lines). input_by kind (header_in 1 (heading_new kind) z)) this)
+    let stops : (input_by f (header_in f 1 f.start (w ++ t))).stop ≡ AtEnd =
+    ap (λ (z : Lines). (input_by f (header_in f 1 f.start z)).stop) (sym this) ∙ e in
+    ap (λ (z : Lines). input_by f (header_in f 1 f.start z)) other
+    ∙ header_same f 1 f.start w t u (open_is c.last) stops
+    ∙ sym (ap (λ (z : Lines). input_by f (header_in f 1 f.start z)) this)
+
+pub after_end : (kind : HeaderKind) (bytes more : List ℕ) → (input_of kind bytes).stop ≡ AtEnd → input_of kind (bytes ++ more) ≡ input_of kind bytes
+after_end kind = nothing_after (schedule_format kind)

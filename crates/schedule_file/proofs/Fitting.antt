@@ -1,11 +1,11 @@
 -- The events of an input fit the ends that its header describes.
-use Rattle.std.proofs.Common.{◌≡◌, ℕ, ◌≤◌, ◌<◌, Bool, true, false, List, [], ◌∷◌, length, map, refl, arith}
+use Rattle.std.proofs.Common.{◌≡◌, ℕ, ◌≤◌, ◌<◌, Bool, true, false, List, [], ◌∷◌, length, map, refl, arith, sym, subst}
 use Rattle.std.specs.Prelude.{All, Result, Ok, Err, Option, Some, None, IfOk, IfSome, ◌&&◌, ◌==◌, nat_le, nat_lt, if◌then◌else◌}
 use Rattle.std.specs.Str.Parse.{digits_value}
 use Rattle.std.proofs.lemmas.Bool.{and_parts, leb-true, ltb-true, eqb-true}
 use Rattle.std.proofs.lemmas.Bool.Decides.{nat_tests}
 use Rattle.std.proofs.lemmas.List.Elements.{All-cons, All-nil, All-take}
-use Rattle.std.proofs.lemmas.Result.{IfOk-weaker}
+use Rattle.std.proofs.lemmas.Result.{IfOk-at_ok, IfOk-weaker}
 use Rattle.fsoe_base.specs.declared.command.End.{End}
 use Rattle.param_load.specs.Profile.{allows_id}
 use Rattle.param_load.specs.declared.profile.Profile.{Profile}
@@ -15,11 +15,10 @@ use Rattle.schedule_file.specs.EventLine.{not_zero, reference_of, switch_of, del
 use Rattle.schedule_file.specs.Field.{fields_of, is_number, number_said, bytes_said}
 use Rattle.schedule_file.specs.Fields.{◌>>=◌, value_or, next_field, no_field, one_field, number_16, number_32, one_hex_field}
 use Rattle.schedule_file.specs.Header.{Heading}
-use Rattle.schedule_file.specs.Input.{Stop, WholeHeader, header_of, own_length, heading_profile, said_after, steps, texts, input_by, input_of}
+use Rattle.schedule_file.specs.Input.{Stop, WholeHeader, header_of, own_length, heading_profile, said_after, event_of, is_full, steps, texts, input_by, input_of, schedule_format}
 use Rattle.schedule_file.specs.NodeEvent.{word_of, node_said, node_said_by}
 use Rattle.schedule_file.specs.PairEvent.{pair_word_of, pair_said, pair_said_by}
 use Rattle.schedule_file.specs.declared.event.Event.{Event}
-use Rattle.schedule_file.specs.declared.event.TheConstants.{MAX_EVENTS}
 use Rattle.schedule_file.specs.declared.event.ScheduleLine.{ScheduleLine}
 use Rattle.schedule_file.specs.declared.event.ScheduleLine.TheVariants as line
 use Rattle.schedule_file.specs.declared.header_kind.HeaderKind.{HeaderKind}
@@ -30,6 +29,7 @@ use Rattle.schedule_file.specs.declared.node_event.Word.{Word}
 use Rattle.schedule_file.specs.declared.node_event.Word.TheVariants as node_word
 use Rattle.schedule_file.specs.declared.pair_event.PairWord.{PairWord}
 use Rattle.schedule_file.specs.declared.pair_event.PairWord.TheVariants as word
+use Rattle.schedule_file.proofs.Rooms.{room_is_first}
 use Rattle.schedule_file.proofs.Sound.{each, known, IfOk-every, IfOk-map, hex_within, ok_if}
 
 -- the next step gives such a value, whatever is given here
@@ -110,21 +110,39 @@ node_line_fits : (end : End) (count : ℕ) (profile : Profile) (fields : List (L
 node_line_fits end count profile [] = tt
 node_line_fits end count profile (first ∷ fields) = node_said_fits end count profile (word_of first) fields
 
+-- an event that a line says fits
+on_event : (P : Event → Type 0) (said : ScheduleLine) (event : Event) → event_of said ≡ Some event → OnStep P said → P event
+on_event P (line.Step x) event e is =
+    let same : x ≡ event = cc in
+    subst P same is
+on_event P line.End event e is = cc
+
+pub pair_event_fits : (h : Heading) (text : List ℕ) (said : ScheduleLine) (event : Event) → said_after Pair h text ≡ Ok said → event_of said ≡ Some event → Fits (own_length h) (heading_profile h) event
+pair_event_fits h text said event says e =
+    on_event (Fits (own_length h) (heading_profile h)) said event e (IfOk-at_ok (OnStep (Fits (own_length h) (heading_profile h))) says (pair_line_fits (own_length h) (heading_profile h) (fields_of text)))
+
+pub node_event_fits : (end : End) (h : Heading) (text : List ℕ) (said : ScheduleLine) (event : Event) → said_after (Node end) h text ≡ Ok said → event_of said ≡ Some event → FitsEnd end (own_length h end) (heading_profile h end) event
+node_event_fits end h text said event says e =
+    on_event (FitsEnd end (own_length h end) (heading_profile h end)) said event e
+    (IfOk-at_ok (OnStep (FitsEnd end (own_length h end) (heading_profile h end))) says (node_line_fits end (own_length h end) (heading_profile h end) (fields_of text)))
+
 -- the events of lines are such where each line's is
-first_is : (P : Event → Type 0) (r : Result ScheduleLine LineCause) (said : List (Result ScheduleLine LineCause)) → IfOk r (OnStep P) → All P (steps said) → All P (steps (r ∷ said))
-first_is P (Ok (line.Step event)) said is later = All-cons P event (steps said) is later
+first_is : (P : Event → Type 0) (r : Result ScheduleLine LineCause) (said : List (Result ScheduleLine LineCause)) → IfOk r (OnStep P) → All P (steps event_of said) → All P (steps event_of (r ∷ said))
+first_is P (Ok (line.Step event)) said is later = All-cons P event (steps event_of said) is later
 first_is P (Ok line.End) said is later = All-nil P
 first_is P (Err cause) said is later = All-nil P
 
-steps_are : (P : Event → Type 0) (says : List ℕ → Result ScheduleLine LineCause) → ((text : List ℕ) → IfOk (says text) (OnStep P)) → (lines : List (List ℕ)) → All P (steps (map says lines))
+steps_are : (P : Event → Type 0) (says : List ℕ → Result ScheduleLine LineCause) → ((text : List ℕ) → IfOk (says text) (OnStep P)) → (lines : List (List ℕ)) → All P (steps event_of (map says lines))
 steps_are P says are [] = All-nil P
 steps_are P says are (text ∷ lines) = first_is P (says text) (map says lines) (are text) (steps_are P says are lines)
 
 input_is : (kind : HeaderKind) (P : Heading → Event → Type 0) → ((h : Heading) (text : List ℕ) → IfOk (said_after kind h text) (OnStep (P h)))
-    → (r : Result WholeHeader Stop) → IfSome (input_by kind r).heading (λ h. All (P h) (input_by kind r).events)
+    → (r : Result WholeHeader Stop) → IfSome (input_by (schedule_format kind) r).heading (λ h. All (P h) (input_by (schedule_format kind) r).events)
 input_is kind P are (Ok whole) =
     let h = whole.heading in
-    All-take (P h) MAX_EVENTS (steps (map (said_after kind h) (texts whole.rest))) (steps_are (P h) (said_after kind h) (are h) (texts whole.rest))
+    let said : List Event = steps event_of (map (said_after kind h) (texts whole.rest)) in
+    let first = room_is_first is_full [] said in
+    subst (All (P h)) (sym first.1) (All-take (P h) first.0 said (steps_are (P h) (said_after kind h) (are h) (texts whole.rest)))
 input_is kind P are (Err stop) = tt
 
 pub events_fit : (bytes : List ℕ) → IfSome (input_of Pair bytes).heading (λ h. All (Fits (own_length h) (heading_profile h)) (input_of Pair bytes).events)

@@ -10,6 +10,7 @@ pub mod FewEvents
 pub mod AfterEnd
 pub mod Sound
 pub mod HexAlone
+pub mod Rooms
 pub mod Fitting
 pub mod OneSetting
 pub mod DigitLanes

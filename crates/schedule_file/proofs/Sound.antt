@@ -25,7 +25,7 @@ use Rattle.schedule_file.specs.Header.{Heading, heading_new, heading_after, head
 use Rattle.schedule_file.specs.HeaderKind.{title_of}
 use Rattle.schedule_file.specs.HeaderLine.{InRange, RuleInRange, profile_line, lengths_line, end_numbers, master_line, slave_line, any_line, listed_line, rule_line, range_line, header_line}
 use Rattle.schedule_file.specs.HeaderPart.{lows_of, highs_of, list_with, rule_begun, rule_with_bytes, rule_with_pairs, master_with_app, slave_with_bytes, slave_with_pairs, profile_for}
-use Rattle.schedule_file.specs.Input.{InputCause, Stop, WholeHeader, header_step, header_in, lines_of, header_of, input_by, input_of}
+use Rattle.schedule_file.specs.Input.{InputCause, Stop, WholeHeader, header_step, header_in, lines_of, header_of, input_by, input_of, schedule_format}
 use Rattle.schedule_file.specs.Place.{is_start, admitted, header_word_of}
 use Rattle.schedule_file.specs.declared.header_kind.HeaderKind.{HeaderKind}
 use Rattle.schedule_file.specs.declared.header_line.HeaderLine.{HeaderLine}
@@ -238,15 +238,15 @@ step_by true h number rest later s next = s
 step_by false h number rest later s next = next
 
 step_sound : (r : Result Heading LineCause) (number : ℕ) (rest : List (Result (List ℕ) InputCause)) (go_on : Heading → Result WholeHeader Stop) → IfOk r Sound
-    → ((h : Heading) → Sound h → IfOk (go_on h) (λ whole. Sound whole.heading)) → IfOk (header_step number rest go_on r) (λ whole. Sound whole.heading)
+    → ((h : Heading) → Sound h → IfOk (go_on h) (λ whole. Sound whole.heading)) → IfOk (header_step heading_is_whole number rest go_on r) (λ whole. Sound whole.heading)
 step_sound (Ok h) number rest go_on s next = step_by (heading_is_whole h) h number rest (go_on h) s (next h s)
 step_sound (Err cause) number rest go_on s next = tt
 
-lines_sound : (number : ℕ) (h : Heading) (lines : List (Result (List ℕ) InputCause)) → Sound h → IfOk (header_in number h lines) (λ whole. Sound whole.heading)
-lines_sound number h [] s = tt
-lines_sound number h (Err why ∷ rest) s = tt
-lines_sound number h (Ok text ∷ rest) s =
-    step_sound (heading_after h text) number rest (λ next. header_in (number + 1) next rest) (after_sound h text s) (λ next sound. lines_sound (number + 1) next rest sound)
+lines_sound : (kind : HeaderKind) (number : ℕ) (h : Heading) (lines : List (Result (List ℕ) InputCause)) → Sound h → IfOk (header_in (schedule_format kind) number h lines) (λ whole. Sound whole.heading)
+lines_sound kind number h [] s = tt
+lines_sound kind number h (Err why ∷ rest) s = tt
+lines_sound kind number h (Ok text ∷ rest) s =
+    step_sound (heading_after h text) number rest (λ next. header_in (schedule_format kind) (number + 1) next rest) (after_sound h text s) (λ next sound. lines_sound kind (number + 1) next rest sound)
 
 new_sound : (kind : HeaderKind) → Sound (heading_new kind)
 new_sound kind = (
@@ -255,8 +255,8 @@ new_sound kind = (
   record { hand = omega arith; most = omega arith; acceptable = refl; allowed = profile_allows 0 },
 )
 
-header_sound : (kind : HeaderKind) (lines : List (Result (List ℕ) InputCause)) → IfOk (header_in 1 (heading_new kind) lines) (λ whole. Sound whole.heading)
-header_sound kind lines = lines_sound 1 (heading_new kind) lines (new_sound kind)
+header_sound : (kind : HeaderKind) (lines : List (Result (List ℕ) InputCause)) → IfOk (header_in (schedule_format kind) 1 (heading_new kind) lines) (λ whole. Sound whole.heading)
+header_sound kind lines = lines_sound kind 1 (heading_new kind) lines (new_sound kind)
 
 -- there are settings with these values
 abbrev lengths_of : (h : Heading) → Sound h → Lengths
@@ -296,7 +296,7 @@ slave_settings h s =
     (ss, (refl, refl, record { lengths_are = refl; address_is = refl; hand_is = refl; most_is = refl; rule_is = refl; nonce_is = refl; profile_is = refl }))
 
 -- the header of an input, where it is whole, gives settings of both ends
-heading_sound : (kind : HeaderKind) (r : Result WholeHeader Stop) → IfOk r (λ whole. Sound whole.heading) → IfSome (input_by kind r).heading Sound
+heading_sound : (kind : HeaderKind) (r : Result WholeHeader Stop) → IfOk r (λ whole. Sound whole.heading) → IfSome (input_by (schedule_format kind) r).heading Sound
 heading_sound kind (Ok whole) s = s
 heading_sound kind (Err stop) s = tt
 

@@ -18,8 +18,8 @@ use crate::line_cause::LineCause;
 use fsoe_base::{End, FrameBuf, Image, Lengths, MOST_DATA, MOST_FRAME};
 use param_load::Profile;
 
-/// Off or on.
-fn read_switch(text: &[u8]) -> Option<bool>
+/// Off or on: `0` or `1`.
+pub fn read_switch(text: &[u8]) -> Option<bool>
     ensures { result ≡ switch_of text.now }
 {
     if text == b"0".as_slice() {

@@ -16,7 +16,7 @@ use crate::header_part::{MasterPart, SlavePart};
 use crate::line_cause::LineCause;
 use crate::place::{Place, Word};
 use fsoe_base::{End, Lengths};
-use param_load::{MasterSettings, SlaveSettings};
+use param_load::{MasterSettings, Profiles, SlaveSettings};
 use std::marker::Model;
 
 /// A header that is read line by line, without newlines, from its first line to `go`. The fields of a line are
@@ -223,8 +223,26 @@ impl Header {
         }
     }
 
+    /// The kind of the header.
+    pub fn kind(&self) -> HeaderKind
+        ensures { result ≡ self.now.kind }
+    {
+        self.kind
+    }
+
+    /// The profiles that the lines read so far say; that of an end of which none speaks is One.
+    pub fn profiles(&self) -> Profiles
+        ensures master { result.master ≡ self.now.master.profile }
+        ensures slave { result.slave ≡ self.now.slave.profile }
+    {
+        Profiles {
+            master: self.master.profile(),
+            slave: self.slave.profile(),
+        }
+    }
+
     /// The lengths of the `lengths` line.
-    fn lengths(&self) -> Lengths
+    pub fn lengths(&self) -> Lengths
         ensures master { result.master ≡ self.now.lengths.master }
         ensures slave { result.slave ≡ self.now.lengths.slave }
     {

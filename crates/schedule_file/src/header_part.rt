@@ -101,6 +101,13 @@ impl MasterPart {
         }
     }
 
+    /// The profile.
+    pub fn profile(&self) -> Profile
+        ensures { result ≡ self.now.profile }
+    {
+        self.profile
+    }
+
     /// Whether the profile is Two.
     pub fn is_two(&self) -> bool
         ensures { result ≡ is_two self.now.profile }
@@ -189,6 +196,13 @@ impl SlavePart {
             line,
             rule: AppRule::Any(0),
         }
+    }
+
+    /// The profile.
+    pub fn profile(&self) -> Profile
+        ensures { result ≡ self.now.profile }
+    {
+        self.profile
     }
 
     /// Whether the profile is Two.

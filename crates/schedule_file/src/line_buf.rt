@@ -58,8 +58,8 @@ impl LineBuf {
         self.text.push(&[b]);
     }
 
-    /// Appends bytes.
-    pub(crate) fn push_all(&mut self, piece: &[u8])
+    /// Appends bytes where there is room for them among 640.
+    pub fn push_all(&mut self, piece: &[u8])
         requires { length self.old + length piece.now ≤ MAX_LINE }
         ensures { self.new ≡ self.old ++ piece.now }
     {

@@ -3,10 +3,10 @@ use Rattle.file_run.proofs.Found.{no_event_line, refused_event_line}
 use Rattle.file_run.proofs.event.next_event.Goals as goal
 
 pub returns-in-Err-read_after-clause-finds : goal.returns-in-Err-read_after-clause-finds
-returns-in-Err-read_after-clause-finds g c =
+returns-in-Err-read_after-clause-finds g c = λ k.
     let line = c.in-Ok.ensures.finds in
-    refused_event_line c.args.grammar.now c.args.events _ _ c.next_line.new.reader.line c.in-Err-read_after.cause line.0 line.1 (sym (rw c.line.ensures at c.in-Err-read_after.ensures.says))
+    refused_event_line (g.F.Format.format k).event (g.F.Format.says c.args.grammar.now) c.args.full _ _ c.next_line.new.reader.line c.in-Err-read_after.cause line.0 line.1 (sym (rw c.line.ensures at c.in-Err-read_after.ensures k))
 
 pub returns-in-Err-clause-finds : goal.returns-in-Err-clause-finds
-returns-in-Err-clause-finds g c =
-    no_event_line c.args.grammar.now c.args.events c.in-Err.why _ _ _ c.in-Err.ensures.finds
+returns-in-Err-clause-finds g c = λ k.
+    no_event_line (g.F.Format.format k).event (g.F.Format.says c.args.grammar.now) c.args.full c.in-Err.why _ _ _ c.in-Err.ensures.finds

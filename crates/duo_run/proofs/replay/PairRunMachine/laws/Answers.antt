@@ -3,7 +3,7 @@ use Rattle.duo_run.proofs.Replaying.{pair_so_far}
 use Rattle.duo_run.proofs.replay.PairRunMachine.laws.Goals as goal
 
 pub returns-clause-some : goal.returns-clause-some
-returns-clause-some c = some_replay
+returns-clause-some c = λ handed. some_replay
 
 pub returns-clause-so_far : goal.returns-clause-so_far
-returns-clause-so_far c = λ run h log text k. pair_so_far run.duo h log text k
+returns-clause-so_far c = λ first run now h log text k. pair_so_far run.duo h log text k

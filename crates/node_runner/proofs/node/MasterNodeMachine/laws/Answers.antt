@@ -5,7 +5,7 @@ use Rattle.node_runner.proofs.Nodes.{node_so_far, some_node_report}
 use Rattle.node_runner.proofs.node.MasterNodeMachine.laws.Goals as goal
 
 pub returns-clause-some : goal.returns-clause-some
-returns-clause-some c = some_node_report side.Master
+returns-clause-some c = λ handed. some_node_report side.Master
 
 pub returns-clause-so_far : goal.returns-clause-so_far
-returns-clause-so_far c = λ v h log text k. node_so_far side.Master OfMaster MasterIsAfter v.master h log text k.0
+returns-clause-so_far c = λ first v now h log text k. node_so_far side.Master OfMaster MasterIsAfter v.master h log text k.0

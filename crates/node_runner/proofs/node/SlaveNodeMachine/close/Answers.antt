@@ -5,5 +5,5 @@ use Rattle.node_runner.proofs.Nodes.{node_ends}
 use Rattle.node_runner.proofs.node.SlaveNodeMachine.close.Goals as goal
 
 pub returns-clause-reports : goal.returns-clause-reports
-returns-clause-reports c = λ h log text count k.
+returns-clause-reports c = λ first h log text count k.
     node_ends side.Slave OfSlave SlaveIsAfter c.args.self.now.slave h log text c.write_end.new.text c.args.events c.write_end.result count c.write_end.ensures.text c.write_end.ensures.ended k
