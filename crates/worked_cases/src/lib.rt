@@ -1,15 +1,11 @@
-//! Worked cases of the public calls of the crates below the runners, each module those of one crate: rows that were given from outside, and
-//! ends, desks and sinks that fail. What the program shows stands in `runs/`, and what a clause says needs no case.
+//! Worked cases of the public calls of the crates below the ends, each module those of one crate: rows that were given from outside, and
+//! desks and sinks that fail. What the program shows stands in `runs/`, and what a clause says needs no case.
 //!
-//! They stand in a crate of their own, since a crate with tests is proved twice.
+//! They stand in crates of their own, since a crate with tests is proved twice; those of the ends and of what runs them stand in `worked_ends`.
 #![tactic(auto)]
 
 #[cfg(test)]
 mod of_black_channel;
-#[cfg(test)]
-mod of_end_model;
-#[cfg(test)]
-mod of_exchange_model;
 #[cfg(test)]
 mod of_fb_lib;
 #[cfg(test)]
@@ -23,10 +19,6 @@ mod of_fsoe_frame;
 #[cfg(test)]
 mod of_fsoe_io;
 #[cfg(test)]
-mod of_master_core;
-#[cfg(test)]
-mod of_multi_master;
-#[cfg(test)]
 mod of_param_load;
 #[cfg(test)]
 mod of_plant_conf;
@@ -34,5 +26,3 @@ mod of_plant_conf;
 mod of_schedule_file;
 #[cfg(test)]
 mod of_seq_chain;
-#[cfg(test)]
-mod of_slave_core;

@@ -175,3 +175,17 @@ fn another_application_begins_anew(rt: HostRuntime) -> Result<(), Fail> {
     assert_eq!(rt; Rc::strong_count(&second), 1);
     Ok(())
 }
+
+/// Without memory a new master is refused for that alone, and the application that was handed in is let go: to be run with each
+/// allocation refused in turn.
+#[test]
+fn making_tells_that_there_is_no_memory(rt: HostRuntime) -> Result<(), Fail> {
+    let lives = Rc::new(rt.alloc(), 0u8)?;
+    let own = settings(rt.alloc(), &[1, 2])?;
+    let app = counting(rt.alloc(), &lives)?;
+    if let Err(fault) = MultiMaster::new(own, app) {
+        assert_eq!(rt; fault, NewFault::Memory);
+        assert_eq!(rt; Rc::strong_count(&lives), 1);
+    }
+    Ok(())
+}
