@@ -9,3 +9,4 @@ pub mod FirstGroups
 pub mod BothFit
 pub mod Received
 pub mod OpenedFrame
+pub mod Turned

@@ -3,7 +3,7 @@
 ghost use Rattle.std.specs.Prelude.{◌≡◌, length, IsTrue, Some};
 ghost use Rattle.fsoe_base.specs.Lengths.{is_length, group_count};
 ghost use Rattle.seq_chain.specs.Numbers.{following, crc_noted};
-ghost use Rattle.seq_chain.specs.Chain.{fresh, chain_sent, frame_sent, fits_next, tested, after_taken};
+ghost use Rattle.seq_chain.specs.Chain.{fresh, chain_sent, frame_sent, fits_next, tested, after_taken, turned};
 
 use crate::compare::crcs_are;
 use crate::link::{Link, crc_of, crc_or_zero, following_number, number_with_crcs};
@@ -59,6 +59,17 @@ impl Chain {
         ensures { result ≡ following self.now.taken }
     {
         following_number(self.taken)
+    }
+
+    /// The same chain as the peer has it, where each end took all that the other sent: the frames that this end sent are the
+    /// peer's taken ones.
+    pub fn turned(&self) -> Chain
+        ensures { result ≡ turned self.now }
+    {
+        Chain {
+            own: self.taken,
+            taken: self.own,
+        }
     }
 
     /// Seals the next frame of this end into `out`, in place of what that held, and notes its number

@@ -4,7 +4,9 @@ ghost use Rattle.std.specs.Prelude.{◌≡◌, ◌≢◌, ◌<◌, ◌≤◌, �
 ghost use Rattle.fsoe_crc.specs.Remainder.{rem};
 ghost use Rattle.fsoe_base.specs.Lengths.{is_length, frame_len};
 ghost use Rattle.fsoe_frame.specs.Parts.{Frame, AreBytes, frame_of};
+ghost use Rattle.seq_chain.specs.declared.chain.Chain.{Chain};
 ghost use Rattle.seq_chain.specs.declared.link.Link.{Link};
+ghost use Rattle.seq_chain.specs.Chain.{fresh, sealed_by, after_sent, fits_next, after_taken, turned};
 ghost use Rattle.seq_chain.specs.Cover.{cover, crc_0, first_of};
 ghost use Rattle.seq_chain.specs.Numbers.{next, number_of};
 ghost use Rattle.seq_chain.specs.Sealing.{sealed, noted, fits};
@@ -102,4 +104,14 @@ pub fn received()
     ensures connection { (l : ℕ) (bytes : List ℕ) → IsTrue (is_length l) → length bytes ≡ frame_len l → AreBytes bytes → (frame_of l bytes).conn < 65536 }
     ensures load { (l : ℕ) (bytes : List ℕ) → IsTrue (is_length l) → length bytes ≡ frame_len l → AreBytes bytes → AreBytes (frame_of l bytes).load }
     ensures some_load { (l : ℕ) (bytes : List ℕ) → IsTrue (is_length l) → length bytes ≡ frame_len l → 0 < length (frame_of l bytes).load }
+{}
+
+/// Both ends begin with a new chain, and as long as each takes all that the other sends, the chain of one is that of the other turned: the
+/// peer's chain takes the next frame that an end seals, and is then again that end's chain turned.
+#[tactic(auto, using(crate::proofs::Turned::next_fits))]
+pub fn both_chains()
+    ensures begun { turned fresh ≡ fresh }
+    ensures twice { (chain : Chain) → turned (turned chain) ≡ chain }
+    ensures fits { (chain : Chain) (conn cmd : ℕ) (load : List ℕ) → IsTrue (fits_next (turned chain) (sealed_by chain conn cmd load)) }
+    ensures after { (chain : Chain) (frame : Frame) → turned (after_sent chain frame) ≡ after_taken (turned chain) frame }
 {}

@@ -1,0 +1,10 @@
+-- The chain of an end, and the same as the peer has it.
+use Rattle.std.proofs.Common.{ℕ, List, IsTrue, refl}
+use Rattle.std.specs.Cmp.Lexicographic.{bytes_decides}
+use Rattle.fsoe_frame.specs.Parts.{Frame}
+use Rattle.seq_chain.specs.declared.chain.Chain.{Chain}
+use Rattle.seq_chain.specs.Chain.{sealed_by, fits_next, turned}
+
+-- the peer's next frame is what its chain seals
+pub next_fits : (chain : Chain) (conn cmd : ℕ) (load : List ℕ) → IsTrue (fits_next (turned chain) (sealed_by chain conn cmd load))
+next_fits chain conn cmd load = let f : Frame = sealed_by chain conn cmd load in (bytes_decides f.crcs f.crcs).1 refl
