@@ -43,25 +43,25 @@ use Rattle.schedule_file.specs.declared.place.Word.{Word}
 use Rattle.schedule_file.specs.declared.place.Word.TheVariants as word
 
 -- lengths that settings may have
-record AreLengths (line : LengthsLine) : Type 0 where
-  master : IsTrue (is_length line.master)
-  slave : IsTrue (is_length line.slave)
+pub record AreLengths (line : LengthsLine) : Type 0 where
+  pub master : IsTrue (is_length line.master)
+  pub slave : IsTrue (is_length line.slave)
 
 -- values that settings of a master may have
-record SoundMaster (line : MasterLine) (profile : Profile) : Type 0 where
-  conn : 0 < line.conn
-  watchdog : 0 < line.watchdog
-  allowed : IsTrue (allows_id profile line.nonce)
+pub record SoundMaster (line : MasterLine) (profile : Profile) : Type 0 where
+  pub conn : 0 < line.conn
+  pub watchdog : 0 < line.watchdog
+  pub allowed : IsTrue (allows_id profile line.nonce)
 
 -- values that settings of a slave may have
-record SoundSlave (line : SlaveLine) (profile : Profile) (rule : AppRule) : Type 0 where
-  hand : 0 < line.hand
-  most : 0 < line.most
-  acceptable : IsTrue (is_acceptable rule)
-  allowed : IsTrue (allows_id profile line.nonce)
+pub record SoundSlave (line : SlaveLine) (profile : Profile) (rule : AppRule) : Type 0 where
+  pub hand : 0 < line.hand
+  pub most : 0 < line.most
+  pub acceptable : IsTrue (is_acceptable rule)
+  pub allowed : IsTrue (allows_id profile line.nonce)
 
 -- a header whose lengths and values of both ends are such
-abbrev Sound : Heading → Type 0
+abbrev pub Sound : Heading → Type 0
 Sound h = AreLengths h.lengths × SoundMaster h.master.line h.master.profile × SoundSlave h.slave.line h.slave.profile h.slave.rule
 
 -- the next step gives such a value, whatever this one gave
@@ -228,7 +228,7 @@ after_by : (b : Bool) (h : Heading) (text : List ℕ) → Sound h → IfOk (if b
 after_by true h text s = title_sound (bytes_eq text (title_of h.kind)) h s
 after_by false h text s = fields_sound h (fields_of text) s
 
-after_sound : (h : Heading) (text : List ℕ) → Sound h → IfOk (heading_after h text) Sound
+pub after_sound : (h : Heading) (text : List ℕ) → Sound h → IfOk (heading_after h text) Sound
 after_sound h text s = after_by (is_start h.place) h text s
 
 -- a whole header says such values
@@ -248,7 +248,7 @@ lines_sound kind number h (Err why ∷ rest) s = tt
 lines_sound kind number h (Ok text ∷ rest) s =
     step_sound (heading_after h text) number rest (λ next. header_in (schedule_format kind) (number + 1) next rest) (after_sound h text s) (λ next sound. lines_sound kind (number + 1) next rest sound)
 
-new_sound : (kind : HeaderKind) → Sound (heading_new kind)
+pub new_sound : (kind : HeaderKind) → Sound (heading_new kind)
 new_sound kind = (
   record { master = refl; slave = refl },
   record { conn = omega arith; watchdog = omega arith; allowed = profile_allows 0 },
@@ -262,7 +262,7 @@ header_sound kind lines = lines_sound kind 1 (heading_new kind) lines (new_sound
 abbrev lengths_of : (h : Heading) → Sound h → Lengths
 lengths_of h s = record { master = h.lengths.master; slave = h.lengths.slave; valid_master = s.0.master; valid_slave = s.0.slave }
 
-master_settings : (h : Heading) → Sound h → (ms : MasterSettings) × IsMasterOf h ms
+pub master_settings : (h : Heading) → Sound h → (ms : MasterSettings) × IsMasterOf h ms
 master_settings h s =
     let ms : MasterSettings = record {
       lengths = lengths_of h s;
@@ -278,7 +278,7 @@ master_settings h s =
     } in
     (ms, (refl, refl, record { lengths_are = refl; conn_is = refl; address_is = refl; watchdog_is = refl; app_is = refl; nonce_is = refl; profile_is = refl }))
 
-slave_settings : (h : Heading) → Sound h → (ss : SlaveSettings) × IsSlaveOf h ss
+pub slave_settings : (h : Heading) → Sound h → (ss : SlaveSettings) × IsSlaveOf h ss
 slave_settings h s =
     let ss : SlaveSettings = record {
       lengths = lengths_of h s;

@@ -14,6 +14,7 @@ pub mod LinesLeft
 pub mod Made
 pub mod Maker
 pub mod NodeEvent
+pub mod NodeHeader
 pub mod PairEvent
 pub mod Place
 pub mod WorkedInputs

@@ -1,10 +1,12 @@
 //! The header of an input, line by line.
 ghost use Rattle.std.specs.Prelude.{◌≡◌, ◌<◌, IsTrue, IfOk, OnOk, OnErr};
+ghost use Rattle.schedule_file.specs.Field.{fields_of};
 ghost use Rattle.schedule_file.specs.Fields.{Becomes};
 ghost use Rattle.schedule_file.specs.Header.{heading_new, heading_after, wants_profile, profile_given, heading_with, profile_taken, title_taken, heading_is_whole, rule_place, IsMasterOf, IsSlaveOf};
 ghost use Rattle.schedule_file.specs.HeaderKind.{has_end};
 ghost use Rattle.schedule_file.specs.HeaderLine.{InRange};
 ghost use Rattle.schedule_file.specs.LinesLeft.{lines_left};
+ghost use Rattle.schedule_file.specs.NodeHeader.{heading_begun, kind_after, node_heading_after, is_end_line, may_end};
 ghost use Rattle.schedule_file.specs.Place.{is_start};
 
 use crate::field::cut;
@@ -88,6 +90,15 @@ impl Header {
         }
     }
 
+    /// A header of a node within a longer input, of which no line is read. It has no first line: `lengths` comes next.
+    pub fn begun() -> Header
+        ensures { result ≡ heading_begun }
+    {
+        let mut header = Header::new(HeaderKind::Node(End::Slave));
+        header.place = Place::Title;
+        header
+    }
+
     /// Whether the line `go` is read.
     pub fn is_done(&self) -> bool
         ensures { result ≡ heading_is_whole self.now }
@@ -113,6 +124,45 @@ impl Header {
                 Err(cause)
             }
         }
+    }
+
+    /// Reads the next line of a header that is `begun`, as `line` does: its `master` or `slave` line says of which end the node is.
+    pub fn node_line(&mut self, line: &[u8]) -> Result<bool, LineCause>
+        ensures next { Becomes result self.new (node_heading_after self.old line.now) }
+        ensures done { IfOk result (λ done. done ≡ heading_is_whole self.new) }
+        ensures fewer { OnOk result (lines_left self.new < lines_left self.old) }
+    {
+        self.kind = self.kind_after(line);
+        self.line(line)
+    }
+
+    /// The node that this line says, if it comes next.
+    fn kind_after(&self, line: &[u8]) -> HeaderKind
+        ensures { result ≡ kind_after self.now.place (fields_of line.now) self.now.kind }
+    {
+        if !matches!(self.place, Place::Lengths) {
+            return self.kind;
+        }
+        let (first, _) = cut(line);
+        match Word::read(first) {
+            Some(Word::Master) => HeaderKind::Node(End::Master),
+            Some(Word::Slave) => HeaderKind::Node(End::Slave),
+            _ => self.kind,
+        }
+    }
+
+    /// Whether the line that was read last is `master` or `slave`, which says what an end is set to.
+    pub fn is_end_line(&self) -> bool
+        ensures { result ≡ is_end_line self.now.place }
+    {
+        matches!(self.place, Place::Master | Place::Slave)
+    }
+
+    /// Whether the lines may end here, so that `go` may come next. Where `wants_profile` holds, the line after them is refused as `Range`.
+    pub fn may_end(&self) -> bool
+        ensures { result ≡ may_end self.now }
+    {
+        self.place.admits(self.kind, Word::Go)
     }
 
     fn read(&mut self, line: &[u8]) -> Result<(), LineCause>
@@ -145,7 +195,7 @@ impl Header {
     }
 
     /// Whether the end whose line was read last is in profile Two for its nonce, so that its `profile` has to come next.
-    fn wants_profile(&self) -> bool
+    pub fn wants_profile(&self) -> bool
         ensures { result ≡ wants_profile self.now.place self.now.master self.now.slave }
     {
         match self.place {
@@ -250,19 +300,17 @@ impl Header {
         Lengths::new(usize::from(master), usize::from(slave)).unwrap()
     }
 
-    /// What the master is set to, once the header is done, where it describes a master.
+    /// What the master is set to, where the header describes one. Until its lines are read, settings hold values that no line says.
     pub fn master(&self) -> MasterSettings
-        requires done { IsTrue (heading_is_whole self.now) }
-        requires master { IsTrue (has_end self.now.kind End.Master) }
+        requires { IsTrue (has_end self.now.kind End.Master) }
         ensures { IsMasterOf self.now result }
     {
         self.master.settings(self.lengths())
     }
 
-    /// What the slave is set to, once the header is done, where it describes a slave.
+    /// What the slave is set to, where the header describes one. Until its lines are read, settings hold values that no line says.
     pub fn slave(&self) -> SlaveSettings
-        requires done { IsTrue (heading_is_whole self.now) }
-        requires slave { IsTrue (has_end self.now.kind End.Slave) }
+        requires { IsTrue (has_end self.now.kind End.Slave) }
         ensures { IsSlaveOf self.now result }
     {
         self.slave.settings(self.lengths())

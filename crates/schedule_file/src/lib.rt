@@ -23,7 +23,9 @@ mod place;
 pub use event::{Event, MAX_BACK, MAX_EVENTS, ScheduleLine};
 pub use event_line::read_switch;
 pub use event_text::{end_letter, write_event};
-pub use field::{HexBytes, MAX_HEX, cut, next_field, no_field, number_16, one_field, read_number};
+pub use field::{
+    HexBytes, MAX_HEX, cut, next_field, no_field, number_16, number_32, one_field, read_number,
+};
 pub use header::Header;
 pub use header_kind::HeaderKind;
 pub use line_buf::{LineBuf, MAX_LINE};

@@ -96,7 +96,7 @@ impl Place {
     }
 
     /// Whether a line with this first word may come next in a header of this kind.
-    fn admits(self, kind: HeaderKind, word: Word) -> bool
+    pub fn admits(self, kind: HeaderKind, word: Word) -> bool
         ensures { result ≡ may_stand kind self word }
     {
         match (self, word) {
