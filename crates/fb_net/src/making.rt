@@ -10,8 +10,8 @@ use crate::spec::{BlockSpec, Drive};
 use crate::wire::Wire;
 use failsafe_io::Bit;
 
-/// Whether images of these lengths, in bytes, have this bit.
-fn has_bit(lens: &[u8], bit: Bit) -> bool
+/// Whether images of these lengths, in bytes, of connections from 1 on, have this bit.
+pub fn has_bit(lens: &[u8], bit: Bit) -> bool
     ensures { result ≡ has_bit lens.now bit }
 {
     if bit.link == 0 {
