@@ -10,6 +10,7 @@ use Rattle.multi_master.specs.Connection.{fresh, outputs_at}
 use Rattle.multi_master.specs.Calls.{AppView}
 use Rattle.multi_master.specs.New.{IsNewMaster, first_fault, first_pair}
 use Rattle.multi_master.specs.Puts.{own_len, due_in, first_input}
+use Rattle.multi_master.proofs.Keeping.{none_changed}
 use Rattle.multi_master.specs.Standing.{MultiView, settings_in, IsWhere, IsMulti, StandsFor}
 
 new-where : (settings : List MasterSettings) (ms : List MasterView) → AllZip IsNewMaster settings ms → AllZip IsWhere (map fresh settings) ms
@@ -55,14 +56,15 @@ new_links (s ∷ ss) [] h = absurd h
 new_links (s ∷ ss) (m ∷ ms) h = ap (λ (n : ℕ). suc n) (new_links ss ms h.1)
 
 pub new_multi : (settings : List MasterSettings) (ms : List MasterView) (inputs answers : List (List ℕ)) → AllZip IsNewMaster settings ms → first_fault settings ≡ None
-    → inputs ≡ map first_input ms → map length answers ≡ map own_len ms → IsMulti ms inputs answers
-new_multi settings ms inputs answers h none i a =
+    → inputs ≡ map first_input ms → map length answers ≡ map own_len ms → (changed : List ℕ) → changed ≡ [] → IsMulti ms inputs answers changed
+new_multi settings ms inputs answers h none i a changed told =
     let len : length ms ≡ length settings = new_links settings ms h in
     record {
       rest = new-rest settings ms h;
       inputs_fit = ap length i ∙ mapped first_input ms;
       answers_fit = a;
       most = rw len (few_settings settings none);
+      numbers = none_changed (length ms) changed told;
     }
 
 pub new_stands : (settings : List MasterSettings) (app : AppView) (v : MultiView) → AllZip IsNewMaster settings v.masters → v.app ≡ app → v.inputs ≡ map first_input v.masters → v.changed ≡ []

@@ -7,7 +7,7 @@ use Rattle.fsoe_base.specs.declared.did.Did.{Did}
 use Rattle.param_load.specs.declared.master_settings.MasterSettings.{MasterSettings}
 use Rattle.master_core.specs.MasterView.{MasterView}
 use Rattle.multi_master.specs.Puts.{own_len, due_in, PutStep, IsPutStep, PutsEach, TickStep, IsTickStep, TicksEach}
-use Rattle.multi_master.specs.Standing.{settings_in, IsMulti}
+use Rattle.multi_master.specs.Standing.{settings_in, IsMulti, IsNumber, AreNumbers}
 use Rattle.multi_master.proofs.Places.{map_set, same_length}
 
 -- the lengths of masters are those of their settings
@@ -65,10 +65,14 @@ all_rest (m ∷ ms) (n ∷ ns) e h =
 pub written_back : {A : Type 0} (xs ys : List A) (n : ℕ) → n ≡ length ys → length xs ≡ length ys → take n (xs ++ drop (length xs) ys) ≡ xs
 written_back xs ys n h e = grind (arith, common_steps)
 
+-- no connections are numbers of any
+pub none_changed : (count : ℕ) (told : List ℕ) → told ≡ [] → AreNumbers count told
+none_changed count told e = subst (AreNumbers count) (sym e) (record { few = omega arith; each = All-nil (IsNumber count) })
+
 -- another master at a place, with the same settings, of which a frame is due just where one was
-pub multi_set : (masters : List MasterView) (inputs answers : List (List ℕ)) (k : ℕ) (m last : MasterView) → IsMulti masters inputs answers → slice_get masters k ≡ Some m
-    → settings_in last ≡ settings_in m → due_in last ≡ due_in m → IsMulti (slice_set masters k last) inputs answers
-multi_set masters inputs answers k m last i at s d =
+pub multi_set : (masters : List MasterView) (inputs answers : List (List ℕ)) (changed told : List ℕ) (k : ℕ) (m last : MasterView) → IsMulti masters inputs answers changed → slice_get masters k ≡ Some m
+    → settings_in last ≡ settings_in m → due_in last ≡ due_in m → told ≡ [] → IsMulti (slice_set masters k last) inputs answers told
+multi_set masters inputs answers changed told k m last i at s d none =
     let settings : map settings_in (slice_set masters k last) ≡ map settings_in masters = map_set settings_in masters k m last at s in
     let len : length (slice_set masters k last) ≡ length masters = same_length settings_in settings_in (slice_set masters k last) masters settings in
     record {
@@ -76,6 +80,7 @@ multi_set masters inputs answers k m last i at s d =
       inputs_fit = i.inputs_fit ∙ sym len;
       answers_fit = i.answers_fit ∙ sym (same_lens (slice_set masters k last) masters settings);
       most = rw len i.most;
+      numbers = none_changed (length (slice_set masters k last)) told none;
     }
 
 -- a frame was due at one place alone, and isn't then

@@ -2,9 +2,10 @@
 use Rattle.std.proofs.Common.{◌≡◌, ℕ, suc, ◌+◌, List, [], ◌∷◌, ◌++◌, map, length, slice_get, slice_set, Some, Bool, true, false, not, All, if◌then◌else◌, nat_eq, refl, sym, ap, subst, ◌∙◌, arith}
 use Rattle.std.specs.Cmp.Lexicographic.{pointwise}
 use Rattle.std.proofs.lemmas.Grind.{common_steps}
-use Rattle.std.proofs.lemmas.List.Elements.{All-push, All-nil}
+use Rattle.std.proofs.lemmas.List.Elements.{All-push, All-nil, All-head, All-tail, All-cons}
 use Rattle.fsoe_base.specs.declared.did.Did.{Did}
 use Rattle.master_core.specs.MasterView.{MasterView}
+use Rattle.multi_master.specs.Standing.{IsNumber}
 use Rattle.multi_master.specs.Puts.{PutStep, IsPutStep, PutsEach, changed_steps, TickStep, IsTickStep, TicksEach}
 
 -- some steps are done, and what is left follows
@@ -210,3 +211,16 @@ told_put false told changed changed' k h i e = e
 pub told_none : (b told : Bool) (changed changed' : List ℕ) (k : ℕ) → told ≡ not b → told ≡ false → changed' ≡ changed → changed' ≡ (if b then changed else changed ++ k ∷ [])
 told_none true told changed changed' k h i e = e
 told_none false told changed changed' k h i e = absurd (cc (h, i))
+
+-- the numbers of the connections up to a place, and of the next one where it is told
+more_numbers : (i : ℕ) (old : List ℕ) → All (IsNumber i) old → All (IsNumber (i + 1)) old
+more_numbers i [] h = All-nil (IsNumber (i + 1))
+more_numbers i (n ∷ old) h =
+    let first = All-head (IsNumber i) n old h in
+    let last = first.last in
+    All-cons (IsNumber (i + 1)) n old (record { first = first.first; last = omega arith }) (more_numbers i old (All-tail (IsNumber i) n old h))
+
+pub number_told : (same : Bool) (i : ℕ) (old new : List ℕ) → new ≡ (if same then old else old ++ (i + 1) ∷ []) → All (IsNumber i) old → All (IsNumber (i + 1)) new
+number_told true i old new e h = subst (All (IsNumber (i + 1))) (sym e) (more_numbers i old h)
+number_told false i old new e h =
+    subst (All (IsNumber (i + 1))) (sym e) (All-push (IsNumber (i + 1)) old (i + 1) (more_numbers i old h) (record { first = omega arith; last = omega arith }))

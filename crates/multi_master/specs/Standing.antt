@@ -53,13 +53,24 @@ pub record HasLink {A : Type 0} (v : MultiValue A) (link : ℕ) : Type 0 where
   pub first : 1 ≤ link
   pub last : link ≤ links v
 
--- no frame of a master is due, there is an input for each connection and an answer of the length of its master's frames, and there are
--- at most 64 connections
-pub record IsMulti (masters : List MasterView) (inputs answers : List (List ℕ)) : Type 0 where
+-- this is a number of so many connections
+pub record IsNumber (count link : ℕ) : Type 0 where
+  pub first : 1 ≤ link
+  pub last : link ≤ count
+
+-- these are numbers of so many connections, and no more than there are
+pub record AreNumbers (count : ℕ) (listed : List ℕ) : Type 0 where
+  pub few : length listed ≤ count
+  pub each : All (IsNumber count) listed
+
+-- no frame of a master is due, there is an input for each connection and an answer of the length of its master's frames, there are
+-- at most 64 connections, and those whose offers changed are among them
+pub record IsMulti (masters : List MasterView) (inputs answers : List (List ℕ)) (changed : List ℕ) : Type 0 where
   pub rest : All (λ m. due_in m ≡ false) masters
   pub inputs_fit : length inputs ≡ length masters
   pub answers_fit : map length answers ≡ map own_len masters
   pub most : length masters ≤ 64
+  pub numbers : AreNumbers (length masters) changed
 
 -- a master is where the deeds of its connection leave it
 abbrev pub IsWhere : Connection → MasterView → Type 0

@@ -1,7 +1,7 @@
 //! All masters tick, and the answers of a cycle are put.
 ghost use Rattle.std.specs.Prelude.{◌≡◌, ◌≤◌, false, length, map, All};
 ghost use Rattle.master_core.specs.Now.{is_due};
-ghost use Rattle.multi_master.specs.Standing.{app_view, settings_in};
+ghost use Rattle.multi_master.specs.Standing.{app_view, settings_in, AreNumbers};
 ghost use Rattle.multi_master.specs.Puts.{own_len, due_in, PutsAnswer, PutsEach, RunsCycle, IsTickStep, TicksEach};
 
 use crate::making::MOST_LINKS;
@@ -27,6 +27,7 @@ fn put_answers(masters: &mut [Master], answers: &[Image], changed: &mut ArrayVec
     requires fits { map length answers.now ≡ map own_len masters.old }
     requires most { length masters.old ≤ MOST_LINKS }
     ensures puts { PutsEach masters.old answers.now masters.new changed.new.items }
+    ensures numbers { AreNumbers (length masters.new) changed.new.items }
 {
     changed.clear();
     for i in 0..masters.len() {
@@ -49,6 +50,7 @@ pub(crate) fn run_cycle<A: Application>(
     requires fits { map length answers.old ≡ map own_len masters.old }
     requires most { length masters.old ≤ MOST_LINKS }
     ensures runs { let view = app_view A.rule A.holds A.guards in RunsCycle (view app.old) ticked inputs.now masters.old (view app.new) masters.new changed.new.items }
+    ensures numbers { AreNumbers (length masters.new) changed.new.items }
     ensures fit { map length answers.new ≡ map own_len masters.new }
     ensures settings { map settings_in masters.new ≡ map settings_in masters.old }
     ensures due { map due_in masters.new ≡ map due_in masters.old }

@@ -9,7 +9,7 @@ use crate::fault::NewFault;
 use crate::making::{MOST_LINKS, answers_of, first_fault, inputs_of, masters_of};
 use arrayvec::ArrayVec;
 use failsafe_io::{Application, Bit};
-use fsoe_base::{Did, FrameBuf, Image, State};
+use fsoe_base::{Did, FrameBuf, Image, MOST_DATA, State};
 use master_core::Master;
 use param_load::{MasterSettings, Terms};
 use std::marker::Model;
@@ -40,14 +40,14 @@ impl<A> Model for MultiMaster<A> {
       changed = m.changed.items;
     } };
 
-    ghost invariant = { λ m. IsMulti m.masters.items m.inputs.items m.answers.items };
+    ghost invariant = { λ m. IsMulti m.masters.items m.inputs.items m.answers.items m.changed.items };
 }
 
 impl<A: Application> MultiMaster<A> {
     ghost use Rattle.multi_master.specs.Connection.{setup, outputs_at, offer_at};
     ghost use Rattle.multi_master.specs.Calls.{Deliver, Tick, Nonce, ChangeApp};
     ghost use Rattle.multi_master.specs.New.{first_fault};
-    ghost use Rattle.multi_master.specs.Standing.{app_view, seen, links, HasLink, StandsFor, Follows, Offers, AnswersFrame, AnswersTick, ShowsAt, ShowsApp, ShowsChanged, settings_of};
+    ghost use Rattle.multi_master.specs.Standing.{app_view, seen, links, HasLink, StandsFor, Follows, Offers, AnswersFrame, AnswersTick, ShowsAt, ShowsApp, ShowsChanged, AreNumbers, settings_of};
 
     /// The masters of connections with these settings, in this order, each in state Reset, and this application. No cycle is
     /// run: the offers are zeros until the first one. There may be no connection at all. Refused are more than 64 connections; then
@@ -204,15 +204,20 @@ impl<A: Application> MultiMaster<A> {
     /// answered last, and zeros before the first cycle.
     pub fn offer(&self, link: u16) -> &[u8]
         requires { HasLink self.now link }
-        ensures { ShowsAt (seen A.rule A.holds A.guards self.now) link result.now offer_at }
+        ensures shown { ShowsAt (seen A.rule A.holds A.guards self.now) link result.now offer_at }
+        ensures most { length result.now ≤ MOST_DATA }
     {
-        self.masters[usize::from(link) - 1].offer()
+        let master = &self.masters[usize::from(link) - 1];
+        let fits = master.settings().own_len() <= MOST_DATA;
+        prove!(fits);
+        master.offer()
     }
 
     /// The connections whose offers the last call changed, in their order, by their numbers: those to which its cycle put another
     /// offer. None after a call that ran no cycle.
     pub fn changed(&self) -> &[u16]
-        ensures { ShowsChanged (seen A.rule A.holds A.guards self.now) result.now }
+        ensures changed { ShowsChanged (seen A.rule A.holds A.guards self.now) result.now }
+        ensures numbers { AreNumbers (links self.now) result.now }
     {
         self.changed.as_slice()
     }

@@ -5,7 +5,7 @@ use Rattle.std.proofs.lemmas.Option.{slice_get_read, slice_get-get_or}
 use Rattle.master_core.specs.MasterView.{MasterView}
 use Rattle.multi_master.specs.Puts.{own_len, PutStep}
 use Rattle.multi_master.proofs.Places.{same_at, same_length, map_set}
-use Rattle.multi_master.proofs.Looping.{puts_more, told_put, told_none}
+use Rattle.multi_master.proofs.Looping.{puts_more, told_put, told_none, number_told}
 use Rattle.multi_master.proofs.cycle.put_answers.Goals.{then-put_answer, else-put_answer}
 use Rattle.multi_master.proofs.cycle.put_answers.Goals as goal
 
@@ -43,5 +43,6 @@ loop-i-preserved c =
         | then-put_answer w ↦ grind (arith, common_steps)
         | else-put_answer w ↦ grind (arith, common_steps)
       ];
+      numbers = number_told same c.loop-i.i c.loop-i.changed.items _ told c.loop-i.invariant.numbers;
       so_far = puts_more c.args.masters.now c.args.answers.now c.loop-i.masters _ c.loop-i.changed.items c.if-put_answer.changed.items i x c.loop-i.invariant.so_far at is c.put_answer.ensures.step refl told;
     }

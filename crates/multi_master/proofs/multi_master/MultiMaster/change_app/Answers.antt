@@ -14,6 +14,7 @@ invariant_of-self g c =
       inputs_fit = c.self.invariant.inputs_fit ∙ cc;
       answers_fit = c.run_cycle.ensures.fit;
       most = grind arith;
+      numbers = c.run_cycle.ensures.numbers;
     })
 
 pub returns-clause-follows : goal.returns-clause-follows

@@ -22,8 +22,8 @@ invariant_of-self g c =
     let at : slice_get masters place ≡ Some c.index_mut.result.now = slice_get_read masters _ place _ refl (omega arith) c.index_mut.ensures.value in
     let same : c.index.result.now ≡ accepted = read_back masters place accepted _ (omega arith) c.index.ensures in
     let rest : is_due accepted.state ≡ false = ap due_in (sym same) ∙ sym c.due.ensures ∙ c.if-not-due.true in
-    multi_set masters c.self.inside.inputs.items c.self.inside.answers.items place c.index_mut.result.now accepted c.self.invariant at (ap (λ k. k.settings) c.accept-did.ensures.kit)
-    (rest ∙ sym (rest_at masters place c.index_mut.result.now c.self.invariant.rest at))
+    multi_set masters c.self.inside.inputs.items c.self.inside.answers.items _ _ place c.index_mut.result.now accepted c.self.invariant at (ap (λ k. k.settings) c.accept-did.ensures.kit)
+    (rest ∙ sym (rest_at masters place c.index_mut.result.now c.self.invariant.rest at)) c.clear.ensures
 
 pub returns-then-not-due-clause-follows : goal.returns-then-not-due-clause-follows
 returns-then-not-due-clause-follows g c =
@@ -162,6 +162,7 @@ invariant_of-self-2 g c =
       inputs_fit = read ∙ c.self.invariant.inputs_fit ∙ sym (as_put ∙ long);
       answers_fit = c.run_cycle.ensures.fit ∙ sym (map_set own_len put place c.index_mut-3.result.now c.reply.new.self ready_at (ap (λ k. k.settings.lengths.master) c.reply.ensures.kit));
       most = rw (as_put, long) c.self.invariant.most;
+      numbers = rw as_put c.run_cycle.ensures.numbers;
     })
 
 pub returns-clause-follows : goal.returns-clause-follows

@@ -11,6 +11,7 @@ invariant_of-result g c =
     new_multi c.args.settings.items c.in_ok-masters.masters.items c.in_ok-inputs.inputs.items c.in_ok-answers.answers.items c.in_ok-masters.ensures.made none
     (c.in_ok-inputs.ensures.zeros ∙ ap (λ (ms : List MasterView). map first_input ms) c.as_slice-2.ensures.value)
     (c.in_ok-answers.ensures.fit ∙ ap (λ (ms : List MasterView). map own_len ms) c.as_slice-3.ensures.value)
+    _ c.new.ensures
 
 pub returns-clause-stands : goal.returns-clause-stands
 returns-clause-stands g c =

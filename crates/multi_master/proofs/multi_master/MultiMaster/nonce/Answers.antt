@@ -21,7 +21,7 @@ invariant_of-self g c =
     let place : ℕ = c.from.result - 1 in
     let fits : c.args.link ≤ length c.self.inside.masters.items = subst (λ v. c.args.link ≤ length v.masters) (sym c.self.view_is) c.requires.last in
     let at : slice_get c.self.inside.masters.items place ≡ Some c.index_mut.result.now = slice_get_read c.self.inside.masters.items _ place _ refl (omega arith) c.index_mut.ensures.value in
-    multi_set c.self.inside.masters.items c.self.inside.inputs.items c.self.inside.answers.items place c.index_mut.result.now c.nonce.new.self c.self.invariant at c.nonce.ensures.settings c.nonce.ensures.due
+    multi_set c.self.inside.masters.items c.self.inside.inputs.items c.self.inside.answers.items _ _ place c.index_mut.result.now c.nonce.new.self c.self.invariant at c.nonce.ensures.settings c.nonce.ensures.due c.clear.ensures
 
 pub returns-clause-settings : goal.returns-clause-settings
 returns-clause-settings g c =
