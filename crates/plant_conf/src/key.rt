@@ -142,7 +142,8 @@ impl Key {
     /// Appends the key as a refusal writes it: `plant seed`, `connection 2 watchdog`, and a whole table by its name alone.
     pub fn push(self, text: &mut LineText)
         requires { length text.old ≤ 900 }
-        ensures { text.new ≡ text.old ++ key_text self }
+        ensures text { text.new ≡ text.old ++ key_text self }
+        ensures most { length text.new ≤ length text.old + 45 }
     {
         text.push_str(self.table.name());
         self.push_rest(text);
@@ -151,7 +152,8 @@ impl Key {
     // What stands after the name of the table.
     fn push_rest(self, text: &mut LineText)
         requires { length text.old ≤ 910 }
-        ensures { text.new ≡ text.old ++ rest_text self.table self.index self.name }
+        ensures text { text.new ≡ text.old ++ rest_text self.table self.index self.name }
+        ensures most { length text.new ≤ length text.old + 35 }
     {
         match self.name {
             KeyName::Whole => {}

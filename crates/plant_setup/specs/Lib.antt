@@ -1,0 +1,3 @@
+pub mod ConfigLine
+pub mod Names
+pub mod Setup
