@@ -1,5 +1,5 @@
 //! The run of both ends over a pair file.
-ghost use Rattle.std.specs.Prelude.{◌≡◌, ◌≤◌, ℕ, ◌++◌, List, length, IfErr, OnOk};
+ghost use Rattle.std.specs.Prelude.{◌≡◌, ◌≤◌, ℕ, ◌++◌, List, length, IfErr, OnErr, OnOk};
 ghost use Rattle.schedule_file.specs.Header.{Heading};
 ghost use Rattle.schedule_file.specs.Input.{schedule_format};
 ghost use Rattle.schedule_file.specs.declared.event.Event.{Event};
@@ -68,6 +68,7 @@ fn write_event(
     requires { MayCome (ReplayStands duo.old) (schedule_format kind.Pair) event.now number }
     ensures takes_event { OnOk result (TakesEvent (ReplayStands duo.old) (ReplayStands duo.new) event.now number text.new) }
     ensures stopped { IfErr result (λ why. (h : Heading) (log : List Event) (text : List ℕ) → ReplayStands duo.old h log text → EndsStopped replay_reporting h log text event.now why) }
+    ensures kept { OnErr result (duo.new ≡ duo.old) }
 {
     match duo.advance(event, answer) {
         Ok(()) => {
@@ -81,6 +82,8 @@ fn write_event(
 }
 
 impl Machine for PairRun {
+    ghost use Rattle.std.specs.Prelude.{[]};
+    ghost use Rattle.file_run.specs.Reporting.{EndsReport};
     ghost use Rattle.duo_run.specs.Replay.{ReplayStands, replay_reporting};
 
     type Format = Schedule;
@@ -90,6 +93,10 @@ impl Machine for PairRun {
     ghost reporting = { λ handed. replay_reporting };
 
     ghost stands = { λ first run now. ReplayStands run.duo };
+
+    ghost waits = { λ run now. [] };
+
+    ghost closes = { λ first now. EndsReport replay_reporting };
 
     fn laws() {}
 
@@ -118,10 +125,14 @@ impl Machine for PairRun {
         write_event(&mut self.duo, &mut self.answer, event, number, text)
     }
 
-    fn close(&self, _: &(), events: u64, text: &mut LineText) -> Ended {
+    fn close(&mut self, _: &(), events: u64, text: &mut LineText) -> Ended {
         let other = self.duo.other();
         write_closing(events, other, text);
         ended_with(other)
+    }
+
+    fn more(&mut self, _: &(), text: &mut LineText) {
+        text.clear();
     }
 }
 

@@ -1,6 +1,6 @@
 -- The lines of a header that were read.
 use Rattle.std.proofs.Common.{◌≡◌, ℕ, ◌+◌, Bool, true, false, List, [], ◌∷◌, ◌++◌, refl, ap, ◌∙◌, sym, subst, append_assoc}
-use Rattle.std.specs.Prelude.{Result, Ok, Err, IfSome, Some, None}
+use Rattle.std.specs.Prelude.{IsTrue, Result, Ok, Err, IfSome, Some, None}
 use Rattle.std.specs.declared.option.Option.{Option}
 use Rattle.std.specs.Io.KnownBytes.{Consumes, prepend_known}
 use Rattle.std.proofs.lemmas.List.{append-nil}
@@ -10,7 +10,7 @@ use Rattle.schedule_file.specs.Input.{InputCause, InputFormat, NoLine, Line, Sto
 use Rattle.schedule_file.specs.declared.line_cause.LineCause.{LineCause}
 use Rattle.file_run.specs.Refusal.{input_cause}
 use Rattle.file_run.specs.Halt.{Goes}
-use Rattle.file_run.specs.Header.{FindsHeading, ReadsHeader, IsWholeHeader, IsHeaderCutOff, heading_by, heading_by_itself}
+use Rattle.file_run.specs.Header.{FindsHeading, HaltsHeader, IsWholeHeader, IsHeaderCutOff, heading_by, heading_by_itself}
 use Rattle.file_run.specs.NextLine.{first_line}
 use Rattle.file_run.specs.declared.halt.Halt.{Halt}
 use Rattle.file_run.specs.declared.halt.Halt.TheVariants as halt
@@ -110,8 +110,8 @@ pub heading_as : {H L E : Type 0} (asked format : InputFormat H L E) (takes : Bo
 heading_as {H} {L} {E} asked format takes h next result old new e finds = subst (λ (f : InputFormat H L E). FindsHeading f takes h result next old new) e finds
 
 -- why the header goes no further
-pub header_halts : {H L E : Type 0} (f : InputFormat H L E) (takes : Bool) (h next : H) (lines now after : ℕ) (a b c : Option (List ℕ)) (why : Halt) → HeaderSeen f h lines a b → FindsHeading f takes h (Err why) next b c
-    → Goes {T = Bool} (Err why) lines now b c → ReadsHeader f takes (Err why) next after a c
-header_halts f takes h next lines now after a b c (halt.Read count) seen finds goes = header_cut_off f h lines count a b c seen goes.1 goes.0
-header_halts f takes h next lines now after a b c halt.Memory seen finds goes = finds
-header_halts f takes h next lines now after a b c (halt.Refused number why) seen finds goes = header_refused f h lines number a b (input_cause why) seen finds goes
+pub header_halts : {H L E : Type 0} (f : InputFormat H L E) (takes : Bool) (h next : H) (lines now : ℕ) (a b c : Option (List ℕ)) (why : Halt) → HeaderSeen f h lines a b → FindsHeading f takes h (Err why) next b c
+    → Goes {T = Bool} (Err why) lines now b c → HaltsHeader f (IsTrue takes) why a c
+header_halts f takes h next lines now a b c (halt.Read count) seen finds goes = header_cut_off f h lines count a b c seen goes.1 goes.0
+header_halts f takes h next lines now a b c halt.Memory seen finds goes = finds
+header_halts f takes h next lines now a b c (halt.Refused number why) seen finds goes = header_refused f h lines number a b (input_cause why) seen finds goes

@@ -4,5 +4,7 @@ pub mod Taken
 pub mod HeaderSeen
 pub mod Seen
 pub mod Sending
+pub mod Putting
+pub mod OnePart
 pub mod Running
 pub mod Exact

@@ -20,8 +20,9 @@ use Rattle.file_run.specs.Ending.{Halts, Writes}
 use Rattle.file_run.specs.Event.{FindsEvent}
 use Rattle.file_run.specs.Halt.{Blames, Goes, Stalls}
 use Rattle.file_run.specs.HaltOf.{halt_stopped}
-use Rattle.file_run.specs.Header.{ReadsHeader, IsHeaderCutOff, IsWholeHeader, most_lines}
-use Rattle.file_run.specs.Machine.{TakesEvent, MayCome}
+use Rattle.file_run.specs.Begun.{Begins}
+use Rattle.file_run.specs.Header.{HaltsHeader, IsHeaderCutOff, most_lines}
+use Rattle.file_run.specs.Machine.{Keeps, TakesEvent, MayCome, most_waiting}
 use Rattle.file_run.specs.Outside.{Outside, Wrote}
 use Rattle.file_run.specs.Ran.{CameToEnd, EndsAs, EndsWhole, MayWant, ReportsReadLines}
 use Rattle.file_run.specs.Report.{refused_line}
@@ -61,7 +62,7 @@ pub record Running {H L E : Type 0} (r : Reporting H L E) (stands : Standing H E
   pub seen : Seen r.format heading header left0 left log
   pub took : TookLines lines left0 left
   pub sent : Sent w0 w waiting text
-  pub size : waiting.sent + length waiting.bytes ≤ 1024 * events
+  pub size : waiting.sent + length waiting.bytes ≤ (1024 + most_waiting) * events
   pub count : length log ≡ events
   pub few : events ≤ MAX_EVENTS
   pub lined : lines ≡ header + events
@@ -76,16 +77,6 @@ abbrev pub IsFullness : {H L E : Type 0} → Reporting H L E → Standing H E �
 IsFullness {H} {L} {E} r stands events full = (h : H) (log : List E) (text : List ℕ) → length log ≡ events → stands h log text → full ≡ r.format.is_full h log
 
 -- what holds of one way to read inputs holds of the same
-pub heads_as : {H L E : Type 0} (asked format : InputFormat H L E) (takes : Bool) (result : Result (Unit {0}) Halt) (h : H) (lines : ℕ) (old new : Option (List ℕ)) → asked ≡ format → ReadsHeader asked takes result h lines old new
-    → ReadsHeader format takes result h lines old new
-heads_as {H} {L} {E} asked format takes result h lines old new e heads = subst (λ (f : InputFormat H L E). ReadsHeader f takes result h lines old new) e heads
-
-pub whole_as : {H L E : Type 0} (asked format : InputFormat H L E) (h : H) (lines : ℕ) (old new : Option (List ℕ)) → asked ≡ format → IsWholeHeader asked h lines old new → IsWholeHeader format h lines old new
-whole_as {H} {L} {E} asked format h lines old new e whole = subst (λ (f : InputFormat H L E). IsWholeHeader f h lines old new) e whole
-
-pub says_as : {K H L E : Type 0} (format : K → InputFormat H L E) (of : InputFormat H L E) (h : H) (says : Saying L) (a b : K) → a ≡ b → format b ≡ of → ((text : List ℕ) → says text ≡ (format a).line h text) → SaysSo of h says
-says_as {K} {H} {L} {E} format of h says a b same is said = λ text. said text ∙ ap (λ (k : K). (format k).line h text) same ∙ ap (λ (f : InputFormat H L E). f.line h text) is
-
 pub halts_as : {H L E : Type 0} (asked format : InputFormat H L E) (says : Saying L) (full : Bool) (why : Halt) (old new : Option (List ℕ)) → asked ≡ format → FindsEvent asked.event says full (Err why) old new
     → FindsEvent format.event says full (Err why) old new
 halts_as {H} {L} {E} asked format says full why old new e finds = subst (λ (f : InputFormat H L E). FindsEvent f.event says full (Err why) old new) e finds
@@ -97,23 +88,23 @@ finds_as {H} {L} {E} asked format says full line event old new e is finds =
     subst (λ (f : InputFormat H L E). FindsEvent f.event says full (Ok event) old new) e (subst (λ (o : Option E). FindsEvent asked.event says full (Ok o) old new) is finds)
 
 -- after a header nothing was sent
-pub running_start : {H L E : Type 0} (r : Reporting H L E) (stands : Standing H E) (says : Saying L) (h : H) (left0 left w : Option (List ℕ)) (waiting : OutputView) (lines : ℕ) → IsWholeHeader r.format h lines left0 left
-    → TookLines lines left0 left → lines ≤ most_lines → stands h [] [] → SaysSo r.format h says → waiting.bytes ≡ [] → waiting.sent ≡ 0 → Running r stands says left0 left w w waiting 0 lines
-running_start r stands says h left0 left w waiting lines heads took most stood same none sent = record {
-  heading = h;
+pub running_start : {H L E : Type 0} (r : Reporting H L E) (stands : Standing H E) (says : Saying L) (left0 left w : Option (List ℕ)) (waiting : OutputView) (lines : ℕ) → Begins r stands says lines left0 left → waiting.bytes ≡ [] → waiting.sent ≡ 0
+    → Running r stands says left0 left w w waiting 0 lines
+running_start r stands says left0 left w waiting lines b none sent = record {
+  heading = b.heading;
   header = lines;
   log = [];
   text = [];
-  stood = stood;
-  same = same;
-  seen = seen_none r.format h lines left0 left heads;
-  took = took;
+  stood = b.stood;
+  same = b.same;
+  seen = seen_none r.format b.heading lines left0 left b.whole;
+  took = b.took;
   sent = sent_none w waiting none sent;
   size = omega (arith, sent, ap (length {A = ℕ}) none);
   count = refl;
   few = omega arith;
   lined = omega arith;
-  headed = most;
+  headed = b.most;
 }
 
 -- what waited was sent
@@ -158,25 +149,25 @@ event_seen r stands says full left0 b c w0 w waiting events lines event k finds 
     let said = has_event r.format.event says full finds.0 event finds.3 in
     seen_more r.format k.heading k.header left0 b c k.log said.line event finds.0 k.seen finds.1 finds.2 (sym (fullness k.heading k.log k.text k.count k.stood) ∙ said.room) (sym (k.same finds.0) ∙ said.says) said.is
 
--- the machine did it, and its line waits
-pub running_event : {H L E : Type 0} (r : Reporting H L E) (old new : Standing H E) (says : Saying L) (full : Bool) (left0 b c w0 w1 w2 : Option (List ℕ)) (waiting now : OutputView) (events lines next : ℕ) (event : E) (piece : List ℕ)
-    → Running r old says left0 b w0 w1 waiting events lines → FindsEvent r.format.event says full (Ok (Some event)) b c → IsFullness r old events full → (full ≡ false → events < MAX_EVENTS) → next ≡ lines + 1 → TakesEvent old new event (events + 1) piece
-    → Passes waiting now w1 w2 piece now.bytes → now.sent + length now.bytes ≡ waiting.sent + length waiting.bytes + length piece → length piece ≤ 1024
+-- the machine did it, and all its text was put
+pub running_event : {H L E : Type 0} (r : Reporting H L E) (old mid new : Standing H E) (says : Saying L) (full : Bool) (left0 b c w0 w1 w2 : Option (List ℕ)) (waiting now : OutputView) (events lines next : ℕ) (event : E) (piece waits : List ℕ)
+    → Running r old says left0 b w0 w1 waiting events lines → FindsEvent r.format.event says full (Ok (Some event)) b c → IsFullness r old events full → (full ≡ false → events < MAX_EVENTS) → next ≡ lines + 1 → TakesEvent old mid event (events + 1) (piece ++ waits) → Keeps mid new
+    → Passes waiting now w1 w2 (piece ++ waits) now.bytes → now.sent + length now.bytes ≤ waiting.sent + length waiting.bytes + 1024 + length waits → length waits ≤ most_waiting
     → Running r new says left0 c w0 w2 now (events + 1) next
-running_event r old new says full left0 b c w0 w1 w2 waiting now events lines next event piece k finds fullness few step on p size short =
+running_event r old mid new says full left0 b c w0 w1 w2 waiting now events lines next event piece waits k finds fullness few step on keeps p size most =
     let said = has_event r.format.event says full finds.0 event finds.3 in
     let below = few said.room in
     record {
       heading = k.heading;
       header = k.header;
       log = k.log ++ event ∷ [];
-      text = k.text ++ piece;
-      stood = on.takes k.heading k.log k.text (omega (arith, k.count)) k.stood;
+      text = k.text ++ (piece ++ waits);
+      stood = keeps k.heading (k.log ++ event ∷ []) (k.text ++ (piece ++ waits)) (on.takes k.heading k.log k.text (omega (arith, k.count)) k.stood);
       same = k.same;
       seen = event_seen r old says full left0 b c w0 w1 waiting events lines event k finds fullness;
       took = took_line lines next left0 b c finds.0 k.took finds.1 finds.2 step;
-      sent = sent_piece w0 w1 w2 waiting now k.text piece k.sent p;
-      size = omega (arith, size, k.size, short);
+      sent = sent_piece w0 w1 w2 waiting now k.text (piece ++ waits) k.sent p;
+      size = omega (arith, size, k.size, most);
       count = length_push k.log event ∙ ap (λ (n : ℕ). n + 1) k.count;
       few = omega (arith, below);
       lined = omega (arith, step, k.lined);
@@ -415,17 +406,17 @@ header_cut_off {H} {L} {E} r (Some xs) left held count has cut none =
       begins = nothing_begins r (Some xs) has;
     }
 
-pub header_halted : {H L E : Type 0} (r : Reporting H L E) (takes : Bool) (o : Outside) (held : List ℕ) (faults : ℕ) (waiting : OutputView) (h : H) (lines : ℕ) (why : Halt) (result : Ended) → HasReports r → (IsTrue takes → TakesMemory r.memory)
-    → ReadsHeader r.format takes (Err why) h lines o.source.before (prepend_known held o.source.after)
+pub header_halted : {H L E : Type 0} (r : Reporting H L E) (o : Outside) (held : List ℕ) (faults : ℕ) (waiting : OutputView) (why : Halt) (result : Ended) → HasReports r
+    → HaltsHeader r.format (TakesMemory r.memory) why o.source.before (prepend_known held o.source.after)
     → Halts {T = Unit {0}} (Err why) o.source.before o.source.after → Stalls {T = Unit {0}} (Err why) held → Blames {T = Unit {0}} (Err why) o.source.faults_before o.source.faults_after → waiting.bytes ≡ [] → waiting.sent ≡ 0
     → Writes waiting.sent (waiting.bytes ++ last_of why) (halted_by why) result (record { before = o.sink.before; after = o.sink.after; faults_before = faults; faults_after = o.sink.faults_after }) → o.sink.faults_before ≤ faults
     → EndsAs r result.status result o
-header_halted r takes o held faults waiting h lines (halt.Read count) result has memory heads halts stalls blames none sent writes later =
+header_halted r o held faults waiting (halt.Read count) result has heads halts stalls blames none sent writes later =
     ends_written r o o.sink.before faults waiting [] [] (halted_by (halt.Read count)) result (sent_none o.sink.before waiting none sent) writes later (nothing_begins r o.source.before has)
     (λ grew. record { read = halts; wrote = wrote_read r count o [] grew (header_cut_off r o.source.before o.source.after held count has heads stalls); cause = blames })
-header_halted r takes o held faults waiting h lines halt.Memory result has memory heads halts stalls blames none sent writes later =
-    begin_wanting r o faults waiting result has (memory heads) none sent writes later
-header_halted {H} {L} {E} r takes o held faults waiting h lines (halt.Refused number why) result has memory heads halts stalls blames none sent writes later =
+header_halted r o held faults waiting halt.Memory result has heads halts stalls blames none sent writes later =
+    begin_wanting r o faults waiting result has heads none sent writes later
+header_halted {H} {L} {E} r o held faults waiting (halt.Refused number why) result has heads halts stalls blames none sent writes later =
     ends_reported r o o.sink.before faults waiting [] (refused_line number (input_cause why)) (refused_at number) result (sent_none o.sink.before waiting none sent) writes later
     (IfSome_then o.source.before heads (λ input e.
     subst (λ (i : InputOf H E). r.reports i (refused_at number) (refused_line number (input_cause why))) (sym (headless r.format input (Refused number (input_cause why)) e)) (has.headless number (input_cause why))))

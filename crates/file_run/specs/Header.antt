@@ -50,9 +50,13 @@ pub record IsHeaderCutOff {H L E : Type 0} (f : InputFormat H L E) (lines : ℕ)
   pub goes : Consumes old new taken
   pub says : header_read f taken ≡ Err (Refused (lines + 1) NoLine)
 
--- a header was read; or a line of it is refused, a read failed, or there is no memory for it, where some is taken
+-- a header goes no further: a read failed, a line is refused, or there is no memory for it, which may be where this holds
+abbrev pub HaltsHeader : {H L E : Type 0} → InputFormat H L E → Type 0 → Halt → Option (List ℕ) → Option (List ℕ) → Type 0
+HaltsHeader f wants (halt.Read count) old new = IsHeaderCutOff f count old new
+HaltsHeader f wants halt.Memory old new = wants
+HaltsHeader f wants (halt.Refused number why) old new = IfSome old (λ input. header_read f input ≡ Err (Refused number (input_cause why)))
+
+-- a header was read, or goes no further
 abbrev pub ReadsHeader : {H L E : Type 0} → InputFormat H L E → Bool → Result (Unit {0}) Halt → H → ℕ → Option (List ℕ) → Option (List ℕ) → Type 0
 ReadsHeader f takes (Ok read) h lines old new = IsWholeHeader f h lines old new
-ReadsHeader f takes (Err (halt.Read count)) h lines old new = IsHeaderCutOff f count old new
-ReadsHeader f takes (Err halt.Memory) h lines old new = IsTrue takes
-ReadsHeader f takes (Err (halt.Refused number why)) h lines old new = IfSome old (λ input. header_read f input ≡ Err (Refused number (input_cause why)))
+ReadsHeader f takes (Err why) h lines old new = HaltsHeader f (IsTrue takes) why old new

@@ -17,6 +17,14 @@ pub record MayCome {H L E : Type 0} (old : H → List E → List ℕ → Type 0)
   pub number_is : number ≡ length log + 1
   pub few : number ≤ MAX_EVENTS
 
--- a machine that stood for some events stands, after the event of this number, for these and it, with this line more
+-- no event, nor the end, has more bytes to write than this after the first part of its text
+abbrev pub most_waiting : ℕ
+most_waiting = 1048576
+
+-- what a machine stood for it stands for still
+abbrev pub Keeps : {H E : Type 0} → (H → List E → List ℕ → Type 0) → (H → List E → List ℕ → Type 0) → Type 0
+Keeps {H} {E} old new = (h : H) (log : List E) (text : List ℕ) → old h log text → new h log text
+
+-- a machine that stood for some events stands, after the event of this number, for these and it, with this text more
 pub record TakesEvent {H E : Type 0} (old new : H → List E → List ℕ → Type 0) (event : E) (number : ℕ) (piece : List ℕ) : Type 0 where
   pub takes : (h : H) (log : List E) (text : List ℕ) → number ≡ length log + 1 → old h log text → new h (log ++ event ∷ []) (text ++ piece)

@@ -3,6 +3,7 @@
 //! `Machine`.
 #![tactic(auto)]
 
+mod begin;
 mod event;
 mod format;
 mod halt;
@@ -10,6 +11,7 @@ mod header;
 pub mod laws;
 mod line;
 mod machine;
+mod parts;
 mod refusal;
 mod report;
 mod run;

@@ -4,7 +4,7 @@ ghost use Rattle.fsoe_io.specs.declared.status.Ended.{Ended};
 ghost use Rattle.schedule_file.specs.Input.{InputCause, Refused, input_read};
 ghost use Rattle.schedule_file.specs.declared.event.TheConstants.{MAX_EVENTS};
 ghost use Rattle.file_run.specs.Header.{most_lines};
-ghost use Rattle.file_run.specs.Machine.{TakesEvent, MayCome};
+ghost use Rattle.file_run.specs.Machine.{Keeps, MayCome, TakesEvent, most_waiting};
 ghost use Rattle.file_run.specs.Ran.{EndsWhole};
 ghost use Rattle.file_run.specs.Report.{refused_line};
 ghost use Rattle.file_run.specs.Reporting.{EndsReport, EndsStopped, Reporting, ReportsSoFar, TakesMemory, input_headless, refused_at};
@@ -25,8 +25,15 @@ pub trait Machine: Drop {
     // What the command reports of its inputs, by what it was handed.
     ghost reporting: { Self.Handed → Reporting Self.Format.Header Self.Format.Line Self.Format.Event };
 
-    // Handed this first and now that, it was set to what a header says, did these events, and wrote this text of them.
+    // Handed this first and now that, it was set to what a header says, and did these events, of which this is the whole text: what it wrote
+    // and what waits.
     ghost stands: { Self.Handed → Self → Self.Handed → Self.Format.Header → List Self.Format.Event → List ℕ → Type 0 };
+
+    // What is still to be written of the last event, or of the end.
+    ghost waits: { Self → Self.Handed → List ℕ };
+
+    // Handed this first and now that, it did these events after this header: then this is the whole report, and the run ends so.
+    ghost closes: { Self.Handed → Self.Handed → Self.Format.Header → List Self.Format.Event → List ℕ → Ended → Type 0 };
 
     /// What holds of the reports. The call does nothing: the laws are its contract.
     fn laws()
@@ -34,6 +41,7 @@ pub trait Machine: Drop {
         ensures some { (handed : Self.Handed) (bytes : List ℕ) → (report : List ℕ) × (ended : Ended) × (reporting handed).reports (input_read (reporting handed).format bytes) ended report }
         ensures headless { (handed : Self.Handed) (number : ℕ) (why : InputCause) → (reporting handed).reports (input_headless (Refused number why)) (refused_at number) (refused_line number why) }
         ensures so_far { (first : Self.Handed) (v : Self) (now : Self.Handed) (h : Self.Format.Header) (log : List Self.Format.Event) (text : List ℕ) → stands first v now h log text → ReportsSoFar (reporting first) h log text }
+        ensures whole { (first : Self.Handed) (now : Self.Handed) (h : Self.Format.Header) (log : List Self.Format.Event) (text : List ℕ) (ended : Ended) → closes first now h log text ended → EndsReport (reporting first) h log text ended }
         // Where the lines of a header take memory, so does the command.
         ensures memory { (handed : Self.Handed) → IsTrue Self.Format.takes → TakesMemory (reporting handed).memory };
 
@@ -61,7 +69,7 @@ pub trait Machine: Drop {
         ensures full { (first : Self.Handed) (h : Self.Format.Header) (log : List Self.Format.Event) (text : List ℕ) → length log ≡ events → stands first self.now handed.now h log text → result ≡ (reporting first).format.is_full h log }
         ensures few { result ≡ false → events < MAX_EVENTS };
 
-    /// Does the event of this number, from 1, and writes its text; or tells why it isn't done, which ends the run.
+    /// Does the event of this number, from 1, and writes the first part of its text; or tells why it isn't done, which ends the run.
     fn report(
         &mut self,
         handed: &mut Self::Handed,
@@ -70,11 +78,20 @@ pub trait Machine: Drop {
         text: &mut LineText,
     ) -> Result<(), Stopped>
         requires { (first : Self.Handed) × MayCome (stands first self.old handed.old) (reporting first).format event.now number }
-        ensures takes_event { OnOk result ((first : Self.Handed) → TakesEvent (stands first self.old handed.old) (stands first self.new handed.new) event.now number text.new) }
-        ensures stopped { IfErr result (λ why. (first : Self.Handed) (h : Self.Format.Header) (log : List Self.Format.Event) (text : List ℕ) → stands first self.old handed.old h log text → EndsStopped (reporting first) h log text event.now why) };
+        ensures takes_event { OnOk result ((first : Self.Handed) → TakesEvent (stands first self.old handed.old) (stands first self.new handed.new) event.now number (text.new ++ waits self.new handed.new)) }
+        ensures most { OnOk result (length (waits self.new handed.new) ≤ most_waiting) }
+        ensures stopped { IfErr result (λ why. (first : Self.Handed) (h : Self.Format.Header) (log : List Self.Format.Event) (text : List ℕ) → stands first self.old handed.old h log text → EndsStopped (reporting first) h log text event.now why) }
+        ensures kept { OnErr result ((first : Self.Handed) → Keeps (stands first self.old handed.old) (stands first self.new handed.new)) };
 
-    /// Writes the last lines after all events, which are so many, and tells how the run ends.
-    fn close(&self, handed: &Self::Handed, events: u64, text: &mut LineText) -> Ended
-        ensures reports { (first : Self.Handed) (h : Self.Format.Header) (log : List Self.Format.Event) (lines : List ℕ) → length log ≡ events → stands first self.now handed.now h log lines → EndsReport (reporting first) h log (lines ++ text.new) result }
-        ensures ends { (first : Self.Handed) (h : Self.Format.Header) (log : List Self.Format.Event) (lines : List ℕ) → stands first self.now handed.now h log lines → EndsWhole (reporting first).judges result.status result.place };
+    /// Writes the last lines after all events, which are so many, up to their first part, and tells how the run ends.
+    fn close(&mut self, handed: &Self::Handed, events: u64, text: &mut LineText) -> Ended
+        ensures closes { (first : Self.Handed) (h : Self.Format.Header) (log : List Self.Format.Event) (lines : List ℕ) → length log ≡ events → stands first self.old handed.now h log lines → closes first handed.now h log (lines ++ (text.new ++ waits self.new handed.now)) result }
+        ensures ends { (first : Self.Handed) (h : Self.Format.Header) (log : List Self.Format.Event) (lines : List ℕ) → stands first self.old handed.now h log lines → EndsWhole (reporting first).judges result.status result.place }
+        ensures most { length (waits self.new handed.now) ≤ most_waiting };
+
+    /// Writes the next part of what waits; nothing only where nothing waits.
+    fn more(&mut self, handed: &Self::Handed, text: &mut LineText)
+        ensures part { waits self.old handed.now ≡ text.new ++ waits self.new handed.now }
+        ensures some { text.new ≡ [] → waits self.old handed.now ≡ [] }
+        ensures kept { (first : Self.Handed) → Keeps (stands first self.old handed.now) (stands first self.new handed.now) };
 }

@@ -1,12 +1,13 @@
 //! The run of a command over its input.
 ghost use Rattle.file_run.specs.Ran.{RanOver};
 
+use crate::begin::begin_over;
 use crate::event::next_event;
 use crate::format::Format;
-use crate::halt::{Halt, halt_stopped};
-use crate::header::read_header;
+use crate::halt::halt_stopped;
 use crate::machine::Machine;
-use crate::stop::{close, halt, send_before_read, write_failed};
+use crate::parts::{close_run, put_text};
+use crate::stop::{halt, send_before_read, write_failed};
 use fsoe_io::{Ended, LineReader, LineText, Output, Sink, Source};
 
 /// Runs a machine over an input: reads its header, then an event a line up to the last, and writes what the machine reports. Where a line
@@ -29,15 +30,9 @@ pub fn run_over<M: Machine, S: Source, K: Sink>(
     M::laws();
     let mut reader = LineReader::new();
     let mut output = Output::new();
-    let Ok(mut header) = M::open(handed) else {
-        return halt(&mut output, sink, Halt::Memory);
-    };
-    if let Err(why) = read_header::<M::Format, S>(&mut header, &mut reader, source) {
-        return halt(&mut output, sink, why);
-    }
-    let grammar = M::Format::grammar(&header);
-    let Ok(mut machine) = M::begin(&header, handed) else {
-        return halt(&mut output, sink, Halt::Memory);
+    let (mut machine, grammar) = match begin_over::<M, S>(handed, &mut reader, source) {
+        Ok(begun) => begun,
+        Err(why) => return halt(&mut output, sink, why),
     };
     let mut said = M::Format::end();
     let mut text = LineText::new();
@@ -56,20 +51,16 @@ pub fn run_over<M: Machine, S: Source, K: Sink>(
         ) {
             return halt(&mut output, sink, why);
         }
-        match M::Format::event(&said) {
-            Some(event) => {
-                events += 1;
-                if let Err(why) = machine.report(handed, event, events, &mut text) {
-                    return halt(&mut output, sink, halt_stopped(why, reader.lines()));
-                }
-                if let Err(_) = output.put(sink, text.bytes()) {
-                    return write_failed(&output);
-                }
-            }
-            None => {
-                let ended = machine.close(handed, events, &mut text);
-                return close(&mut output, sink, text.bytes(), ended);
-            }
+        let Some(event) = M::Format::event(&said) else {
+            let ended = machine.close(handed, events, &mut text);
+            return close_run(&mut machine, handed, &mut text, &mut output, sink, ended);
+        };
+        events += 1;
+        if let Err(why) = machine.report(handed, event, events, &mut text) {
+            return halt(&mut output, sink, halt_stopped(why, reader.lines()));
+        }
+        if let Err(_) = put_text(&mut machine, handed, &mut text, &mut output, sink) {
+            return write_failed(&output);
         }
     }
 }

@@ -132,6 +132,8 @@ impl Machine for MasterNode {
     ghost use Rattle.fsoe_base.specs.declared.command.End.TheVariants as side;
     ghost use Rattle.node_runner.specs.Node.{MasterStands};
     ghost use Rattle.node_runner.specs.Ran.{node_reporting};
+    ghost use Rattle.file_run.specs.Reporting.{EndsReport};
+    ghost use Rattle.std.specs.Prelude.{[]};
 
     type Format = Schedule;
 
@@ -140,6 +142,10 @@ impl Machine for MasterNode {
     ghost reporting = { λ handed. node_reporting side.Master };
 
     ghost stands = { λ first v now. MasterStands v.master };
+
+    ghost waits = { λ v now. [] };
+
+    ghost closes = { λ first now. EndsReport (node_reporting side.Master) };
 
     fn laws() {}
 
@@ -178,8 +184,12 @@ impl Machine for MasterNode {
         Ok(())
     }
 
-    fn close(&self, _: &(), events: u64, text: &mut LineText) -> Ended {
+    fn close(&mut self, _: &(), events: u64, text: &mut LineText) -> Ended {
         write_end(events, text)
+    }
+
+    fn more(&mut self, _: &(), text: &mut LineText) {
+        text.clear();
     }
 }
 
@@ -187,6 +197,8 @@ impl Machine for SlaveNode {
     ghost use Rattle.fsoe_base.specs.declared.command.End.TheVariants as side;
     ghost use Rattle.node_runner.specs.Node.{SlaveStands};
     ghost use Rattle.node_runner.specs.Ran.{node_reporting};
+    ghost use Rattle.file_run.specs.Reporting.{EndsReport};
+    ghost use Rattle.std.specs.Prelude.{[]};
 
     type Format = Schedule;
 
@@ -195,6 +207,10 @@ impl Machine for SlaveNode {
     ghost reporting = { λ handed. node_reporting side.Slave };
 
     ghost stands = { λ first v now. SlaveStands v.slave };
+
+    ghost waits = { λ v now. [] };
+
+    ghost closes = { λ first now. EndsReport (node_reporting side.Slave) };
 
     fn laws() {}
 
@@ -233,7 +249,11 @@ impl Machine for SlaveNode {
         Ok(())
     }
 
-    fn close(&self, _: &(), events: u64, text: &mut LineText) -> Ended {
+    fn close(&mut self, _: &(), events: u64, text: &mut LineText) -> Ended {
         write_end(events, text)
+    }
+
+    fn more(&mut self, _: &(), text: &mut LineText) {
+        text.clear();
     }
 }

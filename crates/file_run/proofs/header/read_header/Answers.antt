@@ -45,6 +45,6 @@ loop-why-preserved g c =
 
 pub returns-in-Err-clause-heads : goal.returns-in-Err-clause-heads
 returns-in-Err-clause-heads g c =
-    header_halts (g.F.Format.format (g.F.Format.kind c.args.header.now)) g.F.Format.takes c.loop-why.header c.next_header_line.new.header _ _ _ _ _ _ c.in-Err.why c.loop-why.invariant.4
+    header_halts (g.F.Format.format (g.F.Format.kind c.args.header.now)) g.F.Format.takes c.loop-why.header c.next_header_line.new.header _ _ _ _ _ c.in-Err.why c.loop-why.invariant.4
     (heading_as (g.F.Format.format (g.F.Format.kind c.loop-why.header)) (g.F.Format.format (g.F.Format.kind c.args.header.now)) g.F.Format.takes c.loop-why.header c.next_header_line.new.header (Err c.in-Err.why) _ _
     (ap g.F.Format.format c.loop-why.invariant.2) c.in-Err.ensures.finds) c.in-Err.ensures.goes

@@ -1,0 +1,120 @@
+-- Texts that go through a buffer part by part.
+use Rattle.std.proofs.Common.{◌≡◌, ℕ, ◌+◌, ◌≤◌, ◌<◌, true, false, List, [], ◌∷◌, ◌++◌, length, refl, arith, ap, ◌∙◌, sym, append_assoc, inl, inr}
+use Rattle.std.specs.Prelude.{◌==◌, Result, Ok, Err}
+use Rattle.std.specs.declared.option.Option.{Option}
+use Rattle.std.proofs.lemmas.Bool.{eqb-true}
+use Rattle.std.proofs.lemmas.List.{append-nil, length-append}
+use Rattle.fsoe_io.proofs.Grown.{grew_then}
+use Rattle.fsoe_io.proofs.Passing.{passes_none}
+use Rattle.fsoe_io.specs.Output.{OutputView, Passes, Puts}
+use Rattle.fsoe_io.specs.declared.status.Ended.{Ended}
+use Rattle.fsoe_io.specs.declared.status.Status.TheVariants as status
+use Rattle.fsoe_io.specs.Faults.{Rose}
+use Rattle.file_run.specs.Ending.{IsCutOff, Writes}
+use Rattle.file_run.proofs.Sending.{rose_since}
+
+-- a piece after another
+pub passes_both : (old mid new : OutputView) (w0 w1 w2 : Option (List ℕ)) (first then rest : List ℕ) → Passes old mid w0 w1 first mid.bytes → Passes mid new w1 w2 then rest → Passes old new w0 w2 (first ++ then) rest
+passes_both old mid new w0 w1 w2 first then rest p q = record {
+  part = p.part ++ q.part;
+  grew = grew_then w0 w1 w2 p.part q.part p.grew q.grew;
+  whole =
+      sym (append_assoc old.bytes first then) ∙ ap (λ (z : List ℕ). z ++ then) p.whole ∙ append_assoc p.part mid.bytes then
+      ∙ ap (λ (z : List ℕ). p.part ++ z) q.whole
+      ∙ sym (append_assoc p.part q.part rest);
+  sent = omega (arith, p.sent, q.sent, length-append p.part q.part);
+}
+
+-- what comes after a piece that was lost is lost too
+pub passes_lost : (old new : OutputView) (w0 w : Option (List ℕ)) (piece later rest : List ℕ) → Passes old new w0 w piece rest → Passes old new w0 w (piece ++ later) (rest ++ later)
+passes_lost old new w0 w piece later rest p = record {
+  part = p.part;
+  grew = p.grew;
+  whole = sym (append_assoc old.bytes piece later) ∙ ap (λ (z : List ℕ). z ++ later) p.whole ∙ append_assoc p.part rest later;
+  sent = p.sent;
+}
+
+pub puts_lost : {E : Type 0} (e : E) (old new : OutputView) (w0 w : Option (List ℕ)) (piece later : List ℕ) → Puts {T = Unit {0}} (Err e) old new w0 w piece → Puts {T = Unit {0}} (Err e) old new w0 w (piece ++ later)
+puts_lost e old new w0 w piece later p = (p.0 ++ later, passes_lost old new w0 w piece later p.0 p.1)
+
+pub puts_both : {T E : Type 0} (r : Result T E) (old mid new : OutputView) (w0 w1 w2 : Option (List ℕ)) (first then : List ℕ) → Passes old mid w0 w1 first mid.bytes → Puts r mid new w1 w2 then → Puts r old new w0 w2 (first ++ then)
+puts_both (Ok x) old mid new w0 w1 w2 first then p q = passes_both old mid new w0 w1 w2 first then new.bytes p q
+puts_both (Err e) old mid new w0 w1 w2 first then p q = (q.0, passes_both old mid new w0 w1 w2 first then q.0 p q.1)
+
+-- a list that has no item, and one that has some
+pub is_none : (xs : List ℕ) → true ≡ length xs == 0 → xs ≡ []
+is_none [] e = refl
+is_none (x ∷ xs) e = let zero = eqb-true (length (x ∷ xs)) 0 (sym e) in absurd (omega (arith, zero))
+
+pub is_some : (xs : List ℕ) → false ≡ length xs == 0 → 0 < length xs
+is_some [] e = cc
+is_some (x ∷ xs) e = omega arith
+
+-- of a whole text some parts were put, and this is left
+pub record Putting (old now : OutputView) (w0 w : Option (List ℕ)) (whole left : List ℕ) : Type 0 where
+  pub done : List ℕ
+  pub passes : Passes old now w0 w done now.bytes
+  pub is : whole ≡ done ++ left
+  pub count : now.sent + length now.bytes ≡ old.sent + length old.bytes + length done
+
+pub putting_none : (old : OutputView) (w : Option (List ℕ)) (whole : List ℕ) → Putting old old w w whole whole
+putting_none old w whole = record { done = []; passes = passes_none old w; is = refl; count = omega arith }
+
+split_whole : (whole done left part later : List ℕ) → whole ≡ done ++ left → left ≡ part ++ later → whole ≡ (done ++ part) ++ later
+split_whole whole done left part later e f = e ∙ ap (λ (z : List ℕ). done ++ z) f ∙ sym (append_assoc done part later)
+
+-- a part more
+pub putting_more : (old now new : OutputView) (w0 w1 w2 : Option (List ℕ)) (whole left part later : List ℕ) → Putting old now w0 w1 whole left → left ≡ part ++ later → Passes now new w1 w2 part new.bytes
+    → new.sent + length new.bytes ≡ now.sent + length now.bytes + length part → Putting old new w0 w2 whole later
+putting_more old now new w0 w1 w2 whole left part later k e p count = record {
+  done = k.done ++ part;
+  passes = passes_both old now new w0 w1 w2 k.done part new.bytes k.passes p;
+  is = split_whole whole k.done left part later k.is e;
+  count = omega (arith, count, k.count, length-append k.done part);
+}
+
+-- a part is lost
+pub putting_lost : {E : Type 0} (error : E) (old now new : OutputView) (w0 w1 w2 : Option (List ℕ)) (whole left part later : List ℕ) → Putting old now w0 w1 whole left → left ≡ part ++ later → Puts {T = Unit {0}} (Err error) now new w1 w2 part
+    → Puts {T = Unit {0}} (Err error) old new w0 w2 whole
+putting_lost error old now new w0 w1 w2 whole left part later k e p =
+    rw (split_whole whole k.done left part later k.is e) (puts_lost error old new w0 w2 (k.done ++ part) later (puts_both {T = Unit {0}} (Err error) old now new w0 w1 w2 k.done part k.passes p))
+
+-- all is put
+pub putting_all : (old now : OutputView) (w0 w : Option (List ℕ)) (whole left : List ℕ) → Putting old now w0 w whole left → left ≡ [] → Passes old now w0 w whole now.bytes × (now.sent + length now.bytes ≡ old.sent + length old.bytes + length whole)
+putting_all old now w0 w whole left k none =
+    let all : whole ≡ k.done = k.is ∙ ap (λ (z : List ℕ). k.done ++ z) none ∙ append-nil k.done in
+    (rw all k.passes, rw all k.count)
+
+-- what is left has its place
+pub putting_room : (old now : OutputView) (w0 w : Option (List ℕ)) (whole left part later : List ℕ) → Putting old now w0 w whole left → left ≡ part ++ later
+    → now.sent + length now.bytes + length part + length later ≡ old.sent + length old.bytes + length whole
+putting_room old now w0 w whole left part later k e =
+    let all = ap (length {A = ℕ}) (split_whole whole k.done left part later k.is e) in
+    omega (arith, k.count, all, length-append (k.done ++ part) later, length-append k.done part)
+
+-- after a text was put, what is written last is written after it
+pub writes_after : (old mid : OutputView) (w0 w1 w2 : Option (List ℕ)) (faults between after : ℕ) (text : List ℕ) (ended result : Ended) → Passes old mid w0 w1 text mid.bytes → faults ≤ between
+    → Writes mid.sent (mid.bytes ++ []) ended result (record { before = w1; after = w2; faults_before = between; faults_after = after })
+    → Writes old.sent (old.bytes ++ text) ended result (record { before = w0; after = w2; faults_before = faults; faults_after = after })
+writes_after old mid w0 w1 w2 faults between after text ended result p later writes =
+    elim writes [
+      | inl whole ↦ inl (whole.0, rw (p.whole, ← append-nil mid.bytes) (grew_then w0 w1 w2 p.part (mid.bytes ++ []) p.grew whole.1))
+      | inr cut ↦
+          inr (record {
+            part = p.part ++ cut.part;
+            grew = grew_then w0 w1 w2 p.part cut.part p.grew cut.grew;
+            begins = (
+              cut.begins.0,
+              p.whole ∙ ap (λ (z : List ℕ). p.part ++ z) (sym (append-nil mid.bytes) ∙ cut.begins.1) ∙ sym (append_assoc p.part cut.part cut.begins.0),
+            );
+            status_is = cut.status_is;
+            place_is = omega (arith, cut.place_is, p.sent, length-append p.part cut.part);
+            cause = rose_since faults between after later cut.cause;
+          })
+    ]
+
+-- or it was cut off
+pub writes_cut : {E : Type 0} (error : E) (old new : OutputView) (w0 w : Option (List ℕ)) (faults after : ℕ) (text : List ℕ) (ended result : Ended) → Puts {T = Unit {0}} (Err error) old new w0 w text → Rose faults after
+    → result.status ≡ status.Write → result.place ≡ new.sent → Writes old.sent (old.bytes ++ text) ended result (record { before = w0; after = w; faults_before = faults; faults_after = after })
+writes_cut error old new w0 w faults after text ended result p rose is place =
+    inr (record { part = p.1.part; grew = p.1.grew; begins = (p.0, p.1.whole); status_is = is; place_is = place ∙ p.1.sent; cause = rose })

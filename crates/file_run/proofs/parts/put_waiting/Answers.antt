@@ -1,0 +1,59 @@
+use Rattle.std.proofs.Common.{◌++◌, ◌∙◌, ℕ, ap, arith, length, sym}
+use Rattle.std.proofs.lemmas.List.{length-append}
+use Rattle.file_run.proofs.Putting.{is_none, is_some, putting_all, putting_lost, putting_more, putting_none, putting_room}
+use Rattle.file_run.proofs.Sending.{rose_since}
+use Rattle.file_run.proofs.parts.put_waiting.Goals as goal
+
+pub loop-part-init : goal.loop-part-init
+loop-part-init g c = record {
+  putting = putting_none c.args.output.now (g.K.Sink.written c.args.sink.now) (g.M.Machine.waits c.args.machine.now c.args.handed.now);
+  kept = λ first h log text stood. stood;
+  later = omega arith;
+}
+
+pub returns-then-is_empty-clause-puts : goal.returns-then-is_empty-clause-puts
+returns-then-is_empty-clause-puts g c =
+    (putting_all _ _ _ _ _ _ c.loop-part.invariant.putting (c.more.ensures.some (sym c.bytes-part.ensures.value ∙ is_none c.bytes-part.result.now (sym c.if-is_empty.true ∙ c.is_empty.ensures)))).0
+
+pub returns-then-is_empty-clause-count : goal.returns-then-is_empty-clause-count
+returns-then-is_empty-clause-count g c =
+    (putting_all _ _ _ _ _ _ c.loop-part.invariant.putting (c.more.ensures.some (sym c.bytes-part.ensures.value ∙ is_none c.bytes-part.result.now (sym c.if-is_empty.true ∙ c.is_empty.ensures)))).1
+
+pub returns-then-is_empty-clause-kept : goal.returns-then-is_empty-clause-kept
+returns-then-is_empty-clause-kept g c = λ first h log text stood. c.more.ensures.kept first h log text (c.loop-part.invariant.kept first h log text stood)
+
+pub returns-then-is_empty-clause-cause : goal.returns-then-is_empty-clause-cause
+returns-then-is_empty-clause-cause g c = record { later = c.loop-part.invariant.later; failed = tt }
+
+pub put-requires-clause-count : goal.put-requires-clause-count
+put-requires-clause-count g c =
+    let room = putting_room _ _ _ _ _ _ c.more.new.text (g.M.Machine.waits c.more.new.self c.args.handed.now) c.loop-part.invariant.putting c.more.ensures.part in
+    omega (arith, room, c.requires)
+
+pub loop-part-smaller : goal.loop-part-smaller
+loop-part-smaller g c =
+    let some = is_some c.bytes-part.result.now (sym c.if-is_empty.false ∙ c.is_empty.ensures) in
+    let all = ap (length {A = ℕ}) c.more.ensures.part in
+    let is = ap (length {A = ℕ}) c.bytes-part.ensures.value in
+    omega (arith, all, some, is, length-append c.more.new.text (g.M.Machine.waits c.more.new.self c.args.handed.now))
+
+pub loop-part-preserved : goal.loop-part-preserved
+loop-part-preserved g c = record {
+  putting = putting_more _ _ _ _ _ _ _ _ c.bytes-part.result.now _ c.loop-part.invariant.putting (rw c.bytes-part.ensures.value c.more.ensures.part) c.in_default.ensures.puts c.in_default.ensures.count;
+  kept = λ first h log text stood. c.more.ensures.kept first h log text (c.loop-part.invariant.kept first h log text stood);
+  later = omega (arith, c.loop-part.invariant.later, c.in_default.ensures.cause.later);
+}
+
+pub returns-in-Err-clause-puts : goal.returns-in-Err-clause-puts
+returns-in-Err-clause-puts g c =
+    putting_lost c.in-Err.failed c.args.output.now c.loop-part.output c.put.new.self (g.K.Sink.written c.args.sink.now) (g.K.Sink.written c.loop-part.sink) (g.K.Sink.written c.put.new.sink) _ _ c.bytes-part.result.now
+    (g.M.Machine.waits c.more.new.self c.args.handed.now) c.loop-part.invariant.putting (rw c.bytes-part.ensures.value c.more.ensures.part) c.in-Err.ensures.puts
+
+pub returns-in-Err-clause-kept : goal.returns-in-Err-clause-kept
+returns-in-Err-clause-kept g c = λ first h log text stood. c.more.ensures.kept first h log text (c.loop-part.invariant.kept first h log text stood)
+
+pub returns-in-Err-clause-cause : goal.returns-in-Err-clause-cause
+returns-in-Err-clause-cause g c = record {
+  later = omega (arith, c.loop-part.invariant.later, c.in-Err.ensures.cause.later);
+  failed = rose_since _ _ _ c.loop-part.invariant.later c.in-Err.ensures.cause.failed;
+}

@@ -1,0 +1,80 @@
+//! The text of an event, or of the end, in its parts.
+ghost use Rattle.std.specs.Prelude.{◌≡◌, ◌+◌, ◌++◌, ◌^◌, ◌≤◌, ◌<◌, length, OnOk};
+ghost use Rattle.fsoe_io.specs.Faults.{HasCause};
+ghost use Rattle.fsoe_io.specs.Output.{Puts};
+ghost use Rattle.file_run.specs.Ending.{Writes};
+ghost use Rattle.file_run.specs.Machine.{Keeps};
+
+use crate::machine::Machine;
+use crate::stop::{close, write_failed};
+use fsoe_io::{Ended, Failed, LineText, Output, Sink};
+
+/// Writes what waits, part by part.
+fn put_waiting<M: Machine, K: Sink>(
+    machine: &mut M,
+    handed: &M::Handed,
+    text: &mut LineText,
+    output: &mut Output,
+    sink: &mut K,
+) -> Result<(), Failed>
+    requires { output.old.sent + length output.old.bytes + length (M.waits machine.old handed.now) < 2 ^ 63 }
+    ensures puts { Puts result output.old output.new (K.written sink.old) (K.written sink.new) (M.waits machine.old handed.now) }
+    ensures count { OnOk result (output.new.sent + length output.new.bytes ≡ output.old.sent + length output.old.bytes + length (M.waits machine.old handed.now)) }
+    ensures kept { (first : M.Handed) → Keeps (M.stands first machine.old handed.now) (M.stands first machine.new handed.now) }
+    ensures cause { HasCause (K.faults sink.old) (K.faults sink.new) result }
+{
+    loop {
+        machine.more(handed, text);
+        let part = text.bytes();
+        if part.is_empty() {
+            return Ok(());
+        }
+        if let Err(failed) = output.put(sink, part) {
+            return Err(failed);
+        }
+    }
+}
+
+/// Writes a first part, and then what waits.
+pub(crate) fn put_text<M: Machine, K: Sink>(
+    machine: &mut M,
+    handed: &M::Handed,
+    text: &mut LineText,
+    output: &mut Output,
+    sink: &mut K,
+) -> Result<(), Failed>
+    requires { output.old.sent + length output.old.bytes + length (M.waits machine.old handed.now) < 2 ^ 62 }
+    ensures puts { Puts result output.old output.new (K.written sink.old) (K.written sink.new) (text.old ++ M.waits machine.old handed.now) }
+    ensures count { OnOk result (output.new.sent + length output.new.bytes ≤ output.old.sent + length output.old.bytes + 1024 + length (M.waits machine.old handed.now)) }
+    ensures kept { (first : M.Handed) → Keeps (M.stands first machine.old handed.now) (M.stands first machine.new handed.now) }
+    ensures cause { HasCause (K.faults sink.old) (K.faults sink.new) result }
+{
+    match output.put(sink, text.bytes()) {
+        Ok(()) => put_waiting(machine, handed, text, output, sink),
+        Err(failed) => Err(failed),
+    }
+}
+
+/// Writes the last lines from their first part on, and sends all that waits. Where that fails, the run ends so.
+pub(crate) fn close_run<M: Machine, K: Sink>(
+    machine: &mut M,
+    handed: &M::Handed,
+    text: &mut LineText,
+    output: &mut Output,
+    sink: &mut K,
+    ended: Ended,
+) -> Ended
+    requires { output.old.sent + length output.old.bytes + length (M.waits machine.old handed.now) < 2 ^ 62 }
+    ensures writes { Writes output.old.sent (output.old.bytes ++ (text.old ++ M.waits machine.old handed.now)) ended result (record {
+      before = K.written sink.old;
+      after = K.written sink.new;
+      faults_before = K.faults sink.old;
+      faults_after = K.faults sink.new;
+    }) }
+    ensures later { K.faults sink.old ≤ K.faults sink.new }
+{
+    match put_text(machine, handed, text, output, sink) {
+        Ok(()) => close(output, sink, b"", ended),
+        Err(_) => write_failed(output),
+    }
+}
