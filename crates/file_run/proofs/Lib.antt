@@ -7,4 +7,5 @@ pub mod Sending
 pub mod Putting
 pub mod OnePart
 pub mod Running
+pub mod Leaving
 pub mod Exact

@@ -35,7 +35,7 @@ use Rattle.file_run.specs.declared.stopped.Stopped.{Stopped}
 use Rattle.file_run.specs.declared.stopped.Stopped.TheVariants as stopped
 use Rattle.file_run.proofs.Lines.{by_line}
 use Rattle.file_run.proofs.Seen.{Seen, has_event, seen_none, seen_more, seen_same, input_on, more_on, input_refused, input_ended}
-use Rattle.file_run.proofs.Sending.{Sent, Part, sent_none, sent_part, sent_piece, sent_flushed, begins_whole, ends_write, ends_written, rose_since}
+use Rattle.file_run.proofs.Sending.{Sent, sent_none, sent_piece, sent_flushed, piece_part, text_part, begins_whole, ends_write, ends_written, rose_since}
 use Rattle.file_run.proofs.Taken.{took_line, took_still}
 
 -- what a machine stands for
@@ -143,7 +143,7 @@ event_may_come r stands says full left0 b c w0 w waiting events lines event k fi
       few = omega (arith, below);
     }
 
-event_seen : {H L E : Type 0} (r : Reporting H L E) (stands : Standing H E) (says : Saying L) (full : Bool) (left0 b c w0 w : Option (List ℕ)) (waiting : OutputView) (events lines : ℕ) (event : E) (k : Running r stands says left0 b w0 w waiting events lines)
+pub event_seen : {H L E : Type 0} (r : Reporting H L E) (stands : Standing H E) (says : Saying L) (full : Bool) (left0 b c w0 w : Option (List ℕ)) (waiting : OutputView) (events lines : ℕ) (event : E) (k : Running r stands says left0 b w0 w waiting events lines)
     → FindsEvent r.format.event says full (Ok (Some event)) b c → IsFullness r stands events full → Seen r.format k.heading k.header left0 c (k.log ++ event ∷ [])
 event_seen r stands says full left0 b c w0 w waiting events lines event k finds fullness =
     let said = has_event r.format.event says full finds.0 event finds.3 in
@@ -181,7 +181,7 @@ seen_input f h n log xs ys seen =
     (more_on f h log (lines_of ys), (input_on f h n log (lines_of ys)).stop, ap (input_read f) seen.goes ∙ seen.says ys)
 
 -- what holds of each input whose events begin so holds of the one that is told
-by_seen : {H L E : Type 0} (f : InputFormat H L E) (h : H) (n : ℕ) (log : List E) (left0 left : Option (List ℕ)) (P : InputOf H E → Type 0) → Seen f h n left0 left log
+pub by_seen : {H L E : Type 0} (f : InputFormat H L E) (h : H) (n : ℕ) (log : List E) (left0 left : Option (List ℕ)) (P : InputOf H E → Type 0) → Seen f h n left0 left log
     → ((more : List E) (stop : Stop) → P (input_stopped h n (log ++ more) stop)) → IfSome left0 (λ input. P (input_read f input))
 by_seen f h n log None left P seen holds = tt
 by_seen f h n log (Some xs) None P seen holds = absurd seen.goes
@@ -200,8 +200,7 @@ pub ends_unsent : {H L E : Type 0} (r : Reporting H L E) (stands : Standing H E)
     → Running r stands says o.source.before left o.sink.before w1 waiting events lines → Passes waiting now w1 o.sink.after [] rest → ended.status ≡ status.Write → ended.place ≡ now.sent
     → Rose o.sink.faults_before o.sink.faults_after → EndsAs r ended.status ended o
 ends_unsent r stands says o left w1 waiting now events lines rest ended reports k p e place rose =
-    let part = subst (Part o.sink.before o.sink.after now.sent) (append-nil k.text) (sent_part o.sink.before w1 o.sink.after waiting now k.text [] rest k.sent p) in
-    ends_write r o ended k.text e (subst (λ (n : ℕ). Part o.sink.before o.sink.after n k.text) (sym place) part)
+    ends_write r o ended k.text e (text_part o.sink.before w1 o.sink.after waiting now k.text rest ended.place k.sent p place)
     (begun r stands says o.source.before left o.sink.before w1 waiting events lines reports k) rose
 
 -- the line of an event could not be written
@@ -209,15 +208,14 @@ pub ends_lost : {H L E : Type 0} (r : Reporting H L E) (old new : Standing H E) 
     → Reports r new → Running r old says o.source.before b o.sink.before w1 waiting events lines → FindsEvent r.format.event says full (Ok (Some event)) b c → IsFullness r old events full → TakesEvent old new event (events + 1) piece
     → Passes waiting now w1 o.sink.after piece rest → ended.status ≡ status.Write → ended.place ≡ now.sent → Rose o.sink.faults_before o.sink.faults_after → EndsAs r ended.status ended o
 ends_lost r old new says full o b c w1 waiting now events lines event piece rest ended reports k finds fullness on p e place rose =
-    let part = sent_part o.sink.before w1 o.sink.after waiting now k.text piece rest k.sent p in
     let stood = on.takes k.heading k.log k.text (omega (arith, k.count)) k.stood in
-    ends_write r o ended (k.text ++ piece) e (subst (λ (n : ℕ). Part o.sink.before o.sink.after n (k.text ++ piece)) (sym place) part)
+    ends_write r o ended (k.text ++ piece) e (piece_part o.sink.before w1 o.sink.after waiting now k.text piece rest ended.place k.sent p place)
     (by_seen r.format k.heading k.header (k.log ++ event ∷ []) o.source.before c (λ input. BeginsReport r input (k.text ++ piece))
     (event_seen r old says full o.source.before b c o.sink.before w1 waiting events lines event k finds fullness)
     ((reports k.heading (k.log ++ event ∷ []) (k.text ++ piece) stood).begins k.header)) rose
 
 -- what holds of an input that stops after these events holds of the one that is told, where it stops so
-stops_so : {H L E : Type 0} (f : InputFormat H L E) (h : H) (n : ℕ) (log : List E) (left0 left : Option (List ℕ)) (stop : Stop) (P : InputOf H E → Type 0) → Seen f h n left0 left log
+pub stops_so : {H L E : Type 0} (f : InputFormat H L E) (h : H) (n : ℕ) (log : List E) (left0 left : Option (List ℕ)) (stop : Stop) (P : InputOf H E → Type 0) → Seen f h n left0 left log
     → IfSome left (λ rest. input_on f h n log (lines_of rest) ≡ input_stopped h n log stop) → P (input_stopped h n log stop) → IfSome left0 (λ input. P (input_read f input))
 stops_so f h n log None left stop P seen stops holds = tt
 stops_so f h n log (Some xs) None stop P seen stops holds = absurd seen.goes
@@ -246,6 +244,13 @@ ends_reported r o w1 faults waiting text last ended result sent writes later who
     (λ grew. ends (IfSome_then o.source.before whole (λ input report. (text ++ last, grew, report))))
 
 -- the last line comes
+pub ended_next : {H L E : Type 0} (r : Reporting H L E) (stands : Standing H E) (says : Saying L) (full : Bool) (left0 b c w0 w : Option (List ℕ)) (waiting : OutputView) (events lines : ℕ)
+    (k : Running r stands says left0 b w0 w waiting events lines) → FindsEvent r.format.event says full (Ok None) b c → IsFullness r stands events full
+    → IfSome b (λ rest. input_on r.format k.heading k.header k.log (lines_of rest) ≡ input_stopped k.heading k.header k.log AtEnd)
+ended_next r stands says full left0 b c w0 w waiting events lines k finds fullness =
+    by_line b c finds.0 (λ rest. input_on r.format k.heading k.header k.log rest ≡ input_stopped k.heading k.header k.log AtEnd) finds.1 finds.2
+    (λ rest. input_ended r.format says full k.heading k.header k.log finds.0 rest k.same (fullness k.heading k.log k.text k.count k.stood) finds.3)
+
 pub ends_at_end : {H L E : Type 0} (r : Reporting H L E) (stands : Standing H E) (says : Saying L) (full : Bool) (o : Outside) (b c w1 : Option (List ℕ)) (faults : ℕ) (waiting : OutputView) (events lines : ℕ) (last : List ℕ) (ended result : Ended)
     → Running r stands says o.source.before b o.sink.before w1 waiting events lines → FindsEvent r.format.event says full (Ok None) b c → IsFullness r stands events full
     → ((h : H) (log : List E) (text : List ℕ) → length log ≡ events → stands h log text → EndsReport r h log (text ++ last) ended)
@@ -253,8 +258,7 @@ pub ends_at_end : {H L E : Type 0} (r : Reporting H L E) (stands : Standing H E)
     → Writes waiting.sent (waiting.bytes ++ last) ended result (record { before = w1; after = o.sink.after; faults_before = faults; faults_after = o.sink.faults_after }) → o.sink.faults_before ≤ faults
     → EndsAs r result.status result o
 ends_at_end r stands says full o b c w1 faults waiting events lines last ended result k finds fullness reports whole writes later =
-    let stops = by_line b c finds.0 (λ rest. input_on r.format k.heading k.header k.log rest ≡ input_stopped k.heading k.header k.log AtEnd) finds.1 finds.2
-    (λ rest. input_ended r.format says full k.heading k.header k.log finds.0 rest k.same (fullness k.heading k.log k.text k.count k.stood) finds.3) in
+    let stops = ended_next r stands says full o.source.before b c o.sink.before w1 waiting events lines k finds fullness in
     let ends : EndsWhole r.judges ended.status ended.place = whole k.heading k.log k.text k.stood in
     ends_reported r o w1 faults waiting k.text last ended result k.sent writes later
     (stops_so r.format k.heading k.header k.log o.source.before b AtEnd (λ input. r.reports input ended (k.text ++ last)) k.seen stops (reports k.heading k.log k.text k.count k.stood k.header))

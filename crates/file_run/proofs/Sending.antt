@@ -12,8 +12,8 @@ use Rattle.fsoe_io.specs.Sink.{Grew}
 use Rattle.fsoe_io.specs.declared.status.Ended.{Ended}
 use Rattle.fsoe_io.specs.declared.status.Status.TheVariants as status
 use Rattle.schedule_file.specs.Input.{InputOf, input_read}
-use Rattle.file_run.specs.Ending.{Writes}
-use Rattle.file_run.specs.Outside.{Outside}
+use Rattle.file_run.specs.Ending.{AppendedPart, IsCutOff, Writes}
+use Rattle.file_run.specs.Outside.{Outside, Told}
 use Rattle.file_run.specs.Ran.{EndsAs, FailedWrite}
 use Rattle.file_run.specs.Reporting.{Reporting, BeginsReport, IsPrefix}
 
@@ -28,18 +28,12 @@ pub sent_none : (w : Option (List ℕ)) (waiting : OutputView) → waiting.bytes
 sent_none w waiting none sent = record { sent = []; sink = grew_none w; count = sent; whole = none }
 
 -- a first part of a text went to the sink
-pub record Part (written0 written : Option (List ℕ)) (count : ℕ) (whole : List ℕ) : Type 0 where
-  pub sent : List ℕ
-  pub sink : Grew written0 written sent
-  pub counts : count ≡ length sent
-  pub prefix : IsPrefix sent whole
-
-pub sent_part : (w0 w1 w2 : Option (List ℕ)) (waiting now : OutputView) (text piece rest : List ℕ) → Sent w0 w1 waiting text → Passes waiting now w1 w2 piece rest → Part w0 w2 now.sent (text ++ piece)
+pub sent_part : (w0 w1 w2 : Option (List ℕ)) (waiting now : OutputView) (text piece rest : List ℕ) → Sent w0 w1 waiting text → Passes waiting now w1 w2 piece rest → AppendedPart w0 w2 now.sent (text ++ piece)
 sent_part w0 w1 w2 waiting now text piece rest s p = record {
-  sent = s.sent ++ p.part;
-  sink = grew_then w0 w1 w2 s.sent p.part s.sink p.grew;
+  part = s.sent ++ p.part;
+  grew = grew_then w0 w1 w2 s.sent p.part s.sink p.grew;
   counts = omega (arith, p.sent, s.count, length-append s.sent p.part);
-  prefix = (rest, rw (← s.whole, append_assoc, p.whole) (sym (append_assoc s.sent p.part rest)));
+  begins = (rest, rw (← s.whole, append_assoc, p.whole) (sym (append_assoc s.sent p.part rest)));
 }
 
 -- a piece more
@@ -47,11 +41,32 @@ pub sent_piece : (w0 w1 w2 : Option (List ℕ)) (waiting now : OutputView) (text
 unfolding sent_part
 sent_piece w0 w1 w2 waiting now text piece s p =
     let q = sent_part w0 w1 w2 waiting now text piece now.bytes s p in
-    record { sent = q.sent; sink = q.sink; count = q.counts; whole = sym q.prefix.1 }
+    record { sent = q.part; sink = q.grew; count = q.counts; whole = sym q.begins.1 }
 
 -- what waited was sent
 pub sent_flushed : (w0 w1 w2 : Option (List ℕ)) (waiting now : OutputView) (text : List ℕ) → Sent w0 w1 waiting text → Passes waiting now w1 w2 [] now.bytes → Sent w0 w2 now text
 sent_flushed w0 w1 w2 waiting now text s p = subst (Sent w0 w2 now) (append-nil text) (sent_piece w0 w1 w2 waiting now text [] s p)
+
+-- where the sink failed in a piece, so many bytes were sent
+pub piece_part : (w0 w1 w2 : Option (List ℕ)) (waiting now : OutputView) (text piece rest : List ℕ) (place : ℕ) → Sent w0 w1 waiting text → Passes waiting now w1 w2 piece rest → place ≡ now.sent → AppendedPart w0 w2 place (text ++ piece)
+piece_part w0 w1 w2 waiting now text piece rest place s p at = subst (λ (n : ℕ). AppendedPart w0 w2 n (text ++ piece)) (sym at) (sent_part w0 w1 w2 waiting now text piece rest s p)
+
+pub text_part : (w0 w1 w2 : Option (List ℕ)) (waiting now : OutputView) (text rest : List ℕ) (place : ℕ) → Sent w0 w1 waiting text → Passes waiting now w1 w2 [] rest → place ≡ now.sent → AppendedPart w0 w2 place text
+text_part w0 w1 w2 waiting now text rest place s p at = subst (AppendedPart w0 w2 place) (append-nil text) (piece_part w0 w1 w2 waiting now text [] rest place s p at)
+
+-- and where it failed at the end
+pub cut_part : (w0 w1 : Option (List ℕ)) (waiting : OutputView) (text last : List ℕ) (result : Ended) (sink : Told) → Sent w0 w1 waiting text → IsCutOff waiting.sent (waiting.bytes ++ last) result (record sink { before = w1 })
+    → AppendedPart w0 sink.after result.place (text ++ last)
+cut_part w0 w1 waiting text last result sink s cut =
+    let now : OutputView = record { bytes = []; sent = result.place } in
+    let p : Passes waiting now w1 sink.after last cut.begins.0 = record { part = cut.part; grew = cut.grew; whole = cut.begins.1; sent = cut.place_is } in
+    sent_part w0 w1 sink.after waiting now text last cut.begins.0 s p
+
+-- all was sent
+pub grew_written : (w0 w1 w2 : Option (List ℕ)) (waiting : OutputView) (text last : List ℕ) → Sent w0 w1 waiting text → Grew w1 w2 (waiting.bytes ++ last) → Grew w0 w2 (text ++ last)
+grew_written w0 w1 w2 waiting text last s grew =
+    let e : s.sent ++ (waiting.bytes ++ last) ≡ text ++ last = sym (append_assoc s.sent waiting.bytes last) ∙ ap (λ (z : List ℕ). z ++ last) s.whole in
+    subst (Grew w0 w2) e (grew_then w0 w1 w2 s.sent (waiting.bytes ++ last) s.sink grew)
 
 -- a first part of what begins a report begins it
 begins_part : {H L E : Type 0} (r : Reporting H L E) (input : InputOf H E) (part text : List ℕ) → IsPrefix part text → BeginsReport r input text → BeginsReport r input part
@@ -68,12 +83,12 @@ pub rose_since : (first before now : ℕ) → first ≤ before → Rose before n
 rose_since first before now later rose = λ below. let above = rose below in omega (arith, above, later)
 
 -- a write failed
-pub ends_write : {H L E : Type 0} (r : Reporting H L E) (o : Outside) (ended : Ended) (whole : List ℕ) → ended.status ≡ status.Write → Part o.sink.before o.sink.after ended.place whole
+pub ends_write : {H L E : Type 0} (r : Reporting H L E) (o : Outside) (ended : Ended) (whole : List ℕ) → ended.status ≡ status.Write → AppendedPart o.sink.before o.sink.after ended.place whole
     → IfSome o.source.before (λ input. BeginsReport r (input_read r.format input) whole) → Rose o.sink.faults_before o.sink.faults_after → EndsAs r ended.status ended o
 ends_write r o ended whole e p begins rose =
     let failed : FailedWrite r ended.place o = record {
-      appended = (p.sent, p.sink, p.counts);
-      wrote = IfSome_then o.source.before begins (λ input begun. (p.sent, p.sink, (p.counts, begins_part r (input_read r.format input) p.sent whole p.prefix begun)));
+      appended = (p.part, p.grew, p.counts);
+      wrote = IfSome_then o.source.before begins (λ input begun. (p.part, p.grew, (p.counts, begins_part r (input_read r.format input) p.part whole p.begins begun)));
       cause = rose;
     } in
     rw e failed
@@ -85,12 +100,9 @@ pub ends_written : {H L E : Type 0} (r : Reporting H L E) (o : Outside) (between
     → (Grew o.sink.before o.sink.after (text ++ last) → EndsAs r ended.status ended o) → EndsAs r result.status result o
 ends_written r o between faults waiting text last ended result s writes later begins ends =
     elim writes [
-      | inl whole ↦
-          let e : s.sent ++ (waiting.bytes ++ last) ≡ text ++ last = sym (append_assoc s.sent waiting.bytes last) ∙ ap (λ (z : List ℕ). z ++ last) s.whole in
-          let grew : Grew o.sink.before o.sink.after (s.sent ++ (waiting.bytes ++ last)) = grew_then o.sink.before between o.sink.after s.sent (waiting.bytes ++ last) s.sink whole.1 in
-          subst (λ (x : Ended). EndsAs r x.status x o) (sym whole.0) (ends (subst (Grew o.sink.before o.sink.after) e grew))
+      | inl whole ↦ subst (λ (x : Ended). EndsAs r x.status x o) (sym whole.0) (ends (grew_written o.sink.before between o.sink.after waiting text last s whole.1))
       | inr cut ↦
-          let now : OutputView = record { bytes = []; sent = result.place } in
-          let p : Passes waiting now between o.sink.after last cut.begins.0 = record { part = cut.part; grew = cut.grew; whole = cut.begins.1; sent = cut.place_is } in
-          ends_write r o result (text ++ last) cut.status_is (sent_part o.sink.before between o.sink.after waiting now text last cut.begins.0 s p) begins (rose_since o.sink.faults_before faults o.sink.faults_after later cut.cause)
+          ends_write r o result (text ++ last) cut.status_is
+          (cut_part o.sink.before between waiting text last result (record { before = between; after = o.sink.after; faults_before = faults; faults_after = o.sink.faults_after }) s cut) begins
+          (rose_since o.sink.faults_before faults o.sink.faults_after later cut.cause)
     ]

@@ -27,6 +27,13 @@ LinesBefore line old = (before : ℕ) × (rest : Option (List ℕ)) × (line ≡
 abbrev pub Appended : ℕ → Option (List ℕ) → Option (List ℕ) → Type 0
 Appended count before now = (text : List ℕ) × Grew before now text × (count ≡ length text)
 
+-- so many bytes were appended, a first part of a text
+pub record AppendedPart (before now : Option (List ℕ)) (count : ℕ) (whole : List ℕ) : Type 0 where
+  pub part : List ℕ
+  pub grew : Grew before now part
+  pub counts : count ≡ length part
+  pub begins : IsPrefix part whole
+
 -- why the input goes no further, and after which lines
 abbrev pub Halts : {T : Type 0} → Result T Halt → Option (List ℕ) → Option (List ℕ) → Type 0
 Halts (Ok x) old left = Unit {0}

@@ -4,6 +4,7 @@ pub mod Event
 pub mod Halt
 pub mod HaltOf
 pub mod Header
+pub mod Left
 pub mod Machine
 pub mod NextLine
 pub mod Outside

@@ -4,4 +4,4 @@ use Rattle.duo_run.proofs.replay.run_replay.Goals as goal
 pub returns : goal.returns
 returns g c =
     let told = g.S.Source.left c.args.source.now in
-    record { run = c.run_over.ensures; fair = told_fairly told; serves = told_serve told }
+    record { run = c.run_over.ensures.ran; fair = told_fairly told; serves = told_serve told }

@@ -1,0 +1,194 @@
+-- What a run leaves.
+use Rattle.std.proofs.Common.{◌≡◌, ℕ, ◌+◌, ◌≤◌, Bool, List, [], ◌∷◌, ◌++◌, length, refl, arith, ap, sym, subst, inl, inr}
+use Rattle.std.specs.Prelude.{Ok, Err, Some, None}
+use Rattle.std.specs.declared.option.Option.{Option}
+use Rattle.std.specs.Io.KnownBytes.{prepend_known}
+use Rattle.std.proofs.lemmas.List.{append-nil}
+use Rattle.fsoe_io.specs.Output.{OutputView, Passes}
+use Rattle.fsoe_io.specs.Sink.{Grew}
+use Rattle.fsoe_io.specs.declared.status.Ended.{Ended}
+use Rattle.fsoe_io.specs.declared.status.Status.{Status}
+use Rattle.fsoe_io.specs.declared.status.Status.TheVariants as status
+use Rattle.schedule_file.specs.Input.{InputCause, InputFormat, InputOf, NoFrame, NoApp, Stop, AtEnd}
+use Rattle.file_run.specs.Refusal.{input_cause}
+use Rattle.file_run.specs.Ending.{AppendedPart, Writes}
+use Rattle.file_run.specs.Event.{FindsEvent}
+use Rattle.file_run.specs.Halt.{Goes}
+use Rattle.file_run.specs.HaltOf.{halt_stopped}
+use Rattle.file_run.specs.Left.{LeavesDone, LeavesAll, LeavesAs, Done, IsBegun, Leaves, MayFailIn, MayNotBegin, line_after}
+use Rattle.file_run.specs.Machine.{TakesEvent}
+use Rattle.file_run.specs.Outside.{Outside, Told}
+use Rattle.file_run.specs.Ran.{EndsWhole}
+use Rattle.file_run.specs.Report.{refused_line}
+use Rattle.file_run.specs.Reporting.{Reporting, input_stopped, refused_at}
+use Rattle.file_run.specs.Stop.{halted_by, last_of}
+use Rattle.file_run.specs.declared.halt.Halt.{Halt}
+use Rattle.file_run.specs.declared.halt.Halt.TheVariants as halt
+use Rattle.file_run.specs.declared.stopped.Stopped.{Stopped}
+use Rattle.file_run.specs.declared.stopped.Stopped.TheVariants as stopped
+use Rattle.file_run.proofs.Running.{IsFullness, Running, Saying, Standing, by_seen, ended_next, event_seen, stops_so}
+use Rattle.file_run.proofs.Seen.{Seen}
+use Rattle.file_run.proofs.Sending.{Sent, cut_part, grew_written, piece_part, text_part}
+
+-- how reports close
+abbrev pub Closing : Type 0 → Type 0 → Type 1
+Closing H E = H → List E → List ℕ → Ended → Type 0
+
+-- no machine was begun
+not_begun : (why : Halt) → MayNotBegin (halted_by why).status
+not_begun (halt.Read lines) = tt
+not_begun halt.Memory = tt
+not_begun (halt.Refused line cause) = tt
+
+not_begun_by : (why : Halt) (sent : ℕ) (text : List ℕ) (result : Ended) (sink : Told) → Writes sent text (halted_by why) result sink → MayNotBegin result.status
+not_begun_by why sent text result sink writes =
+    elim writes [
+      | inl whole ↦ subst (λ (x : Ended). MayNotBegin x.status) (sym whole.0) (not_begun why)
+      | inr cut ↦ subst MayNotBegin (sym cut.status_is) tt
+    ]
+
+pub leaves_unbegun : {H L E : Type 0} (unchanged : Type 0) (f : InputFormat H L E) (stands : Standing H E) (closes : Closing H E) (o : Outside) (why : Halt) (sent : ℕ) (text : List ℕ) (result : Ended) (sink : Told) → unchanged
+    → Writes sent text (halted_by why) result sink → Leaves unchanged f stands closes result o
+leaves_unbegun unchanged f stands closes o why sent text result sink kept writes = inl (kept, not_begun_by why sent text result sink writes)
+
+-- what was read of an input is its beginning
+begun_so : {H L E : Type 0} (f : InputFormat H L E) (d : Done H E) (told left : Option (List ℕ)) → Seen f d.heading d.lines told left d.log → IsBegun f d told
+begun_so {H} {L} {E} f d told left seen =
+    by_seen f d.heading d.lines d.log told left (λ (input : InputOf H E). (more : List E) × (stop : Stop) × (input ≡ input_stopped d.heading d.lines (d.log ++ more) stop)) seen (λ more stop. (more, stop, refl))
+
+-- a write failed
+did_write : {H L E : Type 0} (f : InputFormat H L E) (closes : Closing H E) (d : Done H E) (o : Outside) (ended : Ended) (whole : List ℕ) → ended.status ≡ status.Write → MayFailIn f closes d whole o.source.before
+    → AppendedPart o.sink.before o.sink.after ended.place whole → LeavesAs f closes d ended.status ended o
+did_write f closes d o ended whole e within part = rw e (record { whole = whole; within = within; wrote = part })
+
+-- a run ends as it is to, or a write failed at the end
+did_written : {H L E : Type 0} (f : InputFormat H L E) (closes : Closing H E) (d : Done H E) (o : Outside) (between : Option (List ℕ)) (faults : ℕ) (waiting : OutputView) (last : List ℕ) (ended result : Ended) → Sent o.sink.before between waiting d.text
+    → Writes waiting.sent (waiting.bytes ++ last) ended result (record { before = between; after = o.sink.after; faults_before = faults; faults_after = o.sink.faults_after })
+    → MayFailIn f closes d (d.text ++ last) o.source.before → (Grew o.sink.before o.sink.after (d.text ++ last) → LeavesAs f closes d ended.status ended o) → LeavesAs f closes d result.status result o
+did_written f closes d o between faults waiting last ended result s writes within ends =
+    elim writes [
+      | inl whole ↦ subst (λ (x : Ended). LeavesAs f closes d x.status x o) (sym whole.0) (ends (grew_written o.sink.before between o.sink.after waiting d.text last s whole.1))
+      | inr cut ↦ did_write f closes d o result (d.text ++ last) cut.status_is within (cut_part o.sink.before between waiting d.text last result (record { before = between; after = o.sink.after; faults_before = faults; faults_after = o.sink.faults_after }) s cut)
+    ]
+
+-- nothing more was to be written
+did_text : {H L E : Type 0} (f : InputFormat H L E) (closes : Closing H E) (d : Done H E) (o : Outside) (between : Option (List ℕ)) (faults : ℕ) (waiting : OutputView) (ended result : Ended) → Sent o.sink.before between waiting d.text
+    → Writes waiting.sent (waiting.bytes ++ []) ended result (record { before = between; after = o.sink.after; faults_before = faults; faults_after = o.sink.faults_after })
+    → (Grew o.sink.before o.sink.after d.text → LeavesAs f closes d ended.status ended o) → LeavesAs f closes d result.status result o
+did_text f closes d o between faults waiting ended result s writes ends =
+    did_written f closes d o between faults waiting [] ended result s writes (inl (append-nil d.text)) (λ grew. ends (subst (Grew o.sink.before o.sink.after) (append-nil d.text) grew))
+
+-- the line after the events is refused
+did_refused : {H L E : Type 0} (f : InputFormat H L E) (closes : Closing H E) (d : Done H E) (o : Outside) (between : Option (List ℕ)) (faults : ℕ) (waiting : OutputView) (number : ℕ) (why : InputCause) (result : Ended)
+    → Sent o.sink.before between waiting d.text → number ≡ line_after d
+    → Writes waiting.sent (waiting.bytes ++ refused_line number why) (refused_at number) result (record { before = between; after = o.sink.after; faults_before = faults; faults_after = o.sink.faults_after })
+    → LeavesAs f closes d result.status result o
+did_refused f closes d o between faults waiting number why result s e writes =
+    did_written f closes d o between faults waiting (refused_line number why) (refused_at number) result s writes (inr (inl (why, ap (λ (n : ℕ). d.text ++ refused_line n why) e)))
+    (λ grew. record { why = why; number_is = e; wrote = grew })
+
+-- what a run did before a line
+abbrev done_so : {H L E : Type 0} (r : Reporting H L E) (stands : Standing H E) (says : Saying L) (left0 left w0 w : Option (List ℕ)) (waiting : OutputView) (events lines : ℕ) → Running r stands says left0 left w0 w waiting events lines → Done H E
+done_so r stands says left0 left w0 w waiting events lines k = record { heading = k.heading; lines = k.header; log = k.log; text = k.text }
+
+-- a write failed before a line
+pub left_unsent : {H L E : Type 0} (r : Reporting H L E) (stands left : Standing H E) (closes : Closing H E) (says : Saying L) (o : Outside) (b w1 : Option (List ℕ)) (waiting now : OutputView) (events lines : ℕ) (rest : List ℕ) (ended : Ended)
+    (k : Running r stands says o.source.before b o.sink.before w1 waiting events lines) → left k.heading k.log k.text → Passes waiting now w1 o.sink.after [] rest → ended.status ≡ status.Write → ended.place ≡ now.sent → LeavesDone r.format left closes ended o
+left_unsent r stands left closes says o b w1 waiting now events lines rest ended k stood p e place =
+    let d = done_so r stands says o.source.before b o.sink.before w1 waiting events lines k in
+    record {
+      done = d;
+      stood = stood;
+      begun = begun_so r.format d o.source.before b k.seen;
+      ends = did_write r.format closes d o ended k.text e (inl refl) (text_part o.sink.before w1 o.sink.after waiting now k.text rest ended.place k.sent p place);
+    }
+
+-- the text of an event could not be written
+pub left_lost : {H L E : Type 0} (r : Reporting H L E) (old left : Standing H E) (closes : Closing H E) (says : Saying L) (full : Bool) (o : Outside) (b c w1 : Option (List ℕ)) (waiting now : OutputView) (events lines : ℕ) (event : E) (piece rest : List ℕ) (ended : Ended)
+    (k : Running r old says o.source.before b o.sink.before w1 waiting events lines) → FindsEvent r.format.event says full (Ok (Some event)) b c → IsFullness r old events full → left k.heading (k.log ++ event ∷ []) (k.text ++ piece)
+    → Passes waiting now w1 o.sink.after piece rest → ended.status ≡ status.Write → ended.place ≡ now.sent → LeavesDone r.format left closes ended o
+left_lost {H} {L} {E} r old left closes says full o b c w1 waiting now events lines event piece rest ended k finds fullness stood p e place =
+    let d : Done H E = record { heading = k.heading; lines = k.header; log = k.log ++ event ∷ []; text = k.text ++ piece } in
+    record {
+      done = d;
+      stood = stood;
+      begun = begun_so r.format d o.source.before c (event_seen r old says full o.source.before b c o.sink.before w1 waiting events lines event k finds fullness);
+      ends = did_write r.format closes d o ended (k.text ++ piece) e (inl refl) (piece_part o.sink.before w1 o.sink.after waiting now k.text piece rest ended.place k.sent p place);
+    }
+
+-- the input goes no further
+halted_so : {H L E : Type 0} (r : Reporting H L E) (stands : Standing H E) (closes : Closing H E) (says : Saying L) (full : Bool) (o : Outside) (b c w1 : Option (List ℕ)) (faults : ℕ) (waiting : OutputView) (events lines now : ℕ) (why : Halt) (result : Ended)
+    (k : Running r stands says o.source.before b o.sink.before w1 waiting events lines) → FindsEvent r.format.event says full (Err why) b c → Goes {T = Unit {0}} (Err why) lines now b c
+    → Writes waiting.sent (waiting.bytes ++ last_of why) (halted_by why) result (record { before = w1; after = o.sink.after; faults_before = faults; faults_after = o.sink.faults_after })
+    → LeavesAs r.format closes (done_so r stands says o.source.before b o.sink.before w1 waiting events lines k) result.status result o
+halted_so r stands closes says full o b c w1 faults waiting events lines now (halt.Read count) result k finds goes writes =
+    did_text r.format closes (done_so r stands says o.source.before b o.sink.before w1 waiting events lines k) o w1 faults waiting (halted_by (halt.Read count)) result k.sent writes
+    (λ grew. record { lines_are = omega (arith, k.lined, k.count, goes.0); wrote = grew })
+halted_so r stands closes says full o b c w1 faults waiting events lines now halt.Memory result k finds goes writes = absurd finds
+halted_so r stands closes says full o b c w1 faults waiting events lines now (halt.Refused number why) result k finds goes writes =
+    did_refused r.format closes (done_so r stands says o.source.before b o.sink.before w1 waiting events lines k) o w1 faults waiting number (input_cause why) result k.sent (omega (arith, k.lined, k.count, goes)) writes
+
+pub left_halted : {H L E : Type 0} (r : Reporting H L E) (stands left : Standing H E) (closes : Closing H E) (says : Saying L) (full : Bool) (o : Outside) (b c w1 : Option (List ℕ)) (faults : ℕ) (waiting : OutputView) (events lines now : ℕ) (why : Halt) (result : Ended)
+    (k : Running r stands says o.source.before b o.sink.before w1 waiting events lines) → left k.heading k.log k.text → FindsEvent r.format.event says full (Err why) b c → Goes {T = Unit {0}} (Err why) lines now b c
+    → Writes waiting.sent (waiting.bytes ++ last_of why) (halted_by why) result (record { before = w1; after = o.sink.after; faults_before = faults; faults_after = o.sink.faults_after }) → LeavesDone r.format left closes result o
+left_halted r stands left closes says full o b c w1 faults waiting events lines now why result k stood finds goes writes =
+    let d = done_so r stands says o.source.before b o.sink.before w1 waiting events lines k in
+    record {
+      done = d;
+      stood = stood;
+      begun = begun_so r.format d o.source.before b k.seen;
+      ends = halted_so r stands closes says full o b c w1 faults waiting events lines now why result k finds goes writes;
+    }
+
+-- the event of the next line isn't done
+stopped_so : {H L E : Type 0} (r : Reporting H L E) (stands : Standing H E) (closes : Closing H E) (says : Saying L) (o : Outside) (b w1 : Option (List ℕ)) (faults : ℕ) (waiting : OutputView) (events lines number : ℕ) (why : Stopped) (result : Ended)
+    (k : Running r stands says o.source.before b o.sink.before w1 waiting events lines) → number ≡ lines + 1
+    → Writes waiting.sent (waiting.bytes ++ last_of (halt_stopped why number)) (halted_by (halt_stopped why number)) result (record { before = w1; after = o.sink.after; faults_before = faults; faults_after = o.sink.faults_after })
+    → LeavesAs r.format closes (done_so r stands says o.source.before b o.sink.before w1 waiting events lines k) result.status result o
+stopped_so r stands closes says o b w1 faults waiting events lines number stopped.NoFrame result k step writes =
+    did_refused r.format closes (done_so r stands says o.source.before b o.sink.before w1 waiting events lines k) o w1 faults waiting number NoFrame result k.sent (omega (arith, k.lined, k.count, step)) writes
+stopped_so r stands closes says o b w1 faults waiting events lines number stopped.NoApp result k step writes =
+    did_refused r.format closes (done_so r stands says o.source.before b o.sink.before w1 waiting events lines k) o w1 faults waiting number NoApp result k.sent (omega (arith, k.lined, k.count, step)) writes
+stopped_so r stands closes says o b w1 faults waiting events lines number stopped.Memory result k step writes =
+    did_text r.format closes (done_so r stands says o.source.before b o.sink.before w1 waiting events lines k) o w1 faults waiting (halted_by halt.Memory) result k.sent writes (λ grew. grew)
+
+pub left_stopped : {H L E : Type 0} (r : Reporting H L E) (stands left : Standing H E) (closes : Closing H E) (says : Saying L) (o : Outside) (b w1 : Option (List ℕ)) (faults : ℕ) (waiting : OutputView) (events lines number : ℕ) (why : Stopped) (result : Ended)
+    (k : Running r stands says o.source.before b o.sink.before w1 waiting events lines) → left k.heading k.log k.text → number ≡ lines + 1
+    → Writes waiting.sent (waiting.bytes ++ last_of (halt_stopped why number)) (halted_by (halt_stopped why number)) result (record { before = w1; after = o.sink.after; faults_before = faults; faults_after = o.sink.faults_after })
+    → LeavesDone r.format left closes result o
+left_stopped r stands left closes says o b w1 faults waiting events lines number why result k stood step writes =
+    let d = done_so r stands says o.source.before b o.sink.before w1 waiting events lines k in
+    record {
+      done = d;
+      stood = stood;
+      begun = begun_so r.format d o.source.before b k.seen;
+      ends = stopped_so r stands closes says o b w1 faults waiting events lines number why result k step writes;
+    }
+
+-- a run to the end ends so
+did_all : {H L E : Type 0} (f : InputFormat H L E) (closes : Closing H E) (d : Done H E) (judges : Bool) (s : Status) (place : ℕ) (ended : Ended) (o : Outside) → EndsWhole judges s place → LeavesAll f closes d ended o → LeavesAs f closes d s ended o
+did_all f closes d judges status.Ok place ended o whole all = all
+did_all f closes d judges status.Other place ended o whole all = all
+did_all f closes d judges status.Usage place ended o whole all = absurd whole
+did_all f closes d judges status.Config place ended o whole all = absurd whole
+did_all f closes d judges status.Line place ended o whole all = absurd whole
+did_all f closes d judges status.Desk place ended o whole all = absurd whole
+did_all f closes d judges status.Read place ended o whole all = absurd whole
+did_all f closes d judges status.Write place ended o whole all = absurd whole
+did_all f closes d judges status.Memory place ended o whole all = absurd whole
+
+pub left_at_end : {H L E : Type 0} (r : Reporting H L E) (stands left : Standing H E) (closes : Closing H E) (says : Saying L) (full : Bool) (o : Outside) (b c w1 : Option (List ℕ)) (faults : ℕ) (waiting : OutputView) (events lines : ℕ) (last : List ℕ) (ended result : Ended)
+    (k : Running r stands says o.source.before b o.sink.before w1 waiting events lines) → left k.heading k.log k.text → FindsEvent r.format.event says full (Ok None) b c → IsFullness r stands events full
+    → closes k.heading k.log (k.text ++ last) ended → EndsWhole r.judges ended.status ended.place
+    → Writes waiting.sent (waiting.bytes ++ last) ended result (record { before = w1; after = o.sink.after; faults_before = faults; faults_after = o.sink.faults_after }) → LeavesDone r.format left closes result o
+left_at_end r stands left closes says full o b c w1 faults waiting events lines last ended result k stood finds fullness closed ends writes =
+    let d = done_so r stands says o.source.before b o.sink.before w1 waiting events lines k in
+    let whole = stops_so r.format k.heading k.header k.log o.source.before b AtEnd (λ input. input ≡ input_stopped k.heading k.header k.log AtEnd) k.seen
+    (ended_next r stands says full o.source.before b c o.sink.before w1 waiting events lines k finds fullness) refl in
+    record {
+      done = d;
+      stood = stood;
+      begun = begun_so r.format d o.source.before b k.seen;
+      ends = did_written r.format closes d o w1 faults waiting last ended result k.sent writes (inr (inr (ended, closed, whole)))
+          (λ grew. did_all r.format closes d r.judges ended.status ended.place ended o ends (record { input = whole; report = k.text ++ last; closed = closed; wrote = grew }));
+    }
