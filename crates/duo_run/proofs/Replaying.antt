@@ -22,14 +22,15 @@ use Rattle.schedule_file.specs.declared.event.Event.{Event}
 use Rattle.schedule_file.specs.declared.header_kind.HeaderKind.TheVariants as kind
 use Rattle.file_run.specs.Machine.{TakesEvent, MayCome}
 use Rattle.file_run.specs.Ran.{EndsWhole}
-use Rattle.file_run.specs.Report.{events_line, refused_line}
+use Rattle.file_run.proofs.EndedWith.{ended_whole}
+use Rattle.file_run.specs.Report.{ended_with, events_line, other_line, refused_line}
 use Rattle.file_run.specs.Reporting.{EndsReport, EndsUnmet, ReportsSoFar, input_stopped}
 use Rattle.exchange_model.specs.Other.{first_other}
 use Rattle.exchange_model.specs.World.{end_of_event, entry_at, world}
 use Rattle.exchange_model.proofs.Worlds.Longer.{world_next, world_missed}
 use Rattle.exchange_model.proofs.Worlds.Others.{number_of_first}
 use Rattle.duo_run.specs.Duo.{DuoView, lengths_of, profiles_of, DuoStands, NextEntry, Advances, Misses, ShowsLast}
-use Rattle.duo_run.specs.Replay.{line_of, entry_line, entry_lines, other_line, last_lines, ended_with, ended_at, run_stop, ReplayReports, ReplayStands, replay_reporting}
+use Rattle.duo_run.specs.Replay.{line_of, entry_line, entry_lines, last_lines, ended_at, run_stop, ReplayReports, ReplayStands, replay_reporting}
 use Rattle.duo_run.proofs.EntryLines.{lines_begin}
 
 -- the lengths and the profiles of a pair are those of its header
@@ -165,12 +166,8 @@ pair_ends v h log text last events other ended count tells is e k = λ n.
     subst (λ (z : List ℕ). ReplayReports (input_stopped h n log AtEnd) ended (text ++ z)) (sym lines)
     (subst (λ (x : Ended). ReplayReports (input_stopped h n log AtEnd) x (text ++ last_lines k.entries AtEnd)) (sym (e ∙ ap ended_with first)) (pair_stopped v h n log text AtEnd k))
 
-ends_whole : (other : Option ℕ) → ((n : ℕ) → other ≡ Some n → 0 < n) → EndsWhole true (ended_with other).status (ended_with other).place
-ends_whole None above = refl
-ends_whole (Some n) above = (refl, above n refl)
-
 pub pair_ends_whole : (v : DuoView) (h : Heading) (log : List Event) (text : List ℕ) (other : Option ℕ) (ended : Ended) → ((ms : MasterSettings) (ss : SlaveSettings) (w : List Entry) → DuoStands ms ss v w → other ≡ first_other w)
     → ended ≡ ended_with other → ReplayStands v h log text → EndsWhole true ended.status ended.place
 pair_ends_whole v h log text other ended tells e k =
     subst (λ (x : Ended). EndsWhole true x.status x.place) (sym e)
-    (ends_whole other (λ n is. let at = number_of_first k.entries n (sym (tells k.ms k.ss k.entries k.stands) ∙ is) in omega (arith, at)))
+    (ended_whole other (λ n is. let at = number_of_first k.entries n (sym (tells k.ms k.ss k.entries k.stands) ∙ is) in omega (arith, at)))

@@ -11,7 +11,7 @@ use Rattle.exchange_model.specs.World.{IsWorld}
 use Rattle.exchange_model.proofs.Fairness.Headline.{fair_world}
 use Rattle.exchange_model.proofs.Worlds.Others.{before_is_clean, before_is_world}
 use Rattle.duo_run.specs.Bulk.{entries_of, number_line, summary_lines, report_of}
-use Rattle.duo_run.specs.Replay.{other_line, ended_with}
+use Rattle.file_run.specs.Report.{ended_with, other_line}
 use Rattle.duo_run.specs.Summary.{summary_of}
 use Rattle.duo_run.specs.declared.summary.Summary.{Summary}
 

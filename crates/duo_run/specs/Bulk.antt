@@ -11,7 +11,7 @@ use Rattle.exchange_model.specs.Fair.{Fair}
 use Rattle.exchange_model.specs.Other.{before_other, first_other}
 use Rattle.exchange_model.specs.Serving.{Serves}
 use Rattle.exchange_model.specs.World.{world}
-use Rattle.duo_run.specs.Replay.{other_line, ended_with}
+use Rattle.file_run.specs.Report.{ended_with, other_line}
 use Rattle.duo_run.specs.Summary.{summary_of}
 use Rattle.duo_run.specs.declared.summary.Summary.{Summary}
 

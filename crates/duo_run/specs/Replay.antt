@@ -18,7 +18,7 @@ use Rattle.schedule_file.specs.declared.event.Event.{Event}
 use Rattle.schedule_file.specs.declared.event.ScheduleLine.{ScheduleLine}
 use Rattle.file_run.specs.Outside.{Outside}
 use Rattle.file_run.specs.Ran.{RanOver}
-use Rattle.file_run.specs.Report.{events_line, refused_line}
+use Rattle.file_run.specs.Report.{ended_with, events_line, other_line, refused_line}
 use Rattle.file_run.specs.Reporting.{Reporting, Never}
 use Rattle.exchange_model.specs.Fair.{Fair}
 use Rattle.exchange_model.specs.Honest.{Match, IsHonest}
@@ -40,20 +40,10 @@ abbrev pub entry_lines : List Entry → List ℕ
 entry_lines [] = []
 entry_lines (x ∷ w) = entry_lines w ++ entry_line (length w + 1) x
 
--- the line that names the first other entry, or says that there is none
-abbrev pub other_line : Option ℕ → List ℕ
-other_line None = codes "other none\n"
-other_line (Some n) = codes "other " ++ decimal n ++ codes "\n"
-
 -- the last lines of a run of these entries, which stops so
 abbrev pub last_lines : List Entry → Stop → List ℕ
 last_lines w AtEnd = events_line (length w) ++ other_line (first_other w)
 last_lines w (Refused number why) = refused_line number why
-
--- how a whole run ends, by the number of its first other entry
-abbrev pub ended_with : Option ℕ → Ended
-ended_with None = record { status = status.Ok; place = 0 }
-ended_with (Some n) = record { status = status.Other; place = n }
 
 -- how a run of these entries ends that stops so, where neither a read nor a write failed
 abbrev pub ended_at : List Entry → Stop → Ended

@@ -3,16 +3,15 @@ ghost use Rattle.std.specs.Prelude.{◌≡◌, ◌≤◌, ◌+◌, ◌++◌, len
 ghost use Rattle.schedule_file.specs.Made.{made_master, made_slave};
 ghost use Rattle.exchange_model.specs.Other.{first_other};
 ghost use Rattle.exchange_model.specs.World.{IsWorld};
-ghost use Rattle.duo_run.specs.Replay.{other_line};
+ghost use Rattle.file_run.specs.Report.{other_line};
 ghost use Rattle.duo_run.specs.Summary.{summary_of};
 ghost use Rattle.duo_run.specs.Bulk.{entries_of, ends_line, state_line, number_line, summary_lines, RanBulk};
 
 use crate::acting::Answer;
-use crate::closing::{ended_with, push_other};
 use crate::coming::end_of;
 use crate::duo::Duo;
 use crate::summary::Summary;
-use file_run::write_report;
+use file_run::{ended_with, push_other, write_report};
 use fsoe_base::{End, State};
 use fsoe_io::{Ended, LineText, Sink};
 use schedule_file::{Event, Maker};

@@ -5,7 +5,6 @@
 
 mod acting;
 mod bulk;
-mod closing;
 mod coming;
 mod duo;
 mod fault;

@@ -6,6 +6,7 @@ pub mod Seen
 pub mod Sending
 pub mod Putting
 pub mod OnePart
+pub mod EndedWith
 pub mod Running
 pub mod Leaving
 pub mod Exact

@@ -21,7 +21,7 @@ mod stopped;
 
 pub use format::Format;
 pub use machine::Machine;
-pub use report::write_events;
+pub use report::{ended_with, push_other, write_events};
 pub use run::run_over;
 pub use schedule::{Grammar, Schedule};
 pub use stop::write_report;

@@ -1,10 +1,10 @@
-//! The closing lines of a report.
-ghost use Rattle.std.specs.Prelude.{◌≡◌, ◌≤◌, length};
+//! The closing lines of a report, and how a run ends that looks for other entries.
+ghost use Rattle.std.specs.Prelude.{◌≡◌, ◌≤◌, ◌+◌, ◌++◌, length};
 ghost use Rattle.file_run.specs.Refusal.{input_cause};
-ghost use Rattle.file_run.specs.Report.{events_line, refused_line};
+ghost use Rattle.file_run.specs.Report.{ended_with, events_line, other_line, refused_line};
 
 use crate::refusal::Refusal;
-use fsoe_io::LineText;
+use fsoe_io::{Ended, LineText, Status};
 
 /// The line that counts the events of an input that was read up to its `end`.
 pub fn write_events(events: u64, text: &mut LineText)
@@ -27,4 +27,36 @@ pub fn write_refusal(line: u64, refusal: Refusal, text: &mut LineText)
     text.push_str(" ");
     text.push_str(refusal.name());
     text.push_str("\n");
+}
+
+/// Appends the line that tells the number of the first other entry, or that there is none.
+pub fn push_other(other: Option<u64>, text: &mut LineText)
+    requires { length text.old ≤ 500 }
+    ensures text { text.new ≡ text.old ++ other_line other }
+    ensures most { length text.new ≤ length text.old + 30 }
+{
+    match other {
+        Some(number) => {
+            text.push(b"other ");
+            text.push_decimal(number);
+            text.push(b"\n");
+        }
+        None => text.push(b"other none\n"),
+    }
+}
+
+/// How a whole run ends, by the number of its first other entry.
+pub fn ended_with(other: Option<u64>) -> Ended
+    ensures { result ≡ ended_with other }
+{
+    match other {
+        None => Ended {
+            status: Status::Ok,
+            place: 0,
+        },
+        Some(number) => Ended {
+            status: Status::Other,
+            place: number,
+        },
+    }
 }
