@@ -4,6 +4,7 @@ pub mod Taken
 pub mod HeaderSeen
 pub mod Seen
 pub mod Sending
+pub mod Taking
 pub mod Putting
 pub mod OnePart
 pub mod EndedWith

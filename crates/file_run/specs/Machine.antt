@@ -21,6 +21,10 @@ pub record MayCome {H L E : Type 0} (old : H → List E → List ℕ → Type 0)
 abbrev pub most_waiting : ℕ
 most_waiting = 1048576
 
+-- a machine stands for some events
+abbrev pub IsStanding : {H E : Type 0} → (H → List E → List ℕ → Type 0) → Type 0
+IsStanding {H} {E} stands = (h : H) × (log : List E) × (text : List ℕ) × stands h log text
+
 -- what a machine stood for it stands for still
 abbrev pub Keeps : {H E : Type 0} → (H → List E → List ℕ → Type 0) → (H → List E → List ℕ → Type 0) → Type 0
 Keeps {H} {E} old new = (h : H) (log : List E) (text : List ℕ) → old h log text → new h log text

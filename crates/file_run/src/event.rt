@@ -1,7 +1,8 @@
 //! The events of an input.
 ghost use Rattle.std.specs.Io.KnownBytes.{prepend_known};
-ghost use Rattle.std.specs.Prelude.{◌≡◌, ◌-◌, ◌^◌, ◌≤◌, ◌<◌};
+ghost use Rattle.std.specs.Prelude.{◌≡◌, ◌-◌, ◌^◌, ◌≤◌, ◌<◌, length};
 ghost use Rattle.fsoe_io.specs.Line.{IsLine};
+ghost use Rattle.schedule_file.specs.declared.line_buf.TheConstants.{MAX_LINE};
 ghost use Rattle.file_run.specs.Event.{FindsEvent, says_after, what_event};
 ghost use Rattle.file_run.specs.Halt.{Blames, Goes, Stalls};
 
@@ -18,6 +19,7 @@ fn read_after<F: Format>(
     grammar: &F::Grammar,
     said: &mut F::Line,
 ) -> Result<(), Refusal>
+    requires { length line.now ≤ MAX_LINE }
     ensures { (k : F.Kind) → what_event (F.format k).event result said.new ≡ says_after (F.format k).event (F.says grammar.now) full line.now }
 {
     if !full {

@@ -1,6 +1,7 @@
 //! How the lines of an input are read.
-ghost use Rattle.std.specs.Prelude.{◌≡◌, ◌<◌, ◌≤◌, ℕ, Bool, List, Result, IsTrue, MatchOption, OnOk, Some, None};
+ghost use Rattle.std.specs.Prelude.{◌≡◌, ◌<◌, ◌≤◌, ℕ, Bool, List, Result, IsTrue, MatchOption, OnOk, Some, None, length};
 ghost use Rattle.schedule_file.specs.Input.{InputFormat};
+ghost use Rattle.schedule_file.specs.declared.line_buf.TheConstants.{MAX_LINE};
 ghost use Rattle.schedule_file.specs.declared.line_cause.LineCause.{LineCause};
 ghost use Rattle.file_run.specs.Event.{what_says};
 ghost use Rattle.file_run.specs.Header.{TakesLine};
@@ -58,6 +59,7 @@ pub trait Format {
 
     /// What a line after the header says, written over `said`, or why it is refused.
     fn read(grammar: &Self::Grammar, line: &[u8], said: &mut Self::Line) -> Result<(), LineCause>
+        requires { length line.now ≤ MAX_LINE }
         ensures { what_says result said.new ≡ says grammar.now line.now };
 
     /// The event of a line. A line without one is the last.

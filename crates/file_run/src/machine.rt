@@ -4,7 +4,7 @@ ghost use Rattle.fsoe_io.specs.declared.status.Ended.{Ended};
 ghost use Rattle.schedule_file.specs.Input.{InputCause, Refused, input_read};
 ghost use Rattle.schedule_file.specs.declared.event.TheConstants.{MAX_EVENTS};
 ghost use Rattle.file_run.specs.Header.{most_lines};
-ghost use Rattle.file_run.specs.Machine.{Keeps, MayCome, TakesEvent, most_waiting};
+ghost use Rattle.file_run.specs.Machine.{IsStanding, Keeps, MayCome, TakesEvent, most_waiting};
 ghost use Rattle.file_run.specs.Ran.{EndsWhole};
 ghost use Rattle.file_run.specs.Report.{refused_line};
 ghost use Rattle.file_run.specs.Reporting.{EndsReport, EndsStopped, Reporting, ReportsSoFar, TakesMemory, input_headless, refused_at};
@@ -87,10 +87,12 @@ pub trait Machine: Drop {
     fn close(&mut self, handed: &Self::Handed, events: u64, text: &mut LineText) -> Ended
         ensures closes { (first : Self.Handed) (h : Self.Format.Header) (log : List Self.Format.Event) (lines : List ℕ) → length log ≡ events → stands first self.old handed.now h log lines → closes first handed.now h log (lines ++ (text.new ++ waits self.new handed.now)) result }
         ensures ends { (first : Self.Handed) (h : Self.Format.Header) (log : List Self.Format.Event) (lines : List ℕ) → stands first self.old handed.now h log lines → EndsWhole (reporting first).judges result.status result.place }
-        ensures most { length (waits self.new handed.now) ≤ most_waiting };
+        ensures most { length (waits self.new handed.now) ≤ most_waiting }
+        ensures kept { (first : Self.Handed) → Keeps (stands first self.old handed.now) (stands first self.new handed.now) };
 
     /// Writes the next part of what waits; nothing only where nothing waits.
     fn more(&mut self, handed: &Self::Handed, text: &mut LineText)
+        requires { (first : Self.Handed) × IsStanding (stands first self.old handed.now) }
         ensures part { waits self.old handed.now ≡ text.new ++ waits self.new handed.now }
         ensures some { text.new ≡ [] → waits self.old handed.now ≡ [] }
         ensures kept { (first : Self.Handed) → Keeps (stands first self.old handed.now) (stands first self.new handed.now) };

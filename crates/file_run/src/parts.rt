@@ -3,7 +3,7 @@ ghost use Rattle.std.specs.Prelude.{◌≡◌, ◌+◌, ◌++◌, ◌^◌, ◌�
 ghost use Rattle.fsoe_io.specs.Faults.{HasCause};
 ghost use Rattle.fsoe_io.specs.Output.{Puts};
 ghost use Rattle.file_run.specs.Ending.{Writes};
-ghost use Rattle.file_run.specs.Machine.{Keeps};
+ghost use Rattle.file_run.specs.Machine.{IsStanding, Keeps};
 
 use crate::machine::Machine;
 use crate::stop::{close, write_failed};
@@ -17,7 +17,8 @@ fn put_waiting<M: Machine, K: Sink>(
     output: &mut Output,
     sink: &mut K,
 ) -> Result<(), Failed>
-    requires { output.old.sent + length output.old.bytes + length (M.waits machine.old handed.now) < 2 ^ 63 }
+    requires stands { (first : M.Handed) × IsStanding (M.stands first machine.old handed.now) }
+    requires room { output.old.sent + length output.old.bytes + length (M.waits machine.old handed.now) < 2 ^ 63 }
     ensures puts { Puts result output.old output.new (K.written sink.old) (K.written sink.new) (M.waits machine.old handed.now) }
     ensures count { OnOk result (output.new.sent + length output.new.bytes ≡ output.old.sent + length output.old.bytes + length (M.waits machine.old handed.now)) }
     ensures kept { (first : M.Handed) → Keeps (M.stands first machine.old handed.now) (M.stands first machine.new handed.now) }
@@ -43,7 +44,8 @@ pub(crate) fn put_text<M: Machine, K: Sink>(
     output: &mut Output,
     sink: &mut K,
 ) -> Result<(), Failed>
-    requires { output.old.sent + length output.old.bytes + length (M.waits machine.old handed.now) < 2 ^ 62 }
+    requires stands { (first : M.Handed) × IsStanding (M.stands first machine.old handed.now) }
+    requires room { output.old.sent + length output.old.bytes + length (M.waits machine.old handed.now) < 2 ^ 62 }
     ensures puts { Puts result output.old output.new (K.written sink.old) (K.written sink.new) (text.old ++ M.waits machine.old handed.now) }
     ensures count { OnOk result (output.new.sent + length output.new.bytes ≤ output.old.sent + length output.old.bytes + 1024 + length (M.waits machine.old handed.now)) }
     ensures kept { (first : M.Handed) → Keeps (M.stands first machine.old handed.now) (M.stands first machine.new handed.now) }
@@ -64,7 +66,8 @@ pub(crate) fn close_run<M: Machine, K: Sink>(
     sink: &mut K,
     ended: Ended,
 ) -> Ended
-    requires { output.old.sent + length output.old.bytes + length (M.waits machine.old handed.now) < 2 ^ 62 }
+    requires stands { (first : M.Handed) × IsStanding (M.stands first machine.old handed.now) }
+    requires room { output.old.sent + length output.old.bytes + length (M.waits machine.old handed.now) < 2 ^ 62 }
     ensures writes { Writes output.old.sent (output.old.bytes ++ (text.old ++ M.waits machine.old handed.now)) ended result (record {
       before = K.written sink.old;
       after = K.written sink.new;

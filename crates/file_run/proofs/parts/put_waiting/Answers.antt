@@ -1,6 +1,7 @@
 use Rattle.std.proofs.Common.{◌++◌, ◌∙◌, ℕ, ap, arith, length, sym}
 use Rattle.std.proofs.lemmas.List.{length-append}
 use Rattle.file_run.proofs.Putting.{is_none, is_some, putting_all, putting_lost, putting_more, putting_none, putting_room}
+use Rattle.file_run.proofs.Taking.{still_stands}
 use Rattle.file_run.proofs.Sending.{rose_since}
 use Rattle.file_run.proofs.parts.put_waiting.Goals as goal
 
@@ -10,6 +11,11 @@ loop-part-init g c = record {
   kept = λ first h log text stood. stood;
   later = omega arith;
 }
+
+pub more-requires : goal.more-requires
+more-requires g c =
+    let first = c.requires.stands.0 in
+    (first, still_stands _ _ (c.loop-part.invariant.kept first) c.requires.stands.1)
 
 pub returns-then-is_empty-clause-puts : goal.returns-then-is_empty-clause-puts
 returns-then-is_empty-clause-puts g c =
@@ -28,7 +34,7 @@ returns-then-is_empty-clause-cause g c = record { later = c.loop-part.invariant.
 pub put-requires-clause-count : goal.put-requires-clause-count
 put-requires-clause-count g c =
     let room = putting_room _ _ _ _ _ _ c.more.new.text (g.M.Machine.waits c.more.new.self c.args.handed.now) c.loop-part.invariant.putting c.more.ensures.part in
-    omega (arith, room, c.requires)
+    omega (arith, room, c.requires.room)
 
 pub loop-part-smaller : goal.loop-part-smaller
 loop-part-smaller g c =

@@ -4,6 +4,7 @@ use Rattle.file_run.specs.Machine.{TakesEvent}
 use Rattle.file_run.proofs.Exact.{ran_by}
 use Rattle.file_run.proofs.Leaving.{leaves_unbegun, left_unsent, left_halted, left_stopped, left_lost, left_at_end}
 use Rattle.file_run.proofs.Running.{running_start, running_sent, running_event, event_may_come, halts_as, finds_as, ends_unsent, ends_lost, ends_at_end, ends_stopped, ends_halted, header_halted}
+use Rattle.file_run.proofs.Taking.{stands_after}
 use Rattle.file_run.proofs.Sending.{rose_since}
 use Rattle.file_run.proofs.run.run_over.Goals as goal
 
@@ -164,3 +165,13 @@ returns-in_default-event-clause-leaves g c =
     inr (left_at_end (g.M.Machine.reporting c.args.handed.now) (g.M.Machine.stands c.args.handed.now c.loop-output.machine c.loop-output.handed) (λ h log text. (v : g.row.M.Denot) × g.M.Machine.stands c.args.handed.now v c.loop-output.handed h log text) (g.M.Machine.closes c.args.handed.now c.loop-output.handed) _ c.is_full-full.result _ _ _ _ _ _ _ _ (c.close-ended.new.text ++ g.M.Machine.waits c.close-ended.new.self c.loop-output.handed) c.close-ended.result c.close_run.result sent
     (c.loop-output.machine, sent.stood) finds (c.is_full-full.ensures.full c.args.handed.now) (c.close-ended.ensures.closes c.args.handed.now sent.heading sent.log sent.text sent.count sent.stood)
     (c.close-ended.ensures.ends c.args.handed.now sent.heading sent.log sent.text sent.stood) c.close_run.ensures.writes)
+
+pub put_text-requires-clause-stands : goal.put_text-requires-clause-stands
+put_text-requires-clause-stands g c =
+    let k = c.loop-output.invariant.running in
+    (c.args.handed.now, stands_after _ _ c.in-Some.event.now _ _ k.heading k.log k.text (c.in_default-report.ensures.takes_event c.args.handed.now) (omega (arith, k.count)) k.stood)
+
+pub close_run-requires-clause-stands : goal.close_run-requires-clause-stands
+close_run-requires-clause-stands g c =
+    let k = c.loop-output.invariant.running in
+    (c.args.handed.now, (k.heading, k.log, k.text, c.close-ended.ensures.kept c.args.handed.now k.heading k.log k.text k.stood))
