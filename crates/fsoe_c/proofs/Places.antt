@@ -1,0 +1,81 @@
+-- What holds of a place, and of what is told of the end in it.
+use Rattle.std.proofs.Common.{◌≡◌, ℕ, List, [], Bool, Option, false, sym, subst, ◌∙◌, ap}
+use Rattle.std.specs.Prelude.{Some, None, is_some}
+use Rattle.std.proofs.lemmas.Bool.{false≢true}
+use Rattle.fsoe_base.specs.declared.did.Did.{Did}
+use Rattle.param_load.specs.declared.entry.Move.{Move}
+use Rattle.param_load.specs.declared.app_rule.AppRule.{AppRule}
+use Rattle.param_load.specs.declared.master_settings.MasterSettings.{MasterSettings}
+use Rattle.param_load.specs.declared.slave_settings.SlaveSettings.{SlaveSettings}
+use Rattle.slave_core.specs.SlaveView.{SlaveView}
+use Rattle.slave_core.specs.Standing as slave_core
+use Rattle.master_core.specs.MasterView.{MasterView}
+use Rattle.master_core.specs.Standing as master_core
+use Rattle.master_core.specs.Waiting.{Accepts}
+use Rattle.fsoe_c.specs.Place.{IfThere}
+use Rattle.fsoe_c.specs.Settings.{IsMasterSetBy, IsNewMaster, IsNewSlave, IsSlaveSetBy}
+use Rattle.fsoe_c.specs.Told.{AcceptsTelling, ShowsDid, frame_of, SlaveTells, MasterTells}
+use Rattle.fsoe_c.specs.declared.master_place.MasterPlace.{MasterPlace}
+use Rattle.fsoe_c.specs.declared.slave_place.SlavePlace.{SlavePlace}
+use Rattle.fsoe_c.specs.declared.settings.GpMasterSettings.{GpMasterSettings}
+use Rattle.fsoe_c.specs.declared.settings.GpSlaveSettings.{GpSlaveSettings}
+use Rattle.fsoe_c.specs.declared.told.GpDid.{GpDid}
+use Rattle.fsoe_c.specs.declared.told.GpFrame.{GpFrame}
+
+-- where no end is there, all holds of each
+pub vacuous : {V : Type 0} (live : Bool) (o : Option V) (P : V → Type 0) → live ≡ is_some o → live ≡ false → IfThere o P
+vacuous live o P sound dead v there = absurd (false≢true (sym dead ∙ sound ∙ ap is_some there))
+
+-- an end that is lent and left as it was leaves its place as it was
+pub same_slave : (old : SlavePlace) (x : SlaveView) → old.slave ≡ Some x → record old { slave = Some x } ≡ old
+same_slave old x there = ap (λ (v : Option SlaveView). record old { slave = v }) (sym there)
+
+pub same_master : (old : MasterPlace) (x : MasterView) → old.master ≡ Some x → record old { master = Some x } ≡ old
+same_master old x there = ap (λ (v : Option MasterView). record old { master = v }) (sym there)
+
+-- what shows what a slave did and sent tells its next deed
+pub slave_tells : (o : Option SlaveView) (v : SlaveView) (event : Move) (d : Did) (sent : List ℕ) (g : GpDid) (f : GpFrame)
+    → o ≡ Some v → IfThere o (λ old. slave_core.Answers old event d sent) → ShowsDid g d → frame_of f ≡ sent → SlaveTells v event g f
+slave_tells o v event d sent g f there answers shows is = record {
+  did = λ settings deeds after. subst (ShowsDid g) ((answers v there).did settings deeds after) shows;
+  sent = λ settings deeds after. is ∙ (answers v there).sent settings deeds after;
+}
+
+-- the same of a master
+pub master_tells : (o : Option MasterView) (v : MasterView) (event : Move) (d : Did) (sent : List ℕ) (g : GpDid) (f : GpFrame)
+    → o ≡ Some v → IfThere o (λ old. master_core.Answers old event d sent) → ShowsDid g d → frame_of f ≡ sent → MasterTells v event g f
+master_tells o v event d sent g f there answers shows is = record {
+  did = λ settings deeds after. subst (ShowsDid g) ((answers v there).did settings deeds after) shows;
+  sent = λ settings deeds after. is ∙ (answers v there).sent settings deeds after;
+}
+
+-- what a master did in accepting a frame is told
+pub master_accepts : (o : Option MasterView) (v new : MasterView) (bytes : List ℕ) (d : Did) (g : GpDid)
+    → o ≡ Some v → IfThere o (λ old. Accepts old bytes d new) → ShowsDid g d → AcceptsTelling v bytes g new
+master_accepts o v new bytes d g there accepts shows = record { did = d; told = shows; accepts = accepts v there }
+
+abbrev value_or : {X : Type 0} → Option X → X → X
+value_or (Some x) y = x
+value_or None y = y
+
+-- where one value stands in a place, it is the one that was moved in
+there_is : {X : Type 0} (o : Option X) (x v : X) → o ≡ Some x → o ≡ Some v → x ≡ v
+there_is {X = X} o x v made there = ap (λ (p : Option X). value_or p x) (sym made ∙ there)
+
+-- a slave that was made with these settings and moved in is new
+pub new_slave : (set : GpSlaveSettings) (rule : AppRule) (s : SlaveSettings) (o : Option SlaveView) (x v : SlaveView)
+    → IsSlaveSetBy set rule s → slave_core.SlaveIsAfter s x [] → o ≡ Some x → o ≡ Some v → IsNewSlave set rule v
+new_slave set rule s o x v set_by after made there = record {
+  settings = s;
+  set_by = set_by;
+  is_after = subst (λ (w : SlaveView). slave_core.SlaveIsAfter s w []) (there_is o x v made there) after;
+}
+
+-- the same of a master, whose application parameters are those that were handed in
+pub new_master : (set : GpMasterSettings) (app given : List ℕ) (s : MasterSettings) (o : Option MasterView) (x v : MasterView)
+    → app ≡ given → IsMasterSetBy set app s → master_core.MasterIsAfter s x [] → o ≡ Some x → o ≡ Some v → IsNewMaster set given v
+new_master set app given s o x v same set_by after made there = record {
+  settings = s;
+  set_by = subst (λ (bytes : List ℕ). IsMasterSetBy set bytes s) same set_by;
+  is_after = subst (λ (w : MasterView). master_core.MasterIsAfter s w []) (there_is o x v made there) after;
+}

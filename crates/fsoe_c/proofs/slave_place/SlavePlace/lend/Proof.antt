@@ -1,0 +1,91 @@
+-- `lend` lends the slave, and the place follows it.
+use Rattle.std.proofs.Common.{◌≡◌, ℕ, List, [], ◌∷◌, refl, sym, ap, ◌∙◌}
+use Rattle.std.specs.Prelude.{Option, Some, IsSome}
+use Rattle.std.proofs.raw_atomic.Walks.{proved}
+use base.Fraction.{full_share}
+use base.Logic.{ent, sep, id⊢}
+use base.Fml.{Fml, GName, ftrue, fsep, flft}
+use mir.Syntax.{named}
+use mir.Val.{Val, vptr}
+use contract.Monad.{fact}
+use contract.Running.{tables}
+use types.Logic.{Logic, sem}
+use types.Kit.{‵, raw, ◌⊛◌, some, later, at_ret, ◌$◌, ◌∵◌, !, qed, done, move, keep, use1, split, join, pick, await, split3, fsplit, fsplit3, fjoin, fpack, rewrite, suffices, frame, group}
+use types.Run.{enter, of_opd, addr, load, stop, fld, first, blocks, exec, returns}
+use types.ByLocal.{alloc_all, pass_all, free_all, look_at, get, through, sets, sets_last, env}
+use types.Part.{whole, sub, look_in}
+use denote.Exit.{no}
+use denote.Follow.{follows, Part, lends_Part}
+use denote.Laws.{shows}
+use denote.Memory.{cell_at, mem, part_at, part_of}
+use denote.RawPtr.{Ptr, block_ptr, lies_at, in_a_block}
+use denote.Ref.{MutRef, mut_vals, mut_Tells}
+use denote.Signature.{plain, mut_ref_to}
+use denote.Steps.{nothing, opens, peeks, heard}
+use denote.Struct.Owning.{shape}
+use denote.Struct.Struct.{Struct}
+use denote.Triple.Walked.{Stays, walk_of, stay_dropped, Goes-spent_ref, ends_at, says}
+use Rattle.std.proofs.VecSteps.Shapes.{after}
+use Rattle.slave_core.specs.contracts.slave.Slave.{the_row as F}
+use Rattle.fsoe_c.specs.Place.{place_owns}
+use Rattle.fsoe_c.specs.declared.slave_place.SlavePlace.{SlavePlace}
+use Rattle.fsoe_c.proofs.Steps.{found}
+use Rattle.fsoe_c.specs.contracts.slave_place.SlavePlace.lend as f
+use Rattle.fsoe_c.proofs.slave_place.SlavePlace.lend.Statement.{statement}
+use Rattle.fsoe_c.proofs.slave_place.SlavePlace.lend.Code as code
+use Rattle.fsoe_c.specs.contracts.slave_place.SlavePlace.{the_row as R, the_type as R-type}
+use Rattle.fsoe_c.proofs.slave_place.SlavePlace.TheLaws.{lowers}
+use seplogic.Ra.Ura.{Ura}
+
+abbrev stayed : Stays f.ended.signature.params f.ended.kept
+stayed = (stay_dropped (mut_ref_to (0 ∷ []) tt (plain (λ _. R))) no, tt)
+
+abbrev with : SlavePlace → F.Denot → R.Denot
+with h w = record h { slave = Some w }
+
+-- all of the place but its slave: what its fields own, and its own cell
+abbrev Rest : SlavePlace → List Val → ℕ → ℕ → Fml
+Rest h us b o = fsep ((Struct (shape R-type)).own_val (h.at, tt) us) (cell_at full_share R.mir us b o)
+
+module _ {M : Type 1} {𝓤 : Ura M} (𝓛 : Logic 𝓤) (h : SlavePlace) (us : List Val) (b o b' o' : ℕ) where
+  back : h.at ≡ block_ptr b' o' → (w : F.Denot) → ent 𝓤 (sep 𝓤 (sem 𝓛 ((mem F).own_at w b' o')) (sem 𝓛 (Rest h us b o))) (sem 𝓛 ((mem R).own_at (with h w) b o))
+  unfolding part_of
+  back e w =
+      qed 𝓛 (‵ (part_at F full_share w b' o') ∷ ‵ (Rest h us b o) ∷ []) ∵ move ! (1 ∷ []) $ fsplit ! $
+      rewrite ! 2 (λ (p : Ptr). ‵ (lies_at F full_share p w)) (sym e) refl $ move ! (0 ∷ 2 ∷ []) $ fjoin ! $ move ! (1 ∷ 0 ∷ []) $ fjoin ! $
+      fpack ! (List Val) (λ us. fsep (cell_at full_share R.mir us b o) (R.own_val (with h w) us)) us $ done !
+
+pub lend_spec : {M : Type 1} → statement M
+lend_spec 𝓤 𝓛 𝓜 𝓡 wired =
+    let c = f.clauses 𝓛 𝓜.mem 𝓡.returns in let W = walk_of 𝓛 f.ended stayed c in let 𝓣 = tables 𝓤 𝓛.H 𝓜 𝓡 𝓡.env in
+    proved 𝓛 f.ended stayed c 𝓜 𝓡 (Goes-spent_ref 𝓛 1 (0 ∷ []) tt (plain (λ _. R)), tt)
+    f.Key.name code.function (code.unfolded 𝓤 𝓛.H 𝓜 𝓡 wired)
+    (λ κs. (mut_vals, tt)) (λ κs. (mut_Tells (named 0) κs.0 R, tt)) (λ κs qs bounds a _ are.
+    let b = a.0.ref_ptr.0 in let o = a.0.ref_ptr.1 in let h = a.0.now in let vs = mut_vals a.0 in
+    let y : W.Ghost = ((κs, qs, bounds, a, (vs, tt)), tt) in
+    qed 𝓛 (((‵ (flft κs.0 qs.0) ⊛ ‵ ftrue) ⊛ ‵ ((MutRef (named 0) κs.0 R).own_val a.0 vs) ⊛ ‵ ftrue) ∷ raw (fact 𝓤 (IsSome h.slave)) ∷ []) ∵
+    move ! (1 ∷ []) $ heard ! _ (λ is_there. let there = found h.slave is_there in let x = there.value in
+    split ! $ split ! $ move ! (2 ∷ []) $ split ! $ keep ! (0 ∷ 2 ∷ []) $
+    enter ! _ _ _ _ _ $ alloc_all ! (λ l. pass_all ! refl ((tt, tt), tt) $
+    fsplit3 ! $ move ! (1 ∷ 2 ∷ 3 ∷ []) $ opens ! tt R b o (λ us.
+    move ! (1 ∷ []) $ peeks ! R _ (shows 𝓛 R) h us (λ is. fsplit ! $ move ! (1 ∷ []) $
+    rewrite ! 0 (λ (v : Option F.Denot). ‵ (place_owns F h.at v)) there.is refl $
+    in_a_block ! h.at (λ p. lies_at F full_share p x) (id⊢ 𝓤 _) (λ b' o' e.
+    let word = lowers.val_is h us is ∙ ap (λ (q : Ptr). lowers.lowered (record h { at = q }) ∷ []) e in
+    let Cell = λ (ws : List Val). ‵ (cell_at full_share R.mir ws b o) in
+    rewrite ! 2 Cell word refl $
+    -- [the slave; what the fields own; the struct's cell; the open borrow, in three entries]
+    first ! $ blocks ! $
+    sets ! (of_opd ! (load ! (through ! refl (fld ! refl (stop !))) (look_in ! 2 (sub ! 0 refl (whole !))))) refl (tt, tt) $
+    sets ! (of_opd ! (get ! refl)) refl (tt, tt) $
+    sets_last ! (addr ! (through ! refl (stop !))) refl (tt, tt) $
+    exec ! 𝓣.C 𝓣.Λ (env code.Mir.locals l) (after 1 (code.function).body) (at_ret _ (W.post y)) $
+    sets ! (of_opd ! (get ! refl)) refl (tt, tt) $
+    rewrite ! 2 Cell (sym word) refl $ move ! (1 ∷ 2 ∷ []) $ fjoin ! $ move ! (2 ∷ 3 ∷ 4 ∷ 1 ∷ 0 ∷ []) $ group ! 5 $
+    let Lent = Part 𝓛 R F (with h) (named 0) κs.0 qs.0 b o b' o' a.0.ghost_name (sem 𝓛 (Rest h us b o)) (back 𝓛 h us b o b' o' e) x in
+    use1 𝓛 (later (some (λ (γ : GName). raw (Lent γ))))
+    (lends_Part 𝓛 R F (with h) (named 0) κs.0 qs.0 b o b' o' a.0.ghost_name (sem 𝓛 (Rest h us b o)) (back 𝓛 h us b o b' o' e) (R.coded.code h) (R.coded.code h) x) $ await ! tt $ pick ! (λ γ.
+    returns ! (look_at ! 0 refl) $ free_all ! refl $ keep ! (0 ∷ []) $
+    use1 𝓛 (‵ ((MutRef (named 0) κs.0 F).own_val (record { ref_ptr = (b', o'); ghost_name = γ; now = x }) (vptr b' o' ∷ [])) ⊛ ‵ (flft κs.0 qs.0) ⊛ ‵ (follows R F a.0.ghost_name γ (with h))) (id⊢ 𝓤 _) $ split3 ! $
+    suffices ! _ (ends_at 𝓛 f.ended stayed c y (vptr b' o') (record { ref_ptr = (b', o'); ghost_name = γ; now = x }) (tt, tt) (tt, tt)) $
+    nothing ! $ nothing ! $ fjoin ! $ join ! $ nothing ! $ move ! (2 ∷ 0 ∷ []) $ join ! $ join ! $ frame ! $ says ! there.is $ done !)))))))

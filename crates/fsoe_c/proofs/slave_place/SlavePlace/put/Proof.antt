@@ -1,0 +1,77 @@
+-- `put` moves a value into its place.
+use Rattle.std.proofs.Common.{◌≡◌, List, [], ◌∷◌, ◌++◌, refl, sym, ap, ◌∙◌, subst}
+use Rattle.std.specs.Prelude.{Option, Some, None}
+use Rattle.std.proofs.raw_atomic.Walks.{proved_at}
+use Rattle.std.proofs.alloc.Calls.{Al, handle_tells}
+use base.Fraction.{full_share}
+use base.Logic.{SProp, ent, id⊢}
+use base.Fml.{ftrue, flft}
+use mir.Syntax.{named, impl, tnil, dnil}
+use mir.Val.{Val, vunit}
+use contract.Monad.{fact}
+use contract.Running.{tables}
+use prog.Wp.{WpFn}
+use types.Kit.{‵, raw, ◌⊛◌, at_ret, ◌$◌, ◌∵◌, !, qed, done, move, keep, use2, split, split3, join, fsplit, fsplit3, fjoin, feq_i, rewrite, suffices, frame, group}
+use types.Run.{enter, of_opd, unit_lit, load, init, stop, fld, assigns_last, first, blocks, exec, returns}
+use types.ByLocal.{alloc_all, pass_all, free_all, look_at, get, through, sets, env}
+use types.Part.{whole, sub, look_in}
+use borrow.Table.OneValue.{part_in}
+use denote.Exit.{yes}
+use denote.Laws.{shows}
+use denote.Memory.{cell_at, part_at}
+use denote.RawPtr.{Ptr, lies_at, room_at, in_a_block}
+use denote.Ref.{MutRef, mut_vals, mut_Tells}
+use denote.Signature.{plain}
+use denote.Steps.{nothing, opens, closes, peeks, heard}
+use denote.Triple.Walked.{Stays, walk_of, stay_ref, stay_dropped, Goes-ref, Goes-dropped, ends_at, says}
+use Rattle.std.proofs.VecSteps.Shapes.{after}
+use Rattle.slave_core.specs.contracts.slave.Slave.{the_row as F}
+use Rattle.slave_core.proofs.slave.Slave.TheLaws.{the_row_laws as F-laws}
+use Rattle.fsoe_c.specs.Place.{place_owns}
+use Rattle.fsoe_c.specs.contracts.slave_place.SlavePlace.put as f
+use Rattle.fsoe_c.proofs.slave_place.SlavePlace.put.Statement.{statement}
+use Rattle.fsoe_c.proofs.slave_place.SlavePlace.put.Code as code
+use Rattle.fsoe_c.specs.contracts.slave_place.SlavePlace.{the_row as R}
+use Rattle.fsoe_c.proofs.slave_place.SlavePlace.TheLaws.{lowers}
+
+abbrev stayed : Stays f.ended.signature.params f.ended.kept
+stayed = (stay_ref (0 ∷ []) tt (plain (λ _. R)), (stay_dropped (plain (λ _. F)) yes, tt))
+
+-- the value's type, in the form of an allocator's handle, which says that a value has one machine value
+abbrev value : Al
+value = record { row = F; laws = F-laws; g = record { dealloc_token = λ a σ p. ftrue }; d = impl [] tnil dnil; drops = impl [] tnil dnil }
+
+pub put_spec : {M : Type 1} → statement M
+put_spec 𝓤 𝓛 𝓜 𝓡 wired =
+    let c = f.clauses 𝓛 𝓜.mem 𝓡.returns in let W = walk_of 𝓛 f.ended stayed c in let 𝓣 = tables 𝓤 𝓛.H 𝓜 𝓡 𝓡.env in
+    proved_at 𝓛 f.ended stayed c 𝓜 𝓡 (Goes-ref 𝓛 1 0 tt (plain (λ _. R)), (Goes-dropped 𝓛 1 (plain (λ _. F)) yes (λ κs x w. refl), tt))
+    f.Key.name code.function (code.unfolded 𝓤 𝓛.H 𝓜 𝓡 wired) (λ z are.
+    let κs = z.0.0 in let qs = z.0.1 in let a = z.0.3.0 in let x = z.0.3.1.0 in let b = a.ref_ptr.0 in let o = a.ref_ptr.1 in let h = a.now in
+    let Run : List Val → SProp 𝓤 = λ ws. WpFn 𝓤 𝓛.H 𝓣.C 𝓣.Λ code.function ws (W.post z) in
+    qed 𝓛 (((‵ (flft κs.0 qs.0) ⊛ ‵ ftrue) ⊛ ‵ ((MutRef (named 0) κs.0 R).own_val a z.0.4.0) ⊛ ‵ (F.own_val x z.0.4.1.0) ⊛ ‵ ftrue) ∷ raw (fact 𝓤 (h.slave ≡ None)) ∷ []) ∵
+    move ! (1 ∷ []) $ heard ! _ (λ empty. split ! $ split ! $ move ! (2 ∷ []) $ split3 ! $ keep ! (1 ∷ 0 ∷ 3 ∷ []) $
+    handle_tells value ! x z.0.4.1.0 (λ v is_one fits.
+    suffices ! (Run (mut_vals a ++ (v ∷ []))) (subst (λ (us : List Val). ent 𝓤 (Run (mut_vals a ++ (v ∷ []))) (Run us)) (λ i. sym (mut_Tells (named 0) κs.0 R a z.0.4.0 are.0) i ++ (sym is_one i ++ [])) (id⊢ 𝓤 (Run (mut_vals a ++ (v ∷ []))))) $
+    enter ! _ _ _ _ _ $ alloc_all ! (λ l. pass_all ! refl ((tt, tt), (fits, tt)) $
+    move ! (1 ∷ []) $ fsplit3 ! $ move ! (1 ∷ 2 ∷ 4 ∷ []) $ opens ! tt R b o (λ us.
+    move ! (1 ∷ []) $ peeks ! R _ (shows 𝓛 R) h us (λ is. fsplit ! $ move ! (1 ∷ []) $
+    rewrite ! 0 (λ (w : Option F.Denot). ‵ (place_owns F h.at w)) empty refl $
+    in_a_block ! h.at (λ p. room_at F p) (id⊢ 𝓤 _) (λ b' o' e.
+    let word = lowers.val_is h us is ∙ ap (λ (q : Ptr). lowers.lowered (record h { at = q }) ∷ []) e in
+    let Cell = λ (ws : List Val). ‵ (cell_at full_share R.mir ws b o) in
+    rewrite ! 2 Cell word refl $
+    -- [the room; what the fields own; the struct's cell; the open borrow, in three entries; self's first part; what x owns]
+    first ! $ blocks ! $
+    sets ! (of_opd ! (load ! (through ! refl (fld ! refl (stop !))) (look_in ! 2 (sub ! 0 refl (whole !))))) refl (tt, tt) $
+    sets ! (of_opd ! (get ! refl)) refl (tt, tt) $
+    assigns_last ! (of_opd ! (get ! refl)) (through ! refl (stop !)) (init ! 0 refl fits) $
+    exec ! 𝓣.C 𝓣.Λ (env code.Mir.locals l) (after 1 (code.function).body) (at_ret _ (W.post z)) $
+    sets ! (of_opd ! (unit_lit !)) refl (tt, tt) $
+    move ! (0 ∷ 7 ∷ []) $ use2 𝓛 (‵ (part_at F full_share x b' o')) (part_in 𝓛 F refl full_share x b' o' v) $
+    rewrite ! 0 (λ (q : Ptr). ‵ (lies_at F full_share q x)) (sym e) refl $ rewrite ! 2 Cell (sym word) refl $
+    move ! (1 ∷ []) $ fjoin ! $ move ! (1 ∷ []) $ closes ! tt R (record h { slave = Some x }) us b o $
+    -- [two parts of self; the token; self's first part]
+    returns ! (look_at ! 0 refl) $ free_all ! refl $ move ! (3 ∷ []) $
+    suffices ! _ (ends_at 𝓛 f.ended stayed c z vunit tt (record h { slave = Some x }, (tt, tt)) (tt, (tt, tt))) $ says ! refl $
+    group ! 3 $ nothing ! $ nothing ! $ join ! $ move ! (1 ∷ 0 ∷ []) $ join ! $ nothing ! $ move ! (2 ∷ 0 ∷ []) $ join ! $ frame ! $ frame ! $
+    feq_i ! _ (vunit ∷ []) _ refl $ done !)))))))

@@ -1,0 +1,76 @@
+-- `take` moves the value out of its place.
+use Rattle.std.proofs.Common.{List, [], ◌∷◌, refl, sym, ap, ◌∙◌}
+use Rattle.std.specs.Prelude.{Option, None, IsSome}
+use Rattle.std.proofs.raw_atomic.Walks.{proved}
+use base.Fraction.{full_share}
+use base.Logic.{id⊢}
+use base.Fml.{ftrue, fat, flft, froom}
+use mir.Syntax.{Ty, named}
+use mir.Val.{Val}
+use contract.Monad.{fact}
+use contract.Running.{tables}
+use types.Kit.{‵, raw, ◌⊛◌, some, at_ret, ◌$◌, ◌∵◌, !, qed, done, move, keep, use1, split, join, pick, fsplit, fsplit3, fjoin, rewrite, suffices, frame, group}
+use types.Run.{enter, of_opd, load, look, stop, fld, first, blocks, exec, returns}
+use types.ByLocal.{alloc_all, pass_all, free_all, look_at, get, through, sets, sets_last, env}
+use types.Part.{whole, sub, look_in}
+use borrow.Table.OneValue.{part_out}
+use denote.Laws.{Is, shows}
+use denote.Memory.{cell_at, lone}
+use denote.RawPtr.{Ptr, lies_at, room_at, in_a_block}
+use denote.Ref.{MutRef, mut_vals, mut_Tells}
+use denote.Signature.{plain}
+use denote.Steps.{nothing, opens, closes, peeks, heard}
+use denote.Triple.Walked.{Stays, walk_of, stay_ref, Goes-ref, ends_at, says}
+use Rattle.std.proofs.VecSteps.Shapes.{after}
+use Rattle.slave_core.specs.contracts.slave.Slave.{the_row as F}
+use Rattle.slave_core.proofs.slave.Slave.TheLaws.{the_row_laws as F-laws}
+use Rattle.fsoe_c.specs.Place.{place_owns}
+use Rattle.fsoe_c.proofs.Steps.{found}
+use Rattle.fsoe_c.specs.contracts.slave_place.SlavePlace.take as f
+use Rattle.fsoe_c.proofs.slave_place.SlavePlace.take.Statement.{statement}
+use Rattle.fsoe_c.proofs.slave_place.SlavePlace.take.Code as code
+use Rattle.fsoe_c.specs.contracts.slave_place.SlavePlace.{the_row as R}
+use Rattle.fsoe_c.proofs.slave_place.SlavePlace.TheLaws.{lowers}
+
+abbrev stayed : Stays f.ended.signature.params f.ended.kept
+stayed = (stay_ref (0 ∷ []) tt (plain (λ _. R)), tt)
+
+abbrev τ : Ty
+τ = lone F.mir
+
+pub take_spec : {M : Type 1} → statement M
+take_spec 𝓤 𝓛 𝓜 𝓡 wired =
+    let c = f.clauses 𝓛 𝓜.mem 𝓡.returns in let W = walk_of 𝓛 f.ended stayed c in let 𝓣 = tables 𝓤 𝓛.H 𝓜 𝓡 𝓡.env in
+    proved 𝓛 f.ended stayed c 𝓜 𝓡 (Goes-ref 𝓛 1 0 tt (plain (λ _. R)), tt)
+    f.Key.name code.function (code.unfolded 𝓤 𝓛.H 𝓜 𝓡 wired)
+    (λ κs. (mut_vals, tt)) (λ κs. (mut_Tells (named 0) κs.0 R, tt)) (λ κs qs bounds a _ are.
+    let b = a.0.ref_ptr.0 in let o = a.0.ref_ptr.1 in let h = a.0.now in let vs = mut_vals a.0 in
+    let y : W.Ghost = ((κs, qs, bounds, a, (vs, tt)), tt) in
+    qed 𝓛 (((‵ (flft κs.0 qs.0) ⊛ ‵ ftrue) ⊛ ‵ ((MutRef (named 0) κs.0 R).own_val a.0 vs) ⊛ ‵ ftrue) ∷ raw (fact 𝓤 (IsSome h.slave)) ∷ []) ∵
+    move ! (1 ∷ []) $ heard ! _ (λ is_there. let there = found h.slave is_there in let x = there.value in
+    split ! $ split ! $ move ! (2 ∷ []) $ split ! $ keep ! (0 ∷ 2 ∷ []) $
+    enter ! _ _ _ _ _ $ alloc_all ! (λ l. pass_all ! refl ((tt, tt), tt) $
+    fsplit3 ! $ move ! (1 ∷ 2 ∷ 3 ∷ []) $ opens ! tt R b o (λ us.
+    move ! (1 ∷ []) $ peeks ! R _ (shows 𝓛 R) h us (λ is. fsplit ! $ move ! (1 ∷ []) $
+    rewrite ! 0 (λ (v : Option F.Denot). ‵ (place_owns F h.at v)) there.is refl $
+    in_a_block ! h.at (λ p. lies_at F full_share p x) (id⊢ 𝓤 _) (λ b' o' e.
+    use1 𝓛 (some (λ (v : Val). ‵ (fat full_share τ b' o' v) ⊛ ‵ (F.own_val x (v ∷ [])))) (part_out 𝓛 F refl full_share x b' o') $ pick ! (λ v. split ! $ move ! (1 ∷ []) $
+    peeks ! F (Is F) (shows 𝓛 F) x (v ∷ []) (λ p. move ! (1 ∷ []) $
+    let good = ((F-laws.lawful 𝓛).typed x (v ∷ []) p).0 in
+    let word = lowers.val_is h us is ∙ ap (λ (q : Ptr). lowers.lowered (record h { at = q }) ∷ []) e in
+    let Cell = λ (ws : List Val). ‵ (cell_at full_share R.mir ws b o) in
+    rewrite ! 3 Cell word refl $
+    -- [the value's cell; what the value owns; what the fields own; the struct's cell; the open borrow, in three entries]
+    first ! $ blocks ! $
+    sets ! (of_opd ! (load ! (through ! refl (fld ! refl (stop !))) (look_in ! 3 (sub ! 0 refl (whole !))))) refl (tt, tt) $
+    sets ! (of_opd ! (get ! refl)) refl (tt, tt) $
+    sets_last ! (of_opd ! (load ! (through ! refl (stop !)) (look ! 0 refl))) refl good $
+    exec ! 𝓣.C 𝓣.Λ (env code.Mir.locals l) (after 1 (code.function).body) (at_ret _ (W.post y)) $
+    sets ! (of_opd ! (get ! refl)) refl good $
+    use1 𝓛 (‵ (froom τ b' o')) (𝓛.laws.at_room τ b' o' v) $
+    rewrite ! 0 (λ (q : Ptr). ‵ (room_at F q)) (sym e) refl $ rewrite ! 3 Cell (sym word) refl $
+    move ! (2 ∷ 0 ∷ []) $ fjoin ! $ move ! (2 ∷ 0 ∷ 3 ∷ 4 ∷ 5 ∷ []) $ closes ! tt R (record h { slave = None }) us b o $
+    -- [two parts of self; the token; what the value owns; self's first part]
+    returns ! (look_at ! 0 refl) $ free_all ! refl $ move ! (4 ∷ []) $
+    suffices ! _ (ends_at 𝓛 f.ended stayed c y v x (record h { slave = None }, tt) (tt, tt)) $ says ! (there.is, refl) $
+    group ! 3 $ nothing ! $ move ! (1 ∷ 0 ∷ []) $ join ! $ nothing ! $ move ! (2 ∷ 0 ∷ []) $ join ! $ frame ! $ frame ! $ done !))))))))

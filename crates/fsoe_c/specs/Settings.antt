@@ -1,0 +1,92 @@
+-- What C code sets an end to, and the number by which settings are refused.
+use Rattle.std.specs.Prelude.{◌≡◌, ℕ, ◌==◌, ◌&&◌, if◌then◌else◌, nat_le, List, []}
+use Rattle.fsoe_base.specs.Lengths.{is_length}
+use Rattle.param_load.specs.AppRule.{is_acceptable}
+use Rattle.param_load.specs.declared.app_rule.AppRule.{AppRule}
+use Rattle.param_load.specs.declared.bad_setting.BadSetting.{BadSetting}
+use Rattle.param_load.specs.declared.bad_setting.BadSetting.TheVariants as bad
+use Rattle.param_load.specs.declared.master_settings.MasterSettings.{MasterSettings}
+use Rattle.param_load.specs.declared.profile.Profile.{Profile}
+use Rattle.param_load.specs.declared.profile.Profile.TheVariants as profile
+use Rattle.param_load.specs.declared.slave_settings.SlaveSettings.{SlaveSettings}
+use Rattle.master_core.specs.MasterView.{MasterView}
+use Rattle.master_core.specs.Standing.{MasterIsAfter}
+use Rattle.slave_core.specs.SlaveView.{SlaveView}
+use Rattle.slave_core.specs.Standing.{SlaveIsAfter}
+use Rattle.fsoe_c.specs.declared.settings.GpMasterSettings.{GpMasterSettings}
+use Rattle.fsoe_c.specs.declared.settings.GpSlaveSettings.{GpSlaveSettings}
+
+-- the number of each refusal of settings
+abbrev pub bad_number : BadSetting → ℕ
+bad_number bad.Conn = 6
+bad_number bad.Watchdog = 7
+bad_number bad.Hand = 8
+bad_number bad.Most = 9
+bad_number bad.Rule = 10
+
+-- the profile of this number, with this word in profile Two
+abbrev pub profile_of : ℕ → ℕ → Profile
+profile_of number word = if number == 1 then profile.One else profile.Two word
+
+-- lengths, a profile or a session id are refused by this number, or not, by 0: the first fault counts
+abbrev pub common_refusal : (master_len slave_len profile nonce : ℕ) → ℕ
+common_refusal master_len slave_len profile nonce =
+    if is_length master_len && is_length slave_len then
+    if profile == 1 then
+    if nat_le nonce 65535 then 0 else 5
+    else if profile == 2 then 0 else 4
+    else 3
+
+-- limits or a rule are refused by this number, or not, by 0
+abbrev pub limits_refusal : (hand most : ℕ) → AppRule → ℕ
+limits_refusal hand most rule = if hand == 0 then 8 else if most == 0 then 9 else if is_acceptable rule then 0 else 10
+
+-- a connection id or a watchdog is refused by this number, or not, by 0
+abbrev pub connection_refusal : (conn watchdog : ℕ) → ℕ
+connection_refusal conn watchdog = if conn == 0 then 6 else if watchdog == 0 then 7 else 0
+
+-- the first of two refusals that is one
+abbrev pub first_refusal : ℕ → ℕ → ℕ
+first_refusal first second = if first == 0 then second else first
+
+-- settings of a slave are refused by this number, or not, by 0
+abbrev pub slave_refusal : GpSlaveSettings → AppRule → ℕ
+slave_refusal set rule = first_refusal (common_refusal set.master_len set.slave_len set.profile set.nonce) (limits_refusal set.hand set.most rule)
+
+-- settings of a master are refused by this number, or not, by 0
+abbrev pub master_refusal : GpMasterSettings → ℕ
+master_refusal set = first_refusal (common_refusal set.master_len set.slave_len set.profile set.nonce) (connection_refusal set.conn set.watchdog)
+
+-- settings of a slave with what C code gave
+pub record IsSlaveSetBy (set : GpSlaveSettings) (rule : AppRule) (s : SlaveSettings) : Type 0 where
+  pub master_len : s.lengths.master ≡ set.master_len
+  pub slave_len : s.lengths.slave ≡ set.slave_len
+  pub address : s.address ≡ set.address
+  pub hand : s.hand ≡ set.hand
+  pub most : s.most ≡ set.most
+  pub rule_is : s.rule ≡ rule
+  pub nonce : s.nonce ≡ set.nonce
+  pub profile_is : s.profile ≡ profile_of set.profile set.word
+
+-- settings of a master with what C code gave
+pub record IsMasterSetBy (set : GpMasterSettings) (app : List ℕ) (s : MasterSettings) : Type 0 where
+  pub master_len : s.lengths.master ≡ set.master_len
+  pub slave_len : s.lengths.slave ≡ set.slave_len
+  pub conn : s.conn ≡ set.conn
+  pub address : s.address ≡ set.address
+  pub watchdog : s.watchdog ≡ set.watchdog
+  pub app_is : s.app ≡ app
+  pub nonce : s.nonce ≡ set.nonce
+  pub profile_is : s.profile ≡ profile_of set.profile set.word
+
+-- a new slave that is set so
+pub record IsNewSlave (set : GpSlaveSettings) (rule : AppRule) (slave : SlaveView) : Type 0 where
+  pub settings : SlaveSettings
+  pub set_by : IsSlaveSetBy set rule settings
+  pub is_after : SlaveIsAfter settings slave []
+
+-- a new master that is set so
+pub record IsNewMaster (set : GpMasterSettings) (app : List ℕ) (master : MasterView) : Type 0 where
+  pub settings : MasterSettings
+  pub set_by : IsMasterSetBy set app settings
+  pub is_after : MasterIsAfter settings master []

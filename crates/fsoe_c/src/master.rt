@@ -1,0 +1,337 @@
+//! The calls that C code makes of a master.
+ghost use Rattle.std.specs.Prelude.{◌≡◌, ◌≢◌, ◌<◌, ◌≤◌, ◌==◌, ◌||◌, IsTrue, true, false, drop, length};
+ghost use Rattle.param_load.specs.Profile.{allows_id};
+ghost use Rattle.param_load.specs.declared.entry.Move.TheVariants as event;
+ghost use Rattle.end_model.specs.Setup.{OfMaster, sends};
+ghost use Rattle.master_core.specs.Now.{is_due};
+ghost use Rattle.master_core.specs.Standing.{Follows};
+ghost use Rattle.master_core.specs.Waiting.{Keeps, Replies};
+ghost use Rattle.fsoe_c.specs.Handle.{HasDue, IsAtRest, IsSoundMaster};
+ghost use Rattle.fsoe_c.specs.Numbers.{flag};
+ghost use Rattle.fsoe_c.specs.Place.{Between, IfThere};
+ghost use Rattle.fsoe_c.specs.Settings.{IsNewMaster, master_refusal};
+ghost use Rattle.fsoe_c.specs.Told.{AcceptsTelling, MasterTells, frame_of, leads_on};
+
+use crate::master_calls as calls;
+use crate::master_place::MasterPlace;
+use crate::numbers::{BAD_APP, BAD_LENGTH, BAD_NONCE, BUSY, FRAME_DUE, NO_END, NONE_DUE, OK, flag};
+use crate::settings::{GpMasterSettings, app_of, master_settings};
+use crate::told::{GpDid, GpFrame};
+use fsoe_base::{Did, FrameBuf};
+use master_core::Master;
+use std::mem::{align_of, size_of};
+
+/// The handle of a master: where its memory lies, and whether a master is there.
+#[repr(C)]
+pub struct GpMaster {
+    pub place: MasterPlace,
+    pub live: bool,
+}
+
+/// The bytes of memory that a master takes.
+#[unsafe(no_mangle)]
+pub extern "C" fn gp_master_size() -> usize {
+    size_of::<Master>()
+}
+
+/// The alignment of that memory.
+#[unsafe(no_mangle)]
+pub extern "C" fn gp_master_align() -> usize {
+    align_of::<Master>()
+}
+
+/// Makes a master with these application parameters, which it sends to its slave.
+#[unsafe(no_mangle)]
+pub extern "C" fn gp_master_init(master: &mut GpMaster, set: &GpMasterSettings, app: &[u8]) -> u8
+    requires { IsSoundMaster master.old }
+    ensures sound { IsSoundMaster master.new }
+    ensures busy { master.old.live ≡ true → result ≡ BUSY }
+    ensures long { master.old.live ≡ false → 512 < length app.now → result ≡ BAD_APP }
+    ensures refusal { master.old.live ≡ false → length app.now ≤ 512 → result ≡ master_refusal set.now }
+    ensures live { result ≡ OK → master.new.live ≡ true }
+    ensures made { result ≡ OK → IfThere master.new.place.master (IsNewMaster set.now app.now) }
+    ensures rest { result ≡ OK → IsAtRest master.new.place.master }
+    ensures refused { result ≢ OK → master.new ≡ master.old }
+{
+    if master.live {
+        return BUSY;
+    }
+    let Some(app) = app_of(app) else {
+        return BAD_APP;
+    };
+    match master_settings(set, app) {
+        Ok(settings) => {
+            master.place.put(Master::new(settings));
+            master.live = true;
+            OK
+        }
+        Err(number) => number,
+    }
+}
+
+/// Lets the master go. The memory is the caller's again.
+#[unsafe(no_mangle)]
+pub extern "C" fn gp_master_end(master: &mut GpMaster) -> u8
+    requires { IsSoundMaster master.old }
+    ensures sound { IsSoundMaster master.new }
+    ensures over { master.new.live ≡ false }
+    ensures done { master.old.live ≡ true → result ≡ OK }
+    ensures none { master.old.live ≡ false → result ≡ NO_END }
+    ensures refused { result ≢ OK → master.new ≡ master.old }
+{
+    if !master.live {
+        return NO_END;
+    }
+    let _master = master.place.take();
+    master.live = false;
+    OK
+}
+
+/// Hands over a frame of the slave, of any number of bytes. `did` says what was done, and `out` is the frame to send, of no bytes
+/// where none is.
+#[unsafe(no_mangle)]
+#[tactic(auto, using(crate::proofs::Places::vacuous))]
+pub extern "C" fn gp_master_deliver(
+    master: &mut GpMaster,
+    frame: &[u8],
+    out: &mut GpFrame,
+    did: &mut GpDid,
+) -> u8
+    requires { IsSoundMaster master.old }
+    ensures sound { IsSoundMaster master.new }
+    ensures same { master.new.live ≡ master.old.live }
+    ensures none { master.old.live ≡ false → result ≡ NO_END }
+    ensures either { master.old.live ≡ true → IsTrue (result == OK || result == FRAME_DUE) }
+    ensures due { result ≡ FRAME_DUE → HasDue master.old.place.master }
+    ensures rested { result ≡ OK → IsAtRest master.old.place.master }
+    ensures rest { result ≡ OK → IsAtRest master.new.place.master }
+    ensures follows { result ≡ OK → Between master.old.place.master master.new.place.master (λ old new. Follows old (event.Deliver frame.now) new) }
+    ensures tells { result ≡ OK → IfThere master.old.place.master (λ old. MasterTells old (event.Deliver frame.now) did.new out.new) }
+    ensures past_out { drop out.new.len out.new.bytes ≡ drop out.new.len out.old.bytes }
+    ensures past_load { drop did.new.load_len did.new.load ≡ drop did.new.load_len did.old.load }
+    ensures refused { result ≢ OK → (master.new ≡ master.old) × (out.new ≡ out.old) × (did.new ≡ did.old) }
+{
+    if !master.live {
+        return NO_END;
+    }
+    if calls::due(&mut master.place) {
+        return FRAME_DUE;
+    }
+    let mut sent = FrameBuf::new();
+    let mut done = Did::nothing();
+    calls::deliver(&mut master.place, frame, &mut done, &mut sent);
+    out.set(&sent);
+    did.set(&done);
+    OK
+}
+
+/// Accepts a frame of the slave, of any number of bytes, in the first half of a delivery: where a frame is due then, `reply` writes it.
+/// `did` says what was done.
+#[unsafe(no_mangle)]
+#[tactic(auto, using(crate::proofs::Places::vacuous, crate::proofs::Places::master_accepts))]
+pub extern "C" fn gp_master_accept(master: &mut GpMaster, frame: &[u8], did: &mut GpDid) -> u8
+    requires { IsSoundMaster master.old }
+    ensures sound { IsSoundMaster master.new }
+    ensures same { master.new.live ≡ master.old.live }
+    ensures none { master.old.live ≡ false → result ≡ NO_END }
+    ensures either { master.old.live ≡ true → IsTrue (result == OK || result == FRAME_DUE) }
+    ensures due { result ≡ FRAME_DUE → HasDue master.old.place.master }
+    ensures rested { result ≡ OK → IsAtRest master.old.place.master }
+    ensures accepts { result ≡ OK → Between master.old.place.master master.new.place.master (λ old new. AcceptsTelling old frame.now did.new new) }
+    ensures due_told { result ≡ OK → IfThere master.new.place.master (λ new. is_due new.state ≡ leads_on did.new) }
+    ensures unsent { result ≡ OK → did.new.sent ≡ 0 }
+    ensures past_load { drop did.new.load_len did.new.load ≡ drop did.new.load_len did.old.load }
+    ensures refused { result ≢ OK → (master.new ≡ master.old) × (did.new ≡ did.old) }
+{
+    if !master.live {
+        return NO_END;
+    }
+    if calls::due(&mut master.place) {
+        return FRAME_DUE;
+    }
+    let done = calls::accept(&mut master.place, frame);
+    did.set(&done);
+    OK
+}
+
+/// 1 where a frame is due, else 0.
+#[unsafe(no_mangle)]
+#[tactic(auto, using(crate::proofs::Places::vacuous))]
+pub extern "C" fn gp_master_due(master: &mut GpMaster, due: &mut u8) -> u8
+    requires { IsSoundMaster master.old }
+    ensures unchanged { master.new ≡ master.old }
+    ensures done { master.old.live ≡ true → result ≡ OK }
+    ensures none { master.old.live ≡ false → result ≡ NO_END }
+    ensures due { result ≡ OK → IfThere master.old.place.master (λ old. due.new ≡ flag (is_due old.state)) }
+    ensures refused { result ≢ OK → due.new ≡ due.old }
+{
+    if !master.live {
+        return NO_END;
+    }
+    *due = flag(calls::due(&mut master.place));
+    OK
+}
+
+/// Writes the frame that is due to `out`, in the second half of a delivery. It carries what was put last.
+#[unsafe(no_mangle)]
+#[tactic(auto, using(crate::proofs::Places::vacuous))]
+pub extern "C" fn gp_master_reply(master: &mut GpMaster, out: &mut GpFrame) -> u8
+    requires { IsSoundMaster master.old }
+    ensures sound { IsSoundMaster master.new }
+    ensures same { master.new.live ≡ master.old.live }
+    ensures none { master.old.live ≡ false → result ≡ NO_END }
+    ensures either { master.old.live ≡ true → IsTrue (result == OK || result == NONE_DUE) }
+    ensures other { result ≡ NONE_DUE → IsAtRest master.old.place.master }
+    ensures due { result ≡ OK → HasDue master.old.place.master }
+    ensures rest { result ≡ OK → IsAtRest master.new.place.master }
+    ensures replies { result ≡ OK → Between master.old.place.master master.new.place.master (λ old new. Replies old new (frame_of out.new)) }
+    ensures past_out { drop out.new.len out.new.bytes ≡ drop out.new.len out.old.bytes }
+    ensures refused { result ≢ OK → (master.new ≡ master.old) × (out.new ≡ out.old) }
+{
+    if !master.live {
+        return NO_END;
+    }
+    if !calls::due(&mut master.place) {
+        return NONE_DUE;
+    }
+    let mut sent = FrameBuf::new();
+    calls::reply(&mut master.place, &mut sent);
+    out.set(&sent);
+    OK
+}
+
+/// Hands over a tick. `did` says what was done, and `out` is the frame to send, of no bytes where none is.
+#[unsafe(no_mangle)]
+#[tactic(auto, using(crate::proofs::Places::vacuous))]
+pub extern "C" fn gp_master_tick(master: &mut GpMaster, out: &mut GpFrame, did: &mut GpDid) -> u8
+    requires { IsSoundMaster master.old }
+    ensures sound { IsSoundMaster master.new }
+    ensures same { master.new.live ≡ master.old.live }
+    ensures none { master.old.live ≡ false → result ≡ NO_END }
+    ensures either { master.old.live ≡ true → IsTrue (result == OK || result == FRAME_DUE) }
+    ensures due { result ≡ FRAME_DUE → HasDue master.old.place.master }
+    ensures rested { result ≡ OK → IsAtRest master.old.place.master }
+    ensures rest { result ≡ OK → IsAtRest master.new.place.master }
+    ensures follows { result ≡ OK → Between master.old.place.master master.new.place.master (λ old new. Follows old event.Tick new) }
+    ensures tells { result ≡ OK → IfThere master.old.place.master (λ old. MasterTells old event.Tick did.new out.new) }
+    ensures past_out { drop out.new.len out.new.bytes ≡ drop out.new.len out.old.bytes }
+    ensures past_load { drop did.new.load_len did.new.load ≡ drop did.new.load_len did.old.load }
+    ensures refused { result ≢ OK → (master.new ≡ master.old) × (out.new ≡ out.old) × (did.new ≡ did.old) }
+{
+    if !master.live {
+        return NO_END;
+    }
+    if calls::due(&mut master.place) {
+        return FRAME_DUE;
+    }
+    let mut sent = FrameBuf::new();
+    let mut done = Did::nothing();
+    calls::tick(&mut master.place, &mut done, &mut sent);
+    out.set(&sent);
+    did.set(&done);
+    OK
+}
+
+/// Ends the session, if there is one. `did` says what was done, and `out` is the Reset frame to send.
+#[unsafe(no_mangle)]
+#[tactic(auto, using(crate::proofs::Places::vacuous))]
+pub extern "C" fn gp_master_reset(master: &mut GpMaster, out: &mut GpFrame, did: &mut GpDid) -> u8
+    requires { IsSoundMaster master.old }
+    ensures sound { IsSoundMaster master.new }
+    ensures same { master.new.live ≡ master.old.live }
+    ensures none { master.old.live ≡ false → result ≡ NO_END }
+    ensures either { master.old.live ≡ true → IsTrue (result == OK || result == FRAME_DUE) }
+    ensures due { result ≡ FRAME_DUE → HasDue master.old.place.master }
+    ensures rested { result ≡ OK → IsAtRest master.old.place.master }
+    ensures rest { result ≡ OK → IsAtRest master.new.place.master }
+    ensures follows { result ≡ OK → Between master.old.place.master master.new.place.master (λ old new. Follows old event.Local new) }
+    ensures tells { result ≡ OK → IfThere master.old.place.master (λ old. MasterTells old event.Local did.new out.new) }
+    ensures past_out { drop out.new.len out.new.bytes ≡ drop out.new.len out.old.bytes }
+    ensures past_load { drop did.new.load_len did.new.load ≡ drop did.new.load_len did.old.load }
+    ensures refused { result ≢ OK → (master.new ≡ master.old) × (out.new ≡ out.old) × (did.new ≡ did.old) }
+{
+    if !master.live {
+        return NO_END;
+    }
+    if calls::due(&mut master.place) {
+        return FRAME_DUE;
+    }
+    let mut sent = FrameBuf::new();
+    let done = calls::reset(&mut master.place, &mut sent);
+    out.set(&sent);
+    did.set(&done);
+    OK
+}
+
+/// Offers these safe data from now on, as many bytes as the master's frames carry. The offer outlasts resets.
+#[unsafe(no_mangle)]
+#[tactic(auto, using(crate::proofs::Places::vacuous))]
+pub extern "C" fn gp_master_put(master: &mut GpMaster, load: &[u8]) -> u8
+    requires { IsSoundMaster master.old }
+    ensures sound { IsSoundMaster master.new }
+    ensures same { master.new.live ≡ master.old.live }
+    ensures none { master.old.live ≡ false → result ≡ NO_END }
+    ensures either { master.old.live ≡ true → IsTrue (result == OK || result == BAD_LENGTH) }
+    ensures fits { result ≡ OK → IfThere master.old.place.master (λ old. length load.now ≡ sends (OfMaster old.kit.settings)) }
+    ensures other { result ≡ BAD_LENGTH → IfThere master.old.place.master (λ old. length load.now ≢ sends (OfMaster old.kit.settings)) }
+    ensures follows { result ≡ OK → Between master.old.place.master master.new.place.master (λ old new. Follows old (event.Put load.now) new) }
+    ensures keeps { result ≡ OK → Between master.old.place.master master.new.place.master (λ old new. Keeps old (event.Put load.now) new) }
+    ensures due { Between master.old.place.master master.new.place.master (λ old new. is_due new.state ≡ is_due old.state) }
+    ensures refused { result ≢ OK → master.new ≡ master.old }
+{
+    if !master.live {
+        return NO_END;
+    }
+    if !calls::fits(&mut master.place, load) {
+        return BAD_LENGTH;
+    }
+    calls::put(&mut master.place, load);
+    OK
+}
+
+/// Whether zeros are sent in place of the offer from now on. It outlasts resets.
+#[unsafe(no_mangle)]
+#[tactic(auto, using(crate::proofs::Places::vacuous))]
+pub extern "C" fn gp_master_hold(master: &mut GpMaster, failsafe: bool) -> u8
+    requires { IsSoundMaster master.old }
+    ensures sound { IsSoundMaster master.new }
+    ensures same { master.new.live ≡ master.old.live }
+    ensures done { master.old.live ≡ true → result ≡ OK }
+    ensures none { master.old.live ≡ false → result ≡ NO_END }
+    ensures follows { result ≡ OK → Between master.old.place.master master.new.place.master (λ old new. Follows old (event.Hold failsafe) new) }
+    ensures keeps { result ≡ OK → Between master.old.place.master master.new.place.master (λ old new. Keeps old (event.Hold failsafe) new) }
+    ensures due { Between master.old.place.master master.new.place.master (λ old new. is_due new.state ≡ is_due old.state) }
+    ensures refused { result ≢ OK → master.new ≡ master.old }
+{
+    if !master.live {
+        return NO_END;
+    }
+    calls::hold(&mut master.place, failsafe);
+    OK
+}
+
+/// The session id of the sessions that begin from now on, at most 65,535 in profile One. It outlasts resets.
+#[unsafe(no_mangle)]
+#[tactic(auto, using(crate::proofs::Places::vacuous))]
+pub extern "C" fn gp_master_nonce(master: &mut GpMaster, id: u32) -> u8
+    requires { IsSoundMaster master.old }
+    ensures sound { IsSoundMaster master.new }
+    ensures same { master.new.live ≡ master.old.live }
+    ensures none { master.old.live ≡ false → result ≡ NO_END }
+    ensures either { master.old.live ≡ true → IsTrue (result == OK || result == BAD_NONCE) }
+    ensures allowed { result ≡ OK → IfThere master.old.place.master (λ old. IsTrue (allows_id old.kit.settings.profile id)) }
+    ensures other { result ≡ BAD_NONCE → IfThere master.old.place.master (λ old. allows_id old.kit.settings.profile id ≡ false) }
+    ensures follows { result ≡ OK → Between master.old.place.master master.new.place.master (λ old new. Follows old (event.Nonce id) new) }
+    ensures keeps { result ≡ OK → Between master.old.place.master master.new.place.master (λ old new. Keeps old (event.Nonce id) new) }
+    ensures due { Between master.old.place.master master.new.place.master (λ old new. is_due new.state ≡ is_due old.state) }
+    ensures refused { result ≢ OK → master.new ≡ master.old }
+{
+    if !master.live {
+        return NO_END;
+    }
+    if !calls::allows(&mut master.place, id) {
+        return BAD_NONCE;
+    }
+    calls::nonce(&mut master.place, id);
+    OK
+}

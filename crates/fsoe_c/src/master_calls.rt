@@ -1,0 +1,209 @@
+//! The calls of a master in its place.
+ghost use Rattle.std.specs.Prelude.{◌≡◌, ◌≢◌, ◌||◌, is_some, IsSome, IsTrue, false, None, drop, length};
+ghost use Rattle.param_load.specs.Profile.{allows_id};
+ghost use Rattle.param_load.specs.declared.entry.Move.TheVariants as event;
+ghost use Rattle.end_model.specs.Setup.{OfMaster, sends, receives};
+ghost use Rattle.end_model.specs.Readiness as model;
+ghost use Rattle.end_model.specs.Outputs as looking_back;
+ghost use Rattle.master_core.specs.Now.{is_due};
+ghost use Rattle.master_core.specs.Standing.{Follows, Answers, Shows};
+ghost use Rattle.master_core.specs.Waiting.{Accepts, Keeps, Replies, ShowsDue};
+ghost use Rattle.fsoe_c.specs.Handle.{HasDue, IsAtRest};
+ghost use Rattle.fsoe_c.specs.Numbers.{flag, state_number};
+ghost use Rattle.fsoe_c.specs.Place.{Between, IfThere};
+ghost use Rattle.fsoe_c.specs.Told.{MasterShowsTerms, MasterShowsTermsDue};
+
+use crate::master_place::MasterPlace;
+use crate::numbers::{flag, state_number};
+use crate::told::{GpTerms, copied, tells};
+use fsoe_base::{Did, FrameBuf};
+
+/// A frame of the slave.
+pub(crate) fn deliver(place: &mut MasterPlace, frame: &[u8], did: &mut Did, out: &mut FrameBuf)
+    requires there { IsSome place.old.master }
+    requires rest { IsAtRest place.old.master }
+    ensures there { IsSome place.new.master }
+    ensures rest { IsAtRest place.new.master }
+    ensures follows { Between place.old.master place.new.master (λ old new. Follows old (event.Deliver frame.now) new) }
+    ensures answers { IfThere place.old.master (λ old. Answers old (event.Deliver frame.now) did.new out.new) }
+{
+    place.lend().deliver_into(frame, did, out);
+}
+
+/// Accepts a frame of the slave. What is sent is to be asked for by `reply`.
+pub(crate) fn accept(place: &mut MasterPlace, frame: &[u8]) -> Did
+    requires there { IsSome place.old.master }
+    requires rest { IsAtRest place.old.master }
+    ensures there { IsSome place.new.master }
+    ensures accepts { Between place.old.master place.new.master (λ old new. Accepts old frame.now result new) }
+    ensures due { IfThere place.new.master (λ new. is_due new.state ≡ (is_some result.took || is_some result.reset)) }
+    ensures unsent { result.sent ≡ false }
+{
+    place.lend().accept(frame)
+}
+
+/// Whether a frame is due.
+pub(crate) fn due(place: &mut MasterPlace) -> bool
+    requires { IsSome place.old.master }
+    ensures unchanged { place.new ≡ place.old }
+    ensures due { IfThere place.old.master (λ old. result ≡ is_due old.state) }
+{
+    place.lend().due()
+}
+
+/// Writes the frame that is due.
+pub(crate) fn reply(place: &mut MasterPlace, out: &mut FrameBuf)
+    requires there { IsSome place.old.master }
+    requires due { HasDue place.old.master }
+    ensures there { IsSome place.new.master }
+    ensures rest { IsAtRest place.new.master }
+    ensures replies { Between place.old.master place.new.master (λ old new. Replies old new out.new) }
+{
+    place.lend().reply(out);
+}
+
+/// A tick.
+pub(crate) fn tick(place: &mut MasterPlace, did: &mut Did, out: &mut FrameBuf)
+    requires there { IsSome place.old.master }
+    requires rest { IsAtRest place.old.master }
+    ensures there { IsSome place.new.master }
+    ensures rest { IsAtRest place.new.master }
+    ensures follows { Between place.old.master place.new.master (λ old new. Follows old event.Tick new) }
+    ensures answers { IfThere place.old.master (λ old. Answers old event.Tick did.new out.new) }
+{
+    place.lend().tick_into(did, out);
+}
+
+/// Ends the session, if there is one.
+pub(crate) fn reset(place: &mut MasterPlace, out: &mut FrameBuf) -> Did
+    requires there { IsSome place.old.master }
+    requires rest { IsAtRest place.old.master }
+    ensures there { IsSome place.new.master }
+    ensures rest { IsAtRest place.new.master }
+    ensures follows { Between place.old.master place.new.master (λ old new. Follows old event.Local new) }
+    ensures answers { IfThere place.old.master (λ old. Answers old event.Local result out.new) }
+{
+    place.lend().reset(out)
+}
+
+/// Whether these are as many bytes as the master's frames carry.
+pub(crate) fn fits(place: &mut MasterPlace, load: &[u8]) -> bool
+    requires { IsSome place.old.master }
+    ensures unchanged { place.new ≡ place.old }
+    ensures yes { IsTrue result → IfThere place.old.master (λ old. length load.now ≡ sends (OfMaster old.kit.settings)) }
+    ensures no { result ≡ false → IfThere place.old.master (λ old. length load.now ≢ sends (OfMaster old.kit.settings)) }
+{
+    load.len() == place.lend().settings().own_len()
+}
+
+/// Offers these safe data, as many as the master's frames carry.
+pub(crate) fn put(place: &mut MasterPlace, load: &[u8])
+    requires there { IsSome place.old.master }
+    requires fits { IfThere place.old.master (λ old. length load.now ≡ sends (OfMaster old.kit.settings)) }
+    ensures there { IsSome place.new.master }
+    ensures follows { Between place.old.master place.new.master (λ old new. Follows old (event.Put load.now) new) }
+    ensures keeps { Between place.old.master place.new.master (λ old new. Keeps old (event.Put load.now) new) }
+    ensures due { Between place.old.master place.new.master (λ old new. is_due new.state ≡ is_due old.state) }
+{
+    place.lend().put(load);
+}
+
+/// Whether zeros are sent in place of the offer.
+pub(crate) fn hold(place: &mut MasterPlace, failsafe: bool)
+    requires { IsSome place.old.master }
+    ensures there { IsSome place.new.master }
+    ensures follows { Between place.old.master place.new.master (λ old new. Follows old (event.Hold failsafe) new) }
+    ensures keeps { Between place.old.master place.new.master (λ old new. Keeps old (event.Hold failsafe) new) }
+    ensures due { Between place.old.master place.new.master (λ old new. is_due new.state ≡ is_due old.state) }
+{
+    place.lend().hold(failsafe);
+}
+
+/// Whether the profile allows this session id.
+pub(crate) fn allows(place: &mut MasterPlace, id: u32) -> bool
+    requires { IsSome place.old.master }
+    ensures unchanged { place.new ≡ place.old }
+    ensures allows { IfThere place.old.master (λ old. result ≡ allows_id old.kit.settings.profile id) }
+{
+    place.lend().settings().profile().allows_id(id)
+}
+
+/// The session id of the sessions that begin from now on.
+pub(crate) fn nonce(place: &mut MasterPlace, id: u32)
+    requires there { IsSome place.old.master }
+    requires allowed { IfThere place.old.master (λ old. IsTrue (allows_id old.kit.settings.profile id)) }
+    ensures there { IsSome place.new.master }
+    ensures follows { Between place.old.master place.new.master (λ old new. Follows old (event.Nonce id) new) }
+    ensures keeps { Between place.old.master place.new.master (λ old new. Keeps old (event.Nonce id) new) }
+    ensures due { Between place.old.master place.new.master (λ old new. is_due new.state ≡ is_due old.state) }
+{
+    place.lend().nonce(id);
+}
+
+/// The number of the state.
+pub(crate) fn state(place: &mut MasterPlace) -> u8
+    requires { IsSome place.old.master }
+    ensures unchanged { place.new ≡ place.old }
+    ensures shown { IfThere place.old.master (λ old. Shows old result (λ setup deeds. state_number (model.state_of setup deeds))) }
+    ensures shown_due { IfThere place.old.master (λ old. ShowsDue old result (λ setup deeds. state_number (model.state_of setup deeds))) }
+{
+    state_number(place.lend().state())
+}
+
+/// Copies the outputs to bytes of their number, and does nothing where these have another. Answers whether they have it.
+pub(crate) fn outputs(place: &mut MasterPlace, out: &mut [u8]) -> bool
+    requires { IsSome place.old.master }
+    ensures unchanged { place.new ≡ place.old }
+    ensures other { result ≡ false → IfThere place.old.master (λ old. length out.old ≢ receives (OfMaster old.kit.settings)) }
+    ensures shown { IsTrue result → IfThere place.old.master (λ old. Shows old out.new looking_back.out) }
+    ensures shown_due { IsTrue result → IfThere place.old.master (λ old. ShowsDue old out.new looking_back.out) }
+    ensures refused { result ≡ false → out.new ≡ out.old }
+{
+    copied(place.lend().outputs(), out)
+}
+
+/// Copies the offer to bytes of its number, and does nothing where these have another. Answers whether they have it.
+pub(crate) fn offer(place: &mut MasterPlace, out: &mut [u8]) -> bool
+    requires { IsSome place.old.master }
+    ensures unchanged { place.new ≡ place.old }
+    ensures other { result ≡ false → IfThere place.old.master (λ old. length out.old ≢ sends (OfMaster old.kit.settings)) }
+    ensures shown { IsTrue result → IfThere place.old.master (λ old. Shows old out.new model.offer) }
+    ensures shown_due { IsTrue result → IfThere place.old.master (λ old. ShowsDue old out.new model.offer) }
+    ensures refused { result ≡ false → out.new ≡ out.old }
+{
+    copied(place.lend().offer(), out)
+}
+
+/// Tells the terms, in state Data alone. Answers whether the master is in it.
+pub(crate) fn terms(place: &mut MasterPlace, told: &mut GpTerms) -> bool
+    requires { IsSome place.old.master }
+    ensures unchanged { place.new ≡ place.old }
+    ensures shown { IsTrue result → IfThere place.old.master (λ old. MasterShowsTerms old told.new) }
+    ensures shown_due { IsTrue result → IfThere place.old.master (λ old. MasterShowsTermsDue old told.new) }
+    ensures none { result ≡ false → IfThere place.old.master (λ old. Shows old None model.told_terms) }
+    ensures none_due { result ≡ false → IfThere place.old.master (λ old. ShowsDue old None model.told_terms) }
+    ensures past { drop told.new.app_len told.new.app ≡ drop told.new.app_len told.old.app }
+    ensures refused { result ≡ false → told.new ≡ told.old }
+{
+    tells(place.lend().terms(), told)
+}
+
+/// The ticks since the last frame was sent.
+pub(crate) fn age(place: &mut MasterPlace) -> u16
+    requires { IsSome place.old.master }
+    ensures unchanged { place.new ≡ place.old }
+    ensures shown { IfThere place.old.master (λ old. Shows old result model.age) }
+    ensures shown_due { IfThere place.old.master (λ old. ShowsDue old result model.age) }
+{
+    place.lend().age()
+}
+
+/// 1 where zeros are sent in place of the offer, else 0.
+pub(crate) fn held(place: &mut MasterPlace) -> u8
+    requires { IsSome place.old.master }
+    ensures unchanged { place.new ≡ place.old }
+    ensures shown { IfThere place.old.master (λ old. Shows old result (λ setup deeds. flag (model.held deeds))) }
+    ensures shown_due { IfThere place.old.master (λ old. ShowsDue old result (λ setup deeds. flag (model.held deeds))) }
+{
+    flag(place.lend().held())
+}

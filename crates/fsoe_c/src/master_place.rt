@@ -1,0 +1,52 @@
+//! Memory of the caller's that holds a master, or has room for one.
+ghost use Rattle.std.specs.Prelude.{◌≡◌, Option, Some, None, IsSome};
+ghost use Rattle.std.specs.Coded.{coded_option};
+ghost use Rattle.std.specs.Borrow.{sem};
+ghost use Rattle.master_core.specs.MasterView.{MasterView};
+ghost use Rattle.master_core.specs.contracts.master.Master.{the_row};
+
+use master_core::Master;
+use std::marker::Model;
+
+/// Where the memory lies, and the master in it, if one is there.
+#[repr(C)]
+pub struct MasterPlace {
+    at: *mut u8,
+    pub ghost master: { Option MasterView } by { coded_option the_row.coded },
+}
+
+impl Model for MasterPlace {
+    ghost use Rattle.fsoe_c.specs.Place.{place_owns};
+    ghost use Rattle.master_core.specs.contracts.master.Master.{the_row};
+
+    ghost also_owns = { λ place. place_owns the_row place.at place.master };
+}
+
+impl MasterPlace {
+    ghost use Rattle.fsoe_c.specs.Lent.{lends_master};
+
+    /// Moves the master out.
+    pub(crate) fn take(&mut self) -> Master
+        requires { IsSome self.old.master }
+        ensures { (self.old.master ≡ Some result) × (self.new ≡ record self.old { master = None }) }
+    {
+        unsafe { (self.at as *mut Master).read() }
+    }
+
+    /// Moves a master in.
+    pub(crate) fn put(&mut self, x: Master)
+        requires { self.old.master ≡ None }
+        ensures { self.new ≡ record self.old { master = Some x } }
+    {
+        unsafe { (self.at as *mut Master).write(x) }
+    }
+
+    /// The master, for calls of its own.
+    pub(crate) fn lend(&mut self) -> &mut Master
+        requires { IsSome self.old.master }
+        ensures* writes_back { sem 𝓛 (lends_master self.entry result) }
+        ensures value { self.old.master ≡ Some result.now }
+    {
+        unsafe { &mut *(self.at as *mut Master) }
+    }
+}

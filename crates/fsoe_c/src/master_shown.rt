@@ -1,0 +1,141 @@
+//! What C code reads of a master. Reading changes nothing.
+ghost use Rattle.std.specs.Prelude.{◌≡◌, ◌≢◌, ◌==◌, ◌||◌, IsTrue, None, true, false, drop, length};
+ghost use Rattle.end_model.specs.Setup.{OfMaster, sends, receives};
+ghost use Rattle.end_model.specs.Readiness as model;
+ghost use Rattle.end_model.specs.Outputs as looking_back;
+ghost use Rattle.master_core.specs.Standing.{Shows};
+ghost use Rattle.master_core.specs.Waiting.{ShowsDue};
+ghost use Rattle.fsoe_c.specs.Handle.{IsSoundMaster};
+ghost use Rattle.fsoe_c.specs.Numbers.{flag, state_number};
+ghost use Rattle.fsoe_c.specs.Place.{IfThere};
+ghost use Rattle.fsoe_c.specs.Told.{MasterShowsTerms, MasterShowsTermsDue};
+
+use crate::master::GpMaster;
+use crate::master_calls as calls;
+use crate::numbers::{BAD_LENGTH, NO_END, NOT_IN_DATA, OK};
+use crate::told::GpTerms;
+
+/// The number of the state, from 0 for Reset to 4 for Data. While a frame is due it counts as sent.
+#[unsafe(no_mangle)]
+#[tactic(auto, using(crate::proofs::Places::vacuous))]
+pub extern "C" fn gp_master_state(master: &mut GpMaster, state: &mut u8) -> u8
+    requires { IsSoundMaster master.old }
+    ensures unchanged { master.new ≡ master.old }
+    ensures done { master.old.live ≡ true → result ≡ OK }
+    ensures none { master.old.live ≡ false → result ≡ NO_END }
+    ensures shown { result ≡ OK → IfThere master.old.place.master (λ old. Shows old state.new (λ setup deeds. state_number (model.state_of setup deeds))) }
+    ensures shown_due { result ≡ OK → IfThere master.old.place.master (λ old. ShowsDue old state.new (λ setup deeds. state_number (model.state_of setup deeds))) }
+    ensures refused { result ≢ OK → state.new ≡ state.old }
+{
+    if !master.live {
+        return NO_END;
+    }
+    *state = calls::state(&mut master.place);
+    OK
+}
+
+/// Copies the outputs, as many bytes as the slave's frames carry.
+#[unsafe(no_mangle)]
+#[tactic(auto, using(crate::proofs::Places::vacuous))]
+pub extern "C" fn gp_master_outputs(master: &mut GpMaster, outputs: &mut [u8]) -> u8
+    requires { IsSoundMaster master.old }
+    ensures unchanged { master.new ≡ master.old }
+    ensures none { master.old.live ≡ false → result ≡ NO_END }
+    ensures either { master.old.live ≡ true → IsTrue (result == OK || result == BAD_LENGTH) }
+    ensures other { result ≡ BAD_LENGTH → IfThere master.old.place.master (λ old. length outputs.old ≢ receives (OfMaster old.kit.settings)) }
+    ensures shown { result ≡ OK → IfThere master.old.place.master (λ old. Shows old outputs.new looking_back.out) }
+    ensures shown_due { result ≡ OK → IfThere master.old.place.master (λ old. ShowsDue old outputs.new looking_back.out) }
+    ensures refused { result ≢ OK → outputs.new ≡ outputs.old }
+{
+    if !master.live {
+        return NO_END;
+    }
+    if !calls::outputs(&mut master.place, outputs) {
+        return BAD_LENGTH;
+    }
+    OK
+}
+
+/// Copies the safe data that were put last, zeros at first, as many bytes as the master's frames carry.
+#[unsafe(no_mangle)]
+#[tactic(auto, using(crate::proofs::Places::vacuous))]
+pub extern "C" fn gp_master_offer(master: &mut GpMaster, offer: &mut [u8]) -> u8
+    requires { IsSoundMaster master.old }
+    ensures unchanged { master.new ≡ master.old }
+    ensures none { master.old.live ≡ false → result ≡ NO_END }
+    ensures either { master.old.live ≡ true → IsTrue (result == OK || result == BAD_LENGTH) }
+    ensures other { result ≡ BAD_LENGTH → IfThere master.old.place.master (λ old. length offer.old ≢ sends (OfMaster old.kit.settings)) }
+    ensures shown { result ≡ OK → IfThere master.old.place.master (λ old. Shows old offer.new model.offer) }
+    ensures shown_due { result ≡ OK → IfThere master.old.place.master (λ old. ShowsDue old offer.new model.offer) }
+    ensures refused { result ≢ OK → offer.new ≡ offer.old }
+{
+    if !master.live {
+        return NO_END;
+    }
+    if !calls::offer(&mut master.place, offer) {
+        return BAD_LENGTH;
+    }
+    OK
+}
+
+/// The terms of the session, in state Data alone.
+#[unsafe(no_mangle)]
+#[tactic(auto, using(crate::proofs::Places::vacuous))]
+pub extern "C" fn gp_master_terms(master: &mut GpMaster, terms: &mut GpTerms) -> u8
+    requires { IsSoundMaster master.old }
+    ensures unchanged { master.new ≡ master.old }
+    ensures none { master.old.live ≡ false → result ≡ NO_END }
+    ensures either { master.old.live ≡ true → IsTrue (result == OK || result == NOT_IN_DATA) }
+    ensures other { result ≡ NOT_IN_DATA → IfThere master.old.place.master (λ old. Shows old None model.told_terms) }
+    ensures other_due { result ≡ NOT_IN_DATA → IfThere master.old.place.master (λ old. ShowsDue old None model.told_terms) }
+    ensures shown { result ≡ OK → IfThere master.old.place.master (λ old. MasterShowsTerms old terms.new) }
+    ensures shown_due { result ≡ OK → IfThere master.old.place.master (λ old. MasterShowsTermsDue old terms.new) }
+    ensures past { drop terms.new.app_len terms.new.app ≡ drop terms.new.app_len terms.old.app }
+    ensures refused { result ≢ OK → terms.new ≡ terms.old }
+{
+    if !master.live {
+        return NO_END;
+    }
+    if !calls::terms(&mut master.place, terms) {
+        return NOT_IN_DATA;
+    }
+    OK
+}
+
+/// The ticks since the last frame was sent, 0 while a frame is due. That of a new master is its watchdog less 1.
+#[unsafe(no_mangle)]
+#[tactic(auto, using(crate::proofs::Places::vacuous))]
+pub extern "C" fn gp_master_age(master: &mut GpMaster, age: &mut u16) -> u8
+    requires { IsSoundMaster master.old }
+    ensures unchanged { master.new ≡ master.old }
+    ensures done { master.old.live ≡ true → result ≡ OK }
+    ensures none { master.old.live ≡ false → result ≡ NO_END }
+    ensures shown { result ≡ OK → IfThere master.old.place.master (λ old. Shows old age.new model.age) }
+    ensures shown_due { result ≡ OK → IfThere master.old.place.master (λ old. ShowsDue old age.new model.age) }
+    ensures refused { result ≢ OK → age.new ≡ age.old }
+{
+    if !master.live {
+        return NO_END;
+    }
+    *age = calls::age(&mut master.place);
+    OK
+}
+
+/// 1 where zeros are sent in place of the offer, else 0.
+#[unsafe(no_mangle)]
+#[tactic(auto, using(crate::proofs::Places::vacuous))]
+pub extern "C" fn gp_master_held(master: &mut GpMaster, held: &mut u8) -> u8
+    requires { IsSoundMaster master.old }
+    ensures unchanged { master.new ≡ master.old }
+    ensures done { master.old.live ≡ true → result ≡ OK }
+    ensures none { master.old.live ≡ false → result ≡ NO_END }
+    ensures shown { result ≡ OK → IfThere master.old.place.master (λ old. Shows old held.new (λ setup deeds. flag (model.held deeds))) }
+    ensures shown_due { result ≡ OK → IfThere master.old.place.master (λ old. ShowsDue old held.new (λ setup deeds. flag (model.held deeds))) }
+    ensures refused { result ≢ OK → held.new ≡ held.old }
+{
+    if !master.live {
+        return NO_END;
+    }
+    *held = calls::held(&mut master.place);
+    OK
+}

@@ -1,0 +1,155 @@
+//! The calls of a slave in its place.
+ghost use Rattle.std.specs.Prelude.{◌≡◌, ◌≢◌, IsSome, IsTrue, false, None, drop, length};
+ghost use Rattle.param_load.specs.Profile.{allows_id};
+ghost use Rattle.param_load.specs.declared.entry.Move.TheVariants as event;
+ghost use Rattle.end_model.specs.Setup.{OfSlave, sends, receives};
+ghost use Rattle.end_model.specs.Readiness as model;
+ghost use Rattle.end_model.specs.Outputs as looking_back;
+ghost use Rattle.slave_core.specs.Standing.{Follows, Answers, Shows};
+ghost use Rattle.fsoe_c.specs.Numbers.{flag, state_number};
+ghost use Rattle.fsoe_c.specs.Place.{Between, IfThere};
+ghost use Rattle.fsoe_c.specs.Told.{SlaveShowsTerms};
+
+use crate::numbers::{flag, state_number};
+use crate::slave_place::SlavePlace;
+use crate::told::{GpTerms, copied, tells};
+use fsoe_base::{Did, FrameBuf};
+
+/// A frame of the master.
+pub(crate) fn deliver(place: &mut SlavePlace, frame: &[u8], did: &mut Did, out: &mut FrameBuf)
+    requires { IsSome place.old.slave }
+    ensures there { IsSome place.new.slave }
+    ensures follows { Between place.old.slave place.new.slave (λ old new. Follows old (event.Deliver frame.now) new) }
+    ensures answers { IfThere place.old.slave (λ old. Answers old (event.Deliver frame.now) did.new out.new) }
+{
+    place.lend().deliver_into(frame, did, out);
+}
+
+/// A tick.
+pub(crate) fn tick(place: &mut SlavePlace, did: &mut Did, out: &mut FrameBuf)
+    requires { IsSome place.old.slave }
+    ensures there { IsSome place.new.slave }
+    ensures follows { Between place.old.slave place.new.slave (λ old new. Follows old event.Tick new) }
+    ensures answers { IfThere place.old.slave (λ old. Answers old event.Tick did.new out.new) }
+{
+    place.lend().tick_into(did, out);
+}
+
+/// Ends the session, if there is one.
+pub(crate) fn reset(place: &mut SlavePlace, out: &mut FrameBuf) -> Did
+    requires { IsSome place.old.slave }
+    ensures there { IsSome place.new.slave }
+    ensures follows { Between place.old.slave place.new.slave (λ old new. Follows old event.Local new) }
+    ensures answers { IfThere place.old.slave (λ old. Answers old event.Local result out.new) }
+{
+    place.lend().reset(out)
+}
+
+/// Whether these are as many bytes as the slave's frames carry.
+pub(crate) fn fits(place: &mut SlavePlace, load: &[u8]) -> bool
+    requires { IsSome place.old.slave }
+    ensures unchanged { place.new ≡ place.old }
+    ensures yes { IsTrue result → IfThere place.old.slave (λ old. length load.now ≡ sends (OfSlave old.kit.settings)) }
+    ensures no { result ≡ false → IfThere place.old.slave (λ old. length load.now ≢ sends (OfSlave old.kit.settings)) }
+{
+    load.len() == place.lend().settings().own_len()
+}
+
+/// Offers these safe data, as many as the slave's frames carry.
+pub(crate) fn put(place: &mut SlavePlace, load: &[u8])
+    requires there { IsSome place.old.slave }
+    requires fits { IfThere place.old.slave (λ old. length load.now ≡ sends (OfSlave old.kit.settings)) }
+    ensures there { IsSome place.new.slave }
+    ensures follows { Between place.old.slave place.new.slave (λ old new. Follows old (event.Put load.now) new) }
+{
+    place.lend().put(load);
+}
+
+/// Whether zeros are sent in place of the offer.
+pub(crate) fn hold(place: &mut SlavePlace, failsafe: bool)
+    requires { IsSome place.old.slave }
+    ensures there { IsSome place.new.slave }
+    ensures follows { Between place.old.slave place.new.slave (λ old new. Follows old (event.Hold failsafe) new) }
+{
+    place.lend().hold(failsafe);
+}
+
+/// Whether the profile allows this session id.
+pub(crate) fn allows(place: &mut SlavePlace, id: u32) -> bool
+    requires { IsSome place.old.slave }
+    ensures unchanged { place.new ≡ place.old }
+    ensures allows { IfThere place.old.slave (λ old. result ≡ allows_id old.kit.settings.profile id) }
+{
+    place.lend().settings().profile().allows_id(id)
+}
+
+/// The session id of the sessions that begin from now on.
+pub(crate) fn nonce(place: &mut SlavePlace, id: u32)
+    requires there { IsSome place.old.slave }
+    requires allowed { IfThere place.old.slave (λ old. IsTrue (allows_id old.kit.settings.profile id)) }
+    ensures there { IsSome place.new.slave }
+    ensures follows { Between place.old.slave place.new.slave (λ old new. Follows old (event.Nonce id) new) }
+{
+    place.lend().nonce(id);
+}
+
+/// The number of the state.
+pub(crate) fn state(place: &mut SlavePlace) -> u8
+    requires { IsSome place.old.slave }
+    ensures unchanged { place.new ≡ place.old }
+    ensures shown { IfThere place.old.slave (λ old. Shows old result (λ setup deeds. state_number (model.state_of setup deeds))) }
+{
+    state_number(place.lend().state())
+}
+
+/// Copies the outputs to bytes of their number, and does nothing where these have another. Answers whether they have it.
+pub(crate) fn outputs(place: &mut SlavePlace, out: &mut [u8]) -> bool
+    requires { IsSome place.old.slave }
+    ensures unchanged { place.new ≡ place.old }
+    ensures other { result ≡ false → IfThere place.old.slave (λ old. length out.old ≢ receives (OfSlave old.kit.settings)) }
+    ensures shown { IsTrue result → IfThere place.old.slave (λ old. Shows old out.new looking_back.out) }
+    ensures refused { result ≡ false → out.new ≡ out.old }
+{
+    copied(place.lend().outputs(), out)
+}
+
+/// Copies the offer to bytes of its number, and does nothing where these have another. Answers whether they have it.
+pub(crate) fn offer(place: &mut SlavePlace, out: &mut [u8]) -> bool
+    requires { IsSome place.old.slave }
+    ensures unchanged { place.new ≡ place.old }
+    ensures other { result ≡ false → IfThere place.old.slave (λ old. length out.old ≢ sends (OfSlave old.kit.settings)) }
+    ensures shown { IsTrue result → IfThere place.old.slave (λ old. Shows old out.new model.offer) }
+    ensures refused { result ≡ false → out.new ≡ out.old }
+{
+    copied(place.lend().offer(), out)
+}
+
+/// Tells the terms, in state Data alone. Answers whether the slave is in it.
+pub(crate) fn terms(place: &mut SlavePlace, told: &mut GpTerms) -> bool
+    requires { IsSome place.old.slave }
+    ensures unchanged { place.new ≡ place.old }
+    ensures shown { IsTrue result → IfThere place.old.slave (λ old. SlaveShowsTerms old told.new) }
+    ensures none { result ≡ false → IfThere place.old.slave (λ old. Shows old None model.told_terms) }
+    ensures past { drop told.new.app_len told.new.app ≡ drop told.new.app_len told.old.app }
+    ensures refused { result ≡ false → told.new ≡ told.old }
+{
+    tells(place.lend().terms(), told)
+}
+
+/// The ticks since the last frame was sent.
+pub(crate) fn age(place: &mut SlavePlace) -> u16
+    requires { IsSome place.old.slave }
+    ensures unchanged { place.new ≡ place.old }
+    ensures shown { IfThere place.old.slave (λ old. Shows old result model.age) }
+{
+    place.lend().age()
+}
+
+/// 1 where zeros are sent in place of the offer, else 0.
+pub(crate) fn held(place: &mut SlavePlace) -> u8
+    requires { IsSome place.old.slave }
+    ensures unchanged { place.new ≡ place.old }
+    ensures shown { IfThere place.old.slave (λ old. Shows old result (λ setup deeds. flag (model.held deeds))) }
+{
+    flag(place.lend().held())
+}

@@ -1,0 +1,52 @@
+//! Memory of the caller's that holds a slave, or has room for one.
+ghost use Rattle.std.specs.Prelude.{◌≡◌, Option, Some, None, IsSome};
+ghost use Rattle.std.specs.Coded.{coded_option};
+ghost use Rattle.std.specs.Borrow.{sem};
+ghost use Rattle.slave_core.specs.SlaveView.{SlaveView};
+ghost use Rattle.slave_core.specs.contracts.slave.Slave.{the_row};
+
+use slave_core::Slave;
+use std::marker::Model;
+
+/// Where the memory lies, and the slave in it, if one is there.
+#[repr(C)]
+pub struct SlavePlace {
+    at: *mut u8,
+    pub ghost slave: { Option SlaveView } by { coded_option the_row.coded },
+}
+
+impl Model for SlavePlace {
+    ghost use Rattle.fsoe_c.specs.Place.{place_owns};
+    ghost use Rattle.slave_core.specs.contracts.slave.Slave.{the_row};
+
+    ghost also_owns = { λ place. place_owns the_row place.at place.slave };
+}
+
+impl SlavePlace {
+    ghost use Rattle.fsoe_c.specs.Lent.{lends_slave};
+
+    /// Moves the slave out.
+    pub(crate) fn take(&mut self) -> Slave
+        requires { IsSome self.old.slave }
+        ensures { (self.old.slave ≡ Some result) × (self.new ≡ record self.old { slave = None }) }
+    {
+        unsafe { (self.at as *mut Slave).read() }
+    }
+
+    /// Moves a slave in.
+    pub(crate) fn put(&mut self, x: Slave)
+        requires { self.old.slave ≡ None }
+        ensures { self.new ≡ record self.old { slave = Some x } }
+    {
+        unsafe { (self.at as *mut Slave).write(x) }
+    }
+
+    /// The slave, for calls of its own.
+    pub(crate) fn lend(&mut self) -> &mut Slave
+        requires { IsSome self.old.slave }
+        ensures* writes_back { sem 𝓛 (lends_slave self.entry result) }
+        ensures value { self.old.slave ≡ Some result.now }
+    {
+        unsafe { &mut *(self.at as *mut Slave) }
+    }
+}

@@ -1,0 +1,133 @@
+//! What C code reads of a slave. Reading changes nothing.
+ghost use Rattle.std.specs.Prelude.{◌≡◌, ◌≢◌, ◌==◌, ◌||◌, IsTrue, None, true, false, drop, length};
+ghost use Rattle.end_model.specs.Setup.{OfSlave, sends, receives};
+ghost use Rattle.end_model.specs.Readiness as model;
+ghost use Rattle.end_model.specs.Outputs as looking_back;
+ghost use Rattle.slave_core.specs.Standing.{Shows};
+ghost use Rattle.fsoe_c.specs.Handle.{IsSoundSlave};
+ghost use Rattle.fsoe_c.specs.Numbers.{flag, state_number};
+ghost use Rattle.fsoe_c.specs.Place.{IfThere};
+ghost use Rattle.fsoe_c.specs.Told.{SlaveShowsTerms};
+
+use crate::numbers::{BAD_LENGTH, NO_END, NOT_IN_DATA, OK};
+use crate::slave::GpSlave;
+use crate::slave_calls as calls;
+use crate::told::GpTerms;
+
+/// The number of the state, from 0 for Reset to 4 for Data.
+#[unsafe(no_mangle)]
+#[tactic(auto, using(crate::proofs::Places::vacuous))]
+pub extern "C" fn gp_slave_state(slave: &mut GpSlave, state: &mut u8) -> u8
+    requires { IsSoundSlave slave.old }
+    ensures unchanged { slave.new ≡ slave.old }
+    ensures done { slave.old.live ≡ true → result ≡ OK }
+    ensures none { slave.old.live ≡ false → result ≡ NO_END }
+    ensures shown { result ≡ OK → IfThere slave.old.place.slave (λ old. Shows old state.new (λ setup deeds. state_number (model.state_of setup deeds))) }
+    ensures refused { result ≢ OK → state.new ≡ state.old }
+{
+    if !slave.live {
+        return NO_END;
+    }
+    *state = calls::state(&mut slave.place);
+    OK
+}
+
+/// Copies the outputs, as many bytes as the master's frames carry.
+#[unsafe(no_mangle)]
+#[tactic(auto, using(crate::proofs::Places::vacuous))]
+pub extern "C" fn gp_slave_outputs(slave: &mut GpSlave, outputs: &mut [u8]) -> u8
+    requires { IsSoundSlave slave.old }
+    ensures unchanged { slave.new ≡ slave.old }
+    ensures none { slave.old.live ≡ false → result ≡ NO_END }
+    ensures either { slave.old.live ≡ true → IsTrue (result == OK || result == BAD_LENGTH) }
+    ensures other { result ≡ BAD_LENGTH → IfThere slave.old.place.slave (λ old. length outputs.old ≢ receives (OfSlave old.kit.settings)) }
+    ensures shown { result ≡ OK → IfThere slave.old.place.slave (λ old. Shows old outputs.new looking_back.out) }
+    ensures refused { result ≢ OK → outputs.new ≡ outputs.old }
+{
+    if !slave.live {
+        return NO_END;
+    }
+    if !calls::outputs(&mut slave.place, outputs) {
+        return BAD_LENGTH;
+    }
+    OK
+}
+
+/// Copies the safe data that were put last, zeros at first, as many bytes as the slave's frames carry.
+#[unsafe(no_mangle)]
+#[tactic(auto, using(crate::proofs::Places::vacuous))]
+pub extern "C" fn gp_slave_offer(slave: &mut GpSlave, offer: &mut [u8]) -> u8
+    requires { IsSoundSlave slave.old }
+    ensures unchanged { slave.new ≡ slave.old }
+    ensures none { slave.old.live ≡ false → result ≡ NO_END }
+    ensures either { slave.old.live ≡ true → IsTrue (result == OK || result == BAD_LENGTH) }
+    ensures other { result ≡ BAD_LENGTH → IfThere slave.old.place.slave (λ old. length offer.old ≢ sends (OfSlave old.kit.settings)) }
+    ensures shown { result ≡ OK → IfThere slave.old.place.slave (λ old. Shows old offer.new model.offer) }
+    ensures refused { result ≢ OK → offer.new ≡ offer.old }
+{
+    if !slave.live {
+        return NO_END;
+    }
+    if !calls::offer(&mut slave.place, offer) {
+        return BAD_LENGTH;
+    }
+    OK
+}
+
+/// The terms of the session, in state Data alone.
+#[unsafe(no_mangle)]
+#[tactic(auto, using(crate::proofs::Places::vacuous))]
+pub extern "C" fn gp_slave_terms(slave: &mut GpSlave, terms: &mut GpTerms) -> u8
+    requires { IsSoundSlave slave.old }
+    ensures unchanged { slave.new ≡ slave.old }
+    ensures none { slave.old.live ≡ false → result ≡ NO_END }
+    ensures either { slave.old.live ≡ true → IsTrue (result == OK || result == NOT_IN_DATA) }
+    ensures other { result ≡ NOT_IN_DATA → IfThere slave.old.place.slave (λ old. Shows old None model.told_terms) }
+    ensures shown { result ≡ OK → IfThere slave.old.place.slave (λ old. SlaveShowsTerms old terms.new) }
+    ensures past { drop terms.new.app_len terms.new.app ≡ drop terms.new.app_len terms.old.app }
+    ensures refused { result ≢ OK → terms.new ≡ terms.old }
+{
+    if !slave.live {
+        return NO_END;
+    }
+    if !calls::terms(&mut slave.place, terms) {
+        return NOT_IN_DATA;
+    }
+    OK
+}
+
+/// The ticks since the last frame was sent, 0 in state Reset.
+#[unsafe(no_mangle)]
+#[tactic(auto, using(crate::proofs::Places::vacuous))]
+pub extern "C" fn gp_slave_age(slave: &mut GpSlave, age: &mut u16) -> u8
+    requires { IsSoundSlave slave.old }
+    ensures unchanged { slave.new ≡ slave.old }
+    ensures done { slave.old.live ≡ true → result ≡ OK }
+    ensures none { slave.old.live ≡ false → result ≡ NO_END }
+    ensures shown { result ≡ OK → IfThere slave.old.place.slave (λ old. Shows old age.new model.age) }
+    ensures refused { result ≢ OK → age.new ≡ age.old }
+{
+    if !slave.live {
+        return NO_END;
+    }
+    *age = calls::age(&mut slave.place);
+    OK
+}
+
+/// 1 where zeros are sent in place of the offer, else 0.
+#[unsafe(no_mangle)]
+#[tactic(auto, using(crate::proofs::Places::vacuous))]
+pub extern "C" fn gp_slave_held(slave: &mut GpSlave, held: &mut u8) -> u8
+    requires { IsSoundSlave slave.old }
+    ensures unchanged { slave.new ≡ slave.old }
+    ensures done { slave.old.live ≡ true → result ≡ OK }
+    ensures none { slave.old.live ≡ false → result ≡ NO_END }
+    ensures shown { result ≡ OK → IfThere slave.old.place.slave (λ old. Shows old held.new (λ setup deeds. flag (model.held deeds))) }
+    ensures refused { result ≢ OK → held.new ≡ held.old }
+{
+    if !slave.live {
+        return NO_END;
+    }
+    *held = calls::held(&mut slave.place);
+    OK
+}
