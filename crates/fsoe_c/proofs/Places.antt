@@ -34,25 +34,24 @@ pub same_master : (old : MasterPlace) (x : MasterView) → old.master ≡ Some x
 same_master old x there = ap (λ (v : Option MasterView). record old { master = v }) (sym there)
 
 -- what shows what a slave did and sent tells its next deed
-pub slave_tells : (o : Option SlaveView) (v : SlaveView) (event : Move) (d : Did) (sent : List ℕ) (g : GpDid) (f : GpFrame)
-    → o ≡ Some v → IfThere o (λ old. slave_core.Answers old event d sent) → ShowsDid g d → frame_of f ≡ sent → SlaveTells v event g f
-slave_tells o v event d sent g f there answers shows is = record {
-  did = λ settings deeds after. subst (ShowsDid g) ((answers v there).did settings deeds after) shows;
-  sent = λ settings deeds after. is ∙ (answers v there).sent settings deeds after;
+pub slave_tells : (v : SlaveView) (event : Move) (d : Did) (sent : List ℕ) (g : GpDid) (f : GpFrame)
+    → slave_core.Answers v event d sent → ShowsDid g d → frame_of f ≡ sent → SlaveTells v event g f
+slave_tells v event d sent g f answers shows is = record {
+  did = λ settings deeds after. subst (ShowsDid g) (answers.did settings deeds after) shows;
+  sent = λ settings deeds after. is ∙ answers.sent settings deeds after;
 }
 
 -- the same of a master
-pub master_tells : (o : Option MasterView) (v : MasterView) (event : Move) (d : Did) (sent : List ℕ) (g : GpDid) (f : GpFrame)
-    → o ≡ Some v → IfThere o (λ old. master_core.Answers old event d sent) → ShowsDid g d → frame_of f ≡ sent → MasterTells v event g f
-master_tells o v event d sent g f there answers shows is = record {
-  did = λ settings deeds after. subst (ShowsDid g) ((answers v there).did settings deeds after) shows;
-  sent = λ settings deeds after. is ∙ (answers v there).sent settings deeds after;
+pub master_tells : (v : MasterView) (event : Move) (d : Did) (sent : List ℕ) (g : GpDid) (f : GpFrame)
+    → master_core.Answers v event d sent → ShowsDid g d → frame_of f ≡ sent → MasterTells v event g f
+master_tells v event d sent g f answers shows is = record {
+  did = λ settings deeds after. subst (ShowsDid g) (answers.did settings deeds after) shows;
+  sent = λ settings deeds after. is ∙ answers.sent settings deeds after;
 }
 
 -- what a master did in accepting a frame is told
-pub master_accepts : (o : Option MasterView) (v new : MasterView) (bytes : List ℕ) (d : Did) (g : GpDid)
-    → o ≡ Some v → IfThere o (λ old. Accepts old bytes d new) → ShowsDid g d → AcceptsTelling v bytes g new
-master_accepts o v new bytes d g there accepts shows = record { did = d; told = shows; accepts = accepts v there }
+pub master_accepts : (v new : MasterView) (bytes : List ℕ) (d : Did) (g : GpDid) → Accepts v bytes d new → ShowsDid g d → AcceptsTelling v bytes g new
+master_accepts v new bytes d g accepts shows = record { did = d; told = shows; accepts = accepts }
 
 abbrev value_or : {X : Type 0} → Option X → X → X
 value_or (Some x) y = x

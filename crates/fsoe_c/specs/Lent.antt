@@ -2,9 +2,9 @@
 use Rattle.std.specs.Prelude.{Some}
 use Rattle.std.specs.Borrow.{Lends, MutBor, Fml}
 use Rattle.slave_core.specs.SlaveView.{SlaveView}
-use Rattle.slave_core.specs.contracts.slave.Slave.{the_row as slave_row}
+use Rattle.fsoe_c.specs.contracts.slave_room.SlaveRoom.{the_row as slave_row}
 use Rattle.master_core.specs.MasterView.{MasterView}
-use Rattle.master_core.specs.contracts.master.Master.{the_row as master_row}
+use Rattle.fsoe_c.specs.contracts.master_room.MasterRoom.{the_row as master_row}
 use Rattle.fsoe_c.specs.contracts.slave_place.SlavePlace.{the_row as slave_place_row}
 use Rattle.fsoe_c.specs.declared.slave_place.SlavePlace.{SlavePlace}
 use Rattle.fsoe_c.specs.contracts.master_place.MasterPlace.{the_row as master_place_row}

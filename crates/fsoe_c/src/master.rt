@@ -14,11 +14,10 @@ ghost use Rattle.fsoe_c.specs.Told.{AcceptsTelling, MasterTells, frame_of, leads
 
 use crate::master_calls as calls;
 use crate::master_place::MasterPlace;
+use crate::master_room::MasterRoom;
 use crate::numbers::{BAD_APP, BAD_LENGTH, BAD_NONCE, BUSY, FRAME_DUE, NO_END, NONE_DUE, OK, flag};
 use crate::settings::{GpMasterSettings, app_of, master_settings};
 use crate::told::{GpDid, GpFrame};
-use fsoe_base::{Did, FrameBuf};
-use master_core::Master;
 use std::mem::{align_of, size_of};
 
 /// The handle of a master: where its memory lies, and whether a master is there.
@@ -31,13 +30,13 @@ pub struct GpMaster {
 /// The bytes of memory that a master takes.
 #[unsafe(no_mangle)]
 pub extern "C" fn gp_master_size() -> usize {
-    size_of::<Master>()
+    size_of::<MasterRoom>()
 }
 
 /// The alignment of that memory.
 #[unsafe(no_mangle)]
 pub extern "C" fn gp_master_align() -> usize {
-    align_of::<Master>()
+    align_of::<MasterRoom>()
 }
 
 /// Makes a master with these application parameters, which it sends to its slave.
@@ -61,7 +60,7 @@ pub extern "C" fn gp_master_init(master: &mut GpMaster, set: &GpMasterSettings, 
     };
     match master_settings(set, app) {
         Ok(settings) => {
-            master.place.put(Master::new(settings));
+            master.place.put(MasterRoom::new(settings));
             master.live = true;
             OK
         }
@@ -117,18 +116,14 @@ pub extern "C" fn gp_master_deliver(
     if calls::due(&mut master.place) {
         return FRAME_DUE;
     }
-    let mut sent = FrameBuf::new();
-    let mut done = Did::nothing();
-    calls::deliver(&mut master.place, frame, &mut done, &mut sent);
-    out.set(&sent);
-    did.set(&done);
+    calls::deliver(&mut master.place, frame, out, did);
     OK
 }
 
 /// Accepts a frame of the slave, of any number of bytes, in the first half of a delivery: where a frame is due then, `reply` writes it.
 /// `did` says what was done.
 #[unsafe(no_mangle)]
-#[tactic(auto, using(crate::proofs::Places::vacuous, crate::proofs::Places::master_accepts))]
+#[tactic(auto, using(crate::proofs::Places::vacuous))]
 pub extern "C" fn gp_master_accept(master: &mut GpMaster, frame: &[u8], did: &mut GpDid) -> u8
     requires { IsSoundMaster master.old }
     ensures sound { IsSoundMaster master.new }
@@ -149,8 +144,7 @@ pub extern "C" fn gp_master_accept(master: &mut GpMaster, frame: &[u8], did: &mu
     if calls::due(&mut master.place) {
         return FRAME_DUE;
     }
-    let done = calls::accept(&mut master.place, frame);
-    did.set(&done);
+    calls::accept(&mut master.place, frame, did);
     OK
 }
 
@@ -194,9 +188,7 @@ pub extern "C" fn gp_master_reply(master: &mut GpMaster, out: &mut GpFrame) -> u
     if !calls::due(&mut master.place) {
         return NONE_DUE;
     }
-    let mut sent = FrameBuf::new();
-    calls::reply(&mut master.place, &mut sent);
-    out.set(&sent);
+    calls::reply(&mut master.place, out);
     OK
 }
 
@@ -224,11 +216,7 @@ pub extern "C" fn gp_master_tick(master: &mut GpMaster, out: &mut GpFrame, did: 
     if calls::due(&mut master.place) {
         return FRAME_DUE;
     }
-    let mut sent = FrameBuf::new();
-    let mut done = Did::nothing();
-    calls::tick(&mut master.place, &mut done, &mut sent);
-    out.set(&sent);
-    did.set(&done);
+    calls::tick(&mut master.place, out, did);
     OK
 }
 
@@ -256,10 +244,7 @@ pub extern "C" fn gp_master_reset(master: &mut GpMaster, out: &mut GpFrame, did:
     if calls::due(&mut master.place) {
         return FRAME_DUE;
     }
-    let mut sent = FrameBuf::new();
-    let done = calls::reset(&mut master.place, &mut sent);
-    out.set(&sent);
-    did.set(&done);
+    calls::reset(&mut master.place, out, did);
     OK
 }
 

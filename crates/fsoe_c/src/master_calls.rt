@@ -1,45 +1,47 @@
 //! The calls of a master in its place.
-ghost use Rattle.std.specs.Prelude.{◌≡◌, ◌≢◌, ◌||◌, is_some, IsSome, IsTrue, false, None, drop, length};
+ghost use Rattle.std.specs.Prelude.{◌≡◌, ◌≢◌, IsSome, IsTrue, false, None, drop, length};
 ghost use Rattle.param_load.specs.Profile.{allows_id};
 ghost use Rattle.param_load.specs.declared.entry.Move.TheVariants as event;
 ghost use Rattle.end_model.specs.Setup.{OfMaster, sends, receives};
 ghost use Rattle.end_model.specs.Readiness as model;
 ghost use Rattle.end_model.specs.Outputs as looking_back;
 ghost use Rattle.master_core.specs.Now.{is_due};
-ghost use Rattle.master_core.specs.Standing.{Follows, Answers, Shows};
-ghost use Rattle.master_core.specs.Waiting.{Accepts, Keeps, Replies, ShowsDue};
+ghost use Rattle.master_core.specs.Standing.{Follows, Shows};
+ghost use Rattle.master_core.specs.Waiting.{Keeps, Replies, ShowsDue};
 ghost use Rattle.fsoe_c.specs.Handle.{HasDue, IsAtRest};
 ghost use Rattle.fsoe_c.specs.Numbers.{flag, state_number};
 ghost use Rattle.fsoe_c.specs.Place.{Between, IfThere};
-ghost use Rattle.fsoe_c.specs.Told.{MasterShowsTerms, MasterShowsTermsDue};
+ghost use Rattle.fsoe_c.specs.Told.{AcceptsTelling, MasterShowsTerms, MasterShowsTermsDue, MasterTells, frame_of, leads_on};
 
 use crate::master_place::MasterPlace;
 use crate::numbers::{flag, state_number};
-use crate::told::{GpTerms, copied, tells};
-use fsoe_base::{Did, FrameBuf};
+use crate::told::{GpDid, GpFrame, GpTerms, copied, tells};
 
 /// A frame of the slave.
-pub(crate) fn deliver(place: &mut MasterPlace, frame: &[u8], did: &mut Did, out: &mut FrameBuf)
+pub(crate) fn deliver(place: &mut MasterPlace, frame: &[u8], out: &mut GpFrame, did: &mut GpDid)
     requires there { IsSome place.old.master }
     requires rest { IsAtRest place.old.master }
     ensures there { IsSome place.new.master }
     ensures rest { IsAtRest place.new.master }
     ensures follows { Between place.old.master place.new.master (λ old new. Follows old (event.Deliver frame.now) new) }
-    ensures answers { IfThere place.old.master (λ old. Answers old (event.Deliver frame.now) did.new out.new) }
+    ensures tells { IfThere place.old.master (λ old. MasterTells old (event.Deliver frame.now) did.new out.new) }
+    ensures past_out { drop out.new.len out.new.bytes ≡ drop out.new.len out.old.bytes }
+    ensures past_load { drop did.new.load_len did.new.load ≡ drop did.new.load_len did.old.load }
 {
-    place.lend().deliver_into(frame, did, out);
+    place.lend().deliver(frame, out, did);
 }
 
 /// Accepts a frame of the slave. What is sent is to be asked for by `reply`.
-pub(crate) fn accept(place: &mut MasterPlace, frame: &[u8]) -> Did
+pub(crate) fn accept(place: &mut MasterPlace, frame: &[u8], did: &mut GpDid)
     requires there { IsSome place.old.master }
     requires rest { IsAtRest place.old.master }
     ensures there { IsSome place.new.master }
-    ensures accepts { Between place.old.master place.new.master (λ old new. Accepts old frame.now result new) }
-    ensures due { IfThere place.new.master (λ new. is_due new.state ≡ (is_some result.took || is_some result.reset)) }
-    ensures unsent { result.sent ≡ false }
+    ensures accepts { Between place.old.master place.new.master (λ old new. AcceptsTelling old frame.now did.new new) }
+    ensures due { IfThere place.new.master (λ new. is_due new.state ≡ leads_on did.new) }
+    ensures unsent { did.new.sent ≡ 0 }
+    ensures past_load { drop did.new.load_len did.new.load ≡ drop did.new.load_len did.old.load }
 {
-    place.lend().accept(frame)
+    place.lend().accept(frame, did);
 }
 
 /// Whether a frame is due.
@@ -48,42 +50,47 @@ pub(crate) fn due(place: &mut MasterPlace) -> bool
     ensures unchanged { place.new ≡ place.old }
     ensures due { IfThere place.old.master (λ old. result ≡ is_due old.state) }
 {
-    place.lend().due()
+    place.lend().master().due()
 }
 
 /// Writes the frame that is due.
-pub(crate) fn reply(place: &mut MasterPlace, out: &mut FrameBuf)
+pub(crate) fn reply(place: &mut MasterPlace, out: &mut GpFrame)
     requires there { IsSome place.old.master }
     requires due { HasDue place.old.master }
     ensures there { IsSome place.new.master }
     ensures rest { IsAtRest place.new.master }
-    ensures replies { Between place.old.master place.new.master (λ old new. Replies old new out.new) }
+    ensures replies { Between place.old.master place.new.master (λ old new. Replies old new (frame_of out.new)) }
+    ensures past_out { drop out.new.len out.new.bytes ≡ drop out.new.len out.old.bytes }
 {
     place.lend().reply(out);
 }
 
 /// A tick.
-pub(crate) fn tick(place: &mut MasterPlace, did: &mut Did, out: &mut FrameBuf)
+pub(crate) fn tick(place: &mut MasterPlace, out: &mut GpFrame, did: &mut GpDid)
     requires there { IsSome place.old.master }
     requires rest { IsAtRest place.old.master }
     ensures there { IsSome place.new.master }
     ensures rest { IsAtRest place.new.master }
     ensures follows { Between place.old.master place.new.master (λ old new. Follows old event.Tick new) }
-    ensures answers { IfThere place.old.master (λ old. Answers old event.Tick did.new out.new) }
+    ensures tells { IfThere place.old.master (λ old. MasterTells old event.Tick did.new out.new) }
+    ensures past_out { drop out.new.len out.new.bytes ≡ drop out.new.len out.old.bytes }
+    ensures past_load { drop did.new.load_len did.new.load ≡ drop did.new.load_len did.old.load }
 {
-    place.lend().tick_into(did, out);
+    place.lend().tick(out, did);
 }
 
 /// Ends the session, if there is one.
-pub(crate) fn reset(place: &mut MasterPlace, out: &mut FrameBuf) -> Did
+pub(crate) fn reset(place: &mut MasterPlace, out: &mut GpFrame, did: &mut GpDid)
     requires there { IsSome place.old.master }
     requires rest { IsAtRest place.old.master }
     ensures there { IsSome place.new.master }
     ensures rest { IsAtRest place.new.master }
     ensures follows { Between place.old.master place.new.master (λ old new. Follows old event.Local new) }
-    ensures answers { IfThere place.old.master (λ old. Answers old event.Local result out.new) }
+    ensures tells { IfThere place.old.master (λ old. MasterTells old event.Local did.new out.new) }
+    ensures past_out { drop out.new.len out.new.bytes ≡ drop out.new.len out.old.bytes }
+    ensures past_load { drop did.new.load_len did.new.load ≡ drop did.new.load_len did.old.load }
 {
-    place.lend().reset(out)
+    place.lend().reset(out, did);
 }
 
 /// Whether these are as many bytes as the master's frames carry.
@@ -93,7 +100,7 @@ pub(crate) fn fits(place: &mut MasterPlace, load: &[u8]) -> bool
     ensures yes { IsTrue result → IfThere place.old.master (λ old. length load.now ≡ sends (OfMaster old.kit.settings)) }
     ensures no { result ≡ false → IfThere place.old.master (λ old. length load.now ≢ sends (OfMaster old.kit.settings)) }
 {
-    load.len() == place.lend().settings().own_len()
+    load.len() == place.lend().master().settings().own_len()
 }
 
 /// Offers these safe data, as many as the master's frames carry.
@@ -125,7 +132,7 @@ pub(crate) fn allows(place: &mut MasterPlace, id: u32) -> bool
     ensures unchanged { place.new ≡ place.old }
     ensures allows { IfThere place.old.master (λ old. result ≡ allows_id old.kit.settings.profile id) }
 {
-    place.lend().settings().profile().allows_id(id)
+    place.lend().master().settings().profile().allows_id(id)
 }
 
 /// The session id of the sessions that begin from now on.
@@ -147,7 +154,7 @@ pub(crate) fn state(place: &mut MasterPlace) -> u8
     ensures shown { IfThere place.old.master (λ old. Shows old result (λ setup deeds. state_number (model.state_of setup deeds))) }
     ensures shown_due { IfThere place.old.master (λ old. ShowsDue old result (λ setup deeds. state_number (model.state_of setup deeds))) }
 {
-    state_number(place.lend().state())
+    state_number(place.lend().master().state())
 }
 
 /// Copies the outputs to bytes of their number, and does nothing where these have another. Answers whether they have it.
@@ -159,7 +166,7 @@ pub(crate) fn outputs(place: &mut MasterPlace, out: &mut [u8]) -> bool
     ensures shown_due { IsTrue result → IfThere place.old.master (λ old. ShowsDue old out.new looking_back.out) }
     ensures refused { result ≡ false → out.new ≡ out.old }
 {
-    copied(place.lend().outputs(), out)
+    copied(place.lend().master().outputs(), out)
 }
 
 /// Copies the offer to bytes of its number, and does nothing where these have another. Answers whether they have it.
@@ -171,7 +178,7 @@ pub(crate) fn offer(place: &mut MasterPlace, out: &mut [u8]) -> bool
     ensures shown_due { IsTrue result → IfThere place.old.master (λ old. ShowsDue old out.new model.offer) }
     ensures refused { result ≡ false → out.new ≡ out.old }
 {
-    copied(place.lend().offer(), out)
+    copied(place.lend().master().offer(), out)
 }
 
 /// Tells the terms, in state Data alone. Answers whether the master is in it.
@@ -185,7 +192,7 @@ pub(crate) fn terms(place: &mut MasterPlace, told: &mut GpTerms) -> bool
     ensures past { drop told.new.app_len told.new.app ≡ drop told.new.app_len told.old.app }
     ensures refused { result ≡ false → told.new ≡ told.old }
 {
-    tells(place.lend().terms(), told)
+    tells(place.lend().master().terms(), told)
 }
 
 /// The ticks since the last frame was sent.
@@ -195,7 +202,7 @@ pub(crate) fn age(place: &mut MasterPlace) -> u16
     ensures shown { IfThere place.old.master (λ old. Shows old result model.age) }
     ensures shown_due { IfThere place.old.master (λ old. ShowsDue old result model.age) }
 {
-    place.lend().age()
+    place.lend().master().age()
 }
 
 /// 1 where zeros are sent in place of the offer, else 0.
@@ -205,5 +212,5 @@ pub(crate) fn held(place: &mut MasterPlace) -> u8
     ensures shown { IfThere place.old.master (λ old. Shows old result (λ setup deeds. flag (model.held deeds))) }
     ensures shown_due { IfThere place.old.master (λ old. ShowsDue old result (λ setup deeds. flag (model.held deeds))) }
 {
-    flag(place.lend().held())
+    flag(place.lend().master().held())
 }

@@ -3,9 +3,9 @@ ghost use Rattle.std.specs.Prelude.{◌≡◌, Option, Some, None, IsSome};
 ghost use Rattle.std.specs.Coded.{coded_option};
 ghost use Rattle.std.specs.Borrow.{sem};
 ghost use Rattle.master_core.specs.MasterView.{MasterView};
-ghost use Rattle.master_core.specs.contracts.master.Master.{the_row};
+ghost use Rattle.fsoe_c.specs.contracts.master_room.MasterRoom.{the_row};
 
-use master_core::Master;
+use crate::master_room::MasterRoom;
 use std::marker::Model;
 
 /// Where the memory lies, and the master in it, if one is there.
@@ -17,7 +17,7 @@ pub struct MasterPlace {
 
 impl Model for MasterPlace {
     ghost use Rattle.fsoe_c.specs.Place.{place_owns};
-    ghost use Rattle.master_core.specs.contracts.master.Master.{the_row};
+    ghost use Rattle.fsoe_c.specs.contracts.master_room.MasterRoom.{the_row};
 
     ghost also_owns = { λ place. place_owns the_row place.at place.master };
 }
@@ -26,27 +26,27 @@ impl MasterPlace {
     ghost use Rattle.fsoe_c.specs.Lent.{lends_master};
 
     /// Moves the master out.
-    pub(crate) fn take(&mut self) -> Master
+    pub(crate) fn take(&mut self) -> MasterRoom
         requires { IsSome self.old.master }
         ensures { (self.old.master ≡ Some result) × (self.new ≡ record self.old { master = None }) }
     {
-        unsafe { (self.at as *mut Master).read() }
+        unsafe { (self.at as *mut MasterRoom).read() }
     }
 
     /// Moves a master in.
-    pub(crate) fn put(&mut self, x: Master)
+    pub(crate) fn put(&mut self, x: MasterRoom)
         requires { self.old.master ≡ None }
         ensures { self.new ≡ record self.old { master = Some x } }
     {
-        unsafe { (self.at as *mut Master).write(x) }
+        unsafe { (self.at as *mut MasterRoom).write(x) }
     }
 
     /// The master, for calls of its own.
-    pub(crate) fn lend(&mut self) -> &mut Master
+    pub(crate) fn lend(&mut self) -> &mut MasterRoom
         requires { IsSome self.old.master }
         ensures* writes_back { sem 𝓛 (lends_master self.entry result) }
         ensures value { self.old.master ≡ Some result.now }
     {
-        unsafe { &mut *(self.at as *mut Master) }
+        unsafe { &mut *(self.at as *mut MasterRoom) }
     }
 }

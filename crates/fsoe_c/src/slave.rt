@@ -14,10 +14,9 @@ use crate::numbers::{BAD_APP, BAD_LENGTH, BAD_NONCE, BUSY, NO_END, OK};
 use crate::settings::{GpSlaveSettings, app_of, slave_settings};
 use crate::slave_calls as calls;
 use crate::slave_place::SlavePlace;
+use crate::slave_room::SlaveRoom;
 use crate::told::{GpDid, GpFrame};
-use fsoe_base::{Did, FrameBuf};
 use param_load::AppRule;
-use slave_core::Slave;
 use std::mem::{align_of, size_of};
 
 /// The handle of a slave: where its memory lies, and whether a slave is there.
@@ -30,13 +29,13 @@ pub struct GpSlave {
 /// The bytes of memory that a slave takes.
 #[unsafe(no_mangle)]
 pub extern "C" fn gp_slave_size() -> usize {
-    size_of::<Slave>()
+    size_of::<SlaveRoom>()
 }
 
 /// The alignment of that memory.
 #[unsafe(no_mangle)]
 pub extern "C" fn gp_slave_align() -> usize {
-    align_of::<Slave>()
+    align_of::<SlaveRoom>()
 }
 
 /// Makes a slave with this rule where none is there. Answers the number of the first fault of the settings, else 0.
@@ -51,7 +50,7 @@ fn start(slave: &mut GpSlave, set: &GpSlaveSettings, rule: AppRule) -> u8
 {
     match slave_settings(set, rule) {
         Ok(settings) => {
-            slave.place.put(Slave::new(settings));
+            slave.place.put(SlaveRoom::new(settings));
             slave.live = true;
             OK
         }
@@ -169,11 +168,7 @@ pub extern "C" fn gp_slave_deliver(
     if !slave.live {
         return NO_END;
     }
-    let mut sent = FrameBuf::new();
-    let mut done = Did::nothing();
-    calls::deliver(&mut slave.place, frame, &mut done, &mut sent);
-    out.set(&sent);
-    did.set(&done);
+    calls::deliver(&mut slave.place, frame, out, did);
     OK
 }
 
@@ -195,11 +190,7 @@ pub extern "C" fn gp_slave_tick(slave: &mut GpSlave, out: &mut GpFrame, did: &mu
     if !slave.live {
         return NO_END;
     }
-    let mut sent = FrameBuf::new();
-    let mut done = Did::nothing();
-    calls::tick(&mut slave.place, &mut done, &mut sent);
-    out.set(&sent);
-    did.set(&done);
+    calls::tick(&mut slave.place, out, did);
     OK
 }
 
@@ -221,10 +212,7 @@ pub extern "C" fn gp_slave_reset(slave: &mut GpSlave, out: &mut GpFrame, did: &m
     if !slave.live {
         return NO_END;
     }
-    let mut sent = FrameBuf::new();
-    let done = calls::reset(&mut slave.place, &mut sent);
-    out.set(&sent);
-    did.set(&done);
+    calls::reset(&mut slave.place, out, did);
     OK
 }
 

@@ -5,44 +5,49 @@ ghost use Rattle.param_load.specs.declared.entry.Move.TheVariants as event;
 ghost use Rattle.end_model.specs.Setup.{OfSlave, sends, receives};
 ghost use Rattle.end_model.specs.Readiness as model;
 ghost use Rattle.end_model.specs.Outputs as looking_back;
-ghost use Rattle.slave_core.specs.Standing.{Follows, Answers, Shows};
+ghost use Rattle.slave_core.specs.Standing.{Follows, Shows};
 ghost use Rattle.fsoe_c.specs.Numbers.{flag, state_number};
 ghost use Rattle.fsoe_c.specs.Place.{Between, IfThere};
-ghost use Rattle.fsoe_c.specs.Told.{SlaveShowsTerms};
+ghost use Rattle.fsoe_c.specs.Told.{SlaveShowsTerms, SlaveTells};
 
 use crate::numbers::{flag, state_number};
 use crate::slave_place::SlavePlace;
-use crate::told::{GpTerms, copied, tells};
-use fsoe_base::{Did, FrameBuf};
+use crate::told::{GpDid, GpFrame, GpTerms, copied, tells};
 
 /// A frame of the master.
-pub(crate) fn deliver(place: &mut SlavePlace, frame: &[u8], did: &mut Did, out: &mut FrameBuf)
+pub(crate) fn deliver(place: &mut SlavePlace, frame: &[u8], out: &mut GpFrame, did: &mut GpDid)
     requires { IsSome place.old.slave }
     ensures there { IsSome place.new.slave }
     ensures follows { Between place.old.slave place.new.slave (λ old new. Follows old (event.Deliver frame.now) new) }
-    ensures answers { IfThere place.old.slave (λ old. Answers old (event.Deliver frame.now) did.new out.new) }
+    ensures tells { IfThere place.old.slave (λ old. SlaveTells old (event.Deliver frame.now) did.new out.new) }
+    ensures past_out { drop out.new.len out.new.bytes ≡ drop out.new.len out.old.bytes }
+    ensures past_load { drop did.new.load_len did.new.load ≡ drop did.new.load_len did.old.load }
 {
-    place.lend().deliver_into(frame, did, out);
+    place.lend().deliver(frame, out, did);
 }
 
 /// A tick.
-pub(crate) fn tick(place: &mut SlavePlace, did: &mut Did, out: &mut FrameBuf)
+pub(crate) fn tick(place: &mut SlavePlace, out: &mut GpFrame, did: &mut GpDid)
     requires { IsSome place.old.slave }
     ensures there { IsSome place.new.slave }
     ensures follows { Between place.old.slave place.new.slave (λ old new. Follows old event.Tick new) }
-    ensures answers { IfThere place.old.slave (λ old. Answers old event.Tick did.new out.new) }
+    ensures tells { IfThere place.old.slave (λ old. SlaveTells old event.Tick did.new out.new) }
+    ensures past_out { drop out.new.len out.new.bytes ≡ drop out.new.len out.old.bytes }
+    ensures past_load { drop did.new.load_len did.new.load ≡ drop did.new.load_len did.old.load }
 {
-    place.lend().tick_into(did, out);
+    place.lend().tick(out, did);
 }
 
 /// Ends the session, if there is one.
-pub(crate) fn reset(place: &mut SlavePlace, out: &mut FrameBuf) -> Did
+pub(crate) fn reset(place: &mut SlavePlace, out: &mut GpFrame, did: &mut GpDid)
     requires { IsSome place.old.slave }
     ensures there { IsSome place.new.slave }
     ensures follows { Between place.old.slave place.new.slave (λ old new. Follows old event.Local new) }
-    ensures answers { IfThere place.old.slave (λ old. Answers old event.Local result out.new) }
+    ensures tells { IfThere place.old.slave (λ old. SlaveTells old event.Local did.new out.new) }
+    ensures past_out { drop out.new.len out.new.bytes ≡ drop out.new.len out.old.bytes }
+    ensures past_load { drop did.new.load_len did.new.load ≡ drop did.new.load_len did.old.load }
 {
-    place.lend().reset(out)
+    place.lend().reset(out, did);
 }
 
 /// Whether these are as many bytes as the slave's frames carry.
@@ -52,7 +57,7 @@ pub(crate) fn fits(place: &mut SlavePlace, load: &[u8]) -> bool
     ensures yes { IsTrue result → IfThere place.old.slave (λ old. length load.now ≡ sends (OfSlave old.kit.settings)) }
     ensures no { result ≡ false → IfThere place.old.slave (λ old. length load.now ≢ sends (OfSlave old.kit.settings)) }
 {
-    load.len() == place.lend().settings().own_len()
+    load.len() == place.lend().slave().settings().own_len()
 }
 
 /// Offers these safe data, as many as the slave's frames carry.
@@ -80,7 +85,7 @@ pub(crate) fn allows(place: &mut SlavePlace, id: u32) -> bool
     ensures unchanged { place.new ≡ place.old }
     ensures allows { IfThere place.old.slave (λ old. result ≡ allows_id old.kit.settings.profile id) }
 {
-    place.lend().settings().profile().allows_id(id)
+    place.lend().slave().settings().profile().allows_id(id)
 }
 
 /// The session id of the sessions that begin from now on.
@@ -99,7 +104,7 @@ pub(crate) fn state(place: &mut SlavePlace) -> u8
     ensures unchanged { place.new ≡ place.old }
     ensures shown { IfThere place.old.slave (λ old. Shows old result (λ setup deeds. state_number (model.state_of setup deeds))) }
 {
-    state_number(place.lend().state())
+    state_number(place.lend().slave().state())
 }
 
 /// Copies the outputs to bytes of their number, and does nothing where these have another. Answers whether they have it.
@@ -110,7 +115,7 @@ pub(crate) fn outputs(place: &mut SlavePlace, out: &mut [u8]) -> bool
     ensures shown { IsTrue result → IfThere place.old.slave (λ old. Shows old out.new looking_back.out) }
     ensures refused { result ≡ false → out.new ≡ out.old }
 {
-    copied(place.lend().outputs(), out)
+    copied(place.lend().slave().outputs(), out)
 }
 
 /// Copies the offer to bytes of its number, and does nothing where these have another. Answers whether they have it.
@@ -121,7 +126,7 @@ pub(crate) fn offer(place: &mut SlavePlace, out: &mut [u8]) -> bool
     ensures shown { IsTrue result → IfThere place.old.slave (λ old. Shows old out.new model.offer) }
     ensures refused { result ≡ false → out.new ≡ out.old }
 {
-    copied(place.lend().offer(), out)
+    copied(place.lend().slave().offer(), out)
 }
 
 /// Tells the terms, in state Data alone. Answers whether the slave is in it.
@@ -133,7 +138,7 @@ pub(crate) fn terms(place: &mut SlavePlace, told: &mut GpTerms) -> bool
     ensures past { drop told.new.app_len told.new.app ≡ drop told.new.app_len told.old.app }
     ensures refused { result ≡ false → told.new ≡ told.old }
 {
-    tells(place.lend().terms(), told)
+    tells(place.lend().slave().terms(), told)
 }
 
 /// The ticks since the last frame was sent.
@@ -142,7 +147,7 @@ pub(crate) fn age(place: &mut SlavePlace) -> u16
     ensures unchanged { place.new ≡ place.old }
     ensures shown { IfThere place.old.slave (λ old. Shows old result model.age) }
 {
-    place.lend().age()
+    place.lend().slave().age()
 }
 
 /// 1 where zeros are sent in place of the offer, else 0.
@@ -151,5 +156,5 @@ pub(crate) fn held(place: &mut SlavePlace) -> u8
     ensures unchanged { place.new ≡ place.old }
     ensures shown { IfThere place.old.slave (λ old. Shows old result (λ setup deeds. flag (model.held deeds))) }
 {
-    flag(place.lend().held())
+    flag(place.lend().slave().held())
 }

@@ -3,9 +3,9 @@ ghost use Rattle.std.specs.Prelude.{◌≡◌, Option, Some, None, IsSome};
 ghost use Rattle.std.specs.Coded.{coded_option};
 ghost use Rattle.std.specs.Borrow.{sem};
 ghost use Rattle.slave_core.specs.SlaveView.{SlaveView};
-ghost use Rattle.slave_core.specs.contracts.slave.Slave.{the_row};
+ghost use Rattle.fsoe_c.specs.contracts.slave_room.SlaveRoom.{the_row};
 
-use slave_core::Slave;
+use crate::slave_room::SlaveRoom;
 use std::marker::Model;
 
 /// Where the memory lies, and the slave in it, if one is there.
@@ -17,7 +17,7 @@ pub struct SlavePlace {
 
 impl Model for SlavePlace {
     ghost use Rattle.fsoe_c.specs.Place.{place_owns};
-    ghost use Rattle.slave_core.specs.contracts.slave.Slave.{the_row};
+    ghost use Rattle.fsoe_c.specs.contracts.slave_room.SlaveRoom.{the_row};
 
     ghost also_owns = { λ place. place_owns the_row place.at place.slave };
 }
@@ -26,27 +26,27 @@ impl SlavePlace {
     ghost use Rattle.fsoe_c.specs.Lent.{lends_slave};
 
     /// Moves the slave out.
-    pub(crate) fn take(&mut self) -> Slave
+    pub(crate) fn take(&mut self) -> SlaveRoom
         requires { IsSome self.old.slave }
         ensures { (self.old.slave ≡ Some result) × (self.new ≡ record self.old { slave = None }) }
     {
-        unsafe { (self.at as *mut Slave).read() }
+        unsafe { (self.at as *mut SlaveRoom).read() }
     }
 
     /// Moves a slave in.
-    pub(crate) fn put(&mut self, x: Slave)
+    pub(crate) fn put(&mut self, x: SlaveRoom)
         requires { self.old.slave ≡ None }
         ensures { self.new ≡ record self.old { slave = Some x } }
     {
-        unsafe { (self.at as *mut Slave).write(x) }
+        unsafe { (self.at as *mut SlaveRoom).write(x) }
     }
 
     /// The slave, for calls of its own.
-    pub(crate) fn lend(&mut self) -> &mut Slave
+    pub(crate) fn lend(&mut self) -> &mut SlaveRoom
         requires { IsSome self.old.slave }
         ensures* writes_back { sem 𝓛 (lends_slave self.entry result) }
         ensures value { self.old.slave ≡ Some result.now }
     {
-        unsafe { &mut *(self.at as *mut Slave) }
+        unsafe { &mut *(self.at as *mut SlaveRoom) }
     }
 }

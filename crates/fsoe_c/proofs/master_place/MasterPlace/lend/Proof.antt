@@ -26,7 +26,7 @@ use denote.Struct.Owning.{shape}
 use denote.Struct.Struct.{Struct}
 use denote.Triple.Walked.{Stays, walk_of, stay_dropped, Goes-spent_ref, ends_at, says}
 use Rattle.std.proofs.VecSteps.Shapes.{after}
-use Rattle.master_core.specs.contracts.master.Master.{the_row as F}
+use Rattle.fsoe_c.specs.contracts.master_room.MasterRoom.{the_row as F}
 use Rattle.fsoe_c.specs.Place.{place_owns}
 use Rattle.fsoe_c.specs.declared.master_place.MasterPlace.{MasterPlace}
 use Rattle.fsoe_c.proofs.Steps.{found}

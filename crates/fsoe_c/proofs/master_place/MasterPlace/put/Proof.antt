@@ -25,8 +25,8 @@ use denote.Signature.{plain}
 use denote.Steps.{nothing, opens, closes, peeks, heard}
 use denote.Triple.Walked.{Stays, walk_of, stay_ref, stay_dropped, Goes-ref, Goes-dropped, ends_at, says}
 use Rattle.std.proofs.VecSteps.Shapes.{after}
-use Rattle.master_core.specs.contracts.master.Master.{the_row as F}
-use Rattle.master_core.proofs.master.Master.TheLaws.{the_row_laws as F-laws}
+use Rattle.fsoe_c.specs.contracts.master_room.MasterRoom.{the_row as F}
+use Rattle.fsoe_c.proofs.master_room.MasterRoom.TheLaws.{the_row_laws as F-laws}
 use Rattle.fsoe_c.specs.Place.{place_owns}
 use Rattle.fsoe_c.specs.contracts.master_place.MasterPlace.put as f
 use Rattle.fsoe_c.proofs.master_place.MasterPlace.put.Statement.{statement}

@@ -25,8 +25,8 @@ use denote.Signature.{plain}
 use denote.Steps.{nothing, opens, closes, peeks, heard}
 use denote.Triple.Walked.{Stays, walk_of, stay_ref, stay_dropped, Goes-ref, Goes-dropped, ends_at, says}
 use Rattle.std.proofs.VecSteps.Shapes.{after}
-use Rattle.slave_core.specs.contracts.slave.Slave.{the_row as F}
-use Rattle.slave_core.proofs.slave.Slave.TheLaws.{the_row_laws as F-laws}
+use Rattle.fsoe_c.specs.contracts.slave_room.SlaveRoom.{the_row as F}
+use Rattle.fsoe_c.proofs.slave_room.SlaveRoom.TheLaws.{the_row_laws as F-laws}
 use Rattle.fsoe_c.specs.Place.{place_owns}
 use Rattle.fsoe_c.specs.contracts.slave_place.SlavePlace.put as f
 use Rattle.fsoe_c.proofs.slave_place.SlavePlace.put.Statement.{statement}

@@ -1,0 +1,113 @@
+//! A slave, with room for what its steps tell.
+ghost use Rattle.std.specs.Prelude.{◌≡◌, [], IsTrue, drop, length};
+ghost use Rattle.param_load.specs.Profile.{allows_id};
+ghost use Rattle.param_load.specs.declared.entry.Move.TheVariants as event;
+ghost use Rattle.end_model.specs.Setup.{OfSlave, sends};
+ghost use Rattle.slave_core.specs.Standing.{SlaveIsAfter, Follows};
+ghost use Rattle.fsoe_c.specs.Told.{SlaveTells};
+
+use crate::told::{GpDid, GpFrame};
+use fsoe_base::{Did, FrameBuf};
+use param_load::SlaveSettings;
+use slave_core::Slave;
+use std::marker::Model;
+
+/// A slave, and where its steps write what they tell before C code is told it, so that nothing is blanked for a step. Contracts see
+/// the slave alone.
+#[derive(Drop)]
+pub struct SlaveRoom {
+    slave: Slave,
+    did: Did,
+    sent: FrameBuf,
+}
+
+impl Model for SlaveRoom {
+    ghost use Rattle.slave_core.specs.SlaveView.{SlaveView};
+
+    ghost Value = { SlaveView };
+
+    ghost view = { λ room. room.slave };
+}
+
+impl SlaveRoom {
+    /// A new slave.
+    pub(crate) fn new(settings: SlaveSettings) -> SlaveRoom
+        ensures { SlaveIsAfter settings result [] }
+    {
+        SlaveRoom {
+            slave: Slave::new(settings),
+            did: Did::nothing(),
+            sent: FrameBuf::new(),
+        }
+    }
+
+    /// The slave, to be read.
+    pub(crate) fn slave(&self) -> &Slave
+        ensures { result.now ≡ self.now }
+    {
+        &self.slave
+    }
+
+    /// A frame of the master, and what is told of it.
+    #[tactic(auto, using(crate::proofs::Places::slave_tells))]
+    pub(crate) fn deliver(&mut self, frame: &[u8], out: &mut GpFrame, did: &mut GpDid)
+        ensures follows { Follows self.old (event.Deliver frame.now) self.new }
+        ensures tells { SlaveTells self.old (event.Deliver frame.now) did.new out.new }
+        ensures past_out { drop out.new.len out.new.bytes ≡ drop out.new.len out.old.bytes }
+        ensures past_load { drop did.new.load_len did.new.load ≡ drop did.new.load_len did.old.load }
+    {
+        self.slave
+            .deliver_into(frame, &mut self.did, &mut self.sent);
+        out.set(&self.sent);
+        did.set(&self.did);
+    }
+
+    /// A tick, and what is told of it.
+    #[tactic(auto, using(crate::proofs::Places::slave_tells))]
+    pub(crate) fn tick(&mut self, out: &mut GpFrame, did: &mut GpDid)
+        ensures follows { Follows self.old event.Tick self.new }
+        ensures tells { SlaveTells self.old event.Tick did.new out.new }
+        ensures past_out { drop out.new.len out.new.bytes ≡ drop out.new.len out.old.bytes }
+        ensures past_load { drop did.new.load_len did.new.load ≡ drop did.new.load_len did.old.load }
+    {
+        self.slave.tick_into(&mut self.did, &mut self.sent);
+        out.set(&self.sent);
+        did.set(&self.did);
+    }
+
+    /// Ends the session, if there is one, and says what is told of it.
+    #[tactic(auto, using(crate::proofs::Places::slave_tells))]
+    pub(crate) fn reset(&mut self, out: &mut GpFrame, did: &mut GpDid)
+        ensures follows { Follows self.old event.Local self.new }
+        ensures tells { SlaveTells self.old event.Local did.new out.new }
+        ensures past_out { drop out.new.len out.new.bytes ≡ drop out.new.len out.old.bytes }
+        ensures past_load { drop did.new.load_len did.new.load ≡ drop did.new.load_len did.old.load }
+    {
+        let done = self.slave.reset(&mut self.sent);
+        out.set(&self.sent);
+        did.set(&done);
+    }
+
+    /// Offers these safe data, as many as the slave's frames carry.
+    pub(crate) fn put(&mut self, load: &[u8])
+        requires { length load.now ≡ sends (OfSlave self.old.kit.settings) }
+        ensures { Follows self.old (event.Put load.now) self.new }
+    {
+        self.slave.put(load);
+    }
+
+    /// Whether zeros are sent in place of the offer.
+    pub(crate) fn hold(&mut self, failsafe: bool)
+        ensures { Follows self.old (event.Hold failsafe) self.new }
+    {
+        self.slave.hold(failsafe);
+    }
+
+    /// The session id of the sessions that begin from now on, which the profile allows.
+    pub(crate) fn nonce(&mut self, id: u32)
+        requires { IsTrue (allows_id self.old.kit.settings.profile id) }
+        ensures { Follows self.old (event.Nonce id) self.new }
+    {
+        self.slave.nonce(id);
+    }
+}
