@@ -19,7 +19,9 @@ use std::marker::Model;
 #[derive(Drop)]
 pub struct MasterRoom {
     master: Master,
-    did: Did,
+    /// What was done at the last frame. Its place for data stays, since ticks have a place of their own.
+    heard: Did,
+    ticked: Did,
     sent: FrameBuf,
 }
 
@@ -39,7 +41,8 @@ impl MasterRoom {
     {
         MasterRoom {
             master: Master::new(settings),
-            did: Did::nothing(),
+            heard: Did::nothing(),
+            ticked: Did::nothing(),
             sent: FrameBuf::new(),
         }
     }
@@ -62,9 +65,9 @@ impl MasterRoom {
         ensures rest { is_due self.new.state ≡ false }
     {
         self.master
-            .deliver_into(frame, &mut self.did, &mut self.sent);
+            .deliver_into(frame, &mut self.heard, &mut self.sent);
         out.set(&self.sent);
-        did.set(&self.did);
+        did.set(&self.heard);
     }
 
     /// Accepts a frame of the slave, and says what is told of it. What is sent is to be asked for by `reply`.
@@ -101,9 +104,9 @@ impl MasterRoom {
         ensures past_load { drop did.new.load_len did.new.load ≡ drop did.new.load_len did.old.load }
         ensures rest { is_due self.new.state ≡ false }
     {
-        self.master.tick_into(&mut self.did, &mut self.sent);
+        self.master.tick_into(&mut self.ticked, &mut self.sent);
         out.set(&self.sent);
-        did.set(&self.did);
+        did.set(&self.ticked);
     }
 
     /// Ends the session, if there is one, and says what is told of it.

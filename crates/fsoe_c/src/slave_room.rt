@@ -17,7 +17,9 @@ use std::marker::Model;
 #[derive(Drop)]
 pub struct SlaveRoom {
     slave: Slave,
-    did: Did,
+    /// What was done at the last frame. Its place for data stays, since ticks have a place of their own.
+    heard: Did,
+    ticked: Did,
     sent: FrameBuf,
 }
 
@@ -36,7 +38,8 @@ impl SlaveRoom {
     {
         SlaveRoom {
             slave: Slave::new(settings),
-            did: Did::nothing(),
+            heard: Did::nothing(),
+            ticked: Did::nothing(),
             sent: FrameBuf::new(),
         }
     }
@@ -57,9 +60,9 @@ impl SlaveRoom {
         ensures past_load { drop did.new.load_len did.new.load ≡ drop did.new.load_len did.old.load }
     {
         self.slave
-            .deliver_into(frame, &mut self.did, &mut self.sent);
+            .deliver_into(frame, &mut self.heard, &mut self.sent);
         out.set(&self.sent);
-        did.set(&self.did);
+        did.set(&self.heard);
     }
 
     /// A tick, and what is told of it.
@@ -70,9 +73,9 @@ impl SlaveRoom {
         ensures past_out { drop out.new.len out.new.bytes ≡ drop out.new.len out.old.bytes }
         ensures past_load { drop did.new.load_len did.new.load ≡ drop did.new.load_len did.old.load }
     {
-        self.slave.tick_into(&mut self.did, &mut self.sent);
+        self.slave.tick_into(&mut self.ticked, &mut self.sent);
         out.set(&self.sent);
-        did.set(&self.did);
+        did.set(&self.ticked);
     }
 
     /// Ends the session, if there is one, and says what is told of it.

@@ -62,7 +62,9 @@ impl GpFrame {
     {
         let len = frame.len();
         self.len = len;
-        self.bytes[..len].copy_from_slice(frame.bytes());
+        if len > 0 {
+            self.bytes[..len].copy_from_slice(frame.bytes());
+        }
     }
 }
 
