@@ -1,0 +1,313 @@
+/*
+ * gatepast.h - both ends of a Gatepast connection (Safety over EtherCAT in a profile of its own), for C and C++.
+ *
+ * An end is a machine without clock and line: your program hands it frames and ticks, and sends what it hands out.
+ * It takes no memory, holds no lock, waits for nothing and keeps nothing outside the memory that you give it. The
+ * library needs memcpy, memmove and memset, and no other function.
+ *
+ *     static gp_slave_memory memory;
+ *     static gp_slave slave = GP_SLAVE_IN(&memory);
+ *
+ *     gp_slave_init(&slave, &settings, 0);
+ *     for (;;) {
+ *         if (a frame came)    gp_slave_deliver(&slave, frame, frame_len, &out, &did);
+ *         if (1 ms has passed) gp_slave_tick(&slave, &out, &did);      (each time: send out.bytes, unless out.len is 0)
+ *         gp_slave_outputs(&slave, outputs, sizeof outputs);           (zeros in every state but GP_DATA)
+ *         apply(outputs);
+ *     }
+ *
+ * What docs/duties.md asks of a program applies: ticks whether frames come or not, fresh session ids, what to do after
+ * resets. examples/drive.c and examples/controller.c are whole loops.
+ *
+ * Answers
+ *     Each call answers with a number of enum gp_answer. GP_OK says that it was done. Every other one says why it was not,
+ *     and then the call changed nothing: neither the end, nor what the pointers lead to.
+ *
+ * What you owe
+ *     The code of each call is proved to do what this page says, provided that:
+ *     1. A handle is set by GP_SLAVE_IN or GP_MASTER_IN before its first call, to memory that no other handle has. From
+ *        then on these calls alone change the handle, and the memory as long as an end is there. The memory stays where
+ *        it is until gp_.._end; the handle may be moved. Memory without an end may be used again or freed; an end that
+ *        is not needed any more may also be left without gp_.._end.
+ *     2. Each other pointer leads to objects of its type, or to as many bytes as the number beside it says. These may be
+ *        read, and have values (a struct that is written to may hold any). A pointer with the number 0 may be null.
+ *     3. What a call may write to (through a pointer without const) overlaps nothing else that the call is given.
+ *     4. No two calls with the same handle run at a time. Calls with different handles may, in different threads. A
+ *        handle may go to another thread where the hand-over is ordered, as by a lock.
+ *     5. A bool is true or false.
+ *     Nothing else is owed: any number, length and byte may be passed at any time.
+ *
+ * Units
+ *     Ticks are milliseconds, or whatever both ends tick by. Lengths are bytes. Numbers have the machine's byte order.
+ */
+#ifndef GATEPAST_H
+#define GATEPAST_H
+
+#include <stdbool.h>
+#include <stddef.h>
+#include <stdint.h>
+
+#ifdef __cplusplus
+#define GP_ALIGNED alignas(8)
+extern "C" {
+#else
+#define GP_ALIGNED _Alignas(8)
+#endif
+
+/* The memory of an end. gp_slave_size() and gp_master_size() answer the same numbers. */
+#define GP_SLAVE_SIZE 4456
+#define GP_MASTER_SIZE 2328
+
+/* The most safe data bytes of a frame, bytes of a frame, and bytes of application parameters. */
+#define GP_MOST_DATA 126
+#define GP_MOST_FRAME 255
+#define GP_MOST_APP 512
+
+/* What a call answers. */
+enum gp_answer {
+    GP_OK = 0,
+    GP_NO_END = 1,       /* no end is there: init was not called, or end was */
+    GP_BUSY = 2,         /* init: an end is there already */
+    GP_BAD_LENGTH = 3,   /* init: a length is neither 1 nor even and from 2 to 126; put, outputs, offer: another number of
+                            bytes than this end's frames carry, or its peer's */
+    GP_BAD_PROFILE = 4,  /* init: the profile is neither 1 nor 2 */
+    GP_BAD_NONCE = 5,    /* init, nonce: a session id above 65535 in profile 1 */
+    GP_BAD_CONN = 6,     /* init: the connection id is 0 */
+    GP_BAD_WATCHDOG = 7, /* init: the watchdog is 0 */
+    GP_BAD_HAND = 8,     /* init: hand is 0 */
+    GP_BAD_MOST = 9,     /* init: most is 0 */
+    GP_BAD_APP = 10,     /* init: more than 512 bytes of application parameters, ranges of different lengths, or a lowest
+                            value above its highest */
+    GP_FRAME_DUE = 11,   /* deliver, accept, tick, reset of a master: a frame is due, call reply first */
+    GP_NONE_DUE = 12,    /* reply: no frame is due */
+    GP_NOT_IN_DATA = 13  /* terms: the end is not in state GP_DATA */
+};
+
+/* The states of an end, in the order of a session. */
+enum gp_state { GP_RESET = 0, GP_SESSION = 1, GP_CONNECTION = 2, GP_PARAMETER = 3, GP_DATA = 4 };
+
+/* The commands of frames: gp_did.took is one of these, or 0. */
+enum gp_command {
+    GP_TOOK_NOTHING = 0,
+    GP_FAIL_SAFE_DATA = 0x08,
+    GP_COMMAND_RESET = 0x2A,
+    GP_PROCESS_DATA = 0x36,
+    GP_COMMAND_SESSION = 0x4E,
+    GP_COMMAND_PARAMETER = 0x52,
+    GP_COMMAND_CONNECTION = 0x64
+};
+
+/* Why an end went to state GP_RESET: gp_did.reset is one of these. */
+enum gp_cause {
+    GP_NO_RESET = 0,
+    GP_BY_CALL = 1,  /* reset was called */
+    GP_BY_PEER = 2,  /* the peer sent a Reset frame */
+    GP_BY_FAULT = 3  /* this end found a fault: gp_did.code says which, 5 that the watchdog expired */
+};
+
+/* Why a frame was dropped without an answer: gp_did.dropped is one of these. */
+enum gp_dropped {
+    GP_NOT_DROPPED = 0,
+    GP_DROPPED_LENGTH = 1,  /* it has another number of bytes than the peer's frames */
+    GP_DROPPED_REPEAT = 2,  /* it is the frame that was taken last, once more */
+    GP_DROPPED_IN_RESET = 3 /* it fails a test in state GP_RESET */
+};
+
+/* A frame: the first `len` bytes of `bytes`. Those behind them are never written. */
+typedef struct gp_frame {
+    size_t len; /* 0 where nothing is to be sent */
+    uint8_t bytes[GP_MOST_FRAME];
+} gp_frame;
+
+/* What a step did. At most one of `took`, `reset` and `dropped` is not 0. */
+typedef struct gp_did {
+    uint8_t took;               /* enum gp_command: the command of the frame that was taken */
+    uint8_t passed;             /* 1: a frame that is no Reset frame passed the test of its CRCs */
+    uint8_t sent;               /* 1: there is a frame to send */
+    uint8_t reset;              /* enum gp_cause */
+    uint8_t code;               /* the code of that reset, 0 to 0Bh or the peer's own; docs/duties.md lists them */
+    uint8_t dropped;            /* enum gp_dropped */
+    uint8_t load_len;           /* the safe data of the frame that was taken are the first load_len bytes of load */
+    uint8_t load[GP_MOST_DATA]; /* those behind them are never written */
+} gp_did;
+
+/* What the ends of a session agreed on. */
+typedef struct gp_terms {
+    uint16_t conn;     /* the connection id */
+    uint16_t address;  /* the slave's address */
+    uint16_t watchdog; /* in ticks */
+    uint16_t word;     /* the word of profile 2; 0 in profile 1 */
+    uint16_t app_len;  /* the application parameters are the first app_len bytes of app */
+    uint8_t profile;   /* 1 or 2 */
+    uint8_t app[GP_MOST_APP];
+} gp_terms;
+
+/* What a slave is set to, but for its rule for application parameters. */
+typedef struct gp_slave_settings {
+    uint16_t master_len; /* safe data bytes of the master's frames: 1, or even and 2 to 126 */
+    uint16_t slave_len;  /* safe data bytes of the slave's frames: 1, or even and 2 to 126 */
+    uint16_t address;    /* the slave's address, any number */
+    uint16_t hand;       /* ticks after which a handshake expires, 1 to 65535 */
+    uint16_t most;       /* the longest watchdog that is accepted, in ticks, 1 to 65535 */
+    uint16_t profile;    /* 1 or 2 */
+    uint32_t nonce;      /* the first session id; at most 65535 in profile 1 */
+    uint16_t word;       /* the word of profile 2; not read in profile 1 */
+} gp_slave_settings;
+
+/* What a master is set to, but for the application parameters. */
+typedef struct gp_master_settings {
+    uint16_t master_len; /* safe data bytes of the master's frames: 1, or even and 2 to 126 */
+    uint16_t slave_len;  /* safe data bytes of the slave's frames: 1, or even and 2 to 126 */
+    uint16_t conn;       /* the connection id, 1 to 65535 */
+    uint16_t address;    /* the address of the slave */
+    uint16_t watchdog;   /* in ticks, 1 to 65535 */
+    uint16_t profile;    /* 1 or 2 */
+    uint32_t nonce;      /* the first session id; at most 65535 in profile 1 */
+    uint16_t word;       /* the word of profile 2; not read in profile 1 */
+} gp_master_settings;
+
+/* Memory for a slave, and for a master. */
+typedef struct gp_slave_memory {
+    GP_ALIGNED uint8_t bytes[GP_SLAVE_SIZE];
+} gp_slave_memory;
+
+typedef struct gp_master_memory {
+    GP_ALIGNED uint8_t bytes[GP_MASTER_SIZE];
+} gp_master_memory;
+
+/* The handles. Set one by its macro, and leave its fields to the library. */
+typedef struct gp_slave {
+    gp_slave_memory *memory;
+    bool live;
+} gp_slave;
+
+typedef struct gp_master {
+    gp_master_memory *memory;
+    bool live;
+} gp_master;
+
+#define GP_SLAVE_IN(memory) {(memory), false}
+#define GP_MASTER_IN(memory) {(memory), false}
+
+/* ---- A slave ---- */
+
+size_t gp_slave_size(void);
+size_t gp_slave_align(void);
+
+/* Makes a slave in its memory: in state GP_RESET, with zeros to offer and to give, and not held. The three calls differ in
+   which application parameters the slave accepts: any app_len bytes; these bytes alone; or as many bytes as low and high
+   have, each of them, at its place, from low to high. The first fault in the order of the numbers is answered; BUSY, and
+   BAD_APP for more than 512 bytes, come before all others. */
+uint8_t gp_slave_init(gp_slave *slave, const gp_slave_settings *set, uint16_t app_len);
+uint8_t gp_slave_init_exact(gp_slave *slave, const gp_slave_settings *set, const uint8_t *app, size_t app_len);
+uint8_t gp_slave_init_ranges(gp_slave *slave, const gp_slave_settings *set, const uint8_t *low, size_t low_len,
+                             const uint8_t *high, size_t high_len);
+
+/* Lets the slave go; the memory is yours again. */
+uint8_t gp_slave_end(gp_slave *slave);
+
+/* A frame of the master came: any bytes, of any number. */
+uint8_t gp_slave_deliver(gp_slave *slave, const uint8_t *frame, size_t frame_len, gp_frame *out, gp_did *did);
+
+/* A tick passed. Where the watchdog expires the session ends with code 5, and the outputs are zeros from this call on. */
+uint8_t gp_slave_tick(gp_slave *slave, gp_frame *out, gp_did *did);
+
+/* Ends the session, if there is one. out is the Reset frame to send. */
+uint8_t gp_slave_reset(gp_slave *slave, gp_frame *out, gp_did *did);
+
+/* The slave's own safe data from now on, slave_len bytes: frames that are sealed from now on carry them. */
+uint8_t gp_slave_put(gp_slave *slave, const uint8_t *load, size_t load_len);
+
+/* While held, a slave goes on with its session and sends zeros as FailSafeData in place of what was put. */
+uint8_t gp_slave_hold(gp_slave *slave, bool failsafe);
+
+/* The session id of the sessions that begin from now on. Each session needs a fresh one. */
+uint8_t gp_slave_nonce(gp_slave *slave, uint32_t id);
+
+/* Readers: they change nothing at the end. */
+uint8_t gp_slave_state(gp_slave *slave, uint8_t *state);                         /* enum gp_state */
+uint8_t gp_slave_outputs(gp_slave *slave, uint8_t *outputs, size_t outputs_len); /* outputs_len: master_len */
+uint8_t gp_slave_offer(gp_slave *slave, uint8_t *offer, size_t offer_len);       /* offer_len: slave_len */
+uint8_t gp_slave_terms(gp_slave *slave, gp_terms *terms);                        /* in state GP_DATA alone */
+uint8_t gp_slave_age(gp_slave *slave, uint16_t *age);                            /* ticks since a frame was sent last */
+uint8_t gp_slave_held(gp_slave *slave, uint8_t *held);                           /* 1 while held */
+
+/* ---- A master ---- */
+
+size_t gp_master_size(void);
+size_t gp_master_align(void);
+
+/* Makes a master in its memory, with these application parameters for its slave: in state GP_RESET, with zeros to offer and
+   to give, and not held. Its first tick sends the first frame. */
+uint8_t gp_master_init(gp_master *master, const gp_master_settings *set, const uint8_t *app, size_t app_len);
+
+/* Lets the master go; the memory is yours again. */
+uint8_t gp_master_end(gp_master *master);
+
+/* A frame of the slave came: any bytes, of any number. out is the frame that follows it. */
+uint8_t gp_master_deliver(gp_master *master, const uint8_t *frame, size_t frame_len, gp_frame *out, gp_did *did);
+
+/* The same in two calls, with the application between them: accept takes the frame, then the outputs are read and new data
+   put, and where a frame is due reply writes it, with these data. */
+uint8_t gp_master_accept(gp_master *master, const uint8_t *frame, size_t frame_len, gp_did *did);
+uint8_t gp_master_due(gp_master *master, uint8_t *due); /* 1 where a frame is due */
+uint8_t gp_master_reply(gp_master *master, gp_frame *out);
+
+/* A tick passed. Where the watchdog expires the session ends with code 5, and the outputs are zeros from this call on. In
+   state GP_RESET the Reset frame is sent again each time that the watchdog is over. */
+uint8_t gp_master_tick(gp_master *master, gp_frame *out, gp_did *did);
+
+/* Ends the session, if there is one. out is the Reset frame to send. */
+uint8_t gp_master_reset(gp_master *master, gp_frame *out, gp_did *did);
+
+/* As of a slave; the master's own safe data are master_len bytes. All three are allowed while a frame is due. */
+uint8_t gp_master_put(gp_master *master, const uint8_t *load, size_t load_len);
+uint8_t gp_master_hold(gp_master *master, bool failsafe);
+uint8_t gp_master_nonce(gp_master *master, uint32_t id);
+
+/* Readers: they change nothing at the end. While a frame is due it counts as sent. */
+uint8_t gp_master_state(gp_master *master, uint8_t *state);                         /* enum gp_state */
+uint8_t gp_master_outputs(gp_master *master, uint8_t *outputs, size_t outputs_len); /* outputs_len: slave_len */
+uint8_t gp_master_offer(gp_master *master, uint8_t *offer, size_t offer_len);       /* offer_len: master_len */
+uint8_t gp_master_terms(gp_master *master, gp_terms *terms);                        /* in state GP_DATA alone */
+uint8_t gp_master_age(gp_master *master, uint16_t *age);                            /* ticks since a frame was sent last */
+uint8_t gp_master_held(gp_master *master, uint8_t *held);                           /* 1 while held */
+
+#ifdef __cplusplus
+}
+#define GP_ASSERT static_assert
+#else
+#define GP_ASSERT _Static_assert
+#endif
+
+/* The library was built for this layout. */
+GP_ASSERT(sizeof(size_t) == 8 && sizeof(void *) == 8 && sizeof(bool) == 1, "a target with 64-bit pointers");
+GP_ASSERT(sizeof(gp_frame) == 264 && offsetof(gp_frame, bytes) == 8, "gp_frame");
+GP_ASSERT(sizeof(gp_did) == 133 && offsetof(gp_did, took) == 0 && offsetof(gp_did, passed) == 1 &&
+              offsetof(gp_did, sent) == 2 && offsetof(gp_did, reset) == 3 && offsetof(gp_did, code) == 4 &&
+              offsetof(gp_did, dropped) == 5 && offsetof(gp_did, load_len) == 6 && offsetof(gp_did, load) == 7,
+          "gp_did");
+GP_ASSERT(sizeof(gp_terms) == 524 && offsetof(gp_terms, conn) == 0 && offsetof(gp_terms, address) == 2 &&
+              offsetof(gp_terms, watchdog) == 4 && offsetof(gp_terms, word) == 6 && offsetof(gp_terms, app_len) == 8 &&
+              offsetof(gp_terms, profile) == 10 && offsetof(gp_terms, app) == 11,
+          "gp_terms");
+GP_ASSERT(sizeof(gp_slave_settings) == 20 && offsetof(gp_slave_settings, master_len) == 0 &&
+              offsetof(gp_slave_settings, slave_len) == 2 && offsetof(gp_slave_settings, address) == 4 &&
+              offsetof(gp_slave_settings, hand) == 6 && offsetof(gp_slave_settings, most) == 8 &&
+              offsetof(gp_slave_settings, profile) == 10 && offsetof(gp_slave_settings, nonce) == 12 &&
+              offsetof(gp_slave_settings, word) == 16,
+          "gp_slave_settings");
+GP_ASSERT(sizeof(gp_master_settings) == 20 && offsetof(gp_master_settings, master_len) == 0 &&
+              offsetof(gp_master_settings, slave_len) == 2 && offsetof(gp_master_settings, conn) == 4 &&
+              offsetof(gp_master_settings, address) == 6 && offsetof(gp_master_settings, watchdog) == 8 &&
+              offsetof(gp_master_settings, profile) == 10 && offsetof(gp_master_settings, nonce) == 12 &&
+              offsetof(gp_master_settings, word) == 16,
+          "gp_master_settings");
+GP_ASSERT(sizeof(gp_slave) == 16 && offsetof(gp_slave, memory) == 0 && offsetof(gp_slave, live) == 8, "gp_slave");
+GP_ASSERT(sizeof(gp_master) == 16 && offsetof(gp_master, memory) == 0 && offsetof(gp_master, live) == 8, "gp_master");
+GP_ASSERT(sizeof(gp_slave_memory) == GP_SLAVE_SIZE && sizeof(gp_master_memory) == GP_MASTER_SIZE, "memory");
+
+#undef GP_ASSERT
+#undef GP_ALIGNED
+
+#endif

@@ -1,0 +1,113 @@
+//! Both ends of a Gatepast connection, Safety over EtherCAT in a profile of its own.
+//!
+//! An end has no clock and no line: your program hands it frames and ticks, and sends what it hands out. It lies in memory that
+//! you lend it, takes none besides, and needs no operating system. The machine code behind it is proved to do what the profile
+//! says; this package is a thin layer over it, whose types leave no wrong call to write: lengths are part of the type of an end,
+//! a session id has the bits that its profile allows, and where a master owes a frame only sending it leads on.
+//!
+//! ```
+//! use core::num::NonZeroU16;
+//! use gatepast::{One, Rule, Slave, SlaveMemory, SlaveSettings, State};
+//!
+//! let mut memory = SlaveMemory::new();
+//! let settings = SlaveSettings {
+//!     address: 2,
+//!     hand: NonZeroU16::new(200).unwrap(),
+//!     most: NonZeroU16::new(1000).unwrap(),
+//!     profile: One { nonce: 2 },
+//! };
+//! // the master's frames carry 2 safe data bytes, and this slave's 4
+//! let mut slave = Slave::<One, 2, 4>::new(&mut memory, &settings, Rule::any::<0>());
+//! slave.put(&[1, 2, 3, 4]);
+//! let step = slave.deliver(&[0x2A, 0, 0, 0xC4, 0x2D, 0, 0]);
+//! assert_eq!(step.send().map(<[u8]>::len), Some(11));
+//! assert_eq!(slave.state(), State::Reset);
+//! assert_eq!(slave.outputs(), [0, 0]);
+//! ```
+#![no_std]
+#![warn(missing_docs)]
+
+mod ffi;
+mod master;
+mod settings;
+mod slave;
+mod step;
+
+pub use master::{Accepted, Due, Master, MasterMemory};
+pub use settings::{App, MasterSettings, One, Profile, Rule, SlaveSettings, Two};
+pub use slave::{Slave, SlaveMemory};
+pub use step::{Cause, Code, Command, Dropped, State, Step, Terms, Took};
+
+/// The bytes of memory that a slave and a master take.
+pub const SIZES: (usize, usize) = (ffi::SLAVE_SIZE, ffi::MASTER_SIZE);
+
+/// Whether frames can carry this many safe data bytes.
+const fn is_length(len: usize) -> bool {
+    len == 1 || (len >= 2 && len <= 126 && len % 2 == 0)
+}
+
+/// The library refused a call that the types allow, so that the archive isn't the one that this package was written for.
+#[cold]
+fn other_archive(answer: u8) -> ! {
+    panic!("gatepast: the archive answered {answer}; it is not the one of this package")
+}
+
+fn done(answer: u8) {
+    if answer != ffi::OK {
+        other_archive(answer);
+    }
+}
+
+/// What doesn't compile: an end of a length that frames can't carry,
+///
+/// ```compile_fail,E0080
+/// # use core::num::NonZeroU16;
+/// # use gatepast::{One, Rule, Slave, SlaveMemory, SlaveSettings};
+/// # let one = NonZeroU16::MIN;
+/// let settings = SlaveSettings { address: 2, hand: one, most: one, profile: One { nonce: 2 } };
+/// let mut slave = Slave::<One, 3, 2>::new(&mut SlaveMemory::new(), &settings, Rule::any::<0>());
+/// ```
+///
+/// a put of another number of bytes,
+///
+/// ```compile_fail,E0308
+/// # fn f(slave: &mut gatepast::Slave<'_, gatepast::One, 2, 2>) {
+/// slave.put(&[1, 2, 3]);
+/// # }
+/// ```
+///
+/// a session id that profile One doesn't allow,
+///
+/// ```compile_fail
+/// # #![deny(overflowing_literals)]
+/// # fn f(slave: &mut gatepast::Slave<'_, gatepast::One, 2, 2>) {
+/// slave.nonce(65_536);
+/// # }
+/// ```
+///
+/// a step of a master that owes a frame,
+///
+/// ```compile_fail,E0499
+/// # fn f(master: &mut gatepast::Master<'_, gatepast::One, 2, 2>, due: gatepast::Due<'_, '_, gatepast::One, 2, 2>) {}
+/// # fn g(master: &mut gatepast::Master<'_, gatepast::One, 2, 2>) {
+/// if let gatepast::Accepted::Due(due) = master.accept(&[]) {
+///     let _step = master.tick();
+///     let _frame = due.reply();
+/// }
+/// # }
+/// ```
+///
+/// and the use of memory that an end lies in.
+///
+/// ```compile_fail,E0505
+/// # use core::num::NonZeroU16;
+/// # use gatepast::{One, Rule, Slave, SlaveMemory, SlaveSettings};
+/// # let one = NonZeroU16::MIN;
+/// # let settings = SlaveSettings { address: 2, hand: one, most: one, profile: One { nonce: 2 } };
+/// let mut memory = SlaveMemory::new();
+/// let mut slave = Slave::<One, 2, 2>::new(&mut memory, &settings, Rule::any::<0>());
+/// drop(memory);
+/// slave.put(&[1, 2]);
+/// ```
+#[cfg(doctest)]
+pub struct WrongCalls;

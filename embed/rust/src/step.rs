@@ -1,0 +1,216 @@
+//! What steps of an end do, and what an end tells of itself.
+
+use crate::ffi;
+
+/// What a frame is for.
+#[derive(Clone, Copy, Debug, PartialEq, Eq)]
+pub enum Command {
+    /// It ends sessions, and leads to a new one.
+    Reset,
+    /// It carries a piece of a session id.
+    Session,
+    /// It carries a piece of the connection id and the address.
+    Connection,
+    /// It carries a piece of the parameters.
+    Parameter,
+    /// It carries process data.
+    ProcessData,
+    /// It says that process data aren't to be used.
+    FailSafeData,
+}
+
+/// The state of an end, in the order of a session.
+#[derive(Clone, Copy, Debug, PartialEq, Eq, PartialOrd, Ord)]
+pub enum State {
+    /// There is no session.
+    Reset,
+    /// The session id is on its way.
+    Session,
+    /// The connection id and the address are on their way.
+    Connection,
+    /// The parameters are on their way.
+    Parameter,
+    /// Data are exchanged. In every other state all outputs are zeros.
+    Data,
+}
+
+/// The code of a reset, 0 to 0Bh, or the peer's own above.
+#[derive(Clone, Copy, Debug, PartialEq, Eq)]
+pub struct Code(pub u8);
+
+impl Code {
+    /// The watchdog expired.
+    pub const WATCHDOG_EXPIRED: Code = Code(5);
+}
+
+/// Why an end went to state Reset.
+#[derive(Clone, Copy, Debug, PartialEq, Eq)]
+pub enum Cause {
+    /// It was told to.
+    Local,
+    /// Its peer sent a Reset frame with this code.
+    Peer(Code),
+    /// It found a fault.
+    Found(Code),
+}
+
+/// Why a frame was dropped without an answer.
+#[derive(Clone, Copy, Debug, PartialEq, Eq)]
+pub enum Dropped {
+    /// It has another number of bytes than the peer's frames.
+    Length,
+    /// It is the frame that was taken last, once more.
+    Repeat,
+    /// It fails a test in state Reset.
+    InReset,
+}
+
+/// A frame that an end took.
+#[derive(Clone, Copy, Debug, PartialEq, Eq)]
+pub struct Took<'a> {
+    /// What it is for.
+    pub command: Command,
+    /// Its safe data.
+    pub load: &'a [u8],
+}
+
+/// What a step did, with the frame that is to be sent.
+#[derive(Clone, Copy)]
+pub struct Step<'a> {
+    pub(crate) out: &'a ffi::Frame,
+    pub(crate) did: &'a ffi::Did,
+}
+
+pub(crate) const NO_FRAME: ffi::Frame = ffi::Frame {
+    len: 0,
+    bytes: [0; 255],
+};
+
+pub(crate) const NOTHING: ffi::Did = ffi::Did {
+    took: 0,
+    passed: 0,
+    sent: 0,
+    reset: 0,
+    code: 0,
+    dropped: 0,
+    load_len: 0,
+    load: [0; 126],
+};
+
+pub(crate) fn bytes_of(frame: &ffi::Frame) -> &[u8] {
+    &frame.bytes[..frame.len.min(frame.bytes.len())]
+}
+
+pub(crate) fn took(did: &ffi::Did) -> Option<Took<'_>> {
+    let command = match did.took {
+        0x2A => Command::Reset,
+        0x4E => Command::Session,
+        0x64 => Command::Connection,
+        0x52 => Command::Parameter,
+        0x36 => Command::ProcessData,
+        0x08 => Command::FailSafeData,
+        _ => return None,
+    };
+    Some(Took {
+        command,
+        load: &did.load[..usize::from(did.load_len).min(did.load.len())],
+    })
+}
+
+pub(crate) fn reset(did: &ffi::Did) -> Option<Cause> {
+    match did.reset {
+        1 => Some(Cause::Local),
+        2 => Some(Cause::Peer(Code(did.code))),
+        3 => Some(Cause::Found(Code(did.code))),
+        _ => None,
+    }
+}
+
+pub(crate) fn dropped(did: &ffi::Did) -> Option<Dropped> {
+    match did.dropped {
+        1 => Some(Dropped::Length),
+        2 => Some(Dropped::Repeat),
+        3 => Some(Dropped::InReset),
+        _ => None,
+    }
+}
+
+pub(crate) fn state(number: u8) -> State {
+    match number {
+        1 => State::Session,
+        2 => State::Connection,
+        3 => State::Parameter,
+        4 => State::Data,
+        _ => State::Reset,
+    }
+}
+
+impl<'a> Step<'a> {
+    /// The frame to send.
+    pub fn send(&self) -> Option<&'a [u8]> {
+        (self.out.len != 0).then(|| bytes_of(self.out))
+    }
+
+    /// The frame that was taken.
+    pub fn took(&self) -> Option<Took<'a>> {
+        took(self.did)
+    }
+
+    /// Why the end went to state Reset.
+    pub fn reset(&self) -> Option<Cause> {
+        reset(self.did)
+    }
+
+    /// Why a frame was dropped.
+    pub fn dropped(&self) -> Option<Dropped> {
+        dropped(self.did)
+    }
+
+    /// Whether a frame that is no Reset frame passed the test of its CRCs.
+    pub fn passed(&self) -> bool {
+        self.did.passed != 0
+    }
+}
+
+/// What the ends of a session agreed on.
+#[derive(Clone, Copy, Debug, PartialEq, Eq)]
+pub struct Terms {
+    /// The connection id.
+    pub conn: u16,
+    /// The slave's address.
+    pub address: u16,
+    /// The watchdog in ticks.
+    pub watchdog: u16,
+    /// The word of profile Two; None in profile One.
+    pub word: Option<u16>,
+    app_len: u16,
+    app: [u8; 512],
+}
+
+pub(crate) const NO_TERMS: ffi::Terms = ffi::Terms {
+    conn: 0,
+    address: 0,
+    watchdog: 0,
+    word: 0,
+    app_len: 0,
+    profile: 0,
+    app: [0; 512],
+};
+
+impl Terms {
+    pub(crate) fn of(terms: &ffi::Terms) -> Terms {
+        Terms {
+            conn: terms.conn,
+            address: terms.address,
+            watchdog: terms.watchdog,
+            word: (terms.profile == 2).then_some(terms.word),
+            app_len: terms.app_len,
+            app: terms.app,
+        }
+    }
+
+    /// The application parameters.
+    pub fn app(&self) -> &[u8] {
+        &self.app[..usize::from(self.app_len).min(self.app.len())]
+    }
+}
