@@ -12,4 +12,6 @@ mod of_master_core;
 #[cfg(test)]
 mod of_multi_master;
 #[cfg(test)]
+mod of_plant_run;
+#[cfg(test)]
 mod of_slave_core;

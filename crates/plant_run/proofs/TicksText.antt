@@ -1,0 +1,120 @@
+-- The lines of the ticks of a journal that grows by a turn.
+use Rattle.std.proofs.Common.{◌≡◌, ℕ, Bool, true, false, List, [], ◌∷◌, ◌++◌, length, map, nat_lt, Option, Some, None, if◌then◌else◌, refl, sym, ap, subst, ◌∙◌, append_assoc}
+use Rattle.std.proofs.lemmas.List.{append-nil}
+use Rattle.black_channel.specs.declared.channel.Parcel.{Parcel}
+use Rattle.plant_conf.specs.declared.conf.LinkConf.{LinkConf}
+use Rattle.plant_run.specs.declared.event.PlantEvent.TheVariants as event
+use Rattle.plant_run.specs.declared.journal.JournalStep.{JournalStep}
+use Rattle.plant_run.specs.declared.journal.JournalStep.TheVariants as step
+use Rattle.plant_run.specs.Acts.{Beginning, Said, Event, App, Act, Happen, PullFrom, call_of, calls, offers, journal, steps_of}
+use Rattle.plant_run.specs.Pair.{is_tick}
+use Rattle.plant_run.specs.PlantReport.{in_tick, is_line, lines_due, lines_from, tick_lines, ticks_text}
+use Rattle.plant_run.specs.Promises.{line_step, line_steps}
+use Rattle.plant_run.specs.Turns.{pulls_at, turn_acts}
+use Rattle.plant_run.proofs.Lines.{lines_append, no_lines_by, one_more}
+
+-- the lines go on after a line of the script
+lines_split : (links : List LinkConf) (before a b : List JournalStep) (one : JournalStep) → is_line one ≡ true
+    → lines_from links before (a ++ one ∷ b) ≡ lines_from links before a ++ lines_from links ((before ++ a) ++ one ∷ []) b
+lines_split links before [] b one is =
+    ap (λ (line : Bool). (if line then lines_due links before else []) ++ lines_from links (before ++ one ∷ []) b) is
+    ∙ ap (λ (z : List JournalStep). lines_due links before ++ lines_from links (z ++ one ∷ []) b) (sym (append-nil before))
+lines_split links before (x ∷ a) b one is =
+    let due : List ℕ = if is_line x then lines_due links before else [] in
+    ap (λ (z : List ℕ). due ++ z) (lines_split links (before ++ x ∷ []) a b one is)
+    ∙ sym (append_assoc due (lines_from links (before ++ x ∷ []) a) (lines_from links (((before ++ x ∷ []) ++ a) ++ one ∷ []) b))
+    ∙ ap (λ (z : List JournalStep). (due ++ lines_from links (before ++ x ∷ []) a) ++ lines_from links (z ++ one ∷ []) b) (append_assoc before (x ∷ []) a)
+
+-- steps that are no lines of the script come before the lines of their tick
+lines_quiet : (links : List LinkConf) (before rest : List JournalStep) → line_steps rest ≡ [] → lines_from links before rest ≡ lines_due links (before ++ rest)
+lines_quiet links before [] none = ap (lines_due links) (sym (append-nil before))
+lines_quiet links before (step.Script e ∷ rest) none = cc
+lines_quiet links before (step.App ∷ rest) none = cc
+lines_quiet links before (step.Offer link load ∷ rest) none =
+    lines_quiet links (before ++ step.Offer link load ∷ []) rest none ∙ ap (lines_due links) (append_assoc before (step.Offer link load ∷ []) rest)
+lines_quiet links before (step.Pulled parcel ∷ rest) none =
+    lines_quiet links (before ++ step.Pulled parcel ∷ []) rest none ∙ ap (lines_due links) (append_assoc before (step.Pulled parcel ∷ []) rest)
+
+in_tick_append : (before : Bool) (a b : List JournalStep) → in_tick before (a ++ b) ≡ in_tick (in_tick before a) b
+in_tick_append before [] b = refl
+in_tick_append before (x ∷ a) b = in_tick_append (if is_line x then is_tick x else before) a b
+
+in_tick_quiet : (before : Bool) (rest : List JournalStep) → line_steps rest ≡ [] → in_tick before rest ≡ before
+in_tick_quiet before [] none = refl
+in_tick_quiet before (step.Script e ∷ rest) none = cc
+in_tick_quiet before (step.App ∷ rest) none = cc
+in_tick_quiet before (step.Offer link load ∷ rest) none = in_tick_quiet before rest none
+in_tick_quiet before (step.Pulled parcel ∷ rest) none = in_tick_quiet before rest none
+
+-- a journal is another one, a line of the script, and steps that are none
+pub record After (said : Said) (old new : List JournalStep) : Type 0 where
+  pub rest : List JournalStep
+  pub is : new ≡ old ++ line_step said ∷ rest
+  pub none : line_steps rest ≡ []
+
+line_is : (said : Said) → is_line (line_step said) ≡ true
+line_is (Event e) = refl
+line_is (App app) = refl
+
+-- then its text is that of the other, and the lines of the tick, where the line is one
+pub text_after : (links : List LinkConf) (said : Said) (old new : List JournalStep) → After said old new → ticks_text links new ≡ ticks_text links old ++ (if is_tick (line_step said) then tick_lines links new else [])
+text_after links said old new a =
+    let one : JournalStep = line_step said in
+    let whole : (old ++ one ∷ []) ++ a.rest ≡ new = append_assoc old (one ∷ []) a.rest ∙ sym a.is in
+    let due : in_tick false new ≡ is_tick one =
+    ap (in_tick false) a.is ∙ in_tick_append false old (one ∷ a.rest)
+    ∙ ap (λ (line : Bool). in_tick (if line then is_tick one else in_tick false old) a.rest) (line_is said)
+    ∙ in_tick_quiet (is_tick one) a.rest a.none in
+    ap (ticks_text links) a.is
+    ∙ lines_split links [] old a.rest one (line_is said)
+    ∙ ap (λ (z : List ℕ). ticks_text links old ++ z)
+    (lines_quiet links (old ++ one ∷ []) a.rest a.none ∙ ap (lines_due links) whole ∙ ap (λ (tick : Bool). if tick then tick_lines links new else []) due)
+
+-- an act that is no line of the script
+after_more : (b : Beginning) (said : Said) (old : List JournalStep) (gift : Option Parcel) (done : List Act) → After said old (journal b done) → After said old (journal b (PullFrom gift ∷ done))
+after_more b said old None done a = record {
+  rest = a.rest;
+  is = append-nil (journal b done) ∙ a.is;
+  none = a.none;
+}
+after_more b said old (Some parcel) done a =
+    let changed : List JournalStep = offers b (PullFrom (Some parcel)) done in
+    let more : List JournalStep = changed ++ step.Pulled parcel ∷ [] in
+    record {
+      rest = a.rest ++ more;
+      is = ap (λ (z : List JournalStep). z ++ more) a.is ∙ append_assoc old (line_step said ∷ a.rest) more;
+      none =
+          lines_append a.rest more
+          ∙ ap (λ (z : List JournalStep). z ++ line_steps more) a.none
+          ∙ lines_append changed (step.Pulled parcel ∷ [])
+          ∙ append-nil (line_steps changed)
+          ∙ no_lines_by b (call_of b (PullFrom (Some parcel))) (calls b done);
+    }
+
+after_gifts : (b : Beginning) (said : Said) (old : List JournalStep) (parcels : List Parcel) (done : List Act) → After said old (journal b done) → After said old (journal b (map (λ parcel. PullFrom (Some parcel)) parcels ++ done))
+after_gifts b said old [] done a = a
+after_gifts b said old (parcel ∷ parcels) done a = after_more b said old (Some parcel) (map (λ parcel. PullFrom (Some parcel)) parcels ++ done) (after_gifts b said old parcels done a)
+
+after_pulls : (b : Beginning) (said : Said) (old : List JournalStep) (parcels : List Parcel) (done : List Act) (short : Bool) → After said old (journal b done)
+    → After said old (journal b (((if short then PullFrom None ∷ [] else []) ++ map (λ parcel. PullFrom (Some parcel)) parcels) ++ done))
+after_pulls b said old parcels done false a = after_gifts b said old parcels done a
+after_pulls b said old parcels done true a = after_more b said old None (map (λ parcel. PullFrom (Some parcel)) parcels ++ done) (after_gifts b said old parcels done a)
+
+after_pulls_at : (b : Beginning) (said : Said) (old : List JournalStep) (parcels : List Parcel) (done : List Act) → After said old (journal b done) → After said old (journal b (pulls_at said parcels ++ done))
+after_pulls_at b (Event event.Tick) old parcels done a = after_pulls b (Event event.Tick) old parcels done (nat_lt (length parcels) 64) a
+after_pulls_at b (Event (event.Put link load)) old parcels done a = a
+after_pulls_at b (Event (event.Hold link failsafe)) old parcels done a = a
+after_pulls_at b (Event (event.Local link)) old parcels done a = a
+after_pulls_at b (Event (event.Nonce link end id)) old parcels done a = a
+after_pulls_at b (Event (event.Cut link cut)) old parcels done a = a
+after_pulls_at b (App app) old parcels done a = a
+
+after_line : (b : Beginning) (said : Said) (done : List Act) → After said (journal b done) (journal b (Happen said ∷ done))
+after_line b (Event e) done = record { rest = offers b (Happen (Event e)) done; is = refl; none = no_lines_by b (call_of b (Happen (Event e))) (calls b done) }
+after_line b (App app) done = record { rest = offers b (Happen (App app)) done; is = refl; none = no_lines_by b (call_of b (Happen (App app))) (calls b done) }
+
+-- a turn
+pub after_turn : (b : Beginning) (said : Said) (parcels : List Parcel) (done : List Act) → After said (journal b done) (journal b (turn_acts said parcels ++ done))
+after_turn b said parcels done =
+    subst (λ (acts : List Act). After said (journal b done) (journal b acts)) (sym (one_more (pulls_at said parcels) said done))
+    (after_pulls_at b said (journal b done) parcels (Happen said ∷ done) (after_line b said done))

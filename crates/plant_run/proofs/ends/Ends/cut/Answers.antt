@@ -1,0 +1,36 @@
+use Rattle.std.proofs.Common.{◌≡◌, ◌≤◌, ◌<◌, ◌+◌, ◌-◌, ◌*◌, ◌^◌, [], ◌∷◌, ◌++◌, ℕ, suc, List, Some, length, vec_len, vec_capacity, slice_get, slice_index_or, slice_index, slice_set, take, drop, refl, sym, ap, subst, ◌∙◌, arith}
+use Rattle.std.proofs.lemmas.Option.{slice_get_read, slice_get-get_or}
+use Rattle.fsoe_base.specs.declared.command.End.TheVariants as side
+use Rattle.param_load.specs.declared.entry.Move.TheVariants as move
+use Rattle.plant_run.specs.declared.event.PlantEvent.TheVariants as event
+use Rattle.plant_run.specs.declared.journal.JournalStep.TheVariants as step
+use Rattle.plant_run.specs.Link.{LinkView}
+use Rattle.plant_run.specs.Standing.{AreNoted, IsPlant, lengths_kept}
+use Rattle.slave_core.specs.SlaveView.{SlaveView}
+use Rattle.plant_run.proofs.Acting.{placed, lengths_set}
+use Rattle.plant_run.proofs.OneDeed.{cut_event}
+use Rattle.plant_run.proofs.ends.Ends.cut.Goals as goal
+
+pub returns-clause-goes : goal.returns-clause-goes
+returns-clause-goes g c =
+    let links = c.args.self.now.links in
+    let p = placed links.items links.len c.args.link c.from.result c.index_mut.result.now links.ok.0 c.from.ensures c.requires.first c.requires.last c.index_mut.ensures.value in
+    λ told. cut_event _ _ c.args.link c.args.cut told (record {
+      place = c.from.result - 1;
+      number = p.number;
+      was = c.index_mut.result.now;
+      is = c.set_cut.new.self;
+      at = p.at;
+      slave = c.set_cut.ensures.slave;
+      monitor = c.set_cut.ensures.monitor;
+      cut_is = c.set_cut.ensures.cut;
+      master = refl;
+      links = refl;
+      journal = c.note.ensures.noted;
+    })
+
+pub returns-clause-lengths : goal.returns-clause-lengths
+returns-clause-lengths g c =
+    let links = c.args.self.now.links in
+    let p = placed links.items links.len c.args.link c.from.result c.index_mut.result.now links.ok.0 c.from.ensures c.requires.first c.requires.last c.index_mut.ensures.value in
+    lengths_set links.items (c.from.result - 1) c.index_mut.result.now c.set_cut.new.self p.at (ap (λ (s : SlaveView). s.kit.settings) c.set_cut.ensures.slave)

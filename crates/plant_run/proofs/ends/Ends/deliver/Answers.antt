@@ -1,0 +1,21 @@
+use Rattle.std.proofs.Common.{◌≡◌, ◌≤◌, ◌<◌, ◌+◌, ◌-◌, ◌*◌, ◌^◌, [], ◌∷◌, ◌++◌, ◌⊎◌, inl, inr, ℕ, suc, List, Some, None, length, vec_len, vec_capacity, slice_get, slice_index_or, slice_index, slice_set, take, drop, refl, sym, ap, subst, ◌∙◌, arith}
+use Rattle.fsoe_base.specs.declared.command.End.TheVariants as side
+use Rattle.black_channel.specs.declared.channel.Parcel.{Parcel}
+use Rattle.plant_run.specs.declared.event.PlantEvent.TheVariants as event
+use Rattle.plant_run.specs.declared.journal.JournalStep.TheVariants as step
+use Rattle.plant_run.specs.Link.{LinkView}
+use Rattle.plant_run.specs.Standing.{AreNoted, IsPlant, lengths_kept}
+use Rattle.plant_run.proofs.Pulling.{nowhere_delivered}
+use Rattle.plant_run.proofs.ends.Ends.deliver.Goals.{then-to-eq0-via-then-to-eq0, then-to-eq0-via-else-to-eq0+then-from-len}
+use Rattle.plant_run.proofs.ends.Ends.deliver.Goals as goal
+
+pub returns-then-to-eq0-clause-delivers : goal.returns-then-to-eq0-clause-delivers
+returns-then-to-eq0-clause-delivers g c =
+    let links = c.args.self.now.links in
+    let parcel : Parcel = record { to = c.args.to; frame = c.args.frame.now } in
+    let far : (c.args.to.link ≡ 0) ⊎ (length links.items < c.args.to.link) = elim c.then-to-eq0.branch [
+      | then-to-eq0-via-then-to-eq0 w ↦ inl w.if-to-eq0.true
+      | then-to-eq0-via-else-to-eq0+then-from-len w ↦ inr (omega (arith, w.if-from-len.true, w.from.ensures, w.len.ensures, links.ok.0))
+    ]
+    in
+    nowhere_delivered _ _ parcel _ far refl refl c.note_pulled.ensures.noted

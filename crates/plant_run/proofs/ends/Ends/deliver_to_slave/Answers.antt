@@ -1,0 +1,35 @@
+use Rattle.std.proofs.Common.{◌≡◌, ◌≤◌, ◌<◌, ◌+◌, ◌-◌, ◌*◌, ◌^◌, [], ◌∷◌, ◌++◌, ℕ, suc, List, Some, length, vec_len, vec_capacity, slice_get, slice_index_or, slice_index, slice_set, take, drop, refl, sym, ap, subst, ◌∙◌, arith}
+use Rattle.std.proofs.lemmas.Option.{slice_get_read, slice_get-get_or}
+use Rattle.fsoe_base.specs.declared.command.End.TheVariants as side
+use Rattle.param_load.specs.declared.entry.Move.TheVariants as move
+use Rattle.plant_run.specs.declared.event.PlantEvent.TheVariants as event
+use Rattle.plant_run.specs.declared.journal.JournalStep.TheVariants as step
+use Rattle.plant_run.specs.Link.{LinkView}
+use Rattle.plant_run.specs.Standing.{AreNoted, IsPlant, lengths_kept}
+use Rattle.plant_run.proofs.Acting.{placed, lengths_set}
+use Rattle.plant_run.proofs.OneDeed.{slave_delivered}
+use Rattle.plant_run.proofs.ends.Ends.deliver_to_slave.Goals as goal
+
+pub returns-clause-delivers : goal.returns-clause-delivers
+returns-clause-delivers g c =
+    let links = c.args.self.now.links in
+    let p = placed links.items links.len c.args.link c.from.result c.index_mut-kept.result.now links.ok.0 c.from.ensures c.requires.first c.requires.last c.index_mut-kept.ensures.value in
+    let acts = rw c.bytes.ensures.value at c.deliver_to_slave.ensures.acts in
+    slave_delivered _ _ c.args.link c.args.frame.now _ _ (record {
+      place = c.from.result - 1;
+      number = p.number;
+      was = c.index_mut-kept.result.now;
+      is = c.deliver_to_slave.new.link;
+      at = p.at;
+      acts = acts;
+      cut = c.deliver_to_slave.ensures.notes.cut;
+      master = refl;
+      links = refl;
+      journal = c.note_pulled.ensures.noted;
+    })
+
+pub returns-clause-lengths : goal.returns-clause-lengths
+returns-clause-lengths g c =
+    let links = c.args.self.now.links in
+    let p = placed links.items links.len c.args.link c.from.result c.index_mut-kept.result.now links.ok.0 c.from.ensures c.requires.first c.requires.last c.index_mut-kept.ensures.value in
+    lengths_set links.items (c.from.result - 1) c.index_mut-kept.result.now c.deliver_to_slave.new.link p.at c.deliver_to_slave.ensures.notes.settings

@@ -1,0 +1,34 @@
+use Rattle.std.proofs.Common.{◌≡◌, ◌≤◌, ◌<◌, ◌+◌, ◌-◌, ◌*◌, ◌^◌, [], ◌∷◌, ◌++◌, ℕ, suc, List, Some, length, vec_len, vec_capacity, slice_get, slice_index_or, slice_index, slice_set, take, drop, refl, sym, ap, subst, ◌∙◌, arith}
+use Rattle.std.proofs.lemmas.Option.{slice_get_read, slice_get-get_or}
+use Rattle.fsoe_base.specs.declared.command.End.TheVariants as side
+use Rattle.param_load.specs.declared.entry.Move.TheVariants as move
+use Rattle.plant_run.specs.declared.event.PlantEvent.TheVariants as event
+use Rattle.plant_run.specs.declared.journal.JournalStep.TheVariants as step
+use Rattle.plant_run.specs.Link.{LinkView}
+use Rattle.plant_run.specs.Standing.{AreNoted, IsPlant, lengths_kept}
+use Rattle.plant_run.proofs.Acting.{placed, kept_fits, lengths_set}
+use Rattle.plant_run.proofs.OneDeed.{slave_event, put_acts, hold_acts, nonce_acts}
+use Rattle.plant_run.proofs.ends.Ends.reset.Goals as goal
+
+pub returns-clause-goes : goal.returns-clause-goes
+returns-clause-goes g c =
+    let links = c.args.self.now.links in
+    let p = placed links.items links.len c.args.link c.from.result c.index_mut.result.now links.ok.0 c.from.ensures c.requires.first c.requires.last c.index_mut.ensures.value in
+    slave_event _ _ (event.Local c.args.link) c.args.link (move.Local) _ _ (record { call = refl; one = record { part = λ k. refl }; cuts = λ k before. refl }) (record {
+      place = c.from.result - 1;
+      number = p.number;
+      was = c.index_mut.result.now;
+      is = c.reset_slave.new.link;
+      at = p.at;
+      acts = c.reset_slave.ensures.acts;
+      cut = c.reset_slave.ensures.notes.cut;
+      master = refl;
+      links = refl;
+      journal = c.note.ensures.noted;
+    })
+
+pub returns-clause-lengths : goal.returns-clause-lengths
+returns-clause-lengths g c =
+    let links = c.args.self.now.links in
+    let p = placed links.items links.len c.args.link c.from.result c.index_mut.result.now links.ok.0 c.from.ensures c.requires.first c.requires.last c.index_mut.ensures.value in
+    lengths_set links.items (c.from.result - 1) c.index_mut.result.now c.reset_slave.new.link p.at c.reset_slave.ensures.notes.settings

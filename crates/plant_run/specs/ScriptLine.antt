@@ -1,0 +1,152 @@
+-- What a line of a plant's script says that stands after its first line. The causes come in their order: the word, the number of
+-- fields, a number, the connection, the hexadecimal bytes, a length.
+use Rattle.std.specs.Prelude.{◌≡◌, ◌≤◌, ℕ, zero, suc, ◌==◌, length, Bool, List, [], ◌∷◌, codes, All, Option, Some, None, IsSome, IsSomeAnd, Result, Ok, Err, MatchResult, slice_get, if◌then◌else◌}
+use Rattle.std.specs.Str.{bytes_eq}
+use Rattle.fsoe_base.specs.LengthsOf.{length_of}
+use Rattle.fsoe_base.specs.declared.command.End.{End}
+use Rattle.fsoe_base.specs.declared.command.End.TheVariants as side
+use Rattle.fsoe_base.specs.declared.lengths.Lengths.{Lengths}
+use Rattle.fsoe_base.specs.declared.lengths.TheConstants.{MOST_DATA}
+use Rattle.schedule_file.specs.EventLine.{switch_of}
+use Rattle.schedule_file.specs.Field.{fields_of, bytes_said}
+use Rattle.schedule_file.specs.Fields.{◌>>=◌, map_ok, value_or, next_field, no_field, one_field, number_16}
+use Rattle.schedule_file.specs.declared.line_buf.TheConstants.{MAX_LINE}
+use Rattle.schedule_file.specs.declared.line_cause.LineCause.{LineCause}
+use Rattle.schedule_file.specs.declared.line_cause.LineCause.TheVariants as cause
+use Rattle.plant_run.specs.declared.event.PlantEvent.{PlantEvent}
+use Rattle.plant_run.specs.declared.event.PlantEvent.TheVariants as event
+use Rattle.plant_run.specs.declared.event.PlantLine.{PlantLine}
+use Rattle.plant_run.specs.declared.event.PlantLine.TheVariants as line
+use Rattle.plant_run.specs.declared.script_line.PlantWord.{PlantWord}
+use Rattle.plant_run.specs.declared.script_line.PlantWord.TheVariants as word
+use denote.Ref.{Bor}
+
+-- the word of an event or of an application, or `end`
+abbrev pub plant_word_of : List ℕ → Option PlantWord
+plant_word_of text =
+    if bytes_eq text (codes "t") then Some word.Tick
+    else if bytes_eq text (codes "p") then Some word.Put
+    else if bytes_eq text (codes "h") then Some word.Hold
+    else if bytes_eq text (codes "z") then Some word.Local
+    else if bytes_eq text (codes "n") then Some word.Nonce
+    else if bytes_eq text (codes "cut") then Some word.Cut
+    else if bytes_eq text (codes "app") then Some word.App
+    else if bytes_eq text (codes "end") then Some word.End
+    else None
+
+-- the end that a letter names
+abbrev pub end_of_letter : List ℕ → Option End
+end_of_letter text =
+    if bytes_eq text (codes "m") then Some side.Master
+    else if bytes_eq text (codes "s") then Some side.Slave
+    else None
+
+-- the lengths of the connection with this number, from 1, if there is one
+abbrev pub lengths_at : List Lengths → ℕ → Option Lengths
+lengths_at lengths zero = None
+lengths_at lengths (suc place) = slice_get lengths place
+
+-- the lengths of a connection that exists
+abbrev pub existing : List Lengths → ℕ → Result Lengths LineCause
+existing lengths link = value_or cause.NoLink (lengths_at lengths link)
+
+-- they were found, or the cause was
+abbrev pub IsExisting : Result (Bor Lengths) LineCause → Result Lengths LineCause → Type 0
+IsExisting result said = MatchResult result (λ ends. said ≡ Ok ends.now) (λ cause. said ≡ Err cause)
+
+-- safe data bytes, exactly as many as the slave of a connection sends
+abbrev pub put_line : List Lengths → List (List ℕ) → Result PlantLine LineCause
+put_line lengths fields = do
+  link ← next_field fields
+  digits ← one_field link.1
+  number ← number_16 link.0
+  ends ← existing lengths number
+  bytes ← value_or cause.Hex (bytes_said MOST_DATA digits)
+  if length bytes == length_of ends side.Slave then Ok (line.Step (event.Put number bytes)) else Err cause.Length
+
+-- a connection, and off or on
+abbrev pub link_and_switch : List Lengths → List (List ℕ) → Result (ℕ × Bool) LineCause
+link_and_switch lengths fields = do
+  link ← next_field fields
+  switch ← one_field link.1
+  number ← number_16 link.0
+  on ← value_or cause.Number (switch_of switch)
+  ends ← existing lengths number
+  Ok (number, on)
+
+-- fail-safe data of a slave, on or off
+abbrev pub hold_line : List Lengths → List (List ℕ) → Result PlantLine LineCause
+hold_line lengths fields = map_ok (λ said. line.Step (event.Hold said.0 said.1)) (link_and_switch lengths fields)
+
+-- whether a connection is cut
+abbrev pub cut_line : List Lengths → List (List ℕ) → Result PlantLine LineCause
+cut_line lengths fields = map_ok (λ said. line.Step (event.Cut said.0 said.1)) (link_and_switch lengths fields)
+
+-- a reset of a slave's own
+abbrev pub local_line : List Lengths → List (List ℕ) → Result PlantLine LineCause
+local_line lengths fields = do
+  link ← one_field fields
+  number ← number_16 link
+  ends ← existing lengths number
+  Ok (line.Step (event.Local number))
+
+-- a session id of 16 bits, at the end of a connection that a letter names
+abbrev pub nonce_line : List Lengths → List (List ℕ) → Result PlantLine LineCause
+nonce_line lengths fields = do
+  link ← next_field fields
+  letter ← next_field link.1
+  digits ← one_field letter.1
+  number ← number_16 link.0
+  end ← value_or cause.Number (end_of_letter letter.0)
+  id ← number_16 digits
+  ends ← existing lengths number
+  Ok (line.Step (event.Nonce number end id))
+
+-- a word says this by itself
+abbrev pub bare_line : PlantLine → List (List ℕ) → Result PlantLine LineCause
+bare_line says fields = map_ok (λ none. says) (no_field fields)
+
+-- the name of an application
+abbrev pub app_line : List (List ℕ) → Result PlantLine LineCause
+app_line fields = map_ok line.App (one_field fields)
+
+-- what a word says with its fields, where the connections have these lengths
+abbrev pub plant_said : List Lengths → Option PlantWord → List (List ℕ) → Result PlantLine LineCause
+plant_said lengths None fields = Err cause.Word
+plant_said lengths (Some word.Tick) fields = bare_line (line.Step event.Tick) fields
+plant_said lengths (Some word.Put) fields = put_line lengths fields
+plant_said lengths (Some word.Hold) fields = hold_line lengths fields
+plant_said lengths (Some word.Local) fields = local_line lengths fields
+plant_said lengths (Some word.Nonce) fields = nonce_line lengths fields
+plant_said lengths (Some word.Cut) fields = cut_line lengths fields
+plant_said lengths (Some word.App) fields = app_line fields
+plant_said lengths (Some word.End) fields = bare_line line.End fields
+
+-- what the fields of a line say, of which the first is its word
+abbrev pub plant_said_by : List Lengths → List (List ℕ) → Result PlantLine LineCause
+plant_said_by lengths [] = Err cause.Word
+plant_said_by lengths (first ∷ fields) = plant_said lengths (plant_word_of first) fields
+
+-- what a line says in the script of a plant whose connections have these lengths
+abbrev pub plant_line : List Lengths → List ℕ → Result PlantLine LineCause
+plant_line lengths text = plant_said_by lengths (fields_of text)
+
+-- an event that connections with these lengths may have: its connection exists, a put has exactly as many bytes as the slave sends, and a
+-- session id has 16 bits
+abbrev pub Fits : List Lengths → PlantEvent → Type 0
+Fits lengths event.Tick = Unit {0}
+Fits lengths (event.Put link load) = IsSomeAnd (lengths_at lengths link) (λ ends. length load ≡ length_of ends side.Slave)
+Fits lengths (event.Hold link failsafe) = IsSome (lengths_at lengths link)
+Fits lengths (event.Local link) = IsSome (lengths_at lengths link)
+Fits lengths (event.Nonce link end id) = IsSome (lengths_at lengths link) × (id ≤ 65535)
+Fits lengths (event.Cut link cut) = IsSome (lengths_at lengths link)
+
+-- the event of a line, where it has one, fits
+abbrev pub LineFits : List Lengths → PlantLine → Type 0
+LineFits lengths (line.Step event) = Fits lengths event
+LineFits lengths (line.App name) = Unit {0}
+LineFits lengths line.End = Unit {0}
+
+-- each of these fields is no longer than a line may be
+abbrev pub FieldsFit : List (List ℕ) → Type 0
+FieldsFit fields = All (λ field. length field ≤ MAX_LINE) fields

@@ -1,0 +1,70 @@
+-- Worked scripts of the worked plant: what they say, and how they stop.
+use Rattle.std.specs.Prelude.{◌≡◌, ℕ, true, List, [], ◌∷◌, ◌++◌, codes, length, map, Some}
+use Rattle.schedule_file.specs.Input.{AtEnd, Line, NoApp, NoLine, NoNewline, Refused, Stop, input_read}
+use Rattle.schedule_file.specs.declared.line_cause.LineCause.TheVariants as cause
+use Rattle.plant_run.specs.FairPairs.{lengths_in}
+use Rattle.plant_run.specs.Reporting.{run_stop}
+use Rattle.plant_run.specs.Script.{Script, script_format}
+use Rattle.plant_run.specs.Turns.{Named, said}
+use Rattle.plant_run.specs.WorkedActs.{driving}
+use Rattle.plant_run.specs.WorkedPlant.{both_links}
+use Rattle.plant_run.specs.declared.event.PlantEvent.TheVariants as event
+use Rattle.plant_run.specs.declared.event.PlantLine.{PlantLine}
+use Rattle.plant_run.specs.declared.event.PlantLine.TheVariants as line
+
+-- what bytes say to the worked plant
+abbrev pub script_of : List ℕ → Script
+script_of bytes = input_read (script_format (map lengths_in both_links)) bytes
+
+-- what a script says that has this after its first line
+abbrev pub script_with : List ℕ → Script
+script_with text = script_of (codes "fsoe 1 plant\n" ++ text)
+
+-- one application is handed in
+abbrev pub zeros : Named
+zeros = record { name = codes "zeros"; app = driving }
+
+-- how a run of it stops
+abbrev pub stop_with : List ℕ → Stop
+stop_with text = run_stop (length (said (zeros ∷ []) (script_with text).events)) (script_with text)
+
+-- a tick
+abbrev pub tick_line : PlantLine
+tick_line = line.Step event.Tick
+
+-- seven ticks, in which the emergency stop is released, and pressed again while its connection is cut
+unfoldable pub SevenTicksScript : Type 0
+SevenTicksScript =
+    script_with (codes "t\np 1 0300\nt\np 1 0000\ncut 1 1\nt\nt\nt\nt\nt\nend\nnothing more\n")
+    ≡ record {
+      heading = Some (record { lengths = map lengths_in both_links; titled = true });
+      lines = 1;
+      events = tick_line
+          ∷ line.Step (event.Put 1 (3 ∷ 0 ∷ []))
+          ∷ tick_line
+          ∷ line.Step (event.Put 1 (0 ∷ 0 ∷ []))
+          ∷ line.Step (event.Cut 1 true)
+          ∷ tick_line
+          ∷ tick_line
+          ∷ tick_line
+          ∷ tick_line
+          ∷ tick_line
+          ∷ [];
+      stop = AtEnd;
+    }
+
+-- scripts that stop at a line: an application that was used, one that isn't there, a connection that doesn't exist, a line without its
+-- newline, and no line where one has to be
+unfoldable pub Stops : Type 0
+Stops =
+    (stop_with (codes "app zeros\napp zeros\n") ≡ Refused 3 NoApp)
+    × (stop_with (codes "t\napp mirror\n") ≡ Refused 3 NoApp)
+    × (stop_with (codes "z 3\n") ≡ Refused 2 (Line cause.NoLink))
+    × (stop_with (codes "t\nend") ≡ Refused 3 NoNewline)
+    × (stop_with (codes "t\n") ≡ Refused 3 NoLine)
+
+-- a first line of another command, and no line at all
+unfoldable pub NoTitles : Type 0
+NoTitles =
+    ((script_of (codes "fsoe 1 pair\nend\n")).stop ≡ Refused 1 (Line cause.Header))
+    × ((script_of []).stop ≡ Refused 1 NoLine)

@@ -1,0 +1,21 @@
+//! Many connections and an application over a channel that nobody trusts.
+#![tactic(auto)]
+
+pub mod act_laws;
+mod ends;
+mod event;
+mod journal;
+pub mod laws;
+mod link;
+mod making;
+mod offers;
+mod plant;
+mod pushing;
+pub mod report_laws;
+mod script;
+mod script_line;
+
+pub use event::{MAX_SCRIPT, PlantEvent, PlantLine};
+pub use journal::{Journal, JournalStep};
+pub use plant::Plant;
+pub use script_line::read_plant_event;

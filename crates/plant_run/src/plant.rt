@@ -1,0 +1,202 @@
+//! Many connections and an application.
+ghost use Rattle.std.specs.Prelude.{◌≡◌, ◌≤◌, List, length};
+ghost use Rattle.end_model.specs.Outputs.{out};
+ghost use Rattle.end_model.specs.Readiness.{state_of};
+ghost use Rattle.fsoe_base.specs.declared.command.End.TheVariants as side;
+ghost use Rattle.plant_conf.specs.declared.conf.LinkConf.{LinkConf};
+ghost use Rattle.plant_run.specs.Pair.{state_at, outputs_at, lowest_other};
+ghost use Rattle.std.specs.Prelude.{[], ◌∷◌, map, IfOk, OnOk, OnErr};
+ghost use Rattle.black_channel.specs.Told.{Told};
+ghost use Rattle.multi_master.specs.Standing.{app_view};
+ghost use Rattle.plant_run.specs.Acts.{Start, uses};
+ghost use Rattle.plant_run.specs.FairPairs.{lengths_in};
+ghost use Rattle.plant_run.specs.Standing.{AllNoted, PlantStands, seen, lengths_kept};
+ghost use Rattle.plant_run.specs.Uses.{Trace};
+ghost use Rattle.plant_run.specs.declared.journal.JournalStep.{JournalStep};
+
+use crate::ends::{Ends, room_for};
+use crate::event::PlantEvent;
+use crate::journal::{Journal, take_room};
+use crate::link::Link;
+use crate::making::ends_made;
+use black_channel::Channel;
+use failsafe_io::Application;
+use fb_net::{KindOf, Net};
+use fsoe_base::{Memory, State};
+use plant_conf::PlantConf;
+use std::alloc::Global;
+use std::marker::Model;
+
+/// Up to 64 connections, each with both its ends, and an application that decides the offers of all masters. Their frames go through a
+/// channel that is handed in with each call. What was done is noted in a journal.
+#[derive(Drop)]
+pub struct Plant<A> {
+    ends: Ends<A>,
+    journal: Journal,
+}
+
+impl<A> Model for Plant<A> {
+    ghost use Rattle.std.specs.Prelude.{length};
+    ghost use Rattle.plant_run.specs.Standing.{PlantValue, IsPlant};
+
+    ghost Value = { PlantValue A };
+
+    ghost view = { λ p. record { master = p.ends.master; links = p.ends.links.items; journal = p.journal } };
+
+    ghost invariant = { λ p. IsPlant p.ends.master p.ends.links.items p.ends.dids.items p.ends.outs.items (length p.journal) };
+}
+
+impl<H: Application> Plant<KindOf<H>> {
+    ghost use Rattle.std.specs.Prelude.{[], ◌∷◌, map, IfOk, OnOk, OnErr};
+    ghost use Rattle.multi_master.specs.Standing.{app_view};
+    ghost use Rattle.plant_run.specs.Acts.{Start, uses};
+    ghost use Rattle.plant_run.specs.FairPairs.{lengths_in};
+    ghost use Rattle.plant_run.specs.Standing.{seen, lengths_kept, PlantStands};
+    ghost use Rattle.plant_run.specs.Uses.{Trace};
+
+    /// A plant of this configuration's connections with this application, which has its first cycle, not ticked. All memory is taken
+    /// first, and then the channel begins with the seed. After `Memory` the channel is unchanged, and the application is dropped.
+    pub fn new<C: Channel>(
+        alloc: Global,
+        conf: &PlantConf,
+        app: KindOf<H>,
+        channel: &mut C,
+    ) -> Result<Plant<KindOf<H>>, Memory>
+        ensures stands { let K = ⟦<KindOf<H> as Application>⟧ in IfOk result (λ plant. PlantStands (record { links = conf.now.links; app = app_view K.rule K.holds K.guards app; seed = conf.now.seed }) (seen K.rule K.holds K.guards plant) []) }
+        ensures channel { let K = ⟦<KindOf<H> as Application>⟧ in OnOk result (Trace (uses (record { links = conf.now.links; app = app_view K.rule K.holds K.guards app; seed = conf.now.seed }) (Start ∷ [])) (C.told channel.old) (C.told channel.new)) }
+        ensures lengths { IfOk result (λ plant. lengths_kept plant.links ≡ map lengths_in conf.now.links) }
+        ensures kept { OnErr result (channel.new ≡ channel.old) }
+    {
+        let Ok(none) = Net::new(Vec::new(alloc), Vec::new(alloc), &[], &[]) else {
+            return Err(Memory);
+        };
+        begin(alloc, conf, KindOf::Net(none), app, channel)
+    }
+}
+
+/// A plant of this configuration's connections, in which this application runs, and another one ran before its first cycle.
+fn begin<A: Application, C: Channel>(
+    alloc: Global,
+    conf: &PlantConf,
+    before: A,
+    app: A,
+    channel: &mut C,
+) -> Result<Plant<A>, Memory>
+    ensures stands { IfOk result (λ plant. PlantStands (record { links = conf.now.links; app = app_view A.rule A.holds A.guards app; seed = conf.now.seed }) (seen A.rule A.holds A.guards plant) []) }
+    ensures channel { OnOk result (Trace (uses (record { links = conf.now.links; app = app_view A.rule A.holds A.guards app; seed = conf.now.seed }) (Start ∷ [])) (C.told channel.old) (C.told channel.new)) }
+    ensures lengths { IfOk result (λ plant. lengths_kept plant.links ≡ map lengths_in conf.now.links) }
+    ensures kept { OnErr result (channel.new ≡ channel.old) }
+{
+    let mut ends = ends_made(alloc, conf.links(), before)?;
+    let mut journal = Journal::new(alloc);
+    take_room(&mut journal.steps, ends.links.len())?;
+    channel.begin(conf.seed());
+    ends.start(app, &mut journal.steps);
+    Ok(Plant { ends, journal })
+}
+
+impl<A: Application> Plant<A> {
+    ghost use Rattle.std.specs.Prelude.{OnOk, OnErr};
+    ghost use Rattle.multi_master.specs.Standing.{app_view};
+    ghost use Rattle.plant_run.specs.Acts.{Event, App};
+    ghost use Rattle.plant_run.specs.ScriptLine.{Fits};
+    ghost use Rattle.plant_run.specs.Standing.{seen, lengths_kept, HasLink, Follows, ShowsPair, TellsOther};
+
+    /// What an event of the script says happens, one that fits the connections. In a tick the channel brings what it does: at most 64
+    /// parcels are pulled, until none comes. All room in the journal is taken first; after `Memory` the plant and the channel are
+    /// unchanged.
+    pub fn step<C: Channel>(&mut self, event: &PlantEvent, channel: &mut C) -> Result<(), Memory>
+        requires fits { Fits (lengths_kept self.old.links) event.now }
+        ensures follows { let seen = seen A.rule A.holds A.guards in OnOk result (Follows (seen self.old) (Event event.now) (seen self.new) (C.told channel.old) (C.told channel.new)) }
+        ensures lengths { lengths_kept self.new.links ≡ lengths_kept self.old.links }
+        ensures kept { OnErr result (self.new ≡ self.old) }
+        ensures unused { OnErr result (channel.new ≡ channel.old) }
+    {
+        let room = room_for(event, self.ends.links.len());
+        take_room(&mut self.journal.steps, room)?;
+        self.ends.happen(event, &mut self.journal.steps, channel);
+        Ok(())
+    }
+
+    /// Drops the application that runs, and has this one in its place, which has its first cycle, not ticked. After `Memory` this one is
+    /// dropped, and nothing is changed.
+    pub fn change_app(&mut self, app: A) -> Result<(), Memory>
+        ensures follows { let seen = seen A.rule A.holds A.guards in OnOk result ((told : Told) → Follows (seen self.old) (App (app_view A.rule A.holds A.guards app)) (seen self.new) told told) }
+        ensures lengths { lengths_kept self.new.links ≡ lengths_kept self.old.links }
+        ensures kept { OnErr result (self.new ≡ self.old) }
+    {
+        take_room(&mut self.journal.steps, 1 + self.ends.links.len())?;
+        self.ends.change_app(app, &mut self.journal.steps);
+        Ok(())
+    }
+
+    /// What was done so far.
+    pub fn journal(&self) -> &Journal
+        ensures { result.now ≡ self.now.journal }
+    {
+        &self.journal
+    }
+
+    /// The number of connections, which are numbered from 1.
+    pub fn links(&self) -> u16
+        ensures { result ≡ length self.now.links }
+    {
+        self.ends.links.len() as u16
+    }
+
+    /// The lowest connection whose pair has an other entry.
+    #[tactic(auto, using(crate::proofs::Others::other_told))]
+    pub fn other(&self) -> Option<u16>
+        ensures { TellsOther (seen A.rule A.holds A.guards self.now) result }
+    {
+        lowest_other(self.ends.links.as_slice())
+    }
+
+    /// The state of the slave of this connection.
+    pub fn slave_state(&self, link: u16) -> State
+        requires { HasLink self.now link }
+        ensures { ShowsPair (seen A.rule A.holds A.guards self.now) link result (λ l w. state_at l side.Slave w) }
+    {
+        self.ends.links[usize::from(link) - 1].state()
+    }
+
+    /// The outputs of the slave of this connection.
+    pub fn slave_outputs(&self, link: u16) -> &[u8]
+        requires { HasLink self.now link }
+        ensures { ShowsPair (seen A.rule A.holds A.guards self.now) link result.now (λ l w. outputs_at l side.Slave w) }
+    {
+        self.ends.links[usize::from(link) - 1].outputs()
+    }
+
+    /// The state of the master of this connection.
+    #[tactic(auto, using(crate::proofs::Readers::master_has, crate::proofs::Readers::master_state_shown))]
+    pub fn master_state(&self, link: u16) -> State
+        requires { HasLink self.now link }
+        ensures { ShowsPair (seen A.rule A.holds A.guards self.now) link result (λ l w. state_at l side.Master w) }
+    {
+        self.ends.master.state(link)
+    }
+
+    /// The outputs of the master of this connection, which are inputs of the application.
+    #[tactic(auto, using(crate::proofs::Readers::master_has, crate::proofs::Readers::master_outputs_shown))]
+    pub fn master_outputs(&self, link: u16) -> &[u8]
+        requires { HasLink self.now link }
+        ensures { ShowsPair (seen A.rule A.holds A.guards self.now) link result.now (λ l w. outputs_at l side.Master w) }
+    {
+        self.ends.master.outputs(link)
+    }
+}
+
+/// The lowest of these connections whose pair has an other entry.
+#[tactic(auto, using(crate::proofs::Others::all_left))]
+fn lowest_other(links: &[Link]) -> Option<u16>
+    requires { length links.now ≤ 64 }
+    ensures { (confs : List LinkConf) (steps : List JournalStep) → AllNoted 1 confs links.now steps → result ≡ lowest_other 1 confs steps }
+{
+    for i in 0..links.len() {
+        if links[i].has_other() {
+            return Some(i as u16 + 1);
+        }
+    }
+    None
+}

@@ -1,0 +1,199 @@
+//! What a line of a plant's script says.
+ghost use Rattle.std.specs.Prelude.{◌≡◌, ◌≤◌, List, length, Some, IfOk, IsSome};
+ghost use Rattle.fsoe_base.specs.declared.lengths.Lengths.{Lengths};
+ghost use Rattle.schedule_file.specs.declared.line_buf.TheConstants.{MAX_LINE};
+ghost use Rattle.schedule_file.specs.Field.{fields_after};
+ghost use Rattle.plant_run.specs.ScriptLine.{plant_word_of, end_of_letter, lengths_at, existing, IsExisting, bare_line, app_line, put_line, link_and_switch, hold_line, cut_line, local_line, nonce_line, plant_line, FieldsFit, LineFits};
+
+use crate::event::{PlantEvent, PlantLine};
+use fsoe_base::{End, Image, Lengths, MOST_DATA};
+use schedule_file::{
+    HexBytes, LineBuf, LineCause, cut, next_field, no_field, number_16, one_field, read_switch,
+};
+
+/// The first field of a line.
+#[derive(Clone, Copy)]
+enum PlantWord {
+    Tick,
+    Put,
+    Hold,
+    Local,
+    Nonce,
+    Cut,
+    App,
+    End,
+}
+
+/// The word that begins a line.
+fn read_plant_word(text: &[u8]) -> Option<PlantWord>
+    ensures { result ≡ plant_word_of text.now }
+{
+    if text == b"t".as_slice() {
+        Some(PlantWord::Tick)
+    } else if text == b"p".as_slice() {
+        Some(PlantWord::Put)
+    } else if text == b"h".as_slice() {
+        Some(PlantWord::Hold)
+    } else if text == b"z".as_slice() {
+        Some(PlantWord::Local)
+    } else if text == b"n".as_slice() {
+        Some(PlantWord::Nonce)
+    } else if text == b"cut".as_slice() {
+        Some(PlantWord::Cut)
+    } else if text == b"app".as_slice() {
+        Some(PlantWord::App)
+    } else if text == b"end".as_slice() {
+        Some(PlantWord::End)
+    } else {
+        None
+    }
+}
+
+/// The end that a letter names.
+fn read_end_letter(text: &[u8]) -> Option<End>
+    ensures { result ≡ end_of_letter text.now }
+{
+    if text == b"m".as_slice() {
+        Some(End::Master)
+    } else if text == b"s".as_slice() {
+        Some(End::Slave)
+    } else {
+        None
+    }
+}
+
+/// The lengths of the connection with this number, from 1. `NoLink` where there is none.
+fn existing(lengths: &[Lengths], link: u16) -> Result<&Lengths, LineCause>
+    ensures value { IsExisting result (existing lengths.now link) }
+    ensures exists { IfOk result (λ ends. lengths_at lengths.now link ≡ Some ends.now) }
+{
+    if link == 0 {
+        return Err(LineCause::NoLink);
+    }
+    lengths.get(usize::from(link) - 1).ok_or(LineCause::NoLink)
+}
+
+/// `<connection> <hex>`: safe data bytes, as many as the slave sends.
+fn read_put(fields: Option<&[u8]>, lengths: &[Lengths]) -> Result<PlantLine, LineCause>
+    ensures value { result ≡ put_line lengths.now (fields_after fields.entry) }
+    ensures fits { IfOk result (LineFits lengths.now) }
+{
+    let (link, rest) = next_field(fields)?;
+    let digits = one_field(rest)?;
+    let link = number_16(link)?;
+    let ends = existing(lengths, link)?;
+    let bytes = HexBytes::read(digits, MOST_DATA).ok_or(LineCause::Hex)?;
+    if bytes.bytes().len() != ends.of(End::Slave) {
+        return Err(LineCause::Length);
+    }
+    let mut load = Image::new();
+    load.set(bytes.bytes());
+    Ok(PlantLine::Step(PlantEvent::Put { link, load }))
+}
+
+/// `<connection> 0` or `<connection> 1`: off or on.
+fn read_link_and_switch(
+    fields: Option<&[u8]>,
+    lengths: &[Lengths],
+) -> Result<(u16, bool), LineCause>
+    ensures value { result ≡ link_and_switch lengths.now (fields_after fields.entry) }
+    ensures exists { IfOk result (λ said. IsSome (lengths_at lengths.now said.0)) }
+{
+    let (link, rest) = next_field(fields)?;
+    let switch = one_field(rest)?;
+    let link = number_16(link)?;
+    let on = read_switch(switch).ok_or(LineCause::Number)?;
+    existing(lengths, link)?;
+    Ok((link, on))
+}
+
+/// The same: fail-safe data of a slave, off or on.
+fn read_hold(fields: Option<&[u8]>, lengths: &[Lengths]) -> Result<PlantLine, LineCause>
+    ensures value { result ≡ hold_line lengths.now (fields_after fields.entry) }
+    ensures fits { IfOk result (LineFits lengths.now) }
+{
+    let (link, failsafe) = read_link_and_switch(fields, lengths)?;
+    Ok(PlantLine::Step(PlantEvent::Hold { link, failsafe }))
+}
+
+/// The same: whether a connection is cut.
+fn read_cut(fields: Option<&[u8]>, lengths: &[Lengths]) -> Result<PlantLine, LineCause>
+    ensures value { result ≡ cut_line lengths.now (fields_after fields.entry) }
+    ensures fits { IfOk result (LineFits lengths.now) }
+{
+    let (link, cut) = read_link_and_switch(fields, lengths)?;
+    Ok(PlantLine::Step(PlantEvent::Cut { link, cut }))
+}
+
+/// `<connection>`: a local reset of its slave.
+fn read_local(fields: Option<&[u8]>, lengths: &[Lengths]) -> Result<PlantLine, LineCause>
+    ensures value { result ≡ local_line lengths.now (fields_after fields.entry) }
+    ensures fits { IfOk result (LineFits lengths.now) }
+{
+    let link = one_field(fields)?;
+    let link = number_16(link)?;
+    existing(lengths, link)?;
+    Ok(PlantLine::Step(PlantEvent::Local { link }))
+}
+
+/// `<connection> m <id>` or `<connection> s <id>`: a session id of the master or of the slave.
+fn read_nonce(fields: Option<&[u8]>, lengths: &[Lengths]) -> Result<PlantLine, LineCause>
+    ensures value { result ≡ nonce_line lengths.now (fields_after fields.entry) }
+    ensures fits { IfOk result (LineFits lengths.now) }
+{
+    let (link, rest) = next_field(fields)?;
+    let (letter, rest) = next_field(rest)?;
+    let digits = one_field(rest)?;
+    let link = number_16(link)?;
+    let end = read_end_letter(letter).ok_or(LineCause::Number)?;
+    let id = number_16(digits)?;
+    existing(lengths, link)?;
+    Ok(PlantLine::Step(PlantEvent::Nonce { link, end, id }))
+}
+
+/// No field: a word says this by itself.
+fn read_bare(fields: Option<&[u8]>, says: PlantLine) -> Result<PlantLine, LineCause>
+    ensures value { result ≡ bare_line says (fields_after fields.entry) }
+    ensures says { IfOk result (λ said. said ≡ says) }
+{
+    no_field(fields)?;
+    Ok(says)
+}
+
+/// `<name>`: the name of an application.
+#[tactic(auto, using(crate::proofs::Names::one_fits))]
+fn read_app(fields: Option<&[u8]>) -> Result<PlantLine, LineCause>
+    requires { FieldsFit (fields_after fields) }
+    ensures value { result ≡ app_line (fields_after fields.entry) }
+    ensures fits { (lengths : List Lengths) → IfOk result (LineFits lengths) }
+{
+    let field = one_field(fields)?;
+    let mut name = LineBuf::new();
+    name.push_all(field);
+    Ok(PlantLine::App(name))
+}
+
+/// What a line of a script says, without its newline, where the connections have these lengths: an event, another application, or the
+/// end of the script. The lines are `t` (a tick), `p <k> <hex>` (exactly as many safe data bytes as slave `k` sends), `h <k> 0` and
+/// `h <k> 1` (fail-safe data of slave `k` off and on), `z <k>` (a local reset of slave `k`), `n <k> m <id>` and `n <k> s <id>` (a
+/// session id of 16 bits of the master or the slave of connection `k`), `cut <k> 1` and `cut <k> 0`, `app <name>`, and `end`. An error
+/// is the first of these causes that applies: `Word`, `Fields`, `Number`, `NoLink`, `Hex`, `Length`.
+#[tactic(auto, using(crate::proofs::Names::fields_fit))]
+pub fn read_plant_event(line: &[u8], lengths: &[Lengths]) -> Result<PlantLine, LineCause>
+    requires most { length line.now ≤ MAX_LINE }
+    ensures value { result ≡ plant_line lengths.now line.now }
+    ensures fits { IfOk result (LineFits lengths.now) }
+{
+    let (first, fields) = cut(line);
+    match read_plant_word(first) {
+        Some(PlantWord::Tick) => read_bare(fields, PlantLine::Step(PlantEvent::Tick)),
+        Some(PlantWord::Put) => read_put(fields, lengths),
+        Some(PlantWord::Hold) => read_hold(fields, lengths),
+        Some(PlantWord::Local) => read_local(fields, lengths),
+        Some(PlantWord::Nonce) => read_nonce(fields, lengths),
+        Some(PlantWord::Cut) => read_cut(fields, lengths),
+        Some(PlantWord::App) => read_app(fields),
+        Some(PlantWord::End) => read_bare(fields, PlantLine::End),
+        None => Err(LineCause::Word),
+    }
+}
