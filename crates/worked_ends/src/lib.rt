@@ -15,3 +15,5 @@ mod of_multi_master;
 mod of_plant_run;
 #[cfg(test)]
 mod of_slave_core;
+#[cfg(test)]
+mod of_trace_diag;

@@ -1,0 +1,162 @@
+-- Along a trace: what it tells after one more frame, and which frame that is.
+use Rattle.std.proofs.Common.{◌≡◌, ℕ, suc, List, ◌∷◌, Bool, false, refl, sym, ap, subst, ◌∙◌, ◌&&◌, if◌then◌else◌}
+use Rattle.fsoe_base.specs.declared.command.Command.TheVariants as command
+use Rattle.fsoe_base.specs.declared.command.End.{End}
+use Rattle.fsoe_base.specs.declared.command.End.TheVariants as end_name
+use Rattle.fsoe_base.specs.declared.command.State.TheVariants as state
+use Rattle.seq_chain.specs.Reset.{reset_frame}
+use Rattle.param_load.specs.declared.entry.Entry.{Entry}
+use Rattle.param_load.specs.declared.master_settings.MasterSettings.{MasterSettings}
+use Rattle.schedule_file.specs.declared.event.Event.{Event}
+use Rattle.end_model.specs.Chain.{own, since, taken}
+use Rattle.end_model.specs.Deed.{is_empty, Deed}
+use Rattle.end_model.specs.Phases.{has_command, phase_of_frame}
+use Rattle.end_model.specs.Readiness.{phase_sent, phase_taken}
+use Rattle.exchange_model.specs.Ends.{peer, same_end}
+use Rattle.exchange_model.specs.Serving.{deliveries_to, is_delivery}
+use Rattle.exchange_model.specs.World.{deed_in, deeds, setup_of}
+use Rattle.exchange_model.proofs.Alone.Uploads.{since_on}
+use Rattle.exchange_model.proofs.Honest.OnItsWay.{Chained, chained}
+use Rattle.exchange_model.proofs.Honest.Stages.{both, Asked, Both, Down, Replied, Stage, Up, IsDown, IsReplied, IsUp}
+use Rattle.exchange_model.proofs.Honest.Turns.{master_of, partner, slave_of, Partner}
+use Rattle.trace_diag.specs.Before.{phase_due, phase_from}
+use Rattle.trace_diag.specs.Trace.{turn, Noted}
+use Rattle.trace_diag.proofs.Answering.{is_answered, its_end}
+use Rattle.trace_diag.proofs.MasterRows.{IsPlain}
+use Rattle.trace_diag.proofs.NextFrames.{from_down, from_up, NextFrame, ResetNext, MasterNext, SlaveNext}
+use Rattle.trace_diag.proofs.Nonces.{sent_id_is, LeaveNonces}
+use Rattle.trace_diag.proofs.Running.{end_of_setup, Reaches}
+use Rattle.trace_diag.proofs.Tells.{not_reset, told_down, told_replied, told_up, Tells}
+
+-- the entry of an end is its newest deed, and none of its peer's
+pub deeds_of : (at : End) (x : Entry) (w : List Entry) → x.end ≡ at → deeds at (x ∷ w) ≡ deed_in x ∷ deeds at w
+deeds_of end_name.Master x w h = ap (λ (e : End). if same_end end_name.Master e then deed_in x ∷ deeds end_name.Master w else deeds end_name.Master w) h
+deeds_of end_name.Slave x w h = ap (λ (e : End). if same_end end_name.Slave e then deed_in x ∷ deeds end_name.Slave w else deeds end_name.Slave w) h
+
+deeds-other : (at : End) (x : Entry) (w : List Entry) → x.end ≡ at → deeds (peer at) (x ∷ w) ≡ deeds (peer at) w
+deeds-other end_name.Master x w h = ap (λ (e : End). if same_end end_name.Slave e then deed_in x ∷ deeds end_name.Slave w else deeds end_name.Slave w) h
+deeds-other end_name.Slave x w h = ap (λ (e : End). if same_end end_name.Master e then deed_in x ∷ deeds end_name.Master w else deeds end_name.Master w) h
+
+same-head : (a b : List ℕ) (s t : List (List ℕ)) → a ∷ s ≡ b ∷ t → b ≡ a
+same-head a b s t e = cc
+
+-- the end of an entry that an answer makes, and that it sends one
+pub entry_end : (ms : MasterSettings) (r : Partner ms) (events : List Event) (w : List Entry) (at : End) (s : Reaches ms r events w at) → s.entry.end ≡ at
+entry_end ms r events w at s = its_end (setup_of ms (partner ms r) at) (deeds at s.set) s.entry s.delivery ∙ end_of_setup ms r at
+
+entry-sends : (ms : MasterSettings) (r : Partner ms) (events : List Event) (w : List Entry) (at : End) (s : Reaches ms r events w at) → is_empty s.entry.sent ≡ false
+entry-sends ms r events w at s = is_answered (setup_of ms (partner ms r) at) (deeds at s.set) s.entry s.delivery s.no_reset s.taken
+
+-- the frames of the end with that answer
+all-sent : (ms : MasterSettings) (r : Partner ms) (events : List Event) (w : List Entry) (at : End) (s : Reaches ms r events w at) → own (deeds at (s.entry ∷ s.set)) ≡ s.entry.sent ∷ own (deeds at s.set)
+all-sent ms r events w at s =
+    ap own (deeds_of at s.entry s.set (entry_end ms r events w at s))
+    ∙ ap (λ (none : Bool). if none then own (deeds at s.set) else s.entry.sent ∷ own (deeds at s.set)) (entry-sends ms r events w at s)
+
+-- those of its session, where the answer is no Reset frame
+session-sent : (ms : MasterSettings) (r : Partner ms) (events : List Event) (w : List Entry) (at : End) (s : Reaches ms r events w at) → has_command command.Reset s.entry.sent ≡ false
+    → own (since (deeds at (s.entry ∷ s.set))) ≡ s.entry.sent ∷ own (since (deeds at s.set))
+session-sent ms r events w at s no-reset =
+    ap (λ (e : List Deed). own (since e)) (deeds_of at s.entry s.set (entry_end ms r events w at s))
+    ∙ (ap own (since_on (deed_in s.entry) (deeds at s.set) no-reset)
+    ∙ ap (λ (none : Bool). if none then own (since (deeds at s.set)) else s.entry.sent ∷ own (since (deeds at s.set))) (entry-sends ms r events w at s))
+
+-- what one more frame brings: it is the next one, and the trace tells more with it
+pub record Brought (ms : MasterSettings) (r : Partner ms) (t : List Noted) (at : End) (g : List ℕ) (w : List Entry) : Type 0 where
+  pub next : NextFrame ms t g (taken (since (deeds end_name.Slave w))) at
+  pub tells : Tells ms (record { from = at; frame = g } ∷ t) (peer at) (both ms r w)
+
+-- where the master has its turn, the slave is in the phase of the master's newest frame, and had a delivery
+slave-phase : (ms : MasterSettings) (r : Partner ms) (x : Both) → Stage ms r x end_name.Master → x.phase ≡ phase_sent x.master.sent
+slave-phase ms r x (Replied h) = h.outside.phase ∙ sym (ap phase_sent h.outside.master.none_sent)
+slave-phase ms r x (Up h) = h.slave.phase ∙ sym h.master.phase
+
+some-came : (ms : MasterSettings) (r : Partner ms) (x : Both) → Stage ms r x end_name.Master → x.to_slave ≡ 0 → ⊥
+some-came ms r x (Replied h) e = cc (h.slave_count, e)
+some-came ms r x (Up h) e = cc (h.slave_count, e)
+
+-- the master answers
+pub master_brought : (ms : MasterSettings) (r : Partner ms) (y : Noted) (t : List Noted) (events : List Event) (w : List Entry) (s : Reaches ms r events w end_name.Master) → IsPlain ms → turn (y ∷ t) ≡ end_name.Master
+    → Stage ms r (both ms r w) end_name.Master → LeaveNonces w → Tells ms (y ∷ t) end_name.Master (both ms r w) → Brought ms r (y ∷ t) end_name.Master s.entry.sent (s.entry ∷ s.set)
+master_brought ms r y t events w s plain turned-to old nonces told = by-stage s.on.stage
+  where
+    x' : Both
+    x' = both ms r (s.entry ∷ s.set)
+
+    ended : s.entry.end ≡ end_name.Master
+    ended = entry_end ms r events w end_name.Master s
+
+    slave-deeds : deeds end_name.Slave (s.entry ∷ s.set) ≡ deeds end_name.Slave s.set
+    slave-deeds = deeds-other end_name.Master s.entry s.set ended
+
+    same : x'.slave ≡ (both ms r w).slave
+    same = ap (λ (e : List Deed). chained (slave_of ms r) (since e)) slave-deeds ∙ ap (λ (b : Both). b.slave) s.same
+
+    phase-kept : x'.phase ≡ phase_sent (both ms r w).master.sent
+    phase-kept = ap (λ (e : List Deed). phase_taken (since e)) slave-deeds ∙ (ap (λ (b : Both). b.phase) s.same ∙ slave-phase ms r (both ms r w) old)
+
+    count-kept : x'.to_slave ≡ (both ms r w).to_slave
+    count-kept = ap (λ (e : End). if same_end end_name.Slave e && is_delivery s.entry.what then suc (deliveries_to end_name.Slave s.set) else deliveries_to end_name.Slave s.set) ended ∙ ap (λ (b : Both). b.to_slave) s.same
+
+    down : (h : IsDown ms r x') → Brought ms r (y ∷ t) end_name.Master s.entry.sent (s.entry ∷ s.set)
+    down h = subst (λ (g : List ℕ). Brought ms r (y ∷ t) end_name.Master g (s.entry ∷ s.set)) (sym is) (record {
+      next = MasterNext (from_down ms r y t (both ms r w) x' h plain id turned-to told more-sent same phase-kept);
+      tells = told_down ms r (y ∷ t) (both ms r w) x' h id told more-sent same;
+    })
+      where
+        is : s.entry.sent ≡ h.frame
+        is = same-head h.frame s.entry.sent _ _ (sym h.last.is ∙ all-sent ms r events w end_name.Master s)
+
+        no-reset : has_command command.Reset s.entry.sent ≡ false
+        no-reset = ap (has_command command.Reset) is ∙ not_reset h.command h.frame h.way.tail h.way.head h.in_session
+
+        more-sent : x'.master.sent ≡ h.frame ∷ (both ms r w).master.sent
+        more-sent = session-sent ms r events w end_name.Master s no-reset ∙ (ap (λ (b : Both). s.entry.sent ∷ b.master.sent) s.same ∙ ap (λ (g : List ℕ). g ∷ (both ms r w).master.sent) is)
+
+        id : h.id ≡ ms.nonce
+        id = sent_id_is (master_of ms) (deeds end_name.Master (s.entry ∷ s.set)) h.id (s.keeps nonces end_name.Master) h.master.id_is
+
+    by-stage : Stage ms r x' end_name.Slave → Brought ms r (y ∷ t) end_name.Master s.entry.sent (s.entry ∷ s.set)
+    by-stage (Asked h) = absurd (some-came ms r (both ms r w) old (sym count-kept ∙ h.slave_count))
+    by-stage (Down h) = down h
+
+-- the slave answers
+pub slave_brought : (ms : MasterSettings) (r : Partner ms) (y : Noted) (t : List Noted) (events : List Event) (w : List Entry) (s : Reaches ms r events w end_name.Slave) → turn (y ∷ t) ≡ end_name.Slave
+    → Tells ms (y ∷ t) end_name.Slave (both ms r w) → Brought ms r (y ∷ t) end_name.Slave s.entry.sent (s.entry ∷ s.set)
+slave_brought ms r y t events w s turned-to told = by-stage s.on.stage
+  where
+    x' : Both
+    x' = both ms r (s.entry ∷ s.set)
+
+    ended : s.entry.end ≡ end_name.Slave
+    ended = entry_end ms r events w end_name.Slave s
+
+    same : x'.master ≡ (both ms r w).master
+    same = ap (λ (e : List Deed). chained (master_of ms) (since e)) (deeds-other end_name.Slave s.entry s.set ended) ∙ ap (λ (b : Both). b.master) s.same
+
+    up : (h : IsUp ms r x') → Brought ms r (y ∷ t) end_name.Slave s.entry.sent (s.entry ∷ s.set)
+    up h = subst (λ (g : List ℕ). Brought ms r (y ∷ t) end_name.Slave g (s.entry ∷ s.set)) (sym is) (record {
+      next = SlaveNext (from_up ms r y t (both ms r w) x' h turned-to told same);
+      tells = told_up ms r (y ∷ t) (both ms r w) x' h told same;
+    })
+      where
+        is : s.entry.sent ≡ h.frame
+        is = same-head h.frame s.entry.sent _ _ (sym h.last.is ∙ all-sent ms r events w end_name.Slave s)
+
+    replied : (h : IsReplied ms x') → Brought ms r (y ∷ t) end_name.Slave s.entry.sent (s.entry ∷ s.set)
+    replied h = subst (λ (g : List ℕ). Brought ms r (y ∷ t) end_name.Slave g (s.entry ∷ s.set)) (sym is) (record {
+      next = ResetNext end_name.Slave due refl;
+      tells = told_replied ms (y ∷ t) (both ms r w) x' (reset_frame 0 ms.lengths.slave) refl refl h told same;
+    })
+      where
+        is : s.entry.sent ≡ reset_frame 0 ms.lengths.slave
+        is = same-head (reset_frame 0 ms.lengths.slave) s.entry.sent _ _ (sym h.last.is ∙ all-sent ms r events w end_name.Slave s)
+
+        due : phase_due ms.lengths (y ∷ t) ≡ state.Reset
+        due =
+            ap (λ (e : End). phase_from ms.lengths (y ∷ t) e (phase_of_frame y.frame)) turned-to
+            ∙ (told.phase ∙ (ap (λ (u : Chained). phase_sent u.sent) (sym same) ∙ ap phase_sent h.outside.master.none_sent))
+
+    by-stage : Stage ms r x' end_name.Master → Brought ms r (y ∷ t) end_name.Slave s.entry.sent (s.entry ∷ s.set)
+    by-stage (Replied h) = replied h
+    by-stage (Up h) = up h

@@ -1,0 +1,193 @@
+-- A delivery that is taken without a reset is answered: the entry sends a frame.
+use Rattle.std.proofs.Common.{◌≡◌, ℕ, suc, nat_lt, List, ◌∷◌, length, replicate, Bool, true, false, Option, Some, None, IsSome, refl, sym, ap, subst, ◌∙◌, if◌then◌else◌}
+use Rattle.fsoe_base.specs.declared.command.Command.{Command}
+use Rattle.fsoe_base.specs.declared.command.Command.TheVariants as command
+use Rattle.fsoe_base.specs.declared.did.Cause.{Cause}
+use Rattle.fsoe_base.specs.declared.did.Took.{Took}
+use Rattle.fsoe_base.specs.Command.{command_byte}
+use Rattle.fsoe_frame.specs.Layout.{groups}
+use Rattle.fsoe_frame.specs.Parts.{bytes_of, Frame}
+use Rattle.seq_chain.specs.Reset.{reset_crcs, reset_frame, reset_load}
+use Rattle.param_load.specs.declared.entry.Entry.{Entry}
+use Rattle.param_load.specs.declared.entry.Move.{Move}
+use Rattle.param_load.specs.declared.entry.Move.TheVariants as move
+use Rattle.param_load.specs.declared.master_settings.MasterSettings.{MasterSettings}
+use Rattle.param_load.specs.declared.slave_settings.SlaveSettings.{SlaveSettings}
+use Rattle.end_model.specs.Deed.{Deed, is_empty}
+use Rattle.end_model.specs.Payloads.{conn_id, pay, pieces, count_in, session_id}
+use Rattle.end_model.proofs.ReadBack.{count_crcs}
+use Rattle.end_model.specs.Chain.{since, own, seal}
+use Rattle.end_model.specs.Phases.{has_command, is_data_frame, is_guarded, phase_of}
+use Rattle.end_model.specs.Readiness.{held, offer}
+use Rattle.end_model.specs.Setup.{Setup, OfMaster, OfSlave, sends, piece_len, end_of}
+use Rattle.end_model.specs.Step.{id_piece, sealed, with_data, with_piece, download_frame, after_phase, goes_on, master_answer, slave_answer, answer, sent_on, begun, did_on}
+use Rattle.exchange_model.specs.Serving.{HasNoReset, TakesDelivery}
+use Rattle.exchange_model.specs.World.{delivery, entry_on, next_entry}
+
+-- a frame that was laid out, with a CRC for each group
+pub record IsMade (g : List ℕ) : Type 0 where
+  pub frame : Frame
+  pub is : g ≡ bytes_of frame
+  pub counts : length frame.crcs ≡ length (groups frame.load)
+
+either : (t : Bool) (x y : List ℕ) → IsMade x → IsMade y → IsMade (if t then x else y)
+either true x y h k = h
+either false x y h k = k
+
+seal-made : (s : Setup) (e : List Deed) (conn : ℕ) (c : Command) (load : List ℕ) → IsMade (seal s e conn c load)
+seal-made s e conn c load = record { frame = _; is = refl; counts = count_crcs _ conn _ (command_byte c) 0 (groups load) }
+
+sealed-made : (s : Setup) (e : List Deed) (c : Command) (load : List ℕ) → IsMade (sealed s e c load)
+sealed-made s e c load = seal-made s (since e) (if is_guarded c then conn_id s e else 0) c load
+
+pub reset_made : (l : ℕ) → IsMade (reset_frame 0 l)
+reset_made l = record { frame = record { cmd = 0x2A; load = reset_load 0 l; crcs = reset_crcs (reset_load 0 l); conn = 0 }; is = refl; counts = count_crcs 0 0 1 0x2A 0 (groups (reset_load 0 l)) }
+
+data-made : (s : Setup) (e : List Deed) → IsMade (with_data s e)
+data-made s e =
+    either (held e) (sealed s e command.FailSafeData (replicate (sends s) 0)) (sealed s e command.ProcessData (offer s e)) (sealed-made s e command.FailSafeData (replicate (sends s) 0))
+    (sealed-made s e command.ProcessData (offer s e))
+
+download-made : (ms : MasterSettings) (e : List Deed) (c : Command) (k : ℕ) → IsMade (download_frame ms e c k)
+download-made ms e c k = sealed-made (OfMaster ms) e c _
+
+phase-made : (ms : MasterSettings) (e : List Deed) (c : Command) → IsMade (after_phase ms e c)
+phase-made ms e command.Reset = download-made ms e command.Session 1
+phase-made ms e command.Session = download-made ms e command.Connection 1
+phase-made ms e command.Connection = download-made ms e command.Parameter 1
+phase-made ms e command.Parameter = data-made (OfMaster ms) e
+phase-made ms e command.FailSafeData = data-made (OfMaster ms) e
+phase-made ms e command.ProcessData = data-made (OfMaster ms) e
+
+-- whether a master sends one more piece of a phase
+abbrev sends-more : MasterSettings → List Deed → Command → Bool
+sends-more ms e c = nat_lt (count_in (phase_of c) (own (since e))) (pieces (pay ms (session_id (OfMaster ms) e) (phase_of c)) (piece_len (OfMaster ms)))
+
+goes-made : (ms : MasterSettings) (e : List Deed) (c : Command) → IsMade (goes_on ms e c)
+goes-made ms e c = either (sends-more ms e c) (download_frame ms e c (suc (count_in (phase_of c) (own (since e))))) (after_phase ms e c) (download-made ms e c _) (phase-made ms e c)
+
+master-made : (ms : MasterSettings) (e : List Deed) (c : Command) → IsMade (master_answer ms e c)
+master-made ms e command.Reset = phase-made ms e command.Reset
+master-made ms e command.Session = goes-made ms e command.Session
+master-made ms e command.Connection = goes-made ms e command.Connection
+master-made ms e command.Parameter = goes-made ms e command.Parameter
+master-made ms e command.FailSafeData = data-made (OfMaster ms) e
+master-made ms e command.ProcessData = data-made (OfMaster ms) e
+
+slave-made : (ss : SlaveSettings) (e : List Deed) (c : Command) (load : List ℕ) → IsMade (slave_answer ss e c load)
+slave-made ss e command.Reset load = reset_made (sends (OfSlave ss))
+slave-made ss e command.Session load = sealed-made (OfSlave ss) e command.Session _
+slave-made ss e command.Connection load = sealed-made (OfSlave ss) e command.Connection _
+slave-made ss e command.Parameter load = sealed-made (OfSlave ss) e command.Parameter _
+slave-made ss e command.FailSafeData load = data-made (OfSlave ss) e
+slave-made ss e command.ProcessData load = data-made (OfSlave ss) e
+
+pub answer_made : (s : Setup) (e : List Deed) (t : Took) → IsMade (answer s e t)
+answer_made (OfMaster ms) e t = master-made ms e t.command
+answer_made (OfSlave ss) e t = slave-made ss e t.command t.load
+
+-- a data frame among the answers is that of the offer or of the hold
+no : false ≡ true → ⊥
+no e = cc
+
+data-if : (t : Bool) (x y d : List ℕ) → (is_data_frame x ≡ true → x ≡ d) → (is_data_frame y ≡ true → y ≡ d) → is_data_frame (if t then x else y) ≡ true → (if t then x else y) ≡ d
+data-if true x y d h k e = h e
+data-if false x y d h k e = k e
+
+phase-data : (ms : MasterSettings) (e : List Deed) (c : Command) → is_data_frame (after_phase ms e c) ≡ true → after_phase ms e c ≡ with_data (OfMaster ms) e
+phase-data ms e command.Reset h = absurd (no h)
+phase-data ms e command.Session h = absurd (no h)
+phase-data ms e command.Connection h = absurd (no h)
+phase-data ms e command.Parameter h = refl
+phase-data ms e command.FailSafeData h = refl
+phase-data ms e command.ProcessData h = refl
+
+goes-data : (ms : MasterSettings) (e : List Deed) (c : Command) → (is_data_frame (download_frame ms e c (suc (count_in (phase_of c) (own (since e))))) ≡ true → ⊥) → is_data_frame (goes_on ms e c) ≡ true → goes_on ms e c ≡ with_data (OfMaster ms) e
+goes-data ms e c none h =
+    data-if (sends-more ms e c) (download_frame ms e c (suc (count_in (phase_of c) (own (since e))))) (after_phase ms e c) (with_data (OfMaster ms) e) (λ h. absurd (none h)) (phase-data ms e c) h
+
+master-data : (ms : MasterSettings) (e : List Deed) (c : Command) → is_data_frame (master_answer ms e c) ≡ true → master_answer ms e c ≡ with_data (OfMaster ms) e
+master-data ms e command.Reset h = absurd (no h)
+master-data ms e command.Session h = goes-data ms e command.Session no h
+master-data ms e command.Connection h = goes-data ms e command.Connection no h
+master-data ms e command.Parameter h = goes-data ms e command.Parameter no h
+master-data ms e command.FailSafeData h = refl
+master-data ms e command.ProcessData h = refl
+
+slave-data : (ss : SlaveSettings) (e : List Deed) (c : Command) (load : List ℕ) → is_data_frame (slave_answer ss e c load) ≡ true → slave_answer ss e c load ≡ with_data (OfSlave ss) e
+slave-data ss e command.Reset load h = absurd (no h)
+slave-data ss e command.Session load h = absurd (no h)
+slave-data ss e command.Connection load h = absurd (no h)
+slave-data ss e command.Parameter load h = absurd (no h)
+slave-data ss e command.FailSafeData load h = refl
+slave-data ss e command.ProcessData load h = refl
+
+pub answer_data : (s : Setup) (e : List Deed) (t : Took) → is_data_frame (answer s e t) ≡ true → answer s e t ≡ with_data s e
+answer_data (OfMaster ms) e t h = master-data ms e t.command h
+answer_data (OfSlave ss) e t h = slave-data ss e t.command t.load h
+
+-- a slave's Session frame carries the piece of its session id
+none-session : (b : Bool) (x y : List ℕ) → has_command command.Session x ≡ false → has_command command.Session y ≡ false → has_command command.Session (if b then x else y) ≡ true → ⊥
+none-session true x y h k e = no (sym h ∙ e)
+none-session false x y h k e = no (sym k ∙ e)
+
+data-session : (s : Setup) (e : List Deed) → has_command command.Session (with_data s e) ≡ true → ⊥
+data-session s e h = none-session (held e) (sealed s e command.FailSafeData (replicate (sends s) 0)) (sealed s e command.ProcessData (offer s e)) refl refl h
+
+pub answer_session : (ss : SlaveSettings) (e : List Deed) (c : Command) (load : List ℕ) → has_command command.Session (slave_answer ss e c load) ≡ true → slave_answer ss e c load ≡ with_piece (OfSlave ss) e command.Session (id_piece ss e)
+answer_session ss e command.Reset load h = absurd (no h)
+answer_session ss e command.Session load h = refl
+answer_session ss e command.Connection load h = absurd (no h)
+answer_session ss e command.Parameter load h = absurd (no h)
+answer_session ss e command.FailSafeData load h = absurd (data-session (OfSlave ss) e h)
+answer_session ss e command.ProcessData load h = absurd (data-session (OfSlave ss) e h)
+
+-- a delivery that is taken without a reset sends the answer to what was taken
+pub record IsAnswer (s : Setup) (e : List Deed) (reset : Option Cause) (took : Option Took) (sent : Bool) : Type 0 where
+  pub took_what : Took
+  pub is : sent_on s e reset took sent ≡ answer s e took_what
+
+answer-is : (s : Setup) (e : List Deed) (reset : Option Cause) (took : Option Took) (sent : Bool) → reset ≡ None → IsSome took → IsAnswer s e reset took sent
+answer-is s e (Some because) took sent none some = absurd (cc none)
+answer-is s e None None sent none some = absurd (cc some)
+answer-is s e None (Some t) sent none some = record { took_what = t; is = refl }
+
+made-some : (g : List ℕ) → IsMade g → is_empty g ≡ false
+made-some g m = ap is_empty m.is
+
+pub answered : (s : Setup) (e : List Deed) (reset : Option Cause) (took : Option Took) (sent : Bool) → reset ≡ None → IsSome took → is_empty (sent_on s e reset took sent) ≡ false
+answered s e reset took sent none some =
+    let a : IsAnswer s e reset took sent = answer-is s e reset took sent none some in
+    ap is_empty a.is ∙ made-some (answer s e a.took_what) (answer_made s e a.took_what)
+
+-- the entry of a delivery
+pub record IsDelivery (s : Setup) (e : List Deed) (x : Entry) : Type 0 where
+  pub frame : List ℕ
+  pub is : x ≡ next_entry s e (move.Deliver frame)
+
+pub delivered_as : (s : Setup) (e : List Deed) (o : Option (List ℕ)) (x : Entry) → entry_on s e (delivery o) ≡ Some x → IsDelivery s e x
+delivered_as s e None x h = absurd (cc h)
+delivered_as s e (Some f) x h = record { frame = f; is = cc }
+
+-- it is that of its end, and where it takes the frame and has no reset, it sends an answer
+pub its_end : (s : Setup) (e : List Deed) (x : Entry) → IsDelivery s e x → x.end ≡ end_of s
+its_end s e x d = ap (λ (x : Entry). x.end) d.is
+
+pub record SendsAnswer (s : Setup) (e : List Deed) (x : Entry) : Type 0 where
+  pub took_what : Took
+  pub is : x.sent ≡ answer s (begun x.what x.did ∷ e) took_what
+
+pub sends_answer : (s : Setup) (e : List Deed) (x : Entry) → IsDelivery s e x → HasNoReset x → TakesDelivery x → SendsAnswer s e x
+sends_answer s e x d none takes =
+    let what : Move = move.Deliver d.frame in
+    let y : Entry = next_entry s e what in
+    let no_reset : y.did.reset ≡ None = ap (λ (x : Entry). x.did.reset) (sym d.is) ∙ none in
+    let taken : IsSome y.did.took = subst (λ (x : Entry). TakesDelivery x) d.is takes refl in
+    let a : IsAnswer s (begun what (did_on s e what) ∷ e) (did_on s e what).reset (did_on s e what).took (did_on s e what).sent =
+    answer-is s (begun what (did_on s e what) ∷ e) (did_on s e what).reset (did_on s e what).took (did_on s e what).sent no_reset taken in
+    record { took_what = a.took_what; is = ap (λ (x : Entry). x.sent) d.is ∙ (a.is ∙ ap (λ (x : Entry). answer s (begun x.what x.did ∷ e) a.took_what) (sym d.is)) }
+
+pub is_answered : (s : Setup) (e : List Deed) (x : Entry) → IsDelivery s e x → HasNoReset x → TakesDelivery x → is_empty x.sent ≡ false
+is_answered s e x d none takes =
+    let a : SendsAnswer s e x = sends_answer s e x d none takes in
+    ap is_empty a.is ∙ made-some (answer s (begun x.what x.did ∷ e) a.took_what) (answer_made s (begun x.what x.did ∷ e) a.took_what)

@@ -1,0 +1,148 @@
+-- An end answers the frame on its way whatever is put before, so that the frames of a run come in turn.
+use Rattle.std.proofs.Common.{◌≡◌, ℕ, ◌+◌, List, [], ◌∷◌, ◌++◌, length, replicate, Bool, true, false, Option, Some, None, IsSome, refl, sym, ap, subst, ◌∙◌, arith, if◌then◌else◌}
+use Rattle.fsoe_base.specs.declared.command.Code.{Code}
+use Rattle.fsoe_base.specs.declared.command.Command.{Command}
+use Rattle.fsoe_base.specs.declared.command.Command.TheVariants as command
+use Rattle.fsoe_base.specs.declared.command.End.{End}
+use Rattle.fsoe_base.specs.declared.command.End.TheVariants as end_name
+use Rattle.fsoe_base.specs.declared.did.Did.{Did}
+use Rattle.fsoe_frame.specs.Parts.{Frame}
+use Rattle.seq_chain.specs.SessionFrame.{SessionFrameView}
+use Rattle.seq_chain.specs.declared.opened.Opened.{Opened}
+use Rattle.seq_chain.specs.declared.opened.Opened.TheVariants as opened_as
+use Rattle.seq_chain.specs.Opened.{opened}
+use Rattle.param_load.specs.declared.entry.Entry.{Entry}
+use Rattle.param_load.specs.declared.entry.Move.{Move}
+use Rattle.param_load.specs.declared.entry.Move.TheVariants as move
+use Rattle.param_load.specs.declared.master_settings.MasterSettings.{MasterSettings}
+use Rattle.schedule_file.specs.declared.event.Event.{Event}
+use Rattle.schedule_file.specs.declared.event.Event.TheVariants as event
+use Rattle.black_channel.specs.Window.{back_th}
+use Rattle.end_model.specs.Chain.{kept, since}
+use Rattle.end_model.specs.Deed.{is_empty, Deed}
+use Rattle.end_model.specs.Readiness.{state_of}
+use Rattle.end_model.specs.Setup.{end_of, receives, OfMaster, OfSlave, Setup}
+use Rattle.end_model.specs.Step.{begun, did_on, on_verdict}
+use Rattle.end_model.specs.Verdict.{contents, fault_after, is_repeat, judged, judged_contents, judged_session}
+use Rattle.exchange_model.specs.Serving.{HasNoReset, TakesDelivery}
+use Rattle.exchange_model.specs.World.{deeds, delivery, entry_on, frames_of, going_on, next_entry, world_after}
+use Rattle.exchange_model.proofs.Honest.QuietEvents.{quiet}
+use Rattle.exchange_model.proofs.Honest.SlaveTurn.{Accepts}
+use Rattle.exchange_model.proofs.Honest.Turns.{partner, Partner}
+use Rattle.trace_diag.specs.Conforms.{sent_in}
+use Rattle.trace_diag.specs.Schedule.{set_for}
+use Rattle.trace_diag.proofs.Answering.{answered}
+use Rattle.trace_diag.proofs.Running.{delivered_on, held_put, plainly, IsOn, Reaches}
+
+-- these deeds with a hold and a put
+abbrev set_deeds : Bool → List ℕ → List Deed → List Deed
+set_deeds failsafe load e = quiet (move.Put load) ∷ quiet (move.Hold failsafe) ∷ e
+
+same-contents : (s : Setup) (e : List Deed) (b : Bool) (load : List ℕ) (c : Command) (f : Frame) → contents s (set_deeds b load e) c f ≡ contents s e c f
+same-contents (OfMaster ms) e b load command.Reset f = refl
+same-contents (OfMaster ms) e b load command.Session f = refl
+same-contents (OfMaster ms) e b load command.Connection f = refl
+same-contents (OfMaster ms) e b load command.Parameter f = refl
+same-contents (OfMaster ms) e b load command.FailSafeData f = refl
+same-contents (OfMaster ms) e b load command.ProcessData f = refl
+same-contents (OfSlave ss) e b load command.Reset f = refl
+same-contents (OfSlave ss) e b load command.Session f = refl
+same-contents (OfSlave ss) e b load command.Connection f = refl
+same-contents (OfSlave ss) e b load command.Parameter f = refl
+same-contents (OfSlave ss) e b load command.FailSafeData f = refl
+same-contents (OfSlave ss) e b load command.ProcessData f = refl
+
+same-fault : (s : Setup) (e : List Deed) (b : Bool) (load : List ℕ) (f : SessionFrameView) → fault_after s (set_deeds b load e) f ≡ fault_after s e f
+same-fault (OfMaster ms) e b load f = refl
+same-fault (OfSlave ss) e b load f = refl
+
+same-session : (s : Setup) (e : List Deed) (b : Bool) (load : List ℕ) (f : SessionFrameView) (fault : Option Code) → judged_session s (set_deeds b load e) f fault ≡ judged_session s e f fault
+same-session s e b load f None = ap (judged_contents f.command f.frame.load) (same-contents s e b load f.command f.frame)
+same-session s e b load f (Some found) = refl
+
+same-judged : (s : Setup) (e : List Deed) (b : Bool) (load : List ℕ) (o : Opened) → judged s (set_deeds b load e) o ≡ judged s e o
+same-judged s e b load (opened_as.Drop why) = refl
+same-judged s e b load (opened_as.Refuse found) = refl
+same-judged s e b load (opened_as.ResetFrame said f) = refl
+same-judged s e b load (opened_as.OfSession f) = ap (judged_session s (set_deeds b load e) f) (same-fault s e b load f) ∙ same-session s e b load f (fault_after s e f)
+
+-- a hold and a put leave what an end does with the next frame
+same-did : (s : Setup) (e : List Deed) (b : Bool) (load f : List ℕ) → did_on s (set_deeds b load e) (move.Deliver f) ≡ did_on s e (move.Deliver f)
+same-did (OfMaster ms) e b load f =
+    ap (on_verdict (state_of (OfMaster ms) e) (OfMaster ms)) (same-judged (OfMaster ms) e b load (opened (receives (OfMaster ms)) (is_repeat (kept (since e)) f) f))
+same-did (OfSlave ss) e b load f =
+    ap (on_verdict (state_of (OfSlave ss) e) (OfSlave ss)) (same-judged (OfSlave ss) e b load (opened (receives (OfSlave ss)) (is_repeat (kept (since e)) f) f))
+
+-- the entry of a delivery after a hold and a put sends a frame
+record SendsAfter (s : Setup) (e : List Deed) (o : Option (List ℕ)) : Type 0 where
+  pub entry : Entry
+  pub is : entry_on s e (delivery o) ≡ Some entry
+  pub some : is_empty entry.sent ≡ false
+  pub ended : entry.end ≡ end_of s
+
+some-entry : (a b : Entry) → Some a ≡ Some b → a ≡ b
+some-entry a b e = cc
+
+sends-after : (s : Setup) (e : List Deed) (b : Bool) (load : List ℕ) (o : Option (List ℕ)) (x : Entry) → entry_on s e (delivery o) ≡ Some x → HasNoReset x → TakesDelivery x → SendsAfter s (set_deeds b load e) o
+sends-after s e b load None x is none takes = absurd (cc is)
+sends-after s e b load (Some f) x is none takes =
+    let what : Move = move.Deliver f in
+    let did : Did = did_on s (set_deeds b load e) what in
+    let x-is : next_entry s e what ≡ x = some-entry (next_entry s e what) x is in
+    let same : did ≡ did_on s e what = same-did s e b load f in
+    let no_reset : did.reset ≡ None = ap (λ (d : Did). d.reset) same ∙ (ap (λ (x : Entry). x.did.reset) x-is ∙ none) in
+    let taken : IsSome did.took = subst (λ (d : Did). IsSome d.took) (sym same) (subst (λ (x : Entry). TakesDelivery x) (sym x-is) takes refl) in
+    record {
+      entry = next_entry s (set_deeds b load e) what;
+      is = refl;
+      some = answered s (begun what did ∷ set_deeds b load e) did.reset did.took did.sent no_reset taken;
+      ended = refl;
+    }
+
+-- events after which one more frame was sent, by this end
+pub record SendsMore (ms : MasterSettings) (r : Partner ms) (events : List Event) (w : List Entry) (at : End) : Type 0 where
+  pub new : List Entry
+  pub frame : List ℕ
+  pub is : world_after ms (partner ms r) events w ≡ new
+  pub whole : length new ≡ length events + length w
+  pub sent : sent_in new ≡ record { from = at; frame = frame } ∷ sent_in w
+
+from-entry : (ms : MasterSettings) (r : Partner ms) (w : List Entry) (at : End) (b : Bool) (load : List ℕ) (x : Entry)
+    → world_after ms (partner ms r) (event.Hold at b ∷ event.Put at load ∷ event.Deliver at 1 ∷ []) w ≡ x ∷ held_put ms r w at b load → is_empty x.sent ≡ false → x.end ≡ at
+    → SendsMore ms r (event.Hold at b ∷ event.Put at load ∷ event.Deliver at 1 ∷ []) w at
+from-entry ms r w at b load x is some ended = record {
+  new = x ∷ held_put ms r w at b load;
+  frame = x.sent;
+  is = is;
+  whole = omega arith;
+  sent =
+      ap (λ (none : Bool). if none then sent_in w else record { from = x.end; frame = x.sent } ∷ sent_in w) some
+      ∙ ap (λ (e : End). record { from = e; frame = x.sent } ∷ sent_in w) ended;
+}
+
+-- whatever is put
+after-any : (ms : MasterSettings) (r : Partner ms) (w : List Entry) (at : End) (b : Bool) (load : List ℕ) → Accepts ms r → IsOn ms r w at → SendsMore ms r (event.Hold at b ∷ event.Put at load ∷ event.Deliver at 1 ∷ []) w at
+after-any ms r w end_name.Master b load accepts o =
+    let x = delivered_on ms r w end_name.Master accepts o in
+    let s : SendsAfter (OfMaster ms) (set_deeds b load (deeds end_name.Master w)) (back_th 1 (frames_of end_name.Slave w)) =
+    sends-after (OfMaster ms) (deeds end_name.Master w) b load (back_th 1 (frames_of end_name.Slave w)) x.0 x.1.is x.1.no_reset x.1.taken in
+    from-entry ms r w end_name.Master b load s.entry (ap (λ (e : Option Entry). going_on (held_put ms r w end_name.Master b load) e (world_after ms (partner ms r) [])) s.is) s.some s.ended
+after-any ms r w end_name.Slave b load accepts o =
+    let x = delivered_on ms r w end_name.Slave accepts o in
+    let s : SendsAfter (OfSlave (partner ms r)) (set_deeds b load (deeds end_name.Slave w)) (back_th 1 (frames_of end_name.Master w)) =
+    sends-after (OfSlave (partner ms r)) (deeds end_name.Slave w) b load (back_th 1 (frames_of end_name.Master w)) x.0 x.1.is x.1.no_reset x.1.taken in
+    from-entry ms r w end_name.Slave b load s.entry (ap (λ (e : Option Entry). going_on (held_put ms r w end_name.Slave b load) e (world_after ms (partner ms r) [])) s.is) s.some s.ended
+
+as-plain : (ms : MasterSettings) (r : Partner ms) (w : List Entry) (at : End) → Accepts ms r → IsOn ms r w at → SendsMore ms r (event.Deliver at 1 ∷ []) w at
+as-plain ms r w at accepts o =
+    let x : Reaches ms r (event.Deliver at 1 ∷ []) w at = plainly ms r w at accepts o in
+    record { new = x.entry ∷ x.set; frame = x.entry.sent; is = x.is; whole = x.whole; sent = x.sent }
+
+pub sends_anyway : (ms : MasterSettings) (r : Partner ms) (w : List Entry) (at : End) (c : Option Command) (l : ℕ) (load : List ℕ) → Accepts ms r → IsOn ms r w at → SendsMore ms r (set_for at l c load ++ event.Deliver at 1 ∷ []) w at
+sends_anyway ms r w at None l load accepts o = as-plain ms r w at accepts o
+sends_anyway ms r w at (Some command.Reset) l load accepts o = as-plain ms r w at accepts o
+sends_anyway ms r w at (Some command.Session) l load accepts o = as-plain ms r w at accepts o
+sends_anyway ms r w at (Some command.Connection) l load accepts o = as-plain ms r w at accepts o
+sends_anyway ms r w at (Some command.Parameter) l load accepts o = as-plain ms r w at accepts o
+sends_anyway ms r w at (Some command.FailSafeData) l load accepts o = after-any ms r w at true (replicate l 0) accepts o
+sends_anyway ms r w at (Some command.ProcessData) l load accepts o = after-any ms r w at false load accepts o

@@ -1,0 +1,215 @@
+-- Where two ends send the frames of a trace, no row of the table applies to any of them.
+use Rattle.std.proofs.Common.{◌≡◌, ℕ, zero, suc, ◌+◌, List, [], ◌∷◌, ◌++◌, length, drop, replicate, Bool, true, false, ◌/◌, if◌then◌else◌, Option, Some, None, IsTrue, refl, sym, ap, ap₂, subst, ◌∙◌, arith}
+use Rattle.std.proofs.lemmas.List.{append_assoc, length-append, length-replicate}
+use Rattle.fsoe_base.specs.Lengths.{frame_len, is_length}
+use Rattle.fsoe_base.specs.LengthsOf.{length_of}
+use Rattle.fsoe_base.specs.declared.command.End.{End}
+use Rattle.fsoe_base.specs.declared.command.End.TheVariants as end_name
+use Rattle.fsoe_base.specs.Command.{command_byte}
+use Rattle.fsoe_frame.proofs.Places.{whole}
+use Rattle.fsoe_frame.specs.Layout.{groups}
+use Rattle.fsoe_frame.specs.Parts.{Frame, frame_of}
+use Rattle.seq_chain.specs.Chain.{sealed_by, turned}
+use Rattle.seq_chain.specs.Reset.{reset_crcs, reset_frame, reset_load}
+use Rattle.param_load.specs.declared.entry.Entry.{Entry}
+use Rattle.param_load.specs.declared.master_settings.MasterSettings.{MasterSettings}
+use Rattle.schedule_file.specs.declared.event.Event.{Event}
+use Rattle.end_model.proofs.ReadBack.{count_crcs, count_groups, halves}
+use Rattle.end_model.specs.Deed.{is_empty}
+use Rattle.end_model.specs.Phases.{command_in}
+use Rattle.end_model.specs.Setup.{OfMaster}
+use Rattle.exchange_model.specs.Ends.{same_end}
+use Rattle.exchange_model.specs.World.{entry_at, going_on, world, world_after}
+use Rattle.exchange_model.proofs.Honest.ResetFrames.{is_reset_frame}
+use Rattle.exchange_model.proofs.Honest.SlaveTurn.{Accepts}
+use Rattle.exchange_model.proofs.Honest.Turns.{partner, slave_of, width, Partner}
+use Rattle.exchange_model.proofs.Worlds.Longer.{world_on}
+use Rattle.trace_diag.specs.Before.{before, chain_of}
+use Rattle.trace_diag.specs.Conforms.{sent_in}
+use Rattle.trace_diag.specs.Judged.{first_difference, first_of_both}
+use Rattle.trace_diag.specs.declared.difference.Difference.{Difference}
+use Rattle.trace_diag.specs.Schedule.{answer_events, events_before, schedule_off}
+use Rattle.trace_diag.specs.Table.{field_of}
+use Rattle.trace_diag.specs.Trace.{turn, Noted}
+use Rattle.trace_diag.specs.declared.field.Field.{Field}
+use Rattle.trace_diag.proofs.Anyway.{sends_anyway, SendsMore}
+use Rattle.trace_diag.proofs.Frames.{read_as}
+use Rattle.trace_diag.proofs.LockStep.{first_runs, next_runs}
+use Rattle.trace_diag.proofs.MasterRows.{master_right, IsPlain}
+use Rattle.trace_diag.proofs.NextFrames.{NextFrame, ResetNext, MasterNext, SlaveNext}
+use Rattle.trace_diag.proofs.NoField.{in_turn_none, IsRight}
+use Rattle.trace_diag.proofs.PayloadBytes.{AllLong}
+use Rattle.trace_diag.proofs.RowsBack.{reset_right}
+use Rattle.trace_diag.proofs.SlaveRows.{slave_right}
+use Rattle.trace_diag.proofs.Walk.{at_first, first_reset, more, world_of, At, More}
+
+-- the parts of a Reset frame with the code 0
+abbrev pub reset_parts_of : ℕ → Frame
+reset_parts_of l = record { cmd = 0x2A; load = reset_load 0 l; crcs = reset_crcs (reset_load 0 l); conn = 0 }
+
+load-long : (l : ℕ) → length (reset_load 0 l) ≡ l
+load-long zero = refl
+load-long (suc n) = ap suc (length-replicate n 0)
+
+pub load_zeros : (l : ℕ) → reset_load 0 l ≡ replicate l 0
+load_zeros zero = refl
+load_zeros (suc n) = refl
+
+pub reset_parts : (l : ℕ) → IsTrue (is_length l) → frame_of l (reset_frame 0 l) ≡ reset_parts_of l
+reset_parts l valid =
+    read_as l (reset_frame 0 l) (reset_parts_of l) valid (load-long l)
+    (count_crcs 0 0 1 0x2A 0 (groups (reset_load 0 l)) ∙ (count_groups (reset_load 0 l) ∙ (ap (λ (n : ℕ). (n + 1) / 2) (load-long l) ∙ halves l valid))) refl
+
+pub valid_of : (ms : MasterSettings) (which : End) → IsTrue (is_length (length_of ms.lengths which))
+valid_of ms end_name.Master = ms.lengths.valid_master
+valid_of ms end_name.Slave = ms.lengths.valid_slave
+
+pub reset_long : (ms : MasterSettings) (r : Partner ms) (which : End) → length (reset_frame 0 (length_of ms.lengths which)) ≡ frame_len (length_of ms.lengths which)
+reset_long ms r end_name.Master = (is_reset_frame (slave_of ms r) [] ms.lengths.valid_master refl).is_read.has_length
+reset_long ms r end_name.Slave = (is_reset_frame (OfMaster ms) [] ms.lengths.valid_slave refl).is_read.has_length
+
+own-turn : (which : End) → same_end which which ≡ true
+own-turn end_name.Master = refl
+own-turn end_name.Slave = refl
+
+-- no row applies to the frame that comes next
+pub next_none : (ms : MasterSettings) (r : Partner ms) (t : List Noted) (g : List ℕ) (taken : List (List ℕ)) (at : End) → IsPlain ms → turn t ≡ at → NextFrame ms t g taken at
+    → field_of ms.lengths t (record { from = at; frame = g }) ≡ None
+next_none ms r t g taken at plain turned-to (ResetNext _ due is) =
+    in_turn_none ms.lengths (before ms.lengths t) (record { from = at; frame = g }) (record {
+      turn = ap (same_end at) turned-to ∙ own-turn at;
+      long = ap (length {A = ℕ}) is ∙ reset_long ms r at;
+      right = subst (λ (f : Frame). IsRight (width ms) (before ms.lengths t) at f) (sym (ap (frame_of (length_of ms.lengths at)) is ∙ reset_parts (length_of ms.lengths at) (valid_of ms at)))
+          (reset_right (width ms) (before ms.lengths t) at (reset_parts_of (length_of ms.lengths at)) (length_of ms.lengths at) due refl refl (load_zeros (length_of ms.lengths at)) refl);
+    })
+next_none ms r t g taken at plain turned-to (MasterNext m) =
+    in_turn_none ms.lengths (before ms.lengths t) (record { from = end_name.Master; frame = g }) (record {
+      turn = ap (same_end end_name.Master) turned-to;
+      long = m.long;
+      right = subst (λ (f : Frame). IsRight (width ms) (before ms.lengths t) end_name.Master f) (sym m.frame)
+          (master_right ms ms.nonce (before ms.lengths t) m.command m.a m.b m.d (sealed_by (chain_of ms.lengths t) m.conn (command_byte m.command) m.load) m.session plain m.due refl m.carries refl);
+    })
+next_none ms r t g taken at plain turned-to (SlaveNext m) =
+    in_turn_none ms.lengths (before ms.lengths t) (record { from = end_name.Slave; frame = g }) (record {
+      turn = ap (same_end end_name.Slave) turned-to;
+      long = m.long;
+      right = subst (λ (f : Frame). IsRight (width ms) (before ms.lengths t) end_name.Slave f) (sym m.frame)
+          (slave_right ms m.id (before ms.lengths t) m.command m.a m.b m.d (sealed_by (turned (chain_of ms.lengths t)) m.conn (command_byte m.command) m.load) m.session plain m.due refl
+          (ap (λ (f : Frame). length f.load) (sym m.frame) ∙ (whole ms.lengths.slave g ms.lengths.valid_slave m.long).load) m.replies refl);
+    })
+
+-- these frames are at the beginning of those
+pub record Begins (part all : List Noted) : Type 0 where
+  pub later : List Noted
+  pub is : all ≡ later ++ part
+
+begins-on : (x : Entry) (w : List Entry) (none : Bool) (all : List Noted) → Begins (if none then sent_in w else record { from = x.end; frame = x.sent } ∷ sent_in w) all → Begins (sent_in w) all
+begins-on x w true all b = b
+begins-on x w false all b =
+    let y : Noted = record { from = x.end; frame = x.sent } in
+    record { later = b.later ++ y ∷ []; is = b.is ∙ sym (append_assoc b.later (y ∷ []) (sent_in w)) }
+
+begins-after : (ms : MasterSettings) (r : Partner ms) (w : List Entry) (e : Option Entry) (rest : List Entry → List Entry) → ((w : List Entry) → Begins (sent_in w) (sent_in (rest w))) → Begins (sent_in w) (sent_in (going_on w e rest))
+begins-after ms r w None rest k = record { later = []; is = refl }
+begins-after ms r w (Some x) rest k = begins-on x w (is_empty x.sent) (sent_in (rest (x ∷ w))) (k (x ∷ w))
+
+-- what was sent before is there after further events
+sent-before : (ms : MasterSettings) (r : Partner ms) (events : List Event) (w : List Entry) → Begins (sent_in w) (sent_in (world_after ms (partner ms r) events w))
+sent-before ms r [] w = record { later = []; is = refl }
+sent-before ms r (event ∷ events) w = begins-after ms r w (entry_at ms (partner ms r) w event) (world_after ms (partner ms r) events) (sent-before ms r events)
+
+drop-front : (front rest : List Noted) → drop (length front) (front ++ rest) ≡ rest
+drop-front [] rest = refl
+drop-front (x ∷ front) rest = drop-front front rest
+
+-- two beginnings of one list that are as long are the same
+same-end-of : (later later' part part' : List Noted) → later ++ part ≡ later' ++ part' → length part ≡ length part' → part ≡ part'
+same-end-of later later' part part' e long =
+    let as-many : length later ≡ length later' = omega (arith, ap (length {A = Noted}) e, length-append later part, length-append later' part', long) in
+    sym (drop-front later part) ∙ (ap (drop (length later)) e ∙ (ap (λ (n : ℕ). drop n (later' ++ part')) as-many ∙ drop-front later' part'))
+
+pub same_frames : (a b : Noted) (s t : List Noted) → a ∷ s ≡ b ∷ t → (a ≡ b) × (s ≡ t)
+same_frames a b s t e = (cc, cc)
+
+-- the world stands at the end of a trace, whose frames it sent, and no row applies to any of them
+pub record Good (ms : MasterSettings) (r : Partner ms) (t : List Noted) : Type 0 where
+  pub at : At ms r t
+  pub sent : sent_in (world_of ms r t) ≡ t
+  pub none : first_difference ms.lengths t ≡ None
+
+pub none_more : (first : Option Difference) (field : Option Field) (n : ℕ) → first ≡ None → field ≡ None → first_of_both first field n ≡ None
+none_more first field n h k = ap₂ (λ (a : Option Difference) (b : Option Field). first_of_both a b n) h k
+
+pub good_first : (ms : MasterSettings) (r : Partner ms) → IsPlain ms → Good ms r (first_reset ms ∷ [])
+good_first ms r plain = record {
+  at = at_first ms r;
+  sent = (first_runs ms r (first_reset ms)).1;
+  none = none_more None _ _ refl (next_none ms r [] (reset_frame 0 ms.lengths.master) [] end_name.Master plain refl (ResetNext end_name.Master refl refl));
+}
+
+-- the next frame is the one that is sent
+pub good_more : (ms : MasterSettings) (r : Partner ms) (x y : Noted) (t : List Noted) → IsPlain ms → (g : Good ms r (y ∷ t)) (m : More ms r x (y ∷ t)) → x ≡ record { from = turn (y ∷ t); frame = m.steps.answers.reaches.entry.sent } → Good ms r (x ∷ y ∷ t)
+good_more ms r x y t plain g m is = record {
+  at = m.at is;
+  sent = m.sent ∙ ap₂ (λ (z : Noted) (u : List Noted). z ∷ u) (sym is) g.sent;
+  none = none_more (first_difference ms.lengths (y ∷ t)) (field_of ms.lengths (y ∷ t) x) _ g.none (ap (field_of ms.lengths (y ∷ t)) is ∙ next_none ms r (y ∷ t) _ _ (turn (y ∷ t)) plain refl m.next);
+}
+
+-- one more frame of a trace, where two ends sent the trace over its schedule and further events
+good-on : (ms : MasterSettings) (r : Partner ms) (x y : Noted) (t : List Noted) (extra : List Event) (later : List Noted) → Accepts ms r → IsPlain ms → length x.frame ≡ frame_len (length_of ms.lengths x.from)
+    → sent_in (world ms (partner ms r) (schedule_off ms.lengths (x ∷ y ∷ t) ++ extra)) ≡ later ++ x ∷ y ∷ t → Good ms r (y ∷ t) → Good ms r (x ∷ y ∷ t)
+good-on ms r x y t extra later accepts plain long e g =
+    good_more ms r x y t plain g m (sym (same_frames _ x (y ∷ t) (y ∷ t) (aligned _ (ap₂ (λ (z : Noted) (u : List Noted). z ∷ u) refl g.sent) (next_runs ms r x y t accepts fits g.at.runs).0.whole m.sent)).0)
+  where
+    at : End
+    at = turn (y ∷ t)
+
+    log : List Event
+    log = schedule_off ms.lengths (y ∷ t)
+
+    events : List Event
+    events = events_before ms.lengths (y ∷ t) x.frame
+
+    -- a frame that was sent after these is the next one of the trace
+    aligned : (z : Noted) → z ∷ sent_in (world_of ms r (y ∷ t)) ≡ z ∷ y ∷ t → length (world_of ms r (x ∷ y ∷ t)) ≡ length (schedule_off ms.lengths (x ∷ y ∷ t)) → sent_in (world_of ms r (x ∷ y ∷ t)) ≡ z ∷ sent_in (world_of ms r (y ∷ t))
+        → z ∷ y ∷ t ≡ x ∷ y ∷ t
+    aligned z before whole sent =
+        let b : Begins (sent_in (world_of ms r (x ∷ y ∷ t))) (sent_in (world_after ms (partner ms r) extra (world_of ms r (x ∷ y ∷ t)))) = sent-before ms r extra (world_of ms r (x ∷ y ∷ t)) in
+        let all : b.later ++ z ∷ y ∷ t ≡ later ++ x ∷ y ∷ t =
+        ap (λ (u : List Noted). b.later ++ u) (sym (sent ∙ before)) ∙ (sym b.is ∙ (ap sent_in (sym (world_on ms (partner ms r) (schedule_off ms.lengths (x ∷ y ∷ t)) extra whole)) ∙ e)) in
+        same-end-of b.later later (z ∷ y ∷ t) (x ∷ y ∷ t) all refl
+
+    s : SendsMore ms r (answer_events at (length_of ms.lengths at) x.frame) (world_of ms r (y ∷ t)) at
+    s = sends_anyway ms r (world_of ms r (y ∷ t)) at (command_in x.frame) (length_of ms.lengths at) (frame_of (length_of ms.lengths at) x.frame).load accepts g.at.runs.on
+
+    goes : world_of ms r (x ∷ y ∷ t) ≡ s.new
+    goes = world_on ms (partner ms r) log events g.at.runs.whole ∙ s.is
+
+    came : record { from = at; frame = s.frame } ∷ y ∷ t ≡ x ∷ y ∷ t
+    came =
+        aligned (record { from = at; frame = s.frame }) (ap (λ (u : List Noted). record { from = at; frame = s.frame } ∷ u) g.sent)
+        (ap (length {A = Entry}) goes ∙ (s.whole ∙ omega (arith, g.at.runs.whole, length-append log events))) (ap sent_in goes ∙ s.sent)
+
+    from-turn : at ≡ x.from
+    from-turn = ap (λ (z : Noted). z.from) (same_frames (record { from = at; frame = s.frame }) x (y ∷ t) (y ∷ t) came).0
+
+    fits : length (frame_of (length_of ms.lengths at) x.frame).load ≡ length_of ms.lengths at
+    fits = (whole (length_of ms.lengths at) x.frame (valid_of ms at) (long ∙ ap (λ (e : End). frame_len (length_of ms.lengths e)) (sym from-turn))).load
+
+    m : More ms r x (y ∷ t)
+    m = more ms r x y t accepts plain fits g.at
+
+-- what two ends sent of a trace over its schedule and further events
+pub good : (ms : MasterSettings) (r : Partner ms) (x : Noted) (t : List Noted) (extra : List Event) (later : List Noted) → Accepts ms r → IsPlain ms → AllLong ms.lengths (x ∷ t)
+    → sent_in (world ms (partner ms r) (schedule_off ms.lengths (x ∷ t) ++ extra)) ≡ later ++ x ∷ t → Good ms r (x ∷ t)
+good ms r x [] extra later accepts plain long e =
+    let runs = first_runs ms r x in
+    let b : Begins (sent_in (world_of ms r (x ∷ []))) (sent_in (world_after ms (partner ms r) extra (world_of ms r (x ∷ [])))) = sent-before ms r extra (world_of ms r (x ∷ [])) in
+    let all : b.later ++ first_reset ms ∷ [] ≡ later ++ x ∷ [] =
+    ap (λ (t : List Noted). b.later ++ t) (sym runs.1) ∙ (sym b.is ∙ (ap sent_in (sym (world_on ms (partner ms r) (schedule_off ms.lengths (x ∷ [])) extra runs.0.whole)) ∙ e)) in
+    subst (λ (x : Noted). Good ms r (x ∷ [])) (same_frames (first_reset ms) x [] [] (same-end-of b.later later (first_reset ms ∷ []) (x ∷ []) all refl)).0 (good_first ms r plain)
+good ms r x (y ∷ t) extra later accepts plain long e =
+    let events : List Event = events_before ms.lengths (y ∷ t) x.frame in
+    good-on ms r x y t extra later accepts plain long.0 e
+    (good ms r y t (events ++ extra) (later ++ x ∷ []) accepts plain long.1
+    (ap (λ (log : List Event). sent_in (world ms (partner ms r) log)) (sym (append_assoc (schedule_off ms.lengths (y ∷ t)) events extra)) ∙ (e ∙ sym (append_assoc later (x ∷ []) (y ∷ t)))))

@@ -1,0 +1,132 @@
+-- A frame that carries what a master's carries in its turn, with the CRCs of its chain, is as it must be.
+use Rattle.std.proofs.Common.{◌≡◌, ℕ, zero, suc, ◌*◌, ◌<◌, ◌≤◌, ◌==◌, List, [], ◌∷◌, ◌++◌, ◌&&◌, length, take, replicate, Bool, true, false, not, Option, None, refl, sym, ap, ap₂, subst, ◌∙◌, arith, if◌then◌else◌}
+use Rattle.std.proofs.lemmas.Bool.{eqb-true, eq-eqb, ne_eqb}
+use Rattle.fsoe_base.specs.declared.command.Command.{Command}
+use Rattle.fsoe_base.specs.declared.command.Command.TheVariants as command
+use Rattle.fsoe_base.specs.declared.command.End.TheVariants as end_name
+use Rattle.fsoe_base.specs.declared.command.State.{State}
+use Rattle.fsoe_base.specs.declared.command.State.TheVariants as state
+use Rattle.fsoe_base.specs.Bytes.{all_zero}
+use Rattle.fsoe_base.specs.Command.{command_byte, command_of}
+use Rattle.fsoe_frame.specs.Parts.{Frame}
+use Rattle.seq_chain.specs.Chain.{sealed_by}
+use Rattle.param_load.specs.declared.master_settings.MasterSettings.{MasterSettings}
+use Rattle.param_load.specs.declared.profile.Profile.{Profile}
+use Rattle.param_load.specs.declared.profile.Profile.TheVariants as profile
+use Rattle.param_load.specs.Payload.{session_payload, connection_payload, parameter_payload, padded}
+use Rattle.end_model.specs.Payloads.{piece}
+use Rattle.end_model.specs.Phases.{phase_of, is_reset}
+use Rattle.end_model.specs.Setup.{OfMaster}
+use Rattle.end_model.specs.Verdict.{is_slave_conn}
+use Rattle.exchange_model.proofs.Alone.Framed.{piece_fits}
+use Rattle.exchange_model.proofs.Alone.Pieces.{front}
+use Rattle.exchange_model.proofs.Honest.SlaveTurn.{Carries, some_width}
+use Rattle.exchange_model.proofs.Honest.Turns.{width, conn_after}
+use Rattle.trace_diag.specs.Before.{Before}
+use Rattle.trace_diag.specs.Table.{is_of, conn_holds, payload_holds, piece_holds, first_failing, first_differing, wrong_in_piece, wrong_byte, crcs_due}
+use Rattle.trace_diag.proofs.NoField.{IsRight}
+use Rattle.trace_diag.proofs.NoneApplies.{AllHold, all_hold, same_none}
+use Rattle.trace_diag.proofs.PieceRows.{session_rows, connection_rows, parameters_rows}
+
+-- so many pieces of the payload of a command came before its frame, in a handshake
+abbrev pub IsPlaced : MasterSettings → Command → ℕ → ℕ → ℕ → ℕ → Type 0
+IsPlaced ms command.Session a b d place = place ≡ a * width ms
+IsPlaced ms command.Connection a b d place = place ≡ b * width ms
+IsPlaced ms command.Parameter a b d place = place ≡ d * width ms
+IsPlaced ms _ a b d place = Unit {0}
+
+-- what is known before a frame of the master with this command, where so many pieces of the three payloads came before it
+pub record IsDue (ms : MasterSettings) (k : Before) (c : Command) (a b d : ℕ) : Type 0 where
+  pub due : k.due ≡ phase_of c
+  pub place : IsPlaced ms c a b d k.place
+  pub conn : k.conn ≡ conn_after ms.conn b
+  pub parameters : k.parameters ≡ take 6 (front (parameter_payload ms.watchdog ms.profile ms.app) (width ms) d)
+
+-- settings of a master in profile One, with as many application parameters as there may be
+pub record IsPlain (ms : MasterSettings) : Type 0 where
+  pub one : ms.profile ≡ profile.One
+  pub most : length ms.app ≤ 512
+
+pub known : (conn b : ℕ) → 0 < conn → is_slave_conn (conn_after conn b) conn ≡ true
+known conn zero h = ap not (ne_eqb conn 0 (λ e. omega (arith, h, e)))
+known conn (suc b) h = eq-eqb conn conn refl
+
+-- zeros
+pub zeros_are : (bytes : List ℕ) → all_zero bytes ≡ true → bytes ≡ replicate (length bytes) 0
+zeros_are [] h = refl
+zeros_are (b ∷ bytes) h = let both = split (b == 0) (all_zero bytes) h in ap₂ (λ (x : ℕ) (xs : List ℕ). x ∷ xs) (eqb-true b 0 both.0) (zeros_are bytes both.1)
+  where
+    split : (s t : Bool) → (s && t) ≡ true → (s ≡ true) × (t ≡ true)
+    split true t h = (refl, h)
+    split false t h = absurd cc
+
+-- the command is one of its phase
+pub of_phase : (c : Command) → is_of (phase_of c) (command_of (command_byte c)) ≡ true
+of_phase command.Reset = refl
+of_phase command.Session = refl
+of_phase command.Connection = refl
+of_phase command.Parameter = refl
+of_phase command.FailSafeData = refl
+of_phase command.ProcessData = refl
+
+-- the connection id holds
+conn-right : (ms : MasterSettings) (id : ℕ) (c : Command) (a b d : ℕ) (f : Frame) → Carries ms id c a b d f.conn f.load → conn_holds (phase_of c) (conn_after ms.conn b) f.conn ≡ true
+conn-right ms id command.Reset a b d f k = absurd k
+conn-right ms id command.Session a b d f k = eq-eqb f.conn 0 k.0
+conn-right ms id command.Connection a b d f k = ap (is_slave_conn (conn_after ms.conn b)) k.0 ∙ known ms.conn b ms.some_conn
+conn-right ms id command.Parameter a b d f k = ap (is_slave_conn (conn_after ms.conn b)) k.0 ∙ known ms.conn b ms.some_conn
+conn-right ms id command.FailSafeData a b d f k = ap (is_slave_conn (conn_after ms.conn b)) k.0 ∙ known ms.conn b ms.some_conn
+conn-right ms id command.ProcessData a b d f k = ap (is_slave_conn (conn_after ms.conn b)) k ∙ known ms.conn b ms.some_conn
+
+-- a frame that carries the piece of a payload after some, in this phase
+in-piece : (w : ℕ) (k : Before) (phase : State) (f : Frame) (n : ℕ) (load : List ℕ) → k.place ≡ n * w → f.load ≡ load
+    → AllHold (piece_holds w (payload_holds phase f.conn (k.parameters ++ take w load)) (n * w)) 0 load → wrong_in_piece w k phase f ≡ None
+in-piece w k phase f n load place is all =
+    ap₂ (λ (from : ℕ) (bytes : List ℕ). first_failing (piece_holds w (payload_holds phase f.conn (k.parameters ++ take w bytes)) from) 0 bytes) place is
+    ∙ all_hold (piece_holds w (payload_holds phase f.conn (k.parameters ++ take w load)) (n * w)) 0 load all
+
+-- no data byte is wrong
+bytes-right : (ms : MasterSettings) (id : ℕ) (k : Before) (c : Command) (a b d : ℕ) (f : Frame) → IsPlain ms → IsDue ms k c a b d → f.cmd ≡ command_byte c → Carries ms id c a b d f.conn f.load
+    → wrong_byte (width ms) k end_name.Master (phase_of c) f ≡ None
+bytes-right ms id k command.Reset a b d f plain due cmd carries = absurd carries
+bytes-right ms id k command.Session a b d f plain due cmd carries =
+    in-piece (width ms) k state.Session f a (padded (piece (session_payload id profile.One) (width ms) (suc a)) ms.lengths.master) due.place
+    (carries.1 ∙ ap (λ (p : Profile). padded (piece (session_payload id p) (width ms) (suc a)) ms.lengths.master) plain.one)
+    (session_rows id (width ms) a ms.lengths.master f.conn (k.parameters ++ take (width ms) (padded (piece (session_payload id profile.One) (width ms) (suc a)) ms.lengths.master)))
+bytes-right ms id k command.Connection a b d f plain due cmd carries =
+    in-piece (width ms) k state.Connection f b load due.place carries.1
+    (subst (λ (conn : ℕ). AllHold (piece_holds (width ms) (payload_holds state.Connection conn (k.parameters ++ take (width ms) load)) (b * width ms)) 0 load) (sym carries.0)
+    (connection_rows ms.conn ms.address (width ms) b ms.lengths.master (k.parameters ++ take (width ms) load)))
+  where
+    load : List ℕ
+    load = padded (piece (connection_payload ms.conn ms.address) (width ms) (suc b)) ms.lengths.master
+bytes-right ms id k command.Parameter a b d f plain due cmd carries =
+    in-piece (width ms) k state.Parameter f d load due.place (carries.1 ∙ ap (λ (p : Profile). padded (piece (parameter_payload ms.watchdog p ms.app) (width ms) (suc d)) ms.lengths.master) plain.one)
+    (subst (λ (head : List ℕ). AllHold (piece_holds (width ms) (payload_holds state.Parameter f.conn (head ++ take (width ms) load)) (d * width ms)) 0 load)
+    (sym (due.parameters ∙ ap (λ (p : Profile). take 6 (front (parameter_payload ms.watchdog p ms.app) (width ms) d)) plain.one))
+    (parameters_rows ms.watchdog ms.app (width ms) d ms.lengths.master f.conn ms.some_watchdog plain.most (some_width ms) (piece_fits (OfMaster ms))))
+  where
+    load : List ℕ
+    load = padded (piece (parameter_payload ms.watchdog profile.One ms.app) (width ms) (suc d)) ms.lengths.master
+bytes-right ms id k command.FailSafeData a b d f plain due cmd carries =
+    ap (λ (n : ℕ). if n == 0x36 then None else first_differing 0 f.load (replicate (length f.load) 0)) cmd
+    ∙ (ap (λ (bytes : List ℕ). first_differing 0 f.load bytes) (sym (zeros_are f.load carries.1)) ∙ same_none 0 f.load)
+bytes-right ms id k command.ProcessData a b d f plain due cmd carries = ap (λ (n : ℕ). if n == 0x36 then None else first_differing 0 f.load (replicate (length f.load) 0)) cmd
+
+-- the CRCs are those of the chain
+crcs-right : (k : Before) (c : Command) (f : Frame) → is_reset c ≡ false → f.crcs ≡ (sealed_by k.chain f.conn f.cmd f.load).crcs → f.crcs ≡ crcs_due (phase_of c) k.chain end_name.Master f
+crcs-right k command.Reset f session e = absurd cc
+crcs-right k command.Session f session e = e
+crcs-right k command.Connection f session e = e
+crcs-right k command.Parameter f session e = e
+crcs-right k command.FailSafeData f session e = e
+crcs-right k command.ProcessData f session e = e
+
+pub master_right : (ms : MasterSettings) (id : ℕ) (k : Before) (c : Command) (a b d : ℕ) (f : Frame) → is_reset c ≡ false → IsPlain ms → IsDue ms k c a b d → f.cmd ≡ command_byte c
+    → Carries ms id c a b d f.conn f.load → f.crcs ≡ (sealed_by k.chain f.conn f.cmd f.load).crcs → IsRight (width ms) k end_name.Master f
+master_right ms id k c a b d f session plain due cmd carries crcs = record {
+  command = ap₂ (λ (p : State) (n : ℕ). is_of p (command_of n)) due.due cmd ∙ of_phase c;
+  conn = ap₂ (λ (p : State) (first : Option ℕ). conn_holds p first f.conn) due.due due.conn ∙ conn-right ms id c a b d f carries;
+  bytes = ap (λ (p : State). wrong_byte (width ms) k end_name.Master p f) due.due ∙ bytes-right ms id k c a b d f plain due cmd carries;
+  crcs = subst (λ (p : State). f.crcs ≡ crcs_due p k.chain end_name.Master f) (sym due.due) (crcs-right k c f session crcs);
+}

@@ -1,0 +1,274 @@
+-- The frame that the end in turn sends after a trace: a Reset frame, or the next one of its session.
+use Rattle.std.proofs.Common.{◌≡◌, ℕ, suc, ◌-◌, ◌*◌, ◌<◌, List, [], ◌∷◌, length, take, Bool, true, false, refl, sym, ap, ap₂, subst, ◌∙◌, arith, if◌then◌else◌}
+use Rattle.fsoe_base.specs.LengthsOf.{length_of}
+use Rattle.fsoe_base.specs.declared.command.Command.{Command}
+use Rattle.fsoe_base.specs.declared.command.Command.TheVariants as command
+use Rattle.fsoe_base.specs.declared.command.End.{End}
+use Rattle.fsoe_base.specs.declared.command.End.TheVariants as end_name
+use Rattle.fsoe_base.specs.declared.command.State.{State}
+use Rattle.fsoe_base.specs.declared.command.State.TheVariants as state
+use Rattle.fsoe_base.specs.Command.{command_byte}
+use Rattle.fsoe_base.specs.Lengths.{frame_len}
+use Rattle.fsoe_frame.specs.Parts.{frame_of}
+use Rattle.seq_chain.specs.declared.chain.Chain.{Chain}
+use Rattle.seq_chain.specs.Chain.{sealed_by, turned}
+use Rattle.seq_chain.specs.Reset.{reset_frame}
+use Rattle.seq_chain.specs.Sealing as sealing
+use Rattle.param_load.specs.declared.master_settings.MasterSettings.{MasterSettings}
+use Rattle.param_load.specs.Payload.{connection_payload, parameter_payload, session_payload}
+use Rattle.end_model.specs.Chain.{newest_crc}
+use Rattle.end_model.specs.Payloads.{count_in}
+use Rattle.end_model.specs.Phases.{is_reset, phase_of, phase_of_frame, same_phase}
+use Rattle.end_model.specs.Readiness.{phase_sent}
+use Rattle.exchange_model.proofs.Alone.Framed.{piece_fits}
+use Rattle.exchange_model.proofs.Alone.Pieces.{front}
+use Rattle.exchange_model.proofs.Honest.Fronts.{front_long}
+use Rattle.exchange_model.proofs.Honest.OnItsWay.{Chained}
+use Rattle.exchange_model.proofs.Honest.SlaveTurn.{Carries, Replies}
+use Rattle.exchange_model.proofs.Honest.Stages.{Both, IsDown, IsUp}
+use Rattle.exchange_model.proofs.Honest.StageSteps.{some_connection}
+use Rattle.exchange_model.proofs.Honest.Turns.{conn_after, connection_pieces, more, parameter_pieces, session_pieces, slave_of, width, Partner, Turn, Starts, MoreSession, FirstConnection, MoreConnection, FirstParameter, MoreParameter, FirstZeros, FirstValues, MoreZeros, MoreValues, Spot, InSession, InConnection, InParameter, InData}
+use Rattle.trace_diag.specs.Before.{before, chain_of, goes_on, last_piece, phase_due, phase_from, piece_asked, piece_place}
+use Rattle.trace_diag.specs.Trace.{payload_from, turn, Noted}
+use Rattle.trace_diag.proofs.Due.{due_next, front_in}
+use Rattle.trace_diag.proofs.MasterRows.{IsDue, IsPlaced, IsPlain}
+use Rattle.trace_diag.proofs.SlaveRows.{IsDueBack, Repeats}
+use Rattle.trace_diag.proofs.Tells.{phase_by, RepeatsIn, Tells}
+
+-- the pieces of a payload that came before a frame with this command, in a handshake
+abbrev pub HasCome : MasterSettings → List Noted → Command → ℕ → ℕ → ℕ → Type 0
+HasCome ms t command.Session a b d = payload_from ms.lengths end_name.Master state.Session t ≡ front (session_payload ms.nonce ms.profile) (width ms) a
+HasCome ms t command.Connection a b d = payload_from ms.lengths end_name.Master state.Connection t ≡ front (connection_payload ms.conn ms.address) (width ms) b
+HasCome ms t command.Parameter a b d = payload_from ms.lengths end_name.Master state.Parameter t ≡ front (parameter_payload ms.watchdog ms.profile ms.app) (width ms) d
+HasCome ms t _ a b d = Unit {0}
+
+-- past the payload of Connection some of its pieces have come
+abbrev pub IsPast : State → ℕ → Type 0
+IsPast state.Parameter b = 0 < b
+IsPast state.Data b = 0 < b
+IsPast _ b = Unit {0}
+
+-- the next frame of the master
+pub record FromMaster (ms : MasterSettings) (t : List Noted) (g : List ℕ) : Type 0 where
+  pub conn : ℕ
+  pub command : Command
+  pub load : List ℕ
+  pub a : ℕ
+  pub b : ℕ
+  pub d : ℕ
+  pub tail : List ℕ
+  pub session : is_reset command ≡ false
+  pub due : IsDue ms (before ms.lengths t) command a b d
+  pub come : HasCome ms t command a b d
+  pub past : IsPast (phase_of command) b
+  pub carries : Carries ms ms.nonce command a b d conn load
+  pub head : g ≡ command_byte command ∷ tail
+  pub frame : frame_of ms.lengths.master g ≡ sealed_by (chain_of ms.lengths t) conn (command_byte command) load
+  pub long : length g ≡ frame_len ms.lengths.master
+
+-- the next answer of the slave, which took these frames in its session
+pub record FromSlave (ms : MasterSettings) (t : List Noted) (g : List ℕ) (taken : List (List ℕ)) : Type 0 where
+  pub id : ℕ
+  pub conn : ℕ
+  pub command : Command
+  pub load : List ℕ
+  pub a : ℕ
+  pub b : ℕ
+  pub d : ℕ
+  pub tail : List ℕ
+  pub session : is_reset command ≡ false
+  pub due : IsDueBack ms (before ms.lengths t) command a b d
+  pub replies : Replies ms id command a b d conn load
+  pub ids : count_in state.Session taken ≡ a
+  pub connected : phase_of command ≡ state.Connection → 0 < b
+  pub past : IsPast (phase_of command) b
+  pub head : g ≡ command_byte command ∷ tail
+  pub frame : frame_of ms.lengths.slave g ≡ sealed_by (turned (chain_of ms.lengths t)) conn (command_byte command) load
+  pub long : length g ≡ frame_len ms.lengths.slave
+
+-- the frame that an end sends after a trace, where the slave took these frames in its session
+pub data NextFrame (ms : MasterSettings) (t : List Noted) (g : List ℕ) (taken : List (List ℕ)) : End → Type 0 where
+  ResetNext : (which : End) → phase_due ms.lengths t ≡ state.Reset → g ≡ reset_frame 0 (length_of ms.lengths which) → NextFrame ms t g taken which
+  MasterNext : FromMaster ms t g → NextFrame ms t g taken end_name.Master
+  SlaveNext : FromSlave ms t g taken → NextFrame ms t g taken end_name.Slave
+
+by-one : (b : Bool) (n m : ℕ) → (if b then suc n else n) ≡ (if b then suc m else m) → n ≡ m
+by-one true n m e = omega (arith, e)
+by-one false n m e = e
+
+placed-at : (ms : MasterSettings) (t : List Noted) (c : Command) (a b d : ℕ) → HasCome ms t c a b d → IsPlaced ms c a b d (piece_place ms.lengths t (phase_of c) end_name.Master)
+placed-at ms t command.Reset a b d h = tt
+placed-at ms t command.Session a b d h = ap (length {A = ℕ}) h ∙ front_long (session_payload ms.nonce ms.profile) (width ms) a
+placed-at ms t command.Connection a b d h = ap (length {A = ℕ}) h ∙ front_long (connection_payload ms.conn ms.address) (width ms) b
+placed-at ms t command.Parameter a b d h = ap (length {A = ℕ}) h ∙ front_long (parameter_payload ms.watchdog ms.profile ms.app) (width ms) d
+placed-at ms t command.FailSafeData a b d h = tt
+placed-at ms t command.ProcessData a b d h = tt
+
+turn-past : (n n' n'' : ℕ) (c : Command) (p : State) (a b d k : ℕ) → 0 < n' → Turn n n' n'' c p a b d k → IsPast (phase_of c) b
+turn-past n n' n'' c p a b d k some Starts = tt
+turn-past n n' n'' c p a b d k some (MoreSession _ h) = tt
+turn-past n n' n'' c p a b d k some FirstConnection = tt
+turn-past n n' n'' c p a b d k some (MoreConnection _ _ h e) = tt
+turn-past n n' n'' c p a b d k some (FirstParameter _ e) = some
+turn-past n n' n'' c p a b d k some (MoreParameter _ _ h e) = some
+turn-past n n' n'' c p a b d k some (FirstZeros _ e) = some
+turn-past n n' n'' c p a b d k some (FirstValues _ e) = some
+turn-past n n' n'' c p a b d k some (MoreZeros _ h) = some
+turn-past n n' n'' c p a b d k some (MoreValues _ h) = some
+
+spot-past : (n n' n'' : ℕ) (p : State) (a b d m : ℕ) → 0 < n' → Spot n n' n'' p a b d m → IsPast p b
+spot-past n n' n'' p a b d m some (InSession _ h) = tt
+spot-past n n' n'' p a b d m some (InConnection _ _ h e) = tt
+spot-past n n' n'' p a b d m some (InParameter _ _ h e) = some
+spot-past n n' n'' p a b d m some (InData _ h) = some
+
+-- the master's frame that is on its way is the next one
+pub from_down : (ms : MasterSettings) (r : Partner ms) (y : Noted) (t : List Noted) (x x' : Both) (h : IsDown ms r x') → IsPlain ms → h.id ≡ ms.nonce → turn (y ∷ t) ≡ end_name.Master → Tells ms (y ∷ t) end_name.Master x
+    → x'.master.sent ≡ h.frame ∷ x.master.sent → x'.slave ≡ x.slave → x'.phase ≡ phase_sent x.master.sent → FromMaster ms (y ∷ t) h.frame
+from_down ms r y t x x' h plain id turned-to told more-sent same phase = record {
+  conn = h.conn;
+  command = h.command;
+  load = h.load;
+  a = h.a;
+  b = h.b;
+  d = h.d;
+  tail = h.way.tail;
+  session = h.in_session;
+  due = record {
+    due = due;
+    place = subst (λ (place : ℕ). IsPlaced ms h.command h.a h.b h.d place) (sym (ap₂ (λ (p : State) (e : End). piece_place ms.lengths (y ∷ t) p e) due turned-to)) (placed-at ms (y ∷ t) h.command h.a h.b h.d (come h.command));
+    conn = told.conn ∙ ap (conn_after ms.conn) b-is;
+    parameters = ap (take 6) told.parameters ∙ ap (λ (n : ℕ). take 6 (front (parameter_payload ms.watchdog ms.profile ms.app) (width ms) n)) d-is;
+  };
+  come = come h.command;
+  past = turn-past (session_pieces ms) (connection_pieces ms) (parameter_pieces ms) h.command h.p h.a h.b h.d h.k (some_connection ms) h.turn;
+  carries = subst (λ (id : ℕ). Carries ms id h.command h.a h.b h.d h.conn h.load) id h.carries;
+  head = h.way.head;
+  frame = h.way.frame
+      ∙ (ap (λ (u : Chained). sealing.sealed (newest_crc ms.lengths.slave u.sent) u.taken_link h.conn (command_byte h.command) h.load) same
+      ∙ (ap (λ (n : ℕ). sealing.sealed n x.slave.taken_link h.conn (command_byte h.command) h.load) (sym told.crc)
+      ∙ ap (λ (chain : Chain). sealed_by (turned chain) h.conn (command_byte h.command) h.load) (sym told.chain)));
+  long = h.way.long;
+}
+  where
+    by-head : phase_of_frame h.frame ≡ phase_of h.command
+    by-head = phase_by h.command h.frame h.way.tail h.way.head
+
+    counted : (phase : State) → more phase h.command (count_in phase x.master.sent) ≡ count_in phase x'.master.sent
+    counted phase =
+        ap (λ (p : State). if same_phase phase p then suc (count_in phase x.master.sent) else count_in phase x.master.sent) (sym by-head)
+        ∙ ap (count_in phase) (sym more-sent)
+
+    a-is : count_in state.Session x.master.sent ≡ h.a
+    a-is = by-one (same_phase state.Session (phase_of h.command)) (count_in state.Session x.master.sent) h.a (counted state.Session ∙ h.master.session)
+
+    b-is : count_in state.Connection x.master.sent ≡ h.b
+    b-is = by-one (same_phase state.Connection (phase_of h.command)) (count_in state.Connection x.master.sent) h.b (counted state.Connection ∙ h.master.connection)
+
+    d-is : count_in state.Parameter x.master.sent ≡ h.d
+    d-is = by-one (same_phase state.Parameter (phase_of h.command)) (count_in state.Parameter x.master.sent) h.d (counted state.Parameter ∙ h.master.parameters)
+
+    come : (c : Command) → HasCome ms (y ∷ t) c h.a h.b h.d
+    come command.Reset = tt
+    come command.Session = told.session ∙ ap (front (session_payload ms.nonce ms.profile) (width ms)) a-is
+    come command.Connection = told.connection ∙ ap (front (connection_payload ms.conn ms.address) (width ms)) b-is
+    come command.Parameter = told.parameters ∙ ap (front (parameter_payload ms.watchdog ms.profile ms.app) (width ms)) d-is
+    come command.FailSafeData = tt
+    come command.ProcessData = tt
+
+    goes-from : (p : State) → goes_on p (payload_from ms.lengths end_name.Master p (y ∷ t)) ≡ goes_on p (front_in ms p h.a h.b h.d)
+    goes-from state.Reset = refl
+    goes-from state.Session = ap (goes_on state.Session) (come command.Session)
+    goes-from state.Connection = ap (goes_on state.Connection) (come command.Connection)
+    goes-from state.Parameter = ap (goes_on state.Parameter) (come command.Parameter)
+    goes-from state.Data = refl
+
+    now-is : phase_of_frame y.frame ≡ h.p
+    now-is = told.phase ∙ (sym phase ∙ h.slave.phase)
+
+    due : phase_due ms.lengths (y ∷ t) ≡ phase_of h.command
+    due =
+        ap₂ (λ (e : End) (p : State). phase_from ms.lengths (y ∷ t) e p) turned-to now-is
+        ∙ (goes-from h.p ∙ due_next ms h.command h.p h.a h.b h.d h.k plain h.turn)
+
+some-sent : (frames : List (List ℕ)) → phase_sent frames ≡ state.Session → count_in state.Session frames ≡ suc (count_in state.Session frames - 1)
+some-sent [] e = absurd (none e)
+  where
+    none : state.Reset ≡ state.Session → ⊥
+    none e = cc
+some-sent (f ∷ frames) e =
+    let one : count_in state.Session (f ∷ frames) ≡ suc (count_in state.Session frames) = ap (λ (p : State). if same_phase state.Session p then suc (count_in state.Session frames) else count_in state.Session frames) e in
+    omega (arith, one)
+
+some-connected : (frames : List (List ℕ)) → phase_sent frames ≡ state.Connection → 0 < count_in state.Connection frames
+some-connected [] e = absurd (none e)
+  where
+    none : state.Reset ≡ state.Connection → ⊥
+    none e = cc
+some-connected (f ∷ frames) e =
+    let one : count_in state.Connection (f ∷ frames) ≡ suc (count_in state.Connection frames) = ap (λ (p : State). if same_phase state.Connection p then suc (count_in state.Connection frames) else count_in state.Connection frames) e in
+    omega (arith, one)
+
+in-phase : (ms : MasterSettings) (t : List Noted) (c : Command) (b d : ℕ) → RepeatsIn ms (phase_of c) b d (last_piece ms.lengths t) → Repeats ms c b d (piece_asked ms.lengths t (phase_of c) end_name.Slave)
+in-phase ms t command.Reset b d h = tt
+in-phase ms t command.Session b d h = tt
+in-phase ms t command.Connection b d h = h
+in-phase ms t command.Parameter b d h = h
+in-phase ms t command.FailSafeData b d h = tt
+in-phase ms t command.ProcessData b d h = tt
+
+-- the slave's answer that is on its way is the next one
+pub from_up : (ms : MasterSettings) (r : Partner ms) (y : Noted) (t : List Noted) (x x' : Both) (h : IsUp ms r x') → turn (y ∷ t) ≡ end_name.Slave → Tells ms (y ∷ t) end_name.Slave x
+    → x'.master ≡ x.master → FromSlave ms (y ∷ t) h.frame x'.slave.taken
+from_up ms r y t x x' h turned-to told same = record {
+  id = h.id;
+  conn = h.conn;
+  command = h.command;
+  load = h.load;
+  a = h.a;
+  b = h.b;
+  d = h.d;
+  tail = h.way.tail;
+  session = h.in_session;
+  due = record {
+    due = due;
+    before = h.a - 1;
+    one_more = λ is. sym a-is ∙ (some-sent x.master.sent (session-now is) ∙ ap (λ (n : ℕ). suc (n - 1)) a-is);
+    place = λ is. ap₂ (λ (p : State) (e : End). piece_place ms.lengths (y ∷ t) p e) (due ∙ ap phase_of is) turned-to ∙ (told.newest.place (session-now is) ∙ ap (λ (n : ℕ). (n - 1) * width ms) a-is);
+    conn = told.conn ∙ ap (conn_after ms.conn) b-is;
+    repeats = subst (λ (q : List ℕ). Repeats ms h.command h.b h.d q) (sym (ap₂ (λ (p : State) (e : End). piece_asked ms.lengths (y ∷ t) p e) due turned-to))
+        (in-phase ms (y ∷ t) h.command h.b h.d
+        (subst (λ (n : ℕ). RepeatsIn ms (phase_of h.command) h.b n (last_piece ms.lengths (y ∷ t))) d-is
+        (subst (λ (n : ℕ). RepeatsIn ms (phase_of h.command) n (count_in state.Parameter x.master.sent) (last_piece ms.lengths (y ∷ t))) b-is
+        (subst (λ (p : State). RepeatsIn ms p (count_in state.Connection x.master.sent) (count_in state.Parameter x.master.sent) (last_piece ms.lengths (y ∷ t))) phase-is told.newest.repeats))));
+    fits = piece_fits (slave_of ms r);
+  };
+  replies = h.replies;
+  ids = h.slave.ids;
+  connected = λ is. subst (λ (n : ℕ). 0 < n) b-is (some-connected x.master.sent (phase-is ∙ is));
+  past = spot-past (session_pieces ms) (connection_pieces ms) (parameter_pieces ms) (phase_of h.command) h.a h.b h.d h.k (some_connection ms) h.spot;
+  head = h.way.head;
+  frame = h.way.frame
+      ∙ (ap (λ (u : Chained). sealing.sealed (newest_crc ms.lengths.master u.sent) u.taken_link h.conn (command_byte h.command) h.load) same
+      ∙ (ap (λ (n : ℕ). sealing.sealed n x.master.taken_link h.conn (command_byte h.command) h.load) (sym told.crc)
+      ∙ ap (λ (chain : Chain). sealed_by (turned chain) h.conn (command_byte h.command) h.load) (sym told.chain)));
+  long = h.way.long;
+}
+  where
+    phase-is : phase_sent x.master.sent ≡ phase_of h.command
+    phase-is = ap (λ (u : Chained). phase_sent u.sent) (sym same) ∙ h.master.phase
+
+    a-is : count_in state.Session x.master.sent ≡ h.a
+    a-is = ap (λ (u : Chained). count_in state.Session u.sent) (sym same) ∙ h.master.session
+
+    b-is : count_in state.Connection x.master.sent ≡ h.b
+    b-is = ap (λ (u : Chained). count_in state.Connection u.sent) (sym same) ∙ h.master.connection
+
+    d-is : count_in state.Parameter x.master.sent ≡ h.d
+    d-is = ap (λ (u : Chained). count_in state.Parameter u.sent) (sym same) ∙ h.master.parameters
+
+    session-now : h.command ≡ command.Session → phase_sent x.master.sent ≡ state.Session
+    session-now is = phase-is ∙ ap phase_of is
+
+    due : phase_due ms.lengths (y ∷ t) ≡ phase_of h.command
+    due = ap (λ (e : End). phase_from ms.lengths (y ∷ t) e (phase_of_frame y.frame)) turned-to ∙ (told.phase ∙ phase-is)

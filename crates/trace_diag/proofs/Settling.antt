@@ -1,0 +1,226 @@
+-- Ends with the settings that are read off a trace to which no row of the table applies send its frames.
+use Rattle.std.proofs.Common.{◌≡◌, ◌==◌, ℕ, List, [], ◌∷◌, ◌++◌, length, drop, Bool, true, false, Option, Some, refl, sym, ap, ap₂, subst, ◌∙◌}
+use Rattle.std.proofs.lemmas.Bool.{eqb-true}
+use Rattle.std.proofs.lemmas.List.{append_assoc}
+use Rattle.std.proofs.lemmas.List.Elements.{All-head, All-tail}
+use Rattle.fsoe_base.specs.Command.{command_byte, command_of}
+use Rattle.fsoe_base.specs.Data.{is_data}
+use Rattle.fsoe_base.specs.Lengths.{frame_len}
+use Rattle.fsoe_base.specs.LengthsOf.{length_of}
+use Rattle.fsoe_base.specs.declared.command.Command.{Command}
+use Rattle.fsoe_base.specs.declared.command.Command.TheVariants as command
+use Rattle.fsoe_base.specs.declared.command.End.{End}
+use Rattle.fsoe_base.specs.declared.command.End.TheVariants as end_name
+use Rattle.fsoe_base.specs.declared.command.State.{State}
+use Rattle.fsoe_base.specs.declared.command.State.TheVariants as state
+use Rattle.fsoe_frame.proofs.Places.{whole}
+use Rattle.fsoe_frame.specs.Parts.{frame_of, AreBytes, Frame}
+use Rattle.param_load.specs.declared.entry.Entry.{Entry}
+use Rattle.param_load.specs.declared.master_settings.MasterSettings.{MasterSettings}
+use Rattle.param_load.specs.Payload.{padded, session_payload}
+use Rattle.seq_chain.specs.Reset.{reset_frame}
+use Rattle.end_model.specs.Chain.{since, taken}
+use Rattle.end_model.specs.Deed.{Deed}
+use Rattle.end_model.specs.Payloads.{count_in, piece}
+use Rattle.end_model.specs.Phases.{command_in, has_command, is_data_frame, is_data_if, phase_of, same_phase}
+use Rattle.end_model.specs.Setup.{sends, Setup}
+use Rattle.end_model.specs.Step.{begun}
+use Rattle.schedule_file.specs.declared.event.Event.{Event}
+use Rattle.exchange_model.specs.Ends.{same_end}
+use Rattle.exchange_model.specs.World.{deed_in, deeds, setup_of}
+use Rattle.exchange_model.proofs.Alone.Framed.{command_back}
+use Rattle.exchange_model.proofs.Honest.SlaveTurn.{Accepts}
+use Rattle.exchange_model.proofs.Honest.Turns.{partner, slave_of, width, Partner}
+use Rattle.trace_diag.specs.Before.{before}
+use Rattle.trace_diag.specs.Judged.{AreOfBytes}
+use Rattle.trace_diag.specs.Trace.{payload_from, turn, Noted}
+use Rattle.trace_diag.proofs.Along.{deeds_of, entry_end}
+use Rattle.trace_diag.proofs.Answering.{answer_made, reset_made, sends_answer, IsMade, SendsAnswer}
+use Rattle.trace_diag.proofs.Conforming.{good_first, good_more, reset_long, reset_parts, Good}
+use Rattle.trace_diag.proofs.Heads.{head_of, HasHead}
+use Rattle.trace_diag.proofs.LockStep.{Steps}
+use Rattle.trace_diag.proofs.MasterRows.{IsPlain}
+use Rattle.trace_diag.proofs.NextFrames.{NextFrame, ResetNext, MasterNext, SlaveNext}
+use Rattle.trace_diag.proofs.NoField.{IsInTurn}
+use Rattle.trace_diag.proofs.Nonces.{LeaveNonce}
+use Rattle.trace_diag.proofs.PayloadBytes.{valid_at}
+use Rattle.trace_diag.proofs.PayloadRows.{is_from, same_end_is, IsFrom}
+use Rattle.trace_diag.proofs.RowsHold.{rows_hold, slave_place, AllInTurn}
+use Rattle.trace_diag.proofs.Running.{IsSetFor, Reaches}
+use Rattle.trace_diag.proofs.SentBack.{master_same, reset_same, same_bytes, slave_same}
+use Rattle.trace_diag.proofs.Sets.{carries_id, carries_set, CarriesSet}
+use Rattle.trace_diag.proofs.SettingsRead.{Read}
+use Rattle.trace_diag.proofs.Tells.{not_reset}
+use Rattle.trace_diag.proofs.Walk.{more, world_of, At, More}
+
+same-command : (a b : Command) → Some a ≡ Some b → a ≡ b
+same-command a b e = cc
+
+-- the command of a frame's first byte
+same-head : (c c' : Command) (g tail : List ℕ) → g ≡ command_byte c ∷ tail → has_command c' g ≡ true → c ≡ c'
+same-head c c' g tail head has =
+    let bytes : command_byte c ≡ command_byte c' = eqb-true (command_byte c) (command_byte c') (sym (ap (has_command c') head) ∙ has) in
+    same-command c c' (sym (command_back c) ∙ (ap command_of bytes ∙ command_back c'))
+
+-- the command of a phase that has but one
+abbrev only-in : State → Option Command
+only-in state.Reset = Some command.Reset
+only-in state.Session = Some command.Session
+only-in state.Connection = Some command.Connection
+only-in state.Parameter = Some command.Parameter
+only-in state.Data = Some command.ProcessData
+
+only : (c : Command) → is_data c ≡ false → only-in (phase_of c) ≡ Some c
+only command.Reset h = refl
+only command.Session h = refl
+only command.Connection h = refl
+only command.Parameter h = refl
+only command.FailSafeData h = cc
+only command.ProcessData h = cc
+
+data-phase : (c : Command) → is_data c ≡ same_phase state.Data (phase_of c)
+data-phase command.Reset = refl
+data-phase command.Session = refl
+data-phase command.Connection = refl
+data-phase command.Parameter = refl
+data-phase command.FailSafeData = refl
+data-phase command.ProcessData = refl
+
+same-data : (a b : Command) → phase_of a ≡ phase_of b → is_data a ≡ is_data b
+same-data a b e = data-phase a ∙ (ap (same_phase state.Data) e ∙ sym (data-phase b))
+
+-- what the schedule sets the end to, of the next frame: in Data its command, and its data
+abbrev SetsData : ℕ → List ℕ → Command → List ℕ → Type 0
+SetsData l g c load = is_data c ≡ true → is_data_frame g ≡ true → CarriesSet l g c load
+
+-- the command that is sent is that of the frame
+agrees : (a b : Command) (l : ℕ) (g tail load : List ℕ) → phase_of a ≡ phase_of b → g ≡ command_byte a ∷ tail → SetsData l g b load → (is : Bool) → is_data a ≡ is → a ≡ b
+agrees a b l g tail load same head set false is = same-command a b (sym (only a is) ∙ (ap only-in same ∙ only b (sym (same-data a b same) ∙ is)))
+agrees a b l g tail load same head set true is =
+    same-head a b g tail head (set (sym (same-data a b same) ∙ is) (ap is_data_frame head ∙ (ap is_data_if (command_back a) ∙ is))).has
+
+data-as-set : (a b : Command) (l : ℕ) (g tail load made : List ℕ) → phase_of a ≡ phase_of b → g ≡ command_byte a ∷ tail → SetsData l g b load → (frame_of l g).load ≡ made → a ≡ b → a ≡ command.ProcessData → made ≡ load
+data-as-set a b l g tail load made same head set made-is agree process =
+    let is : is_data a ≡ true = ap is_data process in
+    sym made-is ∙ (set (sym (same-data a b same) ∙ is) (ap is_data_frame head ∙ (ap is_data_if (command_back a) ∙ is))).load_is (sym agree ∙ process)
+
+-- the slave's Session frame carries its session id
+abbrev CarriesId : (ms : MasterSettings) → Partner ms → End → List ℕ → List (List ℕ) → Type 0
+CarriesId ms r end_name.Master g frames = Unit {0}
+CarriesId ms r end_name.Slave g frames =
+    has_command command.Session g ≡ true → has_command command.Reset g ≡ false → (frame_of ms.lengths.slave g).load ≡ padded (piece (session_payload r.nonce ms.profile) (width ms) (count_in state.Session frames)) ms.lengths.slave
+
+-- the bytes of a slave's session id stand where the master's do that they answer
+abbrev StandsEven : MasterSettings → End → List Noted → Type 0
+StandsEven ms end_name.Master t = Unit {0}
+StandsEven ms end_name.Slave t = length (payload_from ms.lengths end_name.Slave state.Session t) ≡ length (payload_from ms.lengths end_name.Master state.Session (drop 1 t))
+
+-- a frame is the one that is sent
+next-same : (ms : MasterSettings) (r : Partner ms) (all later : List Noted) (x : Noted) (t : List Noted) (g : List ℕ) (frames : List (List ℕ)) (at : End) → IsPlain ms → Read ms r all → all ≡ later ++ x ∷ t → same_end at x.from ≡ true → IsFrom ms.lengths t at x
+    → (head : HasHead ms.lengths t (length_of ms.lengths at) x.frame) → SetsData (length_of ms.lengths at) g head.command (frame_of (length_of ms.lengths at) x.frame).load → CarriesId ms r at g frames → StandsEven ms at t
+    → NextFrame ms t g frames at → frame_of (length_of ms.lengths at) x.frame ≡ frame_of (length_of ms.lengths at) g
+next-same ms r all later x t g frames at plain read is mine h head set id even (ResetNext _ due g-is) =
+    reset_same ms.lengths t at x due h ∙ sym (ap (frame_of (length_of ms.lengths at)) g-is ∙ reset_parts (length_of ms.lengths at) (valid_at ms.lengths at))
+next-same ms r all later x t g frames at plain read is mine h head set id even (MasterNext m) =
+    let same : phase_of m.command ≡ phase_of head.command = sym m.due.due ∙ head.due in
+    let agree : m.command ≡ head.command = agrees m.command head.command ms.lengths.master g m.tail (frame_of ms.lengths.master x.frame).load same m.head set (is_data m.command) refl in
+    master_same ms r all later x t g read is mine h m head agree
+    (data-as-set m.command head.command ms.lengths.master g m.tail (frame_of ms.lengths.master x.frame).load m.load same m.head set (ap (λ (f : Frame). f.load) m.frame) agree)
+next-same ms r all later x t g frames at plain read is mine h head set id even (SlaveNext m) =
+    let same : phase_of m.command ≡ phase_of head.command = sym m.due.due ∙ head.due in
+    let agree : m.command ≡ head.command = agrees m.command head.command ms.lengths.slave g m.tail (frame_of ms.lengths.slave x.frame).load same m.head set (is_data m.command) refl in
+    slave_same ms r all later x t g frames plain read is mine h even m head agree
+    (λ session.
+    sym (ap (λ (f : Frame). f.load) m.frame)
+    ∙ (id (ap (has_command command.Session) m.head ∙ ap (λ (c : Command). command_byte c == 0x4E) session) (not_reset m.command g m.tail m.head m.session)
+    ∙ ap (λ (n : ℕ). padded (piece (session_payload r.nonce ms.profile) (width ms) n) ms.lengths.slave) m.ids))
+    (data-as-set m.command head.command ms.lengths.slave g m.tail (frame_of ms.lengths.slave x.frame).load m.load same m.head set (ap (λ (f : Frame). f.load) m.frame) agree)
+
+sends-of : (ms : MasterSettings) (r : Partner ms) (at : End) → sends (setup_of ms (partner ms r) at) ≡ length_of ms.lengths at
+sends-of ms r end_name.Master = refl
+sends-of ms r end_name.Slave = refl
+
+-- what the steps of the world set
+steps-set : (ms : MasterSettings) (r : Partner ms) (x : Noted) (t : List Noted) (s : Steps ms r x t) (head : HasHead ms.lengths t (length_of ms.lengths (turn t)) x.frame) → length (frame_of (length_of ms.lengths (turn t)) x.frame).load ≡ length_of ms.lengths (turn t)
+    → SetsData (length_of ms.lengths (turn t)) s.answers.reaches.entry.sent head.command (frame_of (length_of ms.lengths (turn t)) x.frame).load
+steps-set ms r x t s head long is-data sent =
+    let reaches = s.answers.reaches in
+    let setup : Setup = setup_of ms (partner ms r) (turn t) in
+    let load : List ℕ = (frame_of (length_of ms.lengths (turn t)) x.frame).load in
+    let e : List Deed = deeds (turn t) reaches.set in
+    let set : IsSetFor setup (Some head.command) load e = subst (λ (c : Option Command). IsSetFor setup c load e) (ap command_in head.is ∙ command_back head.command) s.answers.set_for in
+    subst (λ (l : ℕ). CarriesSet l reaches.entry.sent head.command load) (sends-of ms r (turn t))
+    (carries_set setup e reaches.entry head.command load reaches.delivery (sends_answer setup e reaches.entry reaches.delivery reaches.no_reset reaches.taken) set is-data sent (long ∙ sym (sends-of ms r (turn t))))
+
+slave-id : (ms : MasterSettings) (r : Partner ms) (events : List Event) (w : List Entry) (at : End) → at ≡ end_name.Slave → (s : Reaches ms r events w at) → LeaveNonce (deeds end_name.Slave (s.entry ∷ s.set))
+    → CarriesId ms r end_name.Slave s.entry.sent (taken (since (deeds end_name.Slave (s.entry ∷ s.set))))
+slave-id ms r events w end_name.Master e s nonces = cc
+slave-id ms r events w end_name.Slave e s nonces =
+    λ session no_reset.
+    let mine : deeds end_name.Slave (s.entry ∷ s.set) ≡ deed_in s.entry ∷ deeds end_name.Slave s.set = deeds_of end_name.Slave s.entry s.set (entry_end ms r events w end_name.Slave s) in
+    carries_id ms r (deeds end_name.Slave s.set) s.entry (sends_answer (slave_of ms r) (deeds end_name.Slave s.set) s.entry s.delivery s.no_reset s.taken)
+    (subst (λ (e : List Deed). LeaveNonce e) mine nonces) session no_reset
+    ∙ ap (λ (e : List Deed). padded (piece (session_payload r.nonce ms.profile) (width ms) (count_in state.Session (taken (since e)))) ms.lengths.slave) (sym mine)
+
+steps-id : (ms : MasterSettings) (r : Partner ms) (x : Noted) (t : List Noted) (at : End) → turn t ≡ at → At ms r t → (s : Steps ms r x t)
+    → CarriesId ms r at s.answers.reaches.entry.sent (taken (since (deeds end_name.Slave (s.answers.reaches.entry ∷ s.answers.reaches.set))))
+steps-id ms r x t end_name.Master turned at s = tt
+steps-id ms r x t end_name.Slave turned at s = slave-id ms r _ (world_of ms r t) (turn t) turned s.answers.reaches (s.answers.reaches.keeps at.nonces end_name.Slave)
+
+-- an answer is laid out
+steps-made : (ms : MasterSettings) (r : Partner ms) (x : Noted) (t : List Noted) (s : Steps ms r x t) → IsMade s.answers.reaches.entry.sent
+steps-made ms r x t s =
+    let reaches = s.answers.reaches in
+    let setup : Setup = setup_of ms (partner ms r) (turn t) in
+    let a : SendsAnswer setup (deeds (turn t) reaches.set) reaches.entry = sends_answer setup (deeds (turn t) reaches.set) reaches.entry reaches.delivery reaches.no_reset reaches.taken in
+    subst (λ (g : List ℕ). IsMade g) (sym a.is) (answer_made setup (begun reaches.entry.what reaches.entry.did ∷ deeds (turn t) reaches.set) a.took_what)
+
+-- the next frame has the right length
+next-long : (ms : MasterSettings) (r : Partner ms) (t : List Noted) (g : List ℕ) (frames : List (List ℕ)) (at : End) → NextFrame ms t g frames at → length g ≡ frame_len (length_of ms.lengths at)
+next-long ms r t g frames at (ResetNext _ due is) = ap (length {A = ℕ}) is ∙ reset_long ms r at
+next-long ms r t g frames at (MasterNext m) = m.long
+next-long ms r t g frames at (SlaveNext m) = m.long
+
+even-at : (ms : MasterSettings) (t : List Noted) (at : End) → turn t ≡ at → AllInTurn ms.lengths t → StandsEven ms at t
+even-at ms t end_name.Master turned h = tt
+even-at ms t end_name.Slave turned h = slave_place ms.lengths t (turn t) refl turned (rows_hold ms.lengths t h).even
+
+same-noted : (x : Noted) (at : End) (g : List ℕ) → x.from ≡ at → x.frame ≡ g → x ≡ record { from = at; frame = g }
+same-noted x at g e h = ap₂ (λ (from : End) (frame : List ℕ). record { from = from; frame = frame }) e h
+
+settle-first : (ms : MasterSettings) (r : Partner ms) (x : Noted) → IsPlain ms → IsInTurn ms.lengths (before ms.lengths []) x → AreBytes x.frame → Good ms r (x ∷ [])
+settle-first ms r x plain h are =
+    let from-is : end_name.Master ≡ x.from = same_end_is x.from end_name.Master h.turn in
+    let from : IsFrom ms.lengths [] end_name.Master x = is_from ms.lengths [] end_name.Master x (ap (same_end end_name.Master) (sym from-is)) h in
+    let frame-is : x.frame ≡ reset_frame 0 ms.lengths.master =
+    same_bytes ms.lengths.master x.frame (reset_frame 0 ms.lengths.master) ms.lengths.valid_master from.long are (reset_made ms.lengths.master) (reset_long ms r end_name.Master)
+    (reset_same ms.lengths [] end_name.Master x refl from ∙ sym (reset_parts ms.lengths.master ms.lengths.valid_master)) in
+    subst (λ (x : Noted). Good ms r (x ∷ [])) (sym (same-noted x end_name.Master (reset_frame 0 ms.lengths.master) (sym from-is) frame-is)) (good_first ms r plain)
+
+own-end : (which : End) → same_end which which ≡ true
+own-end end_name.Master = refl
+own-end end_name.Slave = refl
+
+settle-more : (ms : MasterSettings) (r : Partner ms) (all later : List Noted) (x y : Noted) (t : List Noted) → Accepts ms r → IsPlain ms → Read ms r all → all ≡ later ++ x ∷ y ∷ t → IsInTurn ms.lengths (before ms.lengths (y ∷ t)) x → AllInTurn ms.lengths (y ∷ t) → AreBytes x.frame
+    → Good ms r (y ∷ t) → Good ms r (x ∷ y ∷ t)
+settle-more ms r all later x y t accepts plain read is h before-it are g =
+    let at : End = turn (y ∷ t) in
+    let l : ℕ = length_of ms.lengths at in
+    let from-is : at ≡ x.from = same_end_is x.from at h.turn in
+    let mine : same_end at x.from ≡ true = ap (same_end at) (sym from-is) ∙ own-end at in
+    let from : IsFrom ms.lengths (y ∷ t) at x = is_from ms.lengths (y ∷ t) at x mine h in
+    let fits : length (frame_of l x.frame).load ≡ l = (whole l x.frame (valid_at ms.lengths at) from.long).load in
+    let m : More ms r x (y ∷ t) = more ms r x y t accepts plain fits g.at in
+    let head : HasHead ms.lengths (y ∷ t) l x.frame = head_of ms.lengths (y ∷ t) at x from in
+    let sent : List ℕ = m.steps.answers.reaches.entry.sent in
+    let frame-is : x.frame ≡ sent =
+    same_bytes l x.frame sent (valid_at ms.lengths at) from.long are (steps-made ms r x (y ∷ t) m.steps) (next-long ms r (y ∷ t) sent _ at m.next)
+    (next-same ms r all later x (y ∷ t) sent _ at plain read is mine from head (steps-set ms r x (y ∷ t) m.steps head fits) (steps-id ms r x (y ∷ t) at refl g.at m.steps) (even-at ms (y ∷ t) at refl before-it) m.next) in
+    good_more ms r x y t plain g m (same-noted x at sent (sym from-is) frame-is)
+
+-- ends with these settings send each beginning of the trace
+pub settle : (ms : MasterSettings) (r : Partner ms) (all later : List Noted) (x : Noted) (t : List Noted) → Accepts ms r → IsPlain ms → Read ms r all → all ≡ later ++ x ∷ t → AllInTurn ms.lengths (x ∷ t) → AreOfBytes (x ∷ t) → Good ms r (x ∷ t)
+settle ms r all later x [] accepts plain read is h are = settle-first ms r x plain h.0 (All-head (λ x. AreBytes x.frame) x [] are)
+settle ms r all later x (y ∷ t) accepts plain read is h are =
+    settle-more ms r all later x y t accepts plain read is h.0 h.1 (All-head (λ x. AreBytes x.frame) x (y ∷ t) are)
+    (settle ms r all (later ++ x ∷ []) y t accepts plain read (is ∙ sym (append_assoc later (x ∷ []) (y ∷ t))) h.1 (All-tail (λ x. AreBytes x.frame) x (y ∷ t) are))

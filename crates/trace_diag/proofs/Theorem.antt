@@ -1,0 +1,216 @@
+-- The table finds what the definition of a conforming trace says: no row applies to a trace exactly where it conforms, and the first frame to
+-- which one applies is the first with which the trace doesn't conform.
+use Rattle.std.proofs.Common.{◌≡◌, ◌&&◌, ◌+◌, ◌≤◌, ℕ, List, [], ◌∷◌, length, Bool, true, Option, Some, None, IsTrue, refl, sym, ap, ap₂, subst, ◌∙◌, arith}
+use Rattle.std.proofs.lemmas.Bool.{eq-eqb, leb-true}
+use Rattle.std.proofs.lemmas.List.{append-nil}
+use Rattle.std.proofs.lemmas.List.Elements.{All-tail}
+use Rattle.std.specs.List.{list_all}
+use Rattle.fsoe_base.specs.Lengths.{frame_len, is_length}
+use Rattle.fsoe_base.specs.LengthsOf.{length_of}
+use Rattle.fsoe_base.specs.declared.command.End.TheVariants as end_name
+use Rattle.fsoe_base.specs.declared.command.State.TheVariants as state
+use Rattle.fsoe_base.specs.declared.lengths.Lengths.{Lengths}
+use Rattle.fsoe_frame.specs.Parts.{AreBytes}
+use Rattle.param_load.specs.AppRule.{allows, is_acceptable, rule_len}
+use Rattle.param_load.specs.Profile.{allows_id}
+use Rattle.param_load.specs.declared.app_rule.AppRule.{AppRule}
+use Rattle.param_load.specs.declared.app_rule.AppRule.TheVariants as rule
+use Rattle.param_load.specs.declared.master_settings.MasterSettings.{MasterSettings}
+use Rattle.param_load.specs.declared.profile.Profile.{Profile}
+use Rattle.param_load.specs.declared.slave_settings.SlaveSettings.{SlaveSettings}
+use Rattle.schedule_file.specs.declared.event.Event.{Event}
+use Rattle.exchange_model.specs.World.{world}
+use Rattle.exchange_model.proofs.Honest.SlaveTurn.{Accepts}
+use Rattle.exchange_model.proofs.Honest.Turns.{partner, Partner}
+use Rattle.trace_diag.specs.Conforms.{has_length, sent_in, Conforms, ConformsThroughout}
+use Rattle.trace_diag.specs.Judged.{first_difference, first_of_both, AreOfBytes}
+use Rattle.trace_diag.specs.declared.difference.Difference.{Difference}
+use Rattle.trace_diag.specs.Schedule.{schedule_off}
+use Rattle.trace_diag.specs.Settings.{app_len_off, parameters_from, watchdog_off}
+use Rattle.trace_diag.specs.Table.{field_of}
+use Rattle.trace_diag.specs.Trace.{Noted}
+use Rattle.trace_diag.specs.Verdicts.{DiffersFirst}
+use Rattle.trace_diag.specs.declared.field.Field.{Field}
+use Rattle.trace_diag.proofs.Conforming.{good, Good}
+use Rattle.trace_diag.proofs.MasterRows.{IsPlain}
+use Rattle.trace_diag.proofs.PayloadBytes.{all_long, payload_bytes, AllLong}
+use Rattle.trace_diag.proofs.ReadBytes.{app_long}
+use Rattle.trace_diag.proofs.RowsHold.{all_in_turn, in_turn_long, no_first, rows_hold, AllInTurn}
+use Rattle.trace_diag.proofs.SettingsRead.{settled, word_most, Settled}
+use Rattle.trace_diag.proofs.Settling.{settle}
+
+both-are : (a b : Bool) → a ≡ true → b ≡ true → (a && b) ≡ true
+both-are a b h k = ap₂ (λ (a b : Bool). a && b) h k
+
+lengths-hold : (lengths : Lengths) (t : List Noted) → AllLong lengths t → IsTrue (list_all (has_length lengths) t)
+lengths-hold lengths [] h = refl
+lengths-hold lengths (x ∷ t) h =
+    both-are (has_length lengths x) (list_all (has_length lengths) t) (eq-eqb (length x.frame) (frame_len (length_of lengths x.from)) h.0) (lengths-hold lengths t h.1)
+
+-- what the ends with the settings that are read off send
+sends-it : (lengths : Lengths) (t : List Noted) (s : Settled lengths t) → AllInTurn lengths t → AreOfBytes t → sent_in (world s.ms (partner s.ms s.r) (schedule_off lengths t)) ≡ t
+sends-it lengths [] s h are = refl
+sends-it lengths (x ∷ t) s h are =
+    ap (λ (lengths : Lengths). sent_in (world s.ms (partner s.ms s.r) (schedule_off lengths (x ∷ t)))) (sym s.lengths_are)
+    ∙ (settle s.ms s.r (x ∷ t) [] x t s.accepts s.plain s.read refl (subst (λ (lengths : Lengths). AllInTurn lengths (x ∷ t)) (sym s.lengths_are) h) are).sent
+
+-- a trace conforms to which no row applies
+pub conforms_where_none : (lengths : Lengths) (t : List Noted) → AreOfBytes t → first_difference lengths t ≡ None → Conforms lengths t
+conforms_where_none lengths t are none =
+    let h : AllInTurn lengths t = all_in_turn lengths t none in
+    let long : AllLong lengths t = in_turn_long lengths t h in
+    let s : Settled lengths t = settled lengths t long are (rows_hold lengths t h) in
+    record {
+      lengths_hold = lengths-hold lengths t long;
+      ms = s.ms;
+      ss = partner s.ms s.r;
+      settings = s.read_off;
+      sends = sends-it lengths t s h are;
+    }
+
+pub empty_conforms : (lengths : Lengths) → Conforms lengths []
+empty_conforms lengths = conforms_where_none lengths [] (λ k d h. absurd (omega (arith, h))) refl
+
+-- the slave's settings are those of a partner of the master
+record AsPartner (P : SlaveSettings → Type 0) (ms : MasterSettings) (ss : SlaveSettings) : Type 0 where
+  pub r : Partner ms
+  pub most_is : r.most ≡ ss.most
+  pub rule_is : r.rule ≡ ss.rule
+  pub holds : P (partner ms r)
+
+abbrev IsGiven : (SlaveSettings → Type 0) → SlaveSettings → ℕ → ℕ → ℕ → Profile → Type 0
+IsGiven P ss lm ls address profile =
+    (valid_master : IsTrue (is_length lm)) × (valid_slave : IsTrue (is_length ls)) × (allowed : IsTrue (allows_id profile ss.nonce))
+    × P (record {
+      lengths = record { master = lm; slave = ls; valid_master = valid_master; valid_slave = valid_slave };
+      address = address;
+      hand = ss.hand;
+      most = ss.most;
+      rule = ss.rule;
+      nonce = ss.nonce;
+      profile = profile;
+      some_hand = ss.some_hand;
+      some_most = ss.some_most;
+      acceptable = ss.acceptable;
+      allowed = allowed;
+    })
+
+is-given : (P : SlaveSettings → Type 0) (ss : SlaveSettings) (lm ls address : ℕ) (profile : Profile) → ss.lengths.master ≡ lm → ss.lengths.slave ≡ ls → ss.address ≡ address → ss.profile ≡ profile → P ss → IsGiven P ss lm ls address profile
+is-given P ss lm ls address profile a b c d h =
+    subst (λ (lm : ℕ). IsGiven P ss lm ls address profile) a
+    (subst (λ (ls : ℕ). IsGiven P ss ss.lengths.master ls address profile) b
+    (subst (λ (address : ℕ). IsGiven P ss ss.lengths.master ss.lengths.slave address profile) c
+    (subst (λ (profile : Profile). IsGiven P ss ss.lengths.master ss.lengths.slave ss.address profile) d
+    (ss.lengths.valid_master, ss.lengths.valid_slave, ss.allowed, h))))
+
+as-partner : (P : SlaveSettings → Type 0) (ms : MasterSettings) (ss : SlaveSettings) → ss.lengths ≡ ms.lengths → ss.address ≡ ms.address → ss.profile ≡ ms.profile → P ss → AsPartner P ms ss
+as-partner P ms ss lengths address profile h =
+    let g = is-given P ss ms.lengths.master ms.lengths.slave ms.address ms.profile (ap (λ (l : Lengths). l.master) lengths) (ap (λ (l : Lengths). l.slave) lengths) address profile h in
+    record {
+      r = record {
+        hand = ss.hand;
+        most = ss.most;
+        rule = ss.rule;
+        nonce = ss.nonce;
+        valid_master = g.0;
+        valid_slave = g.1;
+        some_hand = ss.some_hand;
+        some_most = ss.some_most;
+        acceptable = ss.acceptable;
+        allowed = g.2;
+      };
+      most_is = refl;
+      rule_is = refl;
+      holds = g.3;
+    }
+
+-- no row applies to a trace that conforms
+none-of : (lengths : Lengths) (x : Noted) (t : List Noted) (c : Conforms lengths (x ∷ t)) → AreOfBytes (x ∷ t) → first_difference lengths (x ∷ t) ≡ None
+none-of lengths x t c are =
+    let all : List Noted = x ∷ t in
+    let ms : MasterSettings = c.ms in
+    let ss : SlaveSettings = c.ss in
+    let long : AllLong lengths all = all_long lengths all c.lengths_hold in
+    let p-bytes : AreBytes (parameters_from lengths all) = payload_bytes lengths end_name.Master state.Parameter all long are in
+    let n : ℕ = app_len_off lengths all in
+    let p : AsPartner (λ (ss : SlaveSettings). sent_in (world ms ss (schedule_off lengths all)) ≡ all) ms ss =
+    as-partner (λ (ss : SlaveSettings). sent_in (world ms ss (schedule_off lengths all)) ≡ all) ms ss
+    (c.settings.slave.lengths_are ∙ sym c.settings.master.lengths_are) (c.settings.slave.address_is ∙ sym c.settings.master.address_is) (c.settings.slave.profile_is ∙ sym c.settings.master.profile_is) c.sends in
+    let rule-is : p.r.rule ≡ rule.Any n = p.rule_is ∙ c.settings.slave.rule_is in
+    let app-long : length ms.app ≡ n = ap (length {A = ℕ}) c.settings.master.app_is ∙ app_long (parameters_from lengths all) in
+    let accepts : Accepts ms p.r = record {
+      watchdog = subst (λ (n : ℕ). n ≤ p.r.most) (sym c.settings.master.watchdog_is) (subst (λ (n : ℕ). watchdog_off lengths all ≤ n) (sym (p.most_is ∙ c.settings.slave.most_is)) (word_most 1 2 (parameters_from lengths all) p-bytes (omega arith)));
+      as_many = app-long ∙ sym (ap rule_len rule-is);
+      allowed = ap (λ (q : AppRule). allows q ms.app) rule-is ∙ eq-eqb (length ms.app) n app-long;
+    } in
+    let plain : IsPlain ms = record {
+      one = c.settings.master.profile_is;
+      most = subst (λ (n : ℕ). n ≤ 512) (sym app-long) (leb-true n 512 (sym (ap is_acceptable rule-is) ∙ p.r.acceptable));
+    } in
+    let l : ms.lengths ≡ lengths = c.settings.master.lengths_are in
+    let g : Good ms p.r all =
+    good ms p.r x t [] [] accepts plain (subst (λ (lengths : Lengths). AllLong lengths all) (sym l) long)
+    (ap (λ (log : List Event). sent_in (world ms (partner ms p.r) log)) (append-nil (schedule_off ms.lengths all)) ∙ (ap (λ (lengths : Lengths). sent_in (world ms (partner ms p.r) (schedule_off lengths all))) l ∙ p.holds)) in
+    ap (λ (lengths : Lengths). first_difference lengths all) (sym l) ∙ g.none
+
+pub none_where_conforms : (lengths : Lengths) (t : List Noted) → AreOfBytes t → Conforms lengths t → first_difference lengths t ≡ None
+none_where_conforms lengths [] are c = refl
+none_where_conforms lengths (x ∷ t) are c = none-of lengths x t c are
+
+-- a trace that conforms did so after each of its frames
+pub conformed : (lengths : Lengths) (t : List Noted) → AreOfBytes t → first_difference lengths t ≡ None → ConformsThroughout lengths t
+conformed lengths [] are none = conforms_where_none lengths [] are none
+conformed lengths (x ∷ t) are none = (
+  conforms_where_none lengths (x ∷ t) are none,
+  conformed lengths t (All-tail (λ x. AreBytes x.frame) x t are) (no_first (first_difference lengths t) (field_of lengths t x) (length t + 1) none).0,
+)
+
+-- the first beginnings of a trace that conforms conform
+pub conforms_before : (lengths : Lengths) (x : Noted) (t : List Noted) → AreOfBytes (x ∷ t) → Conforms lengths (x ∷ t) → Conforms lengths t
+conforms_before lengths x t are c =
+    conforms_where_none lengths t (All-tail (λ x. AreBytes x.frame) x t are) (no_first (first_difference lengths t) (field_of lengths t x) (length t + 1) (none_where_conforms lengths (x ∷ t) are c)).0
+
+some-none : (a : Difference) (o : Option Difference) → o ≡ Some a → o ≡ None → ⊥
+some-none a o e h = let other : Some a ≡ None = sym e ∙ h in cc
+
+same-difference : (a b : Difference) → Some a ≡ Some b → a ≡ b
+same-difference a b e = cc
+
+-- else the difference is that of the first frame with which it doesn't
+differs-on : (lengths : Lengths) (x : Noted) (t : List Noted) (d : Difference) → AreOfBytes (x ∷ t) → (o : Option Difference) (field : Option Field) → first_difference lengths t ≡ o → field_of lengths t x ≡ field → first_of_both o field (length t + 1) ≡ Some d
+    → ((d : Difference) → first_difference lengths t ≡ Some d → DiffersFirst lengths t d.number d.field) → DiffersFirst lengths (x ∷ t) d.number d.field
+differs-on lengths x t d are (Some first) field before here e earlier =
+    let same : first ≡ d = same-difference first d e in
+    let f : DiffersFirst lengths t d.number d.field = earlier d (before ∙ ap Some same) in
+    record {
+      before = f.before;
+      differing = f.differing;
+      after = x ∷ f.after;
+      is = ap (λ (u : List Noted). x ∷ u) f.is;
+      number_is = f.number_is;
+      conformed = f.conformed;
+      differs = f.differs;
+      field_is = f.field_is;
+      whole = λ c. some-none d (first_difference lengths (x ∷ t)) (ap (λ (o : Option Difference). first_of_both o (field_of lengths t x) (length t + 1)) before ∙ e) (none_where_conforms lengths (x ∷ t) are c);
+    }
+differs-on lengths x t d are None None before here e earlier = absurd (cc e)
+differs-on lengths x t d are None (Some which) before here e earlier =
+    let same : record { number = length t + 1; field = which } ≡ d = same-difference _ d e in
+    let differs : Conforms lengths (x ∷ t) → ⊥ =
+    λ c. some-none d (first_difference lengths (x ∷ t)) (ap₂ (λ (o : Option Difference) (field : Option Field). first_of_both o field (length t + 1)) before here ∙ e) (none_where_conforms lengths (x ∷ t) are c) in
+    record {
+      before = t;
+      differing = x;
+      after = [];
+      is = refl;
+      number_is = ap (λ (d : Difference). d.number) (sym same);
+      conformed = conformed lengths t (All-tail (λ x. AreBytes x.frame) x t are) before;
+      differs = differs;
+      field_is = here ∙ ap (λ (d : Difference). Some d.field) same;
+      whole = differs;
+    }
+
+pub differs_first : (lengths : Lengths) (t : List Noted) (d : Difference) → AreOfBytes t → first_difference lengths t ≡ Some d → DiffersFirst lengths t d.number d.field
+differs_first lengths [] d are e = absurd (cc e)
+differs_first lengths (x ∷ t) d are e =
+    differs-on lengths x t d are (first_difference lengths t) (field_of lengths t x) refl refl e (λ d e. differs_first lengths t d (All-tail (λ x. AreBytes x.frame) x t are) e)

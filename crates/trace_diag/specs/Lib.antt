@@ -1,0 +1,12 @@
+pub mod Before
+pub mod Conforms
+pub mod Judged
+pub mod Kept
+pub mod Lines
+pub mod Report
+pub mod Schedule
+pub mod Settings
+pub mod Table
+pub mod Trace
+pub mod Verdicts
+pub mod WorkedTraces

@@ -1,0 +1,81 @@
+-- The settings that are read off a trace. Those of a handshake come in the master's frames of the phases Connection and Parameter, and the
+-- session id of each end in its own of the phase Session. What a trace doesn't reach is 0, but for the high byte of the watchdog, which is
+-- 1, so that a watchdog of which less than both bytes are known isn't 0. What is read off is this profile's own.
+use Rattle.std.specs.Prelude.{ℕ, ◌+◌, ◌*◌, nat_lt, List, length, take, drop, slice_index, Option, Some, None, unwrap_or, if◌then◌else◌}
+use Rattle.fsoe_base.specs.declared.command.End.{End}
+use Rattle.fsoe_base.specs.declared.command.End.TheVariants as end_name
+use Rattle.fsoe_base.specs.declared.command.State.TheVariants as state
+use Rattle.fsoe_base.specs.declared.lengths.Lengths.{Lengths}
+use Rattle.param_load.specs.declared.app_rule.AppRule.TheVariants as rule
+use Rattle.param_load.specs.declared.master_settings.MasterSettings.{MasterSettings}
+use Rattle.param_load.specs.declared.profile.Profile.TheVariants as profile
+use Rattle.param_load.specs.declared.slave_settings.SlaveSettings.{SlaveSettings}
+use Rattle.param_load.specs.MasterSettings.{IsMasterSetTo}
+use Rattle.param_load.specs.Payload.{number_at, padded}
+use Rattle.param_load.specs.SlaveSettings.{IsSlaveSetTo}
+use Rattle.end_model.specs.Payloads.{first_conn}
+use Rattle.trace_diag.specs.Trace.{Noted, frames_from, payload_from}
+use Rattle.trace_diag.specs.declared.verdict.ReadOff.{ReadOff}
+
+-- the byte at a place of a payload, or this one where the trace doesn't reach it
+abbrev pub byte_or : ℕ → ℕ → List ℕ → ℕ
+byte_or missing place bytes = if nat_lt place (length bytes) then slice_index bytes place else missing
+
+-- the number in the two bytes from a place on, low byte first; this is its high byte where the trace doesn't reach that
+abbrev pub word_or : ℕ → ℕ → List ℕ → ℕ
+word_or missing place bytes = byte_or 0 place bytes + 256 * byte_or missing (place + 1) bytes
+
+-- the payloads of the master's phases Connection and Parameter, as far as a trace reaches them
+abbrev pub connection_from : Lengths → List Noted → List ℕ
+connection_from lengths t = payload_from lengths end_name.Master state.Connection t
+
+abbrev pub parameters_from : Lengths → List Noted → List ℕ
+parameters_from lengths t = payload_from lengths end_name.Master state.Parameter t
+
+-- the connection id is the field of the master's first Connection frame, and 1 where there is none
+abbrev pub conn_off : Lengths → List Noted → ℕ
+conn_off lengths t = unwrap_or (first_conn lengths.master (frames_from end_name.Master t)) 1
+
+-- the address of the slave, in the two bytes after those of the connection id
+abbrev pub address_off : Lengths → List Noted → ℕ
+address_off lengths t = word_or 0 2 (connection_from lengths t)
+
+-- the watchdog, in the two bytes after the length of the communication parameters
+abbrev pub watchdog_off : Lengths → List Noted → ℕ
+watchdog_off lengths t = word_or 1 2 (parameters_from lengths t)
+
+-- the number of application parameters, in the two bytes after the watchdog
+abbrev pub app_len_off : Lengths → List Noted → ℕ
+app_len_off lengths t = word_or 0 4 (parameters_from lengths t)
+
+-- the application parameters, after their number
+abbrev pub app_off : Lengths → List Noted → List ℕ
+app_off lengths t = padded (take (app_len_off lengths t) (drop 6 (parameters_from lengths t))) (app_len_off lengths t)
+
+-- the session id of an end
+abbrev pub id_off : Lengths → End → List Noted → ℕ
+id_off lengths which t = word_or 0 0 (payload_from lengths which state.Session t)
+
+-- settings of both ends in profile One, as they are read off a trace: the slave has the same address, accepts each watchdog and any
+-- application parameters of their number, and its limit before a watchdog comes is the longest. There are none where the connection id or
+-- the watchdog is 0, or the application parameters are more than settings may have
+pub record AreReadOff (lengths : Lengths) (t : List Noted) (ms : MasterSettings) (ss : SlaveSettings) : Type 0 where
+  pub master : IsMasterSetTo ms lengths (conn_off lengths t) (address_off lengths t) (watchdog_off lengths t) (app_off lengths t) (id_off lengths end_name.Master t) profile.One
+  pub slave : IsSlaveSetTo ss lengths (address_off lengths t) 65535 65535 (rule.Any (app_len_off lengths t)) (id_off lengths end_name.Slave t) profile.One
+
+-- the number in the two bytes from a place on, where the trace reaches both
+abbrev pub word_if : ℕ → List ℕ → Option ℕ
+word_if place bytes = if nat_lt (place + 1) (length bytes) then Some (number_at place bytes) else None
+
+-- what is told by the payload of Connection and the parameters: each of these numbers where its last byte has come
+abbrev pub told_by : List ℕ → List ℕ → ReadOff
+told_by connection parameters = record {
+  conn = word_if 0 connection;
+  address = word_if 2 connection;
+  watchdog = word_if 2 parameters;
+  app = word_if 4 parameters;
+}
+
+-- what is told of the settings
+abbrev pub told_off : Lengths → List Noted → ReadOff
+told_off lengths t = told_by (connection_from lengths t) (parameters_from lengths t)

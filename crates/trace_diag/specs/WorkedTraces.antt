@@ -1,0 +1,166 @@
+-- Worked traces: whether they conform, what is read off them, and the first difference. Their reports are tested.
+use Rattle.std.specs.Prelude.{◌≡◌, ℕ, refl, List, [], ◌∷◌, ◌++◌, ◌+◌, true, codes, drop, take, length, reverse, Option, Some, None, false, Bool, ◌&&◌, is_some}
+use Rattle.std.specs.List.{list_all}
+use Rattle.hex.specs.Hex.{decode_of}
+use Rattle.fsoe_base.specs.declared.command.End.TheVariants as end_name
+use Rattle.fsoe_base.specs.declared.lengths.Lengths.{Lengths}
+use Rattle.param_load.specs.declared.app_rule.AppRule.TheVariants as rule
+use Rattle.black_channel.specs.Altered.{altered}
+use Rattle.end_model.specs.WorkedRuns.{two_and_two, master_values, slave_values, if_bytes}
+use Rattle.exchange_model.specs.Schedules.{hs, pm, rounds, tm}
+use Rattle.exchange_model.specs.World.{world}
+use Rattle.exchange_model.specs.WorkedRuns.{one_and_one, bytewise_master, bytewise_slave, long_and_short}
+use Rattle.trace_diag.specs.Conforms.{Conforms, has_length, sent_in}
+use Rattle.trace_diag.specs.Judged.{first_difference}
+use Rattle.trace_diag.specs.declared.difference.Difference.{Difference}
+use Rattle.trace_diag.specs.Settings.{told_off}
+use Rattle.trace_diag.specs.Table.{field_of}
+use Rattle.trace_diag.specs.Trace.{Noted}
+use Rattle.trace_diag.specs.declared.field.Field.{Field}
+use Rattle.trace_diag.specs.declared.field.Field.TheVariants as field
+use Rattle.trace_diag.specs.declared.verdict.ReadOff.{ReadOff}
+
+-- a frame of the master, in hexadecimal
+abbrev pub m : List ℕ → Noted
+m text = record { from = end_name.Master; frame = if_bytes (decode_of text) }
+
+-- a frame of the slave
+abbrev pub s : List ℕ → Noted
+s text = record { from = end_name.Slave; frame = if_bytes (decode_of text) }
+
+-- a handshake and the first data of both ends, in order
+abbrev pub first_data : List Noted
+first_data =
+    m (codes "2a0000c42d0000")
+    ∷ s (codes "2a0000c42d0000")
+    ∷ m (codes "4e0100123e0000")
+    ∷ s (codes "4e020090470000")
+    ∷ m (codes "640100642a0100")
+    ∷ s (codes "64010093d60100")
+    ∷ m (codes "640200625f0100")
+    ∷ s (codes "64020047080100")
+    ∷ m (codes "520200ee740100")
+    ∷ s (codes "52020030580100")
+    ∷ m (codes "52640058da0100")
+    ∷ s (codes "526400ae680100")
+    ∷ m (codes "52000071990100")
+    ∷ s (codes "520000772d0100")
+    ∷ m (codes "360100fc430100")
+    ∷ s (codes "36800078c90100")
+    ∷ m (codes "360100cfa90100")
+    ∷ []
+
+-- the trace of these frames, which are in order
+abbrev pub trace : List Noted → List Noted
+trace frames = reverse frames
+
+-- the first n of them, then this frame, then those after it
+abbrev pub with_frame : ℕ → Noted → List Noted
+with_frame n x = take n first_data ++ x ∷ drop (n + 1) first_data
+
+abbrev pub told : Option ℕ → Option ℕ → Option ℕ → Option ℕ → ReadOff
+told conn address watchdog app = record { conn = conn; address = address; watchdog = watchdog; app = app }
+
+-- the trace conforms, and all settings are told
+unfoldable pub FirstData : Type 0
+FirstData =
+    Conforms two_and_two (trace first_data)
+    × (told_off two_and_two (trace first_data) ≡ told (Some 1) (Some 2) (Some 100) (Some 0))
+
+-- the first frames of a trace conform too, and tell what has come: none of them, and six
+unfoldable pub FirstFrames : Type 0
+FirstFrames =
+    Conforms two_and_two []
+    × (told_off two_and_two [] ≡ told None None None None)
+    × Conforms two_and_two (trace (take 6 first_data))
+    × (told_off two_and_two (trace (take 6 first_data)) ≡ told (Some 1) None None None)
+
+-- the frame of this number and this field is the first difference
+abbrev pub at : ℕ → Field → Option Difference
+at number which = Some (record { number = number; field = which })
+
+-- no row of the table applies, so that the first conforms and the others don't; a data byte altered in the slave's data, whose CRC tells it, and in an answer that repeats another piece;
+-- a frame left out
+unfoldable pub Altered : Type 0
+Altered =
+    (first_difference two_and_two (trace first_data) ≡ None)
+    × (first_difference two_and_two (trace (with_frame 15 (s (codes "36810078c90100")))) ≡ at 16 (field.Crc 0))
+    × (first_difference two_and_two (trace (with_frame 7 (s (codes "64030047080100")))) ≡ at 8 (field.Data 0))
+    × (first_difference two_and_two (trace (take 1 first_data ++ drop 2 first_data)) ≡ at 2 field.Turn)
+
+-- what ends send in lock step: byte by byte with three application parameters, in the longest frames and short ones with the slave held,
+-- and over a byte list that two frames of four bytes carry
+abbrev pub bytewise : List Noted
+bytewise = sent_in (world bytewise_master bytewise_slave (tm ∷ rounds 18))
+
+abbrev pub long_frames : List Noted
+long_frames =
+    sent_in (world (record master_values { lengths = long_and_short }) (record slave_values { lengths = long_and_short }) (hs true ∷ tm ∷ rounds 9))
+
+abbrev pub four_and_six : Lengths
+four_and_six = record { master = 4; slave = 6; valid_master = refl; valid_slave = refl }
+
+abbrev pub padded_frames : List Noted
+padded_frames =
+    sent_in
+    (world (record master_values { lengths = four_and_six; app = 0x0A ∷ [] })
+    (record slave_values { lengths = four_and_six; rule = rule.Any 1; acceptable = refl })
+    (pm (codes "01020304") ∷ tm ∷ rounds 6))
+
+-- all their frames are there, no row of the table applies, and all settings are told
+unfoldable pub LockStep : Type 0
+LockStep =
+    (length bytewise ≡ 37)
+    × (first_difference one_and_one bytewise ≡ None)
+    × (told_off one_and_one bytewise ≡ told (Some 1) (Some 2) (Some 100) (Some 3))
+    × (length long_frames ≡ 19)
+    × (first_difference long_and_short long_frames ≡ None)
+    × (told_off long_and_short long_frames ≡ told (Some 1) (Some 2) (Some 100) (Some 0))
+    × (length padded_frames ≡ 13)
+    × (first_difference four_and_six padded_frames ≡ None)
+    × (told_off four_and_six padded_frames ≡ told (Some 1) (Some 2) (Some 100) (Some 1))
+
+-- the row that applies to a frame after the first n of a handshake with data
+abbrev pub field_after : ℕ → Noted → Option Field
+field_after n x = field_of two_and_two (trace (take n first_data)) x
+
+-- each row of the table, the last in a frame that is right but for its CRC: the other end's frame; a byte too few; a second Reset frame, a
+-- Session frame at first, and a Parameter frame in Data; a connection id in Reset and in Session, none in the first Connection frame, and
+-- another in the second; a code in a Reset frame, another connection id as payload, another length of the communication parameters,
+-- another byte than the master's, a watchdog 0, 513 application parameters, and data in FailSafeData
+unfoldable pub Rows : Type 0
+Rows =
+    (field_after 0 (s (codes "2a0000c42d0000")) ≡ Some field.Turn)
+    × (field_after 2 (m (codes "4e0100123e00")) ≡ Some field.Length)
+    × (field_after 2 (m (codes "2a0000c42d0000")) ≡ Some field.Command)
+    × (field_after 0 (m (codes "4e0100123e0000")) ≡ Some field.Command)
+    × (field_after 14 (m (codes "520100fc430100")) ≡ Some field.Command)
+    × (field_after 0 (m (codes "2a0000c42d0100")) ≡ Some field.Conn)
+    × (field_after 2 (m (codes "4e0100123e0100")) ≡ Some field.Conn)
+    × (field_after 4 (m (codes "640100642a0000")) ≡ Some field.Conn)
+    × (field_after 5 (s (codes "64010093d60200")) ≡ Some field.Conn)
+    × (field_after 0 (m (codes "2a0100c42d0000")) ≡ Some (field.Data 0))
+    × (field_after 4 (m (codes "640101642a0100")) ≡ Some (field.Data 1))
+    × (field_after 8 (m (codes "520201ee740100")) ≡ Some (field.Data 1))
+    × (field_after 9 (s (codes "52030030580100")) ≡ Some (field.Data 0))
+    × (field_after 10 (m (codes "52000058da0100")) ≡ Some (field.Data 1))
+    × (field_after 12 (m (codes "52010271990100")) ≡ Some (field.Data 1))
+    × (field_after 14 (m (codes "080100fc430100")) ≡ Some (field.Data 0))
+    × (field_after 2 (m (codes "4e0100133e0000")) ≡ Some (field.Crc 0))
+
+-- a data frame of three bytes hasn't the length of its end's frames, and no trace with it conforms
+unfoldable pub OtherLengths : Type 0
+OtherLengths =
+    (field_after 14 (m (codes "360100")) ≡ Some field.Length)
+    × (list_all (has_length two_and_two) (trace (take 14 first_data ++ m (codes "360100") ∷ [])) ≡ false)
+
+-- whether each byte of the frame after these, altered by this mask, makes a row of the table apply; the frames after them come next
+abbrev pub tells_each : ℕ → List Noted → List Noted → Bool
+tells_each mask before [] = true
+tells_each mask before (x ∷ frames) =
+    list_all (λ p. is_some (field_of two_and_two before (record x { frame = altered p mask x.frame }))) (0 ∷ 1 ∷ 2 ∷ 3 ∷ 4 ∷ 5 ∷ 6 ∷ [])
+    && tells_each mask (x ∷ before) frames
+
+-- that is so of each byte of a handshake with data, by its lowest and by its highest bit
+unfoldable pub EachByte : Type 0
+EachByte = (tells_each 1 [] first_data ≡ true) × (tells_each 128 [] first_data ≡ true)

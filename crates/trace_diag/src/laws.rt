@@ -1,0 +1,36 @@
+//! What holds of the definitions. The calls do nothing: each law is a contract.
+ghost use Rattle.std.specs.Prelude.{◌≡◌, List, [], ◌∷◌, Option, Some, None};
+ghost use Rattle.fsoe_base.specs.declared.lengths.Lengths.{Lengths};
+ghost use Rattle.trace_diag.specs.Conforms.{Conforms};
+ghost use Rattle.trace_diag.specs.Judged.{first_difference, AreOfBytes};
+ghost use Rattle.trace_diag.specs.declared.difference.Difference.{Difference};
+ghost use Rattle.trace_diag.specs.Trace.{Noted};
+ghost use Rattle.trace_diag.specs.Verdicts.{DiffersFirst};
+ghost use Rattle.trace_diag.specs.WorkedTraces.{FirstData, FirstFrames, Altered, LockStep, Rows, OtherLengths, EachByte};
+
+/// Worked traces: a handshake with the first data, its first frames, and altered ones; each row of the table; frames of another
+/// length; each byte of the handshake altered; and what ends send in lock step over frames of other lengths.
+pub fn worked_traces()
+    ensures first_data { FirstData }
+    ensures first_frames { FirstFrames }
+    ensures altered { Altered }
+    ensures rows { Rows }
+    ensures other_lengths { OtherLengths }
+    ensures each_byte { EachByte }
+    ensures lock_step { LockStep }
+{}
+
+/// No row of the table applies to any frame of a trace exactly where the trace is what two ends send that are set to what is read off it. Else
+/// the first frame to which a row applies is the first with which it isn't.
+#[tactic(auto, using(crate::proofs::Theorem::none_where_conforms, crate::proofs::Theorem::differs_first))]
+pub fn table()
+    ensures conforms { (lengths : Lengths) (t : List Noted) → AreOfBytes t → first_difference lengths t ≡ None → Conforms lengths t }
+    ensures none { (lengths : Lengths) (t : List Noted) → AreOfBytes t → Conforms lengths t → first_difference lengths t ≡ None }
+    ensures first { (lengths : Lengths) (t : List Noted) (d : Difference) → AreOfBytes t → first_difference lengths t ≡ Some d → DiffersFirst lengths t d.number d.field }
+{}
+
+/// No frames conform; and a trace that conforms did so before its newest frame.
+pub fn beginnings()
+    ensures empty { (lengths : Lengths) → Conforms lengths [] }
+    ensures before { (lengths : Lengths) (newest : Noted) (t : List Noted) → AreOfBytes (newest ∷ t) → Conforms lengths (newest ∷ t) → Conforms lengths t }
+{}
