@@ -1,0 +1,94 @@
+-- Slots of a plan without a fault lie inside the output image, and share no byte of it.
+use Rattle.std.proofs.Common.{◌≡◌, ◌≤◌, ◌⊎◌, ℕ, ◌+◌, ◌&&◌, ◌||◌, List, [], ◌∷◌, length, Option, Some, None, Bool, true, false, nat_lt, nat_le, if◌then◌else◌, refl, arith}
+use Rattle.std.proofs.lemmas.Bool.Decides.{nat_tests}
+use Rattle.process_image.specs.Fault.{first_outside, first_with, pair_or, first_pair, outside_or, first_fault}
+use Rattle.process_image.specs.Places.{Place, Plan, lie_inside, overlap, share, spans_of}
+use Rattle.process_image.specs.declared.fault.SlotFault.{SlotFault}
+use Rattle.process_image.specs.declared.fault.SlotFault.TheVariants as fault
+use Rattle.process_image.proofs.Giving.{len_at, AwayFrom, AreApart}
+
+-- a test that is followed by no fault
+chosen : {A : Type 0} (b : Bool) (x : A) (rest : Option A) → (if b then Some x else rest) ≡ None → (b ≡ false) × (rest ≡ None)
+chosen true x rest h = absurd (cc h)
+chosen false x rest h = (refl, h)
+
+passed : {A : Type 0} (b : Bool) (x : A) (rest : Option A) → (if b then rest else Some x) ≡ None → (b ≡ true) × (rest ≡ None)
+passed true x rest h = (refl, h)
+passed false x rest h = absurd (cc h)
+
+no-outside : (o : Option ℕ) (later : Option SlotFault) → outside_or o later ≡ None → (o ≡ None) × (later ≡ None)
+no-outside None later h = (refl, h)
+no-outside (Some n) later h = absurd (cc h)
+
+no-pair : (a : ℕ) (o : Option ℕ) (later : Option SlotFault) → pair_or a o later ≡ None → (o ≡ None) × (later ≡ None)
+no-pair a None later h = (refl, h)
+no-pair a (Some b) later h = absurd (cc h)
+
+second-true : (a b : Bool) → (a && b) ≡ true → b ≡ true
+second-true true b h = h
+second-true false b h = absurd (cc h)
+
+first-true : (a b : Bool) → (a && b) ≡ true → a ≡ true
+first-true true b h = refl
+first-true false b h = absurd (cc h)
+
+second-false : (a b : Bool) → (a || b) ≡ false → b ≡ false
+second-false true b h = absurd (cc h)
+second-false false b h = h
+
+inside-out : (n size : ℕ) → nat_le n size ≡ true → n ≤ size
+inside-out n size h = grind (arith, nat_tests)
+
+away : (a la b lb : ℕ) → (nat_lt a (b + lb) && nat_lt b (a + la)) ≡ false → (a + la ≤ b) ⊎ (b + lb ≤ a)
+away a la b lb h = grind (arith, nat_tests)
+
+away-all : (p : Place) (places : List Place) → first_with (spans_of p) places ≡ None → AwayFrom p places
+away-all p [] h = tt
+away-all p (q ∷ places) h =
+    let c = chosen (overlap (spans_of p) (spans_of q)) q.number (first_with (spans_of p) places) h in
+    (away p.at_out (len_at p) q.at_out (len_at q) (second-false (share p.at_in (spans_of p).len_in q.at_in (spans_of q).len_in) (share p.at_out (len_at p) q.at_out (len_at q)) c.0), away-all p places c.1)
+
+apart : (size_in size_out : ℕ) (places : List Place) → first_outside size_in size_out places ≡ None → first_pair places ≡ None → AreApart size_out places
+apart size_in size_out [] h i = tt
+apart size_in size_out (p ∷ places) h i =
+    let c = passed (lie_inside size_in size_out (spans_of p)) p.number (first_outside size_in size_out places) h in
+    let d = no-pair p.number (first_with (spans_of p) places) (first_pair places) i in (
+      inside-out (p.at_out + len_at p) size_out (second-true (nat_le (p.at_in + (spans_of p).len_in) size_in) (nat_le (p.at_out + len_at p) size_out) c.0),
+      away-all p places d.0,
+      apart size_in size_out places c.1 d.1,
+    )
+
+pub plan_apart : (plan : Plan) → first_fault plan ≡ None → AreApart plan.size_out plan.places
+plan_apart plan h =
+    let c = chosen (nat_lt 64 (length plan.places)) fault.TooMany (outside_or (first_outside plan.size_in plan.size_out plan.places) (first_pair plan.places)) h in
+    let d = no-outside (first_outside plan.size_in plan.size_out plan.places) (first_pair plan.places) c.1 in
+    apart plan.size_in plan.size_out plan.places d.0 d.1
+
+-- the frames of each slot lie inside both images
+abbrev pub AreInside : ℕ → ℕ → List Place → Type 0
+AreInside size_in size_out [] = Unit {0}
+AreInside size_in size_out (p ∷ places) = (p.at_in + (spans_of p).len_in ≤ size_in) × (p.at_out + len_at p ≤ size_out) × AreInside size_in size_out places
+
+inside-all : (size_in size_out : ℕ) (places : List Place) → first_outside size_in size_out places ≡ None → AreInside size_in size_out places
+inside-all size_in size_out [] h = tt
+inside-all size_in size_out (p ∷ places) h =
+    let c = passed (lie_inside size_in size_out (spans_of p)) p.number (first_outside size_in size_out places) h in
+    let a : Bool = nat_le (p.at_in + (spans_of p).len_in) size_in in
+    let b : Bool = nat_le (p.at_out + len_at p) size_out in (
+      inside-out (p.at_in + (spans_of p).len_in) size_in (first-true a b c.0),
+      inside-out (p.at_out + len_at p) size_out (second-true a b c.0),
+      inside-all size_in size_out places c.1,
+    )
+
+pub plan_inside : (plan : Plan) → first_fault plan ≡ None → AreInside plan.size_in plan.size_out plan.places
+plan_inside plan h =
+    let c = chosen (nat_lt 64 (length plan.places)) fault.TooMany (outside_or (first_outside plan.size_in plan.size_out plan.places) (first_pair plan.places)) h in
+    inside-all plan.size_in plan.size_out plan.places (no-outside (first_outside plan.size_in plan.size_out plan.places) (first_pair plan.places) c.1).0
+
+-- there are at most 64
+few : (n : ℕ) → nat_lt 64 n ≡ false → n ≤ 64
+few n h = grind (arith, nat_tests)
+
+pub few_places : (plan : Plan) → first_fault plan ≡ None → length plan.places ≤ 64
+few_places plan h =
+    few (length plan.places) (chosen (nat_lt 64 (length plan.places)) fault.TooMany (outside_or (first_outside plan.size_in plan.size_out plan.places) (first_pair plan.places)) h).0

@@ -1,0 +1,128 @@
+-- Images that were just made.
+use Rattle.std.proofs.Common.{◌≡◌, ◌≤◌, ℕ, zero, suc, ◌+◌, ◌-◌, List, [], ◌∷◌, ◌++◌, map, length, take, drop, replicate, All, None, IsTrue, refl, sym, ap, ap₂, ◌∙◌, arith, inl, inr}
+use Rattle.std.specs.List.{AllZip}
+use Rattle.std.proofs.lemmas.Bool.{cases_eq}
+use Rattle.std.proofs.lemmas.Bool.Decides.{nat_tests}
+use Rattle.std.proofs.lemmas.List.{length-replicate}
+use Rattle.std.proofs.lemmas.List.Elements.{All-head, All-tail, All-nil, All-cons}
+use Rattle.fsoe_base.specs.Lengths.{is_length, frame_len}
+use Rattle.end_model.specs.Setup.{Setup, sends, receives}
+use Rattle.end_core.specs.Core.{setup_of}
+use Rattle.end_core.specs.Standing.{IsNew}
+use Rattle.process_image.specs.Calls.{frame_of, with_frames}
+use Rattle.process_image.specs.Fault.{AreNumbered, first_fault}
+use Rattle.process_image.specs.Image.{bytes_at, with_bytes}
+use Rattle.process_image.specs.Places.{Place, places_from, plan_of}
+use Rattle.process_image.specs.Sound.{IsSoundSeat, IsSound, IsNewSeat}
+use Rattle.process_image.specs.Standing.{ImagesView, IsSeatOf, StandsFor}
+use Rattle.process_image.specs.declared.seat.Seat.{Seat}
+use Rattle.process_image.specs.declared.slot.Slot.{Slot}
+use Rattle.process_image.proofs.Apart.{AreInside, plan_inside, few_places}
+use Rattle.process_image.proofs.Faults.{places_count}
+use Rattle.process_image.proofs.Giving.{len_at}
+
+-- a frame has at most 255 bytes
+pub frame_most : (l : ℕ) → IsTrue (is_length l) → frame_len l ≤ 255
+frame_most l h = elim (cases_eq l 1) [ inl one ↦ grind (arith, nat_tests) | inr other ↦ grind (arith, nat_tests) ]
+
+-- zeros in zeros
+take-zeros : (n m : ℕ) → n ≤ m → take {A = ℕ} n (replicate m 0) ≡ replicate n 0
+take-zeros zero m h = refl
+take-zeros (suc n) zero h = absurd (omega arith)
+take-zeros (suc n) (suc m) h = ap (λ (zs : List ℕ). 0 ∷ zs) (take-zeros n m (omega arith))
+
+drop-zeros : (n m : ℕ) → n ≤ m → drop {A = ℕ} n (replicate m 0) ≡ replicate (m - n) 0
+drop-zeros zero m h = let e : m ≡ m - 0 = omega arith in ap (λ (k : ℕ). replicate k 0) e
+drop-zeros (suc n) zero h = absurd (omega arith)
+drop-zeros (suc n) (suc m) h = let e : m - n ≡ suc m - suc n = omega arith in drop-zeros n m (omega arith) ∙ ap (λ (k : ℕ). replicate k 0) e
+
+append-zeros : (n m : ℕ) → replicate n 0 ++ replicate m 0 ≡ replicate {A = ℕ} (n + m) 0
+append-zeros zero m = let e : m ≡ 0 + m = omega arith in ap (λ (k : ℕ). replicate k 0) e
+append-zeros (suc n) m = let e : suc (n + m) ≡ suc n + m = omega arith in ap (λ (zs : List ℕ). 0 ∷ zs) (append-zeros n m) ∙ ap (λ (k : ℕ). replicate k 0) e
+
+pub zeros_at : (at len size : ℕ) → at + len ≤ size → bytes_at at len (replicate size 0) ≡ replicate len 0
+zeros_at at len size h =
+    let n : at + len - at ≡ len = omega arith in
+    ap (take (at + len - at)) (drop-zeros at size (omega arith)) ∙ ap (λ (k : ℕ). take k (replicate (size - at) 0)) n ∙ take-zeros len (size - at) (omega arith)
+
+pub zeros_with : (at len size : ℕ) → at + len ≤ size → with_bytes at (replicate len 0) (replicate size 0) ≡ replicate size 0
+zeros_with at len size h =
+    let n : length (replicate {A = ℕ} len 0) ≡ len = length-replicate len 0 in
+    let e : at + len + (size - (at + len)) ≡ size = omega arith in
+    ap (λ (k : ℕ). take at (replicate size 0) ++ replicate len 0 ++ drop (at + k) (replicate size 0)) n
+    ∙ ap₂ (λ (front back : List ℕ). front ++ replicate len 0 ++ back) (take-zeros at size (omega arith)) (drop-zeros (at + len) size h)
+    ∙ ap (λ (front : List ℕ). front ++ replicate (size - (at + len)) 0) (append-zeros at len)
+    ∙ append-zeros (at + len) (size - (at + len))
+    ∙ ap (λ (k : ℕ). replicate k 0) e
+
+-- slots are numbered from n on
+numbered-so : (n : ℕ) (slots : List Slot) → AreNumbered n (places_from n slots)
+numbered-so n [] = tt
+numbered-so n (slot ∷ slots) = (refl, numbered-so (suc n) slots)
+
+-- new seats stand for no calls
+new-seats : (size_in size_out n : ℕ) (slots : List Slot) (seats : List Seat) → All (λ slot. IsNew slot.core) slots → AllZip IsNewSeat slots seats → AreInside size_in size_out (places_from n slots)
+    → AllZip (IsSeatOf size_in []) (places_from n slots) seats
+new-seats size_in size_out n [] [] new z i = tt
+new-seats size_in size_out n [] (seat ∷ seats) new z i = absurd z
+new-seats size_in size_out n (slot ∷ slots) [] new z i = absurd z
+new-seats size_in size_out n (slot ∷ slots) (seat ∷ seats) new z i = (
+  record {
+    at_in_is = z.0.at_in_is;
+    at_out_is = z.0.at_out_is;
+    end_is = rw z.0.core_is (All-head (λ slot. IsNew slot.core) slot slots new).is_after;
+    seen_is = z.0.seen_is ∙ sym (zeros_at slot.at_in (frame_len (receives (setup_of slot.core))) size_in i.0);
+  },
+  new-seats size_in size_out (suc n) slots seats (All-tail (λ slot. IsNew slot.core) slot slots new) z.1 i.2,
+)
+
+-- and are sound
+new-sound : (size_in size_out n : ℕ) (slots : List Slot) (seats : List Seat) → All (λ slot. IsNew slot.core) slots → AllZip IsNewSeat slots seats → AreInside size_in size_out (places_from n slots)
+    → All (IsSoundSeat size_in size_out) seats
+new-sound size_in size_out n [] [] new z i = All-nil (IsSoundSeat size_in size_out)
+new-sound size_in size_out n [] (seat ∷ seats) new z i = absurd z
+new-sound size_in size_out n (slot ∷ slots) [] new z i = absurd z
+new-sound size_in size_out n (slot ∷ slots) (seat ∷ seats) new z i =
+    let len : length seat.seen ≡ frame_len (receives (setup_of slot.core)) = ap length z.0.seen_is ∙ length-replicate (frame_len (receives (setup_of slot.core))) 0 in
+    All-cons (IsSoundSeat size_in size_out) seat seats
+    (record {
+      rest = rw z.0.core_is (All-head (λ slot. IsNew slot.core) slot slots new).rest;
+      seen_len = len ∙ ap (λ c. frame_len (receives (setup_of c))) (sym z.0.core_is);
+      len_out_is = z.0.len_out_is ∙ ap (λ c. frame_len (sends (setup_of c))) (sym z.0.core_is);
+      inside_in = rw (z.0.at_in_is, len) i.0;
+      inside_out = rw (z.0.at_out_is, z.0.len_out_is) i.1;
+    })
+    (new-sound size_in size_out (suc n) slots seats (All-tail (λ slot. IsNew slot.core) slot slots new) z.1 i.2)
+
+new-count : (slots : List Slot) (seats : List Seat) → AllZip IsNewSeat slots seats → length seats ≡ length slots
+new-count [] [] z = refl
+new-count [] (seat ∷ seats) z = absurd z
+new-count (slot ∷ slots) [] z = absurd z
+new-count (slot ∷ slots) (seat ∷ seats) z = ap suc (new-count slots seats z.1)
+
+pub new_setups : (slots : List Slot) (seats : List Seat) → AllZip IsNewSeat slots seats → map (λ s. setup_of s.core) seats ≡ map (λ slot. setup_of slot.core) slots
+new_setups [] [] z = refl
+new_setups [] (seat ∷ seats) z = absurd z
+new_setups (slot ∷ slots) [] z = absurd z
+new_setups (slot ∷ slots) (seat ∷ seats) z = ap₂ (λ (t : Setup) (ts : List Setup). t ∷ ts) (ap setup_of z.0.core_is) (new_setups slots seats z.1)
+
+-- nothing was sent
+zero-frames : (size_in size_out : ℕ) (places : List Place) → AreInside size_in size_out places → with_frames (frame_of size_in []) places (replicate size_out 0) ≡ replicate size_out 0
+zero-frames size_in size_out [] i = refl
+zero-frames size_in size_out (p ∷ places) i = ap (with_bytes p.at_out (replicate (len_at p) 0)) (zero-frames size_in size_out places i.2) ∙ zeros_with p.at_out (len_at p) size_out i.1
+
+pub new_stands : (size_in size_out : ℕ) (slots : List Slot) (v : ImagesView) → first_fault (plan_of size_in size_out slots) ≡ None → All (λ slot. IsNew slot.core) slots → AllZip IsNewSeat slots v.seats
+    → v.input ≡ replicate size_in 0 → v.output ≡ replicate size_out 0 → StandsFor (plan_of size_in size_out slots) v []
+new_stands size_in size_out slots v none new z now out = record {
+  made = record { numbers = numbered-so 1 slots; no_fault = none };
+  slots = new-seats size_in size_out 1 slots v.seats new z (plan_inside (plan_of size_in size_out slots) none);
+  input_is = now;
+  output_is = out ∙ sym (zero-frames size_in size_out (places_from 1 slots) (plan_inside (plan_of size_in size_out slots) none));
+}
+
+pub new_sound : (size_in size_out : ℕ) (slots : List Slot) (v : ImagesView) → first_fault (plan_of size_in size_out slots) ≡ None → All (λ slot. IsNew slot.core) slots → AllZip IsNewSeat slots v.seats
+    → v.input ≡ replicate size_in 0 → v.output ≡ replicate size_out 0 → IsSound v
+new_sound size_in size_out slots v none new z now out = record {
+  seats = rw (now, out, length-replicate {A = ℕ} size_in 0, length-replicate {A = ℕ} size_out 0) (new-sound size_in size_out 1 slots v.seats new z (plan_inside (plan_of size_in size_out slots) none));
+  most = rw (new-count slots v.seats z ∙ sym (places_count 1 slots)) (few_places (plan_of size_in size_out slots) none);
+}

@@ -1,0 +1,124 @@
+-- The frames that are delivered to a slot, and samples that change nothing.
+use Rattle.std.proofs.Common.{◌≡◌, ℕ, List, [], ◌∷◌, ◌++◌, replicate, Option, Some, None, Bool, true, false, nat_eq, if◌then◌else◌, refl, sym, ap, ◌∙◌}
+use Rattle.std.specs.Cmp.Lexicographic.{pointwise}
+use Rattle.std.proofs.lemmas.Cmp.{nat_list_eq_equiv}
+use Rattle.param_load.specs.declared.entry.Move.{Move}
+use Rattle.param_load.specs.declared.entry.Move.TheVariants as move
+use Rattle.end_model.specs.Step.{run}
+use Rattle.process_image.specs.Calls.{contents, delivery, if_named, and_move, moves, last_frame, frame_of, with_frames, output}
+use Rattle.process_image.specs.Image.{with_bytes, input, sampled}
+use Rattle.process_image.specs.Own.{Unwritten, at_samples, distinct_after, frames_in}
+use Rattle.process_image.specs.Places.{Place, Plan}
+use Rattle.process_image.specs.declared.event.ImageEvent.{ImageEvent}
+use Rattle.process_image.specs.declared.event.ImageEvent.TheVariants as event
+
+-- where nothing was written since, what was sampled last is the input image
+unwritten-is : (size : ℕ) (calls : List ImageEvent) → Unwritten calls → sampled size calls ≡ input size calls
+unwritten-is size [] h = refl
+unwritten-is size (event.Sample ∷ calls) h = refl
+unwritten-is size (event.Write at bytes ∷ calls) h = absurd h
+unwritten-is size (event.Tick ∷ calls) h = unwritten-is size calls h
+unwritten-is size (event.Put slot load ∷ calls) h = unwritten-is size calls h
+unwritten-is size (event.Hold slot failsafe ∷ calls) h = unwritten-is size calls h
+unwritten-is size (event.Nonce slot id ∷ calls) h = unwritten-is size calls h
+unwritten-is size (event.Reset slot ∷ calls) h = unwritten-is size calls h
+
+none-new : (now : List ℕ) → delivery now now ≡ None
+none-new now = ap (λ b. if b then None else Some (move.Deliver now)) (nat_list_eq_equiv.refl now)
+
+pub quiet_moves : (size : ℕ) (p : Place) (calls : List ImageEvent) → Unwritten calls → moves size p (event.Sample ∷ calls) ≡ moves size p calls
+quiet_moves size p calls h =
+    ap (λ (before : List ℕ). and_move (delivery (contents p before) (contents p (input size calls))) (moves size p calls)) (unwritten-is size calls h)
+    ∙ ap (λ (o : Option Move). and_move o (moves size p calls)) (none-new (contents p (input size calls)))
+
+same-frames : (f g : Place → List ℕ) (places : List Place) (image : List ℕ) → ((p : Place) → f p ≡ g p) → with_frames f places image ≡ with_frames g places image
+same-frames f g [] image h = refl
+same-frames f g (p ∷ places) image h =
+    ap (λ (frame : List ℕ). with_bytes p.at_out frame (with_frames f places image)) (h p) ∙ ap (with_bytes p.at_out (g p)) (same-frames f g places image h)
+
+pub quiet_output : (plan : Plan) (calls : List ImageEvent) → Unwritten calls → output plan (event.Sample ∷ calls) ≡ output plan calls
+quiet_output plan calls h =
+    same-frames (frame_of plan.size_in (event.Sample ∷ calls)) (frame_of plan.size_in calls) plan.places (replicate plan.size_out 0)
+    (λ p. ap (λ (ms : List Move). last_frame p.setup (run p.setup ms)) (quiet_moves plan.size_in p calls h))
+
+-- the last of a list, where this comes before the first
+abbrev last-of : List ℕ → List (List ℕ) → List ℕ
+last-of before [] = before
+last-of before (now ∷ later) = last-of now later
+
+last-push : (before : List ℕ) (xs : List (List ℕ)) (x : List ℕ) → last-of before (xs ++ x ∷ []) ≡ x
+last-push before [] x = refl
+last-push before (y ∷ xs) x = last-push y xs x
+
+-- the list with one more
+abbrev one-if : List ℕ → List ℕ → List (List ℕ)
+one-if before now = if pointwise nat_eq before now then [] else now ∷ []
+
+push-by : (b : Bool) (y : List ℕ) (rest : List (List ℕ)) (more : List (List ℕ)) → (if b then rest ++ more else y ∷ (rest ++ more)) ≡ (if b then rest else y ∷ rest) ++ more
+push-by true y rest more = refl
+push-by false y rest more = refl
+
+distinct-push : (before : List ℕ) (xs : List (List ℕ)) (x : List ℕ) → distinct_after before (xs ++ x ∷ []) ≡ distinct_after before xs ++ one-if (last-of before xs) x
+distinct-push before [] x = refl
+distinct-push before (y ∷ xs) x =
+    ap (λ (later : List (List ℕ)). if pointwise nat_eq before y then later else y ∷ later) (distinct-push y xs x)
+    ∙ push-by (pointwise nat_eq before y) y (distinct_after y xs) (one-if (last-of y xs) x)
+
+-- the last contents are those of the last sample
+last-is : (size : ℕ) (p : Place) (calls : List ImageEvent) → last-of (contents p (replicate size 0)) (at_samples size p calls) ≡ contents p (sampled size calls)
+last-is size p [] = refl
+last-is size p (event.Sample ∷ calls) = last-push (contents p (replicate size 0)) (at_samples size p calls) (contents p (input size calls))
+last-is size p (event.Write at bytes ∷ calls) = last-is size p calls
+last-is size p (event.Tick ∷ calls) = last-is size p calls
+last-is size p (event.Put slot load ∷ calls) = last-is size p calls
+last-is size p (event.Hold slot failsafe ∷ calls) = last-is size p calls
+last-is size p (event.Nonce slot id ∷ calls) = last-is size p calls
+last-is size p (event.Reset slot ∷ calls) = last-is size p calls
+
+-- the frames of moves with one more
+frames-push : (ms : List Move) (what : Move) → frames_in (ms ++ what ∷ []) ≡ frames_in ms ++ frames_in (what ∷ [])
+frames-push [] what = refl
+frames-push (move.Deliver bytes ∷ ms) what = ap (λ (rest : List (List ℕ)). bytes ∷ rest) (frames-push ms what)
+frames-push (move.Tick ∷ ms) what = frames-push ms what
+frames-push (move.Put load ∷ ms) what = frames-push ms what
+frames-push (move.Hold failsafe ∷ ms) what = frames-push ms what
+frames-push (move.Nonce id ∷ ms) what = frames-push ms what
+frames-push (move.Local ∷ ms) what = frames-push ms what
+
+none-more : (xs : List (List ℕ)) → xs ++ [] ≡ xs
+none-more [] = refl
+none-more (x ∷ xs) = ap (λ ys. x ∷ ys) (none-more xs)
+
+-- a move that delivers nothing
+abbrev IsQuiet : Option Move → Type 0
+IsQuiet None = Unit {0}
+IsQuiet (Some what) = frames_in (what ∷ []) ≡ []
+
+quiet-frames : (o : Option Move) (ms : List Move) → IsQuiet o → frames_in (and_move o ms) ≡ frames_in ms
+quiet-frames None ms h = refl
+quiet-frames (Some what) ms h = frames-push ms what ∙ ap (λ (more : List (List ℕ)). frames_in ms ++ more) h ∙ none-more (frames_in ms)
+
+named-by : (b : Bool) (what : Move) → frames_in (what ∷ []) ≡ [] → IsQuiet (if b then Some what else None)
+named-by true what h = h
+named-by false what h = tt
+
+sample-frames : (b : Bool) (now : List ℕ) (ms : List Move) → frames_in (and_move (if b then None else Some (move.Deliver now)) ms) ≡ frames_in ms ++ (if b then [] else now ∷ [])
+sample-frames true now ms = sym (none-more (frames_in ms))
+sample-frames false now ms = frames-push ms (move.Deliver now)
+
+-- the frames that are delivered are the contents at the samples, without those that equal the ones before
+pub distinct : (size : ℕ) (p : Place) (calls : List ImageEvent) → frames_in (moves size p calls) ≡ distinct_after (contents p (replicate size 0)) (at_samples size p calls)
+distinct size p [] = refl
+distinct size p (event.Write at bytes ∷ calls) = distinct size p calls
+distinct size p (event.Sample ∷ calls) =
+    let before : List ℕ = contents p (sampled size calls) in
+    let now : List ℕ = contents p (input size calls) in
+    sample-frames (pointwise nat_eq before now) now (moves size p calls)
+    ∙ ap (λ (xs : List (List ℕ)). xs ++ one-if before now) (distinct size p calls)
+    ∙ ap (λ (last : List ℕ). distinct_after (contents p (replicate size 0)) (at_samples size p calls) ++ one-if last now) (sym (last-is size p calls))
+    ∙ sym (distinct-push (contents p (replicate size 0)) (at_samples size p calls) now)
+distinct size p (event.Tick ∷ calls) = quiet-frames (Some move.Tick) (moves size p calls) refl ∙ distinct size p calls
+distinct size p (event.Put slot load ∷ calls) = quiet-frames (if_named slot p (move.Put load)) (moves size p calls) (named-by _ (move.Put load) refl) ∙ distinct size p calls
+distinct size p (event.Hold slot failsafe ∷ calls) = quiet-frames (if_named slot p (move.Hold failsafe)) (moves size p calls) (named-by _ (move.Hold failsafe) refl) ∙ distinct size p calls
+distinct size p (event.Nonce slot id ∷ calls) = quiet-frames (if_named slot p (move.Nonce id)) (moves size p calls) (named-by _ (move.Nonce id) refl) ∙ distinct size p calls
+distinct size p (event.Reset slot ∷ calls) = quiet-frames (if_named slot p move.Local) (moves size p calls) (named-by _ move.Local refl) ∙ distinct size p calls

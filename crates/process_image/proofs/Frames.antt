@@ -1,0 +1,164 @@
+-- What an output image has at each slot, and beside all slots.
+use Rattle.std.proofs.Common.{◌≡◌, ◌≤◌, ◌+◌, ◌-◌, ◌⊎◌, inl, inr, ℕ, zero, suc, List, [], ◌∷◌, ◌++◌, length, take, drop, replicate, All, false, refl, sym, ap, ◌∙◌, arith}
+use Rattle.std.specs.List.{AllZip}
+use Rattle.std.proofs.lemmas.Bool.Decides.{nat_tests}
+use Rattle.std.proofs.lemmas.List.{length-replicate}
+use Rattle.std.proofs.lemmas.List.Elements.{All-head, All-tail, All-nil, All-cons}
+use Rattle.process_image.specs.Calls.{contents, deeds, frame_of, with_frames, output}
+use Rattle.process_image.specs.Image.{bytes_at, with_bytes, input}
+use Rattle.process_image.specs.Own.{WritesFit}
+use Rattle.process_image.specs.Places.{Place, Plan, share, spans_of}
+use Rattle.process_image.specs.Standing.{ImagesView, IsSeatOf, StandsFor, IsBeside, HoldsFrames, ShowsFrames}
+use Rattle.process_image.specs.declared.event.ImageEvent.{ImageEvent}
+use Rattle.process_image.specs.declared.event.ImageEvent.TheVariants as event
+use Rattle.process_image.specs.declared.seat.Seat.{Seat}
+use Rattle.process_image.proofs.Apart.{plan_apart}
+use Rattle.process_image.proofs.Beginning.{zeros_at}
+use Rattle.process_image.proofs.Following.{reached, last_long}
+use Rattle.process_image.proofs.Giving.{len_at, IsAway, AwayFrom, AreApart}
+use Rattle.process_image.proofs.WithBytes.{later, front-is, drop_none, same_size}
+
+-- so many bytes from a place on, said by their number
+bytes-are : (at len : ℕ) (image : List ℕ) → bytes_at at len image ≡ take len (drop at image)
+bytes-are at len image = let n : at + len - at ≡ len = omega arith in ap (λ (k : ℕ). take k (drop at image)) n
+
+take-front : (f rest : List ℕ) → take (length f) (f ++ rest) ≡ f
+take-front [] rest = refl
+take-front (b ∷ f) rest = ap (λ (bytes : List ℕ). b ∷ bytes) (take-front f rest)
+
+-- bytes stand where they were written
+there : (at : ℕ) (f image : List ℕ) → at + length f ≤ length image → take (length f) (drop at (with_bytes at f image)) ≡ f
+there zero f image h = ap (take (length f)) (front-is f image) ∙ take-front f (drop (length f) image)
+there (suc at) f [] h = absurd (omega arith)
+there (suc at) f (x ∷ image) h = ap (λ (bytes : List ℕ). take (length f) (drop (suc at) bytes)) (later at f x image) ∙ there at f image (omega arith)
+
+-- bytes in front of those that were written stay
+none-taken : (len : ℕ) (xs ys : List ℕ) → len ≡ 0 → take len xs ≡ take len ys
+none-taken zero xs ys h = refl
+none-taken (suc len) xs ys h = absurd (omega arith)
+
+front-stays : (len b : ℕ) (f image : List ℕ) → len ≤ b → b + length f ≤ length image → take len (with_bytes b f image) ≡ take len image
+front-stays zero b f image h inside = refl
+front-stays (suc len) zero f image h inside = absurd (omega arith)
+front-stays (suc len) (suc b) f [] h inside = absurd (omega arith)
+front-stays (suc len) (suc b) f (x ∷ image) h inside =
+    ap (take (suc len)) (later b f x image) ∙ ap (λ (bytes : List ℕ). x ∷ bytes) (front-stays len b f image (omega arith) (omega arith))
+
+pub stay_before : (at len b : ℕ) (f image : List ℕ) → at + len ≤ b → b + length f ≤ length image → take len (drop at (with_bytes b f image)) ≡ take len (drop at image)
+stay_before zero len b f image h inside = front-stays len b f image (omega arith) inside
+stay_before (suc at) len zero f image h inside = absurd (omega arith)
+stay_before (suc at) len (suc b) f [] h inside = absurd (omega arith)
+stay_before (suc at) len (suc b) f (x ∷ image) h inside = ap (λ (bytes : List ℕ). take len (drop (suc at) bytes)) (later b f x image) ∙ stay_before at len b f image (omega arith) (omega arith)
+
+-- and those behind them
+drop-past : (at : ℕ) (f image : List ℕ) → length f ≤ at → drop at (f ++ drop (length f) image) ≡ drop at image
+drop-past at [] image h = refl
+drop-past zero (b ∷ f) image h = absurd (omega arith)
+drop-past (suc at) (b ∷ f) [] h = ap (λ (rest : List ℕ). drop at (f ++ rest)) (sym (drop_none (length f))) ∙ drop-past at f [] (omega arith) ∙ drop_none at
+drop-past (suc at) (b ∷ f) (x ∷ image) h = drop-past at f image (omega arith)
+
+pub stay_behind : (at b : ℕ) (f image : List ℕ) → b + length f ≤ at → b + length f ≤ length image → drop at (with_bytes b f image) ≡ drop at image
+stay_behind at zero f image h inside = ap (drop at) (front-is f image) ∙ drop-past at f image (omega arith)
+stay_behind zero (suc b) f image h inside = absurd (omega arith)
+stay_behind (suc at) (suc b) f [] h inside = absurd (omega arith)
+stay_behind (suc at) (suc b) f (x ∷ image) h inside = ap (drop (suc at)) (later b f x image) ∙ stay_behind at b f image (omega arith) (omega arith)
+
+-- bytes beside those that were written stay
+pub stays : (at len b : ℕ) (f image : List ℕ) → ((at + len ≤ b) ⊎ (b + length f ≤ at)) → b + length f ≤ length image → bytes_at at len (with_bytes b f image) ≡ bytes_at at len image
+stays at len b f image (inl before) inside = bytes-are at len (with_bytes b f image) ∙ stay_before at len b f image before inside ∙ sym (bytes-are at len image)
+stays at len b f image (inr behind) inside = bytes-are at len (with_bytes b f image) ∙ ap (take len) (stay_behind at b f image behind inside) ∙ sym (bytes-are at len image)
+
+-- frames as long as those that their ends send
+abbrev AreLong : (Place → List ℕ) → List Place → Type 0
+AreLong frame places = All (λ p. length (frame p) ≡ len_at p) places
+
+frames-long : (frame : Place → List ℕ) (size : ℕ) (places : List Place) (image : List ℕ) → AreApart size places → AreLong frame places → length image ≡ size → length (with_frames frame places image) ≡ size
+frames-long frame size [] image apart long n = n
+frames-long frame size (p ∷ places) image apart long n =
+    let e : length (frame p) ≡ len_at p = All-head (λ p. length (frame p) ≡ len_at p) p places long in
+    let m : length (with_frames frame places image) ≡ size = frames-long frame size places image apart.2 (All-tail (λ p. length (frame p) ≡ len_at p) p places long) n in
+    same_size p.at_out (frame p) (with_frames frame places image) (rw (e, m) apart.0) ∙ m
+
+-- the frame of a slot in an image
+abbrev Has : (Place → List ℕ) → List ℕ → Place → Type 0
+Has frame image p = bytes_at p.at_out (len_at p) image ≡ frame p
+
+swapped : (p q : Place) → IsAway p q → (q.at_out + len_at q ≤ p.at_out) ⊎ (p.at_out + len_at p ≤ q.at_out)
+swapped p q (inl front) = inr front
+swapped p q (inr back) = inl back
+
+-- one frame more leaves those of slots that are away
+kept : (frame : Place → List ℕ) (p : Place) (f image : List ℕ) (places : List Place) → AwayFrom p places → length f ≡ len_at p → p.at_out + length f ≤ length image → All (Has frame image) places
+    → All (Has frame (with_bytes p.at_out f image)) places
+kept frame p f image [] away e inside has = All-nil (Has frame (with_bytes p.at_out f image))
+kept frame p f image (q ∷ places) away e inside has =
+    let apart : (q.at_out + len_at q ≤ p.at_out) ⊎ (p.at_out + length f ≤ q.at_out) = rw e (swapped p q away.0) in
+    All-cons (Has frame (with_bytes p.at_out f image)) q places (stays q.at_out (len_at q) p.at_out f image apart inside ∙ All-head (Has frame image) q places has)
+    (kept frame p f image places away.1 e inside (All-tail (Has frame image) q places has))
+
+pub frames_there : (frame : Place → List ℕ) (size : ℕ) (places : List Place) (image : List ℕ) → AreApart size places → AreLong frame places → length image ≡ size → All (Has frame (with_frames frame places image)) places
+frames_there frame size [] image apart long n = All-nil (Has frame image)
+frames_there frame size (p ∷ places) image apart long n =
+    let e : length (frame p) ≡ len_at p = All-head (λ p. length (frame p) ≡ len_at p) p places long in
+    let rest : List ℕ = with_frames frame places image in
+    let more : AreLong frame places = All-tail (λ p. length (frame p) ≡ len_at p) p places long in
+    let m : length rest ≡ size = frames-long frame size places image apart.2 more n in
+    let inside : p.at_out + length (frame p) ≤ length rest = rw (e, m) apart.0 in
+    All-cons (Has frame (with_frames frame (p ∷ places) image)) p places
+    (bytes-are p.at_out (len_at p) (with_bytes p.at_out (frame p) rest) ∙ ap (λ (k : ℕ). take k (drop p.at_out (with_bytes p.at_out (frame p) rest))) (sym e) ∙ there p.at_out (frame p) rest inside)
+    (kept frame p (frame p) rest places apart.1 e inside (frames_there frame size places image apart.2 more n))
+
+-- bytes beside all slots are those of the image without frames
+unshared : (at len b lb : ℕ) → share at len b lb ≡ false → (at + len ≤ b) ⊎ (b + lb ≤ at)
+unshared at len b lb h = grind (arith, nat_tests)
+
+pub beside_all : (frame : Place → List ℕ) (size : ℕ) (places : List Place) (image : List ℕ) (at len : ℕ) → AreApart size places → AreLong frame places → length image ≡ size → All (IsBeside at len) places
+    → bytes_at at len (with_frames frame places image) ≡ bytes_at at len image
+beside_all frame size [] image at len apart long n beside = refl
+beside_all frame size (p ∷ places) image at len apart long n beside =
+    let e : length (frame p) ≡ len_at p = All-head (λ p. length (frame p) ≡ len_at p) p places long in
+    let rest : List ℕ = with_frames frame places image in
+    let more : AreLong frame places = All-tail (λ p. length (frame p) ≡ len_at p) p places long in
+    let m : length rest ≡ size = frames-long frame size places image apart.2 more n in
+    let one : (at + len ≤ p.at_out) ⊎ (p.at_out + length (frame p) ≤ at) = rw e (unshared at len p.at_out (len_at p) (All-head (IsBeside at len) p places beside)) in
+    stays at len p.at_out (frame p) rest one (rw (e, m) apart.0) ∙ beside_all frame size places image at len apart.2 more n (All-tail (IsBeside at len) p places beside)
+
+-- so of images that stand for calls
+seats-long : (size : ℕ) (calls : List ImageEvent) (places : List Place) (seats : List Seat) → AllZip (IsSeatOf size calls) places seats → AreLong (frame_of size calls) places
+seats-long size calls [] [] z = All-nil (λ p. length (frame_of size calls p) ≡ len_at p)
+seats-long size calls [] (seat ∷ seats) z = absurd z
+seats-long size calls (p ∷ places) [] z = absurd z
+seats-long size calls (p ∷ places) (seat ∷ seats) z =
+    All-cons (λ p. length (frame_of size calls p) ≡ len_at p) p places (last_long p (deeds size p calls) (reached p.setup seat.core (deeds size p calls) z.0.end_is)) (seats-long size calls places seats z.1)
+
+pub holds_frames : (plan : Plan) (v : ImagesView) (calls : List ImageEvent) → StandsFor plan v calls → HoldsFrames plan calls (output plan calls)
+holds_frames plan v calls h =
+    let apart : AreApart plan.size_out plan.places = plan_apart plan h.made.no_fault in
+    let long : AreLong (frame_of plan.size_in calls) plan.places = seats-long plan.size_in calls plan.places v.seats h.slots in
+    let n : length (replicate {A = ℕ} plan.size_out 0) ≡ plan.size_out = length-replicate plan.size_out 0 in
+    record {
+      frames = frames_there (frame_of plan.size_in calls) plan.size_out plan.places (replicate plan.size_out 0) apart long n;
+      beside = λ at len inside beside. beside_all (frame_of plan.size_in calls) plan.size_out plan.places (replicate plan.size_out 0) at len apart long n beside ∙ zeros_at at len plan.size_out inside;
+    }
+
+pub shows_frames : (v : ImagesView) (shown : List ℕ) → shown ≡ v.output → ShowsFrames v shown
+shows_frames v shown e = record { shows = λ plan calls h. rw (e, h.output_is) (holds_frames plan v calls h) }
+
+-- a write beside a slot leaves its contents
+input-size : (size : ℕ) (calls : List ImageEvent) → WritesFit size calls → length (input size calls) ≡ size
+input-size size [] fit = length-replicate size 0
+input-size size (event.Write at bytes ∷ calls) fit =
+    let n : length (input size calls) ≡ size = input-size size calls fit.1 in
+    same_size at bytes (input size calls) (rw n fit.0) ∙ n
+input-size size (event.Sample ∷ calls) fit = input-size size calls fit
+input-size size (event.Tick ∷ calls) fit = input-size size calls fit
+input-size size (event.Put slot load ∷ calls) fit = input-size size calls fit
+input-size size (event.Hold slot failsafe ∷ calls) fit = input-size size calls fit
+input-size size (event.Nonce slot id ∷ calls) fit = input-size size calls fit
+input-size size (event.Reset slot ∷ calls) fit = input-size size calls fit
+
+pub write_beside : (size at : ℕ) (bytes : List ℕ) (p : Place) (calls : List ImageEvent) → WritesFit size (event.Write at bytes ∷ calls) → share p.at_in (spans_of p).len_in at (length bytes) ≡ false
+    → contents p (input size (event.Write at bytes ∷ calls)) ≡ contents p (input size calls)
+write_beside size at bytes p calls fit beside =
+    let n : length (input size calls) ≡ size = input-size size calls fit.1 in
+    stays p.at_in (spans_of p).len_in at bytes (input size calls) (unshared p.at_in (spans_of p).len_in at (length bytes) beside) (rw n fit.0)

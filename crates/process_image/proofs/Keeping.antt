@@ -1,0 +1,85 @@
+-- What stays when all slots do their part.
+use Rattle.std.proofs.Common.{◌≡◌, ◌≤◌, ℕ, suc, List, [], ◌∷◌, map, length, take, drop, ◌++◌, Option, All, refl, sym, ap, ap₂, subst, ◌∙◌, arith}
+use Rattle.std.proofs.lemmas.Grind.{common_steps}
+use Rattle.std.proofs.lemmas.List.Elements.{All-head, All-tail, All-nil, All-cons}
+use Rattle.fsoe_base.specs.Lengths.{frame_len}
+use Rattle.fsoe_base.specs.declared.did.Did.{Did}
+use Rattle.end_model.specs.Setup.{Setup, sends, receives}
+use Rattle.end_core.specs.Core.{setup_of}
+use Rattle.process_image.specs.Sound.{IsSoundSeat, MaySend, IsSound}
+use Rattle.process_image.specs.Standing.{ImagesView}
+use Rattle.process_image.specs.Steps.{SeatStep, IsSeatStep, DoesEach, IsSampleStep, IsTickStep, told_by, did_in}
+use Rattle.process_image.specs.declared.seat.Seat.{Seat}
+
+-- a step leaves a slot sound
+step-sound : (si so : ℕ) (x : SeatStep) → IsSoundSeat si so x.old → IsSeatStep x → IsSoundSeat si so x.new
+step-sound si so x s q = record {
+  rest = q.rest;
+  seen_len = q.seen_len ∙ s.seen_len ∙ ap (λ (t : Setup). frame_len (receives t)) (sym q.setup);
+  len_out_is = q.len_out_is ∙ s.len_out_is ∙ ap (λ (t : Setup). frame_len (sends t)) (sym q.setup);
+  inside_in = rw (q.at_in_is, q.seen_len) s.inside_in;
+  inside_out = rw (q.at_out_is, q.len_out_is) s.inside_out;
+}
+
+steps-sound : (Q : SeatStep → Type 0) (si so : ℕ) (xs : List SeatStep) → ((x : SeatStep) → Q x → IsSeatStep x) → All Q xs → All (IsSoundSeat si so) (map (λ x. x.old) xs) → All (IsSoundSeat si so) (map (λ x. x.new) xs)
+steps-sound Q si so [] is q s = All-nil (IsSoundSeat si so)
+steps-sound Q si so (x ∷ xs) is q s =
+    All-cons (IsSoundSeat si so) x.new (map (λ x. x.new) xs) (step-sound si so x (All-head (IsSoundSeat si so) x.old (map (λ x. x.old) xs) s) (is x (All-head Q x xs q)))
+    (steps-sound Q si so xs is (All-tail Q x xs q) (All-tail (IsSoundSeat si so) x.old (map (λ x. x.old) xs) s))
+
+steps-setups : (Q : SeatStep → Type 0) (xs : List SeatStep) → ((x : SeatStep) → Q x → IsSeatStep x) → All Q xs
+    → map (λ s. setup_of s.core) (map (λ x. x.new) xs) ≡ map (λ s. setup_of s.core) (map (λ x. x.old) xs)
+steps-setups Q [] is q = refl
+steps-setups Q (x ∷ xs) is q = ap₂ (λ (t : Setup) (ts : List Setup). t ∷ ts) (is x (All-head Q x xs q)).setup (steps-setups Q xs is (All-tail Q x xs q))
+
+steps-count : (xs : List SeatStep) → length (map (λ x. x.new) xs) ≡ length (map (λ x. x.old) xs)
+steps-count [] = refl
+steps-count (x ∷ xs) = ap suc (steps-count xs)
+
+pub does_sound : {T : Type 0} (Q : SeatStep → Type 0) (tell : SeatStep → T) (si so : ℕ) (old : List Seat) (before : List ℕ) (new : List Seat) (after : List ℕ) (told : List T) → ((x : SeatStep) → Q x → IsSeatStep x)
+    → All (IsSoundSeat si so) old → DoesEach Q tell old before new after told → All (IsSoundSeat si so) new
+does_sound Q tell si so old before new after told is s d =
+    subst (λ (seats : List Seat). All (IsSoundSeat si so) seats) d.new_are (steps-sound Q si so d.steps is d.each (subst (λ (seats : List Seat). All (IsSoundSeat si so) seats) (sym d.old_are) s))
+
+pub does_setups : {T : Type 0} (Q : SeatStep → Type 0) (tell : SeatStep → T) (old : List Seat) (before : List ℕ) (new : List Seat) (after : List ℕ) (told : List T) → ((x : SeatStep) → Q x → IsSeatStep x)
+    → DoesEach Q tell old before new after told → map (λ s. setup_of s.core) new ≡ map (λ s. setup_of s.core) old
+does_setups Q tell old before new after told is d =
+    ap (map (λ (s : Seat). setup_of s.core)) (sym d.new_are) ∙ steps-setups Q d.steps is d.each ∙ ap (map (λ (s : Seat). setup_of s.core)) d.old_are
+
+pub does_count : {T : Type 0} (Q : SeatStep → Type 0) (tell : SeatStep → T) (old : List Seat) (before : List ℕ) (new : List Seat) (after : List ℕ) (told : List T) → DoesEach Q tell old before new after told
+    → length new ≡ length old
+does_count Q tell old before new after told d = ap length (sym d.new_are) ∙ steps-count d.steps ∙ ap length d.old_are
+
+-- the ends of sound slots may send
+pub all_may : (si so : ℕ) (seats : List Seat) → All (IsSoundSeat si so) seats → All (MaySend so) seats
+all_may si so [] s = All-nil (MaySend so)
+all_may si so (seat ∷ seats) s =
+    let one : IsSoundSeat si so seat = All-head (IsSoundSeat si so) seat seats s in
+    All-cons (MaySend so) seat seats (record { rest = one.rest; inside = one.inside_out }) (all_may si so seats (All-tail (IsSoundSeat si so) seat seats s))
+
+-- a list that was written through a slice of all of it
+pub written_back : {A : Type 0} (xs ys : List A) (n : ℕ) → n ≡ length ys → length xs ≡ length ys → take n (xs ++ drop (length xs) ys) ≡ xs
+written_back xs ys n h e = grind (arith, common_steps)
+
+-- the same, of the lists that are at hand
+pub sampled_alike : (input input' : List ℕ) (old old' : List Seat) (before before' : List ℕ) (new : List Seat) (after : List ℕ) (told : List (Option Did)) → DoesEach (IsSampleStep input) told_by old before new after told
+    → input ≡ input' → old ≡ old' → before ≡ before' → DoesEach (IsSampleStep input') told_by old' before' new after told
+sampled_alike input input' old old' before before' new after told d e f g =
+    subst (λ (xs : List ℕ). DoesEach (IsSampleStep xs) told_by old' before' new after told) e
+    (subst (λ (xs : List Seat). DoesEach (IsSampleStep input) told_by xs before' new after told) f (subst (λ (xs : List ℕ). DoesEach (IsSampleStep input) told_by old xs new after told) g d))
+
+pub ticked_alike : (old old' : List Seat) (before before' : List ℕ) (new : List Seat) (after : List ℕ) (dids : List Did) → DoesEach IsTickStep did_in old before new after dids → old ≡ old' → before ≡ before'
+    → DoesEach IsTickStep did_in old' before' new after dids
+ticked_alike old old' before before' new after dids d f g =
+    subst (λ (xs : List Seat). DoesEach IsTickStep did_in xs before' new after dids) f (subst (λ (xs : List ℕ). DoesEach IsTickStep did_in old xs new after dids) g d)
+
+-- images stay sound
+pub images_sound : {T : Type 0} (Q : SeatStep → Type 0) (tell : SeatStep → T) (v : ImagesView) (new : List Seat) (after : List ℕ) (told : List T) → ((x : SeatStep) → Q x → IsSeatStep x) → IsSound v
+    → DoesEach Q tell v.seats v.output new after told → length after ≡ length v.output → IsSound (record { seats = new; input = v.input; output = after })
+images_sound Q tell v new after told is s d n = record {
+  seats = subst (λ (so : ℕ). All (IsSoundSeat (length v.input) so) new) (sym n) (does_sound Q tell (length v.input) (length v.output) v.seats v.output new after told is s.seats d);
+  most = subst (λ (k : ℕ). k ≤ 64) (sym (does_count Q tell v.seats v.output new after told d)) s.most;
+}
+
+pub input_sound : (v : ImagesView) (now : List ℕ) → IsSound v → length now ≡ length v.input → IsSound (record { seats = v.seats; input = now; output = v.output })
+input_sound v now s n = record { seats = subst (λ (si : ℕ). All (IsSoundSeat si (length v.output)) v.seats) (sym n) s.seats; most = s.most }

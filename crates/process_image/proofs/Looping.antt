@@ -1,0 +1,144 @@
+-- Loops over all slots, step by step.
+use Rattle.std.proofs.Common.{◌≡◌, ◌≤◌, ℕ, zero, suc, ◌+◌, ◌<◌, List, [], ◌∷◌, ◌++◌, map, length, slice_get, slice_set, Some, All, ◌==◌, Bool, true, false, if◌then◌else◌, refl, sym, ap, subst, ◌∙◌, arith}
+use Rattle.std.proofs.lemmas.Bool.Decides.{nat_tests}
+use Rattle.std.proofs.lemmas.Grind.{common_steps}
+use Rattle.std.proofs.lemmas.List.Elements.{All-push, All-nil}
+use Rattle.process_image.specs.Image.{with_bytes}
+use Rattle.process_image.specs.Steps.{SeatStep, Does, DoesEach, with_sent, after_steps}
+use Rattle.process_image.specs.declared.seat.Seat.{Seat}
+use Rattle.process_image.proofs.WithBytes.{same_size}
+
+-- some steps are done, and what is left follows
+get-after : {S A : Type 0} (f : S → A) (steps : List S) (rest : List A) → slice_get (map f steps ++ rest) (length steps) ≡ slice_get rest 0
+get-after f [] rest = refl
+get-after f (x ∷ steps) rest = get-after f steps rest
+
+set-after : {S A : Type 0} (f : S → A) (steps : List S) (x : S) (m : A) (rest : List A) → slice_set (map f steps ++ m ∷ rest) (length steps) (f x) ≡ map f (steps ++ x ∷ []) ++ rest
+set-after f [] x m rest = refl
+set-after f (y ∷ steps) x m rest = ap (λ zs. f y ∷ zs) (set-after f steps x m rest)
+
+split-after : {S A : Type 0} (f : S → A) (steps : List S) (x : S) (rest : List A) → map f steps ++ f x ∷ rest ≡ map f (steps ++ x ∷ []) ++ rest
+split-after f [] x rest = refl
+split-after f (y ∷ steps) x rest = ap (λ zs. f y ∷ zs) (split-after f steps x rest)
+
+record Left {A : Type 0} (rest : List A) (x : A) : Type 0 where
+  pub more : List A
+  pub is : rest ≡ x ∷ more
+
+left-with : {A : Type 0} (rest : List A) (x : A) → slice_get rest 0 ≡ Some x → Left rest x
+left-with [] x h = absurd (cc h)
+left-with (a ∷ rest) x h = let i : a ≡ x = cc in record { more = rest; is = ap (λ z. z ∷ rest) i }
+
+left : {S A : Type 0} (f : S → A) (xs : List A) (steps : List S) (rest : List A) (i : ℕ) (x : A) → xs ≡ map f steps ++ rest → length steps ≡ i → slice_get xs i ≡ Some x → Left rest x
+left f xs steps rest i x e n h = left-with rest x (sym (get-after f steps rest) ∙ subst (λ (ys : List _). slice_get ys (length steps) ≡ Some x) e (rw n h))
+
+none-left : {S A : Type 0} (f : S → A) (steps : List S) (rest : List A) → length steps ≡ length (map f steps ++ rest) → rest ≡ []
+none-left f [] [] h = refl
+none-left f [] (a ∷ rest) h = absurd (omega arith)
+none-left f (x ∷ steps) rest h = none-left f steps rest (omega arith)
+
+append-none : {A : Type 0} (xs : List A) → xs ++ [] ≡ xs
+append-none [] = refl
+append-none (x ∷ xs) = ap (λ ys. x ∷ ys) (append-none xs)
+
+all-done : {S A : Type 0} (f : S → A) (xs : List A) (steps : List S) (rest : List A) → xs ≡ map f steps ++ rest → length steps ≡ length xs → map f steps ≡ xs
+all-done f xs steps rest e n =
+    let none : rest ≡ [] = none-left f steps rest (n ∙ ap length e) in
+    sym (e ∙ ap (λ r. map f steps ++ r) none ∙ append-none (map f steps))
+
+length-push : {S : Type 0} (steps : List S) (x : S) (i : ℕ) → length steps ≡ i → length (steps ++ x ∷ []) ≡ i + 1
+length-push steps x i h = grind (arith, common_steps)
+
+-- one list goes on where its place is written
+written : {S A : Type 0} (f : S → A) (xs xs' : List A) (steps : List S) (x : S) (m : A) (rest more : List A) (i : ℕ) (y : A) → xs ≡ map f steps ++ rest → rest ≡ m ∷ more → length steps ≡ i
+    → y ≡ f x → xs' ≡ slice_set xs i y → xs' ≡ map f (steps ++ x ∷ []) ++ more
+written f xs xs' steps x m rest more i y e r n is w =
+    w ∙ ap (slice_set xs i) is ∙ ap (λ ys. slice_set ys i (f x)) (e ∙ ap (λ ys. map f steps ++ ys) r) ∙ ap (λ k. slice_set (map f steps ++ m ∷ more) k (f x)) (sym n) ∙ set-after f steps x m more
+
+-- one step more
+steps-push : (steps : List SeatStep) (x : SeatStep) (image : List ℕ) → after_steps (steps ++ x ∷ []) image ≡ with_sent x.old x.sent (after_steps steps image)
+steps-push [] x image = refl
+steps-push (y ∷ steps) x image = steps-push steps x (with_sent y.old y.sent image)
+
+-- so many slots did their part
+pub record DoneSoFar {T : Type 0} (Q : SeatStep → Type 0) (tell : SeatStep → T) (old : List Seat) (before : List ℕ) (new : List Seat) (after : List ℕ) (told : List T) (i : ℕ) : Type 0 where
+  pub steps : List SeatStep
+  pub each : All Q steps
+  pub count : length steps ≡ i
+  pub rest : List Seat
+  pub untold : List T
+  pub old_are : old ≡ map (λ x. x.old) steps ++ rest
+  pub new_are : new ≡ map (λ x. x.new) steps ++ rest
+  pub told_are : told ≡ map tell steps ++ untold
+  pub output_is : after ≡ after_steps steps before
+
+pub does_begun : {T : Type 0} (Q : SeatStep → Type 0) (tell : SeatStep → T) (old : List Seat) (image : List ℕ) (told : List T) → DoneSoFar Q tell old image old image told 0
+does_begun Q tell old image told = record {
+  steps = [];
+  each = All-nil Q;
+  count = refl;
+  rest = old;
+  untold = told;
+  old_are = refl;
+  new_are = refl;
+  told_are = refl;
+  output_is = refl;
+}
+
+pub does_more : {T : Type 0} (Q : SeatStep → Type 0) (tell : SeatStep → T) (old : List Seat) (before : List ℕ) (new new' : List Seat) (after after' : List ℕ) (told told' : List T) (i : ℕ)
+    (seat seat' : Seat) (t t' : T) → DoneSoFar Q tell old before new after told i → slice_get new i ≡ Some seat → slice_get told i ≡ Some t → Does Q tell seat after seat' after' t'
+    → new' ≡ slice_set new i seat' → told' ≡ slice_set told i t' → DoneSoFar Q tell old before new' after' told' (i + 1)
+does_more Q tell old before new new' after after' told told' i seat seat' t t' p at-s at-t d set-s set-t =
+    let m = left (λ (y : SeatStep). y.new) new p.steps p.rest i seat p.new_are p.count at-s in
+    let u = left tell told p.steps p.untold i t p.told_are p.count at-t in
+    record {
+      steps = p.steps ++ d.step ∷ [];
+      each = All-push Q p.steps d.step p.each d.is;
+      count = length-push p.steps d.step i p.count;
+      rest = m.more;
+      untold = u.more;
+      old_are = p.old_are ∙ ap (λ r. map (λ (y : SeatStep). y.old) p.steps ++ r) (m.is ∙ ap (λ s. s ∷ m.more) (sym d.old_is)) ∙ split-after (λ (y : SeatStep). y.old) p.steps d.step m.more;
+      new_are = written (λ (y : SeatStep). y.new) new new' p.steps d.step seat p.rest m.more i seat' p.new_are m.is p.count (sym d.new_is) set-s;
+      told_are = written tell told told' p.steps d.step t p.untold u.more i t' p.told_are u.is p.count d.told_is set-t;
+      output_is = d.output_is
+          ∙ ap (λ s. with_sent s d.step.sent after) (sym d.old_is)
+          ∙ ap (with_sent d.step.old d.step.sent) p.output_is
+          ∙ sym (steps-push p.steps d.step before);
+    }
+
+pub does_done : {T : Type 0} (Q : SeatStep → Type 0) (tell : SeatStep → T) (old : List Seat) (before : List ℕ) (new : List Seat) (after : List ℕ) (told : List T) (i : ℕ)
+    → DoneSoFar Q tell old before new after told i → i ≡ length old → i ≡ length new → i ≡ length told → DoesEach Q tell old before new after told
+does_done Q tell old before new after told i p o n t = record {
+  steps = p.steps;
+  each = p.each;
+  old_are = all-done (λ (y : SeatStep). y.old) old p.steps p.rest p.old_are (p.count ∙ o);
+  new_are = all-done (λ (y : SeatStep). y.new) new p.steps p.rest p.new_are (p.count ∙ n);
+  told_are = sym (all-done tell told p.steps p.untold p.told_are (p.count ∙ t));
+  output_is = p.output_is;
+}
+
+-- the number of bytes of the output image stays
+kept-by : (at len : ℕ) (sent image : List ℕ) (b : Bool) → (length sent == len) ≡ b → at + len ≤ length image → length (if b then with_bytes at sent image else image) ≡ length image
+kept-by at len sent image true h inside = same_size at sent image (grind (arith, nat_tests))
+kept-by at len sent image false h inside = refl
+
+pub sent_size : (seat : Seat) (sent image : List ℕ) → seat.at_out + seat.len_out ≤ length image → length (with_sent seat sent image) ≡ length image
+sent_size seat sent image inside = kept-by seat.at_out seat.len_out sent image (length sent == seat.len_out) refl inside
+
+pub does_size : {T : Type 0} (Q : SeatStep → Type 0) (tell : SeatStep → T) (old new : Seat) (before after : List ℕ) (told : T) → Does Q tell old before new after told → old.at_out + old.len_out ≤ length before
+    → length after ≡ length before
+does_size Q tell old new before after told d inside = ap length d.output_is ∙ kept-by old.at_out old.len_out d.step.sent before (length d.step.sent == old.len_out) refl inside
+
+-- there is something at each place of a list
+pub some_at : {A : Type 0} (xs : List A) (k : ℕ) → k < length xs → (x : A) × (slice_get xs k ≡ Some x)
+some_at [] k h = absurd (omega arith)
+some_at (a ∷ xs) zero h = (a, refl)
+some_at (a ∷ xs) (suc k) h = some_at xs k (omega arith)
+
+-- a later place is as before
+pub set_before : {A : Type 0} (xs : List A) (i k : ℕ) (y : A) → i < k → slice_get (slice_set xs i y) k ≡ slice_get xs k
+set_before [] i k y h = refl
+set_before (a ∷ xs) zero zero y h = absurd (omega arith)
+set_before (a ∷ xs) zero (suc k) y h = refl
+set_before (a ∷ xs) (suc i) zero y h = absurd (omega arith)
+set_before (a ∷ xs) (suc i) (suc k) y h = set_before xs i k y (omega arith)

@@ -1,0 +1,198 @@
+-- A call that is a move of one slot, or of none.
+use Rattle.std.proofs.Common.{◌≡◌, ◌<◌, ℕ, zero, suc, ◌+◌, ◌==◌, List, [], ◌∷◌, map, slice_get, slice_set, All, Some, None, Bool, true, false, if◌then◌else◌, refl, sym, ap, subst, ◌∙◌, arith}
+use Rattle.std.specs.List.{AllZip}
+use Rattle.std.proofs.lemmas.Bool.Decides.{nat_tests}
+use Rattle.std.proofs.lemmas.List.Elements.{All-head, All-tail}
+use Rattle.fsoe_base.specs.Did.{nothing}
+use Rattle.fsoe_base.specs.declared.did.Did.{Did}
+use Rattle.param_load.specs.declared.entry.Move.{Move}
+use Rattle.param_load.specs.declared.entry.Move.TheVariants as move
+use Rattle.end_core.specs.Core.{setup_of, IsAtRest}
+use Rattle.end_core.specs.Standing as end_core
+use Rattle.end_core.specs.declared.one_end.Core.{Core}
+use Rattle.process_image.specs.Calls.{move_in, if_named, contents}
+use Rattle.process_image.specs.Fault.{AreNumbered}
+use Rattle.process_image.specs.Image.{with_bytes, input, sampled}
+use Rattle.process_image.specs.Places.{Place}
+use Rattle.process_image.specs.Sound.{IsSoundSeat}
+use Rattle.process_image.specs.Standing.{ImagesView, IsSeatOf, Follows}
+use Rattle.process_image.specs.Steps.{SeatStep, IsSeatStep, with_sent, after_steps}
+use Rattle.process_image.specs.declared.event.ImageEvent.{ImageEvent}
+use Rattle.process_image.specs.declared.event.ImageEvent.TheVariants as event
+use Rattle.process_image.specs.declared.seat.Seat.{Seat}
+use Rattle.process_image.proofs.Following.{IsPart, stands_more}
+use Rattle.process_image.proofs.Seats.{stays}
+use Rattle.process_image.proofs.Zips.{all_at}
+
+-- a slot of which a call is no move
+abbrev pub still : Seat → SeatStep
+still seat = record { old = seat; what = None; did = nothing; sent = []; new = seat }
+
+-- a call after which the slots have seen what they saw before
+abbrev Unsampled : ℕ → List ImageEvent → ImageEvent → Type 0
+Unsampled size calls call = sampled size (call ∷ calls) ≡ sampled size calls
+
+still-part : (size si so : ℕ) (calls : List ImageEvent) (call : ImageEvent) (p : Place) (seat : Seat) → IsSeatOf size calls p seat → IsSoundSeat si so seat → move_in size p calls call ≡ None
+    → Unsampled size calls call → IsPart size calls call p (still seat)
+still-part size si so calls call p seat h s none same = record {
+  before = h;
+  is = record { makes = (refl, refl); at_in_is = refl; at_out_is = refl; len_out_is = refl; seen_len = refl; setup = refl; rest = s.rest };
+  what_is = sym none;
+  seen_is = h.seen_is ∙ ap (contents p) (sym same);
+  len_is = s.len_out_is;
+}
+
+-- no slot moves
+still-parts : (size si so : ℕ) (calls : List ImageEvent) (call : ImageEvent) (places : List Place) (seats : List Seat) → AllZip (IsSeatOf size calls) places seats → All (IsSoundSeat si so) seats
+    → ((p : Place) → move_in size p calls call ≡ None) → Unsampled size calls call → AllZip (IsPart size calls call) places (map still seats)
+still-parts size si so calls call [] [] h s none same = tt
+still-parts size si so calls call [] (seat ∷ seats) h s none same = absurd h
+still-parts size si so calls call (p ∷ places) [] h s none same = absurd h
+still-parts size si so calls call (p ∷ places) (seat ∷ seats) h s none same =
+    (still-part size si so calls call p seat h.0 (All-head (IsSoundSeat si so) seat seats s) (none p) same, still-parts size si so calls call places seats h.1 (All-tail (IsSoundSeat si so) seat seats s) none same)
+
+still-new : (seats : List Seat) → map (λ x. x.new) (map still seats) ≡ seats
+still-new [] = refl
+still-new (seat ∷ seats) = ap (λ rest. seat ∷ rest) (still-new seats)
+
+still-out : (si so : ℕ) (seats : List Seat) (image : List ℕ) → All (IsSoundSeat si so) seats → image ≡ after_steps (map still seats) image
+still-out si so [] image s = refl
+still-out si so (seat ∷ seats) image s =
+    still-out si so seats image (All-tail (IsSoundSeat si so) seat seats s) ∙ ap (after_steps (map still seats)) (stays si so seat image (All-head (IsSoundSeat si so) seat seats s))
+
+-- bytes are written
+pub write_follows : (si so : ℕ) (old new : ImagesView) (at : ℕ) (bytes : List ℕ) → All (IsSoundSeat si so) old.seats → new.seats ≡ old.seats → new.input ≡ with_bytes at bytes old.input
+    → new.output ≡ old.output → Follows old (event.Write at bytes) new
+write_follows si so old new at bytes s seats now out = record {
+  stands = λ plan calls h.
+      stands_more plan old new calls (event.Write at bytes) (map still old.seats) h
+      (still-parts plan.size_in si so calls (event.Write at bytes) plan.places old.seats h.slots s (λ p. refl) refl)
+      (still-new old.seats ∙ sym seats) (now ∙ ap (with_bytes at bytes) h.input_is) (out ∙ still-out si so old.seats old.output s);
+}
+
+-- the steps where one slot moves, at a place
+abbrev pub one_moves : ℕ → List Seat → SeatStep → List SeatStep
+one_moves k [] x = []
+one_moves zero (seat ∷ seats) x = x ∷ map still seats
+one_moves (suc k) (seat ∷ seats) x = still seat ∷ one_moves k seats x
+
+-- a call that names a slot
+abbrev Names : ImageEvent → ℕ → Move → Type 0
+Names call slot what = (size : ℕ) (p : Place) (calls : List ImageEvent) → move_in size p calls call ≡ if_named slot p what
+
+other : (slot : ℕ) (p : Place) (what : Move) (n : ℕ) → p.number ≡ n → slot < n → if_named slot p what ≡ None
+other slot p what n e h = let q : (slot == p.number) ≡ false = grind (arith, nat_tests) in ap (λ b. if b then Some what else None) q
+
+before-it : (slot : ℕ) (p : Place) (what : Move) (n : ℕ) → p.number ≡ n → n < slot → if_named slot p what ≡ None
+before-it slot p what n e h = let q : (slot == p.number) ≡ false = grind (arith, nat_tests) in ap (λ b. if b then Some what else None) q
+
+it : (slot : ℕ) (p : Place) (what : Move) → p.number ≡ slot → if_named slot p what ≡ Some what
+it slot p what e = let q : (slot == p.number) ≡ true = grind (arith, nat_tests) in ap (λ b. if b then Some what else None) q
+
+later-parts : (size si so n slot : ℕ) (what : Move) (calls : List ImageEvent) (call : ImageEvent) (places : List Place) (seats : List Seat) → AllZip (IsSeatOf size calls) places seats
+    → All (IsSoundSeat si so) seats → AreNumbered n places → slot < n → Names call slot what → Unsampled size calls call → AllZip (IsPart size calls call) places (map still seats)
+later-parts size si so n slot what calls call [] [] h s numbers late names same = tt
+later-parts size si so n slot what calls call [] (seat ∷ seats) h s numbers late names same = absurd h
+later-parts size si so n slot what calls call (p ∷ places) [] h s numbers late names same = absurd h
+later-parts size si so n slot what calls call (p ∷ places) (seat ∷ seats) h s numbers late names same = (
+  still-part size si so calls call p seat h.0 (All-head (IsSoundSeat si so) seat seats s) (names size p calls ∙ other slot p what n numbers.0 late) same,
+  later-parts size si so (suc n) slot what calls call places seats h.1 (All-tail (IsSoundSeat si so) seat seats s) numbers.1 (omega arith) names same,
+)
+
+-- the step of the slot that is named
+pub record IsNamedStep (what : Move) (x : SeatStep) : Type 0 where
+  pub is : IsSeatStep x
+  pub what_is : x.what ≡ Some what
+  pub seen_is : x.new.seen ≡ x.old.seen
+
+named-part : (size si so slot : ℕ) (what : Move) (calls : List ImageEvent) (call : ImageEvent) (p : Place) (x : SeatStep) → IsSeatOf size calls p x.old → IsSoundSeat si so x.old → p.number ≡ slot
+    → IsNamedStep what x → Names call slot what → Unsampled size calls call → IsPart size calls call p x
+named-part size si so slot what calls call p x h s n x-is names same = record {
+  before = h;
+  is = x-is.is;
+  what_is = x-is.what_is ∙ sym (names size p calls ∙ it slot p what n);
+  seen_is = x-is.seen_is ∙ h.seen_is ∙ ap (contents p) (sym same);
+  len_is = s.len_out_is;
+}
+
+one-parts : (size si so n k slot : ℕ) (what : Move) (calls : List ImageEvent) (call : ImageEvent) (places : List Place) (seats : List Seat) (x : SeatStep) → AllZip (IsSeatOf size calls) places seats
+    → All (IsSoundSeat si so) seats → AreNumbered n places → slot ≡ n + k → slice_get seats k ≡ Some x.old → IsNamedStep what x → Names call slot what → Unsampled size calls call
+    → AllZip (IsPart size calls call) places (one_moves k seats x)
+one-parts size si so n k slot what calls call [] [] x h s numbers e at x-is names same = absurd (cc at)
+one-parts size si so n k slot what calls call [] (seat ∷ seats) x h s numbers e at x-is names same = absurd h
+one-parts size si so n k slot what calls call (p ∷ places) [] x h s numbers e at x-is names same = absurd h
+one-parts size si so n zero slot what calls call (p ∷ places) (seat ∷ seats) x h s numbers e at x-is names same =
+    let i : seat ≡ x.old = cc in (
+      named-part size si so slot what calls call p x (subst (IsSeatOf size calls p) i h.0) (subst (IsSoundSeat si so) i (All-head (IsSoundSeat si so) seat seats s)) (grind arith) x-is names same,
+      later-parts size si so (suc n) slot what calls call places seats h.1 (All-tail (IsSoundSeat si so) seat seats s) numbers.1 (omega arith) names same,
+    )
+one-parts size si so n (suc k) slot what calls call (p ∷ places) (seat ∷ seats) x h s numbers e at x-is names same = (
+  still-part size si so calls call p seat h.0 (All-head (IsSoundSeat si so) seat seats s) (names size p calls ∙ before-it slot p what n numbers.0 (omega arith)) same,
+  one-parts size si so (suc n) k slot what calls call places seats x h.1 (All-tail (IsSoundSeat si so) seat seats s) numbers.1 (omega arith) at x-is names same,
+)
+
+one-new : (k : ℕ) (seats : List Seat) (x : SeatStep) → map (λ y. y.new) (one_moves k seats x) ≡ slice_set seats k x.new
+one-new k [] x = refl
+one-new zero (seat ∷ seats) x = ap (λ rest. x.new ∷ rest) (still-new seats)
+one-new (suc k) (seat ∷ seats) x = ap (λ rest. seat ∷ rest) (one-new k seats x)
+
+one-out : (si so k : ℕ) (seats : List Seat) (x : SeatStep) (image : List ℕ) → All (IsSoundSeat si so) seats → slice_get seats k ≡ Some x.old
+    → with_sent x.old x.sent image ≡ after_steps (one_moves k seats x) image
+one-out si so k [] x image s at = absurd (cc at)
+one-out si so zero (seat ∷ seats) x image s at = still-out si so seats (with_sent x.old x.sent image) (All-tail (IsSoundSeat si so) seat seats s)
+one-out si so (suc k) (seat ∷ seats) x image s at =
+    one-out si so k seats x image (All-tail (IsSoundSeat si so) seat seats s) at
+    ∙ ap (after_steps (one_moves k seats x)) (stays si so seat image (All-head (IsSoundSeat si so) seat seats s))
+
+-- one slot moves, and the input image stays
+one-follows : (si so k slot : ℕ) (what : Move) (call : ImageEvent) (old new : ImagesView) (x : SeatStep) → All (IsSoundSeat si so) old.seats → slot ≡ 1 + k → slice_get old.seats k ≡ Some x.old
+    → IsNamedStep what x → Names call slot what → ((size : ℕ) (calls : List ImageEvent) → Unsampled size calls call) → ((size : ℕ) (calls : List ImageEvent) → input size (call ∷ calls) ≡ input size calls)
+    → new.seats ≡ slice_set old.seats k x.new → new.input ≡ old.input → new.output ≡ with_sent x.old x.sent old.output → Follows old call new
+one-follows si so k slot what call old new x s e at x-is names same unwritten seats now out = record {
+  stands = λ plan calls h.
+      stands_more plan old new calls call (one_moves k old.seats x) h
+      (one-parts plan.size_in si so 1 k slot what calls call plan.places old.seats x h.slots s h.made.numbers e at x-is names (same plan.size_in calls))
+      (one-new k old.seats x ∙ sym seats) (now ∙ h.input_is ∙ sym (unwritten plan.size_in calls)) (out ∙ one-out si so k old.seats x old.output s at);
+}
+
+-- what a call made of the end of a slot
+pub record Moved (what : Move) (old : Seat) (end : Core) (did : Did) (sent : List ℕ) : Type 0 where
+  pub follows : end_core.Follows old.core what end
+  pub answers : end_core.Answers old.core what did sent
+  pub setup : setup_of end ≡ setup_of old.core
+  pub rest : IsAtRest end
+
+abbrev pub step_to : Move → Seat → Core → Did → List ℕ → SeatStep
+step_to what old end did sent = record { old = old; what = Some what; did = did; sent = sent; new = record old { core = end } }
+
+named-step : (what : Move) (old : Seat) (end : Core) (did : Did) (sent : List ℕ) → Moved what old end did sent → IsNamedStep what (step_to what old end did sent)
+named-step what old end did sent m = record {
+  is = record { makes = (m.follows, m.answers); at_in_is = refl; at_out_is = refl; len_out_is = refl; seen_len = refl; setup = m.setup; rest = m.rest };
+  what_is = refl;
+  seen_is = refl;
+}
+
+pub put_follows : (si so k slot : ℕ) (load : List ℕ) (old new : ImagesView) (seat : Seat) (end : Core) → All (IsSoundSeat si so) old.seats → slot ≡ 1 + k → slice_get old.seats k ≡ Some seat
+    → Moved (move.Put load) seat end nothing [] → new.seats ≡ slice_set old.seats k (record seat { core = end }) → new.input ≡ old.input → new.output ≡ old.output → Follows old (event.Put slot load) new
+put_follows si so k slot load old new seat end s e at m seats now out =
+    one-follows si so k slot (move.Put load) (event.Put slot load) old new (step_to (move.Put load) seat end nothing []) s e at (named-step (move.Put load) seat end nothing [] m)
+    (λ size p calls. refl) (λ size calls. refl) (λ size calls. refl) seats now (out ∙ stays si so seat old.output (all_at (IsSoundSeat si so) old.seats k seat s at))
+
+pub hold_follows : (si so k slot : ℕ) (failsafe : Bool) (old new : ImagesView) (seat : Seat) (end : Core) → All (IsSoundSeat si so) old.seats → slot ≡ 1 + k → slice_get old.seats k ≡ Some seat
+    → Moved (move.Hold failsafe) seat end nothing [] → new.seats ≡ slice_set old.seats k (record seat { core = end }) → new.input ≡ old.input → new.output ≡ old.output → Follows old (event.Hold slot failsafe) new
+hold_follows si so k slot failsafe old new seat end s e at m seats now out =
+    one-follows si so k slot (move.Hold failsafe) (event.Hold slot failsafe) old new (step_to (move.Hold failsafe) seat end nothing []) s e at (named-step (move.Hold failsafe) seat end nothing [] m)
+    (λ size p calls. refl) (λ size calls. refl) (λ size calls. refl) seats now (out ∙ stays si so seat old.output (all_at (IsSoundSeat si so) old.seats k seat s at))
+
+pub nonce_follows : (si so k slot : ℕ) (id : ℕ) (old new : ImagesView) (seat : Seat) (end : Core) → All (IsSoundSeat si so) old.seats → slot ≡ 1 + k → slice_get old.seats k ≡ Some seat
+    → Moved (move.Nonce id) seat end nothing [] → new.seats ≡ slice_set old.seats k (record seat { core = end }) → new.input ≡ old.input → new.output ≡ old.output → Follows old (event.Nonce slot id) new
+nonce_follows si so k slot id old new seat end s e at m seats now out =
+    one-follows si so k slot (move.Nonce id) (event.Nonce slot id) old new (step_to (move.Nonce id) seat end nothing []) s e at (named-step (move.Nonce id) seat end nothing [] m)
+    (λ size p calls. refl) (λ size calls. refl) (λ size calls. refl) seats now (out ∙ stays si so seat old.output (all_at (IsSoundSeat si so) old.seats k seat s at))
+
+pub reset_follows : (si so k slot : ℕ) (old new : ImagesView) (seat : Seat) (end : Core) (did : Did) (sent : List ℕ) → All (IsSoundSeat si so) old.seats → slot ≡ 1 + k
+    → slice_get old.seats k ≡ Some seat → Moved move.Local seat end did sent → new.seats ≡ slice_set old.seats k (record seat { core = end }) → new.input ≡ old.input
+    → new.output ≡ with_sent seat sent old.output → Follows old (event.Reset slot) new
+reset_follows si so k slot old new seat end did sent s e at m seats now out =
+    one-follows si so k slot move.Local (event.Reset slot) old new (step_to move.Local seat end did sent) s e at (named-step move.Local seat end did sent m)
+    (λ size p calls. refl) (λ size calls. refl) (λ size calls. refl) seats now out

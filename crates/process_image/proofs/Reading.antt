@@ -1,0 +1,74 @@
+-- What is shown of one slot.
+use Rattle.std.proofs.Common.{◌≡◌, ◌≤◌, ◌+◌, ◌-◌, ℕ, zero, suc, take, drop, length-take, arith, List, [], ◌∷◌, map, length, slice_get, Some, IfSome, sym, ap, ◌∙◌}
+use Rattle.std.proofs.lemmas.Bool.Decides.{nat_tests}
+use Rattle.fsoe_base.specs.declared.did.Did.{Did}
+use Rattle.param_load.specs.declared.entry.Move.TheVariants as move
+use Rattle.end_model.specs.Deed.{Deed}
+use Rattle.end_model.specs.Setup.{Setup, sends}
+use Rattle.end_model.proofs.ReadBack.{valid_length}
+use Rattle.end_core.specs.Core.{setup_of}
+use Rattle.end_core.specs.Standing as end_core
+use Rattle.fsoe_base.specs.Lengths.{frame_len}
+use Rattle.process_image.specs.Calls.{deeds, frame_of, last_frame, output}
+use Rattle.process_image.specs.Image.{bytes_at}
+use Rattle.process_image.specs.Places.{Place}
+use Rattle.process_image.specs.Sound.{IsSoundSeat}
+use Rattle.process_image.specs.Standing.{ImagesView, IsSeatOf, ShowsAt, AnswersReset, numbered, setups_of}
+use Rattle.process_image.specs.declared.seat.Seat.{Seat}
+use Rattle.process_image.proofs.Beginning.{frame_most}
+use Rattle.process_image.proofs.Following.{setup_is}
+use Rattle.process_image.proofs.Frames.{holds_frames}
+use Rattle.process_image.proofs.Giving.{len_at}
+use Rattle.process_image.proofs.Zips.{all_at, at_place}
+
+-- a word of the end of a slot at a place is that word of what it did
+pub shown_at : {X : Type 0} (v : ImagesView) (slot place : ℕ) (seat : Seat) (shown : X) (word : Setup → List Deed → X) → slot ≡ suc place → slice_get v.seats place ≡ Some seat
+    → end_core.Shows seat.core shown word → ShowsAt v slot shown word
+shown_at v slot place seat shown word n at s = record {
+  shows = λ plan calls h.
+      let p = at_place (IsSeatOf plan.size_in calls) plan.places v.seats place seat h.slots at in
+      rw (n, p.is) (ap (λ x. Some x) (sym (s.shows p.there.setup (deeds plan.size_in p.there calls) p.holds.end_is)));
+}
+
+-- what the end of a slot did at a reset is what is told of it
+pub reset_answers : (v : ImagesView) (slot place : ℕ) (seat : Seat) (did : Did) (sent : List ℕ) → slot ≡ suc place → slice_get v.seats place ≡ Some seat → end_core.Answers seat.core move.Local did sent
+    → AnswersReset v slot did
+reset_answers v slot place seat did sent n at a = record {
+  did = λ plan calls h.
+      let p = at_place (IsSeatOf plan.size_in calls) plan.places v.seats place seat h.slots at in
+      rw (n, p.is) (ap (λ (d : Did). Some d) (sym (a.did p.there.setup (deeds plan.size_in p.there calls) p.holds.end_is)));
+}
+
+-- what is known of the setup of the end of a slot
+named-setup : (seats : List Seat) (k : ℕ) (seat : Seat) (P : Setup → Type 0) → slice_get seats k ≡ Some seat → P (setup_of seat.core) → IfSome (slice_get (map (λ s. setup_of s.core) seats) k) P
+named-setup [] k seat P at h = absurd (cc at)
+named-setup (x ∷ seats) zero seat P at h = let i : x ≡ seat = cc in rw i h
+named-setup (x ∷ seats) (suc k) seat P at h = named-setup seats k seat P at h
+
+pub named_at : (v : ImagesView) (slot place : ℕ) (seat : Seat) (P : Setup → Type 0) → slot ≡ suc place → slice_get v.seats place ≡ Some seat → P (setup_of seat.core) → IfSome (numbered slot (setups_of v)) P
+named_at v slot place seat P n at h = rw n (named-setup v.seats place seat P at h)
+
+-- the last frame of a slot is what stands in its place
+pub frame_shown : (v : ImagesView) (si so slot place : ℕ) (seat : Seat) (shown : List ℕ) → IsSoundSeat si so seat → slot ≡ suc place → slice_get v.seats place ≡ Some seat → shown ≡ bytes_at seat.at_out seat.len_out v.output
+    → ShowsAt v slot shown last_frame
+frame_shown v si so slot place seat shown s n at e = record {
+  shows = λ plan calls h.
+      let p = at_place (IsSeatOf plan.size_in calls) plan.places v.seats place seat h.slots at in
+      let q : Place = p.there in
+      let len : seat.len_out ≡ len_at q = s.len_out_is ∙ ap (λ (t : Setup). frame_len (sends t)) (setup_is q.setup seat.core (deeds plan.size_in q calls) p.holds.end_is) in
+      let has : bytes_at q.at_out (len_at q) (output plan calls) ≡ frame_of plan.size_in calls q =
+      all_at (λ q. bytes_at q.at_out (len_at q) (output plan calls) ≡ frame_of plan.size_in calls q) plan.places place q (holds_frames plan v calls h).frames p.is
+      in
+      let is : shown ≡ frame_of plan.size_in calls q =
+      e ∙ ap (λ (a : ℕ). bytes_at a seat.len_out v.output) p.holds.at_out_is ∙ ap (λ (l : ℕ). bytes_at q.at_out l v.output) len ∙ ap (bytes_at q.at_out (len_at q)) h.output_is ∙ has
+      in
+      rw (n, p.is) (ap (λ (f : List ℕ). Some f) (sym is));
+}
+
+-- and has at most 255 bytes
+pub frame_short : (si so : ℕ) (seat : Seat) (image : List ℕ) → IsSoundSeat si so seat → length (take (seat.at_out + seat.len_out - seat.at_out) (drop seat.at_out image)) ≤ 255
+frame_short si so seat image s =
+    let most : frame_len (sends (setup_of seat.core)) ≤ 255 = frame_most (sends (setup_of seat.core)) (valid_length (setup_of seat.core)) in
+    let few = length-take (seat.at_out + seat.len_out - seat.at_out) (drop seat.at_out image) in
+    let len = s.len_out_is in
+    grind (arith, nat_tests)

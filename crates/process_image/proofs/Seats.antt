@@ -1,0 +1,112 @@
+-- One slot at a sample and at a tick.
+use Rattle.std.proofs.Common.{◌≡◌, ℕ, ◌+◌, ◌-◌, ◌*◌, ◌==◌, ◌≤◌, List, [], length, take, drop, min, Some, None, Bool, true, false, if◌then◌else◌, nat_eq, refl, sym, ap, subst, ◌∙◌, arith}
+use Rattle.std.proofs.lemmas.Grind.{common_steps}
+use Rattle.std.proofs.lemmas.List.{length-take, length-drop}
+use Rattle.std.specs.Cmp.Lexicographic.{pointwise, same_text}
+use Rattle.fsoe_base.specs.Did.{nothing}
+use Rattle.fsoe_base.specs.Lengths.{frame_len}
+use Rattle.fsoe_base.specs.declared.did.Did.{Did}
+use Rattle.param_load.specs.declared.entry.Move.TheVariants as move
+use Rattle.end_model.specs.Setup.{sends}
+use Rattle.end_core.specs.Core.{setup_of, IsAtRest}
+use Rattle.end_core.specs.Standing.{Follows, Answers}
+use Rattle.end_core.specs.declared.one_end.Core.{Core}
+use Rattle.process_image.specs.Calls.{delivery}
+use Rattle.process_image.specs.Image.{bytes_at, with_bytes}
+use Rattle.process_image.specs.Sound.{IsSoundSeat}
+use Rattle.process_image.specs.Steps.{Does, IsSampleStep, IsTickStep, told_by, did_in, seat_contents, with_sent}
+use Rattle.process_image.specs.declared.seat.Seat.{Seat}
+
+-- a frame has some bytes
+some-bytes : (b : Bool) (l : ℕ) → (0 == (if b then 6 else 3 + 2 * l)) ≡ false
+some-bytes true l = refl
+some-bytes false l = grind arith
+
+pub some_frame : (l : ℕ) → (0 == frame_len l) ≡ false
+some_frame l = some-bytes (l == 1) l
+
+-- where nothing was sent the image stays
+none-sent : (seat : Seat) (image : List ℕ) → (0 == seat.len_out) ≡ false → image ≡ with_sent seat [] image
+none-sent seat image h = sym (ap (λ b. if b then with_bytes seat.at_out [] image else image) h)
+
+pub stays : (size_in size_out : ℕ) (seat : Seat) (image : List ℕ) → IsSoundSeat size_in size_out seat → image ≡ with_sent seat [] image
+stays size_in size_out seat image s = none-sent seat image (subst (λ (n : ℕ). (0 == n) ≡ false) (sym s.len_out_is) (some_frame (sends (setup_of seat.core))))
+
+-- contents that were seen aren't delivered
+pub samples_none : (size_in size_out : ℕ) (input : List ℕ) (seat : Seat) (image : List ℕ) → IsSoundSeat size_in size_out seat → pointwise nat_eq seat.seen (seat_contents seat input) ≡ true
+    → Does (IsSampleStep input) told_by seat image seat image None
+samples_none size_in size_out input seat image s h = record {
+  step = record { old = seat; what = None; did = nothing; sent = []; new = seat };
+  is = record {
+    is = record { makes = (refl, refl); at_in_is = refl; at_out_is = refl; len_out_is = refl; seen_len = refl; setup = refl; rest = s.rest };
+    what_is = sym (ap (λ b. if b then None else Some (move.Deliver (seat_contents seat input))) h);
+    seen_is = same_text seat.seen (seat_contents seat input) (sym h);
+  };
+  old_is = refl;
+  new_is = refl;
+  told_is = refl;
+  output_is = stays size_in size_out seat image s;
+}
+
+-- the contents of a slot have the length of the frames that come
+contents-long : (at len : ℕ) (input : List ℕ) → at + len ≤ length input → length (bytes_at at len input) ≡ len
+contents-long at len input h =
+    let n : at + len - at ≡ len = omega arith in
+    let t : length (take (at + len - at) (drop at input)) ≡ min (at + len - at) (length (drop at input)) = length-take (at + len - at) (drop at input) in
+    let d : length (drop at input) ≡ length input - at = length-drop at input in
+    grind (arith, common_steps)
+
+-- other contents are
+pub samples_some : (size_out : ℕ) (input : List ℕ) (old : Seat) (before after : List ℕ) (core : Core) (did : Did) (sent seen now : List ℕ) → IsSoundSeat (length input) size_out old
+    → now ≡ seat_contents old input → pointwise nat_eq old.seen now ≡ false → seen ≡ now → Follows old.core (move.Deliver now) core → Answers old.core (move.Deliver now) did sent
+    → setup_of core ≡ setup_of old.core → IsAtRest core → after ≡ with_sent old sent before
+    → Does (IsSampleStep input) told_by old before (record { at_in = old.at_in; at_out = old.at_out; len_out = old.len_out; core = core; seen = seen }) after (Some did)
+samples_some size_out input old before after core did sent seen now s e h same f a setup rest out = record {
+  step = record {
+    old = old;
+    what = Some (move.Deliver now);
+    did = did;
+    sent = sent;
+    new = record { at_in = old.at_in; at_out = old.at_out; len_out = old.len_out; core = core; seen = seen };
+  };
+  is = record {
+    is = record {
+      makes = (f, a);
+      at_in_is = refl;
+      at_out_is = refl;
+      len_out_is = refl;
+      seen_len = ap length (same ∙ e) ∙ contents-long old.at_in (length old.seen) input s.inside_in;
+      setup = setup;
+      rest = rest;
+    };
+    what_is = sym (ap (delivery old.seen) (sym e) ∙ ap (λ b. if b then None else Some (move.Deliver now)) h);
+    seen_is = same ∙ e;
+  };
+  old_is = refl;
+  new_is = refl;
+  told_is = refl;
+  output_is = out;
+}
+
+-- a tick
+pub ticks_seat : (old : Seat) (before after : List ℕ) (core : Core) (did : Did) (sent : List ℕ) → Follows old.core move.Tick core → Answers old.core move.Tick did sent
+    → setup_of core ≡ setup_of old.core → IsAtRest core → after ≡ with_sent old sent before
+    → Does IsTickStep did_in old before (record { at_in = old.at_in; at_out = old.at_out; len_out = old.len_out; core = core; seen = old.seen }) after did
+ticks_seat old before after core did sent f a setup rest out = record {
+  step = record {
+    old = old;
+    what = Some move.Tick;
+    did = did;
+    sent = sent;
+    new = record { at_in = old.at_in; at_out = old.at_out; len_out = old.len_out; core = core; seen = old.seen };
+  };
+  is = record {
+    is = record { makes = (f, a); at_in_is = refl; at_out_is = refl; len_out_is = refl; seen_len = refl; setup = setup; rest = rest };
+    what_is = refl;
+    seen_is = refl;
+  };
+  old_is = refl;
+  new_is = refl;
+  told_is = refl;
+  output_is = out;
+}

@@ -1,0 +1,79 @@
+-- Images at which the end of one slot was called.
+use Rattle.std.proofs.Common.{◌≡◌, ◌≤◌, ℕ, zero, suc, List, [], ◌∷◌, map, length, slice_get, slice_set, All, Option, Some, IfSome, refl, sym, ap, subst, ◌∙◌}
+use Rattle.std.proofs.lemmas.List.{length-set}
+use Rattle.fsoe_base.specs.Did.{nothing}
+use Rattle.fsoe_base.specs.Lengths.{frame_len}
+use Rattle.param_load.specs.declared.entry.Move.{Move}
+use Rattle.param_load.specs.declared.entry.Move.TheVariants as move
+use Rattle.end_model.specs.Deed.{IsSetting}
+use Rattle.end_model.specs.Setup.{Setup, sends, receives}
+use Rattle.end_core.specs.Core.{setup_of, IsAtRest}
+use Rattle.end_core.specs.Standing as end_core
+use Rattle.end_core.specs.declared.one_end.Core.{Core}
+use Rattle.process_image.specs.Sound.{IsSoundSeat, IsSound}
+use Rattle.process_image.specs.Standing.{ImagesView, numbered, setups_of}
+use Rattle.process_image.specs.declared.seat.Seat.{Seat}
+use Rattle.process_image.proofs.One.{Moved}
+use Rattle.process_image.proofs.Zips.{all_at, all_set, map_set}
+
+-- a seat with another end in it
+abbrev pub with_end : Core → Seat → Seat
+with_end end seat = record seat { core = end }
+
+-- a put, a hold and a nonce do nothing else and send nothing
+set-answers : (old : Core) (what : Move) → IsSetting what → end_core.Answers old what nothing []
+set-answers old (move.Put load) k = record { did = λ s e h. refl; sent = λ s e h. refl }
+set-answers old (move.Hold failsafe) k = record { did = λ s e h. refl; sent = λ s e h. refl }
+set-answers old (move.Nonce id) k = record { did = λ s e h. refl; sent = λ s e h. refl }
+set-answers old (move.Deliver bytes) k = absurd k
+set-answers old move.Tick k = absurd k
+set-answers old move.Local k = absurd k
+
+pub set_moved : (what : Move) (seat : Seat) (end : Core) → IsSetting what → end_core.Follows seat.core what end → setup_of end ≡ setup_of seat.core → IsAtRest end → Moved what seat end nothing []
+set_moved what seat end k f setup rest = record { follows = f; answers = set-answers seat.core what k; setup = setup; rest = rest }
+
+-- what a slot's end is set to, where it is named
+at-setup : (seats : List Seat) (k : ℕ) (seat : Seat) → slice_get seats k ≡ Some seat → slice_get (map (λ s. setup_of s.core) seats) k ≡ Some (setup_of seat.core)
+at-setup [] k seat h = absurd (cc h)
+at-setup (x ∷ seats) zero seat h = let i : x ≡ seat = cc in ap (λ (s : Seat). Some (setup_of s.core)) i
+at-setup (x ∷ seats) (suc k) seat h = at-setup seats k seat h
+
+pub named_setup : (v : ImagesView) (slot k : ℕ) (seat : Seat) (P : Setup → Type 0) → slot ≡ suc k → slice_get v.seats k ≡ Some seat → IfSome (numbered slot (setups_of v)) P → P (setup_of seat.core)
+named_setup v slot k seat P n at h =
+    let named : IfSome (slice_get (setups_of v) k) P = subst (λ (slot : ℕ). IfSome (numbered slot (setups_of v)) P) n h in
+    subst (λ (o : Option Setup). IfSome o P) (at-setup v.seats k seat at) named
+
+-- it is at rest
+pub at_rest : (v : ImagesView) (k : ℕ) (seat : Seat) → IsSound v → slice_get v.seats k ≡ Some seat → IsAtRest seat.core
+at_rest v k seat s at = (all_at (IsSoundSeat (length v.input) (length v.output)) v.seats k seat s.seats at).rest
+
+-- a seat stays sound with an end that is set alike
+sound-end : (si so : ℕ) (seat : Seat) (end : Core) → IsSoundSeat si so seat → setup_of end ≡ setup_of seat.core → IsAtRest end → IsSoundSeat si so (with_end end seat)
+sound-end si so seat end s setup rest = record {
+  rest = rest;
+  seen_len = s.seen_len ∙ ap (λ (t : Setup). frame_len (receives t)) (sym setup);
+  len_out_is = s.len_out_is ∙ ap (λ (t : Setup). frame_len (sends t)) (sym setup);
+  inside_in = s.inside_in;
+  inside_out = s.inside_out;
+}
+
+pub set_sound : (v : ImagesView) (k : ℕ) (seat : Seat) (end : Core) → IsSound v → slice_get v.seats k ≡ Some seat → setup_of end ≡ setup_of seat.core → IsAtRest end
+    → IsSound (record { seats = slice_set v.seats k (with_end end seat); input = v.input; output = v.output })
+set_sound v k seat end s at setup rest =
+    let P : Seat → Type 0 = IsSoundSeat (length v.input) (length v.output) in
+    record {
+      seats = all_set P v.seats k (with_end end seat) s.seats (sound-end (length v.input) (length v.output) seat end (all_at P v.seats k seat s.seats at) setup rest);
+      most = subst (λ (n : ℕ). n ≤ 64) (sym (length-set v.seats k (with_end end seat))) s.most;
+    }
+
+-- the ends are set as before
+pub set_setups : (v : ImagesView) (k : ℕ) (seat : Seat) (end : Core) → slice_get v.seats k ≡ Some seat → setup_of end ≡ setup_of seat.core
+    → map (λ s. setup_of s.core) (slice_set v.seats k (with_end end seat)) ≡ setups_of v
+set_setups v k seat end at setup = map_set (λ (s : Seat). setup_of s.core) v.seats k seat (with_end end seat) at setup
+
+-- so are images whose output image changed too, with as many bytes
+pub reset_sound : (v : ImagesView) (k : ℕ) (seat : Seat) (end : Core) (after : List ℕ) → IsSound v → slice_get v.seats k ≡ Some seat → setup_of end ≡ setup_of seat.core → IsAtRest end → length after ≡ length v.output
+    → IsSound (record { seats = slice_set v.seats k (with_end end seat); input = v.input; output = after })
+reset_sound v k seat end after s at setup rest n =
+    let t = set_sound v k seat end s at setup rest in
+    record { seats = subst (λ (so : ℕ). All (IsSoundSeat (length v.input) so) (slice_set v.seats k (with_end end seat))) (sym n) t.seats; most = t.most }

@@ -1,0 +1,128 @@
+-- A sample and a tick of all slots, and what they tell.
+use Rattle.std.proofs.Common.{◌≡◌, ℕ, List, [], ◌∷◌, map, length, All, Option, Some, None, option_map, refl, sym, ap, ap₂, subst, ◌∙◌}
+use Rattle.std.specs.List.{AllZip}
+use Rattle.std.proofs.lemmas.List.Elements.{All-head, All-tail}
+use Rattle.fsoe_base.specs.Lengths.{frame_len}
+use Rattle.fsoe_base.specs.declared.did.Did.{Did}
+use Rattle.param_load.specs.declared.entry.Move.{Move}
+use Rattle.param_load.specs.declared.entry.Move.TheVariants as move
+use Rattle.end_model.specs.Setup.{Setup, receives}
+use Rattle.end_core.specs.Standing as end_core
+use Rattle.process_image.specs.Calls.{move_in, contents, delivery, deeds, next_deed}
+use Rattle.process_image.specs.Image.{bytes_at, input, sampled}
+use Rattle.process_image.specs.Places.{Place, Plan, spans_of}
+use Rattle.process_image.specs.Sound.{IsSoundSeat}
+use Rattle.process_image.specs.Standing.{ImagesView, IsSeatOf, StandsFor, Follows, AnswersSample, AnswersTick, told}
+use Rattle.process_image.specs.Steps.{SeatStep, Makes, IsSampleStep, IsTickStep, DoesEach, told_by, did_in, seat_contents}
+use Rattle.process_image.specs.declared.event.ImageEvent.{ImageEvent}
+use Rattle.process_image.specs.declared.event.ImageEvent.TheVariants as event
+use Rattle.process_image.specs.declared.seat.Seat.{Seat}
+use Rattle.process_image.proofs.Following.{IsPart, setup_is, stands_more}
+
+-- one slot at a sample
+sample-part : (size so : ℕ) (calls : List ImageEvent) (now : List ℕ) (p : Place) (x : SeatStep) → now ≡ input size calls → IsSeatOf size calls p x.old → IsSoundSeat (length now) so x.old → IsSampleStep now x
+    → IsPart size calls event.Sample p x
+sample-part size so calls now p x e h s q =
+    let n : length x.old.seen ≡ (spans_of p).len_in = s.seen_len ∙ ap (λ (t : Setup). frame_len (receives t)) (setup_is p.setup x.old.core (deeds size p calls) h.end_is) in
+    let c : seat_contents x.old now ≡ contents p (input size calls) =
+    ap (λ (at : ℕ). bytes_at at (length x.old.seen) now) h.at_in_is ∙ ap (λ (len : ℕ). bytes_at p.at_in len now) n ∙ ap (contents p) e
+    in
+    record {
+      before = h;
+      is = q.is;
+      what_is = q.what_is ∙ ap (λ (seen : List ℕ). delivery seen (seat_contents x.old now)) h.seen_is ∙ ap (delivery (contents p (sampled size calls))) c;
+      seen_is = q.seen_is ∙ c;
+      len_is = s.len_out_is;
+    }
+
+-- and at a tick
+tick-part : (size si so : ℕ) (calls : List ImageEvent) (p : Place) (x : SeatStep) → IsSeatOf size calls p x.old → IsSoundSeat si so x.old → IsTickStep x → IsPart size calls event.Tick p x
+tick-part size si so calls p x h s q = record { before = h; is = q.is; what_is = q.what_is; seen_is = q.seen_is ∙ h.seen_is; len_is = s.len_out_is }
+
+-- all slots
+sample-parts : (size so : ℕ) (calls : List ImageEvent) (now : List ℕ) (places : List Place) (xs : List SeatStep) → now ≡ input size calls → AllZip (IsSeatOf size calls) places (map (λ x. x.old) xs)
+    → All (IsSoundSeat (length now) so) (map (λ x. x.old) xs) → All (IsSampleStep now) xs → AllZip (IsPart size calls event.Sample) places xs
+sample-parts size so calls now [] [] e h s q = tt
+sample-parts size so calls now [] (x ∷ xs) e h s q = absurd h
+sample-parts size so calls now (p ∷ places) [] e h s q = absurd h
+sample-parts size so calls now (p ∷ places) (x ∷ xs) e h s q = (
+  sample-part size so calls now p x e h.0 (All-head (IsSoundSeat (length now) so) x.old (map (λ x. x.old) xs) s) (All-head (IsSampleStep now) x xs q),
+  sample-parts size so calls now places xs e h.1 (All-tail (IsSoundSeat (length now) so) x.old (map (λ x. x.old) xs) s) (All-tail (IsSampleStep now) x xs q),
+)
+
+tick-parts : (size si so : ℕ) (calls : List ImageEvent) (places : List Place) (xs : List SeatStep) → AllZip (IsSeatOf size calls) places (map (λ x. x.old) xs)
+    → All (IsSoundSeat si so) (map (λ x. x.old) xs) → All IsTickStep xs → AllZip (IsPart size calls event.Tick) places xs
+tick-parts size si so calls [] [] h s q = tt
+tick-parts size si so calls [] (x ∷ xs) h s q = absurd h
+tick-parts size si so calls (p ∷ places) [] h s q = absurd h
+tick-parts size si so calls (p ∷ places) (x ∷ xs) h s q = (
+  tick-part size si so calls p x h.0 (All-head (IsSoundSeat si so) x.old (map (λ x. x.old) xs) s) (All-head IsTickStep x xs q),
+  tick-parts size si so calls places xs h.1 (All-tail (IsSoundSeat si so) x.old (map (λ x. x.old) xs) s) (All-tail IsTickStep x xs q),
+)
+
+-- what a step tells is what is told of its slot
+told-by : (size : ℕ) (calls : List ImageEvent) (p : Place) (x : SeatStep) (o : Option Move) → x.what ≡ o → Makes o x → end_core.IsAfter p.setup x.old.core (deeds size p calls)
+    → told_by x ≡ option_map (λ what. (next_deed size p calls what).did) o
+told-by size calls p x None w m a = ap (λ (o : Option Move). option_map (λ what. x.did) o) w
+told-by size calls p x (Some what) w m a = ap (λ (o : Option Move). option_map (λ what. x.did) o) w ∙ ap (λ (d : Did). Some d) (m.1.did p.setup (deeds size p calls) a)
+
+told-one : (size : ℕ) (calls : List ImageEvent) (call : ImageEvent) (p : Place) (x : SeatStep) → IsPart size calls call p x → told_by x ≡ told size calls call p
+told-one size calls call p x part =
+    told-by size calls p x (move_in size p calls call) part.what_is (subst (λ (o : Option Move). Makes o x) part.what_is part.is.makes) part.before.end_is
+
+told-all : (size : ℕ) (calls : List ImageEvent) (call : ImageEvent) (places : List Place) (xs : List SeatStep) → AllZip (IsPart size calls call) places xs → map told_by xs ≡ map (told size calls call) places
+told-all size calls call [] [] h = refl
+told-all size calls call [] (x ∷ xs) h = absurd h
+told-all size calls call (p ∷ places) [] h = absurd h
+told-all size calls call (p ∷ places) (x ∷ xs) h = ap₂ (λ (d : Option Did) (ds : List (Option Did)). d ∷ ds) (told-one size calls call p x h.0) (told-all size calls call places xs h.1)
+
+ticked-by : (size : ℕ) (calls : List ImageEvent) (p : Place) (x : SeatStep) → Makes (Some move.Tick) x → end_core.IsAfter p.setup x.old.core (deeds size p calls) → x.did ≡ (next_deed size p calls move.Tick).did
+ticked-by size calls p x m a = m.1.did p.setup (deeds size p calls) a
+
+ticked-all : (size : ℕ) (calls : List ImageEvent) (places : List Place) (xs : List SeatStep) → AllZip (IsPart size calls event.Tick) places xs
+    → map did_in xs ≡ map (λ p. (next_deed size p calls move.Tick).did) places
+ticked-all size calls [] [] h = refl
+ticked-all size calls [] (x ∷ xs) h = absurd h
+ticked-all size calls (p ∷ places) [] h = absurd h
+ticked-all size calls (p ∷ places) (x ∷ xs) h =
+    ap₂ (λ (d : Did) (ds : List Did). d ∷ ds) (ticked-by size calls p x (subst (λ (o : Option Move). Makes o x) h.0.what_is h.0.is.makes) h.0.before.end_is) (ticked-all size calls places xs h.1)
+
+-- images after a sample
+sampled-parts : (plan : Plan) (calls : List ImageEvent) (old : ImagesView) (so : ℕ) (new : List Seat) (after : List ℕ) (dids : List (Option Did)) → StandsFor plan old calls → All (IsSoundSeat (length old.input) so) old.seats
+    → (d : DoesEach (IsSampleStep old.input) told_by old.seats old.output new after dids) → AllZip (IsPart plan.size_in calls event.Sample) plan.places d.steps
+sampled-parts plan calls old so new after dids h s d =
+    sample-parts plan.size_in so calls old.input plan.places d.steps h.input_is (subst (λ (seats : List Seat). AllZip (IsSeatOf plan.size_in calls) plan.places seats) (sym d.old_are) h.slots)
+    (subst (λ (seats : List Seat). All (IsSoundSeat (length old.input) so) seats) (sym d.old_are) s) d.each
+
+pub sample_follows : (so : ℕ) (old new : ImagesView) (dids : List (Option Did)) → All (IsSoundSeat (length old.input) so) old.seats
+    → DoesEach (IsSampleStep old.input) told_by old.seats old.output new.seats new.output dids → new.input ≡ old.input → Follows old event.Sample new
+sample_follows so old new dids s d now = record {
+  stands = λ plan calls h.
+      stands_more plan old new calls event.Sample d.steps h (sampled-parts plan calls old so new.seats new.output dids h s d) d.new_are (now ∙ h.input_is) d.output_is;
+}
+
+pub sample_answers : (so : ℕ) (old : ImagesView) (new : List Seat) (after : List ℕ) (dids : List (Option Did)) → All (IsSoundSeat (length old.input) so) old.seats
+    → DoesEach (IsSampleStep old.input) told_by old.seats old.output new after dids → AnswersSample old dids
+sample_answers so old new after dids s d = record {
+  told_are = λ plan calls h. d.told_are ∙ told-all plan.size_in calls event.Sample plan.places d.steps (sampled-parts plan calls old so new after dids h s d);
+}
+
+-- and after a tick
+ticked-parts : (plan : Plan) (calls : List ImageEvent) (old : ImagesView) (si so : ℕ) (new : List Seat) (after : List ℕ) (dids : List Did) → StandsFor plan old calls → All (IsSoundSeat si so) old.seats
+    → (d : DoesEach IsTickStep did_in old.seats old.output new after dids) → AllZip (IsPart plan.size_in calls event.Tick) plan.places d.steps
+ticked-parts plan calls old si so new after dids h s d =
+    tick-parts plan.size_in si so calls plan.places d.steps (subst (λ (seats : List Seat). AllZip (IsSeatOf plan.size_in calls) plan.places seats) (sym d.old_are) h.slots)
+    (subst (λ (seats : List Seat). All (IsSoundSeat si so) seats) (sym d.old_are) s) d.each
+
+pub tick_follows : (si so : ℕ) (old new : ImagesView) (dids : List Did) → All (IsSoundSeat si so) old.seats → DoesEach IsTickStep did_in old.seats old.output new.seats new.output dids
+    → new.input ≡ old.input → Follows old event.Tick new
+tick_follows si so old new dids s d now = record {
+  stands = λ plan calls h.
+      stands_more plan old new calls event.Tick d.steps h (ticked-parts plan calls old si so new.seats new.output dids h s d) d.new_are (now ∙ h.input_is) d.output_is;
+}
+
+pub tick_answers : (si so : ℕ) (old : ImagesView) (new : List Seat) (after : List ℕ) (dids : List Did) → All (IsSoundSeat si so) old.seats → DoesEach IsTickStep did_in old.seats old.output new after dids
+    → AnswersTick old dids
+tick_answers si so old new after dids s d = record {
+  told_are = λ plan calls h. d.told_are ∙ ticked-all plan.size_in calls plan.places d.steps (ticked-parts plan calls old si so new after dids h s d);
+}

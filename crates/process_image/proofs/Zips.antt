@@ -1,0 +1,35 @@
+-- Two lists side by side, at a place.
+use Rattle.std.proofs.Common.{◌≡◌, ℕ, zero, suc, List, [], ◌∷◌, map, slice_get, slice_set, All, Some, refl, sym, ap, subst, ◌∙◌}
+use Rattle.std.specs.List.{AllZip}
+use Rattle.std.proofs.lemmas.List.Elements.{All-head, All-tail, All-nil, All-cons}
+
+-- what is at a place of the first list goes with what is at that place of the second
+pub record At {A B : Type 0} (R : A → B → Type 0) (xs : List A) (k : ℕ) (y : B) : Type 0 where
+  pub there : A
+  pub is : slice_get xs k ≡ Some there
+  pub holds : R there y
+
+pub at_place : {A B : Type 0} (R : A → B → Type 0) (xs : List A) (ys : List B) (k : ℕ) (y : B) → AllZip R xs ys → slice_get ys k ≡ Some y → At R xs k y
+at_place R [] [] k y h e = cc
+at_place R [] (b ∷ ys) k y h e = absurd h
+at_place R (a ∷ xs) [] k y h e = absurd h
+at_place R (a ∷ xs) (b ∷ ys) zero y h e = let i : b ≡ y = cc in record { there = a; is = refl; holds = subst (λ z. R a z) i h.0 }
+at_place R (a ∷ xs) (b ∷ ys) (suc k) y h e = let p = at_place R xs ys k y h.1 e in record { there = p.there; is = p.is; holds = p.holds }
+
+-- all have a property still, where another stands at a place that has it
+pub all_set : {A : Type 0} (P : A → Type 0) (xs : List A) (k : ℕ) (y : A) → All P xs → P y → All P (slice_set xs k y)
+all_set P [] k y h q = All-nil P
+all_set P (x ∷ xs) zero y h q = All-cons P y xs q (All-tail P x xs h)
+all_set P (x ∷ xs) (suc k) y h q = All-cons P x (slice_set xs k y) (All-head P x xs h) (all_set P xs k y (All-tail P x xs h) q)
+
+-- what is at a place has the property of all
+pub all_at : {A : Type 0} (P : A → Type 0) (xs : List A) (k : ℕ) (x : A) → All P xs → slice_get xs k ≡ Some x → P x
+all_at P [] k x h e = absurd (cc e)
+all_at P (a ∷ xs) zero x h e = let i : a ≡ x = cc in subst P i (All-head P a xs h)
+all_at P (a ∷ xs) (suc k) x h e = all_at P xs k x (All-tail P a xs h) e
+
+-- the same list where what stands at a place goes to the same as what stood there
+pub map_set : {A B : Type 0} (f : A → B) (xs : List A) (k : ℕ) (x y : A) → slice_get xs k ≡ Some x → f y ≡ f x → map f (slice_set xs k y) ≡ map f xs
+map_set f [] k x y e h = absurd (cc e)
+map_set {B = B} f (a ∷ xs) zero x y e h = let i : a ≡ x = cc in ap (λ (z : B). z ∷ map f xs) (h ∙ ap f (sym i))
+map_set {B = B} f (a ∷ xs) (suc k) x y e h = ap (λ (zs : List B). f a ∷ zs) (map_set f xs k x y e h)

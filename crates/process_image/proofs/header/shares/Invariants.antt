@@ -1,0 +1,8 @@
+use Rattle.std.proofs.Common.{◌≡◌, drop}
+use Rattle.std.specs.List.{list_any}
+use Rattle.process_image.specs.Header.{heading_spans}
+use Rattle.process_image.specs.Places.{overlap}
+use Rattle.process_image.proofs.header.shares.Given as goal
+
+abbrev pub invariant-loop-slot : goal.invariant-loop-slot
+invariant-loop-slot l = list_any (λ t. overlap (heading_spans t) l.own) (drop l.slot-index l.before) ≡ list_any (λ t. overlap (heading_spans t) l.own) l.before

@@ -1,0 +1,8 @@
+use Rattle.process_image.proofs.Distinct.{quiet_moves, quiet_output}
+use Rattle.process_image.proofs.laws.quiet_samples.Goals as goal
+
+pub returns-clause-moves : goal.returns-clause-moves
+returns-clause-moves c = quiet_moves
+
+pub returns-clause-output : goal.returns-clause-output
+returns-clause-output c = quiet_output

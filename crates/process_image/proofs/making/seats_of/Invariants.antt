@@ -1,0 +1,6 @@
+use Rattle.std.specs.List.{AllZip}
+use Rattle.process_image.specs.Sound.{IsNewSeat}
+use Rattle.process_image.proofs.making.seats_of.Given as goal
+
+abbrev pub invariant-loop-slot : goal.invariant-loop-slot
+invariant-loop-slot l = AllZip IsNewSeat l.yielded l.seats.items

@@ -1,0 +1,28 @@
+use Rattle.std.proofs.Common.{◌≡◌, ℕ, Some, length, slice_get, slice_index_or, refl, sym, subst, ◌∙◌, arith}
+use Rattle.std.proofs.lemmas.Option.{slice_get-get_or}
+use Rattle.process_image.specs.Sound.{IsSoundSeat}
+use Rattle.process_image.specs.Steps.{IsSampleStep, told_by}
+use Rattle.process_image.specs.declared.seat.Seat.{Seat}
+use Rattle.process_image.proofs.Looping.{does_more, does_size, some_at, set_before}
+use Rattle.process_image.proofs.seat.sample_all.Goals as goal
+
+pub loop-i-preserved : goal.loop-i-preserved
+loop-i-preserved c =
+    let i : ℕ = c.loop-i.i in
+    let seat : Seat = slice_index_or c.loop-i.seats i c.index-seats-i.result in
+    let at-s : slice_get c.loop-i.seats i ≡ Some seat = slice_get-get_or c.loop-i.seats i c.index-seats-i.result (omega arith) in
+    let at-t = some_at c.loop-i.told i (omega arith) in
+    let sound = c.loop-i.invariant.sound i seat (omega arith) at-s in
+    let kept : length c.sample.new.output ≡ length c.loop-i.output = does_size _ _ _ _ _ _ _ c.sample.ensures sound.inside_out in
+    record {
+      sound = λ k s late is. subst (λ (n : ℕ). IsSoundSeat (length c.args.input.now) n s) (sym kept) (c.loop-i.invariant.sound k s (omega arith) (sym (set_before c.loop-i.seats i k c.sample.new.self (omega arith)) ∙ is));
+      size = kept ∙ c.loop-i.invariant.size;
+      so_far = does_more (IsSampleStep c.args.input.now) told_by _ _ c.loop-i.seats _ c.loop-i.output _ c.loop-i.told _ i seat c.sample.new.self at-t.0 c.sample.new.told c.loop-i.invariant.so_far at-s at-t.1
+          c.sample.ensures refl refl;
+    }
+
+pub sample-requires : goal.sample-requires
+sample-requires c =
+    let i : ℕ = c.loop-i.i in
+    let seat : Seat = slice_index_or c.loop-i.seats i c.index-seats-i.result in
+    c.loop-i.invariant.sound i seat (omega arith) (slice_get-get_or c.loop-i.seats i c.index-seats-i.result (omega arith))

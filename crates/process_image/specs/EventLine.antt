@@ -1,0 +1,113 @@
+-- What a line says that stands after the header of images. The causes come in their order: the word, the number of fields, a number, a
+-- slot that doesn't exist, the hexadecimal bytes, a length, a position.
+use Rattle.std.specs.Prelude.{ℕ, ◌+◌, ◌==◌, nat_le, length, List, [], ◌∷◌, codes, Option, Some, None, Result, Ok, Err, if◌then◌else◌}
+use Rattle.std.specs.Str.{bytes_eq}
+use Rattle.fsoe_base.specs.declared.lengths.TheConstants.{MOST_DATA}
+use Rattle.param_load.specs.Profile.{allows_id}
+use Rattle.schedule_file.specs.EventLine.{switch_of}
+use Rattle.schedule_file.specs.Field.{bytes_said, fields_of}
+use Rattle.schedule_file.specs.Fields.{◌>>=◌, map_ok, value_or, next_field, no_field, one_field, number_16, number_32}
+use Rattle.schedule_file.specs.declared.line_cause.LineCause.{LineCause}
+use Rattle.schedule_file.specs.declared.line_cause.LineCause.TheVariants as cause
+use Rattle.process_image.specs.Standing.{numbered}
+use Rattle.process_image.specs.declared.event.ImageEvent.TheVariants as event
+use Rattle.process_image.specs.declared.event.ImageLine.{ImageLine}
+use Rattle.process_image.specs.declared.event.ImageLine.TheVariants as line
+use Rattle.process_image.specs.declared.event.TheConstants.{MOST_WRITTEN}
+use Rattle.process_image.specs.declared.event_line.SlotEnd.{SlotEnd}
+use Rattle.process_image.specs.declared.event_line.Word.{Word}
+use Rattle.process_image.specs.declared.event_line.Word.TheVariants as word
+
+-- the word of an event, or `end`
+abbrev pub word_of : List ℕ → Option Word
+word_of text =
+    if bytes_eq text (codes "w") then Some word.Write
+    else if bytes_eq text (codes "s") then Some word.Sample
+    else if bytes_eq text (codes "t") then Some word.Tick
+    else if bytes_eq text (codes "p") then Some word.Put
+    else if bytes_eq text (codes "h") then Some word.Hold
+    else if bytes_eq text (codes "n") then Some word.Nonce
+    else if bytes_eq text (codes "z") then Some word.Reset
+    else if bytes_eq text (codes "end") then Some word.End
+    else None
+
+-- the end of the slot of this number
+abbrev pub end_at : ℕ → List SlotEnd → Result SlotEnd LineCause
+end_at slot ends = value_or cause.NoLink (numbered slot ends)
+
+-- a word says this by itself
+abbrev pub bare_line : ImageLine → List (List ℕ) → Result ImageLine LineCause
+bare_line says fields = map_ok (λ none. says) (no_field fields)
+
+-- from 1 to 256 bytes, which lie inside the input image from their place on
+abbrev pub write_line : ℕ → List (List ℕ) → Result ImageLine LineCause
+write_line size fields = do
+  place ← next_field fields
+  digits ← one_field place.1
+  at ← number_16 place.0
+  bytes ← value_or cause.Hex (bytes_said MOST_WRITTEN digits)
+  if nat_le (at + length bytes) size then Ok (line.Step (event.Write at bytes)) else Err cause.Position
+
+-- safe data bytes, exactly as many as the end of the slot sends
+abbrev pub put_line : List SlotEnd → List (List ℕ) → Result ImageLine LineCause
+put_line ends fields = do
+  first ← next_field fields
+  digits ← one_field first.1
+  slot ← number_16 first.0
+  end ← end_at slot ends
+  bytes ← value_or cause.Hex (bytes_said MOST_DATA digits)
+  if length bytes == end.sends then Ok (line.Step (event.Put slot bytes)) else Err cause.Length
+
+-- fail-safe data on or off
+abbrev pub hold_line : List SlotEnd → List (List ℕ) → Result ImageLine LineCause
+hold_line ends fields = do
+  first ← next_field fields
+  field ← one_field first.1
+  slot ← number_16 first.0
+  failsafe ← value_or cause.Number (switch_of field)
+  end ← end_at slot ends
+  Ok (line.Step (event.Hold slot failsafe))
+
+-- a session id that the profile of the slot's end allows; of a slot that doesn't exist an id above 65,535 is no number, and any other
+-- finds no slot
+abbrev pub id_at : Option SlotEnd → ℕ → ℕ → Result ImageLine LineCause
+id_at None slot id = if nat_le id 65535 then Err cause.NoLink else Err cause.Number
+id_at (Some end) slot id = if allows_id (end.profile) id then Ok (line.Step (event.Nonce slot id)) else Err cause.Number
+
+-- a session id for the end of a slot
+abbrev pub nonce_line : List SlotEnd → List (List ℕ) → Result ImageLine LineCause
+nonce_line ends fields = do
+  first ← next_field fields
+  field ← one_field first.1
+  slot ← number_16 first.0
+  id ← number_32 field
+  id_at (numbered slot ends) slot id
+
+-- the slot that resets itself
+abbrev pub reset_line : List SlotEnd → List (List ℕ) → Result ImageLine LineCause
+reset_line ends fields = do
+  field ← one_field fields
+  slot ← number_16 field
+  end ← end_at slot ends
+  Ok (line.Step (event.Reset slot))
+
+-- what a word says with its fields, where the input image has this size and the ends of the slots have these terms
+abbrev pub image_said : ℕ → List SlotEnd → Option Word → List (List ℕ) → Result ImageLine LineCause
+image_said size ends None fields = Err cause.Word
+image_said size ends (Some word.Write) fields = write_line size fields
+image_said size ends (Some word.Sample) fields = bare_line (line.Step event.Sample) fields
+image_said size ends (Some word.Tick) fields = bare_line (line.Step event.Tick) fields
+image_said size ends (Some word.Put) fields = put_line ends fields
+image_said size ends (Some word.Hold) fields = hold_line ends fields
+image_said size ends (Some word.Nonce) fields = nonce_line ends fields
+image_said size ends (Some word.Reset) fields = reset_line ends fields
+image_said size ends (Some word.End) fields = bare_line line.End fields
+
+-- what the fields of a line say, of which the first is its word
+abbrev pub image_said_by : ℕ → List SlotEnd → List (List ℕ) → Result ImageLine LineCause
+image_said_by size ends [] = Err cause.Word
+image_said_by size ends (first ∷ fields) = image_said size ends (word_of first) fields
+
+-- what a line says to images
+abbrev pub image_line : ℕ → List SlotEnd → List ℕ → Result ImageLine LineCause
+image_line size ends text = image_said_by size ends (fields_of text)

@@ -1,0 +1,156 @@
+-- A header of images as far as it is read: its first line, its `size`, and for each slot a `slot` line and the lines that the header of a
+-- node has between its first line and `go`, which are read as those of such a header. At last comes `go`.
+use Rattle.std.specs.Prelude.{ℕ, ◌+◌, ◌==◌, ◌&&◌, not, nat_le, Bool, true, false, length, List, [], ◌∷◌, ◌++◌, codes, Result, Ok, Err, if◌then◌else◌}
+use Rattle.std.specs.List.{list_any}
+use Rattle.std.specs.Str.{bytes_eq}
+use Rattle.fsoe_base.specs.Lengths.{frame_len}
+use Rattle.fsoe_base.specs.declared.command.End.{End}
+use Rattle.fsoe_base.specs.declared.command.End.TheVariants as side
+use Rattle.schedule_file.specs.EventLine.{delivered_len}
+use Rattle.schedule_file.specs.Field.{fields_of}
+use Rattle.schedule_file.specs.Fields.{◌>>=◌, next_field, one_field, number_16}
+use Rattle.schedule_file.specs.Header.{heading_is_whole, wants_profile}
+use Rattle.schedule_file.specs.Input.{own_length}
+use Rattle.schedule_file.specs.NodeHeader.{heading_begun, node_heading_after, is_end_line, may_end}
+use Rattle.schedule_file.specs.declared.header_kind.HeaderKind.{HeaderKind}
+use Rattle.schedule_file.specs.declared.header_kind.HeaderKind.TheVariants as kind
+use Rattle.schedule_file.specs.declared.line_cause.LineCause.{LineCause}
+use Rattle.schedule_file.specs.declared.line_cause.LineCause.TheVariants as cause
+use Rattle.process_image.specs.Places.{lie_inside, overlap}
+use Rattle.process_image.specs.declared.header.SlotHeader.{SlotHeader}
+use Rattle.process_image.specs.declared.header.Stage.{Stage}
+use Rattle.process_image.specs.declared.header.Stage.TheVariants as stage
+use Rattle.process_image.specs.declared.header.TheConstants.{MOST_SIZE}
+use Rattle.process_image.specs.declared.spans.Spans.{Spans}
+use Rattle.process_image.specs.declared.spans.TheConstants.{MOST_SLOTS}
+
+-- a header after the lines that were read: the sizes of the images, the slots before the last one, and the last one; before the lines that
+-- say them, the sizes and the last slot stand for nothing
+pub record ImageHeading : Type 0 where
+  pub stage : Stage
+  pub size_in : ℕ
+  pub size_out : ℕ
+  pub before : List SlotHeader
+  pub last : SlotHeader
+
+-- a slot of which its own line alone is read: the `lengths` of its end come next
+abbrev pub slot_begun : ℕ → ℕ → ℕ → SlotHeader
+slot_begun number at_in at_out = record { number = number; at_in = at_in; at_out = at_out; own = heading_begun }
+
+-- a header of which no line is read
+abbrev pub image_heading_new : ImageHeading
+image_heading_new = record { stage = stage.Start; size_in = 1; size_out = 1; before = []; last = slot_begun 0 0 0 }
+
+-- after `go`
+abbrev pub is_done : Stage → Bool
+is_done stage.Done = true
+is_done other = false
+
+-- a header is done once its line `go` is read
+abbrev pub image_heading_is_whole : ImageHeading → Bool
+image_heading_is_whole h = is_done h.stage
+
+-- the slots whose lines were read, those of the last one maybe not all
+abbrev pub slots_begun : Stage → List SlotHeader → SlotHeader → List SlotHeader
+slots_begun stage.Slots before last = before ++ last ∷ []
+slots_begun stage.Done before last = before ++ last ∷ []
+slots_begun other before last = []
+
+abbrev pub slots_of : ImageHeading → List SlotHeader
+slots_of h = slots_begun h.stage h.before h.last
+
+-- the end of a slot, once its `master` or `slave` line is read
+abbrev pub end_of_kind : HeaderKind → End
+end_of_kind (kind.Node end) = end
+end_of_kind kind.Pair = side.Slave
+
+-- the end of a slot
+abbrev pub end_of : SlotHeader → End
+end_of s = end_of_kind s.own.kind
+
+-- the bytes that the frames of a slot take: the frames of its peer come in, and its own go out
+abbrev pub heading_spans : SlotHeader → Spans
+heading_spans s = record { at_in = s.at_in; len_in = delivered_len (own_length s.own) (end_of s); at_out = s.at_out; len_out = frame_len (own_length s.own (end_of s)) }
+
+-- an image has from 1 to 4,096 bytes
+abbrev pub is_size : ℕ → Bool
+is_size n = nat_le 1 n && nat_le n MOST_SIZE
+
+-- the sizes of both images
+abbrev pub size_line : List (List ℕ) → Result (ℕ × ℕ) LineCause
+size_line fields = do
+  first ← next_field fields
+  second ← one_field first.1
+  size_in ← number_16 first.0
+  size_out ← number_16 second
+  if is_size size_in && is_size size_out then Ok (size_in, size_out) else Err cause.Range
+
+-- the number of a slot and where its frames begin; slots are numbered from 1 in their order, to 64
+abbrev pub slot_line : ℕ → List (List ℕ) → Result SlotHeader LineCause
+slot_line number fields = do
+  first ← next_field fields
+  second ← next_field first.1
+  third ← one_field second.1
+  n ← number_16 first.0
+  at_in ← number_16 second.0
+  at_out ← number_16 third
+  if n == number && nat_le n MOST_SLOTS then Ok (slot_begun n at_in at_out) else Err cause.Range
+
+-- a header after its `size` line
+abbrev pub size_taken : ImageHeading → List (List ℕ) → Result ImageHeading LineCause
+size_taken h fields = do
+  sizes ← size_line fields
+  Ok (record h { stage = stage.Size; size_in = sizes.0; size_out = sizes.1 })
+
+-- the end of a slot has its `profile` line still to come
+abbrev pub is_open : SlotHeader → Bool
+is_open s = wants_profile s.own.place s.own.master s.own.slave
+
+-- a header after a `slot` line; where the end before has its `profile` line still to come, it is out of range
+abbrev pub slot_taken : ImageHeading → List (List ℕ) → Result ImageHeading LineCause
+slot_taken h fields = do
+  slot ← slot_line (length (slots_of h) + 1) fields
+  if is_open h.last then Err cause.Range else Ok (record h { stage = stage.Slots; before = slots_of h; last = slot })
+
+-- the frames of a slot lie inside both images, and share no byte with a slot before
+abbrev pub fits_images : ImageHeading → SlotHeader → Bool
+fits_images h s = lie_inside h.size_in h.size_out (heading_spans s) && not (list_any (λ t. overlap (heading_spans t) (heading_spans s)) h.before)
+
+-- a header with these lines of its last slot: its frames are tested at the `master` or the `slave` line, which says which length stands in
+-- which image; with `go` the header is done
+abbrev pub with_last : ImageHeading → SlotHeader → Result ImageHeading LineCause
+with_last h s =
+    if is_end_line s.own.place && not (fits_images h s) then Err cause.Range
+    else Ok (record h { stage = if heading_is_whole s.own then stage.Done else stage.Slots; last = s })
+
+-- a header after a line of its last slot
+abbrev pub own_taken : ImageHeading → List ℕ → Result ImageHeading LineCause
+own_taken h text = do
+  own ← node_heading_after h.last.own text
+  with_last h (record h.last { own = own })
+
+-- a header after a later line, by its first field and those after it: after the first line comes `size`, then the first `slot`, and where
+-- the lines of a slot may end the next one
+abbrev pub line_taken : Stage → ImageHeading → List ℕ → List ℕ → List (List ℕ) → Result ImageHeading LineCause
+line_taken stage.Title h text first fields = if bytes_eq first (codes "size") then size_taken h fields else Err cause.Header
+line_taken stage.Size h text first fields = if bytes_eq first (codes "slot") then slot_taken h fields else Err cause.Header
+line_taken stage.Slots h text first fields = if bytes_eq first (codes "slot") && may_end h.last.own then slot_taken h fields else own_taken h text
+line_taken other h text first fields = Err cause.Header
+
+-- the same by all its fields
+abbrev pub image_fields_taken : ImageHeading → List ℕ → List (List ℕ) → Result ImageHeading LineCause
+image_fields_taken h text [] = Err cause.Header
+image_fields_taken h text (first ∷ fields) = line_taken h.stage h text first fields
+
+-- a header after its first line
+abbrev pub image_title_taken : ImageHeading → List ℕ → Result ImageHeading LineCause
+image_title_taken h text = if bytes_eq text (codes "fsoe 1 image") then Ok (record h { stage = stage.Title }) else Err cause.Header
+
+-- a header after its next line, by how far it is
+abbrev pub image_text_taken : Stage → ImageHeading → List ℕ → Result ImageHeading LineCause
+image_text_taken stage.Start h text = image_title_taken h text
+image_text_taken other h text = image_fields_taken h text (fields_of text)
+
+-- a header after its next line, or why that line is refused
+abbrev pub image_heading_after : ImageHeading → List ℕ → Result ImageHeading LineCause
+image_heading_after h text = image_text_taken h.stage h text

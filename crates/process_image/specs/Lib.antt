@@ -1,0 +1,13 @@
+pub mod Calls
+pub mod EventLine
+pub mod Fault
+pub mod Header
+pub mod Image
+pub mod LinesLeft
+pub mod Own
+pub mod Places
+pub mod Report
+pub mod Sound
+pub mod Standing
+pub mod Steps
+pub mod Worked

@@ -1,0 +1,95 @@
+-- Worked runs of images: a header, the events of a run, and the report that is written of them.
+use Rattle.std.specs.Prelude.{◌≡◌, ℕ, List, [], ◌∷◌, codes, reverse, Result, Ok}
+use Rattle.hex.specs.Hex.{decode_of}
+use Rattle.param_load.specs.declared.profile.Profile.TheVariants as profile
+use Rattle.schedule_file.specs.Fields.{◌>>=◌, map_ok}
+use Rattle.schedule_file.specs.Input.{AtEnd}
+use Rattle.schedule_file.specs.declared.line_cause.LineCause.{LineCause}
+use Rattle.end_model.specs.WorkedRuns.{a_slave, a_master, if_bytes}
+use Rattle.process_image.specs.EventLine.{image_line}
+use Rattle.process_image.specs.Header.{ImageHeading, image_heading_new, image_heading_after}
+use Rattle.process_image.specs.Places.{Plan}
+use Rattle.process_image.specs.Report.{report_of}
+use Rattle.process_image.specs.declared.event.ImageEvent.{ImageEvent}
+use Rattle.process_image.specs.declared.event.ImageLine.{ImageLine}
+use Rattle.process_image.specs.declared.event.ImageEvent.TheVariants as event
+use Rattle.process_image.specs.declared.header.Stage.{Stage}
+
+-- a header after these lines, or why one of them is refused
+abbrev pub after_lines : Result ImageHeading LineCause → List (List ℕ) → Result ImageHeading LineCause
+after_lines h [] = h
+after_lines h (text ∷ texts) = after_lines (h >>= (λ heading. image_heading_after heading text)) texts
+
+-- bytes are written, in hexadecimal
+abbrev pub w : ℕ → List ℕ → ImageEvent
+w at text = event.Write at (if_bytes (decode_of text))
+
+-- one slave, whose frames fill both images
+abbrev pub one_slave : Plan
+one_slave = record { size_in = 7; size_out = 7; places = record { number = 1; at_in = 0; at_out = 0; setup = a_slave } ∷ [] }
+
+-- a Reset frame, which is sampled twice, and a Session frame
+abbrev pub two_frames : List ImageEvent
+two_frames = w 0 (codes "2a0000c42d0000") ∷ event.Sample ∷ event.Sample ∷ w 0 (codes "4e0100123e0000") ∷ event.Sample ∷ []
+
+-- a slot is delivered exactly where its bytes changed
+unfoldable pub ChangesAlone : Type 0
+ChangesAlone =
+    report_of one_slave (reverse two_frames) AtEnd
+    ≡ codes "2 1 took Reset Reset 0000 > 2a0000c42d0000\n5 1 took Session Session 0000 > 4e020090470000\nevents 5\nout 4e020090470000\n"
+
+-- the Session frame in two writes with a sample between them: the half of it is told as the frame that it is
+abbrev pub two_halves : List ImageEvent
+two_halves = w 0 (codes "2a0000c42d0000") ∷ event.Sample ∷ w 0 (codes "4e0100") ∷ event.Sample ∷ w 3 (codes "123e0000") ∷ event.Sample ∷ []
+
+unfoldable pub HalfWritten : Type 0
+HalfWritten =
+    report_of one_slave (reverse two_halves) AtEnd
+    ≡ codes "2 1 took Reset Reset 0000 > 2a0000c42d0000\n4 1 drop InReset Reset 0000\n6 1 took Session Session 0000 > 4e020090470000\nevents 6\nout 4e020090470000\n"
+
+-- a master and a slave side by side, without a gap
+abbrev pub side_by_side : Plan
+side_by_side = record {
+  size_in = 14;
+  size_out = 14;
+  places = record { number = 1; at_in = 0; at_out = 0; setup = a_master } ∷ record { number = 2; at_in = 7; at_out = 7; setup = a_slave } ∷ [];
+}
+
+-- the master's Reset frame comes to the slave, and the slave's answer to the master: each goes on by itself
+abbrev pub first_exchange : List ImageEvent
+first_exchange = event.Tick ∷ w 7 (codes "2a0000c42d0000") ∷ event.Sample ∷ w 0 (codes "2a0000c42d0000") ∷ event.Sample ∷ []
+
+unfoldable pub BothEnds : Type 0
+BothEnds =
+    report_of side_by_side (reverse first_exchange) AtEnd
+    ≡ codes "1 1 again Reset 0000 > 2a0000c42d0000\n1 2 quiet Reset 0000\n3 2 took Reset Reset 0000 > 2a0000c42d0000\n5 1 took Reset Session 0000 > 4e0100123e0000\nevents 5\nout 4e0100123e00002a0000c42d0000\n"
+
+-- two slots of seven bytes that share the last byte of the first
+abbrev pub sharing : Plan
+sharing = record {
+  size_in = 14;
+  size_out = 14;
+  places = record { number = 1; at_in = 0; at_out = 0; setup = a_slave } ∷ record { number = 2; at_in = 6; at_out = 7; setup = a_slave } ∷ [];
+}
+
+-- the lines of two slots that a slave has, the second of which begins here
+abbrev pub two_slots : List ℕ → List (List ℕ)
+two_slots second =
+    codes "fsoe 1 image"
+    ∷ codes "size 14 14"
+    ∷ codes "slot 1 0 0"
+    ∷ codes "lengths 2 2"
+    ∷ codes "slave 2 200 1000 2"
+    ∷ codes "rule any 0"
+    ∷ second
+    ∷ codes "lengths 2 2"
+    ∷ codes "slave 2 200 1000 2"
+    ∷ []
+
+-- where a header is after these lines
+abbrev pub stage_after : List (List ℕ) → Result Stage LineCause
+stage_after texts = map_ok (λ h. h.stage) (after_lines (Ok image_heading_new) texts)
+
+-- what a line says to images of 14 bytes with one slave of two and two bytes
+abbrev pub one_said : List ℕ → Result ImageLine LineCause
+one_said text = image_line 14 (record { sends = 2; profile = profile.One } ∷ []) text

@@ -1,0 +1,48 @@
+//! What may happen to images: a call of them, as a line of a file says it.
+
+use fsoe_base::{ByteList, Image};
+
+/// The most bytes that one event writes.
+pub const MOST_WRITTEN: usize = 256;
+
+/// One event of images. Slots are numbered from 1.
+#[derive(Drop)]
+pub enum ImageEvent {
+    /// These bytes are written into the input image, from a place on.
+    Write {
+        at: u16,
+        bytes: ByteList<MOST_WRITTEN>,
+    },
+    /// The input image is sampled.
+    Sample,
+    /// One tick passes at the end of each slot.
+    Tick,
+    /// The end of a slot offers these safe data from now on.
+    Put {
+        slot: u16,
+        load: Image,
+    },
+    /// Whether the end of a slot sends fail-safe data in place of its offer.
+    Hold {
+        slot: u16,
+        failsafe: bool,
+    },
+    /// The session id of the sessions of a slot that begin from now on.
+    Nonce {
+        slot: u16,
+        id: u32,
+    },
+    /// The end of a slot resets itself.
+    Reset {
+        slot: u16,
+    },
+}
+
+/// What a line of a file says after its header.
+#[derive(Drop)]
+pub enum ImageLine {
+    /// This event comes.
+    Step(ImageEvent),
+    /// There are no more events.
+    End,
+}

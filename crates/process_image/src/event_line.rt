@@ -1,0 +1,193 @@
+//! Lines of events.
+ghost use Rattle.std.specs.Prelude.{◌≡◌};
+ghost use Rattle.schedule_file.specs.Field.{fields_after};
+ghost use Rattle.schedule_file.specs.Fields.{Becomes};
+ghost use Rattle.process_image.specs.EventLine.{word_of, end_at, bare_line, write_line, put_line, hold_line, nonce_line, reset_line, image_line};
+ghost use Rattle.process_image.specs.Standing.{numbered};
+
+use crate::event::{ImageEvent, ImageLine, MOST_WRITTEN};
+use fsoe_base::{ByteList, Image, MOST_DATA};
+use param_load::Profile;
+use schedule_file::{
+    HexBytes, LineCause, cut, next_field, no_field, number_16, number_32, one_field, read_switch,
+};
+
+/// The word that begins a line of an event, or `end`.
+#[derive(Clone, Copy)]
+pub(crate) enum Word {
+    Write,
+    Sample,
+    Tick,
+    Put,
+    Hold,
+    Nonce,
+    Reset,
+    End,
+}
+
+/// What lines of events look at of the end of a slot.
+#[derive(Clone, Copy)]
+pub struct SlotEnd {
+    /// How many safe data bytes it sends.
+    pub(crate) sends: usize,
+    /// Its profile.
+    pub(crate) profile: Profile,
+}
+
+impl Default for SlotEnd {
+    fn default() -> SlotEnd {
+        SlotEnd {
+            sends: 1,
+            profile: Profile::One,
+        }
+    }
+}
+
+/// The word that begins a line.
+fn read_word(text: &[u8]) -> Option<Word>
+    ensures { result ≡ word_of text.now }
+{
+    if text == b"w".as_slice() {
+        Some(Word::Write)
+    } else if text == b"s".as_slice() {
+        Some(Word::Sample)
+    } else if text == b"t".as_slice() {
+        Some(Word::Tick)
+    } else if text == b"p".as_slice() {
+        Some(Word::Put)
+    } else if text == b"h".as_slice() {
+        Some(Word::Hold)
+    } else if text == b"n".as_slice() {
+        Some(Word::Nonce)
+    } else if text == b"z".as_slice() {
+        Some(Word::Reset)
+    } else if text == b"end".as_slice() {
+        Some(Word::End)
+    } else {
+        None
+    }
+}
+
+/// The end of the slot of this number, where there is one.
+fn find_end(slot: u16, ends: &[SlotEnd]) -> Option<SlotEnd>
+    ensures { result ≡ numbered slot ends.now }
+{
+    if slot == 0 {
+        return None;
+    }
+    ends.get(usize::from(slot) - 1).copied()
+}
+
+/// The end of the slot of this number. `NoLink` where there is none.
+fn end_at(slot: u16, ends: &[SlotEnd]) -> Result<SlotEnd, LineCause>
+    ensures { result ≡ end_at slot ends.now }
+{
+    find_end(slot, ends).ok_or(LineCause::NoLink)
+}
+
+/// No field.
+fn read_bare(says: ImageLine, fields: Option<&[u8]>) -> Result<ImageLine, LineCause>
+    ensures { result ≡ bare_line says (fields_after fields.entry) }
+{
+    no_field(fields)?;
+    Ok(says)
+}
+
+/// `<at> <hex>`: from 1 to 256 bytes inside the input image.
+fn read_write(size: u16, fields: Option<&[u8]>) -> Result<ImageLine, LineCause>
+    ensures { result ≡ write_line size (fields_after fields.entry) }
+{
+    let (place, rest) = next_field(fields)?;
+    let digits = one_field(rest)?;
+    let at = number_16(place)?;
+    let written = HexBytes::read(digits, MOST_WRITTEN).ok_or(LineCause::Hex)?;
+    if usize::from(at) + written.bytes().len() > usize::from(size) {
+        return Err(LineCause::Position);
+    }
+    let mut bytes = ByteList::new();
+    bytes.set(written.bytes());
+    Ok(ImageLine::Step(ImageEvent::Write { at, bytes }))
+}
+
+/// `<k> <hex>`: as many safe data bytes as the end of the slot sends.
+fn read_put(ends: &[SlotEnd], fields: Option<&[u8]>) -> Result<ImageLine, LineCause>
+    ensures { result ≡ put_line ends.now (fields_after fields.entry) }
+{
+    let (first, rest) = next_field(fields)?;
+    let digits = one_field(rest)?;
+    let slot = number_16(first)?;
+    let end = end_at(slot, ends)?;
+    let said = HexBytes::read(digits, MOST_DATA).ok_or(LineCause::Hex)?;
+    if said.bytes().len() != end.sends {
+        return Err(LineCause::Length);
+    }
+    let mut load = Image::new();
+    load.set(said.bytes());
+    Ok(ImageLine::Step(ImageEvent::Put { slot, load }))
+}
+
+/// `<k> 0` or `<k> 1`: fail-safe data off or on.
+fn read_hold(ends: &[SlotEnd], fields: Option<&[u8]>) -> Result<ImageLine, LineCause>
+    ensures { result ≡ hold_line ends.now (fields_after fields.entry) }
+{
+    let (first, rest) = next_field(fields)?;
+    let field = one_field(rest)?;
+    let slot = number_16(first)?;
+    let failsafe = read_switch(field).ok_or(LineCause::Number)?;
+    end_at(slot, ends)?;
+    Ok(ImageLine::Step(ImageEvent::Hold { slot, failsafe }))
+}
+
+/// `<k> <id>`: a session id that the profile of the slot's end allows.
+fn read_nonce(ends: &[SlotEnd], fields: Option<&[u8]>) -> Result<ImageLine, LineCause>
+    ensures { result ≡ nonce_line ends.now (fields_after fields.entry) }
+{
+    let (first, rest) = next_field(fields)?;
+    let field = one_field(rest)?;
+    let slot = number_16(first)?;
+    let id = number_32(field)?;
+    match find_end(slot, ends) {
+        Some(end) if end.profile.allows_id(id) => Ok(ImageLine::Step(ImageEvent::Nonce {
+            slot,
+            id,
+        })),
+        None if id <= 65535 => Err(LineCause::NoLink),
+        _ => Err(LineCause::Number),
+    }
+}
+
+/// `<k>`: the slot that resets itself.
+fn read_reset(ends: &[SlotEnd], fields: Option<&[u8]>) -> Result<ImageLine, LineCause>
+    ensures { result ≡ reset_line ends.now (fields_after fields.entry) }
+{
+    let field = one_field(fields)?;
+    let slot = number_16(field)?;
+    end_at(slot, ends)?;
+    Ok(ImageLine::Step(ImageEvent::Reset { slot }))
+}
+
+/// What a line after the header says, without its newline, where the input image has this size and the slots have these ends: an event,
+/// or that there are no more. The lines are `w <at> <hex>` (from 1 to 256 bytes inside the input image), `s` (a sample), `t` (a tick),
+/// `p <k> <hex>` (exactly as many safe data bytes as the end of slot `k` sends), `h <k> 0` and `h <k> 1` (fail-safe data off and on),
+/// `n <k> <id>` (a session id that its profile allows), `z <k>` (a local reset), and `end`. An error is the first of these causes that
+/// applies: `Word`, `Fields`, `Number`, `NoLink`, `Hex`, `Length`, `Position`.
+pub(crate) fn read_image_line(
+    line: &[u8],
+    size: u16,
+    ends: &[SlotEnd],
+) -> Result<ImageLine, LineCause>
+    ensures { result ≡ image_line size ends.now line.now }
+{
+    let (first, fields) = cut(line);
+    match read_word(first) {
+        Some(Word::Write) => read_write(size, fields),
+        Some(Word::Sample) => read_bare(ImageLine::Step(ImageEvent::Sample), fields),
+        Some(Word::Tick) => read_bare(ImageLine::Step(ImageEvent::Tick), fields),
+        Some(Word::Put) => read_put(ends, fields),
+        Some(Word::Hold) => read_hold(ends, fields),
+        Some(Word::Nonce) => read_nonce(ends, fields),
+        Some(Word::Reset) => read_reset(ends, fields),
+        Some(Word::End) => read_bare(ImageLine::End, fields),
+        None => Err(LineCause::Word),
+    }
+}

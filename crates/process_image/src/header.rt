@@ -1,0 +1,326 @@
+//! The header of images, line by line.
+ghost use Rattle.std.specs.Prelude.{◌≡◌, ◌≤◌, ◌<◌, ◌⊎◌, IfOk, OnOk, length};
+ghost use Rattle.std.specs.List.{list_any};
+ghost use Rattle.schedule_file.specs.Field.{fields_after, fields_of};
+ghost use Rattle.schedule_file.specs.Fields.{Becomes};
+ghost use Rattle.process_image.specs.Header.{image_heading_new, image_heading_is_whole, image_heading_after, image_fields_taken, image_title_taken, size_line, slot_line, slot_begun, size_taken, slot_taken, own_taken, slots_of, fits_images, heading_spans, end_of, is_size};
+ghost use Rattle.process_image.specs.LinesLeft.{image_lines_left};
+ghost use Rattle.process_image.specs.Places.{overlap};
+
+use crate::spans::{MOST_SLOTS, Spans, lie_inside, overlap};
+use fsoe_base::{End, Memory, frame_len};
+use schedule_file::{Header, HeaderKind, LineCause, cut, next_field, number_16, one_field};
+use std::alloc::Global;
+use std::marker::Model;
+use std::mem;
+
+/// The most bytes of an image that a header says.
+pub const MOST_SIZE: u16 = 4096;
+
+/// How far a header is read.
+#[derive(Clone, Copy)]
+pub enum Stage {
+    /// No line yet.
+    Start,
+    /// The first line.
+    Title,
+    /// `size`.
+    Size,
+    /// A line of the last slot.
+    Slots,
+    /// `go`.
+    Done,
+}
+
+/// A slot as its lines say it, as far as they are read.
+#[derive(Drop)]
+pub struct SlotHeader {
+    pub(crate) number: u16,
+    /// Where a frame that comes to its end begins in the input image.
+    pub(crate) at_in: u16,
+    /// Where a frame that its end sends begins in the output image.
+    pub(crate) at_out: u16,
+    /// The lines of its end.
+    pub(crate) own: Header,
+}
+
+impl SlotHeader {
+    /// A slot of which its own line alone is read.
+    fn begun(number: u16, at_in: u16, at_out: u16) -> SlotHeader
+        ensures { result ≡ slot_begun number at_in at_out }
+    {
+        SlotHeader {
+            number,
+            at_in,
+            at_out,
+            own: Header::begun(),
+        }
+    }
+
+    /// The end of the slot, once its `master` or `slave` line is read.
+    pub(crate) fn end(&self) -> End
+        ensures { result ≡ end_of self.now }
+    {
+        match self.own.kind() {
+            HeaderKind::Node(end) => end,
+            HeaderKind::Pair => End::Slave,
+        }
+    }
+
+    /// The bytes that the frames of the slot take.
+    #[tactic(auto, using(crate::proofs::Beginning::frame_most))]
+    fn spans(&self) -> Spans
+        ensures { result ≡ heading_spans self.now }
+    {
+        let lengths = self.own.lengths();
+        let (comes, goes) = match self.end() {
+            End::Master => (End::Slave, End::Master),
+            End::Slave => (End::Master, End::Slave),
+        };
+        Spans {
+            at_in: self.at_in,
+            len_in: frame_len(lengths.of(comes)) as u16,
+            at_out: self.at_out,
+            len_out: frame_len(lengths.of(goes)) as u16,
+        }
+    }
+}
+
+/// A header that is read line by line, without newlines, from its first line to `go`. The fields of a line are separated by exactly one
+/// space. The lines stand in this order:
+///
+/// - `fsoe 1 image`;
+/// - `size <in> <out>`, the bytes of both images, from 1 to 4,096 each;
+/// - from 1 to 64 slots, each with `slot <k> <at_in> <at_out>`, its number, from 1 in their order, and where its frames begin in both
+///   images; and then the lines that the header of a node has from `lengths` to before `go`;
+/// - `go`.
+///
+/// Room for all slots is taken when the header is made, so that no line takes memory.
+#[derive(Drop)]
+pub struct ImageHeader {
+    stage: Stage,
+    size_in: u16,
+    size_out: u16,
+    before: Vec<SlotHeader>,
+    last: SlotHeader,
+}
+
+impl Model for ImageHeader {
+    ghost use Rattle.std.specs.Prelude.{◌≤◌, ◌<◌, length, vec_capacity, vec_len};
+    ghost use Rattle.process_image.specs.Header.{ImageHeading};
+    ghost use Rattle.process_image.specs.declared.spans.TheConstants.{MOST_SLOTS};
+
+    ghost Value = { ImageHeading };
+
+    ghost view = { λ h.
+        record {
+          stage = h.stage;
+          size_in = h.size_in;
+          size_out = h.size_out;
+          before = h.before.items;
+          last = h.last;
+        } };
+
+    ghost invariant = { λ h. (MOST_SLOTS ≤ vec_capacity h.before) × (vec_len h.before < MOST_SLOTS) };
+}
+
+/// Whether an image may have so many bytes.
+fn is_size(n: u16) -> bool
+    ensures { result ≡ is_size n }
+{
+    n >= 1 && n <= MOST_SIZE
+}
+
+/// `<in> <out>`: the sizes of both images.
+fn read_size(fields: Option<&[u8]>) -> Result<(u16, u16), LineCause>
+    ensures { result ≡ size_line (fields_after fields.entry) }
+{
+    let (first, rest) = next_field(fields)?;
+    let second = one_field(rest)?;
+    let size_in = number_16(first)?;
+    let size_out = number_16(second)?;
+    if is_size(size_in) && is_size(size_out) {
+        Ok((size_in, size_out))
+    } else {
+        Err(LineCause::Range)
+    }
+}
+
+/// `<k> <at_in> <at_out>`: the slot of this number.
+fn read_slot(number: u16, fields: Option<&[u8]>) -> Result<SlotHeader, LineCause>
+    ensures value { result ≡ slot_line number (fields_after fields.entry) }
+    ensures begun { IfOk result (λ slot. slot ≡ slot_begun slot.number slot.at_in slot.at_out) }
+    ensures number { IfOk result (λ slot. (slot.number ≡ number) × (number ≤ MOST_SLOTS)) }
+{
+    let (first, rest) = next_field(fields)?;
+    let (second, rest) = next_field(rest)?;
+    let third = one_field(rest)?;
+    let n = number_16(first)?;
+    let at_in = number_16(second)?;
+    let at_out = number_16(third)?;
+    if n == number && usize::from(n) <= MOST_SLOTS {
+        Ok(SlotHeader::begun(n, at_in, at_out))
+    } else {
+        Err(LineCause::Range)
+    }
+}
+
+impl ImageHeader {
+    /// A header of which no line is read, with room for all slots.
+    pub fn new(alloc: Global) -> Result<ImageHeader, Memory>
+        ensures { IfOk result (λ h. h ≡ image_heading_new) }
+    {
+        let Ok(before) = Vec::with_capacity(alloc, MOST_SLOTS) else {
+            return Err(Memory);
+        };
+        Ok(ImageHeader {
+            stage: Stage::Start,
+            size_in: 1,
+            size_out: 1,
+            before,
+            last: SlotHeader::begun(0, 0, 0),
+        })
+    }
+
+    /// Whether the line `go` is read.
+    pub fn is_done(&self) -> bool
+        ensures { result ≡ image_heading_is_whole self.now }
+    {
+        matches!(self.stage, Stage::Done)
+    }
+
+    /// Reads the next line: true exactly at `go`, which ends the header. An error is the first of these causes that applies to the line:
+    /// `Header` where its first word may not stand here, `Fields`, `Number`, `Hex`, `Length`, and `Range`, also at the `master` or `slave`
+    /// line of a slot that doesn't lie inside both images or shares a byte with a slot before it. After an error no line is to be read.
+    pub fn line(&mut self, line: &[u8]) -> Result<bool, LineCause>
+        ensures next { Becomes result self.new (image_heading_after self.old line.now) }
+        ensures done { IfOk result (λ done. done ≡ image_heading_is_whole self.new) }
+        ensures fewer { OnOk result (image_lines_left self.new < image_lines_left self.old) }
+    {
+        self.read(line)?;
+        Ok(self.is_done())
+    }
+
+    fn read(&mut self, line: &[u8]) -> Result<(), LineCause>
+        ensures next { Becomes result self.new (image_heading_after self.old line.now) }
+        ensures fewer { OnOk result (image_lines_left self.new < image_lines_left self.old) }
+    {
+        match self.stage {
+            Stage::Start => self.read_title(line),
+            _ => self.read_fields(line),
+        }
+    }
+
+    fn read_title(&mut self, line: &[u8]) -> Result<(), LineCause>
+        requires { self.old.stage ≡ Stage.Start }
+        ensures next { Becomes result self.new (image_title_taken self.old line.now) }
+        ensures fewer { OnOk result (image_lines_left self.new < image_lines_left self.old) }
+    {
+        if line != b"fsoe 1 image".as_slice() {
+            return Err(LineCause::Header);
+        }
+        self.stage = Stage::Title;
+        Ok(())
+    }
+
+    fn read_fields(&mut self, line: &[u8]) -> Result<(), LineCause>
+        ensures next { Becomes result self.new (image_fields_taken self.old line.now (fields_of line.now)) }
+        ensures fewer { OnOk result (image_lines_left self.new < image_lines_left self.old) }
+    {
+        let (first, fields) = cut(line);
+        match self.stage {
+            Stage::Title if first == b"size".as_slice() => self.take_size(fields),
+            Stage::Size if first == b"slot".as_slice() => self.take_slot(fields),
+            Stage::Slots if first == b"slot".as_slice() && self.last.own.may_end() => {
+                self.take_slot(fields)
+            }
+            Stage::Slots => self.take_own(line),
+            _ => Err(LineCause::Header),
+        }
+    }
+
+    /// Takes a `size` line.
+    fn take_size(&mut self, fields: Option<&[u8]>) -> Result<(), LineCause>
+        requires { self.old.stage ≡ Stage.Title }
+        ensures next { Becomes result self.new (size_taken self.old (fields_after fields.entry)) }
+        ensures fewer { OnOk result (image_lines_left self.new < image_lines_left self.old) }
+    {
+        let (size_in, size_out) = read_size(fields)?;
+        self.size_in = size_in;
+        self.size_out = size_out;
+        self.stage = Stage::Size;
+        Ok(())
+    }
+
+    /// The number of slots whose lines were read.
+    fn count(&self) -> u16
+        ensures value { result ≡ length (slots_of self.now) }
+        ensures most { result ≤ MOST_SLOTS }
+    {
+        match self.stage {
+            Stage::Slots | Stage::Done => self.before.len() as u16 + 1,
+            Stage::Start | Stage::Title | Stage::Size => 0,
+        }
+    }
+
+    /// Takes a `slot` line.
+    fn take_slot(&mut self, fields: Option<&[u8]>) -> Result<(), LineCause>
+        requires { (self.old.stage ≡ Stage.Size) ⊎ (self.old.stage ≡ Stage.Slots) }
+        ensures next { Becomes result self.new (slot_taken self.old (fields_after fields.entry)) }
+        ensures fewer { OnOk result (image_lines_left self.new < image_lines_left self.old) }
+    {
+        let slot = read_slot(self.count() + 1, fields)?;
+        if self.last.own.wants_profile() {
+            return Err(LineCause::Range);
+        }
+        self.begin_slot(slot);
+        Ok(())
+    }
+
+    /// Goes on with this slot.
+    fn begin_slot(&mut self, slot: SlotHeader)
+        requires { length (slots_of self.old) < MOST_SLOTS }
+        ensures { self.new ≡ record self.old { stage = Stage.Slots; before = slots_of self.old; last = slot } }
+    {
+        let last = mem::replace(&mut self.last, slot);
+        match self.stage {
+            Stage::Slots | Stage::Done => self.before.push_reserved(last),
+            Stage::Start | Stage::Title | Stage::Size => self.before.clear(),
+        }
+        self.stage = Stage::Slots;
+    }
+
+    /// Takes a line of the last slot's end.
+    fn take_own(&mut self, line: &[u8]) -> Result<(), LineCause>
+        requires { self.old.stage ≡ Stage.Slots }
+        ensures next { Becomes result self.new (own_taken self.old line.now) }
+        ensures fewer { OnOk result (image_lines_left self.new < image_lines_left self.old) }
+    {
+        let done = self.last.own.node_line(line)?;
+        if self.last.own.is_end_line() && !self.fits() {
+            return Err(LineCause::Range);
+        }
+        self.stage = if done { Stage::Done } else { Stage::Slots };
+        Ok(())
+    }
+
+    /// Whether the frames of the last slot lie inside both images, and share no byte with a slot before.
+    fn fits(&self) -> bool
+        ensures { result ≡ fits_images self.now self.now.last }
+    {
+        let own = self.last.spans();
+        lie_inside(self.size_in, self.size_out, &own) && !shares(self.before.as_slice(), &own)
+    }
+}
+
+/// Whether one of these slots shares one of these bytes.
+fn shares(before: &[SlotHeader], own: &Spans) -> bool
+    ensures { result ≡ list_any (λ t. overlap (heading_spans t) own.now) before.now }
+{
+    for slot in before {
+        if overlap(&slot.spans(), own) {
+            return true;
+        }
+    }
+    false
+}

@@ -1,0 +1,211 @@
+//! The images.
+ghost use Rattle.std.specs.Prelude.{◌≡◌, ◌≤◌, ◌+◌, [], map, length, vec_len, IsTrue, IfOk, IfErr, IfSome, None, Some, All};
+ghost use Rattle.std.specs.Result.{result_err};
+ghost use Rattle.param_load.specs.Profile.{allows_id};
+ghost use Rattle.end_model.specs.Outputs.{out};
+ghost use Rattle.end_model.specs.Readiness.{state_of};
+ghost use Rattle.end_model.specs.Setup.{sends, receives, profile_of};
+ghost use Rattle.end_core.specs.Core.{setup_of};
+ghost use Rattle.end_core.specs.Standing.{IsNew};
+ghost use Rattle.process_image.specs.declared.event.ImageEvent.TheVariants as event;
+ghost use Rattle.process_image.specs.declared.fault.SlotFault.TheVariants as fault;
+
+use crate::fault::SlotFault;
+use crate::making::{seats_of, zeros};
+use crate::seat::{Seat, overwrite, sample_all, tick_all};
+use crate::slot::Slot;
+use crate::spans::first_fault;
+use fsoe_base::{Did, FrameBuf, MOST_DATA, MOST_FRAME, State};
+use std::marker::Model;
+
+/// An input image and an output image of up to 64 slots, no two of which share a byte. No call but `new` takes memory.
+#[derive(Drop)]
+pub struct Images {
+    seats: Vec<Seat>,
+    input: Vec<u8>,
+    output: Vec<u8>,
+    /// The frame that an end sends, on its way into the output image.
+    sent: FrameBuf,
+}
+
+impl Model for Images {
+    ghost use Rattle.process_image.specs.Standing.{ImagesView};
+    ghost use Rattle.process_image.specs.Sound.{IsSound};
+
+    ghost Value = { ImagesView };
+
+    ghost view = { λ m. record { seats = m.seats.items; input = m.input.items; output = m.output.items } };
+
+    ghost invariant = { λ m. IsSound (record { seats = m.seats.items; input = m.input.items; output = m.output.items }) };
+}
+
+impl Images {
+    ghost use Rattle.process_image.specs.Calls.{last_frame, output};
+    ghost use Rattle.process_image.specs.Fault.{first_fault};
+    ghost use Rattle.process_image.specs.Places.{plan_of};
+    ghost use Rattle.process_image.specs.Standing.{numbered, setups_of, slots_in, StandsFor, HasSlot, Follows, AnswersSample, AnswersTick, AnswersReset, ShowsAt, ShowsImage, ShowsFrames};
+
+    /// Images of these sizes with these slots, in this order. Both hold zeros, and so does what was sampled last. There may be no slot
+    /// at all. Refused are more than 64 slots; then the first whose frames don't lie inside both images; then the first two that share
+    /// a byte of one image; then want of memory. The slots are dropped then. Each end is as its `new` left it.
+    pub fn new(size_in: u16, size_out: u16, slots: Vec<Slot>) -> Result<Images, SlotFault>
+        requires { All (λ slot. IsNew slot.core) slots.items }
+        ensures refused { IfSome (first_fault (plan_of size_in size_out slots.items)) (λ found. result_err result ≡ Some found) }
+        ensures memory_alone { IfErr result (λ found. first_fault (plan_of size_in size_out slots.items) ≡ None → found ≡ fault.Memory) }
+        ensures stands { IfOk result (λ images. StandsFor (plan_of size_in size_out slots.items) images []) }
+        ensures setups { IfOk result (λ images. setups_of images ≡ map (λ slot. setup_of slot.core) slots.items) }
+        ensures size_in { IfOk result (λ images. length images.input ≡ size_in) }
+        ensures size_out { IfOk result (λ images. length images.output ≡ size_out) }
+    {
+        if let Some(found) = first_fault(size_in, size_out, slots.as_slice()) {
+            return Err(found);
+        }
+        let alloc = *slots.allocator();
+        let seats = seats_of(slots)?;
+        let input = zeros(alloc, size_in)?;
+        let output = zeros(alloc, size_out)?;
+        Ok(Images {
+            seats,
+            input,
+            output,
+            sent: FrameBuf::new(),
+        })
+    }
+
+    /// Writes these bytes into the input image from this place on, and changes no other. No end is told of them before a sample.
+    pub fn write(&mut self, at: u16, bytes: &[u8])
+        requires { at + length bytes.now ≤ length self.old.input }
+        ensures follows { Follows self.old (event.Write at bytes.now) self.new }
+        ensures setups { setups_of self.new ≡ setups_of self.old }
+        ensures size_in { length self.new.input ≡ length self.old.input }
+        ensures size_out { length self.new.output ≡ length self.old.output }
+    {
+        overwrite(self.input.as_mut_slice(), usize::from(at), bytes);
+    }
+
+    /// Samples the input image: in their order, each slot whose contents aren't those of the last sample gets them delivered, what its
+    /// end did is written to its place in `dids`, and a frame that it sent is put in its place in the output image. Every other slot
+    /// has None there, and stays as it is. `dids` has a place for each slot.
+    pub fn sample(&mut self, dids: &mut [Option<Did>])
+        requires { length dids.old ≡ slots_in self.old }
+        ensures follows { Follows self.old event.Sample self.new }
+        ensures answers { AnswersSample self.old dids.new }
+        ensures setups { setups_of self.new ≡ setups_of self.old }
+        ensures size_in { length self.new.input ≡ length self.old.input }
+        ensures size_out { length self.new.output ≡ length self.old.output }
+    {
+        sample_all(
+            self.seats.as_mut_slice(),
+            self.input.as_slice(),
+            self.output.as_mut_slice(),
+            &mut self.sent,
+            dids,
+        );
+    }
+
+    /// Counts a tick at the end of each slot, in their order, and writes what each did to its place in `dids`, and a frame that it sent
+    /// to its place in the output image. `dids` has a place for each slot.
+    pub fn tick(&mut self, dids: &mut [Did])
+        requires { length dids.old ≡ slots_in self.old }
+        ensures follows { Follows self.old event.Tick self.new }
+        ensures answers { AnswersTick self.old dids.new }
+        ensures setups { setups_of self.new ≡ setups_of self.old }
+        ensures size_in { length self.new.input ≡ length self.old.input }
+        ensures size_out { length self.new.output ≡ length self.old.output }
+    {
+        tick_all(
+            self.seats.as_mut_slice(),
+            self.output.as_mut_slice(),
+            &mut self.sent,
+            dids,
+        );
+    }
+
+    /// The end of this slot offers these safe data from now on, as many as its frames have. The offer outlasts resets.
+    pub fn put(&mut self, slot: u16, load: &[u8])
+        requires slot { HasSlot self.old slot }
+        requires len { IfSome (numbered slot (setups_of self.old)) (λ s. length load.now ≡ sends s) }
+        ensures follows { Follows self.old (event.Put slot load.now) self.new }
+        ensures setups { setups_of self.new ≡ setups_of self.old }
+        ensures size_in { length self.new.input ≡ length self.old.input }
+        ensures size_out { length self.new.output ≡ length self.old.output }
+    {
+        self.seats[usize::from(slot) - 1].core.put(load);
+    }
+
+    /// Whether the end of this slot sends zeros in place of its offer from now on. It outlasts resets.
+    pub fn hold(&mut self, slot: u16, failsafe: bool)
+        requires { HasSlot self.old slot }
+        ensures follows { Follows self.old (event.Hold slot failsafe) self.new }
+        ensures setups { setups_of self.new ≡ setups_of self.old }
+        ensures size_in { length self.new.input ≡ length self.old.input }
+        ensures size_out { length self.new.output ≡ length self.old.output }
+    {
+        self.seats[usize::from(slot) - 1].core.hold(failsafe);
+    }
+
+    /// The session id of the sessions of this slot that begin from now on, at most 65,535 in profile One. It outlasts resets.
+    pub fn nonce(&mut self, slot: u16, id: u32)
+        requires slot { HasSlot self.old slot }
+        requires allowed { IfSome (numbered slot (setups_of self.old)) (λ s. IsTrue (allows_id (profile_of s) id)) }
+        ensures follows { Follows self.old (event.Nonce slot id) self.new }
+        ensures setups { setups_of self.new ≡ setups_of self.old }
+        ensures size_in { length self.new.input ≡ length self.old.input }
+        ensures size_out { length self.new.output ≡ length self.old.output }
+    {
+        self.seats[usize::from(slot) - 1].core.nonce(id);
+    }
+
+    /// Ends the session of this slot, if there is one, and puts Reset(0) in its place in the output image.
+    pub fn reset(&mut self, slot: u16) -> Did
+        requires { HasSlot self.old slot }
+        ensures follows { Follows self.old (event.Reset slot) self.new }
+        ensures answers { AnswersReset self.old slot result }
+        ensures setups { setups_of self.new ≡ setups_of self.old }
+        ensures size_in { length self.new.input ≡ length self.old.input }
+        ensures size_out { length self.new.output ≡ length self.old.output }
+    {
+        let seat = &mut self.seats[usize::from(slot) - 1];
+        let did = seat.core.reset(&mut self.sent);
+        seat.give(&self.sent, self.output.as_mut_slice());
+        did
+    }
+
+    /// The state of the end of this slot.
+    pub fn state(&self, slot: u16) -> State
+        requires { HasSlot self.now slot }
+        ensures { ShowsAt self.now slot result state_of }
+    {
+        self.seats[usize::from(slot) - 1].core.state()
+    }
+
+    /// The outputs of the end of this slot, as many bytes as its peer's frames have, and zeros in every state but Data.
+    pub fn outputs(&self, slot: u16) -> &[u8]
+        requires { HasSlot self.now slot }
+        ensures shown { ShowsAt self.now slot result.now out }
+        ensures len { IfSome (numbered slot (setups_of self.now)) (λ s. length result.now ≡ receives s) }
+        ensures most { length result.now ≤ MOST_DATA }
+    {
+        self.seats[usize::from(slot) - 1].core.outputs()
+    }
+
+    /// The last frame that the end of this slot sent, zeros where it sent none: what stands in its place in the output image.
+    pub fn frame(&self, slot: u16) -> &[u8]
+        requires { HasSlot self.now slot }
+        ensures shown { ShowsAt self.now slot result.now last_frame }
+        ensures most { length result.now ≤ MOST_FRAME }
+    {
+        let seat = &self.seats[usize::from(slot) - 1];
+        &self.output[seat.at_out..seat.at_out + seat.len_out]
+    }
+
+    /// The output image: at each slot the last frame that its end sent, and zeros elsewhere.
+    #[tactic(auto, using(crate::proofs::Frames::shows_frames))]
+    pub fn out(&self) -> &[u8]
+        ensures image { ShowsImage self.now result.now output }
+        ensures frames { ShowsFrames self.now result.now }
+        ensures value { result.now ≡ self.now.output }
+    {
+        self.output.as_slice()
+    }
+}

@@ -1,0 +1,62 @@
+//! What holds of images over all their calls, and runs of them that were worked out. The calls do nothing: each law is a contract.
+ghost use Rattle.std.specs.Prelude.{◌≡◌, ℕ, [], ◌∷◌, List, Some, Ok, Err, codes, false, length, replicate};
+ghost use Rattle.fsoe_base.specs.Lengths.{frame_len};
+ghost use Rattle.param_load.specs.declared.entry.Move.{Move};
+ghost use Rattle.schedule_file.specs.declared.line_cause.LineCause.TheVariants as cause;
+ghost use Rattle.end_model.specs.Deed.{Deed, is_empty};
+ghost use Rattle.end_model.specs.Setup.{Setup, sends};
+ghost use Rattle.end_model.specs.Step.{IsProper, IsRun, step};
+ghost use Rattle.process_image.specs.Calls.{contents, moves, output};
+ghost use Rattle.process_image.specs.Fault.{first_fault};
+ghost use Rattle.process_image.specs.Own.{Unwritten, WritesFit, at_samples, distinct_after, frames_in};
+ghost use Rattle.process_image.specs.Image.{input};
+ghost use Rattle.process_image.specs.Places.{Place, Plan, share, spans_of};
+ghost use Rattle.process_image.specs.Worked.{sharing, two_slots, stage_after, one_said, w, ChangesAlone, HalfWritten, BothEnds};
+ghost use Rattle.process_image.specs.declared.event.ImageEvent.{ImageEvent};
+ghost use Rattle.process_image.specs.declared.event.ImageEvent.TheVariants as event;
+ghost use Rattle.process_image.specs.declared.event.ImageLine.TheVariants as line;
+ghost use Rattle.process_image.specs.declared.fault.SlotFault.TheVariants as fault;
+ghost use Rattle.process_image.specs.declared.header.Stage.TheVariants as stage;
+
+/// A frame that an end sends has as many bytes as its frames have, so that it fills its place in the output image.
+pub fn frames_fill()
+    ensures { (s : Setup) (e : List Deed) (what : Move) → IsProper s what → IsRun s e → is_empty (step s e what).sent ≡ false → length (step s e what).sent ≡ frame_len (sends s) }
+{}
+
+/// Worked reports of images: a slot is delivered where its bytes changed alone; half of a frame is told as what it is, and the run
+/// goes on; a master and a slave side by side.
+pub fn worked_reports()
+    ensures changes_alone { ChangesAlone }
+    ensures half_written { HalfWritten }
+    ensures both_ends { BothEnds }
+{}
+
+/// Worked lines of a header and of events, and slots that share a byte: the line that says a slot's lengths is refused.
+pub fn worked_lines()
+    ensures apart { stage_after (two_slots (codes "slot 2 7 7")) ≡ Ok stage.Slots }
+    ensures shared { stage_after (two_slots (codes "slot 2 6 7")) ≡ Err cause.Range }
+    ensures out_of_turn { stage_after (two_slots (codes "slot 3 7 7")) ≡ Err cause.Range }
+    ensures fault { first_fault sharing ≡ Some (fault.Overlap 1 2) }
+    ensures write { one_said (codes "w 7 2a0000c42d0000") ≡ Ok (line.Step (w 7 (codes "2a0000c42d0000"))) }
+    ensures outside { one_said (codes "w 8 2a0000c42d0000") ≡ Err cause.Position }
+    ensures no_slot { one_said (codes "p 2 zz") ≡ Err cause.NoLink }
+    ensures no_number { one_said (codes "n 2 65536") ≡ Err cause.Number }
+    ensures length { one_said (codes "p 1 010203") ≡ Err cause.Length }
+{}
+
+/// The frames that are delivered to a slot are its contents at the samples, in their order, without those that equal the contents at
+/// the sample before, and at the first one without zeros.
+pub fn distinct()
+    ensures { (size : ℕ) (p : Place) (calls : List ImageEvent) → frames_in (moves size p calls) ≡ distinct_after (contents p (replicate size 0)) (at_samples size p calls) }
+{}
+
+/// A sample with no write since the last changes nothing.
+pub fn quiet_samples()
+    ensures moves { (size : ℕ) (p : Place) (calls : List ImageEvent) → Unwritten calls → moves size p (event.Sample ∷ calls) ≡ moves size p calls }
+    ensures output { (plan : Plan) (calls : List ImageEvent) → Unwritten calls → output plan (event.Sample ∷ calls) ≡ output plan calls }
+{}
+
+/// A write beside a slot changes nothing of it.
+pub fn writes_beside()
+    ensures { (size at : ℕ) (bytes : List ℕ) (p : Place) (calls : List ImageEvent) → WritesFit size (event.Write at bytes ∷ calls) → share p.at_in (spans_of p).len_in at (length bytes) ≡ false → contents p (input size (event.Write at bytes ∷ calls)) ≡ contents p (input size calls) }
+{}
