@@ -7,28 +7,81 @@ use plant_setup::{SetupFault, set_up, write_config_line};
 use std::alloc::Global;
 use std::test::Fail;
 
-const FIRST: &str = "[[connection]]\nid = 1\naddress = 11\nwatchdog = 5\nmaster_length = 2\nslave_length = 4\n";
+const FIRST: &str =
+    "[[connection]]\nid = 1\naddress = 11\nwatchdog = 5\nmaster_length = 2\nslave_length = 4\n";
 
-const SECOND: &str = "[[connection]]\nid = 2\naddress = 12\nwatchdog = 5\nmaster_length = 2\nslave_length = 2\n";
+const SECOND: &str =
+    "[[connection]]\nid = 2\naddress = 12\nwatchdog = 5\nmaster_length = 2\nslave_length = 2\n";
 
-const NET: &str = "[[block]]\nkind = \"estop\"\nins = [\"i1.0\", \"i1.1\"]\n[[drive]]\nout = \"o2.0\"\nfrom = \"b1\"\n";
+const NET: &str =
+    "[[block]]\nkind = \"estop\"\nins = [\"i1.0\", \"i1.1\"]\n[[drive]]\nout = \"o2.0\"\nfrom = \"b1\"\n";
 
 /// The names of the application and of the channel, the tables after the first connection, and the line that is written.
 const ROWS: [(&str, &str, &[&str], &str); 14] = [
     ("net", "perfect", &[SECOND, NET], ""),
     ("mirror", "perfect", &[SECOND, NET], ""),
     ("net", "perfect", &[FIRST, NET], "config SameConn 1 2\n"),
-    ("net", "perfect", &["[[connection]]\nid = 2\n"], "config Missing connection 2 address\n"),
+    (
+        "net",
+        "perfect",
+        &["[[connection]]\nid = 2\n"],
+        "config Missing connection 2 address\n",
+    ),
     ("net", "perfect", &[SECOND, NET, NET], "config Twice 2.0\n"),
-    ("zeros", "none", &[SECOND, "[[block]]\nkind = \"estop\"\nins = [\"b1\", \"i1.1\"]\n"], "config Later 1\n"),
-    ("net", "perfect", &[SECOND, "[[block]]\nkind = \"and\"\nins = []\n"], "config Arity 1\n"),
-    ("net", "perfect", &[SECOND, NET, "[[bound]]\nestop = \"i1.31\"\ndrive = \"o2.15\"\n"], ""),
-    ("net", "none", &[SECOND, NET, "[[bound]]\nestop = \"i1.32\"\ndrive = \"o2.16\"\n"], "config NoInput 1.32\n"),
-    ("none", "none", &[SECOND, NET, "[[bound]]\nestop = \"i1.31\"\ndrive = \"o2.16\"\n"], "config NoOutput 2.16\n"),
+    (
+        "zeros",
+        "none",
+        &[
+            SECOND,
+            "[[block]]\nkind = \"estop\"\nins = [\"b1\", \"i1.1\"]\n",
+        ],
+        "config Later 1\n",
+    ),
+    (
+        "net",
+        "perfect",
+        &[SECOND, "[[block]]\nkind = \"and\"\nins = []\n"],
+        "config Arity 1\n",
+    ),
+    (
+        "net",
+        "perfect",
+        &[
+            SECOND,
+            NET,
+            "[[bound]]\nestop = \"i1.31\"\ndrive = \"o2.15\"\n",
+        ],
+        "",
+    ),
+    (
+        "net",
+        "none",
+        &[
+            SECOND,
+            NET,
+            "[[bound]]\nestop = \"i1.32\"\ndrive = \"o2.16\"\n",
+        ],
+        "config NoInput 1.32\n",
+    ),
+    (
+        "none",
+        "none",
+        &[
+            SECOND,
+            NET,
+            "[[bound]]\nestop = \"i1.31\"\ndrive = \"o2.16\"\n",
+        ],
+        "config NoOutput 2.16\n",
+    ),
     ("none", "none", &[SECOND, NET], "config NoApp\n"),
     ("zeros", "none", &[SECOND, NET], "config NoChannel\n"),
     ("net", "perfect", &["[plant"], "config Syntax\n"),
-    ("net", "perfect", &["[[bound]]\nestop = 1\n"], "config Kind bound 1 estop\n"),
+    (
+        "net",
+        "perfect",
+        &["[[bound]]\nestop = 1\n"],
+        "config Kind bound 1 estop\n",
+    ),
 ];
 
 fn named(alloc: Global, name: &str, app: Box<dyn Application>) -> Result<AppEntry, Fail> {
@@ -42,7 +95,14 @@ fn named(alloc: Global, name: &str, app: Box<dyn Application>) -> Result<AppEntr
 fn line_of(alloc: Global, app: &str, channel: &str, tables: &[&str]) -> Result<LineText, Fail> {
     let mut line = LineText::new();
     let mut text = String::new(alloc);
-    for part in ["[plant]\napp = \"", app, "\"\nchannel = \"", channel, "\"\n", FIRST] {
+    for part in [
+        "[plant]\napp = \"",
+        app,
+        "\"\nchannel = \"",
+        channel,
+        "\"\n",
+        FIRST,
+    ] {
         text.push_str(part)?;
     }
     for part in tables {
