@@ -1,11 +1,22 @@
-//! A drive: a slave in its cyclic loop, in a thread of its own. Each millisecond it takes the frame that came, counts a tick, sends
-//! what is to be sent, and drives its motor by the outputs. Here a list of frames stands for the bus: a master brings the connection
-//! up, switches the motor on, and then is silent until the watchdog expires.
+//! The drive of `embed/examples/drive.c`, in a thread of its own: a slave in its cyclic loop. Each millisecond it takes the frames that
+//! came, counts a tick, drives its motor by the outputs, and sends what is to be sent. Where anything is wrong the motor is off.
+//!
+//! `Device` is what you replace. Here a list of frames stands for the bus: a master brings the connection up, switches the motor on,
+//! and then is silent until the watchdog expires.
+//!
+//! This drive starts again by itself when data come again. Where a machine must not, keep the motor off after a reset until somebody
+//! acknowledged it.
 
 use std::num::NonZeroU16;
 use std::thread;
 
-use gatepast::{One, Rule, Slave, SlaveMemory, SlaveSettings, Step};
+use gatepast::{One, Rule, Slave, SlaveMemory, SlaveSettings, State};
+
+const CONNECTION: u16 = 1;
+/// So many frames are taken in a millisecond, so that ticks never wait for frames.
+const MOST_FRAMES: usize = 4;
+/// After so many resets a person has to look.
+const MOST_RESETS: u32 = 100;
 
 const COMING: [[u8; 7]; 8] = [
     [0x2A, 0x00, 0x00, 0xC4, 0x2D, 0x00, 0x00],
@@ -18,46 +29,149 @@ const COMING: [[u8; 7]; 8] = [
     [0x36, 0x01, 0x00, 0xFC, 0x43, 0x01, 0x00],
 ];
 
-/// Sends the frame of a step, and says whether a session ended, so that the next one needs a fresh id.
-fn follow(now: usize, step: &Step<'_>) -> bool {
-    if let Some(frame) = step.send() {
-        println!("{now:3} ms: sends {frame:02x?}");
-    }
-    if let Some(cause) = step.reset() {
-        println!("{now:3} ms: the session ended: {cause:?}");
-    }
-    step.reset().is_some()
+/// Why the drive ends before its time.
+type Stop = &'static str;
+
+/// The bus, the motor, the clock and the memory that outlasts power-off. The motor is off from the start, and when this is let go.
+struct Device {
+    now: usize,
+    next: usize,
+    motor: Option<bool>,
+    lasting: u16,
 }
 
-fn main() {
-    let settings = SlaveSettings {
-        address: 2,
-        hand: NonZeroU16::new(200).unwrap(),
-        most: NonZeroU16::new(1000).unwrap(),
-        // from a counter in memory that outlasts power-off; a trial may begin at the same id each time
-        profile: One { nonce: 2 },
-    };
-    let drive = thread::spawn(move || {
-        let mut memory = SlaveMemory::new();
-        let mut slave = Slave::<One, 2, 2>::new(&mut memory, &settings, Rule::any::<0>());
-        let mut id = settings.profile.nonce;
-        let mut motor = false;
-        for now in 1..=150 {
-            slave.put(&[0x80, 0x00]);
-            let mut over = COMING
-                .get(now - 1)
-                .is_some_and(|frame| follow(now, &slave.deliver(frame)));
-            over |= follow(now, &slave.tick());
-            if over {
-                id += 2;
-                slave.nonce(id);
-            }
-            let on = slave.outputs()[0] & 1 != 0;
-            if on != motor {
-                println!("{now:3} ms: motor {}", if on { "on" } else { "off" });
-            }
-            motor = on;
+impl Device {
+    fn new() -> Device {
+        // in a device `lasting` is read; here each run begins at 0, as no device may
+        let mut device = Device {
+            now: 0,
+            next: 0,
+            motor: None,
+            lasting: 0,
+        };
+        device.drive_motor([0; 2]);
+        device
+    }
+
+    /// Waits for the next millisecond, or not where one was missed: each is ticked. False where the program is to end.
+    fn next_millisecond(&mut self) -> bool {
+        self.now += 1;
+        self.now <= 150
+    }
+
+    /// A frame that came, or None at once.
+    fn receive(&mut self) -> Option<&'static [u8; 7]> {
+        let frame = COMING.get(self.next).filter(|_| self.next < self.now)?;
+        self.next += 1;
+        Some(frame)
+    }
+
+    /// Hands a frame to the bus, and doesn't wait.
+    fn send(&self, frame: &[u8]) {
+        let bytes: String = frame.iter().map(|byte| format!(" {byte:02x}")).collect();
+        println!("{:3} ms: sends{bytes}", self.now);
+    }
+
+    /// Bit 0 of the first byte: the motor is enabled. All zeros is off.
+    fn drive_motor(&mut self, outputs: [u8; 2]) {
+        let on = outputs[0] & 1 != 0;
+        if self.motor.replace(on) != Some(on) {
+            println!("{:3} ms: motor {}", self.now, if on { "on" } else { "off" });
         }
-    });
-    drive.join().unwrap();
+    }
+
+    /// A session id that no session of this drive had, also before a power-off. A slave counts by 2.
+    fn fresh_session_id(&mut self) -> Result<u16, Stop> {
+        let id = self.lasting.checked_add(2);
+        self.lasting = id.ok_or("all session ids are used up")?;
+        Ok(self.lasting)
+    }
+}
+
+impl Drop for Device {
+    fn drop(&mut self) {
+        self.drive_motor([0; 2]);
+    }
+}
+
+struct Drive<'m> {
+    device: Device,
+    slave: Slave<'m, One, 2, 2>,
+    looked: bool,
+    resets: u32,
+}
+
+impl<'m> Drive<'m> {
+    fn new(memory: &'m mut SlaveMemory) -> Result<Self, Stop> {
+        let mut device = Device::new();
+        let nonce = device.fresh_session_id()?;
+        let settings = SlaveSettings {
+            address: 2,
+            hand: NonZeroU16::new(200).ok_or("a handshake without time")?,
+            most: NonZeroU16::new(100).ok_or("a watchdog of 0")?,
+            profile: One { nonce },
+        };
+        let slave = Slave::new(memory, &settings, Rule::any::<0>());
+        Ok(Drive {
+            device,
+            slave,
+            looked: false,
+            resets: 0,
+        })
+    }
+
+    fn run(&mut self) -> Result<(), Stop> {
+        while self.device.next_millisecond() {
+            self.slave.put(&[0x80, 0x00]); // what the drive tells its master: ready
+            for _ in 0..MOST_FRAMES {
+                let Some(frame) = self.device.receive() else {
+                    break;
+                };
+                let _ = self.slave.deliver(frame);
+                self.follow()?;
+            }
+            let _ = self.slave.tick();
+            self.follow()?;
+        }
+        Ok(())
+    }
+
+    /// Looks at what a session agreed on when it comes to data, before its first outputs. Ends one that isn't for this drive.
+    fn look_at_terms(&mut self) {
+        let in_data = self.slave.state() == State::Data;
+        let first = in_data && !self.looked;
+        self.looked = in_data;
+        if first && self.slave.terms().map(|terms| terms.conn) != Some(CONNECTION) {
+            let _ = self.slave.reset();
+        }
+    }
+
+    /// After each step: first the outputs, then the frame, and last what may take its time.
+    fn follow(&mut self) -> Result<(), Stop> {
+        self.look_at_terms();
+        self.device.drive_motor(self.slave.outputs());
+        let step = self.slave.last_step();
+        if let Some(frame) = step.send() {
+            self.device.send(frame);
+        }
+        let Some(cause) = step.reset() else {
+            return Ok(());
+        };
+        println!(
+            "{:3} ms: the session ended with code {:02x}",
+            self.device.now,
+            cause.code().0
+        );
+        self.resets += 1;
+        if self.resets > MOST_RESETS {
+            return Err("too many resets");
+        }
+        self.slave.nonce(self.device.fresh_session_id()?);
+        Ok(())
+    }
+}
+
+fn main() -> Result<(), Stop> {
+    let drive = thread::spawn(|| Drive::new(&mut SlaveMemory::new())?.run());
+    drive.join().map_err(|_| "the drive panicked")?
 }

@@ -2,8 +2,10 @@
 //!
 //! An end has no clock and no line: your program hands it frames and ticks, and sends what it hands out. It lies in memory that
 //! you lend it, takes none besides, and needs no operating system. The machine code behind it is proved to do what the profile
-//! says; this package is a thin layer over it, whose types leave no wrong call to write: lengths are part of the type of an end,
-//! a session id has the bits that its profile allows, and where a master owes a frame only sending it leads on.
+//! says; this package is a thin layer over it, and isn't proved. Its types leave no call to write that the archive refuses: lengths
+//! are part of the type of an end, a session id has the bits that its profile allows, and where a master owes a frame only sending
+//! it leads on. What they can't see is owed, as `docs/duties.md` says: each step's frame sent, fresh ids, ticks, outputs applied.
+//! `examples/drive.rs` is a whole loop.
 //!
 //! ```
 //! use core::num::NonZeroU16;
@@ -58,7 +60,7 @@ fn done(answer: u8) {
     }
 }
 
-/// What doesn't compile: an end of a length that frames can't carry,
+/// What doesn't compile: an end of a length that frames can't carry, which a build refuses, and `cargo check` doesn't,
 ///
 /// ```compile_fail,E0080
 /// # use core::num::NonZeroU16;
@@ -97,7 +99,7 @@ fn done(answer: u8) {
 /// # }
 /// ```
 ///
-/// and the use of memory that an end lies in.
+/// the use of memory that an end lies in,
 ///
 /// ```compile_fail,E0505
 /// # use core::num::NonZeroU16;
@@ -108,6 +110,15 @@ fn done(answer: u8) {
 /// let mut slave = Slave::<One, 2, 2>::new(&mut memory, &settings, Rule::any::<0>());
 /// drop(memory);
 /// slave.put(&[1, 2]);
+/// ```
+///
+/// and, where warnings are errors, a step that nobody looks at.
+///
+/// ```compile_fail
+/// # #![deny(unused_must_use)]
+/// # fn f(slave: &mut gatepast::Slave<'_, gatepast::One, 2, 2>) {
+/// slave.tick();
+/// # }
 /// ```
 #[cfg(doctest)]
 pub struct WrongCalls;

@@ -28,7 +28,7 @@ impl Default for MasterMemory {
 }
 
 /// A master that sends `M` safe data bytes a frame, and whose slave sends `S`. Each is 1, or even and from 2 to 126; an end of
-/// other lengths doesn't compile.
+/// other lengths isn't built.
 pub struct Master<'m, P: Profile, const M: usize, const S: usize> {
     handle: ffi::Handle,
     out: ffi::Frame,
@@ -37,7 +37,8 @@ pub struct Master<'m, P: Profile, const M: usize, const S: usize> {
     profile: PhantomData<P>,
 }
 
-// SAFETY: the handle's memory is lent to this value alone, and the library keeps nothing elsewhere.
+// SAFETY: the handle's memory is lent to this value alone. That the library keeps nothing elsewhere, as of a thread, is so by how it
+// is made, and believed: the proof is of calls in one thread.
 unsafe impl<P: Profile, const M: usize, const S: usize> Send for Master<'_, P, M, S> {}
 
 impl<'m, P: Profile, const M: usize, const S: usize> Master<'m, P, M, S> {
@@ -79,7 +80,8 @@ impl<'m, P: Profile, const M: usize, const S: usize> Master<'m, P, M, S> {
         master
     }
 
-    fn step(&self) -> Step<'_> {
+    /// What the last step did, with its frame: for who reads outputs before the frame is sent.
+    pub fn last_step(&self) -> Step<'_> {
         Step {
             out: &self.out,
             did: &self.did,
@@ -109,7 +111,7 @@ impl<'m, P: Profile, const M: usize, const S: usize> Master<'m, P, M, S> {
                 &mut it.did,
             )
         });
-        self.step()
+        self.last_step()
     }
 
     /// A frame of the slave came, and the application is to act before the frame that follows is sealed.
@@ -133,7 +135,7 @@ impl<'m, P: Profile, const M: usize, const S: usize> Master<'m, P, M, S> {
     pub fn tick(&mut self) -> Step<'_> {
         // SAFETY: as in `deliver`.
         self.at_rest(|it| unsafe { ffi::gp_master_tick(&mut it.handle, &mut it.out, &mut it.did) });
-        self.step()
+        self.last_step()
     }
 
     /// Ends the session, if there is one. The step has the Reset frame to send.
@@ -142,10 +144,11 @@ impl<'m, P: Profile, const M: usize, const S: usize> Master<'m, P, M, S> {
         self.at_rest(|it| unsafe {
             ffi::gp_master_reset(&mut it.handle, &mut it.out, &mut it.did)
         });
-        self.step()
+        self.last_step()
     }
 
-    /// The master's own safe data from now on. They outlast resets.
+    /// The master's own safe data from now on. They outlast resets: a session that comes anew goes on with them, so where the
+    /// old data may not come again, put zeros or hold after each reset.
     pub fn put(&mut self, load: &[u8; M]) {
         // SAFETY: as in `deliver`.
         done(unsafe { ffi::gp_master_put(&mut self.handle, load.as_ptr(), M) });
@@ -157,7 +160,8 @@ impl<'m, P: Profile, const M: usize, const S: usize> Master<'m, P, M, S> {
         done(unsafe { ffi::gp_master_hold(&mut self.handle, failsafe) });
     }
 
-    /// The session id of the sessions that begin from now on. Each session needs a fresh one.
+    /// The session id of each session that begins from now on. It outlasts resets, so that the next session has the same one again
+    /// unless a fresh one is set: do so after each reset.
     pub fn nonce(&mut self, id: P::Nonce) {
         // SAFETY: as in `deliver`.
         done(unsafe { ffi::gp_master_nonce(&mut self.handle, id.into()) });
@@ -171,7 +175,9 @@ impl<'m, P: Profile, const M: usize, const S: usize> Master<'m, P, M, S> {
         state(number)
     }
 
-    /// The outputs, what the slave says: zeros in every state but Data.
+    /// The outputs, which are the inputs of the master's application: the data of the frame that was taken last in this session, if it
+    /// was a ProcessData frame, else zeros. So they are zeros in every state but Data, after a FailSafeData frame, and from the tick at
+    /// which the watchdog expires.
     pub fn outputs(&mut self) -> [u8; S] {
         let mut outputs = [0; S];
         // SAFETY: as in `deliver`.
@@ -200,7 +206,7 @@ impl<'m, P: Profile, const M: usize, const S: usize> Master<'m, P, M, S> {
         }
     }
 
-    /// The ticks since the last frame was sent.
+    /// The ticks since the last frame was sent; one less than the watchdog where none was sent yet.
     pub fn age(&mut self) -> u16 {
         let mut age = 0;
         // SAFETY: as in `deliver`.
@@ -225,6 +231,7 @@ impl<P: Profile, const M: usize, const S: usize> Drop for Master<'_, P, M, S> {
 }
 
 /// What came of a frame that was accepted.
+#[must_use = "a frame may be due"]
 pub enum Accepted<'a, 'm, P: Profile, const M: usize, const S: usize> {
     /// It was dropped, for this reason, and nothing is to be sent.
     Dropped(Option<Dropped>),
@@ -234,12 +241,14 @@ pub enum Accepted<'a, 'm, P: Profile, const M: usize, const S: usize> {
 
 /// A master that owes a frame. Nothing else can be done with it before [`Due::reply`], but what the frame is to carry. Where this is
 /// let go without a reply, the frame is lost, as on a channel.
+#[must_use = "a frame is due, which `reply` gives"]
 pub struct Due<'a, 'm, P: Profile, const M: usize, const S: usize> {
     master: &'a mut Master<'m, P, M, S>,
 }
 
 impl<'a, 'm, P: Profile, const M: usize, const S: usize> Due<'a, 'm, P, M, S> {
     /// The frame to send. It carries what was put last.
+    #[must_use = "this is the frame to send"]
     pub fn reply(self) -> &'a [u8] {
         let due = ManuallyDrop::new(self);
         // SAFETY: `due` is not dropped, so that the reference is moved out of it once.

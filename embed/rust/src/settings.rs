@@ -26,14 +26,14 @@ mod private {
 /// Profile One: session ids have 16 bits, and the one communication parameter is the watchdog.
 #[derive(Clone, Copy, Debug, PartialEq, Eq)]
 pub struct One {
-    /// The first session id.
+    /// The id of the first session, a fresh one too.
     pub nonce: u16,
 }
 
 /// Profile Two: session ids have 32 bits, and the communication parameters are the watchdog and a word.
 #[derive(Clone, Copy, Debug, PartialEq, Eq)]
 pub struct Two {
-    /// The first session id.
+    /// The id of the first session, a fresh one too.
     pub nonce: u32,
     /// The profile word, which both ends have to have.
     pub word: u16,
@@ -70,9 +70,10 @@ impl Profile for Two {
 pub struct SlaveSettings<P> {
     /// The slave's address.
     pub address: u16,
-    /// The limit of a handshake.
+    /// The watchdog of a handshake, until the master's is known: the session ends in the tick that makes so many since this slave sent
+    /// a frame.
     pub hand: NonZeroU16,
-    /// The longest watchdog that is accepted.
+    /// The longest watchdog that is accepted from a master. Old data may stay on for nearly twice as long.
     pub most: NonZeroU16,
     /// The profile, with the first session id.
     pub profile: P,
@@ -85,7 +86,7 @@ pub struct MasterSettings<'a, P> {
     pub conn: NonZeroU16,
     /// The slave's address.
     pub address: u16,
-    /// The watchdog.
+    /// The watchdog, at both ends: the session ends in the tick that makes so many since that end sent a frame.
     pub watchdog: NonZeroU16,
     /// The application parameters, which the slave's rule has to allow.
     pub app: App<'a>,

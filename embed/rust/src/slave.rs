@@ -25,7 +25,7 @@ impl Default for SlaveMemory {
 }
 
 /// A slave whose master sends `M` safe data bytes a frame, and which itself sends `S`. Each is 1, or even and from 2 to 126; an
-/// end of other lengths doesn't compile.
+/// end of other lengths isn't built.
 pub struct Slave<'m, P: Profile, const M: usize, const S: usize> {
     handle: ffi::Handle,
     out: ffi::Frame,
@@ -34,7 +34,8 @@ pub struct Slave<'m, P: Profile, const M: usize, const S: usize> {
     profile: PhantomData<P>,
 }
 
-// SAFETY: the handle's memory is lent to this value alone, and the library keeps nothing elsewhere.
+// SAFETY: the handle's memory is lent to this value alone. That the library keeps nothing elsewhere, as of a thread, is so by how it
+// is made, and believed: the proof is of calls in one thread.
 unsafe impl<P: Profile, const M: usize, const S: usize> Send for Slave<'_, P, M, S> {}
 
 impl<'m, P: Profile, const M: usize, const S: usize> Slave<'m, P, M, S> {
@@ -88,7 +89,8 @@ impl<'m, P: Profile, const M: usize, const S: usize> Slave<'m, P, M, S> {
         slave
     }
 
-    fn step(&self) -> Step<'_> {
+    /// What the last step did, with its frame: for who reads outputs and terms before the frame is sent.
+    pub fn last_step(&self) -> Step<'_> {
         Step {
             out: &self.out,
             did: &self.did,
@@ -107,24 +109,25 @@ impl<'m, P: Profile, const M: usize, const S: usize> Slave<'m, P, M, S> {
                 &mut self.did,
             )
         });
-        self.step()
+        self.last_step()
     }
 
     /// A tick passed. Where the watchdog expires the session ends, and the outputs are zeros from this call on.
     pub fn tick(&mut self) -> Step<'_> {
         // SAFETY: as in `deliver`.
         done(unsafe { ffi::gp_slave_tick(&mut self.handle, &mut self.out, &mut self.did) });
-        self.step()
+        self.last_step()
     }
 
     /// Ends the session, if there is one. The step has the Reset frame to send.
     pub fn reset(&mut self) -> Step<'_> {
         // SAFETY: as in `deliver`.
         done(unsafe { ffi::gp_slave_reset(&mut self.handle, &mut self.out, &mut self.did) });
-        self.step()
+        self.last_step()
     }
 
-    /// The slave's own safe data from now on. They outlast resets.
+    /// The slave's own safe data from now on. They outlast resets: a session that comes anew goes on with them, so where the
+    /// old data may not come again, put zeros or hold after each reset.
     pub fn put(&mut self, load: &[u8; S]) {
         // SAFETY: as in `deliver`.
         done(unsafe { ffi::gp_slave_put(&mut self.handle, load.as_ptr(), S) });
@@ -136,7 +139,8 @@ impl<'m, P: Profile, const M: usize, const S: usize> Slave<'m, P, M, S> {
         done(unsafe { ffi::gp_slave_hold(&mut self.handle, failsafe) });
     }
 
-    /// The session id of the sessions that begin from now on. Each session needs a fresh one.
+    /// The session id of each session that begins from now on. It outlasts resets, so that the next session has the same one again
+    /// unless a fresh one is set: do so after each reset.
     pub fn nonce(&mut self, id: P::Nonce) {
         // SAFETY: as in `deliver`.
         done(unsafe { ffi::gp_slave_nonce(&mut self.handle, id.into()) });
@@ -150,7 +154,8 @@ impl<'m, P: Profile, const M: usize, const S: usize> Slave<'m, P, M, S> {
         state(number)
     }
 
-    /// The outputs: zeros in every state but Data.
+    /// The outputs: the data of the frame that was taken last in this session, if it was a ProcessData frame, else zeros. So they are
+    /// zeros in every state but Data, after a FailSafeData frame, and from the tick at which the watchdog expires.
     pub fn outputs(&mut self) -> [u8; M] {
         let mut outputs = [0; M];
         // SAFETY: as in `deliver`.
@@ -179,7 +184,7 @@ impl<'m, P: Profile, const M: usize, const S: usize> Slave<'m, P, M, S> {
         }
     }
 
-    /// The ticks since the last frame was sent.
+    /// The ticks since the last frame was sent, 0 in state Reset.
     pub fn age(&mut self) -> u16 {
         let mut age = 0;
         // SAFETY: as in `deliver`.

@@ -30,15 +30,17 @@ pub enum State {
     Connection,
     /// The parameters are on their way.
     Parameter,
-    /// Data are exchanged. In every other state all outputs are zeros.
+    /// Data are exchanged. In every other state all outputs are zeros, and in this one after a FailSafeData frame.
     Data,
 }
 
-/// The code of a reset, 0 to 0Bh, or the peer's own above.
+/// The code of a reset, 0 to 0Bh, or the peer's own above. `docs/duties.md` says what to do at each.
 #[derive(Clone, Copy, Debug, PartialEq, Eq)]
 pub struct Code(pub u8);
 
 impl Code {
+    /// The end was told to, answers a reset, or is a master that starts.
+    pub const LOCAL_RESET: Code = Code(0);
     /// The watchdog expired.
     pub const WATCHDOG_EXPIRED: Code = Code(5);
 }
@@ -75,10 +77,21 @@ pub struct Took<'a> {
 }
 
 /// What a step did, with the frame that is to be sent.
+#[must_use = "a step may have a frame to send, and may have ended the session"]
 #[derive(Clone, Copy)]
 pub struct Step<'a> {
     pub(crate) out: &'a ffi::Frame,
     pub(crate) did: &'a ffi::Did,
+}
+
+impl Cause {
+    /// The code of the reset.
+    pub fn code(self) -> Code {
+        match self {
+            Cause::Local => Code::LOCAL_RESET,
+            Cause::Peer(code) | Cause::Found(code) => code,
+        }
+    }
 }
 
 pub(crate) const NO_FRAME: ffi::Frame = ffi::Frame {
