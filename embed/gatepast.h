@@ -1,5 +1,5 @@
 /*
- * gatepast.h - both ends of a Gatepast connection (Safety over EtherCAT in a profile of its own), for C and C++.
+ * gatepast.h - both ends of a Gatepast connection (Safety over EtherCAT in a profile of its own), for C11 and C++11 on.
  *
  * An end is a machine without clock and line: your program hands it frames and ticks, and sends what it hands out.
  * It takes no memory, holds no lock, waits for nothing and keeps nothing outside the memory that you give it. The
@@ -7,35 +7,61 @@
  *
  *     static gp_slave_memory memory;
  *     static gp_slave slave = GP_SLAVE_IN(&memory);
+ *     static gp_frame out;
+ *     static gp_did did;
  *
- *     gp_slave_init(&slave, &settings, 0);
- *     for (;;) {
- *         if (a frame came)    gp_slave_deliver(&slave, frame, frame_len, &out, &did);
- *         if (1 ms has passed) gp_slave_tick(&slave, &out, &did);      (each time: send out.bytes, unless out.len is 0)
- *         gp_slave_outputs(&slave, outputs, sizeof outputs);           (zeros in every state but GP_DATA)
- *         apply(outputs);
+ *     void follow(void) {                                   (after each step)
+ *         uint8_t outputs[MASTER_LEN] = {0};
+ *         if (gp_slave_outputs(&slave, outputs, sizeof outputs) != GP_OK) fail();
+ *         apply(outputs);                                   (before anything that may take its time)
+ *         if (out.len != 0) send(out.bytes, out.len);
+ *         if (did.reset != GP_NO_RESET && gp_slave_nonce(&slave, a fresh id) != GP_OK) fail();
  *     }
  *
- * What docs/duties.md asks of a program applies: ticks whether frames come or not, fresh session ids, what to do after
- * resets. examples/drive.c and examples/controller.c are whole loops.
+ *     switch_off();
+ *     if (gp_slave_size() != sizeof memory || gp_slave_init(&slave, &settings, 0) != GP_OK) fail();
+ *     for (;;) {
+ *         if (a frame came) {
+ *             if (gp_slave_deliver(&slave, frame, frame_len, &out, &did) != GP_OK) fail();
+ *             follow();
+ *         }
+ *         if (a millisecond passed) {
+ *             if (gp_slave_tick(&slave, &out, &did) != GP_OK) fail();
+ *             follow();
+ *         }
+ *     }
+ *
+ * fail() switches off and ends. docs/duties.md says what a program owes besides: ids that no session had, also before a
+ * power-off; terms that are looked at before the first outputs; resets that are counted. examples/drive.c and
+ * examples/controller.c are whole loops that do all of it.
  *
  * Answers
- *     Each call answers with a number of enum gp_answer. GP_OK says that it was done. Every other one says why it was not,
- *     and then the call changed nothing: neither the end, nor what the pointers lead to.
+ *     Each call answers with a number of enum gp_answer, but for gp_.._size and gp_.._align, which answer bytes. GP_OK says
+ *     that it was done. Every other one says why it was not, and then the call changed nothing: neither the end, nor what
+ *     the pointers lead to, so that a frame of the step before is still in `out`. Where a call may be refused for several
+ *     reasons, GP_NO_END and GP_BUSY come first, then GP_FRAME_DUE.
  *
  * What you owe
  *     The code of each call is proved to do what this page says, provided that:
- *     1. A handle is set by GP_SLAVE_IN or GP_MASTER_IN before its first call, to memory that no other handle has. From
- *        then on these calls alone change the handle, and the memory as long as an end is there. The memory stays where
- *        it is until gp_.._end; the handle may be moved. Memory without an end may be used again or freed; an end that
- *        is not needed any more may also be left without gp_.._end.
- *     2. Each other pointer leads to objects of its type, or to as many bytes as the number beside it says. These may be
- *        read, and have values (a struct that is written to may hold any). A pointer with the number 0 may be null.
- *     3. What a call may write to (through a pointer without const) overlaps nothing else that the call is given.
- *     4. No two calls with the same handle run at a time. Calls with different handles may, in different threads. A
- *        handle may go to another thread where the hand-over is ordered, as by a lock.
+ *     1. A handle is set by GP_SLAVE_IN or GP_MASTER_IN before its first call, to memory that no other handle has. This is
+ *        a gp_slave_memory or gp_master_memory, or as many bytes at an address that gp_.._align() divides; before
+ *        gp_.._init it may hold anything. From then on these calls alone change the handle, and the memory as long as an
+ *        end is there. The memory stays where it is until gp_.._end; the handle may be moved. Memory without an end may be
+ *        used again or freed. An end that is not needed any more may also be left without gp_.._end, and its memory used
+ *        again or freed: then set its handle anew before any other call.
+ *     2. Each other pointer leads to an object of its type, or to as many bytes as the number beside it says, and all of it
+ *        was given values, also what is only written to: `= {0}` and static storage do so. Beside the number 0 a pointer
+ *        is not followed; null there is tried, but not proved.
+ *     3. What a call may write to (through a pointer without const) overlaps nothing else that the call is given. So the
+ *        frame that is delivered lies elsewhere than `out`.
+ *     4. No two calls with the same handle run at a time, those of readers too: no call in an interrupt or a signal handler
+ *        while one that it interrupted runs. Calls with different handles may, in different threads.
  *     5. A bool is true or false.
+ *     6. Header and archive are of one version: compare gp_.._size() with the size of the memory, as above.
  *     Nothing else is owed: any number, length and byte may be passed at any time.
+ *
+ *     Not proved, but so by how the library is made, since it keeps nothing of a thread's: a handle may be used in another
+ *     thread than before, where the hand-over is ordered, as by a lock.
  *
  * Units
  *     Ticks are milliseconds, or whatever both ends tick by. Lengths are bytes. Numbers have the machine's byte order.
@@ -48,10 +74,25 @@
 #include <stdint.h>
 
 #ifdef __cplusplus
+#if __cplusplus < 201103L
+#error "gatepast.h needs C++11"
+#endif
 #define GP_ALIGNED alignas(8)
 extern "C" {
 #else
+#if !defined(__STDC_VERSION__) || __STDC_VERSION__ < 201112L
+#error "gatepast.h needs C11"
+#endif
 #define GP_ALIGNED _Alignas(8)
+#endif
+
+/* Whose answer has to be looked at: compilers that can, warn where it isn't. */
+#if (defined(__cplusplus) && __cplusplus >= 201703L) || (!defined(__cplusplus) && __STDC_VERSION__ >= 202311L)
+#define GP_CHECKED [[nodiscard]]
+#elif defined(__GNUC__)
+#define GP_CHECKED __attribute__((warn_unused_result))
+#else
+#define GP_CHECKED
 #endif
 
 /* The memory of an end. gp_slave_size() and gp_master_size() answer the same numbers. */
@@ -68,8 +109,8 @@ enum gp_answer {
     GP_OK = 0,
     GP_NO_END = 1,       /* no end is there: init was not called, or end was */
     GP_BUSY = 2,         /* init: an end is there already */
-    GP_BAD_LENGTH = 3,   /* init: a length is neither 1 nor even and from 2 to 126; put, outputs, offer: another number of
-                            bytes than this end's frames carry, or its peer's */
+    GP_BAD_LENGTH = 3,   /* init: a length is neither 1 nor even and from 2 to 126; put, offer: another number of bytes
+                            than this end's data have; outputs: than its peer's have */
     GP_BAD_PROFILE = 4,  /* init: the profile is neither 1 nor 2 */
     GP_BAD_NONCE = 5,    /* init, nonce: a session id above 65535 in profile 1 */
     GP_BAD_CONN = 6,     /* init: the connection id is 0 */
@@ -78,7 +119,8 @@ enum gp_answer {
     GP_BAD_MOST = 9,     /* init: most is 0 */
     GP_BAD_APP = 10,     /* init: more than 512 bytes of application parameters, ranges of different lengths, or a lowest
                             value above its highest */
-    GP_FRAME_DUE = 11,   /* deliver, accept, tick, reset of a master: a frame is due, call reply first */
+    GP_FRAME_DUE = 11,   /* deliver, accept, tick, reset of a master: a frame is due; call reply, and then this again: a
+                            tick that was refused is not counted */
     GP_NONE_DUE = 12,    /* reply: no frame is due */
     GP_NOT_IN_DATA = 13  /* terms: the end is not in state GP_DATA */
 };
@@ -89,9 +131,9 @@ enum gp_state { GP_RESET = 0, GP_SESSION = 1, GP_CONNECTION = 2, GP_PARAMETER = 
 /* The commands of frames: gp_did.took is one of these, or 0. */
 enum gp_command {
     GP_TOOK_NOTHING = 0,
-    GP_FAIL_SAFE_DATA = 0x08,
+    GP_COMMAND_FAIL_SAFE_DATA = 0x08,
     GP_COMMAND_RESET = 0x2A,
-    GP_PROCESS_DATA = 0x36,
+    GP_COMMAND_PROCESS_DATA = 0x36,
     GP_COMMAND_SESSION = 0x4E,
     GP_COMMAND_PARAMETER = 0x52,
     GP_COMMAND_CONNECTION = 0x64
@@ -102,7 +144,23 @@ enum gp_cause {
     GP_NO_RESET = 0,
     GP_BY_CALL = 1,  /* reset was called */
     GP_BY_PEER = 2,  /* the peer sent a Reset frame */
-    GP_BY_FAULT = 3  /* this end found a fault: gp_did.code says which, 5 that the watchdog expired */
+    GP_BY_FAULT = 3  /* this end found a fault: gp_did.code says which */
+};
+
+/* The codes of resets: gp_did.code is one of these, or a peer's own above. docs/duties.md says what to do at each. */
+enum gp_code {
+    GP_CODE_LOCAL_RESET = 0x00,
+    GP_CODE_COMMAND_NOT_ALLOWED = 0x01,
+    GP_CODE_UNKNOWN_COMMAND = 0x02,
+    GP_CODE_WRONG_CONNECTION = 0x03,
+    GP_CODE_WRONG_CRC = 0x04,
+    GP_CODE_WATCHDOG_EXPIRED = 0x05,
+    GP_CODE_WRONG_ADDRESS = 0x06,
+    GP_CODE_WRONG_DATA = 0x07,
+    GP_CODE_WRONG_COMMUNICATION_LENGTH = 0x08,
+    GP_CODE_WRONG_COMMUNICATION = 0x09,
+    GP_CODE_WRONG_APPLICATION_LENGTH = 0x0A,
+    GP_CODE_WRONG_APPLICATION = 0x0B
 };
 
 /* Why a frame was dropped without an answer: gp_did.dropped is one of these. */
@@ -121,11 +179,11 @@ typedef struct gp_frame {
 
 /* What a step did. At most one of `took`, `reset` and `dropped` is not 0. */
 typedef struct gp_did {
-    uint8_t took;               /* enum gp_command: the command of the frame that was taken */
+    uint8_t took;               /* enum gp_command: that of the frame that was taken, 0 where none was */
     uint8_t passed;             /* 1: a frame that is no Reset frame passed the test of its CRCs */
-    uint8_t sent;               /* 1: there is a frame to send */
+    uint8_t sent;               /* 1: there is a frame to send; after accept always 0: see there */
     uint8_t reset;              /* enum gp_cause */
-    uint8_t code;               /* the code of that reset, 0 to 0Bh or the peer's own; docs/duties.md lists them */
+    uint8_t code;               /* enum gp_code: the code of that reset, 0 where there is none */
     uint8_t dropped;            /* enum gp_dropped */
     uint8_t load_len;           /* the safe data of the frame that was taken are the first load_len bytes of load */
     uint8_t load[GP_MOST_DATA]; /* those behind them are never written */
@@ -147,10 +205,11 @@ typedef struct gp_slave_settings {
     uint16_t master_len; /* safe data bytes of the master's frames: 1, or even and 2 to 126 */
     uint16_t slave_len;  /* safe data bytes of the slave's frames: 1, or even and 2 to 126 */
     uint16_t address;    /* the slave's address, any number */
-    uint16_t hand;       /* ticks after which a handshake expires, 1 to 65535 */
-    uint16_t most;       /* the longest watchdog that is accepted, in ticks, 1 to 65535 */
+    uint16_t hand;       /* the watchdog of a handshake, until the master's is known: the session ends in the tick that makes
+                            so many since this slave sent a frame; 1 to 65535 */
+    uint16_t most;       /* the longest watchdog that is accepted from a master, in ticks, 1 to 65535 */
     uint16_t profile;    /* 1 or 2 */
-    uint32_t nonce;      /* the first session id; at most 65535 in profile 1 */
+    uint32_t nonce;      /* the first session's id, a fresh one too; at most 65535 in profile 1 */
     uint16_t word;       /* the word of profile 2; not read in profile 1 */
 } gp_slave_settings;
 
@@ -160,9 +219,10 @@ typedef struct gp_master_settings {
     uint16_t slave_len;  /* safe data bytes of the slave's frames: 1, or even and 2 to 126 */
     uint16_t conn;       /* the connection id, 1 to 65535 */
     uint16_t address;    /* the address of the slave */
-    uint16_t watchdog;   /* in ticks, 1 to 65535 */
+    uint16_t watchdog;   /* at both ends: the session ends in the tick that makes so many since that end sent a frame; 1 to
+                            65535 */
     uint16_t profile;    /* 1 or 2 */
-    uint32_t nonce;      /* the first session id; at most 65535 in profile 1 */
+    uint32_t nonce;      /* the first session's id, a fresh one too; at most 65535 in profile 1 */
     uint16_t word;       /* the word of profile 2; not read in profile 1 */
 } gp_master_settings;
 
@@ -175,7 +235,8 @@ typedef struct gp_master_memory {
     GP_ALIGNED uint8_t bytes[GP_MASTER_SIZE];
 } gp_master_memory;
 
-/* The handles. Set one by its macro, and leave its fields to the library. */
+/* The handles. Set one by its macro where it is declared, and leave its fields to the library. Later C sets one by
+   `slave = (gp_slave)GP_SLAVE_IN(&memory)`, and C++11 by `slave = gp_slave GP_SLAVE_IN(&memory)`. */
 typedef struct gp_slave {
     gp_slave_memory *memory;
     bool live;
@@ -191,87 +252,118 @@ typedef struct gp_master {
 
 /* ---- A slave ---- */
 
+/* The bytes of its memory, and a number that has to divide their address. */
 size_t gp_slave_size(void);
 size_t gp_slave_align(void);
 
-/* Makes a slave in its memory: in state GP_RESET, with zeros to offer and to give, and not held. The three calls differ in
+/* Makes a slave in its memory: in state GP_RESET, with zeros put and as outputs, and not held. The three calls differ in
    which application parameters the slave accepts: any app_len bytes; these bytes alone; or as many bytes as low and high
-   have, each of them, at its place, from low to high. The first fault in the order of the numbers is answered; BUSY, and
-   BAD_APP for more than 512 bytes, come before all others. */
-uint8_t gp_slave_init(gp_slave *slave, const gp_slave_settings *set, uint16_t app_len);
-uint8_t gp_slave_init_exact(gp_slave *slave, const gp_slave_settings *set, const uint8_t *app, size_t app_len);
-uint8_t gp_slave_init_ranges(gp_slave *slave, const gp_slave_settings *set, const uint8_t *low, size_t low_len,
-                             const uint8_t *high, size_t high_len);
+   have, each of them, at its place, from low to high.
+   Of several faults the first in this order is answered, here and by gp_master_init: GP_BUSY; GP_BAD_APP for more than
+   512 bytes at app, low or high; the others by their numbers, so that GP_BAD_APP for app_len of gp_slave_init, or for
+   ranges that do not match, comes last. */
+GP_CHECKED uint8_t gp_slave_init(gp_slave *slave, const gp_slave_settings *set, uint16_t app_len);
+GP_CHECKED uint8_t gp_slave_init_exact(gp_slave *slave, const gp_slave_settings *set, const uint8_t *app, size_t app_len);
+GP_CHECKED uint8_t gp_slave_init_ranges(gp_slave *slave, const gp_slave_settings *set, const uint8_t *low, size_t low_len,
+                                        const uint8_t *high, size_t high_len);
 
-/* Lets the slave go; the memory is yours again. */
+/* Lets the slave go; the memory is yours again. The peer is not told: where it is to know, call gp_slave_reset
+   before, and send its frame. */
 uint8_t gp_slave_end(gp_slave *slave);
 
-/* A frame of the master came: any bytes, of any number. */
-uint8_t gp_slave_deliver(gp_slave *slave, const uint8_t *frame, size_t frame_len, gp_frame *out, gp_did *did);
+/* A frame of the master came: any bytes, of any number. out is the frame to send, of no bytes where none is. */
+GP_CHECKED uint8_t gp_slave_deliver(gp_slave *slave, const uint8_t *frame, size_t frame_len, gp_frame *out, gp_did *did);
 
-/* A tick passed. Where the watchdog expires the session ends with code 5, and the outputs are zeros from this call on. */
-uint8_t gp_slave_tick(gp_slave *slave, gp_frame *out, gp_did *did);
+/* A tick passed. Where the watchdog expires the session ends with code 5, the outputs are zeros from this call on, and out
+   is the Reset frame to send. */
+GP_CHECKED uint8_t gp_slave_tick(gp_slave *slave, gp_frame *out, gp_did *did);
 
 /* Ends the session, if there is one. out is the Reset frame to send. */
-uint8_t gp_slave_reset(gp_slave *slave, gp_frame *out, gp_did *did);
+GP_CHECKED uint8_t gp_slave_reset(gp_slave *slave, gp_frame *out, gp_did *did);
 
-/* The slave's own safe data from now on, slave_len bytes: frames that are sealed from now on carry them. */
-uint8_t gp_slave_put(gp_slave *slave, const uint8_t *load, size_t load_len);
+/* The slave's own safe data from now on, slave_len bytes: each ProcessData frame that is sealed from now on carries them.
+   They outlast resets: a session that comes anew goes on with them. So where the old data may not come again, put zeros or
+   hold after each did.reset. */
+GP_CHECKED uint8_t gp_slave_put(gp_slave *slave, const uint8_t *load, size_t load_len);
 
-/* While held, a slave goes on with its session and sends zeros as FailSafeData in place of what was put. */
-uint8_t gp_slave_hold(gp_slave *slave, bool failsafe);
+/* While held, a slave goes on with its session and sends zeros as FailSafeData in place of what was put. A hold outlasts
+   resets, and ends by gp_slave_hold with false. */
+GP_CHECKED uint8_t gp_slave_hold(gp_slave *slave, bool failsafe);
 
-/* The session id of the sessions that begin from now on. Each session needs a fresh one. */
-uint8_t gp_slave_nonce(gp_slave *slave, uint32_t id);
+/* The session id of each session that begins from now on. It outlasts resets, so that the next session has the same one
+   again unless a fresh one is set: do so after each did.reset. */
+GP_CHECKED uint8_t gp_slave_nonce(gp_slave *slave, uint32_t id);
 
 /* Readers: they change nothing at the end. */
-uint8_t gp_slave_state(gp_slave *slave, uint8_t *state);                         /* enum gp_state */
-uint8_t gp_slave_outputs(gp_slave *slave, uint8_t *outputs, size_t outputs_len); /* outputs_len: master_len */
-uint8_t gp_slave_offer(gp_slave *slave, uint8_t *offer, size_t offer_len);       /* offer_len: slave_len */
-uint8_t gp_slave_terms(gp_slave *slave, gp_terms *terms);                        /* in state GP_DATA alone */
-uint8_t gp_slave_age(gp_slave *slave, uint16_t *age);                            /* ticks since a frame was sent last */
-uint8_t gp_slave_held(gp_slave *slave, uint8_t *held);                           /* 1 while held */
+
+/* enum gp_state. */
+GP_CHECKED uint8_t gp_slave_state(gp_slave *slave, uint8_t *state);
+
+/* The data of the frame that was taken last in this session, if it was a ProcessData frame, else zeros: so in every state
+   but GP_DATA, after a FailSafeData frame, and from the tick at which the watchdog expires. outputs_len is master_len. */
+GP_CHECKED uint8_t gp_slave_outputs(gp_slave *slave, uint8_t *outputs, size_t outputs_len);
+
+/* What was put last, zeros at first. offer_len is slave_len. */
+GP_CHECKED uint8_t gp_slave_offer(gp_slave *slave, uint8_t *offer, size_t offer_len);
+
+/* In state GP_DATA alone. */
+GP_CHECKED uint8_t gp_slave_terms(gp_slave *slave, gp_terms *terms);
+
+/* The ticks since this slave sent a frame last, 0 in state GP_RESET. */
+GP_CHECKED uint8_t gp_slave_age(gp_slave *slave, uint16_t *age);
+
+/* 1 while held, else 0. */
+GP_CHECKED uint8_t gp_slave_held(gp_slave *slave, uint8_t *held);
 
 /* ---- A master ---- */
 
 size_t gp_master_size(void);
 size_t gp_master_align(void);
 
-/* Makes a master in its memory, with these application parameters for its slave: in state GP_RESET, with zeros to offer and
-   to give, and not held. Its first tick sends the first frame. */
-uint8_t gp_master_init(gp_master *master, const gp_master_settings *set, const uint8_t *app, size_t app_len);
+/* Makes a master in its memory, with these application parameters for its slave: in state GP_RESET, with zeros put and as
+   outputs, and not held. Its first tick sends the first frame. The order of faults stands at gp_slave_init. */
+GP_CHECKED uint8_t gp_master_init(gp_master *master, const gp_master_settings *set, const uint8_t *app, size_t app_len);
 
-/* Lets the master go; the memory is yours again. */
+/* Lets the master go; the memory is yours again. The peer is not told: where it is to know, call gp_master_reset
+   before, and send its frame. */
 uint8_t gp_master_end(gp_master *master);
 
-/* A frame of the slave came: any bytes, of any number. out is the frame that follows it. */
-uint8_t gp_master_deliver(gp_master *master, const uint8_t *frame, size_t frame_len, gp_frame *out, gp_did *did);
+/* A frame of the slave came: any bytes, of any number. out is the frame that follows it, of no bytes where none does. */
+GP_CHECKED uint8_t gp_master_deliver(gp_master *master, const uint8_t *frame, size_t frame_len, gp_frame *out, gp_did *did);
 
 /* The same in two calls, with the application between them: accept takes the frame, then the outputs are read and new data
-   put, and where a frame is due reply writes it, with these data. */
-uint8_t gp_master_accept(gp_master *master, const uint8_t *frame, size_t frame_len, gp_did *did);
-uint8_t gp_master_due(gp_master *master, uint8_t *due); /* 1 where a frame is due */
-uint8_t gp_master_reply(gp_master *master, gp_frame *out);
+   put, and where a frame is due reply writes it, with these data. A frame is due exactly where did.took or did.reset is not
+   0, and until reply deliveries, ticks and resets are refused. */
+GP_CHECKED uint8_t gp_master_accept(gp_master *master, const uint8_t *frame, size_t frame_len, gp_did *did);
+GP_CHECKED uint8_t gp_master_due(gp_master *master, uint8_t *due); /* 1 where a frame is due */
+GP_CHECKED uint8_t gp_master_reply(gp_master *master, gp_frame *out);
 
-/* A tick passed. Where the watchdog expires the session ends with code 5, and the outputs are zeros from this call on. In
-   state GP_RESET the Reset frame is sent again each time that the watchdog is over. */
-uint8_t gp_master_tick(gp_master *master, gp_frame *out, gp_did *did);
+/* A tick passed. Where the watchdog expires the session ends with code 5, the outputs are zeros from this call on, and out
+   is the Reset frame to send. In state GP_RESET the Reset frame is sent again each time that the watchdog is over. */
+GP_CHECKED uint8_t gp_master_tick(gp_master *master, gp_frame *out, gp_did *did);
 
 /* Ends the session, if there is one. out is the Reset frame to send. */
-uint8_t gp_master_reset(gp_master *master, gp_frame *out, gp_did *did);
+GP_CHECKED uint8_t gp_master_reset(gp_master *master, gp_frame *out, gp_did *did);
 
-/* As of a slave; the master's own safe data are master_len bytes. All three are allowed while a frame is due. */
-uint8_t gp_master_put(gp_master *master, const uint8_t *load, size_t load_len);
-uint8_t gp_master_hold(gp_master *master, bool failsafe);
-uint8_t gp_master_nonce(gp_master *master, uint32_t id);
+/* As of a slave, and outlasting resets as there; the master's own safe data are master_len bytes. All three are allowed
+   while a frame is due, and count for it. */
+GP_CHECKED uint8_t gp_master_put(gp_master *master, const uint8_t *load, size_t load_len);
+GP_CHECKED uint8_t gp_master_hold(gp_master *master, bool failsafe);
+GP_CHECKED uint8_t gp_master_nonce(gp_master *master, uint32_t id);
 
-/* Readers: they change nothing at the end. While a frame is due it counts as sent. */
-uint8_t gp_master_state(gp_master *master, uint8_t *state);                         /* enum gp_state */
-uint8_t gp_master_outputs(gp_master *master, uint8_t *outputs, size_t outputs_len); /* outputs_len: slave_len */
-uint8_t gp_master_offer(gp_master *master, uint8_t *offer, size_t offer_len);       /* offer_len: master_len */
-uint8_t gp_master_terms(gp_master *master, gp_terms *terms);                        /* in state GP_DATA alone */
-uint8_t gp_master_age(gp_master *master, uint16_t *age);                            /* ticks since a frame was sent last */
-uint8_t gp_master_held(gp_master *master, uint8_t *held);                           /* 1 while held */
+/* Readers, as of a slave: they change nothing at the end. While a frame is due it counts as sent. */
+GP_CHECKED uint8_t gp_master_state(gp_master *master, uint8_t *state);
+
+/* What the slave put: of a master the outputs are the inputs of its application. outputs_len is slave_len. */
+GP_CHECKED uint8_t gp_master_outputs(gp_master *master, uint8_t *outputs, size_t outputs_len);
+
+/* What was put last, zeros at first. offer_len is master_len. */
+GP_CHECKED uint8_t gp_master_offer(gp_master *master, uint8_t *offer, size_t offer_len);
+GP_CHECKED uint8_t gp_master_terms(gp_master *master, gp_terms *terms);
+
+/* The ticks since this master sent a frame last: watchdog - 1 where it sent none yet, and 0 while a frame is due. */
+GP_CHECKED uint8_t gp_master_age(gp_master *master, uint16_t *age);
+GP_CHECKED uint8_t gp_master_held(gp_master *master, uint8_t *held);
 
 #ifdef __cplusplus
 }
@@ -309,5 +401,6 @@ GP_ASSERT(sizeof(gp_slave_memory) == GP_SLAVE_SIZE && sizeof(gp_master_memory) =
 
 #undef GP_ASSERT
 #undef GP_ALIGNED
+#undef GP_CHECKED
 
 #endif

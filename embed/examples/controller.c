@@ -1,22 +1,23 @@
 /*
  * A controller: a master that runs one connection. Each millisecond it takes the frames that came, reads what the slave
  * says, decides, and sends. The frame that answers carries what was decided from the frame that came, by accept and
- * reply.
+ * reply. However it ends, it tells the drive by a Reset frame, so that this doesn't run on until its watchdog expires.
  *
- * The four functions under "The device" are what you replace. Here a list of a slave's answers stands for the bus; after
- * the last one the slave is silent.
+ * What stands under "The device" is what you replace. Here a list of a slave's answers stands for the bus, each of which
+ * comes a millisecond after the frame that it answers; after the last one the slave is silent.
  */
 #include <gatepast.h>
 #include <stdio.h>
 #include <stdlib.h>
-#include <string.h>
 
-enum { MASTER_LEN = 2, SLAVE_LEN = 2 };
+enum { MASTER_LEN = 2, SLAVE_LEN = 2, ADDRESS = 2, CONNECTION = 1 };
+enum { MOST_FRAMES = 4 };   /* that are taken in a millisecond, so that ticks never wait for frames */
+enum { MOST_RESETS = 100 }; /* after so many a person has to look */
 
 /* The device */
 
-static unsigned now;  /* the time in milliseconds */
-static unsigned sent; /* the frames that were sent and not answered */
+static unsigned now; /* the time in milliseconds */
+static unsigned due; /* when the answer to the last frame comes; 0 where none does */
 
 static const uint8_t coming[][7] = {
     {0x2A, 0x00, 0x00, 0xC4, 0x2D, 0x00, 0x00}, {0x4E, 0x02, 0x00, 0x90, 0x47, 0x00, 0x00},
@@ -27,88 +28,123 @@ static const uint8_t coming[][7] = {
     {0x36, 0x00, 0x00, 0x78, 0xE1, 0x01, 0x00},
 };
 
-/* Waits for the next millisecond. False where the program is to end. */
+/* Waits for the next millisecond, or not where one was missed: each is ticked. False where the program is to end. */
 static bool next_millisecond(void) {
     return ++now <= 150;
 }
 
-/* A frame that came, or NULL. */
+/* A frame that came, or NULL at once. */
 static const uint8_t *bus_receive(size_t *len) {
     static size_t next;
-    if (sent == 0 || next == sizeof coming / sizeof *coming) return NULL;
-    sent--;
+    if (due == 0 || due > now || next == sizeof coming / sizeof *coming) return NULL;
+    due = 0;
     *len = sizeof *coming;
     return coming[next++];
 }
 
+/* Hands a frame to the bus, and doesn't wait. */
 static void bus_send(const uint8_t *frame, size_t len) {
-    sent++;
+    due = now + 1;
     printf("%3u ms: sends", now);
     for (size_t i = 0; i < len; i++) printf(" %02x", frame[i]);
     printf("\n");
 }
 
-/* A session id that was not used before, from a counter in memory that outlasts power-off. */
-static uint16_t fresh_session_id(void) {
-    static uint16_t id; /* a trial may begin at the same id each time, a device must not */
-    return ++id;
+/* A session id that no session of this master had, also before a power-off; false where all are used up. */
+static bool fresh_session_id(uint16_t *id) {
+    static uint16_t lasting; /* in a device: memory that outlasts power-off. Here each run begins at 0, as no device may */
+    if (lasting == 0xFFFF) return false;
+    *id = ++lasting;
+    return true;
 }
 
 /* The loop */
 
+static gp_master_memory memory;
+static gp_master master = GP_MASTER_IN(&memory);
+static gp_frame out;
+static gp_did did;
+
+/* Ends the session at both ends. A frame that is due is given up: it may carry an order that nobody stands for any more. */
+static void leave(void) {
+    uint8_t answer = gp_master_reset(&master, &out, &did);
+    if (answer == GP_FRAME_DUE && gp_master_reply(&master, &out) == GP_OK) answer = gp_master_reset(&master, &out, &did);
+    if (answer == GP_OK) bus_send(out.bytes, out.len);
+}
+
 static void stop(const char *why) {
+    leave();
     fprintf(stderr, "controller: %s\n", why);
     exit(1);
 }
 
-/* Enables the motor where the drive says in bit 7 that it is ready. The inputs are zeros in every state but GP_DATA. */
-static void decide(gp_master *master) {
-    uint8_t inputs[SLAVE_LEN] = {0}, outputs[MASTER_LEN] = {0};
-    if (gp_master_outputs(master, inputs, sizeof inputs) != GP_OK) stop("no inputs");
-    if (inputs[0] & 0x80) outputs[0] = 1;
-    if (gp_master_put(master, outputs, sizeof outputs) != GP_OK) stop("the outputs are refused");
+static uint16_t next_id(void) {
+    uint16_t id = 0;
+    if (!fresh_session_id(&id)) stop("all session ids are used up");
+    return id;
 }
 
-/* Does what a step asks for: where a session ended, gives the next one a fresh id. */
-static void follow(gp_master *master, const gp_did *did) {
-    if (did->reset != GP_NO_RESET && gp_master_nonce(master, fresh_session_id()) != GP_OK) stop("no session id");
-    if (did->took == GP_PROCESS_DATA) printf("%3u ms: the drive says %02x\n", now, did->load[0]);
-    if (did->reset == GP_BY_FAULT) printf("%3u ms: the session ended with code %02x\n", now, did->code);
+/* Enables the motor where the drive says in bit 7 that it is ready. The inputs are zeros in every state but GP_DATA, so that
+   after a reset the first order that goes out is off. */
+static void decide(void) {
+    uint8_t inputs[SLAVE_LEN] = {0}, order[MASTER_LEN] = {0};
+    if (gp_master_outputs(&master, inputs, sizeof inputs) != GP_OK) stop("no inputs");
+    if (inputs[0] & 0x80) order[0] = 1;
+    if (gp_master_put(&master, order, sizeof order) != GP_OK) stop("the order is refused");
+}
+
+/* After each step, when its frame is sent: what may take its time. */
+static void follow(void) {
+    static unsigned resets;
+    if (did.took == GP_COMMAND_PROCESS_DATA) printf("%3u ms: the drive says %02x\n", now, did.load[0]);
+    if (did.reset == GP_NO_RESET) return;
+    printf("%3u ms: the session ended with code %02x\n", now, did.code);
+    if (++resets > MOST_RESETS) stop("too many resets");
+    if (gp_master_nonce(&master, next_id()) != GP_OK) stop("no session id");
 }
 
 /* A frame came: takes it, decides, and sends what follows it. */
-static void came(gp_master *master, const uint8_t *frame, size_t len, gp_frame *out, gp_did *did) {
-    uint8_t due = 0;
-    if (gp_master_accept(master, frame, len, did) != GP_OK) stop("the frame is refused");
-    follow(master, did);
-    decide(master);
-    if (gp_master_due(master, &due) != GP_OK) stop("no master");
-    if (due) {
-        if (gp_master_reply(master, out) != GP_OK) stop("no answer");
-        bus_send(out->bytes, out->len);
+static void came(const uint8_t *frame, size_t len) {
+    uint8_t is_due = 0;
+    if (gp_master_accept(&master, frame, len, &did) != GP_OK) stop("no master");
+    if (gp_master_due(&master, &is_due) != GP_OK) stop("no master");
+    decide();
+    if (is_due) {
+        if (gp_master_reply(&master, &out) != GP_OK) stop("no answer");
+        bus_send(out.bytes, out.len);
     }
+    follow();
+}
+
+/* A millisecond passed. Where the watchdog expires the inputs are zeros at once. */
+static void passed(void) {
+    if (gp_master_tick(&master, &out, &did) != GP_OK) stop("no master");
+    decide();
+    if (out.len != 0) bus_send(out.bytes, out.len);
+    follow();
+}
+
+static void start(void) {
+    const gp_master_settings settings = {.master_len = MASTER_LEN,
+                                         .slave_len = SLAVE_LEN,
+                                         .conn = CONNECTION,
+                                         .address = ADDRESS,
+                                         .watchdog = 100,
+                                         .profile = 1,
+                                         .nonce = next_id()};
+    static const uint8_t app[1]; /* no application parameters: none of these bytes */
+    if (gp_master_size() != sizeof memory) stop("header and archive are of two versions");
+    if (gp_master_init(&master, &settings, app, 0) != GP_OK) stop("the settings are refused");
 }
 
 int main(void) {
-    static gp_master_memory memory;
-    static gp_master master = GP_MASTER_IN(&memory);
-    static gp_frame out;
-    static gp_did did;
-    const gp_master_settings settings = {.master_len = MASTER_LEN,
-                                         .slave_len = SLAVE_LEN,
-                                         .conn = 1,
-                                         .address = 2,
-                                         .watchdog = 100,
-                                         .profile = 1,
-                                         .nonce = fresh_session_id()};
-    if (gp_master_init(&master, &settings, NULL, 0) != GP_OK) stop("the settings are refused");
+    start();
     while (next_millisecond()) {
+        const uint8_t *frame = NULL;
         size_t len = 0;
-        const uint8_t *frame = bus_receive(&len);
-        if (frame != NULL) came(&master, frame, len, &out, &did);
-        if (gp_master_tick(&master, &out, &did) != GP_OK) stop("no master");
-        follow(&master, &did);
-        if (out.len != 0) bus_send(out.bytes, out.len);
+        for (int i = 0; i < MOST_FRAMES && (frame = bus_receive(&len)) != NULL; i++) came(frame, len);
+        passed();
     }
+    leave();
     return 0;
 }

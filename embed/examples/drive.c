@@ -1,16 +1,20 @@
 /*
- * A drive: a slave in its cyclic loop. Each millisecond it takes the frames that came, counts a tick, sends what is to be
- * sent, and drives its motor by the outputs. Where anything is wrong the motor is off.
+ * A drive: a slave in its cyclic loop. Each millisecond it takes the frames that came, counts a tick, drives its motor by
+ * the outputs, and sends what is to be sent. Where anything is wrong the motor is off.
  *
- * The five functions under "The device" are what you replace. Here a list of frames stands for the bus: a master brings
- * the connection up, switches the motor on, and then is silent until the watchdog expires.
+ * What stands under "The device" is what you replace. Here a list of frames stands for the bus: a master brings the
+ * connection up, switches the motor on, and then is silent until the watchdog expires.
+ *
+ * This drive starts again by itself when data come again. Where a machine must not, keep the motor off after a reset until
+ * somebody acknowledged it.
  */
 #include <gatepast.h>
 #include <stdio.h>
 #include <stdlib.h>
-#include <string.h>
 
-enum { MASTER_LEN = 2, SLAVE_LEN = 2 };
+enum { MASTER_LEN = 2, SLAVE_LEN = 2, ADDRESS = 2, CONNECTION = 1 };
+enum { MOST_FRAMES = 4 };   /* that are taken in a millisecond, so that ticks never wait for frames */
+enum { MOST_RESETS = 100 }; /* after so many a person has to look */
 
 /* The device */
 
@@ -23,18 +27,20 @@ static const uint8_t coming[][7] = {
     {0x52, 0x00, 0x00, 0x71, 0x99, 0x01, 0x00}, {0x36, 0x01, 0x00, 0xFC, 0x43, 0x01, 0x00},
 };
 
-/* Waits for the next millisecond. False where the program is to end. */
+/* Waits for the next millisecond, or not where one was missed: each is ticked. False where the program is to end. */
 static bool next_millisecond(void) {
     return ++now <= 150;
 }
 
-/* A frame that came, or NULL. */
+/* A frame that came, or NULL at once. */
 static const uint8_t *bus_receive(size_t *len) {
-    if (now > sizeof coming / sizeof *coming) return NULL;
+    static size_t next;
+    if (next == now || next == sizeof coming / sizeof *coming) return NULL;
     *len = sizeof *coming;
-    return coming[now - 1];
+    return coming[next++];
 }
 
+/* Hands a frame to the bus, and doesn't wait. */
 static void bus_send(const uint8_t *frame, size_t len) {
     printf("%3u ms: sends", now);
     for (size_t i = 0; i < len; i++) printf(" %02x", frame[i]);
@@ -43,67 +49,96 @@ static void bus_send(const uint8_t *frame, size_t len) {
 
 /* Bit 0 of the first byte: the motor is enabled. All zeros is off. */
 static void drive_motor(const uint8_t outputs[MASTER_LEN]) {
-    static uint8_t was = 0xFF;
-    if (outputs[0] != was) printf("%3u ms: motor %s\n", now, outputs[0] & 1 ? "on" : "off");
-    was = outputs[0];
+    static int was = -1;
+    const int on = outputs[0] & 1;
+    if (on != was) printf("%3u ms: motor %s\n", now, on ? "on" : "off");
+    was = on;
 }
 
-/* A session id that was not used before, from a counter in memory that outlasts power-off; a slave counts by 2. */
-static uint16_t fresh_session_id(void) {
-    static uint16_t id; /* a trial may begin at the same id each time, a device must not */
-    return id += 2;
+/* A session id that no session of this drive had, also before a power-off. A slave counts by 2. False: all are used up. */
+static bool fresh_session_id(uint16_t *id) {
+    static uint16_t lasting; /* in a device: memory that outlasts power-off. Here each run begins at 0, as no device may */
+    if (lasting == 0xFFFE) return false;
+    lasting = (uint16_t)(lasting + 2);
+    *id = lasting;
+    return true;
 }
 
 /* The loop */
 
-static const uint8_t off[MASTER_LEN];
+static gp_slave_memory memory;
+static gp_slave slave = GP_SLAVE_IN(&memory);
+static gp_frame out;
+static gp_did did;
 
+static const uint8_t off[MASTER_LEN] = {0};
+
+/* Switches the motor off and ends: the one way out besides the end of main. */
 static void stop(const char *why) {
     drive_motor(off);
     fprintf(stderr, "drive: %s\n", why);
     exit(1);
 }
 
-/* Does what a step asks for: sends its frame, and where a session ended gives the next one a fresh id. */
-static void follow(gp_slave *slave, const gp_frame *out, const gp_did *did) {
-    if (out->len != 0) bus_send(out->bytes, out->len);
-    if (did->reset != GP_NO_RESET && gp_slave_nonce(slave, fresh_session_id()) != GP_OK) stop("no session id");
-    if (did->reset == GP_BY_FAULT) printf("%3u ms: the session ended with code %02x\n", now, did->code);
+static uint16_t next_id(void) {
+    uint16_t id = 0;
+    if (!fresh_session_id(&id)) stop("all session ids are used up");
+    return id;
 }
 
-static void apply_outputs(gp_slave *slave) {
-    uint8_t outputs[MASTER_LEN];
-    if (gp_slave_outputs(slave, outputs, sizeof outputs) != GP_OK) memcpy(outputs, off, sizeof off);
+/* Looks at what a session agreed on when it comes to data, before its first outputs. Ends one that isn't for this drive. */
+static void look_at_terms(void) {
+    static bool looked;
+    static gp_terms terms;
+    uint8_t state = GP_RESET;
+    if (gp_slave_state(&slave, &state) != GP_OK) stop("no slave");
+    const bool first = state == GP_DATA && !looked;
+    looked = state == GP_DATA;
+    if (!first) return;
+    if (gp_slave_terms(&slave, &terms) != GP_OK) stop("no terms");
+    if (terms.conn != CONNECTION && gp_slave_reset(&slave, &out, &did) != GP_OK) stop("no reset");
+}
+
+/* After each step: first the outputs, then the frame, and last what may take its time. */
+static void follow(void) {
+    static unsigned resets;
+    uint8_t outputs[MASTER_LEN] = {0};
+    look_at_terms();
+    if (gp_slave_outputs(&slave, outputs, sizeof outputs) != GP_OK) stop("no outputs");
     drive_motor(outputs);
+    if (out.len != 0) bus_send(out.bytes, out.len);
+    if (did.reset == GP_NO_RESET) return;
+    printf("%3u ms: the session ended with code %02x\n", now, did.code);
+    if (++resets > MOST_RESETS) stop("too many resets");
+    if (gp_slave_nonce(&slave, next_id()) != GP_OK) stop("no session id");
+}
+
+static void start(void) {
+    const gp_slave_settings settings = {.master_len = MASTER_LEN,
+                                        .slave_len = SLAVE_LEN,
+                                        .address = ADDRESS,
+                                        .hand = 200,
+                                        .most = 100, /* old data may stay on for nearly twice as long */
+                                        .profile = 1,
+                                        .nonce = next_id()};
+    if (gp_slave_size() != sizeof memory) stop("header and archive are of two versions");
+    if (gp_slave_init(&slave, &settings, 0) != GP_OK) stop("the settings are refused");
 }
 
 int main(void) {
-    static gp_slave_memory memory;
-    static gp_slave slave = GP_SLAVE_IN(&memory);
-    static gp_frame out;
-    static gp_did did;
-    const gp_slave_settings settings = {.master_len = MASTER_LEN,
-                                        .slave_len = SLAVE_LEN,
-                                        .address = 2,
-                                        .hand = 200,
-                                        .most = 1000,
-                                        .profile = 1,
-                                        .nonce = fresh_session_id()};
     drive_motor(off);
-    if (gp_slave_init(&slave, &settings, 0) != GP_OK) stop("the settings are refused");
+    start();
     while (next_millisecond()) {
         const uint8_t inputs[SLAVE_LEN] = {0x80, 0x00}; /* what the drive tells its master: ready */
-        if (gp_slave_put(&slave, inputs, sizeof inputs) != GP_OK) stop("the inputs are refused");
+        const uint8_t *frame = NULL;
         size_t len = 0;
-        const uint8_t *frame = bus_receive(&len);
-        if (frame != NULL) {
+        if (gp_slave_put(&slave, inputs, sizeof inputs) != GP_OK) stop("the inputs are refused");
+        for (int i = 0; i < MOST_FRAMES && (frame = bus_receive(&len)) != NULL; i++) {
             if (gp_slave_deliver(&slave, frame, len, &out, &did) != GP_OK) stop("no slave");
-            follow(&slave, &out, &did);
-            apply_outputs(&slave);
+            follow();
         }
         if (gp_slave_tick(&slave, &out, &did) != GP_OK) stop("no slave");
-        follow(&slave, &out, &did);
-        apply_outputs(&slave);
+        follow();
     }
     drive_motor(off);
     return 0;

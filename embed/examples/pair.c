@@ -56,7 +56,7 @@ int main(void) {
     static const uint8_t zeros[LEN];
     uint32_t slave_id = 2, master_id = 1;
     unsigned taken = 0, sessions = 0, silent = 0;
-    uint8_t outputs[LEN], last[LEN] = {0};
+    uint8_t outputs[LEN] = {0}, last[LEN] = {0};
     const uint8_t app[3] = {10, 20, 30}, low[3] = {0, 20, 0}, high[3] = {10, 20, 255};
     const gp_slave_settings slave_settings = {
         .master_len = LEN, .slave_len = LEN, .address = 7, .hand = WATCHDOG, .most = WATCHDOG, .profile = 2, .nonce = slave_id, .word = 5};
@@ -73,7 +73,7 @@ int main(void) {
             send(&to_master, &out);
             if (did.took == GP_COMMAND_SESSION) sessions++;
             if (did.reset) must(gp_slave_nonce(&slave, slave_id += 2) == GP_OK, "a session id at the slave");
-            if (did.took == GP_PROCESS_DATA) {
+            if (did.took == GP_COMMAND_PROCESS_DATA) {
                 taken++;
                 silent = 0;
                 memcpy(last, did.load, LEN);

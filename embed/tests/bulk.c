@@ -60,7 +60,7 @@ static void note(int end, const gp_frame *out, const gp_did *did) {
         sent[end][1] = sent[end][0];
         sent[end][0] = *out;
     }
-    taken[end] += did->took == GP_PROCESS_DATA || did->took == GP_FAIL_SAFE_DATA;
+    taken[end] += did->took == GP_COMMAND_PROCESS_DATA || did->took == GP_COMMAND_FAIL_SAFE_DATA;
     resets[end] += did->reset != GP_NO_RESET;
     drops[end] += did->dropped != GP_NOT_DROPPED;
 }

@@ -30,7 +30,7 @@ static gp_slave_memory slave_memory, slave_before;
 static gp_master_memory master_memory, master_before;
 static gp_slave slave = GP_SLAVE_IN(&slave_memory);
 static gp_master master = GP_MASTER_IN(&master_memory);
-static gp_frame out;
+static gp_frame out, frame;
 static gp_did did;
 static gp_terms terms;
 static uint8_t data[GP_MOST_APP + 1];
@@ -126,6 +126,34 @@ static void bad_settings(void) {
     ANSWERS(GP_NO_END, gp_master_state(&master, &flag));
 }
 
+/* Two settings are bad: the answer is the one that the header names first. */
+static void two_bad_settings(void) {
+    const uint8_t low[2] = {1, 2}, high[2] = {1, 1};
+    gp_slave_settings set = good_slave;
+    gp_master_settings of_master = good_master;
+    set.most = 0;
+    ANSWERS(GP_BAD_MOST, gp_slave_init(&slave, &set, GP_MOST_APP + 1));
+    ANSWERS(GP_BAD_APP, gp_slave_init_exact(&slave, &set, data, GP_MOST_APP + 1));
+    ANSWERS(GP_BAD_MOST, gp_slave_init_ranges(&slave, &set, low, 2, high, 2));
+    ANSWERS(GP_BAD_MOST, gp_slave_init_ranges(&slave, &set, low, 2, low, 1));
+    ANSWERS(GP_BAD_APP, gp_slave_init_ranges(&slave, &set, low, 2, data, GP_MOST_APP + 1));
+    set.hand = 0;
+    ANSWERS(GP_BAD_HAND, gp_slave_init(&slave, &set, 0));
+    set.nonce = 65536;
+    ANSWERS(GP_BAD_NONCE, gp_slave_init(&slave, &set, 0));
+    set.profile = 3;
+    ANSWERS(GP_BAD_PROFILE, gp_slave_init(&slave, &set, 0));
+    set.slave_len = 3;
+    ANSWERS(GP_BAD_LENGTH, gp_slave_init(&slave, &set, 0));
+    of_master.watchdog = of_master.conn = 0;
+    ANSWERS(GP_BAD_CONN, gp_master_init(&master, &of_master, data, 0));
+    ANSWERS(GP_BAD_APP, gp_master_init(&master, &of_master, data, GP_MOST_APP + 1));
+    of_master.nonce = 65536;
+    ANSWERS(GP_BAD_NONCE, gp_master_init(&master, &of_master, data, 0));
+    ANSWERS(GP_NO_END, gp_slave_state(&slave, &flag));
+    ANSWERS(GP_NO_END, gp_master_state(&master, &flag));
+}
+
 /* A slave refuses what doesn't fit it, and is as it was. */
 static void bad_calls_of_a_slave(void) {
     ANSWERS(GP_OK, gp_slave_init(&slave, &good_slave, 0));
@@ -172,17 +200,20 @@ static void frames_that_are_due(void) {
     ANSWERS(GP_OK, gp_master_init(&master, &good_master, NULL, 0));
     ANSWERS(GP_BUSY, gp_master_init(&master, &good_master, NULL, 0));
     ANSWERS(GP_NONE_DUE, gp_master_reply(&master, &out));
+    ANSWERS(GP_OK, gp_master_age(&master, &age));
+    MUST(age == good_master.watchdog - 1);
     ANSWERS(GP_OK, gp_master_tick(&master, &out, &did));
-    MUST(out.len == 7 && out.bytes[0] == GP_COMMAND_RESET);
+    MUST(did.sent == 1 && did.reset == GP_NO_RESET && out.len == 7 && out.bytes[0] == GP_COMMAND_RESET);
     ANSWERS(GP_OK, gp_master_accept(&master, reset_frame, 7, &did));
-    MUST(did.dropped == GP_DROPPED_LENGTH);
+    MUST(did.dropped == GP_DROPPED_LENGTH && did.took == 0 && did.reset == GP_NO_RESET);
     ANSWERS(GP_OK, gp_master_due(&master, &flag));
     MUST(flag == 0);
     /* the slave's own Reset frame, of its length */
     ANSWERS(GP_OK, gp_slave_init(&slave, &good_slave, 0));
-    ANSWERS(GP_OK, gp_slave_deliver(&slave, out.bytes, out.len, &out, &did));
+    frame = out;
+    ANSWERS(GP_OK, gp_slave_deliver(&slave, frame.bytes, frame.len, &out, &did));
     ANSWERS(GP_OK, gp_master_accept(&master, out.bytes, out.len, &did));
-    MUST(did.took == GP_COMMAND_RESET && did.sent == 0);
+    MUST(did.took == GP_COMMAND_RESET && did.reset == GP_NO_RESET && did.sent == 0);
     ANSWERS(GP_OK, gp_master_due(&master, &flag));
     MUST(flag == 1);
     memset(data, 7, sizeof data);
@@ -216,8 +247,8 @@ static void frames_that_are_due(void) {
 
 /* A handshake with application parameters, and what both ends tell of it. */
 static void terms_of_a_session(void) {
-    const uint8_t app[3] = {10, 20, 30};
-    static gp_frame frame;
+    const uint8_t app[3] = {10, 20, 30}, load[4] = {1, 2, 3, 4};
+    uint8_t offer[4] = {0};
     unsigned exchanges = 0;
     ANSWERS(GP_OK, gp_slave_init_exact(&slave, &good_slave, app, sizeof app));
     ANSWERS(GP_OK, gp_master_init(&master, &good_master, app, sizeof app));
@@ -236,11 +267,17 @@ static void terms_of_a_session(void) {
     ANSWERS(GP_OK, gp_slave_age(&slave, &age));
     MUST(age == 1 && out.len == 0);
     ANSWERS(GP_OK, gp_slave_hold(&slave, true));
-    ANSWERS(GP_OK, gp_slave_held(&slave, &flag));
-    MUST(flag == 1);
+    ANSWERS(GP_OK, gp_slave_put(&slave, load, sizeof load));
     ANSWERS(GP_OK, gp_slave_reset(&slave, &out, &did));
-    MUST(did.reset == GP_BY_CALL && did.code == 0 && did.sent == 1 && out.len == 11);
+    MUST(did.reset == GP_BY_CALL && did.code == GP_CODE_LOCAL_RESET && did.sent == 1 && out.len == 11);
     ANSWERS(GP_NOT_IN_DATA, gp_slave_terms(&slave, &terms));
+    /* puts and holds outlast resets */
+    ANSWERS(GP_OK, gp_slave_held(&slave, &flag));
+    ANSWERS(GP_OK, gp_slave_offer(&slave, offer, sizeof offer));
+    MUST(flag == 1 && memcmp(offer, load, sizeof load) == 0);
+    ANSWERS(GP_OK, gp_slave_tick(&slave, &out, &did));
+    ANSWERS(GP_OK, gp_slave_age(&slave, &age));
+    MUST(age == 0 && out.len == 0);
     ANSWERS(GP_OK, gp_slave_end(&slave));
     ANSWERS(GP_OK, gp_master_end(&master));
 }
@@ -251,6 +288,7 @@ int main(void) {
     no_slave();
     no_master();
     bad_settings();
+    two_bad_settings();
     bad_calls_of_a_slave();
     nothing_past_the_numbers();
     frames_that_are_due();

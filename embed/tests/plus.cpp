@@ -9,15 +9,16 @@ public:
     explicit Slave(const gp_slave_settings &settings) : handle_ GP_SLAVE_IN(&memory_), out_(), did_() {
         good_ = gp_slave_init(&handle_, &settings, 0) == GP_OK;
     }
-    ~Slave() { gp_slave_end(&handle_); }
+    ~Slave() { gp_slave_end(&handle_); } // answers that there was none, where there was none
     Slave(const Slave &) = delete;
     Slave &operator=(const Slave &) = delete;
 
     bool good() const { return good_; }
 
-    const gp_frame &deliver(const uint8_t *frame, size_t len) {
+    // The frame to send, null where none is.
+    const gp_frame *deliver(const uint8_t *frame, size_t len) {
         good_ = good_ && gp_slave_deliver(&handle_, frame, len, &out_, &did_) == GP_OK;
-        return out_;
+        return good_ && out_.len != 0 ? &out_ : nullptr;
     }
 
     uint8_t state() {
@@ -53,8 +54,8 @@ int main() {
     settings.nonce = 2;
     Slave slave(settings);
     for (const auto &frame : frames) {
-        const gp_frame &out = slave.deliver(frame, sizeof frame);
-        std::printf("state %d sends %zu bytes\n", slave.state(), out.len);
+        const gp_frame *out = slave.deliver(frame, sizeof frame);
+        std::printf("state %d sends %zu bytes\n", slave.state(), out == nullptr ? 0 : out->len);
     }
     return slave.good() && slave.state() == GP_DATA ? 0 : 1;
 }

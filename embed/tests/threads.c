@@ -25,16 +25,16 @@ static void must(bool holds, const char *what) {
 static void exchange(gp_slave *slave, gp_master *master, gp_frame *frame, uint16_t number, unsigned *taken) {
     gp_frame answer = {0};
     gp_did did = {0};
-    uint8_t outputs[MASTER_LEN];
+    uint8_t outputs[MASTER_LEN] = {0};
     for (unsigned i = 0; i < EXCHANGES; i++) {
         const uint8_t order[MASTER_LEN] = {(uint8_t)i, (uint8_t)(i >> 8), (uint8_t)number, 0x5A};
         const uint8_t report[SLAVE_LEN] = {(uint8_t)(3 * i), (uint8_t)number};
         must(gp_master_put(master, order, sizeof order) == GP_OK && gp_slave_put(slave, report, sizeof report) == GP_OK, "a put");
         must(gp_slave_deliver(slave, frame->bytes, frame->len, &answer, &did) == GP_OK, "a frame at the slave");
         must(gp_slave_outputs(slave, outputs, sizeof outputs) == GP_OK, "the outputs");
-        must(did.took != GP_PROCESS_DATA || memcmp(outputs, did.load, sizeof outputs) == 0, "outputs that nobody sent");
+        must(did.took != GP_COMMAND_PROCESS_DATA || memcmp(outputs, did.load, sizeof outputs) == 0, "outputs that nobody sent");
         must(gp_master_deliver(master, answer.bytes, answer.len, frame, &did) == GP_OK, "a frame at the master");
-        if (did.took != GP_PROCESS_DATA) continue;
+        if (did.took != GP_COMMAND_PROCESS_DATA) continue;
         must(did.load_len == SLAVE_LEN && memcmp(did.load, report, sizeof report) == 0, "data of another exchange");
         ++*taken;
     }
