@@ -50,11 +50,17 @@ static void bus_send(const uint8_t *frame, size_t len) {
     printf("\n");
 }
 
-/* A session id that no session of this master had, also before a power-off; false where all are used up. */
-static bool fresh_session_id(uint16_t *id) {
-    static uint16_t lasting; /* in a device: memory that outlasts power-off. Here each run begins at 0, as no device may */
-    if (lasting == 0xFFFF) return false;
-    *id = ++lasting;
+/* A cell of memory that outlasts power-off, with the session id that was used last. Here each run begins at 0, as no device
+   may, since the frames above belong to id 1. */
+static uint16_t cell;
+
+static uint16_t read_lasting(void) {
+    return cell;
+}
+
+/* False where the value isn't kept. */
+static bool write_lasting(uint16_t value) {
+    cell = value;
     return true;
 }
 
@@ -78,10 +84,12 @@ static void stop(const char *why) {
     exit(1);
 }
 
-static uint16_t next_id(void) {
-    uint16_t id = 0;
-    if (!fresh_session_id(&id)) stop("all session ids are used up");
-    return id;
+/* A session id that no session of this master had, kept before it is used. */
+static uint16_t fresh_id(void) {
+    const uint16_t last = read_lasting();
+    if (last == 0xFFFF) stop("all session ids are used up");
+    if (!write_lasting((uint16_t)(last + 1))) stop("the session id can't be kept");
+    return (uint16_t)(last + 1);
 }
 
 /* Enables the motor where the drive says in bit 7 that it is ready. The inputs are zeros in every state but GP_DATA, so that
@@ -100,7 +108,7 @@ static void follow(void) {
     if (did.reset == GP_NO_RESET) return;
     printf("%3u ms: the session ended with code %02x\n", now, did.code);
     if (++resets > MOST_RESETS) stop("too many resets");
-    if (gp_master_nonce(&master, next_id()) != GP_OK) stop("no session id");
+    if (gp_master_nonce(&master, fresh_id()) != GP_OK) stop("no session id");
 }
 
 /* A frame came: takes it, decides, and sends what follows it. */
@@ -131,7 +139,7 @@ static void start(void) {
                                          .address = ADDRESS,
                                          .watchdog = 100,
                                          .profile = 1,
-                                         .nonce = next_id()};
+                                         .nonce = fresh_id()};
     static const uint8_t app[1]; /* no application parameters: none of these bytes */
     if (gp_master_size() != sizeof memory) stop("header and archive are of two versions");
     if (gp_master_init(&master, &settings, app, 0) != GP_OK) stop("the settings are refused");

@@ -55,12 +55,17 @@ static void drive_motor(const uint8_t outputs[MASTER_LEN]) {
     was = on;
 }
 
-/* A session id that no session of this drive had, also before a power-off. A slave counts by 2. False: all are used up. */
-static bool fresh_session_id(uint16_t *id) {
-    static uint16_t lasting; /* in a device: memory that outlasts power-off. Here each run begins at 0, as no device may */
-    if (lasting == 0xFFFE) return false;
-    lasting = (uint16_t)(lasting + 2);
-    *id = lasting;
+/* A cell of memory that outlasts power-off, with the session id that was used last. Here each run begins at 0, as no device
+   may, since the frames above belong to id 2. */
+static uint16_t cell;
+
+static uint16_t read_lasting(void) {
+    return cell;
+}
+
+/* False where the value isn't kept. */
+static bool write_lasting(uint16_t value) {
+    cell = value;
     return true;
 }
 
@@ -80,10 +85,12 @@ static void stop(const char *why) {
     exit(1);
 }
 
-static uint16_t next_id(void) {
-    uint16_t id = 0;
-    if (!fresh_session_id(&id)) stop("all session ids are used up");
-    return id;
+/* A session id that no session of this drive had, kept before it is used. A slave counts by 2. */
+static uint16_t fresh_id(void) {
+    const uint16_t last = read_lasting();
+    if (last >= 0xFFFE) stop("all session ids are used up");
+    if (!write_lasting((uint16_t)(last + 2))) stop("the session id can't be kept");
+    return (uint16_t)(last + 2);
 }
 
 /* Looks at what a session agreed on when it comes to data, before its first outputs. Ends one that isn't for this drive. */
@@ -110,7 +117,7 @@ static void follow(void) {
     if (did.reset == GP_NO_RESET) return;
     printf("%3u ms: the session ended with code %02x\n", now, did.code);
     if (++resets > MOST_RESETS) stop("too many resets");
-    if (gp_slave_nonce(&slave, next_id()) != GP_OK) stop("no session id");
+    if (gp_slave_nonce(&slave, fresh_id()) != GP_OK) stop("no session id");
 }
 
 static void start(void) {
@@ -120,7 +127,7 @@ static void start(void) {
                                         .hand = 200,
                                         .most = 100, /* old data may stay on for nearly twice as long */
                                         .profile = 1,
-                                        .nonce = next_id()};
+                                        .nonce = fresh_id()};
     if (gp_slave_size() != sizeof memory) stop("header and archive are of two versions");
     if (gp_slave_init(&slave, &settings, 0) != GP_OK) stop("the settings are refused");
 }

@@ -14,7 +14,7 @@ fn main() {
         .find(|name| folder.join(format!("lib{name}.a")).is_file())
         .unwrap_or_else(|| {
             panic!(
-                "no libgatepast.a in {}: set GATEPAST_LIB to its folder",
+                "no libgatepast.a in {}: set GATEPAST_LIB to the whole path of its folder",
                 folder.display()
             )
         });

@@ -37,17 +37,16 @@ struct Device {
     now: usize,
     next: usize,
     motor: Option<bool>,
-    lasting: u16,
+    cell: u16,
 }
 
 impl Device {
     fn new() -> Device {
-        // in a device `lasting` is read; here each run begins at 0, as no device may
         let mut device = Device {
             now: 0,
             next: 0,
             motor: None,
-            lasting: 0,
+            cell: 0,
         };
         device.drive_motor([0; 2]);
         device
@@ -80,11 +79,24 @@ impl Device {
         }
     }
 
-    /// A session id that no session of this drive had, also before a power-off. A slave counts by 2.
-    fn fresh_session_id(&mut self) -> Result<u16, Stop> {
-        let id = self.lasting.checked_add(2);
-        self.lasting = id.ok_or("all session ids are used up")?;
-        Ok(self.lasting)
+    /// The session id that was used last, from memory that outlasts power-off. Here each run begins at 0, as no device may, since the
+    /// frames above belong to id 2.
+    fn read_lasting(&self) -> u16 {
+        self.cell
+    }
+
+    /// Keeps a session id there.
+    fn write_lasting(&mut self, id: u16) -> Result<(), Stop> {
+        self.cell = id;
+        Ok(())
+    }
+
+    /// A session id that no session of this drive had, kept before it is used. A slave counts by 2.
+    fn fresh_id(&mut self) -> Result<u16, Stop> {
+        let id = self.read_lasting().checked_add(2);
+        let id = id.ok_or("all session ids are used up")?;
+        self.write_lasting(id)?;
+        Ok(id)
     }
 }
 
@@ -104,7 +116,7 @@ struct Drive<'m> {
 impl<'m> Drive<'m> {
     fn new(memory: &'m mut SlaveMemory) -> Result<Self, Stop> {
         let mut device = Device::new();
-        let nonce = device.fresh_session_id()?;
+        let nonce = device.fresh_id()?;
         let settings = SlaveSettings {
             address: 2,
             hand: NonZeroU16::new(200).ok_or("a handshake without time")?,
@@ -166,7 +178,7 @@ impl<'m> Drive<'m> {
         if self.resets > MOST_RESETS {
             return Err("too many resets");
         }
-        self.slave.nonce(self.device.fresh_session_id()?);
+        self.slave.nonce(self.device.fresh_id()?);
         Ok(())
     }
 }
