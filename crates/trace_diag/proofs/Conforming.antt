@@ -28,7 +28,7 @@ use Rattle.trace_diag.specs.Before.{before, chain_of}
 use Rattle.trace_diag.specs.Conforms.{sent_in}
 use Rattle.trace_diag.specs.Judged.{first_difference, first_of_both}
 use Rattle.trace_diag.specs.declared.difference.Difference.{Difference}
-use Rattle.trace_diag.specs.Schedule.{answer_events, events_before, schedule_off}
+use Rattle.trace_diag.specs.Schedule.{answer_events, events_before, read_schedule}
 use Rattle.trace_diag.specs.Table.{field_of}
 use Rattle.trace_diag.specs.Trace.{turn, Noted}
 use Rattle.trace_diag.specs.declared.field.Field.{Field}
@@ -157,7 +157,7 @@ good_more ms r x y t plain g m is = record {
 
 -- one more frame of a trace, where two ends sent the trace over its schedule and further events
 good-on : (ms : MasterSettings) (r : Partner ms) (x y : Noted) (t : List Noted) (extra : List Event) (later : List Noted) → Accepts ms r → IsPlain ms → length x.frame ≡ frame_len (length_of ms.lengths x.from)
-    → sent_in (world ms (partner ms r) (schedule_off ms.lengths (x ∷ y ∷ t) ++ extra)) ≡ later ++ x ∷ y ∷ t → Good ms r (y ∷ t) → Good ms r (x ∷ y ∷ t)
+    → sent_in (world ms (partner ms r) (read_schedule ms.lengths (x ∷ y ∷ t) ++ extra)) ≡ later ++ x ∷ y ∷ t → Good ms r (y ∷ t) → Good ms r (x ∷ y ∷ t)
 good-on ms r x y t extra later accepts plain long e g =
     good_more ms r x y t plain g m (sym (same_frames _ x (y ∷ t) (y ∷ t) (aligned _ (ap₂ (λ (z : Noted) (u : List Noted). z ∷ u) refl g.sent) (next_runs ms r x y t accepts fits g.at.runs).0.whole m.sent)).0)
   where
@@ -165,18 +165,18 @@ good-on ms r x y t extra later accepts plain long e g =
     at = turn (y ∷ t)
 
     log : List Event
-    log = schedule_off ms.lengths (y ∷ t)
+    log = read_schedule ms.lengths (y ∷ t)
 
     events : List Event
     events = events_before ms.lengths (y ∷ t) x.frame
 
     -- a frame that was sent after these is the next one of the trace
-    aligned : (z : Noted) → z ∷ sent_in (world_of ms r (y ∷ t)) ≡ z ∷ y ∷ t → length (world_of ms r (x ∷ y ∷ t)) ≡ length (schedule_off ms.lengths (x ∷ y ∷ t)) → sent_in (world_of ms r (x ∷ y ∷ t)) ≡ z ∷ sent_in (world_of ms r (y ∷ t))
+    aligned : (z : Noted) → z ∷ sent_in (world_of ms r (y ∷ t)) ≡ z ∷ y ∷ t → length (world_of ms r (x ∷ y ∷ t)) ≡ length (read_schedule ms.lengths (x ∷ y ∷ t)) → sent_in (world_of ms r (x ∷ y ∷ t)) ≡ z ∷ sent_in (world_of ms r (y ∷ t))
         → z ∷ y ∷ t ≡ x ∷ y ∷ t
     aligned z before whole sent =
         let b : Begins (sent_in (world_of ms r (x ∷ y ∷ t))) (sent_in (world_after ms (partner ms r) extra (world_of ms r (x ∷ y ∷ t)))) = sent-before ms r extra (world_of ms r (x ∷ y ∷ t)) in
         let all : b.later ++ z ∷ y ∷ t ≡ later ++ x ∷ y ∷ t =
-        ap (λ (u : List Noted). b.later ++ u) (sym (sent ∙ before)) ∙ (sym b.is ∙ (ap sent_in (sym (world_on ms (partner ms r) (schedule_off ms.lengths (x ∷ y ∷ t)) extra whole)) ∙ e)) in
+        ap (λ (u : List Noted). b.later ++ u) (sym (sent ∙ before)) ∙ (sym b.is ∙ (ap sent_in (sym (world_on ms (partner ms r) (read_schedule ms.lengths (x ∷ y ∷ t)) extra whole)) ∙ e)) in
         same-end-of b.later later (z ∷ y ∷ t) (x ∷ y ∷ t) all refl
 
     s : SendsMore ms r (answer_events at (length_of ms.lengths at) x.frame) (world_of ms r (y ∷ t)) at
@@ -201,15 +201,15 @@ good-on ms r x y t extra later accepts plain long e g =
 
 -- what two ends sent of a trace over its schedule and further events
 pub good : (ms : MasterSettings) (r : Partner ms) (x : Noted) (t : List Noted) (extra : List Event) (later : List Noted) → Accepts ms r → IsPlain ms → AllLong ms.lengths (x ∷ t)
-    → sent_in (world ms (partner ms r) (schedule_off ms.lengths (x ∷ t) ++ extra)) ≡ later ++ x ∷ t → Good ms r (x ∷ t)
+    → sent_in (world ms (partner ms r) (read_schedule ms.lengths (x ∷ t) ++ extra)) ≡ later ++ x ∷ t → Good ms r (x ∷ t)
 good ms r x [] extra later accepts plain long e =
     let runs = first_runs ms r x in
     let b : Begins (sent_in (world_of ms r (x ∷ []))) (sent_in (world_after ms (partner ms r) extra (world_of ms r (x ∷ [])))) = sent-before ms r extra (world_of ms r (x ∷ [])) in
     let all : b.later ++ first_reset ms ∷ [] ≡ later ++ x ∷ [] =
-    ap (λ (t : List Noted). b.later ++ t) (sym runs.1) ∙ (sym b.is ∙ (ap sent_in (sym (world_on ms (partner ms r) (schedule_off ms.lengths (x ∷ [])) extra runs.0.whole)) ∙ e)) in
+    ap (λ (t : List Noted). b.later ++ t) (sym runs.1) ∙ (sym b.is ∙ (ap sent_in (sym (world_on ms (partner ms r) (read_schedule ms.lengths (x ∷ [])) extra runs.0.whole)) ∙ e)) in
     subst (λ (x : Noted). Good ms r (x ∷ [])) (same_frames (first_reset ms) x [] [] (same-end-of b.later later (first_reset ms ∷ []) (x ∷ []) all refl)).0 (good_first ms r plain)
 good ms r x (y ∷ t) extra later accepts plain long e =
     let events : List Event = events_before ms.lengths (y ∷ t) x.frame in
     good-on ms r x y t extra later accepts plain long.0 e
     (good ms r y t (events ++ extra) (later ++ x ∷ []) accepts plain long.1
-    (ap (λ (log : List Event). sent_in (world ms (partner ms r) log)) (sym (append_assoc (schedule_off ms.lengths (y ∷ t)) events extra)) ∙ (e ∙ sym (append_assoc later (x ∷ []) (y ∷ t)))))
+    (ap (λ (log : List Event). sent_in (world ms (partner ms r) log)) (sym (append_assoc (read_schedule ms.lengths (y ∷ t)) events extra)) ∙ (e ∙ sym (append_assoc later (x ∷ []) (y ∷ t)))))

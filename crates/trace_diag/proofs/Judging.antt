@@ -10,7 +10,7 @@ use Rattle.fsoe_frame.specs.Parts.{frame_of, AreBytes}
 use Rattle.trace_diag.specs.Before.{before, Before}
 use Rattle.trace_diag.specs.Judged.{first_difference, first_of_both, AreOfBytes, KnowsUnless, NotesFrame, TraceStands, TraceView}
 use Rattle.trace_diag.specs.Kept.{kept_from}
-use Rattle.trace_diag.specs.Settings.{told_by, word_if}
+use Rattle.trace_diag.specs.Settings.{settings_by, word_if}
 use Rattle.trace_diag.specs.Table.{field_by, field_of}
 use Rattle.trace_diag.specs.Trace.{piece_len, turn, Noted}
 use Rattle.trace_diag.specs.Verdicts.{DiffersFirst, IsConforming}
@@ -103,18 +103,18 @@ told-first place n u h =
 read-off : ReadOff → Option ℕ → Option ℕ → Option ℕ → Option ℕ → ReadOff
 read-off r conn address watchdog app = record { conn = conn; address = address; watchdog = watchdog; app = app }
 
-told-same : (c p : List ℕ) → told_by (take 4 c) (take 6 p) ≡ told_by c p
+told-same : (c p : List ℕ) → settings_by (take 4 c) (take 6 p) ≡ settings_by c p
 told-same c p =
     ap₂ (λ (a b : Option ℕ). record { conn = a; address = b; watchdog = word_if 2 (take 6 p); app = word_if 4 (take 6 p) }) (told-first 0 4 c (omega arith)) (told-first 2 4 c (omega arith))
     ∙ ap₂ (λ (a b : Option ℕ). record { conn = word_if 0 c; address = word_if 2 c; watchdog = a; app = b }) (told-first 2 6 p (omega arith)) (told-first 4 6 p (omega arith))
 
 -- no frame differs
-pub verdict_conforms : (lengths : Lengths) (t : List Noted) (v : TraceView) (read : ReadOff) → v.differs ≡ None → read ≡ told_by v.known.connection v.known.parameters → TraceStands lengths t v → IsConforming lengths t read
+pub verdict_conforms : (lengths : Lengths) (t : List Noted) (v : TraceView) (read : ReadOff) → v.differs ≡ None → read ≡ settings_by v.known.connection v.known.parameters → TraceStands lengths t v → IsConforming lengths t read
 verdict_conforms lengths t v read differs is s =
     let k : v.known ≡ before lengths t = known-is v lengths t differs s in
     record {
       conforms = conforms_where_none lengths t s.bytes (sym s.first ∙ differs);
-      read_is = is ∙ (ap (λ (k : Before). told_by k.connection k.parameters) k ∙ told-same _ _);
+      read_is = is ∙ (ap (λ (k : Before). settings_by k.connection k.parameters) k ∙ told-same _ _);
     }
 
 -- a frame differs

@@ -21,7 +21,7 @@ use Rattle.end_model.specs.Payloads.{conn_in, first_conn, has_all}
 use Rattle.end_model.specs.Payloads as words
 use Rattle.end_model.specs.Phases.{has_command, phase_of, phase_of_frame, same_phase}
 use Rattle.exchange_model.specs.Ends.{peer, same_end}
-use Rattle.trace_diag.specs.Before.{before, chain_of, chain_with, goes_on, last_piece, newest_load, phase_due, phase_from, piece_asked, piece_place, Before}
+use Rattle.trace_diag.specs.Before.{before, chain_of, chain_with, goes_on, newest_piece, newest_load, phase_due, phase_from, piece_asked, piece_place, Before}
 use Rattle.trace_diag.specs.Kept.{chain_after, connection_with, conn_with, has_come, kept_from, parameters_with, phase_when, piece_of, place_when}
 use Rattle.trace_diag.specs.Settings.{connection_from, parameters_from}
 use Rattle.trace_diag.specs.Trace.{frames_from, payload_from, piece_len, turn, Noted}
@@ -158,7 +158,7 @@ place-kept lengths x t state.Connection = refl
 place-kept lengths x t state.Parameter = refl
 place-kept lengths x t state.Data = refl
 
-piece-is : (lengths : Lengths) (t : List Noted) (p : State) (part : List ℕ) → last_piece lengths t ≡ part → piece_asked lengths t p end_name.Slave ≡ piece_of p part
+piece-is : (lengths : Lengths) (t : List Noted) (p : State) (part : List ℕ) → newest_piece lengths t ≡ part → piece_asked lengths t p end_name.Slave ≡ piece_of p part
 piece-is lengths t state.Reset part e = refl
 piece-is lengths t state.Session part e = refl
 piece-is lengths t state.Connection part e = e

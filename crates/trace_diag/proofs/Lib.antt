@@ -33,3 +33,4 @@ pub mod Theorem
 pub mod Judging
 pub mod Conforming
 pub mod AnswersBack
+pub mod Inputs

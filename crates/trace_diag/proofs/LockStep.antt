@@ -29,7 +29,7 @@ use Rattle.exchange_model.proofs.Honest.StageSteps.{Enters}
 use Rattle.exchange_model.proofs.Honest.Turns.{Partner, partner}
 use Rattle.exchange_model.proofs.Worlds.Longer.{world_on}
 use Rattle.trace_diag.specs.Conforms.{sent_in}
-use Rattle.trace_diag.specs.Schedule.{answer_events, schedule_off}
+use Rattle.trace_diag.specs.Schedule.{answer_events, read_schedule}
 use Rattle.trace_diag.specs.Trace.{Noted, turn}
 use Rattle.trace_diag.proofs.Running.{Answers, IsOn, answer_on}
 
@@ -40,13 +40,13 @@ Fitting lengths (x ∷ t) = (length (frame_of (length_of lengths (turn t)) x.fra
 
 -- the world over the schedule of a trace with a frame: each event has its entry, and the last frame is on its way
 pub record Runs (ms : MasterSettings) (r : Partner ms) (t : List Noted) : Type 0 where
-  pub whole : length (world ms (partner ms r) (schedule_off ms.lengths t)) ≡ length (schedule_off ms.lengths t)
-  pub on : IsOn ms r (world ms (partner ms r) (schedule_off ms.lengths t)) (turn t)
+  pub whole : length (world ms (partner ms r) (read_schedule ms.lengths t)) ≡ length (read_schedule ms.lengths t)
+  pub on : IsOn ms r (world ms (partner ms r) (read_schedule ms.lengths t)) (turn t)
 
 -- the frames that were sent are those before and one more, of the end whose turn it is
 pub record SendsOneMore (ms : MasterSettings) (r : Partner ms) (x : Noted) (t : List Noted) : Type 0 where
   pub frame : List ℕ
-  pub sent : sent_in (world ms (partner ms r) (schedule_off ms.lengths (x ∷ t))) ≡ record { from = turn t; frame = frame } ∷ sent_in (world ms (partner ms r) (schedule_off ms.lengths t))
+  pub sent : sent_in (world ms (partner ms r) (read_schedule ms.lengths (x ∷ t))) ≡ record { from = turn t; frame = frame } ∷ sent_in (world ms (partner ms r) (read_schedule ms.lengths t))
 
 ticks : (w : ℕ) → 0 < w → nat_le w (suc (w - 1)) ≡ true
 ticks w h = grind (arith, nat_tests)
@@ -63,7 +63,7 @@ first-entry ms x e =
 some-is : (a b : Entry) → Some a ≡ Some b → a ≡ b
 some-is a b e = cc
 
-pub first_runs : (ms : MasterSettings) (r : Partner ms) (x : Noted) → Runs ms r (x ∷ []) × (sent_in (world ms (partner ms r) (schedule_off ms.lengths (x ∷ []))) ≡ record { from = end_name.Master; frame = reset_frame 0 ms.lengths.master } ∷ [])
+pub first_runs : (ms : MasterSettings) (r : Partner ms) (x : Noted) → Runs ms r (x ∷ []) × (sent_in (world ms (partner ms r) (read_schedule ms.lengths (x ∷ []))) ≡ record { from = end_name.Master; frame = reset_frame 0 ms.lengths.master } ∷ [])
 first_runs ms r x =
     let first = first_tick ms r [] (ticks ms.watchdog ms.some_watchdog) refl (idle ms r) in
     let y : Entry = first.0 in
@@ -83,15 +83,15 @@ proper ms r end_name.Slave load h = h
 
 -- the events before one more frame, which an end answers the frame on its way with
 pub record Steps (ms : MasterSettings) (r : Partner ms) (x : Noted) (t : List Noted) : Type 0 where
-  pub answers : Answers ms r (answer_events (turn t) (length_of ms.lengths (turn t)) x.frame) (world ms (partner ms r) (schedule_off ms.lengths t)) (turn t) (command_in x.frame) (frame_of (length_of ms.lengths (turn t)) x.frame).load
-  pub goes : world ms (partner ms r) (schedule_off ms.lengths (x ∷ t)) ≡ answers.reaches.entry ∷ answers.reaches.set
+  pub answers : Answers ms r (answer_events (turn t) (length_of ms.lengths (turn t)) x.frame) (world ms (partner ms r) (read_schedule ms.lengths t)) (turn t) (command_in x.frame) (frame_of (length_of ms.lengths (turn t)) x.frame).load
+  pub goes : world ms (partner ms r) (read_schedule ms.lengths (x ∷ t)) ≡ answers.reaches.entry ∷ answers.reaches.set
 
 pub steps : (ms : MasterSettings) (r : Partner ms) (x y : Noted) (t : List Noted) → Accepts ms r → length (frame_of (length_of ms.lengths (turn (y ∷ t))) x.frame).load ≡ length_of ms.lengths (turn (y ∷ t))
     → Runs ms r (y ∷ t) → Steps ms r x (y ∷ t)
 steps ms r x y t accepts fits runs =
     let at : End = turn (y ∷ t) in
     let l : ℕ = length_of ms.lengths at in
-    let log : List Event = schedule_off ms.lengths (y ∷ t) in
+    let log : List Event = read_schedule ms.lengths (y ∷ t) in
     let load : List ℕ = (frame_of l x.frame).load in
     let answers = answer_on ms r (world ms (partner ms r) log) at (command_in x.frame) l load accepts (proper ms r at (replicate l 0) (length-replicate l 0)) (proper ms r at load fits) runs.on in
     record { answers = answers; goes = world_on ms (partner ms r) log (answer_events at l x.frame) runs.whole ∙ answers.reaches.is }
@@ -104,7 +104,7 @@ next_runs ms r x y t accepts fits runs =
     let reaches = s.answers.reaches in
     let events : List Event = answer_events at (length_of ms.lengths at) x.frame in (
       record {
-        whole = ap (length {A = Entry}) s.goes ∙ (reaches.whole ∙ (let all = length-append (schedule_off ms.lengths (y ∷ t)) events in omega (arith, runs.whole, all)));
+        whole = ap (length {A = Entry}) s.goes ∙ (reaches.whole ∙ (let all = length-append (read_schedule ms.lengths (y ∷ t)) events in omega (arith, runs.whole, all)));
         on = subst (λ (w : List Entry). IsOn ms r w (peer at)) (sym s.goes) reaches.on;
       },
       record { frame = reaches.entry.sent; sent = ap sent_in s.goes ∙ reaches.sent },
@@ -118,21 +118,21 @@ all_run ms r x (y ∷ t) accepts fits = (next_runs ms r x y t accepts fits.0 (al
 -- the end of a frame, and the frames before it, where these are the frames that were sent
 pub record IsLast (ms : MasterSettings) (r : Partner ms) (x : Noted) (t : List Noted) : Type 0 where
   pub from_is : x.from ≡ turn t
-  pub before : sent_in (world ms (partner ms r) (schedule_off ms.lengths t)) ≡ t
+  pub before : sent_in (world ms (partner ms r) (read_schedule ms.lengths t)) ≡ t
 
 last-of : (a x : Noted) (rest t : List Noted) → a ∷ rest ≡ x ∷ t → (a ≡ x) × (rest ≡ t)
 last-of a x rest t e = (cc, cc)
 
 -- where the ends send a whole trace, they send each of its beginnings: prefixes need no settings of their own
-pub sent_back : (ms : MasterSettings) (r : Partner ms) (x : Noted) (t : List Noted) → Accepts ms r → Fitting ms.lengths (x ∷ t) → sent_in (world ms (partner ms r) (schedule_off ms.lengths (x ∷ t))) ≡ x ∷ t → IsLast ms r x t
+pub sent_back : (ms : MasterSettings) (r : Partner ms) (x : Noted) (t : List Noted) → Accepts ms r → Fitting ms.lengths (x ∷ t) → sent_in (world ms (partner ms r) (read_schedule ms.lengths (x ∷ t))) ≡ x ∷ t → IsLast ms r x t
 sent_back ms r x [] accepts fits e =
     let both = last-of (record { from = end_name.Master; frame = reset_frame 0 ms.lengths.master }) x [] [] (sym (first_runs ms r x).1 ∙ e) in
     record { from_is = ap (λ (x : Noted). x.from) (sym both.0); before = refl }
 sent_back ms r x (y ∷ t) accepts fits e =
     let more : SendsOneMore ms r x (y ∷ t) = (next_runs ms r x y t accepts fits.0 (all_run ms r y t accepts fits.1)).1 in
-    let both = last-of (record { from = turn (y ∷ t); frame = more.frame }) x (sent_in (world ms (partner ms r) (schedule_off ms.lengths (y ∷ t)))) (y ∷ t) (sym more.sent ∙ e) in
+    let both = last-of (record { from = turn (y ∷ t); frame = more.frame }) x (sent_in (world ms (partner ms r) (read_schedule ms.lengths (y ∷ t)))) (y ∷ t) (sym more.sent ∙ e) in
     record { from_is = ap (λ (x : Noted). x.from) (sym both.0); before = both.1 }
 
 -- the first frame that is sent is the master's Reset frame
-pub first_sent : (ms : MasterSettings) (r : Partner ms) (x : Noted) → sent_in (world ms (partner ms r) (schedule_off ms.lengths (x ∷ []))) ≡ x ∷ [] → x ≡ record { from = end_name.Master; frame = reset_frame 0 ms.lengths.master }
+pub first_sent : (ms : MasterSettings) (r : Partner ms) (x : Noted) → sent_in (world ms (partner ms r) (read_schedule ms.lengths (x ∷ []))) ≡ x ∷ [] → x ≡ record { from = end_name.Master; frame = reset_frame 0 ms.lengths.master }
 first_sent ms r x e = sym (last-of (record { from = end_name.Master; frame = reset_frame 0 ms.lengths.master }) x [] [] (sym (first_runs ms r x).1 ∙ e)).0

@@ -28,7 +28,7 @@ use Rattle.exchange_model.proofs.Honest.SlaveTurn.{Carries, Replies}
 use Rattle.exchange_model.proofs.Honest.Stages.{Both, IsDown, IsUp}
 use Rattle.exchange_model.proofs.Honest.StageSteps.{some_connection}
 use Rattle.exchange_model.proofs.Honest.Turns.{conn_after, connection_pieces, more, parameter_pieces, session_pieces, slave_of, width, Partner, Turn, Starts, MoreSession, FirstConnection, MoreConnection, FirstParameter, MoreParameter, FirstZeros, FirstValues, MoreZeros, MoreValues, Spot, InSession, InConnection, InParameter, InData}
-use Rattle.trace_diag.specs.Before.{before, chain_of, goes_on, last_piece, phase_due, phase_from, piece_asked, piece_place}
+use Rattle.trace_diag.specs.Before.{before, chain_of, goes_on, newest_piece, phase_due, phase_from, piece_asked, piece_place}
 use Rattle.trace_diag.specs.Trace.{payload_from, turn, Noted}
 use Rattle.trace_diag.proofs.Due.{due_next, front_in}
 use Rattle.trace_diag.proofs.MasterRows.{IsDue, IsPlaced, IsPlain}
@@ -209,7 +209,7 @@ some-connected (f ∷ frames) e =
     let one : count_in state.Connection (f ∷ frames) ≡ suc (count_in state.Connection frames) = ap (λ (p : State). if same_phase state.Connection p then suc (count_in state.Connection frames) else count_in state.Connection frames) e in
     omega (arith, one)
 
-in-phase : (ms : MasterSettings) (t : List Noted) (c : Command) (b d : ℕ) → RepeatsIn ms (phase_of c) b d (last_piece ms.lengths t) → Repeats ms c b d (piece_asked ms.lengths t (phase_of c) end_name.Slave)
+in-phase : (ms : MasterSettings) (t : List Noted) (c : Command) (b d : ℕ) → RepeatsIn ms (phase_of c) b d (newest_piece ms.lengths t) → Repeats ms c b d (piece_asked ms.lengths t (phase_of c) end_name.Slave)
 in-phase ms t command.Reset b d h = tt
 in-phase ms t command.Session b d h = tt
 in-phase ms t command.Connection b d h = h
@@ -238,9 +238,9 @@ from_up ms r y t x x' h turned-to told same = record {
     conn = told.conn ∙ ap (conn_after ms.conn) b-is;
     repeats = subst (λ (q : List ℕ). Repeats ms h.command h.b h.d q) (sym (ap₂ (λ (p : State) (e : End). piece_asked ms.lengths (y ∷ t) p e) due turned-to))
         (in-phase ms (y ∷ t) h.command h.b h.d
-        (subst (λ (n : ℕ). RepeatsIn ms (phase_of h.command) h.b n (last_piece ms.lengths (y ∷ t))) d-is
-        (subst (λ (n : ℕ). RepeatsIn ms (phase_of h.command) n (count_in state.Parameter x.master.sent) (last_piece ms.lengths (y ∷ t))) b-is
-        (subst (λ (p : State). RepeatsIn ms p (count_in state.Connection x.master.sent) (count_in state.Parameter x.master.sent) (last_piece ms.lengths (y ∷ t))) phase-is told.newest.repeats))));
+        (subst (λ (n : ℕ). RepeatsIn ms (phase_of h.command) h.b n (newest_piece ms.lengths (y ∷ t))) d-is
+        (subst (λ (n : ℕ). RepeatsIn ms (phase_of h.command) n (count_in state.Parameter x.master.sent) (newest_piece ms.lengths (y ∷ t))) b-is
+        (subst (λ (p : State). RepeatsIn ms p (count_in state.Connection x.master.sent) (count_in state.Parameter x.master.sent) (newest_piece ms.lengths (y ∷ t))) phase-is told.newest.repeats))));
     fits = piece_fits (slave_of ms r);
   };
   replies = h.replies;

@@ -14,7 +14,7 @@ use Rattle.end_model.specs.Payloads.{first_conn}
 use Rattle.exchange_model.proofs.Honest.SlaveTurn.{Accepts}
 use Rattle.exchange_model.proofs.Honest.Turns.{partner, Partner}
 use Rattle.trace_diag.specs.Judged.{AreOfBytes}
-use Rattle.trace_diag.specs.Settings.{address_off, app_len_off, app_off, byte_or, connection_from, conn_off, id_off, parameters_from, watchdog_off, word_or, AreReadOff}
+use Rattle.trace_diag.specs.Settings.{read_address, read_app_len, read_app, byte_or, connection_from, read_conn, read_id, parameters_from, read_watchdog, word_or, AreReadOff}
 use Rattle.trace_diag.specs.Table.{parameter_holds}
 use Rattle.trace_diag.specs.Trace.{frames_from, payload_from, Noted}
 use Rattle.trace_diag.proofs.MasterRows.{IsPlain}
@@ -95,14 +95,14 @@ conn-unwrapped : (o : Option ℕ) (conn : ℕ) → o ≡ Some conn → conn ≡ 
 conn-unwrapped o conn e = ap (λ (o : Option ℕ). unwrap_or o 1) (sym e)
 
 -- the settings that are read off
-abbrev settings : (lengths : Lengths) (t : List Noted) → 0 < conn_off lengths t → 0 < watchdog_off lengths t → nat_le (id_off lengths end_name.Master t) 65535 ≡ true → MasterSettings
+abbrev settings : (lengths : Lengths) (t : List Noted) → 0 < read_conn lengths t → 0 < read_watchdog lengths t → nat_le (read_id lengths end_name.Master t) 65535 ≡ true → MasterSettings
 settings lengths t some_conn some_watchdog allowed = record {
   lengths = lengths;
-  conn = conn_off lengths t;
-  address = address_off lengths t;
-  watchdog = watchdog_off lengths t;
-  app = app_off lengths t;
-  nonce = id_off lengths end_name.Master t;
+  conn = read_conn lengths t;
+  address = read_address lengths t;
+  watchdog = read_watchdog lengths t;
+  app = read_app lengths t;
+  nonce = read_id lengths end_name.Master t;
   profile = profile.One;
   some_conn = some_conn;
   some_watchdog = some_watchdog;
@@ -116,20 +116,20 @@ settled lengths t long are rows =
     let c-bytes : AreBytes (connection_from lengths t) = payload_bytes lengths end_name.Master state.Connection t long are in
     let m-bytes : AreBytes (payload_from lengths end_name.Master state.Session t) = payload_bytes lengths end_name.Master state.Session t long are in
     let s-bytes : AreBytes (payload_from lengths end_name.Slave state.Session t) = payload_bytes lengths end_name.Slave state.Session t long are in
-    let most : app_len_off lengths t ≤ 512 = app-most p p-bytes rows.parameters in
+    let most : read_app_len lengths t ≤ 512 = app-most p p-bytes rows.parameters in
     let ms : MasterSettings = settings lengths t (conn-some (first_conn lengths.master (frames_from end_name.Master t)) (λ conn e. (rows.connection conn e).0)) (watchdog-some p rows.parameters)
-    (le-leb (id_off lengths end_name.Master t) 65535 (word_most 0 0 (payload_from lengths end_name.Master state.Session t) m-bytes (omega arith))) in
+    (le-leb (read_id lengths end_name.Master t) 65535 (word_most 0 0 (payload_from lengths end_name.Master state.Session t) m-bytes (omega arith))) in
     let r : Partner ms = record {
       hand = 65535;
       most = 65535;
-      rule = rule.Any (app_len_off lengths t);
-      nonce = id_off lengths end_name.Slave t;
+      rule = rule.Any (read_app_len lengths t);
+      nonce = read_id lengths end_name.Slave t;
       valid_master = lengths.valid_master;
       valid_slave = lengths.valid_slave;
       some_hand = omega arith;
       some_most = omega arith;
-      acceptable = le-leb (app_len_off lengths t) 512 most;
-      allowed = le-leb (id_off lengths end_name.Slave t) 65535 (word_most 0 0 (payload_from lengths end_name.Slave state.Session t) s-bytes (omega arith));
+      acceptable = le-leb (read_app_len lengths t) 512 most;
+      allowed = le-leb (read_id lengths end_name.Slave t) 65535 (word_most 0 0 (payload_from lengths end_name.Slave state.Session t) s-bytes (omega arith));
     } in
     record {
       ms = ms;
@@ -141,7 +141,7 @@ settled lengths t long are rows =
       accepts = record {
         watchdog = word_most 1 2 p p-bytes (omega arith);
         as_many = app_long p;
-        allowed = eq-eqb (length (app_off lengths t)) (app_len_off lengths t) (app_long p);
+        allowed = eq-eqb (length (read_app lengths t)) (read_app_len lengths t) (app_long p);
       };
       plain = record { one = refl; most = subst (λ (n : ℕ). n ≤ 512) (sym (app_long p)) most };
       lengths_are = refl;

@@ -30,7 +30,7 @@ use Rattle.exchange_model.proofs.Honest.OnItsWay.{Chained, head_on}
 use Rattle.exchange_model.proofs.Honest.SlaveTurn.{Carries}
 use Rattle.exchange_model.proofs.Honest.Stages.{Both, IsAsked, IsDown, IsReplied, IsUp}
 use Rattle.exchange_model.proofs.Honest.Turns.{conn_after, more, width, Partner}
-use Rattle.trace_diag.specs.Before.{chain_at, chain_of, last_piece}
+use Rattle.trace_diag.specs.Before.{chain_at, chain_of, newest_piece}
 use Rattle.trace_diag.specs.Trace.{frames_from, payload_from, Noted}
 
 -- what the chain of an end goes by, and that chain
@@ -55,7 +55,7 @@ RepeatsIn ms _ b d q = Unit {0}
 -- where the newest frame is the master's, which sent these frames in its session: where its piece stands, and what it is
 pub record TellsNewest (ms : MasterSettings) (t : List Noted) (frames : List (List ℕ)) : Type 0 where
   pub place : phase_sent frames ≡ state.Session → length (payload_from ms.lengths end_name.Master state.Session (drop 1 t)) ≡ (count_in state.Session frames - 1) * width ms
-  pub repeats : RepeatsIn ms (phase_sent frames) (count_in state.Connection frames) (count_in state.Parameter frames) (last_piece ms.lengths t)
+  pub repeats : RepeatsIn ms (phase_sent frames) (count_in state.Connection frames) (count_in state.Parameter frames) (newest_piece ms.lengths t)
 
 abbrev pub TellsIfSent : End → MasterSettings → List Noted → List (List ℕ) → Type 0
 TellsIfSent end_name.Master ms t frames = Unit {0}
@@ -177,10 +177,10 @@ told_down ms r t x x' h id told more-sent same = record {
       ∙ ap (conn_after ms.conn) (counted state.Connection));
   newest = record {
     place = λ is. ap (length {A = ℕ}) told.session ∙ (front_long (session_payload ms.nonce ms.profile) (width ms) (count_in state.Session x.master.sent) ∙ ap (λ (n : ℕ). n * width ms) (before-it is));
-    repeats = subst (λ (p : State). RepeatsIn ms p (count_in state.Connection x'.master.sent) (count_in state.Parameter x'.master.sent) (last_piece ms.lengths (record { from = end_name.Master; frame = h.frame } ∷ t))) (sym of-command)
-        (subst (λ (n : ℕ). RepeatsIn ms (phase_of h.command) n (count_in state.Parameter x'.master.sent) (last_piece ms.lengths (record { from = end_name.Master; frame = h.frame } ∷ t))) (counted state.Connection)
-        (subst (λ (n : ℕ). RepeatsIn ms (phase_of h.command) (more state.Connection h.command (count_in state.Connection x.master.sent)) n (last_piece ms.lengths (record { from = end_name.Master; frame = h.frame } ∷ t))) (counted state.Parameter)
-        (repeats-now ms h.id h.a h.b h.d h.conn (count_in state.Connection x.master.sent) (count_in state.Parameter x.master.sent) h.command h.load (last_piece ms.lengths (record { from = end_name.Master; frame = h.frame } ∷ t)) h.carries
+    repeats = subst (λ (p : State). RepeatsIn ms p (count_in state.Connection x'.master.sent) (count_in state.Parameter x'.master.sent) (newest_piece ms.lengths (record { from = end_name.Master; frame = h.frame } ∷ t))) (sym of-command)
+        (subst (λ (n : ℕ). RepeatsIn ms (phase_of h.command) n (count_in state.Parameter x'.master.sent) (newest_piece ms.lengths (record { from = end_name.Master; frame = h.frame } ∷ t))) (counted state.Connection)
+        (subst (λ (n : ℕ). RepeatsIn ms (phase_of h.command) (more state.Connection h.command (count_in state.Connection x.master.sent)) n (newest_piece ms.lengths (record { from = end_name.Master; frame = h.frame } ∷ t))) (counted state.Parameter)
+        (repeats-now ms h.id h.a h.b h.d h.conn (count_in state.Connection x.master.sent) (count_in state.Parameter x.master.sent) h.command h.load (newest_piece ms.lengths (record { from = end_name.Master; frame = h.frame } ∷ t)) h.carries
         (counted state.Connection ∙ h.master.connection) (counted state.Parameter ∙ h.master.parameters) part)));
   };
 }
@@ -261,7 +261,7 @@ told_asked ms x f tail head h = subst (λ (f : List ℕ). Tells ms (record { fro
   conn = ap (λ (frames : List (List ℕ)). conn_after ms.conn (count_in state.Connection frames)) (sym none);
   newest = record {
     place = λ is. absurd (no-session (sym (ap phase_sent none) ∙ is));
-    repeats = subst (λ (p : State). RepeatsIn ms p (count_in state.Connection x.master.sent) (count_in state.Parameter x.master.sent) (last_piece ms.lengths (record { from = end_name.Master; frame = 0x2A ∷ tail } ∷ []))) (sym (ap phase_sent none)) tt;
+    repeats = subst (λ (p : State). RepeatsIn ms p (count_in state.Connection x.master.sent) (count_in state.Parameter x.master.sent) (newest_piece ms.lengths (record { from = end_name.Master; frame = 0x2A ∷ tail } ∷ []))) (sym (ap phase_sent none)) tt;
   };
 })
   where

@@ -25,8 +25,8 @@ use Rattle.exchange_model.proofs.Honest.Turns.{partner, Partner}
 use Rattle.trace_diag.specs.Conforms.{has_length, sent_in, Conforms, ConformsThroughout}
 use Rattle.trace_diag.specs.Judged.{first_difference, first_of_both, AreOfBytes}
 use Rattle.trace_diag.specs.declared.difference.Difference.{Difference}
-use Rattle.trace_diag.specs.Schedule.{schedule_off}
-use Rattle.trace_diag.specs.Settings.{app_len_off, parameters_from, watchdog_off}
+use Rattle.trace_diag.specs.Schedule.{read_schedule}
+use Rattle.trace_diag.specs.Settings.{read_app_len, parameters_from, read_watchdog}
 use Rattle.trace_diag.specs.Table.{field_of}
 use Rattle.trace_diag.specs.Trace.{Noted}
 use Rattle.trace_diag.specs.Verdicts.{DiffersFirst}
@@ -48,10 +48,10 @@ lengths-hold lengths (x ∷ t) h =
     both-are (has_length lengths x) (list_all (has_length lengths) t) (eq-eqb (length x.frame) (frame_len (length_of lengths x.from)) h.0) (lengths-hold lengths t h.1)
 
 -- what the ends with the settings that are read off send
-sends-it : (lengths : Lengths) (t : List Noted) (s : Settled lengths t) → AllInTurn lengths t → AreOfBytes t → sent_in (world s.ms (partner s.ms s.r) (schedule_off lengths t)) ≡ t
+sends-it : (lengths : Lengths) (t : List Noted) (s : Settled lengths t) → AllInTurn lengths t → AreOfBytes t → sent_in (world s.ms (partner s.ms s.r) (read_schedule lengths t)) ≡ t
 sends-it lengths [] s h are = refl
 sends-it lengths (x ∷ t) s h are =
-    ap (λ (lengths : Lengths). sent_in (world s.ms (partner s.ms s.r) (schedule_off lengths (x ∷ t)))) (sym s.lengths_are)
+    ap (λ (lengths : Lengths). sent_in (world s.ms (partner s.ms s.r) (read_schedule lengths (x ∷ t)))) (sym s.lengths_are)
     ∙ (settle s.ms s.r (x ∷ t) [] x t s.accepts s.plain s.read refl (subst (λ (lengths : Lengths). AllInTurn lengths (x ∷ t)) (sym s.lengths_are) h) are).sent
 
 -- a trace conforms to which no row applies
@@ -132,14 +132,14 @@ none-of lengths x t c are =
     let ss : SlaveSettings = c.ss in
     let long : AllLong lengths all = all_long lengths all c.lengths_hold in
     let p-bytes : AreBytes (parameters_from lengths all) = payload_bytes lengths end_name.Master state.Parameter all long are in
-    let n : ℕ = app_len_off lengths all in
-    let p : AsPartner (λ (ss : SlaveSettings). sent_in (world ms ss (schedule_off lengths all)) ≡ all) ms ss =
-    as-partner (λ (ss : SlaveSettings). sent_in (world ms ss (schedule_off lengths all)) ≡ all) ms ss
+    let n : ℕ = read_app_len lengths all in
+    let p : AsPartner (λ (ss : SlaveSettings). sent_in (world ms ss (read_schedule lengths all)) ≡ all) ms ss =
+    as-partner (λ (ss : SlaveSettings). sent_in (world ms ss (read_schedule lengths all)) ≡ all) ms ss
     (c.settings.slave.lengths_are ∙ sym c.settings.master.lengths_are) (c.settings.slave.address_is ∙ sym c.settings.master.address_is) (c.settings.slave.profile_is ∙ sym c.settings.master.profile_is) c.sends in
     let rule-is : p.r.rule ≡ rule.Any n = p.rule_is ∙ c.settings.slave.rule_is in
     let app-long : length ms.app ≡ n = ap (length {A = ℕ}) c.settings.master.app_is ∙ app_long (parameters_from lengths all) in
     let accepts : Accepts ms p.r = record {
-      watchdog = subst (λ (n : ℕ). n ≤ p.r.most) (sym c.settings.master.watchdog_is) (subst (λ (n : ℕ). watchdog_off lengths all ≤ n) (sym (p.most_is ∙ c.settings.slave.most_is)) (word_most 1 2 (parameters_from lengths all) p-bytes (omega arith)));
+      watchdog = subst (λ (n : ℕ). n ≤ p.r.most) (sym c.settings.master.watchdog_is) (subst (λ (n : ℕ). read_watchdog lengths all ≤ n) (sym (p.most_is ∙ c.settings.slave.most_is)) (word_most 1 2 (parameters_from lengths all) p-bytes (omega arith)));
       as_many = app-long ∙ sym (ap rule_len rule-is);
       allowed = ap (λ (q : AppRule). allows q ms.app) rule-is ∙ eq-eqb (length ms.app) n app-long;
     } in
@@ -150,7 +150,7 @@ none-of lengths x t c are =
     let l : ms.lengths ≡ lengths = c.settings.master.lengths_are in
     let g : Good ms p.r all =
     good ms p.r x t [] [] accepts plain (subst (λ (lengths : Lengths). AllLong lengths all) (sym l) long)
-    (ap (λ (log : List Event). sent_in (world ms (partner ms p.r) log)) (append-nil (schedule_off ms.lengths all)) ∙ (ap (λ (lengths : Lengths). sent_in (world ms (partner ms p.r) (schedule_off lengths all))) l ∙ p.holds)) in
+    (ap (λ (log : List Event). sent_in (world ms (partner ms p.r) log)) (append-nil (read_schedule ms.lengths all)) ∙ (ap (λ (lengths : Lengths). sent_in (world ms (partner ms p.r) (read_schedule lengths all))) l ∙ p.holds)) in
     ap (λ (lengths : Lengths). first_difference lengths all) (sym l) ∙ g.none
 
 pub none_where_conforms : (lengths : Lengths) (t : List Noted) → AreOfBytes t → Conforms lengths t → first_difference lengths t ≡ None

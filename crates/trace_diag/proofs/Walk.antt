@@ -19,7 +19,7 @@ use Rattle.exchange_model.proofs.Honest.SlaveTurn.{Accepts}
 use Rattle.exchange_model.proofs.Honest.Stages.{both, Asked, Down, Stage, IsDown}
 use Rattle.exchange_model.proofs.Honest.Turns.{partner, Partner}
 use Rattle.trace_diag.specs.Conforms.{sent_in}
-use Rattle.trace_diag.specs.Schedule.{schedule_off}
+use Rattle.trace_diag.specs.Schedule.{read_schedule}
 use Rattle.trace_diag.specs.Trace.{frames_from, turn, Noted}
 use Rattle.trace_diag.proofs.Along.{master_brought, slave_brought, Brought}
 use Rattle.trace_diag.proofs.LockStep.{first_runs, next_runs, steps, Runs, Steps}
@@ -31,7 +31,7 @@ use Rattle.trace_diag.proofs.Tells.{not_reset, told_asked, Tells}
 
 -- the world over the schedule of a trace
 abbrev pub world_of : (ms : MasterSettings) → Partner ms → List Noted → List Entry
-world_of ms r t = world ms (partner ms r) (schedule_off ms.lengths t)
+world_of ms r t = world ms (partner ms r) (read_schedule ms.lengths t)
 
 -- that world stands at the end of the trace, which tells of it
 pub record At (ms : MasterSettings) (r : Partner ms) (t : List Noted) : Type 0 where

@@ -17,18 +17,18 @@ use Rattle.trace_diag.specs.Settings.{connection_from, parameters_from}
 use Rattle.trace_diag.specs.Trace.{Noted, frames_from, turn, piece_len, payload_from}
 
 -- the phase after a phase
-abbrev pub following : State → State
-following state.Reset = state.Session
-following state.Session = state.Connection
-following state.Connection = state.Parameter
-following state.Parameter = state.Data
-following state.Data = state.Data
+abbrev pub next_phase : State → State
+next_phase state.Reset = state.Session
+next_phase state.Session = state.Connection
+next_phase state.Connection = state.Parameter
+next_phase state.Parameter = state.Data
+next_phase state.Data = state.Data
 
 -- the phase of the master's frame after an answer in this phase, whose payload is as far as this: until the payload is whole a phase is
 -- followed by itself. A Reset frame has no payload
 abbrev pub goes_on : State → List ℕ → State
 goes_on state.Reset u = state.Session
-goes_on now u = if whole profile.One now u then following now else now
+goes_on now u = if whole profile.One now u then next_phase now else now
 
 -- the phase of the next frame, after a frame of this phase: an answer is of the phase of the master's frame
 abbrev pub phase_from : Lengths → List Noted → End → State → State
@@ -54,13 +54,13 @@ newest_load l [] = []
 newest_load l (f ∷ frames) = (frame_of l f).load
 
 -- the piece that the master's last frame carried
-abbrev pub last_piece : Lengths → List Noted → List ℕ
-last_piece lengths t = take (piece_len lengths) (newest_load lengths.master (frames_from end_name.Master t))
+abbrev pub newest_piece : Lengths → List Noted → List ℕ
+newest_piece lengths t = take (piece_len lengths) (newest_load lengths.master (frames_from end_name.Master t))
 
 -- the piece that the next frame repeats: a slave repeats the master's in Connection and Parameter, and no other frame repeats one
 abbrev pub piece_asked : Lengths → List Noted → State → End → List ℕ
-piece_asked lengths t state.Connection end_name.Slave = last_piece lengths t
-piece_asked lengths t state.Parameter end_name.Slave = last_piece lengths t
+piece_asked lengths t state.Connection end_name.Slave = newest_piece lengths t
+piece_asked lengths t state.Parameter end_name.Slave = newest_piece lengths t
 piece_asked lengths t _ _ = []
 
 -- the chain of the session that these frames leave, as the master has it: its own frames were sent, and the slave's were taken

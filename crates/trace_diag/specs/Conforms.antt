@@ -10,7 +10,7 @@ use Rattle.param_load.specs.declared.master_settings.MasterSettings.{MasterSetti
 use Rattle.param_load.specs.declared.slave_settings.SlaveSettings.{SlaveSettings}
 use Rattle.end_model.specs.Deed.{is_empty}
 use Rattle.exchange_model.specs.World.{world}
-use Rattle.trace_diag.specs.Schedule.{schedule_off}
+use Rattle.trace_diag.specs.Schedule.{read_schedule}
 use Rattle.trace_diag.specs.Settings.{AreReadOff}
 use Rattle.trace_diag.specs.Trace.{Noted}
 
@@ -30,7 +30,7 @@ pub record Conforms (lengths : Lengths) (t : List Noted) : Type 0 where
   pub ms : MasterSettings
   pub ss : SlaveSettings
   pub settings : AreReadOff lengths t ms ss
-  pub sends : sent_in (world ms ss (schedule_off lengths t)) ≡ t
+  pub sends : sent_in (world ms ss (read_schedule lengths t)) ≡ t
 
 -- a trace conforms, and did so after each of its frames
 abbrev pub ConformsThroughout : Lengths → List Noted → Type 0

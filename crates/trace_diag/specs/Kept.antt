@@ -9,7 +9,7 @@ use Rattle.fsoe_frame.specs.Parts.{Frame}
 use Rattle.seq_chain.specs.declared.chain.Chain.{Chain}
 use Rattle.seq_chain.specs.Chain.{fresh, after_sent, after_taken}
 use Rattle.param_load.specs.Payload.{number_at}
-use Rattle.trace_diag.specs.Before.{following, Before}
+use Rattle.trace_diag.specs.Before.{next_phase, Before}
 use Rattle.trace_diag.specs.Table.{crcs_due}
 
 -- whether a payload of which so many bytes came is whole; its first six bytes are these
@@ -22,7 +22,7 @@ has_come _ n u = false
 -- the phase after an answer in this one, and the bytes that came of its payload
 abbrev pub phase_when : State → ℕ → List ℕ → State
 phase_when state.Reset n u = state.Session
-phase_when now n u = if has_come now n u then following now else now
+phase_when now n u = if has_come now n u then next_phase now else now
 
 abbrev pub place_when : State → ℕ → List ℕ → ℕ
 place_when state.Reset n u = 0

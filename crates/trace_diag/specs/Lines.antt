@@ -1,7 +1,7 @@
 -- What the lines of a recorded trace say. The header is the line `fsoe 1 trace`, the line of the lengths and `go`. Then a line says which end
 -- sent a frame, and the frame: `m` for the master and `s` for the slave, with 1 to 255 bytes in hexadecimal; and the last is `end`. The first
 -- cause for which a line is refused is found as in other inputs. This grammar is this profile's own.
-use Rattle.std.specs.Prelude.{ℕ, Bool, true, false, List, [], ◌∷◌, codes, Option, Some, None, Result, Ok, Err, if◌then◌else◌}
+use Rattle.std.specs.Prelude.{ℕ, Bool, true, false, ◌==◌, List, [], ◌∷◌, length, codes, Option, Some, None, Result, Ok, Err, if◌then◌else◌}
 use Rattle.std.specs.Str.{bytes_eq}
 use Rattle.fsoe_base.specs.declared.command.End.{End}
 use Rattle.fsoe_base.specs.declared.command.End.TheVariants as end_name
@@ -9,54 +9,81 @@ use Rattle.fsoe_base.specs.declared.lengths.TheConstants.{MOST_FRAME}
 use Rattle.schedule_file.specs.Field.{fields_of}
 use Rattle.schedule_file.specs.Fields.{map_ok, no_field, one_hex_field}
 use Rattle.schedule_file.specs.HeaderLine.{lengths_line}
+use Rattle.schedule_file.specs.Input.{InputFormat}
+use Rattle.schedule_file.specs.declared.event.TheConstants.{MAX_EVENTS}
 use Rattle.schedule_file.specs.declared.header_line.LengthsLine.{LengthsLine}
 use Rattle.schedule_file.specs.declared.line_cause.LineCause.{LineCause}
 use Rattle.schedule_file.specs.declared.line_cause.LineCause.TheVariants as cause
 use Rattle.trace_diag.specs.Trace.{Noted}
+use Rattle.trace_diag.specs.declared.header.Stage.{Stage}
+use Rattle.trace_diag.specs.declared.header.Stage.TheVariants as stage
+use Rattle.trace_diag.specs.declared.trace_line.TraceLine.{TraceLine}
+use Rattle.trace_diag.specs.declared.trace_line.TraceLine.TheVariants as says
 
--- a header as far as it is read: no line, its title, its lengths, or `go`
-pub data TraceHeading : Type 0 where
-  Begun : TraceHeading
-  Titled : TraceHeading
-  Sized : LengthsLine → TraceHeading
-  Whole : LengthsLine → TraceHeading
+-- a header as far as it is read, with the numbers of its lengths, 1 and 1 before their line
+pub record TraceHeading : Type 0 where
+  pub stage : Stage
+  pub master : ℕ
+  pub slave : ℕ
+
+-- a header of which no line is read
+abbrev pub heading_new : TraceHeading
+heading_new = record { stage = stage.Start; master = 1; slave = 1 }
 
 -- a header is done once its line `go` is read
+abbrev pub is_done : Stage → Bool
+is_done stage.Done = true
+is_done _ = false
+
 abbrev pub trace_is_whole : TraceHeading → Bool
-trace_is_whole (Whole lengths) = true
-trace_is_whole _ = false
+trace_is_whole h = is_done h.stage
 
--- the lengths that a whole header says
-abbrev pub lengths_said : TraceHeading → Option LengthsLine
-lengths_said (Whole lengths) = Some lengths
-lengths_said _ = None
+-- the lines that a header may still have
+abbrev pub lines_from : Stage → ℕ
+lines_from stage.Start = 3
+lines_from stage.Title = 2
+lines_from stage.Lengths = 1
+lines_from stage.Done = 0
 
--- a header after a line by its fields, of which the first is a word that may stand there, or the line is refused
-abbrev pub trace_fields_taken : TraceHeading → List (List ℕ) → Result TraceHeading LineCause
-trace_fields_taken Titled (word ∷ fields) = if bytes_eq word (codes "lengths") then map_ok Sized (lengths_line fields) else Err cause.Header
-trace_fields_taken (Sized lengths) (word ∷ fields) = if bytes_eq word (codes "go") then map_ok (λ none. Whole lengths) (no_field fields) else Err cause.Header
-trace_fields_taken _ _ = Err cause.Header
+abbrev pub trace_lines_left : TraceHeading → ℕ
+trace_lines_left h = lines_from h.stage
+
+-- a header with its lengths
+abbrev pub lengths_taken : LengthsLine → TraceHeading
+lengths_taken l = record { stage = stage.Lengths; master = l.master; slave = l.slave }
+
+-- a header after its first line, or why that is refused
+abbrev pub title_taken : TraceHeading → List ℕ → Result TraceHeading LineCause
+title_taken h text = if bytes_eq text (codes "fsoe 1 trace") then Ok (record h { stage = stage.Title }) else Err cause.Header
+
+-- a header after a line by its fields, of which the first is a word that may stand there, or why the line is refused
+abbrev pub word_taken : Stage → TraceHeading → List ℕ → List (List ℕ) → Result TraceHeading LineCause
+word_taken stage.Title h word fields = if bytes_eq word (codes "lengths") then map_ok lengths_taken (lengths_line fields) else Err cause.Header
+word_taken stage.Lengths h word fields = if bytes_eq word (codes "go") then map_ok (λ none. record h { stage = stage.Done }) (no_field fields) else Err cause.Header
+word_taken _ h word fields = Err cause.Header
+
+abbrev pub fields_taken : Stage → TraceHeading → List (List ℕ) → Result TraceHeading LineCause
+fields_taken at h [] = Err cause.Header
+fields_taken at h (word ∷ fields) = word_taken at h word fields
+
+abbrev pub line_taken : Stage → TraceHeading → List ℕ → Result TraceHeading LineCause
+line_taken stage.Start h text = title_taken h text
+line_taken at h text = fields_taken at h (fields_of text)
 
 -- a header after its next line, or why that line is refused
 abbrev pub trace_heading_after : TraceHeading → List ℕ → Result TraceHeading LineCause
-trace_heading_after Begun text = if bytes_eq text (codes "fsoe 1 trace") then Ok Titled else Err cause.Header
-trace_heading_after h text = trace_fields_taken h (fields_of text)
-
--- what a line says after the header: the next frame, or that the trace ends
-pub data TraceLine : Type 0 where
-  Frame : Noted → TraceLine
-  Last : TraceLine
+trace_heading_after h text = line_taken h.stage h text
 
 -- a frame of 1 to 255 bytes
 abbrev pub frame_line : End → List (List ℕ) → Result TraceLine LineCause
-frame_line from fields = map_ok (λ bytes. Frame (record { from = from; frame = bytes })) (one_hex_field MOST_FRAME fields)
+frame_line from fields = map_ok (λ bytes. says.Sent (record { from = from; frame = bytes })) (one_hex_field MOST_FRAME fields)
 
 -- what a line says that begins with this word
 abbrev pub trace_said : List ℕ → List (List ℕ) → Result TraceLine LineCause
 trace_said word fields =
     if bytes_eq word (codes "m") then frame_line end_name.Master fields
     else if bytes_eq word (codes "s") then frame_line end_name.Slave fields
-    else if bytes_eq word (codes "end") then map_ok (λ none. Last) (no_field fields)
+    else if bytes_eq word (codes "end") then map_ok (λ none. says.Last) (no_field fields)
     else Err cause.Word
 
 -- what the fields of a line say, of which the first is its word
@@ -64,6 +91,22 @@ abbrev pub trace_said_by : List (List ℕ) → Result TraceLine LineCause
 trace_said_by [] = Err cause.Word
 trace_said_by (first ∷ fields) = trace_said first fields
 
--- what a line of a trace says
+-- what a line of a trace says after the header
 abbrev pub trace_line : List ℕ → Result TraceLine LineCause
 trace_line text = trace_said_by (fields_of text)
+
+-- the frame that a line says; the last line says none
+abbrev pub frame_said : TraceLine → Option Noted
+frame_said (says.Sent x) = Some x
+frame_said says.Last = None
+
+-- how an input with a trace is read: at most 200,000 frames
+abbrev pub trace_format : InputFormat TraceHeading TraceLine Noted
+trace_format = record {
+  start = heading_new;
+  header_line = trace_heading_after;
+  is_whole = trace_is_whole;
+  line = λ h. trace_line;
+  event = frame_said;
+  is_full = λ h frames. length frames == MAX_EVENTS;
+}

@@ -1,12 +1,13 @@
 -- What is reported of a trace, and how the run ends. The texts are this profile's own.
-use Rattle.std.specs.Prelude.{◌≡◌, ℕ, List, ◌++◌, length, codes, decimal, Option, Some, None}
+use Rattle.std.specs.Prelude.{◌≡◌, ℕ, List, ◌++◌, length, reverse, codes, decimal, Option, Some, None}
 use Rattle.fsoe_base.specs.declared.lengths.Lengths.{Lengths}
 use Rattle.fsoe_io.specs.declared.status.Ended.{Ended}
 use Rattle.fsoe_io.specs.declared.status.Status.TheVariants as status
 use Rattle.schedule_file.specs.Input.{Stop, AtEnd, Refused}
-use Rattle.schedule_file.specs.declared.header_line.LengthsLine.{LengthsLine}
 use Rattle.file_run.specs.Report.{refused_line}
 use Rattle.file_run.specs.Reporting.{refused_at}
+use Rattle.trace_diag.specs.Judged.{AreOfBytes}
+use Rattle.trace_diag.specs.Lines.{TraceHeading}
 use Rattle.trace_diag.specs.Trace.{Noted}
 use Rattle.trace_diag.specs.Verdicts.{IsVerdict}
 use Rattle.trace_diag.specs.declared.field.Field.{Field}
@@ -45,24 +46,24 @@ ended_by (verdict.Conforms read) = record { status = status.Ok; place = 0 }
 ended_by (verdict.Differs number which) = record { status = status.Other; place = number }
 
 -- the lengths are those that the header says
-pub record AreLengths (said : LengthsLine) (lengths : Lengths) : Type 0 where
-  pub master : lengths.master ≡ said.master
-  pub slave : lengths.slave ≡ said.slave
+pub record AreLengths (h : TraceHeading) (lengths : Lengths) : Type 0 where
+  pub master : lengths.master ≡ h.master
+  pub slave : lengths.slave ≡ h.slave
 
--- the report of a trace that was read up to its `end`
+-- the report of a trace that was read up to its `end`; its frames are bytes
 pub record ReportsTrace (lengths : Lengths) (t : List Noted) (ended : Ended) (text : List ℕ) : Type 0 where
   pub told : Verdict
-  pub is_verdict : IsVerdict lengths t told
+  pub is_verdict : AreOfBytes t → IsVerdict lengths t told
   pub text_is : text ≡ frames_line (length t) ++ verdict_lines told
   pub ended_is : ended ≡ ended_by told
 
 -- the same, with the lengths of the header; an input that came to its `end` has one
-abbrev pub ReportsWhole : Option LengthsLine → List Noted → Ended → List ℕ → Type 0
+abbrev pub ReportsWhole : Option TraceHeading → List Noted → Ended → List ℕ → Type 0
 ReportsWhole None t ended text = ⊥
-ReportsWhole (Some said) t ended text = (lengths : Lengths) × AreLengths said lengths × ReportsTrace lengths t ended text
+ReportsWhole (Some h) t ended text = (lengths : Lengths) × AreLengths h lengths × ReportsTrace lengths t ended text
 
--- the whole report of an input with this header and these frames, which stops so, and how a run that writes it ends: a trace that is
--- refused has no verdict, and its report is the refused line alone
-abbrev pub DiagnoseReports : Option LengthsLine → List Noted → Stop → Ended → List ℕ → Type 0
-DiagnoseReports said t AtEnd ended text = ReportsWhole said t ended text
-DiagnoseReports said t (Refused number why) ended text = (text ≡ refused_line number why) × (ended ≡ refused_at number)
+-- the whole report of an input with this header and these frames, which come in order and of which a trace has the newest first, where the
+-- input stops so, and how a run that writes it ends: a trace that is refused has no verdict, and its report is the refused line alone
+abbrev pub DiagnoseReports : Option TraceHeading → List Noted → Stop → Ended → List ℕ → Type 0
+DiagnoseReports said frames AtEnd ended text = ReportsWhole said (reverse frames) ended text
+DiagnoseReports said frames (Refused number why) ended text = (text ≡ refused_line number why) × (ended ≡ refused_at number)

@@ -30,6 +30,6 @@ events_before lengths [] f = event.Tick end_name.Master ∷ []
 events_before lengths (x ∷ t) f = answer_events (turn (x ∷ t)) (length_of lengths (turn (x ∷ t))) f
 
 -- the schedule of a trace, whose events come in order
-abbrev pub schedule_off : Lengths → List Noted → List Event
-schedule_off lengths [] = []
-schedule_off lengths (x ∷ t) = schedule_off lengths t ++ events_before lengths t x.frame
+abbrev pub read_schedule : Lengths → List Noted → List Event
+read_schedule lengths [] = []
+read_schedule lengths (x ∷ t) = read_schedule lengths t ++ events_before lengths t x.frame

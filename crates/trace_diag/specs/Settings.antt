@@ -33,43 +33,43 @@ abbrev pub parameters_from : Lengths → List Noted → List ℕ
 parameters_from lengths t = payload_from lengths end_name.Master state.Parameter t
 
 -- the connection id is the field of the master's first Connection frame, and 1 where there is none
-abbrev pub conn_off : Lengths → List Noted → ℕ
-conn_off lengths t = unwrap_or (first_conn lengths.master (frames_from end_name.Master t)) 1
+abbrev pub read_conn : Lengths → List Noted → ℕ
+read_conn lengths t = unwrap_or (first_conn lengths.master (frames_from end_name.Master t)) 1
 
 -- the address of the slave, in the two bytes after those of the connection id
-abbrev pub address_off : Lengths → List Noted → ℕ
-address_off lengths t = word_or 0 2 (connection_from lengths t)
+abbrev pub read_address : Lengths → List Noted → ℕ
+read_address lengths t = word_or 0 2 (connection_from lengths t)
 
 -- the watchdog, in the two bytes after the length of the communication parameters
-abbrev pub watchdog_off : Lengths → List Noted → ℕ
-watchdog_off lengths t = word_or 1 2 (parameters_from lengths t)
+abbrev pub read_watchdog : Lengths → List Noted → ℕ
+read_watchdog lengths t = word_or 1 2 (parameters_from lengths t)
 
 -- the number of application parameters, in the two bytes after the watchdog
-abbrev pub app_len_off : Lengths → List Noted → ℕ
-app_len_off lengths t = word_or 0 4 (parameters_from lengths t)
+abbrev pub read_app_len : Lengths → List Noted → ℕ
+read_app_len lengths t = word_or 0 4 (parameters_from lengths t)
 
 -- the application parameters, after their number
-abbrev pub app_off : Lengths → List Noted → List ℕ
-app_off lengths t = padded (take (app_len_off lengths t) (drop 6 (parameters_from lengths t))) (app_len_off lengths t)
+abbrev pub read_app : Lengths → List Noted → List ℕ
+read_app lengths t = padded (take (read_app_len lengths t) (drop 6 (parameters_from lengths t))) (read_app_len lengths t)
 
 -- the session id of an end
-abbrev pub id_off : Lengths → End → List Noted → ℕ
-id_off lengths which t = word_or 0 0 (payload_from lengths which state.Session t)
+abbrev pub read_id : Lengths → End → List Noted → ℕ
+read_id lengths which t = word_or 0 0 (payload_from lengths which state.Session t)
 
 -- settings of both ends in profile One, as they are read off a trace: the slave has the same address, accepts each watchdog and any
 -- application parameters of their number, and its limit before a watchdog comes is the longest. There are none where the connection id or
 -- the watchdog is 0, or the application parameters are more than settings may have
 pub record AreReadOff (lengths : Lengths) (t : List Noted) (ms : MasterSettings) (ss : SlaveSettings) : Type 0 where
-  pub master : IsMasterSetTo ms lengths (conn_off lengths t) (address_off lengths t) (watchdog_off lengths t) (app_off lengths t) (id_off lengths end_name.Master t) profile.One
-  pub slave : IsSlaveSetTo ss lengths (address_off lengths t) 65535 65535 (rule.Any (app_len_off lengths t)) (id_off lengths end_name.Slave t) profile.One
+  pub master : IsMasterSetTo ms lengths (read_conn lengths t) (read_address lengths t) (read_watchdog lengths t) (read_app lengths t) (read_id lengths end_name.Master t) profile.One
+  pub slave : IsSlaveSetTo ss lengths (read_address lengths t) 65535 65535 (rule.Any (read_app_len lengths t)) (read_id lengths end_name.Slave t) profile.One
 
 -- the number in the two bytes from a place on, where the trace reaches both
 abbrev pub word_if : ℕ → List ℕ → Option ℕ
 word_if place bytes = if nat_lt (place + 1) (length bytes) then Some (number_at place bytes) else None
 
 -- what is told by the payload of Connection and the parameters: each of these numbers where its last byte has come
-abbrev pub told_by : List ℕ → List ℕ → ReadOff
-told_by connection parameters = record {
+abbrev pub settings_by : List ℕ → List ℕ → ReadOff
+settings_by connection parameters = record {
   conn = word_if 0 connection;
   address = word_if 2 connection;
   watchdog = word_if 2 parameters;
@@ -77,5 +77,5 @@ told_by connection parameters = record {
 }
 
 -- what is told of the settings
-abbrev pub told_off : Lengths → List Noted → ReadOff
-told_off lengths t = told_by (connection_from lengths t) (parameters_from lengths t)
+abbrev pub settings_told : Lengths → List Noted → ReadOff
+settings_told lengths t = settings_by (connection_from lengths t) (parameters_from lengths t)

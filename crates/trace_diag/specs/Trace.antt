@@ -9,11 +9,7 @@ use Rattle.fsoe_base.specs.LengthsOf.{length_of}
 use Rattle.fsoe_frame.specs.Parts.{frame_of}
 use Rattle.end_model.specs.Phases.{phase_of_frame, same_phase}
 use Rattle.exchange_model.specs.Ends.{same_end, peer}
-
--- a frame, and the end that it came from
-pub record Noted : Type 0 where
-  pub from : End
-  pub frame : List ℕ
+pub use Rattle.trace_diag.specs.declared.noted.Noted.{Noted}
 
 -- the frames of one end
 abbrev pub frames_from : End → List Noted → List (List ℕ)

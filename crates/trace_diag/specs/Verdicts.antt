@@ -2,7 +2,7 @@
 use Rattle.std.specs.Prelude.{◌≡◌, ℕ, ◌+◌, List, ◌∷◌, ◌++◌, length, Some}
 use Rattle.fsoe_base.specs.declared.lengths.Lengths.{Lengths}
 use Rattle.trace_diag.specs.Conforms.{Conforms, ConformsThroughout}
-use Rattle.trace_diag.specs.Settings.{told_off}
+use Rattle.trace_diag.specs.Settings.{settings_told}
 use Rattle.trace_diag.specs.Table.{field_of}
 use Rattle.trace_diag.specs.Trace.{Noted}
 use Rattle.trace_diag.specs.declared.field.Field.{Field}
@@ -13,7 +13,7 @@ use Rattle.trace_diag.specs.declared.verdict.Verdict.TheVariants as verdict
 -- a trace conforms, and this is told of its settings
 pub record IsConforming (lengths : Lengths) (t : List Noted) (read : ReadOff) : Type 0 where
   pub conforms : Conforms lengths t
-  pub read_is : read ≡ told_off lengths t
+  pub read_is : read ≡ settings_told lengths t
 
 -- a trace doesn't conform, and the frame of this number, from 1, is the first with which it doesn't: the trace conforms after each
 -- frame before it. The field is that of the table

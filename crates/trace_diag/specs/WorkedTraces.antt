@@ -1,5 +1,5 @@
 -- Worked traces: whether they conform, what is read off them, and the first difference. Their reports are tested.
-use Rattle.std.specs.Prelude.{◌≡◌, ℕ, refl, List, [], ◌∷◌, ◌++◌, ◌+◌, true, codes, drop, take, length, reverse, Option, Some, None, false, Bool, ◌&&◌, is_some}
+use Rattle.std.specs.Prelude.{◌≡◌, ℕ, refl, List, [], ◌∷◌, ◌++◌, ◌+◌, ◌-◌, true, codes, drop, take, length, reverse, Option, Some, None, false, Bool, ◌&&◌, is_some}
 use Rattle.std.specs.List.{list_all}
 use Rattle.hex.specs.Hex.{decode_of}
 use Rattle.fsoe_base.specs.declared.command.End.TheVariants as end_name
@@ -13,7 +13,7 @@ use Rattle.exchange_model.specs.WorkedRuns.{one_and_one, bytewise_master, bytewi
 use Rattle.trace_diag.specs.Conforms.{Conforms, has_length, sent_in}
 use Rattle.trace_diag.specs.Judged.{first_difference}
 use Rattle.trace_diag.specs.declared.difference.Difference.{Difference}
-use Rattle.trace_diag.specs.Settings.{told_off}
+use Rattle.trace_diag.specs.Settings.{settings_told}
 use Rattle.trace_diag.specs.Table.{field_of}
 use Rattle.trace_diag.specs.Trace.{Noted}
 use Rattle.trace_diag.specs.declared.field.Field.{Field}
@@ -65,15 +65,15 @@ told conn address watchdog app = record { conn = conn; address = address; watchd
 unfoldable pub FirstData : Type 0
 FirstData =
     Conforms two_and_two (trace first_data)
-    × (told_off two_and_two (trace first_data) ≡ told (Some 1) (Some 2) (Some 100) (Some 0))
+    × (settings_told two_and_two (trace first_data) ≡ told (Some 1) (Some 2) (Some 100) (Some 0))
 
 -- the first frames of a trace conform too, and tell what has come: none of them, and six
 unfoldable pub FirstFrames : Type 0
 FirstFrames =
     Conforms two_and_two []
-    × (told_off two_and_two [] ≡ told None None None None)
+    × (settings_told two_and_two [] ≡ told None None None None)
     × Conforms two_and_two (trace (take 6 first_data))
-    × (told_off two_and_two (trace (take 6 first_data)) ≡ told (Some 1) None None None)
+    × (settings_told two_and_two (trace (take 6 first_data)) ≡ told (Some 1) None None None)
 
 -- the frame of this number and this field is the first difference
 abbrev pub at : ℕ → Field → Option Difference
@@ -112,13 +112,13 @@ unfoldable pub LockStep : Type 0
 LockStep =
     (length bytewise ≡ 37)
     × (first_difference one_and_one bytewise ≡ None)
-    × (told_off one_and_one bytewise ≡ told (Some 1) (Some 2) (Some 100) (Some 3))
+    × (settings_told one_and_one bytewise ≡ told (Some 1) (Some 2) (Some 100) (Some 3))
     × (length long_frames ≡ 19)
     × (first_difference long_and_short long_frames ≡ None)
-    × (told_off long_and_short long_frames ≡ told (Some 1) (Some 2) (Some 100) (Some 0))
+    × (settings_told long_and_short long_frames ≡ told (Some 1) (Some 2) (Some 100) (Some 0))
     × (length padded_frames ≡ 13)
     × (first_difference four_and_six padded_frames ≡ None)
-    × (told_off four_and_six padded_frames ≡ told (Some 1) (Some 2) (Some 100) (Some 1))
+    × (settings_told four_and_six padded_frames ≡ told (Some 1) (Some 2) (Some 100) (Some 1))
 
 -- the row that applies to a frame after the first n of a handshake with data
 abbrev pub field_after : ℕ → Noted → Option Field
@@ -164,3 +164,39 @@ tells_each mask before (x ∷ frames) =
 -- that is so of each byte of a handshake with data, by its lowest and by its highest bit
 unfoldable pub EachByte : Type 0
 EachByte = (tells_each 1 [] first_data ≡ true) × (tells_each 128 [] first_data ≡ true)
+
+-- the row that applies to this frame of the trace of four and six bytes, or of one and one, after the first n of them
+abbrev pub field_in : Lengths → List Noted → ℕ → Noted → Option Field
+field_in lengths t n x = field_of lengths (drop (length t - n) t) x
+
+-- in frames of several groups: the CRC of the second, and its data; a byte past the payload, and past the piece; the high byte of the number of
+-- application parameters and what is padding then
+unfoldable pub LaterGroups : Type 0
+LaterGroups =
+    (field_in four_and_six padded_frames 10 (m (codes "360102c89a03043e6a0100")) ≡ None)
+    × (field_in four_and_six padded_frames 10 (m (codes "360102c89a03043f6a0100")) ≡ Some (field.Crc 1))
+    × (field_in four_and_six padded_frames 10 (m (codes "360102c89a02043e6a0100")) ≡ Some (field.Crc 1))
+    × (field_in four_and_six padded_frames 2 (m (codes "4e0100123e0100434e0000")) ≡ Some (field.Data 2))
+    × (field_in four_and_six padded_frames 3 (s (codes "4e020090470000692500014c330000")) ≡ Some (field.Data 5))
+    × (field_in four_and_six padded_frames 8 (m (codes "52010021220a01fd550100")) ≡ Some (field.Data 3))
+    × (field_in four_and_six padded_frames 8 (m (codes "52000021220a00fd550100")) ≡ Some (field.Data 2))
+
+-- a watchdog that is cut between two frames: its low byte may be 0, and then its high byte may not
+abbrev pub low_zero : List Noted
+low_zero = s (codes "520052290100") ∷ m (codes "520085fc0100") ∷ drop 19 bytewise
+
+unfoldable pub CutWords : Type 0
+CutWords =
+    (field_in one_and_one bytewise 18 (m (codes "520085fc0100")) ≡ None)
+    × (field_of one_and_one (m (codes "520085fc0100") ∷ drop 19 bytewise) (s (codes "520052290100")) ≡ None)
+    × (field_of one_and_one low_zero (m (codes "5200299e0100")) ≡ Some (field.Data 0))
+    × (field_of one_and_one low_zero (m (codes "520161e80100")) ≡ None)
+
+-- a number that is stepped once more, since else the frame would have the CRC of the one before it
+abbrev pub longer_data : List Noted
+longer_data = trace (first_data ++ s (codes "3680002d670100") ∷ [])
+
+unfoldable pub SteppedNumber : Type 0
+SteppedNumber =
+    (field_of two_and_two longer_data (m (codes "365026d4c80100")) ≡ None)
+    × (field_of two_and_two longer_data (m (codes "365026cfa90100")) ≡ Some (field.Crc 0))

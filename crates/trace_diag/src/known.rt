@@ -6,9 +6,9 @@ ghost use Rattle.fsoe_base.specs.LengthsOf.{length_of};
 ghost use Rattle.fsoe_base.specs.declared.lengths.Lengths.{Lengths};
 ghost use Rattle.fsoe_frame.specs.Parts.{Frame, frame_of, bytes_of};
 ghost use Rattle.exchange_model.specs.Ends.{same_end};
-ghost use Rattle.trace_diag.specs.Before.{before, chain_at, following};
+ghost use Rattle.trace_diag.specs.Before.{before, chain_at, next_phase};
 ghost use Rattle.trace_diag.specs.Kept.{chain_after, connection_with, conn_with, due_made, has_come, kept_from, parameters_with, phase_when, piece_of, place_when};
-ghost use Rattle.trace_diag.specs.Settings.{told_by, word_if};
+ghost use Rattle.trace_diag.specs.Settings.{settings_by, word_if};
 ghost use Rattle.trace_diag.specs.Table.{crcs_due, field_by, first_differing, frame_field};
 ghost use Rattle.trace_diag.specs.Table as rows;
 ghost use Rattle.trace_diag.specs.Trace.{piece_len};
@@ -91,7 +91,7 @@ impl Known {
 
     /// What is told of the settings.
     pub(crate) fn read_off(&self) -> ReadOff
-        ensures { result ≡ told_by self.now.connection self.now.parameters }
+        ensures { result ≡ settings_by self.now.connection self.now.parameters }
     {
         let connection = self.connection.bytes();
         let parameters = self.parameters.bytes();
@@ -292,7 +292,7 @@ impl Known {
             State::Data => self.place = 0,
             now => {
                 if has_come(now, came, self.parameters.bytes()) {
-                    self.due = following(now);
+                    self.due = next_phase(now);
                     self.place = 0;
                 } else {
                     self.place = came;
@@ -315,8 +315,8 @@ fn word_if(bytes: &[u8], place: usize) -> Option<u16>
 }
 
 /// The phase after a phase.
-fn following(now: State) -> State
-    ensures { result ≡ following now }
+fn next_phase(now: State) -> State
+    ensures { result ≡ next_phase now }
 {
     match now {
         State::Reset => State::Session,

@@ -1,15 +1,18 @@
 //! What holds of the definitions. The calls do nothing: each law is a contract.
-ghost use Rattle.std.specs.Prelude.{◌≡◌, List, [], ◌∷◌, Option, Some, None};
+ghost use Rattle.std.specs.Prelude.{◌≡◌, ℕ, List, reverse, [], ◌∷◌, Option, Some, None};
 ghost use Rattle.fsoe_base.specs.declared.lengths.Lengths.{Lengths};
 ghost use Rattle.trace_diag.specs.Conforms.{Conforms};
 ghost use Rattle.trace_diag.specs.Judged.{first_difference, AreOfBytes};
 ghost use Rattle.trace_diag.specs.declared.difference.Difference.{Difference};
+ghost use Rattle.schedule_file.specs.Input.{input_read};
+ghost use Rattle.trace_diag.specs.Lines.{trace_format};
 ghost use Rattle.trace_diag.specs.Trace.{Noted};
 ghost use Rattle.trace_diag.specs.Verdicts.{DiffersFirst};
-ghost use Rattle.trace_diag.specs.WorkedTraces.{FirstData, FirstFrames, Altered, LockStep, Rows, OtherLengths, EachByte};
+ghost use Rattle.trace_diag.specs.WorkedTraces.{FirstData, FirstFrames, Altered, LockStep, Rows, OtherLengths, EachByte, LaterGroups, CutWords, SteppedNumber};
 
 /// Worked traces: a handshake with the first data, its first frames, and altered ones; each row of the table; frames of another
-/// length; each byte of the handshake altered; and what ends send in lock step over frames of other lengths.
+/// length; each byte of the handshake altered; what ends send in lock step over frames of other lengths; and rows in frames of several
+/// groups, in words that are cut between frames, and at a number that is stepped once more.
 pub fn worked_traces()
     ensures first_data { FirstData }
     ensures first_frames { FirstFrames }
@@ -18,6 +21,9 @@ pub fn worked_traces()
     ensures other_lengths { OtherLengths }
     ensures each_byte { EachByte }
     ensures lock_step { LockStep }
+    ensures later_groups { LaterGroups }
+    ensures cut_words { CutWords }
+    ensures stepped_number { SteppedNumber }
 {}
 
 /// No row of the table applies to any frame of a trace exactly where the trace is what two ends send that are set to what is read off it. Else
@@ -33,4 +39,9 @@ pub fn table()
 pub fn beginnings()
     ensures empty { (lengths : Lengths) → Conforms lengths [] }
     ensures before { (lengths : Lengths) (newest : Noted) (t : List Noted) → AreOfBytes (newest ∷ t) → Conforms lengths (newest ∷ t) → Conforms lengths t }
+{}
+
+/// The frames of an input are bytes, so that its report has the verdict on them.
+pub fn inputs()
+    ensures { (bytes : List ℕ) → AreOfBytes (reverse (input_read trace_format bytes).events) }
 {}

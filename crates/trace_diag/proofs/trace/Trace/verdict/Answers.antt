@@ -1,6 +1,6 @@
 use Rattle.std.proofs.Common.{ap, sym, ◌∙◌}
 use Rattle.trace_diag.specs.Judged.{TraceView}
-use Rattle.trace_diag.specs.Settings.{told_by}
+use Rattle.trace_diag.specs.Settings.{settings_by}
 use Rattle.trace_diag.proofs.Judging.{verdict_conforms, verdict_differs}
 use Rattle.trace_diag.proofs.trace.Trace.verdict.Goals as goal
 
@@ -10,4 +10,4 @@ returns-in-Some c = λ lengths t s. verdict_differs lengths t c.args.self.now c.
 pub returns-in-None : goal.returns-in-None
 returns-in-None c = λ lengths t s.
     verdict_conforms lengths t c.args.self.now c.read_off.result (ap (λ (v : TraceView). v.differs) (sym c.self.view_is) ∙ c.in-None.is)
-    (c.read_off.ensures ∙ ap (λ (v : TraceView). told_by v.known.connection v.known.parameters) c.self.view_is) s
+    (c.read_off.ensures ∙ ap (λ (v : TraceView). settings_by v.known.connection v.known.parameters) c.self.view_is) s

@@ -1,0 +1,32 @@
+-- How a run over a recorded trace ends, and what it reports.
+use Rattle.std.specs.Prelude.{◌≡◌, ℕ, [], true, List, reverse}
+use Rattle.fsoe_base.specs.declared.lengths.Lengths.{Lengths}
+use Rattle.fsoe_io.specs.declared.status.Ended.{Ended}
+use Rattle.schedule_file.specs.Input.{InputOf}
+use Rattle.file_run.specs.Outside.{Outside}
+use Rattle.file_run.specs.Ran.{RanOver}
+use Rattle.file_run.specs.Reporting.{Never, Reporting}
+use Rattle.trace_diag.specs.Judged.{TraceStands, TraceView}
+use Rattle.trace_diag.specs.Lines.{trace_format, TraceHeading}
+use Rattle.trace_diag.specs.Report.{AreLengths, DiagnoseReports}
+use Rattle.trace_diag.specs.Trace.{Noted}
+use Rattle.trace_diag.specs.declared.trace_line.TraceLine.{TraceLine}
+
+-- the report of an input
+abbrev pub DiagnosesInput : InputOf TraceHeading Noted → Ended → List ℕ → Type 0
+DiagnosesInput input ended text = DiagnoseReports input.heading input.events input.stop ended text
+
+-- what is reported of inputs: a trace that differs ends a run with status 1, and no memory is taken
+abbrev pub diagnose_reporting : Reporting TraceHeading TraceLine Noted
+diagnose_reporting = record { format = trace_format; judges = true; memory = Never; reports = DiagnosesInput }
+
+-- a trace was judged that an input holds
+abbrev pub RanDiagnose : Ended → Outside → Type 0
+RanDiagnose ended o = RanOver diagnose_reporting ended o
+
+-- a judge was set to the lengths of a header, and stands for these frames, which came in order; nothing is written before the end
+pub record DiagnosisStands (v : TraceView) (h : TraceHeading) (log : List Noted) (text : List ℕ) : Type 0 where
+  pub lengths : Lengths
+  pub lengths_are : AreLengths h lengths
+  pub stands : TraceStands lengths (reverse log) v
+  pub unwritten : text ≡ []

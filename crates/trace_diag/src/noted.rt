@@ -1,0 +1,9 @@
+//! A recorded frame.
+use fsoe_base::{End, FrameBuf};
+
+/// A recorded frame, and the end that it was seen to come from.
+#[derive(Debug, Drop)]
+pub struct Noted {
+    pub from: End,
+    pub frame: FrameBuf,
+}
