@@ -56,9 +56,9 @@ zeros_with at len size h =
     ∙ ap (λ (k : ℕ). replicate k 0) e
 
 -- slots are numbered from n on
-numbered-so : (n : ℕ) (slots : List Slot) → AreNumbered n (places_from n slots)
-numbered-so n [] = tt
-numbered-so n (slot ∷ slots) = (refl, numbered-so (suc n) slots)
+pub numbered_so : (n : ℕ) (slots : List Slot) → AreNumbered n (places_from n slots)
+numbered_so n [] = tt
+numbered_so n (slot ∷ slots) = (refl, numbered_so (suc n) slots)
 
 -- new seats stand for no calls
 new-seats : (size_in size_out n : ℕ) (slots : List Slot) (seats : List Seat) → All (λ slot. IsNew slot.core) slots → AllZip IsNewSeat slots seats → AreInside size_in size_out (places_from n slots)
@@ -114,7 +114,7 @@ zero-frames size_in size_out (p ∷ places) i = ap (with_bytes p.at_out (replica
 pub new_stands : (size_in size_out : ℕ) (slots : List Slot) (v : ImagesView) → first_fault (plan_of size_in size_out slots) ≡ None → All (λ slot. IsNew slot.core) slots → AllZip IsNewSeat slots v.seats
     → v.input ≡ replicate size_in 0 → v.output ≡ replicate size_out 0 → StandsFor (plan_of size_in size_out slots) v []
 new_stands size_in size_out slots v none new z now out = record {
-  made = record { numbers = numbered-so 1 slots; no_fault = none };
+  made = record { numbers = numbered_so 1 slots; no_fault = none };
   slots = new-seats size_in size_out 1 slots v.seats new z (plan_inside (plan_of size_in size_out slots) none);
   input_is = now;
   output_is = out ∙ sym (zero-frames size_in size_out (places_from 1 slots) (plan_inside (plan_of size_in size_out slots) none));

@@ -1,14 +1,16 @@
 -- The frames that are delivered to a slot, and samples that change nothing.
-use Rattle.std.proofs.Common.{◌≡◌, ℕ, List, [], ◌∷◌, ◌++◌, replicate, Option, Some, None, Bool, true, false, nat_eq, if◌then◌else◌, refl, sym, ap, ◌∙◌}
+use Rattle.std.proofs.Common.{◌≡◌, ℕ, List, [], ◌∷◌, ◌++◌, replicate, Option, Some, None, Bool, true, false, nat_eq, if◌then◌else◌, refl, sym, ap, ap₂, ◌∙◌}
+use Rattle.std.specs.Prelude.{option_map}
 use Rattle.std.specs.Cmp.Lexicographic.{pointwise}
 use Rattle.std.proofs.lemmas.Cmp.{nat_list_eq_equiv}
 use Rattle.param_load.specs.declared.entry.Move.{Move}
 use Rattle.param_load.specs.declared.entry.Move.TheVariants as move
 use Rattle.end_model.specs.Step.{run}
-use Rattle.process_image.specs.Calls.{contents, delivery, if_named, and_move, moves, last_frame, frame_of, with_frames, output}
+use Rattle.process_image.specs.Calls.{contents, delivery, if_named, move_in, and_move, moves, next_deed, last_frame, frame_of, with_frames, output}
 use Rattle.process_image.specs.Image.{with_bytes, input, sampled}
 use Rattle.process_image.specs.Own.{Unwritten, at_samples, distinct_after, frames_in}
 use Rattle.process_image.specs.Places.{Place, Plan}
+use Rattle.process_image.specs.Standing.{told}
 use Rattle.process_image.specs.declared.event.ImageEvent.{ImageEvent}
 use Rattle.process_image.specs.declared.event.ImageEvent.TheVariants as event
 
@@ -26,20 +28,55 @@ unwritten-is size (event.Reset slot ∷ calls) h = unwritten-is size calls h
 none-new : (now : List ℕ) → delivery now now ≡ None
 none-new now = ap (λ b. if b then None else Some (move.Deliver now)) (nat_list_eq_equiv.refl now)
 
-pub quiet_moves : (size : ℕ) (p : Place) (calls : List ImageEvent) → Unwritten calls → moves size p (event.Sample ∷ calls) ≡ moves size p calls
-quiet_moves size p calls h =
-    ap (λ (before : List ℕ). and_move (delivery (contents p before) (contents p (input size calls))) (moves size p calls)) (unwritten-is size calls h)
-    ∙ ap (λ (o : Option Move). and_move o (moves size p calls)) (none-new (contents p (input size calls)))
+quiet-move : (size : ℕ) (p : Place) (calls : List ImageEvent) → Unwritten calls → move_in size p calls event.Sample ≡ None
+quiet-move size p calls h = ap (λ (before : List ℕ). delivery (contents p before) (contents p (input size calls))) (unwritten-is size calls h) ∙ none-new (contents p (input size calls))
+
+pub quiet_told : (size : ℕ) (p : Place) (calls : List ImageEvent) → Unwritten calls → told size calls event.Sample p ≡ None
+quiet_told size p calls h = ap (option_map (λ what. (next_deed size p calls what).did)) (quiet-move size p calls h)
+
+-- calls after it find the images as without it
+input-alike : (size : ℕ) (later calls : List ImageEvent) → input size (later ++ event.Sample ∷ calls) ≡ input size (later ++ calls)
+input-alike size [] calls = refl
+input-alike size (event.Write at bytes ∷ later) calls = ap (with_bytes at bytes) (input-alike size later calls)
+input-alike size (event.Sample ∷ later) calls = input-alike size later calls
+input-alike size (event.Tick ∷ later) calls = input-alike size later calls
+input-alike size (event.Put slot load ∷ later) calls = input-alike size later calls
+input-alike size (event.Hold slot failsafe ∷ later) calls = input-alike size later calls
+input-alike size (event.Nonce slot id ∷ later) calls = input-alike size later calls
+input-alike size (event.Reset slot ∷ later) calls = input-alike size later calls
+
+sampled-alike : (size : ℕ) (later calls : List ImageEvent) → Unwritten calls → sampled size (later ++ event.Sample ∷ calls) ≡ sampled size (later ++ calls)
+sampled-alike size [] calls h = sym (unwritten-is size calls h)
+sampled-alike size (event.Sample ∷ later) calls h = input-alike size later calls
+sampled-alike size (event.Write at bytes ∷ later) calls h = sampled-alike size later calls h
+sampled-alike size (event.Tick ∷ later) calls h = sampled-alike size later calls h
+sampled-alike size (event.Put slot load ∷ later) calls h = sampled-alike size later calls h
+sampled-alike size (event.Hold slot failsafe ∷ later) calls h = sampled-alike size later calls h
+sampled-alike size (event.Nonce slot id ∷ later) calls h = sampled-alike size later calls h
+sampled-alike size (event.Reset slot ∷ later) calls h = sampled-alike size later calls h
+
+move-alike : (size : ℕ) (p : Place) (later calls : List ImageEvent) (call : ImageEvent) → Unwritten calls → move_in size p (later ++ event.Sample ∷ calls) call ≡ move_in size p (later ++ calls) call
+move-alike size p later calls event.Sample h = ap₂ (λ (before now : List ℕ). delivery (contents p before) (contents p now)) (sampled-alike size later calls h) (input-alike size later calls)
+move-alike size p later calls (event.Write at bytes) h = refl
+move-alike size p later calls event.Tick h = refl
+move-alike size p later calls (event.Put slot load) h = refl
+move-alike size p later calls (event.Hold slot failsafe) h = refl
+move-alike size p later calls (event.Nonce slot id) h = refl
+move-alike size p later calls (event.Reset slot) h = refl
+
+pub quiet_moves : (size : ℕ) (p : Place) (calls later : List ImageEvent) → Unwritten calls → moves size p (later ++ event.Sample ∷ calls) ≡ moves size p (later ++ calls)
+quiet_moves size p calls [] h = ap (λ (o : Option Move). and_move o (moves size p calls)) (quiet-move size p calls h)
+quiet_moves size p calls (call ∷ later) h = ap₂ and_move (move-alike size p later calls call h) (quiet_moves size p calls later h)
 
 same-frames : (f g : Place → List ℕ) (places : List Place) (image : List ℕ) → ((p : Place) → f p ≡ g p) → with_frames f places image ≡ with_frames g places image
 same-frames f g [] image h = refl
 same-frames f g (p ∷ places) image h =
     ap (λ (frame : List ℕ). with_bytes p.at_out frame (with_frames f places image)) (h p) ∙ ap (with_bytes p.at_out (g p)) (same-frames f g places image h)
 
-pub quiet_output : (plan : Plan) (calls : List ImageEvent) → Unwritten calls → output plan (event.Sample ∷ calls) ≡ output plan calls
-quiet_output plan calls h =
-    same-frames (frame_of plan.size_in (event.Sample ∷ calls)) (frame_of plan.size_in calls) plan.places (replicate plan.size_out 0)
-    (λ p. ap (λ (ms : List Move). last_frame p.setup (run p.setup ms)) (quiet_moves plan.size_in p calls h))
+pub quiet_output : (plan : Plan) (calls later : List ImageEvent) → Unwritten calls → output plan (later ++ event.Sample ∷ calls) ≡ output plan (later ++ calls)
+quiet_output plan calls later h =
+    same-frames (frame_of plan.size_in (later ++ event.Sample ∷ calls)) (frame_of plan.size_in (later ++ calls)) plan.places (replicate plan.size_out 0)
+    (λ p. ap (λ (ms : List Move). last_frame p.setup (run p.setup ms)) (quiet_moves plan.size_in p calls later h))
 
 -- the last of a list, where this comes before the first
 abbrev last-of : List ℕ → List (List ℕ) → List ℕ

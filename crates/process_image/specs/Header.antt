@@ -34,12 +34,12 @@ pub record ImageHeading : Type 0 where
   pub last : SlotHeader
 
 -- a slot of which its own line alone is read: the `lengths` of its end come next
-abbrev pub slot_begun : ℕ → ℕ → ℕ → SlotHeader
-slot_begun number at_in at_out = record { number = number; at_in = at_in; at_out = at_out; own = heading_begun }
+abbrev pub slot_begun : ℕ → ℕ → SlotHeader
+slot_begun at_in at_out = record { at_in = at_in; at_out = at_out; own = heading_begun }
 
 -- a header of which no line is read
 abbrev pub image_heading_new : ImageHeading
-image_heading_new = record { stage = stage.Start; size_in = 1; size_out = 1; before = []; last = slot_begun 0 0 0 }
+image_heading_new = record { stage = stage.Start; size_in = 1; size_out = 1; before = []; last = slot_begun 0 0 }
 
 -- after `go`
 abbrev pub is_done : Stage → Bool
@@ -85,7 +85,7 @@ size_line fields = do
   size_out ← number_16 second
   if is_size size_in && is_size size_out then Ok (size_in, size_out) else Err cause.Range
 
--- the number of a slot and where its frames begin; slots are numbered from 1 in their order, to 64
+-- the slot of a number, from 1 in their order to 64, and where its frames begin
 abbrev pub slot_line : ℕ → List (List ℕ) → Result SlotHeader LineCause
 slot_line number fields = do
   first ← next_field fields
@@ -94,7 +94,7 @@ slot_line number fields = do
   n ← number_16 first.0
   at_in ← number_16 second.0
   at_out ← number_16 third
-  if n == number && nat_le n MOST_SLOTS then Ok (slot_begun n at_in at_out) else Err cause.Range
+  if n == number && nat_le n MOST_SLOTS then Ok (slot_begun at_in at_out) else Err cause.Range
 
 -- a header after its `size` line
 abbrev pub size_taken : ImageHeading → List (List ℕ) → Result ImageHeading LineCause

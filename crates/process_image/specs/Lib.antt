@@ -6,8 +6,10 @@ pub mod Image
 pub mod LinesLeft
 pub mod Own
 pub mod Places
+pub mod Ran
 pub mod Report
 pub mod Sound
 pub mod Standing
+pub mod Telling
 pub mod Steps
 pub mod Worked

@@ -8,7 +8,6 @@ use Rattle.param_load.specs.declared.entry.Move.{Move}
 use Rattle.schedule_file.specs.Header.{IsMasterOf, IsSlaveOf}
 use Rattle.schedule_file.specs.Input.{Stop, AtEnd, Refused, own_length, heading_profile}
 use Rattle.schedule_file.specs.declared.line_cause.LineCause.{LineCause}
-use Rattle.schedule_file.specs.declared.header_kind.HeaderKind.TheVariants as kind
 use Rattle.file_run.specs.Report.{events_line, refused_line, last_line}
 use Rattle.end_model.specs.Setup.{Setup, OfMaster, OfSlave}
 use Rattle.end_model.specs.Deed.{Deed}
@@ -17,12 +16,17 @@ use Rattle.end_model.specs.Readiness.{state_of}
 use Rattle.process_image.specs.Calls.{move_in, deeds, next_deed, output}
 use Rattle.process_image.specs.EventLine.{image_line}
 use Rattle.process_image.specs.Header.{ImageHeading, slots_of, end_of}
+use Rattle.end_core.specs.Core.{setup_of}
+use Rattle.end_core.specs.Standing.{IsNew}
+use Rattle.process_image.specs.Fault.{AreNumbered}
 use Rattle.process_image.specs.Places.{Place, Plan}
 use Rattle.process_image.specs.declared.event.ImageEvent.{ImageEvent}
 use Rattle.process_image.specs.declared.event.ImageLine.{ImageLine}
 use Rattle.process_image.specs.declared.event.ImageLine.TheVariants as line
+use Rattle.process_image.specs.declared.event.TheConstants.{MOST_EVENTS}
 use Rattle.process_image.specs.declared.event_line.SlotEnd.{SlotEnd}
 use Rattle.process_image.specs.declared.header.SlotHeader.{SlotHeader}
+use Rattle.process_image.specs.declared.slot.Slot.{Slot}
 
 -- what lines of events look at of a slot
 abbrev pub end_terms : SlotHeader → SlotEnd
@@ -39,34 +43,41 @@ said_after h text = image_line h.size_in (map end_terms (slots_of h)) text
 
 -- no event may come after 2,000
 abbrev pub is_full : ImageHeading → List ImageEvent → Bool
-is_full h events = nat_le 2000 (length events)
+is_full h events = nat_le MOST_EVENTS (length events)
 
 -- an end is set to what the lines of a slot say
 abbrev pub IsEndOf : SlotHeader → Setup → Type 0
-IsEndOf s (OfMaster settings) = (s.own.kind ≡ kind.Node side.Master) × IsMasterOf s.own settings
-IsEndOf s (OfSlave settings) = (s.own.kind ≡ kind.Node side.Slave) × IsSlaveOf s.own settings
+IsEndOf s (OfMaster settings) = (end_of s ≡ side.Master) × IsMasterOf s.own settings
+IsEndOf s (OfSlave settings) = (end_of s ≡ side.Slave) × IsSlaveOf s.own settings
 
--- a slot is made as its lines say
+-- a slot is made of a new end as its lines say
+pub record IsMadeOf (s : SlotHeader) (slot : Slot) : Type 0 where
+  pub at_in_is : slot.at_in ≡ s.at_in
+  pub at_out_is : slot.at_out ≡ s.at_out
+  pub end_is : IsEndOf s (setup_of slot.core)
+  pub new : IsNew slot.core
+
+-- a slot stands where its lines say, with an end that is set as they say
 pub record IsSlotOf (s : SlotHeader) (p : Place) : Type 0 where
-  pub number_is : p.number ≡ s.number
   pub at_in_is : p.at_in ≡ s.at_in
   pub at_out_is : p.at_out ≡ s.at_out
   pub end_is : IsEndOf s p.setup
 
--- images are made as a header says
+-- images are made as a header says; its slots are numbered in their order
 pub record IsPlanOf (h : ImageHeading) (plan : Plan) : Type 0 where
   pub size_in_is : plan.size_in ≡ h.size_in
   pub size_out_is : plan.size_out ≡ h.size_out
   pub slots : AllZip IsSlotOf (slots_of h) plan.places
+  pub numbers : AreNumbered 1 plan.places
 
 -- the line of what the end of a slot did at the event of this number, with the state and the outputs after it, and the frame that it sent
-abbrev pub slot_line : ℕ → Place → List Deed → Deed → List ℕ
-slot_line n p e x = decimal n ++ codes " " ++ decimal p.number ++ codes " " ++ entry_text x.did (state_of p.setup (x ∷ e)) (out p.setup (x ∷ e)) x.sent ++ codes "\n"
+abbrev pub entry_line : ℕ → Place → List Deed → Deed → List ℕ
+entry_line n p e x = decimal n ++ codes " " ++ decimal p.number ++ codes " " ++ entry_text x.did (state_of p.setup (x ∷ e)) (out p.setup (x ∷ e)) x.sent ++ codes "\n"
 
 -- the line of a slot at an event, where that is a move of it
 abbrev pub move_line : ℕ → ℕ → Place → List ImageEvent → Option Move → List ℕ
 move_line n size p calls None = []
-move_line n size p calls (Some what) = slot_line n p (deeds size p calls) (next_deed size p calls what)
+move_line n size p calls (Some what) = entry_line n p (deeds size p calls) (next_deed size p calls what)
 
 -- the lines of an event after these: one for each slot of which it is a move, in their order
 abbrev pub event_lines : ℕ → List ImageEvent → ImageEvent → List Place → List ℕ

@@ -86,6 +86,10 @@ two_slots second =
     ∷ codes "slave 2 200 1000 2"
     ∷ []
 
+-- the lines of one slot in images of 11 and of 7 bytes, whose master sends four bytes and whose slave two
+abbrev pub one_uneven : List ℕ → List (List ℕ)
+one_uneven end = codes "fsoe 1 image" ∷ codes "size 11 7" ∷ codes "slot 1 0 0" ∷ codes "lengths 4 2" ∷ end ∷ []
+
 -- where a header is after these lines
 abbrev pub stage_after : List (List ℕ) → Result Stage LineCause
 stage_after texts = map_ok (λ h. h.stage) (after_lines (Ok image_heading_new) texts)

@@ -5,6 +5,9 @@ use fsoe_base::{ByteList, Image};
 /// The most bytes that one event writes.
 pub const MOST_WRITTEN: usize = 256;
 
+/// The most events of an input of images.
+pub const MOST_EVENTS: usize = 2_000;
+
 /// One event of images. Slots are numbered from 1.
 #[derive(Drop)]
 pub enum ImageEvent {

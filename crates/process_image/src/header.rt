@@ -1,15 +1,22 @@
 //! The header of images, line by line.
-ghost use Rattle.std.specs.Prelude.{◌≡◌, ◌≤◌, ◌<◌, ◌⊎◌, IfOk, OnOk, length};
-ghost use Rattle.std.specs.List.{list_any};
+ghost use Rattle.std.specs.Prelude.{◌≡◌, ◌≤◌, ◌<◌, ◌⊎◌, [], ◌∷◌, ◌++◌, IsTrue, IfOk, OnOk, length, map};
+ghost use Rattle.std.specs.List.{AllZip, list_any};
 ghost use Rattle.schedule_file.specs.Field.{fields_after, fields_of};
 ghost use Rattle.schedule_file.specs.Fields.{Becomes};
 ghost use Rattle.process_image.specs.Header.{image_heading_new, image_heading_is_whole, image_heading_after, image_fields_taken, image_title_taken, size_line, slot_line, slot_begun, size_taken, slot_taken, own_taken, slots_of, fits_images, heading_spans, end_of, is_size};
 ghost use Rattle.process_image.specs.LinesLeft.{image_lines_left};
 ghost use Rattle.process_image.specs.Places.{overlap};
+ghost use Rattle.process_image.specs.Report.{IsMadeOf, end_terms};
 
+use crate::event_line::SlotEnd;
+use crate::slot::Slot;
 use crate::spans::{MOST_SLOTS, Spans, lie_inside, overlap};
+use arrayvec::ArrayVec;
+use end_core::Core;
 use fsoe_base::{End, Memory, frame_len};
-use schedule_file::{Header, HeaderKind, LineCause, cut, next_field, number_16, one_field};
+use schedule_file::{
+    Header, HeaderKind, LineCause, cut, next_field, number_16, one_field, profile_of,
+};
 use std::alloc::Global;
 use std::marker::Model;
 use std::mem;
@@ -35,7 +42,6 @@ pub enum Stage {
 /// A slot as its lines say it, as far as they are read.
 #[derive(Drop)]
 pub struct SlotHeader {
-    pub(crate) number: u16,
     /// Where a frame that comes to its end begins in the input image.
     pub(crate) at_in: u16,
     /// Where a frame that its end sends begins in the output image.
@@ -46,11 +52,10 @@ pub struct SlotHeader {
 
 impl SlotHeader {
     /// A slot of which its own line alone is read.
-    fn begun(number: u16, at_in: u16, at_out: u16) -> SlotHeader
-        ensures { result ≡ slot_begun number at_in at_out }
+    fn begun(at_in: u16, at_out: u16) -> SlotHeader
+        ensures { result ≡ slot_begun at_in at_out }
     {
         SlotHeader {
-            number,
             at_in,
             at_out,
             own: Header::begun(),
@@ -64,6 +69,34 @@ impl SlotHeader {
         match self.own.kind() {
             HeaderKind::Node(end) => end,
             HeaderKind::Pair => End::Slave,
+        }
+    }
+
+    /// What lines of events look at of its end.
+    fn end_terms(&self) -> SlotEnd
+        ensures { result ≡ end_terms self.now }
+    {
+        let profiles = self.own.profiles();
+        let end = self.end();
+        SlotEnd {
+            sends: self.own.lengths().of(end),
+            profile: profile_of(&profiles, end),
+        }
+    }
+
+    /// The slot with a new end that is set to what its lines say.
+    #[tactic(auto, using(crate::proofs::Planned::made_master, crate::proofs::Planned::made_slave))]
+    fn slot(&self) -> Slot
+        ensures { IsMadeOf self.now result }
+    {
+        let core = match self.end() {
+            End::Master => Core::new_master(self.own.master()),
+            End::Slave => Core::new_slave(self.own.slave()),
+        };
+        Slot {
+            at_in: self.at_in,
+            at_out: self.at_out,
+            core,
         }
     }
 
@@ -108,6 +141,7 @@ pub struct ImageHeader {
 impl Model for ImageHeader {
     ghost use Rattle.std.specs.Prelude.{◌≤◌, ◌<◌, length, vec_capacity, vec_len};
     ghost use Rattle.process_image.specs.Header.{ImageHeading};
+    ghost use Rattle.process_image.specs.declared.header.TheConstants.{MOST_SIZE};
     ghost use Rattle.process_image.specs.declared.spans.TheConstants.{MOST_SLOTS};
 
     ghost Value = { ImageHeading };
@@ -121,19 +155,21 @@ impl Model for ImageHeader {
           last = h.last;
         } };
 
-    ghost invariant = { λ h. (MOST_SLOTS ≤ vec_capacity h.before) × (vec_len h.before < MOST_SLOTS) };
+    ghost invariant = { λ h. (MOST_SLOTS ≤ vec_capacity h.before) × (vec_len h.before < MOST_SLOTS) × (h.size_out ≤ MOST_SIZE) };
 }
 
 /// Whether an image may have so many bytes.
 fn is_size(n: u16) -> bool
-    ensures { result ≡ is_size n }
+    ensures value { result ≡ is_size n }
+    ensures most { IsTrue result → n ≤ MOST_SIZE }
 {
     n >= 1 && n <= MOST_SIZE
 }
 
 /// `<in> <out>`: the sizes of both images.
 fn read_size(fields: Option<&[u8]>) -> Result<(u16, u16), LineCause>
-    ensures { result ≡ size_line (fields_after fields.entry) }
+    ensures value { result ≡ size_line (fields_after fields.entry) }
+    ensures most { IfOk result (λ sizes. sizes.1 ≤ MOST_SIZE) }
 {
     let (first, rest) = next_field(fields)?;
     let second = one_field(rest)?;
@@ -149,8 +185,8 @@ fn read_size(fields: Option<&[u8]>) -> Result<(u16, u16), LineCause>
 /// `<k> <at_in> <at_out>`: the slot of this number.
 fn read_slot(number: u16, fields: Option<&[u8]>) -> Result<SlotHeader, LineCause>
     ensures value { result ≡ slot_line number (fields_after fields.entry) }
-    ensures begun { IfOk result (λ slot. slot ≡ slot_begun slot.number slot.at_in slot.at_out) }
-    ensures number { IfOk result (λ slot. (slot.number ≡ number) × (number ≤ MOST_SLOTS)) }
+    ensures begun { IfOk result (λ slot. slot ≡ slot_begun slot.at_in slot.at_out) }
+    ensures number { OnOk result (number ≤ MOST_SLOTS) }
 {
     let (first, rest) = next_field(fields)?;
     let (second, rest) = next_field(rest)?;
@@ -159,7 +195,7 @@ fn read_slot(number: u16, fields: Option<&[u8]>) -> Result<SlotHeader, LineCause
     let at_in = number_16(second)?;
     let at_out = number_16(third)?;
     if n == number && usize::from(n) <= MOST_SLOTS {
-        Ok(SlotHeader::begun(n, at_in, at_out))
+        Ok(SlotHeader::begun(at_in, at_out))
     } else {
         Err(LineCause::Range)
     }
@@ -178,7 +214,7 @@ impl ImageHeader {
             size_in: 1,
             size_out: 1,
             before,
-            last: SlotHeader::begun(0, 0, 0),
+            last: SlotHeader::begun(0, 0),
         })
     }
 
@@ -304,12 +340,64 @@ impl ImageHeader {
         Ok(())
     }
 
+    /// The sizes of the input image and of the output image.
+    pub(crate) fn sizes(&self) -> (u16, u16)
+        ensures size_in { result.0 ≡ self.now.size_in }
+        ensures size_out { result.1 ≡ self.now.size_out }
+        ensures most { result.1 ≤ MOST_SIZE }
+    {
+        (self.size_in, self.size_out)
+    }
+
+    /// What lines of events look at of the ends of the slots, in their order.
+    pub(crate) fn ends(&self) -> ArrayVec<SlotEnd, MOST_SLOTS>
+        ensures { result.items ≡ map end_terms (slots_of self.now) }
+    {
+        let mut ends = ArrayVec::new();
+        if self.count() == 0 {
+            return ends;
+        }
+        for slot in self.before.as_slice() {
+            ends.push(slot.end_terms());
+        }
+        ends.push(self.last.end_terms());
+        ends
+    }
+
+    /// The slots, in their order, each with a new end that is set to what its lines say.
+    pub(crate) fn slots(&self, alloc: Global) -> Result<Vec<Slot>, Memory>
+        ensures made { IfOk result (λ slots. AllZip IsMadeOf (slots_of self.now) slots.items) }
+        ensures most { IfOk result (λ slots. length slots.items ≤ MOST_SLOTS) }
+    {
+        let Ok(mut slots) = Vec::with_capacity(alloc, usize::from(self.count())) else {
+            return Err(Memory);
+        };
+        if self.count() == 0 {
+            return Ok(slots);
+        }
+        for slot in self.before.as_slice() {
+            push(&mut slots, slot.slot())?;
+        }
+        push(&mut slots, self.last.slot())?;
+        Ok(slots)
+    }
+
     /// Whether the frames of the last slot lie inside both images, and share no byte with a slot before.
     fn fits(&self) -> bool
         ensures { result ≡ fits_images self.now self.now.last }
     {
         let own = self.last.spans();
         lie_inside(self.size_in, self.size_out, &own) && !shares(self.before.as_slice(), &own)
+    }
+}
+
+/// Appends a slot.
+fn push(slots: &mut Vec<Slot>, slot: Slot) -> Result<(), Memory>
+    ensures { OnOk result (slots.new.items ≡ slots.old.items ++ slot ∷ []) }
+{
+    match slots.push(slot) {
+        Ok(_) => Ok(()),
+        Err(_) => Err(Memory),
     }
 }
 

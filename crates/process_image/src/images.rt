@@ -86,6 +86,10 @@ impl Images {
     /// Samples the input image: in their order, each slot whose contents aren't those of the last sample gets them delivered, what its
     /// end did is written to its place in `dids`, and a frame that it sent is put in its place in the output image. Every other slot
     /// has None there, and stays as it is. `dids` has a place for each slot.
+    ///
+    /// A frame that is equal to the one before it in its place isn't seen: where an end is to get the same bytes again, as a Reset frame
+    /// that answers another, other bytes have to be sampled between them. After the first sample zeros are contents as any other, and a
+    /// frame that is overwritten before a sample is lost.
     pub fn sample(&mut self, dids: &mut [Option<Did>])
         requires { length dids.old ≡ slots_in self.old }
         ensures follows { Follows self.old event.Sample self.new }

@@ -1,5 +1,5 @@
 //! What holds of images over all their calls, and runs of them that were worked out. The calls do nothing: each law is a contract.
-ghost use Rattle.std.specs.Prelude.{◌≡◌, ℕ, [], ◌∷◌, List, Some, Ok, Err, codes, false, length, replicate};
+ghost use Rattle.std.specs.Prelude.{◌≡◌, ℕ, [], ◌∷◌, ◌++◌, List, Some, None, Ok, Err, codes, false, length, replicate, take};
 ghost use Rattle.fsoe_base.specs.Lengths.{frame_len};
 ghost use Rattle.param_load.specs.declared.entry.Move.{Move};
 ghost use Rattle.schedule_file.specs.declared.line_cause.LineCause.TheVariants as cause;
@@ -11,7 +11,8 @@ ghost use Rattle.process_image.specs.Fault.{first_fault};
 ghost use Rattle.process_image.specs.Own.{Unwritten, WritesFit, at_samples, distinct_after, frames_in};
 ghost use Rattle.process_image.specs.Image.{input};
 ghost use Rattle.process_image.specs.Places.{Place, Plan, share, spans_of};
-ghost use Rattle.process_image.specs.Worked.{sharing, two_slots, stage_after, one_said, w, ChangesAlone, HalfWritten, BothEnds};
+ghost use Rattle.process_image.specs.Standing.{told};
+ghost use Rattle.process_image.specs.Worked.{sharing, one_uneven, two_slots, stage_after, one_said, w, ChangesAlone, HalfWritten, BothEnds};
 ghost use Rattle.process_image.specs.declared.event.ImageEvent.{ImageEvent};
 ghost use Rattle.process_image.specs.declared.event.ImageEvent.TheVariants as event;
 ghost use Rattle.process_image.specs.declared.event.ImageLine.TheVariants as line;
@@ -23,8 +24,8 @@ pub fn frames_fill()
     ensures { (s : Setup) (e : List Deed) (what : Move) → IsProper s what → IsRun s e → is_empty (step s e what).sent ≡ false → length (step s e what).sent ≡ frame_len (sends s) }
 {}
 
-/// Worked reports of images: a slot is delivered where its bytes changed alone; half of a frame is told as what it is, and the run
-/// goes on; a master and a slave side by side.
+/// Worked reports of images: a slot is delivered where its bytes changed alone; half of a frame is dropped in state Reset, where the whole
+/// frame is taken after it; a master and a slave side by side.
 pub fn worked_reports()
     ensures changes_alone { ChangesAlone }
     ensures half_written { HalfWritten }
@@ -35,6 +36,9 @@ pub fn worked_reports()
 pub fn worked_lines()
     ensures apart { stage_after (two_slots (codes "slot 2 7 7")) ≡ Ok stage.Slots }
     ensures shared { stage_after (two_slots (codes "slot 2 6 7")) ≡ Err cause.Range }
+    ensures not_before { stage_after (take 8 (two_slots (codes "slot 2 6 7"))) ≡ Ok stage.Slots }
+    ensures slave_fits { stage_after (one_uneven (codes "slave 2 200 1000 2")) ≡ Ok stage.Slots }
+    ensures master_too_long { stage_after (one_uneven (codes "master 1 2 100 1")) ≡ Err cause.Range }
     ensures out_of_turn { stage_after (two_slots (codes "slot 3 7 7")) ≡ Err cause.Range }
     ensures fault { first_fault sharing ≡ Some (fault.Overlap 1 2) }
     ensures write { one_said (codes "w 7 2a0000c42d0000") ≡ Ok (line.Step (w 7 (codes "2a0000c42d0000"))) }
@@ -50,10 +54,11 @@ pub fn distinct()
     ensures { (size : ℕ) (p : Place) (calls : List ImageEvent) → frames_in (moves size p calls) ≡ distinct_after (contents p (replicate size 0)) (at_samples size p calls) }
 {}
 
-/// A sample with no write since the last changes nothing.
+/// A sample with no write since the last tells nothing and changes nothing, whatever comes after it.
 pub fn quiet_samples()
-    ensures moves { (size : ℕ) (p : Place) (calls : List ImageEvent) → Unwritten calls → moves size p (event.Sample ∷ calls) ≡ moves size p calls }
-    ensures output { (plan : Plan) (calls : List ImageEvent) → Unwritten calls → output plan (event.Sample ∷ calls) ≡ output plan calls }
+    ensures moves { (size : ℕ) (p : Place) (calls later : List ImageEvent) → Unwritten calls → moves size p (later ++ event.Sample ∷ calls) ≡ moves size p (later ++ calls) }
+    ensures output { (plan : Plan) (calls later : List ImageEvent) → Unwritten calls → output plan (later ++ event.Sample ∷ calls) ≡ output plan (later ++ calls) }
+    ensures told { (size : ℕ) (p : Place) (calls : List ImageEvent) → Unwritten calls → told size calls event.Sample p ≡ None }
 {}
 
 /// A write beside a slot changes nothing of it.

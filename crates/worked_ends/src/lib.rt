@@ -14,6 +14,8 @@ mod of_multi_master;
 #[cfg(test)]
 mod of_plant_run;
 #[cfg(test)]
+mod of_process_image;
+#[cfg(test)]
 mod of_slave_core;
 #[cfg(test)]
 mod of_trace_diag;

@@ -37,3 +37,15 @@ returns-clause-no_number c = refl
 pub returns-clause-length : goal.returns-clause-length
 unfolding hex_on_literals
 returns-clause-length c = refl
+
+pub returns-clause-not_before : goal.returns-clause-not_before
+unfolding hex_on_literals
+returns-clause-not_before c = refl
+
+pub returns-clause-slave_fits : goal.returns-clause-slave_fits
+unfolding hex_on_literals
+returns-clause-slave_fits c = refl
+
+pub returns-clause-master_too_long : goal.returns-clause-master_too_long
+unfolding hex_on_literals
+returns-clause-master_too_long c = refl

@@ -1,0 +1,135 @@
+-- The text of each kind of event.
+use Rattle.std.proofs.Common.{◌≡◌, ◌≤◌, ◌<◌, ◌+◌, ◌==◌, ℕ, zero, suc, List, [], ◌∷◌, ◌++◌, Bool, true, false, length, map, slice_get, Option, Some, None, refl, sym, ap, ◌∙◌, arith}
+use Rattle.std.specs.Prelude.{option_map, if◌then◌else◌}
+use Rattle.std.proofs.lemmas.Bool.Decides.{nat_tests}
+use Rattle.std.proofs.lemmas.List.{append-nil}
+use Rattle.fsoe_base.specs.Did.{nothing}
+use Rattle.fsoe_base.specs.declared.did.Did.{Did}
+use Rattle.param_load.specs.declared.entry.Move.{Move}
+use Rattle.param_load.specs.declared.entry.Move.TheVariants as move
+use Rattle.process_image.specs.Calls.{if_named, move_in, deeds, next_deed}
+use Rattle.process_image.specs.Fault.{AreNumbered}
+use Rattle.process_image.specs.Places.{Place, Plan}
+use Rattle.process_image.specs.Report.{entry_line, move_line, event_lines}
+use Rattle.process_image.specs.Standing.{ImagesView, StandsFor, Follows, HasSlot, ShowsAt, AnswersSample, AnswersTick, AnswersReset}
+use Rattle.process_image.specs.Telling.{TellsEvent, TellsAll, told_line}
+use Rattle.process_image.specs.declared.event.ImageEvent.{ImageEvent}
+use Rattle.process_image.specs.declared.event.ImageEvent.TheVariants as event
+use Rattle.process_image.proofs.ToldLines.{number_at, shown_entry}
+
+-- a write is a move of no slot
+no-lines : (size at : ℕ) (bytes : List ℕ) (calls : List ImageEvent) (places : List Place) → event_lines size calls (event.Write at bytes) places ≡ []
+no-lines size at bytes calls [] = refl
+no-lines size at bytes calls (p ∷ places) = no-lines size at bytes calls places
+
+pub write_tells : (old : ImagesView) (at : ℕ) (bytes : List ℕ) (n : ℕ) (text : List ℕ) → text ≡ [] → TellsEvent old (event.Write at bytes) n text
+write_tells old at bytes n text e = record { lines = λ plan calls h number. e ∙ sym (no-lines plan.size_in at bytes calls plan.places) }
+
+-- a sample and a tick
+pub sample_tells : (old new : ImagesView) (dids : List (Option Did)) (n : ℕ) (text : List ℕ) → Follows old event.Sample new → AnswersSample old dids → TellsAll new event.Sample dids n text → TellsEvent old event.Sample n text
+sample_tells old new dids n text f a t = record { lines = λ plan calls h number. t.lines plan calls (f.stands plan calls h) (a.told_are plan calls h) number }
+
+map-map : {A B C : Type 0} (f : A → B) (g : B → C) (xs : List A) → map g (map f xs) ≡ map (λ x. g (f x)) xs
+map-map f g [] = refl
+map-map f g (x ∷ xs) = ap (λ ys. g (f x) ∷ ys) (map-map f g xs)
+
+pub tick_tells : (old new : ImagesView) (dids : List Did) (n : ℕ) (text : List ℕ) → Follows old event.Tick new → AnswersTick old dids → TellsAll new event.Tick (map (λ did. Some did) dids) n text → TellsEvent old event.Tick n text
+tick_tells old new dids n text f a t = record {
+  lines = λ plan calls h number.
+      t.lines plan calls (f.stands plan calls h)
+      (ap (map (λ (did : Did). Some did)) (a.told_are plan calls h) ∙ map-map (λ (p : Place). (next_deed plan.size_in p calls move.Tick).did) (λ (did : Did). Some did) plan.places) number;
+}
+
+-- an event that names a slot
+other : (slot n : ℕ) → slot < n → (slot == n) ≡ false
+other slot n h = grind (arith, nat_tests)
+
+later : (slot n k : ℕ) → slot ≡ n + suc k → (slot == n) ≡ false
+later slot n k h = grind (arith, nat_tests)
+
+same : (slot n : ℕ) → slot ≡ n → (slot == n) ≡ true
+same slot n h = grind (arith, nat_tests)
+
+unnamed : (size m slot : ℕ) (calls : List ImageEvent) (event : ImageEvent) (what : Move) (p : Place) → move_in size p calls event ≡ if_named slot p what → (slot == p.number) ≡ false → move_line m size p calls (move_in size p calls event) ≡ []
+unnamed size m slot calls event what p moves h = ap (move_line m size p calls) (moves ∙ ap (λ b. if b then Some what else None) h)
+
+named : (size m slot : ℕ) (calls : List ImageEvent) (event : ImageEvent) (what : Move) (p : Place) → move_in size p calls event ≡ if_named slot p what → (slot == p.number) ≡ true → move_in size p calls event ≡ Some what
+named size m slot calls event what p moves h = moves ∙ ap (λ b. if b then Some what else None) h
+
+lines-none : (size n slot : ℕ) (calls : List ImageEvent) (event : ImageEvent) (what : Move) (places : List Place) → slot < n → AreNumbered n places → ((p : Place) → move_in size p calls event ≡ if_named slot p what)
+    → event_lines size calls event places ≡ []
+lines-none size n slot calls event what [] h number moves = refl
+lines-none size n slot calls event what (p ∷ places) h number moves =
+    ap (λ (own : List ℕ). own ++ event_lines size calls event places) (unnamed size (length calls + 1) slot calls event what p (moves p) (ap (λ (m : ℕ). slot == m) number.0 ∙ other slot n h))
+    ∙ lines-none size (suc n) slot calls event what places (omega arith) number.1 moves
+
+lines-at : (size n k slot : ℕ) (calls : List ImageEvent) (event : ImageEvent) (what : Move) (places : List Place) (p : Place) → slot ≡ n + k → AreNumbered n places → slice_get places k ≡ Some p
+    → ((p : Place) → move_in size p calls event ≡ if_named slot p what) → event_lines size calls event places ≡ entry_line (length calls + 1) p (deeds size p calls) (next_deed size p calls what)
+lines-at size n k slot calls event what [] p e number at moves = absurd (cc at)
+lines-at size n zero slot calls event what (q ∷ places) p e number at moves =
+    let i : q ≡ p = cc in
+    let is : move_in size q calls event ≡ Some what = named size (length calls + 1) slot calls event what q (moves q) (ap (λ (m : ℕ). slot == m) number.0 ∙ same slot n (omega arith)) in
+    ap (λ (rest : List ℕ). move_line (length calls + 1) size q calls (move_in size q calls event) ++ rest) (lines-none size (suc n) slot calls event what places (omega arith) number.1 moves)
+    ∙ append-nil (move_line (length calls + 1) size q calls (move_in size q calls event))
+    ∙ ap (move_line (length calls + 1) size q calls) is
+    ∙ ap (λ (q : Place). entry_line (length calls + 1) q (deeds size q calls) (next_deed size q calls what)) i
+lines-at size n (suc k) slot calls event what (q ∷ places) p e number at moves =
+    ap (λ (own : List ℕ). own ++ event_lines size calls event places) (unnamed size (length calls + 1) slot calls event what q (moves q) (ap (λ (m : ℕ). slot == m) number.0 ∙ later slot n k e))
+    ∙ lines-at size (suc n) k slot calls event what places p (omega arith) number.1 at moves
+
+-- there is such a slot, of which a line is shown
+there : {X : Type 0} (f : Place → X) (o : Option Place) (x : X) → option_map f o ≡ Some x → (p : Place) × (o ≡ Some p)
+there f None x h = absurd (cc h)
+there f (Some p) x h = (p, refl)
+
+named-tells : (old new : ImagesView) (event : ImageEvent) (k n : ℕ) (what : Move) (did : Did) (line : List ℕ) → ((size : ℕ) (calls : List ImageEvent) (p : Place) → move_in size p calls event ≡ if_named (suc k) p what)
+    → ((plan : Plan) (calls : List ImageEvent) (p : Place) → StandsFor plan old calls → slice_get plan.places k ≡ Some p → did ≡ (next_deed plan.size_in p calls what).did) → Follows old event new
+    → ShowsAt new (suc k) line (told_line n (suc k) did) → TellsEvent old event n line
+named-tells old new event k n what did line moves done f shows = record {
+  lines = λ plan calls h number.
+      let size : ℕ = plan.size_in in
+      let stands : StandsFor plan new (event ∷ calls) = f.stands plan calls h in
+      let p = there (λ (p : Place). told_line n (suc k) did p.setup (deeds size p (event ∷ calls))) (slice_get plan.places k) line (shows.shows plan (event ∷ calls) stands) in
+      let all : event_lines size calls event plan.places ≡ entry_line (length calls + 1) p.0 (deeds size p.0 calls) (next_deed size p.0 calls what) =
+      lines-at size 1 k (suc k) calls event what plan.places p.0 (omega arith) stands.made.numbers p.1 (moves size calls)
+      in
+      let is : move_in size p.0 calls event ≡ Some what =
+      moves size calls p.0 ∙ ap (λ b. if b then Some what else None) (same (suc k) p.0.number (let q = number_at 1 plan.places k p.0 stands.made.numbers p.1 in omega (arith, q)))
+      in
+      shown_entry plan new calls event n k p.0 what did line stands p.1 is (done plan calls p.0 h p.1) shows
+      ∙ ap (λ (m : ℕ). entry_line m p.0 (deeds size p.0 calls) (next_deed size p.0 calls what)) number
+      ∙ sym all;
+}
+
+-- by the number of the slot, which is 1 at least
+by-slot : (P : ℕ → Type 0) (slot : ℕ) → 1 ≤ slot → ((k : ℕ) → P (suc k)) → P slot
+by-slot P zero h all = absurd (omega arith)
+by-slot P (suc k) h all = all k
+
+pub put_tells : (old new : ImagesView) (slot n : ℕ) (load line text : List ℕ) → HasSlot old slot → Follows old (event.Put slot load) new → ShowsAt new slot line (told_line n slot nothing) → text ≡ [] ++ line → TellsEvent old (event.Put slot load) n text
+put_tells old new slot n load line text has f shows e =
+    rw e (by-slot (λ slot. Follows old (event.Put slot load) new → ShowsAt new slot line (told_line n slot nothing) → TellsEvent old (event.Put slot load) n line) slot has.first
+    (λ k f shows. named-tells old new (event.Put (suc k) load) k n (move.Put load) nothing line (λ size calls p. refl) (λ plan calls p h at. refl) f shows) f shows)
+
+pub hold_tells : (old new : ImagesView) (slot n : ℕ) (failsafe : Bool) (line text : List ℕ) → HasSlot old slot → Follows old (event.Hold slot failsafe) new → ShowsAt new slot line (told_line n slot nothing) → text ≡ [] ++ line
+    → TellsEvent old (event.Hold slot failsafe) n text
+hold_tells old new slot n failsafe line text has f shows e =
+    rw e (by-slot (λ slot. Follows old (event.Hold slot failsafe) new → ShowsAt new slot line (told_line n slot nothing) → TellsEvent old (event.Hold slot failsafe) n line) slot has.first
+    (λ k f shows. named-tells old new (event.Hold (suc k) failsafe) k n (move.Hold failsafe) nothing line (λ size calls p. refl) (λ plan calls p h at. refl) f shows) f shows)
+
+pub nonce_tells : (old new : ImagesView) (slot n id : ℕ) (line text : List ℕ) → HasSlot old slot → Follows old (event.Nonce slot id) new → ShowsAt new slot line (told_line n slot nothing) → text ≡ [] ++ line
+    → TellsEvent old (event.Nonce slot id) n text
+nonce_tells old new slot n id line text has f shows e =
+    rw e (by-slot (λ slot. Follows old (event.Nonce slot id) new → ShowsAt new slot line (told_line n slot nothing) → TellsEvent old (event.Nonce slot id) n line) slot has.first
+    (λ k f shows. named-tells old new (event.Nonce (suc k) id) k n (move.Nonce id) nothing line (λ size calls p. refl) (λ plan calls p h at. refl) f shows) f shows)
+
+reset-did : (plan : Plan) (calls : List ImageEvent) (k : ℕ) (p : Place) (did : Did) → slice_get plan.places k ≡ Some p → option_map (λ p. (next_deed plan.size_in p calls move.Local).did) (slice_get plan.places k) ≡ Some did
+    → did ≡ (next_deed plan.size_in p calls move.Local).did
+reset-did plan calls k p did at h =
+    let s : Some (next_deed plan.size_in p calls move.Local).did ≡ Some did = ap (option_map (λ (p : Place). (next_deed plan.size_in p calls move.Local).did)) (sym at) ∙ h in cc
+
+pub reset_tells : (old new : ImagesView) (slot n : ℕ) (did : Did) (line text : List ℕ) → HasSlot old slot → Follows old (event.Reset slot) new → AnswersReset old slot did → ShowsAt new slot line (told_line n slot did) → text ≡ [] ++ line
+    → TellsEvent old (event.Reset slot) n text
+reset_tells old new slot n did line text has f a shows e =
+    rw e (by-slot (λ slot. Follows old (event.Reset slot) new → AnswersReset old slot did → ShowsAt new slot line (told_line n slot did) → TellsEvent old (event.Reset slot) n line) slot has.first
+    (λ k f a shows. named-tells old new (event.Reset (suc k)) k n move.Local did line (λ size calls p. refl) (λ plan calls p h at. reset-did plan calls k p did at (a.did plan calls h)) f shows) f a shows)

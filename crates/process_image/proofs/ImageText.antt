@@ -1,0 +1,46 @@
+-- An image as digits, piece by piece.
+use Rattle.std.proofs.Common.{◌≡◌, ◌≤◌, ◌+◌, ◌-◌, ◌*◌, ◌/◌, ◌%◌, ℕ, zero, suc, List, [], ◌∷◌, ◌++◌, length, take, drop, length-append, append_assoc, refl, sym, ap, ◌∙◌, arith}
+use Rattle.std.specs.Prelude.{slice_index}
+use Rattle.std.proofs.lemmas.List.{append-nil, length-take-le, take_all}
+use Rattle.hex.specs.Hex.{encode_lower, encode_with, lower_digits}
+use Rattle.hex.proofs.HexLemmas.{length-encode_with}
+
+-- the digits of one part after another
+encode-append : (t xs ys : List ℕ) → encode_with t (xs ++ ys) ≡ encode_with t xs ++ encode_with t ys
+unfolding encode_with
+encode-append t [] ys = refl
+encode-append t (x ∷ xs) ys = ap (λ (ds : List ℕ). slice_index t (x / 16) ∷ slice_index t (x % 16) ∷ ds) (encode-append t xs ys)
+
+take-part : (at n k : ℕ) (xs : List ℕ) → k ≡ at + n → take k xs ≡ take at xs ++ take n (drop at xs)
+take-part zero n k xs e = let f : k ≡ n = omega arith in ap (λ (m : ℕ). take m xs) f
+take-part (suc at) n zero xs e = absurd (omega arith)
+take-part (suc at) zero (suc k) [] e = refl
+take-part (suc at) (suc n) (suc k) [] e = refl
+take-part (suc at) n (suc k) (x ∷ xs) e = ap (λ (ys : List ℕ). x ∷ ys) (take-part at n k xs (omega arith))
+
+pub piece_more : (before text line text' image : List ℕ) (at end : ℕ) → at ≤ end → text ≡ before ++ encode_lower (take at image) → line ≡ encode_lower (take (end - at) (drop at image)) → text' ≡ text ++ line
+    → text' ≡ before ++ encode_lower (take end image)
+piece_more before text line text' image at end h e is more =
+    let a : List ℕ = take at image in
+    let b : List ℕ = take (end - at) (drop at image) in
+    more
+    ∙ ap (λ (xs : List ℕ). xs ++ line) e
+    ∙ ap (λ (xs : List ℕ). (before ++ encode_lower a) ++ xs) is
+    ∙ append_assoc before (encode_lower a) (encode_lower b)
+    ∙ ap (λ (xs : List ℕ). before ++ xs) (sym (encode-append lower_digits a b) ∙ ap encode_lower (sym (take-part at (end - at) end image (omega arith))))
+
+-- at first nothing, and at last all of it
+pub piece_first : (before image : List ℕ) → before ≡ before ++ encode_lower (take 0 image)
+unfolding encode_with
+piece_first before image = sym (append-nil before)
+
+pub piece_last : (before text image : List ℕ) (at : ℕ) → length image ≤ at → text ≡ before ++ encode_lower (take at image) → text ≡ before ++ encode_lower image
+piece_last before text image at h e = e ∙ ap (λ (xs : List ℕ). before ++ encode_lower xs) (take_all at image h)
+
+-- there is room for the next piece
+pub piece_room : (before text image : List ℕ) (at : ℕ) → at ≤ length image → text ≡ before ++ encode_lower (take at image) → length text ≡ length before + 2 * at
+piece_room before text image at h e =
+    let n = length-append before (encode_lower (take at image)) in
+    let m = length-encode_with lower_digits (take at image) in
+    let k = length-take-le at image h in
+    omega (arith, ap length e, n, m, k)

@@ -1,0 +1,232 @@
+-- A run of images over the events of an input.
+use Rattle.std.proofs.Common.{◌≡◌, ◌≤◌, ◌+◌, ◌==◌, ℕ, zero, suc, List, [], ◌∷◌, ◌++◌, Bool, true, false, length, map, reverse, slice_get, Option, Some, None, IfSome, append_assoc, refl, sym, ap, ap₂, subst, ◌∙◌, arith}
+use Rattle.std.specs.Prelude.{◌<◌, nat_le, All, IfOk, IsTrue, Result, Ok, Err, codes, if◌then◌else◌}
+use Rattle.std.specs.List.{AllZip}
+use Rattle.std.proofs.lemmas.Bool.Decides.{nat_tests}
+use Rattle.std.proofs.lemmas.List.{append-nil, reverse-append, length-reverse}
+use Rattle.std.proofs.lemmas.List.Elements.{All-nil, All-cons}
+use Rattle.hex.specs.Hex.{encode_lower}
+use Rattle.fsoe_io.specs.declared.status.Status.TheVariants as status
+use Rattle.param_load.specs.Profile.{allows_id}
+use Rattle.schedule_file.specs.EventLine.{switch_of}
+use Rattle.schedule_file.specs.Field.{bytes_said, fields_of}
+use Rattle.schedule_file.specs.Fields.{map_ok, next_field, no_field, one_field, number_16, number_32, value_or}
+use Rattle.schedule_file.specs.Input.{Refused, own_length, heading_profile}
+use Rattle.schedule_file.proofs.Sound.{each, known}
+use Rattle.schedule_file.specs.declared.line_cause.LineCause.{LineCause}
+use Rattle.schedule_file.specs.declared.line_cause.LineCause.TheVariants as cause
+use Rattle.file_run.specs.Machine.{IsSaid}
+use Rattle.file_run.specs.Report.{events_line}
+use Rattle.file_run.specs.Reporting.{EndsReport, ReportsSoFar, IsPrefix}
+use Rattle.end_model.specs.Setup.{Setup, OfMaster, OfSlave, sends, profile_of}
+use Rattle.end_core.specs.Core.{setup_of}
+use Rattle.end_core.specs.Standing.{IsNew}
+use Rattle.process_image.specs.Calls.{deeds}
+use Rattle.process_image.specs.EventLine.{end_at, id_at, image_said, image_said_by, image_line, word_of}
+use Rattle.process_image.specs.Header.{ImageHeading, slots_of}
+use Rattle.process_image.specs.Places.{Place, Plan, places_from, plan_of}
+use Rattle.process_image.specs.Ran.{RunView, RunStands, image_ended, image_format, image_reporting}
+use Rattle.process_image.specs.Report.{IsEndOf, IsMadeOf, IsSlotOf, IsPlanOf, end_terms, event_in, event_lines, lines_of_events, last_lines, report_of}
+use Rattle.process_image.specs.Standing.{ImagesView, IsSeatOf, StandsFor, HasSlot, numbered, setups_of}
+use Rattle.process_image.specs.Telling.{DoesEvent, FitsImages}
+use Rattle.process_image.specs.declared.event.ImageEvent.{ImageEvent}
+use Rattle.process_image.specs.declared.event.ImageEvent.TheVariants as event
+use Rattle.process_image.specs.declared.event.ImageLine.{ImageLine}
+use Rattle.process_image.specs.declared.event.ImageLine.TheVariants as line
+use Rattle.process_image.specs.declared.event_line.SlotEnd.{SlotEnd}
+use Rattle.process_image.specs.declared.event_line.Word.{Word}
+use Rattle.process_image.specs.declared.event_line.Word.TheVariants as word
+use Rattle.process_image.specs.declared.header.SlotHeader.{SlotHeader}
+use Rattle.process_image.specs.declared.seat.Seat.{Seat}
+use Rattle.process_image.specs.declared.slot.Slot.{Slot}
+use Rattle.process_image.proofs.Beginning.{numbered_so}
+use Rattle.process_image.proofs.Following.{setup_is}
+
+-- the lines of the first events come first
+lines-begin : (plan : Plan) (more calls : List ImageEvent) → IsPrefix (lines_of_events plan calls) (lines_of_events plan (more ++ calls))
+lines-begin plan [] calls = ([], sym (append-nil (lines_of_events plan calls)))
+lines-begin plan (e ∷ more) calls =
+    let rest = lines-begin plan more calls in
+    let own : List ℕ = event_lines plan.size_in (more ++ calls) e plan.places in
+    (rest.0 ++ own, ap (λ (xs : List ℕ). xs ++ own) rest.1 ∙ append_assoc (lines_of_events plan calls) rest.0 own)
+
+pub so_far : (v : RunView) (h : ImageHeading) (log : List ImageEvent) (text : List ℕ) → RunStands v h log text → ReportsSoFar image_reporting h log text
+so_far v h log text r = record {
+  begins = λ lines more stop.
+      let all : List ImageEvent = log ++ more in
+      let plan : Plan = r.plan in
+      let more' : lines_of_events plan (reverse all) ≡ lines_of_events plan (reverse more ++ reverse log) = ap (lines_of_events plan) (reverse-append log more) in
+      let part = lines-begin plan (reverse more) (reverse log) in (
+        report_of plan (reverse all) stop,
+        image_ended stop,
+        ((plan, r.made, refl), refl),
+        (
+          part.0 ++ last_lines plan (reverse all) stop,
+          ap (λ (xs : List ℕ). xs ++ last_lines plan (reverse all) stop) (more' ∙ part.1 ∙ ap (λ (xs : List ℕ). xs ++ part.0) (sym r.lines)) ∙ append_assoc text part.0 (last_lines plan (reverse all) stop),
+        ),
+      );
+  refused = λ lines number why.
+      ((r.plan, r.made, ap (λ (xs : List ℕ). xs ++ last_lines r.plan (reverse log) (Refused number why)) r.lines), refl);
+}
+
+-- one event more
+pub takes_more : (v w : RunView) (h : ImageHeading) (log : List ImageEvent) (text piece : List ℕ) (e : ImageEvent) (n : ℕ) → DoesEvent v.images e n w.images piece → n ≡ length log + 1 → RunStands v h log text
+    → RunStands w h (log ++ e ∷ []) (text ++ piece)
+takes_more v w h log text piece e n d number r =
+    let more : reverse (log ++ e ∷ []) ≡ e ∷ reverse log = reverse-append log (e ∷ []) in
+    let count : n ≡ length (reverse log) + 1 = number ∙ ap (λ (m : ℕ). m + 1) (sym (length-reverse log)) in
+    record {
+      plan = r.plan;
+      made = r.made;
+      images = rw more (d.follows.stands r.plan (reverse log) r.images);
+      lines = rw more (ap₂ (λ (a b : List ℕ). a ++ b) r.lines (d.tells.lines r.plan (reverse log) r.images count));
+      size_in = d.size_in ∙ r.size_in;
+    }
+
+-- the same images, and the same text said another way
+pub same_images : (v w : RunView) (h : ImageHeading) (log : List ImageEvent) (text text' : List ℕ) → v.images ≡ w.images → text' ≡ text → RunStands v h log text → RunStands w h log text'
+same_images v w h log text text' e is r = record {
+  plan = r.plan;
+  made = r.made;
+  images = subst (λ (m : ImagesView). StandsFor r.plan m (reverse log)) e r.images;
+  lines = is ∙ r.lines;
+  size_in = subst (λ (m : ImagesView). length m.input ≡ r.plan.size_in) e r.size_in;
+}
+
+-- an event of a line fits images whose slots have these ends
+pub record HaveEnds (size : ℕ) (ends : List SlotEnd) (v : ImagesView) : Type 0 where
+  pub size_is : length v.input ≡ size
+  pub ends_are : (slot : ℕ) (end : SlotEnd) → numbered slot ends ≡ Some end → HasSlot v slot × IfSome (numbered slot (setups_of v)) (λ s. (sends s ≡ end.sends) × (profile_of s ≡ end.profile))
+
+abbrev OnStep : (ImageEvent → Type 0) → ImageLine → Type 0
+OnStep P (line.Step e) = P e
+OnStep P line.End = Unit {0}
+
+-- a test of what a line says
+pub tested : {A : Type 0} (b : Bool) (x : A) (c : LineCause) (P : A → Type 0) → (b ≡ true → P x) → IfOk (if b then Ok x else Err c) P
+tested true x c P h = h refl
+tested false x c P h = tt
+
+bare : (l : ImageLine) (r : Result (Unit {0}) LineCause) (P : ImageLine → Type 0) → P l → IfOk (map_ok (λ none. l) r) P
+bare l (Ok x) P h = h
+bare l (Err e) P h = tt
+
+found : (o : Option SlotEnd) → IfOk (value_or cause.NoLink o) (λ end. o ≡ Some end)
+found None = tt
+found (Some end) = refl
+
+inside : (n size : ℕ) → nat_le n size ≡ true → n ≤ size
+inside n size h = grind (arith, nat_tests)
+
+equal : (n m : ℕ) → (n == m) ≡ true → n ≡ m
+equal n m h = grind (arith, nat_tests)
+
+put-len : (o : Option Setup) (n : ℕ) (end : SlotEnd) → n ≡ end.sends → IfSome o (λ s. (sends s ≡ end.sends) × (profile_of s ≡ end.profile)) → IfSome o (λ s. n ≡ sends s)
+put-len None n end e h = h
+put-len (Some s) n end e h = e ∙ sym h.0
+
+id-allowed : (o : Option Setup) (id : ℕ) (end : SlotEnd) → allows_id end.profile id ≡ true → IfSome o (λ s. (sends s ≡ end.sends) × (profile_of s ≡ end.profile)) → IfSome o (λ s. IsTrue (allows_id (profile_of s) id))
+id-allowed None id end e h = h
+id-allowed (Some s) id end e h = ap (λ p. allows_id p id) h.1 ∙ e
+
+refused-id : (b : Bool) (P : ImageLine → Type 0) → IfOk (if b then Err cause.NoLink else Err cause.Number) P
+refused-id true P = tt
+refused-id false P = tt
+
+id-fits : (size : ℕ) (ends : List SlotEnd) (v : ImagesView) (slot id : ℕ) (o : Option SlotEnd) → HaveEnds size ends v → numbered slot ends ≡ o → IfOk (id_at o slot id) (OnStep (FitsImages v))
+id-fits size ends v slot id None h e = refused-id (nat_le id 65535) (OnStep (FitsImages v))
+id-fits size ends v slot id (Some end) h e =
+    tested (allows_id end.profile id) (line.Step (event.Nonce slot id)) cause.Number (OnStep (FitsImages v)) (λ t. let a = h.ends_are slot end e in (a.0, id-allowed (numbered slot (setups_of v)) id end t a.1))
+
+said-fits : (size : ℕ) (ends : List SlotEnd) (v : ImagesView) (w : Option Word) (fields : List (List ℕ)) → HaveEnds size ends v → IfOk (image_said size ends w fields) (OnStep (FitsImages v))
+said-fits size ends v None fields h = tt
+said-fits size ends v (Some word.Write) fields h =
+    each (next_field fields) _ _ (λ place. each (one_field place.1) _ _ (λ digits. each (number_16 place.0) _ _ (λ at. each (value_or cause.Hex (bytes_said 256 digits)) _ _
+    (λ bytes. tested (nat_le (at + length bytes) size) (line.Step (event.Write at bytes)) cause.Position (OnStep (FitsImages v)) (λ t. let i = inside (at + length bytes) size t in rw h.size_is i)))))
+said-fits size ends v (Some word.Sample) fields h = bare (line.Step event.Sample) (no_field fields) (OnStep (FitsImages v)) tt
+said-fits size ends v (Some word.Tick) fields h = bare (line.Step event.Tick) (no_field fields) (OnStep (FitsImages v)) tt
+said-fits size ends v (Some word.Put) fields h =
+    each (next_field fields) _ _ (λ first. each (one_field first.1) _ _ (λ digits. each (number_16 first.0) _ _ (λ slot. known (end_at slot ends) _ (λ end. numbered slot ends ≡ Some end) _ (found (numbered slot ends))
+    (λ end e. each (value_or cause.Hex (bytes_said 126 digits)) _ _ (λ bytes. tested (length bytes == end.sends) (line.Step (event.Put slot bytes)) cause.Length (OnStep (FitsImages v))
+    (λ t. let a = h.ends_are slot end e in (a.0, put-len (numbered slot (setups_of v)) (length bytes) end (equal (length bytes) end.sends t) a.1)))))))
+said-fits size ends v (Some word.Hold) fields h =
+    each (next_field fields) _ _ (λ first. each (one_field first.1) _ _ (λ field. each (number_16 first.0) _ _ (λ slot. each (value_or cause.Number (switch_of field)) _ _
+    (λ failsafe. known (end_at slot ends) _ (λ end. numbered slot ends ≡ Some end) _ (found (numbered slot ends)) (λ end e. (h.ends_are slot end e).0)))))
+said-fits size ends v (Some word.Nonce) fields h =
+    each (next_field fields) _ _ (λ first. each (one_field first.1) _ _ (λ field. each (number_16 first.0) _ _ (λ slot. each (number_32 field) _ _ (λ id. id-fits size ends v slot id (numbered slot ends) h refl))))
+said-fits size ends v (Some word.Reset) fields h =
+    each (one_field fields) _ _ (λ field. each (number_16 field) _ _ (λ slot. known (end_at slot ends) _ (λ end. numbered slot ends ≡ Some end) _ (found (numbered slot ends)) (λ end e. (h.ends_are slot end e).0)))
+said-fits size ends v (Some word.End) fields h = bare line.End (no_field fields) (OnStep (FitsImages v)) tt
+
+fields-fit : (size : ℕ) (ends : List SlotEnd) (v : ImagesView) (fields : List (List ℕ)) → HaveEnds size ends v → IfOk (image_said_by size ends fields) (OnStep (FitsImages v))
+fields-fit size ends v [] h = tt
+fields-fit size ends v (first ∷ fields) h = said-fits size ends v (word_of first) fields h
+
+step-fits : (P : ImageEvent → Type 0) (l : ImageLine) (e : ImageEvent) → event_in l ≡ Some e → OnStep P l → P e
+step-fits P (line.Step x) e is h = let i : x ≡ e = cc in subst P i h
+step-fits P line.End e is h = absurd (cc is)
+
+-- the ends of the slots that a header says are those of the images
+terms-are : (s : SlotHeader) (t : Setup) → IsEndOf s t → (sends t ≡ (end_terms s).sends) × (profile_of t ≡ (end_terms s).profile)
+terms-are s (OfMaster ms) is = (is.1.0 ∙ ap (own_length s.own) (sym is.0), is.1.2.profile_is ∙ ap (heading_profile s.own) (sym is.0))
+terms-are s (OfSlave ss) is = (is.1.1 ∙ ap (own_length s.own) (sym is.0), is.1.2.profile_is ∙ ap (heading_profile s.own) (sym is.0))
+
+ends-at : (size : ℕ) (calls : List ImageEvent) (ss : List SlotHeader) (places : List Place) (seats : List Seat) (k : ℕ) (end : SlotEnd) → AllZip IsSlotOf ss places → AllZip (IsSeatOf size calls) places seats
+    → slice_get (map end_terms ss) k ≡ Some end → (k < length (map (λ seat. setup_of seat.core) seats)) × IfSome (slice_get (map (λ seat. setup_of seat.core) seats) k) (λ s. (sends s ≡ end.sends) × (profile_of s ≡ end.profile))
+ends-at size calls [] places seats k end a z at = absurd (cc at)
+ends-at size calls (s ∷ ss) [] seats k end a z at = absurd a
+ends-at size calls (s ∷ ss) (p ∷ places) [] k end a z at = absurd z
+ends-at size calls (s ∷ ss) (p ∷ places) (seat ∷ seats) zero end a z at =
+    let i : end_terms s ≡ end = cc in
+    let e : setup_of seat.core ≡ p.setup = setup_is p.setup seat.core (deeds size p calls) z.0.end_is in
+    let t = terms-are s p.setup a.0.end_is in
+    (omega arith, (ap sends e ∙ t.0 ∙ ap (λ (x : SlotEnd). x.sends) i, ap profile_of e ∙ t.1 ∙ ap (λ (x : SlotEnd). x.profile) i))
+ends-at size calls (s ∷ ss) (p ∷ places) (seat ∷ seats) (suc k) end a z at =
+    let rest = ends-at size calls ss places seats k end a.1 z.1 at in
+    (omega (arith, rest.0), rest.1)
+
+ends-numbered : (v : ImagesView) (h : ImageHeading) (plan : Plan) (calls : List ImageEvent) (slot : ℕ) (end : SlotEnd) → IsPlanOf h plan → StandsFor plan v calls → numbered slot (map end_terms (slots_of h)) ≡ Some end
+    → HasSlot v slot × IfSome (numbered slot (setups_of v)) (λ s. (sends s ≡ end.sends) × (profile_of s ≡ end.profile))
+ends-numbered v h plan calls zero end made stands at = absurd (cc at)
+ends-numbered v h plan calls (suc k) end made stands at =
+    let rest = ends-at plan.size_in calls (slots_of h) plan.places v.seats k end made.slots stands.slots at in
+    (record { first = omega arith; last = omega (arith, rest.0) }, rest.1)
+
+pub run_fits : (v : RunView) (h : ImageHeading) (log : List ImageEvent) (text : List ℕ) (e : ImageEvent) → RunStands v h log text → IsSaid image_format h e → FitsImages v.images e
+run_fits v h log text e r said =
+    let have : HaveEnds h.size_in (map end_terms (slots_of h)) v.images =
+    record { size_is = r.size_in ∙ r.made.size_in_is; ends_are = λ slot end at. ends-numbered v.images h r.plan (reverse log) slot end r.made r.images at }
+    in
+    let fits : IfOk (image_line h.size_in (map end_terms (slots_of h)) said.0) (OnStep (FitsImages v.images)) = fields-fit h.size_in (map end_terms (slots_of h)) v.images (fields_of said.0) have in
+    let one : OnStep (FitsImages v.images) said.1 = subst (λ (x : Result ImageLine LineCause). IfOk x (OnStep (FitsImages v.images))) said.2 fits in
+    step-fits (FitsImages v.images) said.1 e said.3 one
+
+-- at the end
+pub closes_so : (v : RunView) (h : ImageHeading) (log : List ImageEvent) (text last : List ℕ) (n : ℕ) → n ≡ length log → RunStands v h log text → last ≡ events_line n ++ codes "out " ++ encode_lower v.images.output ++ codes "\n"
+    → EndsReport image_reporting h log (text ++ last) (record { status = status.Ok; place = 0 })
+closes_so v h log text last n count r is =
+    λ lines.
+    ((r.plan, r.made, ap₂ (λ (a b : List ℕ). a ++ b) r.lines (is ∙ ap₂ (λ (m : ℕ) (out : List ℕ). events_line m ++ codes "out " ++ encode_lower out ++ codes "\n") (count ∙ sym (length-reverse log)) r.images.output_is)), refl)
+
+-- at the beginning
+pub all_new : (ss : List SlotHeader) (slots : List Slot) → AllZip IsMadeOf ss slots → All (λ slot. IsNew slot.core) slots
+all_new [] [] z = All-nil (λ slot. IsNew slot.core)
+all_new [] (slot ∷ slots) z = absurd z
+all_new (s ∷ ss) [] z = absurd z
+all_new (s ∷ ss) (slot ∷ slots) z = All-cons (λ slot. IsNew slot.core) slot slots z.0.new (all_new ss slots z.1)
+
+planned : (n : ℕ) (ss : List SlotHeader) (slots : List Slot) → AllZip IsMadeOf ss slots → AllZip IsSlotOf ss (places_from n slots)
+planned n [] [] z = tt
+planned n [] (slot ∷ slots) z = absurd z
+planned n (s ∷ ss) [] z = absurd z
+planned n (s ∷ ss) (slot ∷ slots) z = (record { at_in_is = z.0.at_in_is; at_out_is = z.0.at_out_is; end_is = z.0.end_is }, planned (suc n) ss slots z.1)
+
+pub begins_so : (v : RunView) (h : ImageHeading) (slots : List Slot) (size_in size_out : ℕ) → size_in ≡ h.size_in → size_out ≡ h.size_out → AllZip IsMadeOf (slots_of h) slots → StandsFor (plan_of size_in size_out slots) v.images []
+    → length v.images.input ≡ size_in → RunStands v h [] []
+begins_so v h slots size_in size_out e f made stands n = record {
+  plan = plan_of size_in size_out slots;
+  made = record { size_in_is = e; size_out_is = f; slots = planned 1 (slots_of h) slots made; numbers = numbered_so 1 slots };
+  images = stands;
+  lines = refl;
+  size_in = n;
+}

@@ -1,0 +1,10 @@
+use Rattle.std.proofs.Common.{◌≡◌, map, take}
+use Rattle.arrayvec.specs.ArrayVec.{array_vec_len}
+use Rattle.process_image.specs.Report.{end_terms}
+use Rattle.process_image.proofs.header.ImageHeader.ends.Given as goal
+
+abbrev pub invariant-loop-slot : goal.invariant-loop-slot
+invariant-loop-slot l = record {
+  ends : l.ends.items ≡ map end_terms (take l.slot-index l.slot-items);
+  len : array_vec_len l.ends ≡ l.slot-index;
+}

@@ -1,0 +1,7 @@
+use Rattle.std.proofs.Common.{take}
+use Rattle.std.specs.List.{AllZip}
+use Rattle.process_image.specs.Report.{IsMadeOf}
+use Rattle.process_image.proofs.header.ImageHeader.slots.Given as goal
+
+abbrev pub invariant-loop-slot : goal.invariant-loop-slot
+invariant-loop-slot l = AllZip IsMadeOf (take l.slot-index l.slot-items) l.slots.items

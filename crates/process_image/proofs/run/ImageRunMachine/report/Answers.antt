@@ -1,0 +1,24 @@
+use Rattle.std.proofs.Common.{◌≡◌, ◌∷◌, ◌++◌, [], ℕ, List, sym, ap, subst, ◌∙◌}
+use Rattle.process_image.specs.Ran.{RunView}
+use Rattle.process_image.specs.Standing.{ImagesView}
+use Rattle.process_image.specs.Telling.{DoesEvent, FitsImages, waits}
+use Rattle.process_image.proofs.Runs.{run_fits, same_images, takes_more}
+use Rattle.process_image.proofs.run.ImageRunMachine.report.Goals as goal
+
+pub take-requires-clause-fits : goal.take-requires-clause-fits
+take-requires-clause-fits c =
+    subst (λ (m : ImagesView). FitsImages m c.args.event.now) (sym (ap (λ (v : RunView). v.images) c.self.view_is))
+    (run_fits c.args.self.now c.requires.1.heading c.requires.1.log c.requires.1.text c.args.event.now c.requires.1.stands c.requires.1.said)
+
+pub returns-clause-takes_event : goal.returns-clause-takes_event
+returns-clause-takes_event c = λ first. record {
+  takes = λ h log text number stands.
+      let d : DoesEvent c.args.self.now.images c.args.event.now c.args.number c.take.new.self.images c.take.new.self.waiting.text =
+      subst (λ (m : ImagesView). DoesEvent m c.args.event.now c.args.number c.take.new.self.images c.take.new.self.waiting.text) (ap (λ (v : RunView). v.images) c.self.view_is) c.take.ensures
+      in
+      let is : c.give.new.part ++ waits c.give.new.self ≡ c.take.new.self.waiting.text =
+      sym c.give.ensures.part ∙ ap waits c.start.ensures ∙ ap (λ (v : RunView). v.waiting.text) c.self-2.view_is
+      in
+      same_images c.take.new.self _ h (log ++ c.args.event.now ∷ []) (text ++ c.take.new.self.waiting.text) (text ++ (c.give.new.part ++ waits c.give.new.self)) (sym (ap (λ (v : RunView). v.images) c.self-2.view_is))
+      (ap (λ (xs : List ℕ). text ++ xs) is) (takes_more c.args.self.now c.take.new.self h log text c.take.new.self.waiting.text c.args.event.now c.args.number d number stands);
+}

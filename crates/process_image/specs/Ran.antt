@@ -1,0 +1,60 @@
+-- How a run of images over an input ends, and what it reports.
+use Rattle.std.specs.Prelude.{◌≡◌, ℕ, false, List, length, reverse}
+use Rattle.fsoe_io.specs.declared.status.Ended.{Ended}
+use Rattle.fsoe_io.specs.declared.status.Status.TheVariants as status
+use Rattle.schedule_file.specs.Input.{InputFormat, InputOf, Stop, AtEnd, Refused}
+use Rattle.file_run.specs.Outside.{Outside}
+use Rattle.file_run.specs.Ran.{RanOver}
+use Rattle.file_run.specs.Reporting.{Reporting, BeforeEvents}
+use Rattle.process_image.specs.Header.{ImageHeading, image_heading_new, image_heading_after, image_heading_is_whole}
+use Rattle.process_image.specs.Places.{Plan}
+use Rattle.process_image.specs.Report.{IsPlanOf, IsImageReport, event_in, is_full, lines_of_events, said_after}
+use Rattle.process_image.specs.Standing.{ImagesView, StandsFor}
+use Rattle.process_image.specs.Telling.{WaitingText}
+use Rattle.process_image.specs.declared.event.ImageEvent.{ImageEvent}
+use Rattle.process_image.specs.declared.event.ImageLine.{ImageLine}
+
+-- how the lines of an input of images are read
+abbrev pub image_format : InputFormat ImageHeading ImageLine ImageEvent
+image_format = record {
+  start = image_heading_new;
+  header_line = image_heading_after;
+  is_whole = image_heading_is_whole;
+  line = said_after;
+  event = event_in;
+  is_full = is_full;
+}
+
+-- what an input of images says
+abbrev pub ImageInput : Type 0
+ImageInput = InputOf ImageHeading ImageEvent
+
+-- how a run ends whose input stops so, where neither a read nor a write failed
+abbrev pub image_ended : Stop → Ended
+image_ended AtEnd = record { status = status.Ok; place = 0 }
+image_ended (Refused number why) = record { status = status.Line; place = number }
+
+-- the whole report of an input, and how a run that writes it ends
+abbrev pub ImageReports : ImageInput → Ended → List ℕ → Type 0
+ImageReports input ended text = IsImageReport input.heading input.events input.stop text × (ended ≡ image_ended input.stop)
+
+-- what images report; all memory is taken before their first event
+abbrev pub image_reporting : Reporting ImageHeading ImageLine ImageEvent
+image_reporting = record { format = image_format; judges = false; memory = BeforeEvents; reports = ImageReports }
+
+-- images ran over an input
+abbrev pub RanImage : Ended → Outside → Type 0
+RanImage ended o = RanOver image_reporting ended o
+
+-- what contracts see of images that run: the images, and the text of the last event
+pub record RunView : Type 0 where
+  pub images : ImagesView
+  pub waiting : WaitingText
+
+-- images that were made as a header says stand for these events, of which this text has the lines
+pub record RunStands (v : RunView) (h : ImageHeading) (log : List ImageEvent) (text : List ℕ) : Type 0 where
+  pub plan : Plan
+  pub made : IsPlanOf h plan
+  pub images : StandsFor plan v.images (reverse log)
+  pub lines : text ≡ lines_of_events plan (reverse log)
+  pub size_in : length v.images.input ≡ plan.size_in

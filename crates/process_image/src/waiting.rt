@@ -1,0 +1,84 @@
+//! The text of an event, or of the end, and how much of it was handed out.
+ghost use Rattle.std.specs.Prelude.{◌≡◌, ◌≤◌, ◌+◌, ◌++◌, [], IfOk, length};
+ghost use Rattle.process_image.specs.Telling.{waits};
+
+use crate::seat::overwrite;
+use fsoe_base::Memory;
+use fsoe_io::LineText;
+use std::alloc::Global;
+use std::marker::Model;
+
+/// The most bytes of such a text: 64 lines of at most 1,024 bytes each.
+pub const MOST_TEXT: usize = 65_536;
+
+/// A text of at most `MOST_TEXT` bytes, of which so many were handed out.
+#[derive(Drop)]
+pub(crate) struct Waiting {
+    bytes: Vec<u8>,
+    len: usize,
+    given: usize,
+}
+
+impl Model for Waiting {
+    ghost use Rattle.std.specs.Prelude.{◌≡◌, ◌≤◌, length, take};
+    ghost use Rattle.process_image.specs.Telling.{WaitingText};
+    ghost use Rattle.process_image.specs.declared.waiting.TheConstants.{MOST_TEXT};
+
+    ghost Value = { WaitingText };
+
+    ghost view = { λ w. record { text = take w.len w.bytes.items; given = w.given } };
+
+    ghost invariant = { λ w. (w.given ≤ w.len) × (w.len ≤ MOST_TEXT) × (length w.bytes.items ≡ MOST_TEXT) };
+}
+
+impl Waiting {
+    /// No text, with room for all of it.
+    pub(crate) fn new(alloc: Global) -> Result<Waiting, Memory>
+        ensures { IfOk result (λ w. w ≡ record { text = []; given = 0 }) }
+    {
+        match vec![in alloc; 0; MOST_TEXT] {
+            Ok(bytes) => Ok(Waiting {
+                bytes,
+                len: 0,
+                given: 0,
+            }),
+            Err(_) => Err(Memory),
+        }
+    }
+
+    /// Forgets the text.
+    pub(crate) fn clear(&mut self)
+        ensures { self.new ≡ record { text = []; given = 0 } }
+    {
+        self.len = 0;
+        self.given = 0;
+    }
+
+    /// Begins to hand the text out.
+    pub(crate) fn start(&mut self)
+        ensures { self.new ≡ record { text = self.old.text; given = 0 } }
+    {
+        self.given = 0;
+    }
+
+    /// Appends a piece.
+    pub(crate) fn push(&mut self, piece: &[u8])
+        requires { length self.old.text + length piece.now ≤ MOST_TEXT }
+        ensures { self.new ≡ record { text = self.old.text ++ piece.now; given = self.old.given } }
+    {
+        overwrite(self.bytes.as_mut_slice(), self.len, piece);
+        self.len += piece.len();
+    }
+
+    /// Writes over `part` the next 1,024 bytes that weren't handed out, or those that are left.
+    pub(crate) fn give(&mut self, part: &mut LineText)
+        ensures part { waits self.old ≡ part.new ++ waits self.new }
+        ensures some { part.new ≡ [] → waits self.old ≡ [] }
+        ensures most { length (waits self.new) ≤ MOST_TEXT }
+    {
+        let count = (self.len - self.given).min(1024);
+        part.clear();
+        part.push(&self.bytes[self.given..self.given + count]);
+        self.given += count;
+    }
+}
