@@ -3,6 +3,9 @@
 `python3 frames.py END ticks N` and `python3 frames.py END frames LENGTH N` print a node file for `fsoe_tool node END`, where
 END is `master` or `slave`: N ticks, or the peer's frames of a session with N data frames. `python3 frames.py pair frames LENGTH N`
 prints a pair file for `fsoe_tool replay`, in which the last frame comes to each end in turn, so many times after the handshake.
+`python3 frames.py trace frames LENGTH N` prints the trace of a session with N data frames of each end for `fsoe_tool diagnose`.
+`python3 frames.py image samples N` prints 64 slots of slaves at lengths 2 and 2, and N samples, for `fsoe_tool image`, and
+`python3 frames.py image frames LENGTH N` one slot of a slave into which the master's frames of a session are written and sampled.
 """
 import sys
 
@@ -121,8 +124,17 @@ HEADERS["pair"] = HEADERS["master"] + HEADERS["slave"]
 
 
 def header(end, length):
-    kind = "pair" if end == "pair" else f"node {end}"
-    return f"fsoe 1 {kind}\nlengths {length} {length}\n{HEADERS[end]}go\n"
+    kind = end if end in ("pair", "trace") else f"node {end}"
+    return f"fsoe 1 {kind}\nlengths {length} {length}\n{HEADERS.get(end, '')}go\n"
+
+
+def image_header(slots, length):
+    """Slots of slaves side by side."""
+    frame = 6 if length == 1 else 3 + 2 * length
+    yield f"fsoe 1 image\nsize {slots * frame} {slots * frame}\n"
+    for slot in range(slots):
+        yield f"slot {slot + 1} {slot * frame} {slot * frame}\nlengths {length} {length}\n{HEADERS['slave']}"
+    yield "go\n"
 
 
 def frame_lines(end, length, data_frames):
@@ -141,9 +153,29 @@ def pair_lines(length, frames):
         yield "dm -1\n" if n % 2 else "ds -1\n"
 
 
+def trace_lines(length, data_frames):
+    for sent_by_master, sent_by_slave in session(length, data_frames, "slave"):
+        yield f"m {sent_by_master.hex()}\ns {sent_by_slave.hex()}\n"
+
+
+def written_lines(length, data_frames):
+    """The master's frames, each written into the only slot and then sampled."""
+    for sent_by_master, _ in session(length, data_frames, "slave"):
+        yield f"w 0 {sent_by_master.hex()}\ns\n"
+
+
 def main(end, what, *numbers):
     if what == "ticks":
         sys.stdout.write(header(end, 2) + "t\n" * int(numbers[0]))
+    elif what == "samples":
+        sys.stdout.writelines(image_header(64, 2))
+        sys.stdout.write("s\n" * int(numbers[0]))
+    elif end == "image":
+        sys.stdout.writelines(image_header(1, int(numbers[0])))
+        sys.stdout.writelines(written_lines(*map(int, numbers)))
+    elif end == "trace":
+        sys.stdout.write(header(end, int(numbers[0])))
+        sys.stdout.writelines(trace_lines(*map(int, numbers)))
     else:
         length, data_frames = map(int, numbers)
         sys.stdout.write(header(end, length))

@@ -10,7 +10,11 @@ use Rattle.fsoe_tool.specs.declared.command.Command.TheVariants as command
 
 -- the command of one word
 abbrev pub command_alone : List ℕ → Option Command
-command_alone word = if bytes_eq word (codes "replay") then Some command.Replay else None
+command_alone word =
+    if bytes_eq word (codes "replay") then Some command.Replay
+    else if bytes_eq word (codes "image") then Some command.Image
+    else if bytes_eq word (codes "diagnose") then Some command.Diagnose
+    else None
 
 -- the node at the end that a word names
 abbrev pub node_at : List ℕ → Option Command
@@ -25,8 +29,8 @@ bulk_of None events = None
 bulk_of (Some number) None = None
 bulk_of (Some number) (Some events) = if events == 0 then None else Some (command.Bulk number events)
 
--- the command that words name: `node master`, `node slave`, `replay`, or `bulk` with a number of at most 64 bits and from 1 to 200,000
--- events
+-- the command that words name: `node master`, `node slave`, `replay`, `image`, `diagnose`, or `bulk` with a number of at most 64 bits and from
+-- 1 to 200,000 events
 abbrev pub command_said : List (List ℕ) → Option Command
 command_said [] = None
 command_said (word ∷ []) = command_alone word

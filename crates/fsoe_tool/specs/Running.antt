@@ -7,16 +7,20 @@ use Rattle.file_run.specs.Outside.{Outside, Told}
 use Rattle.duo_run.specs.Bulk.{RanBulk}
 use Rattle.duo_run.specs.Replay.{RanReplay}
 use Rattle.node_runner.specs.Ran.{RanNode}
+use Rattle.process_image.specs.Ran.{RanImage}
+use Rattle.trace_diag.specs.Ran.{RanDiagnose}
 use Rattle.fsoe_tool.specs.Command.{usage_line}
 use Rattle.fsoe_tool.specs.declared.command.Command.{Command}
 use Rattle.fsoe_tool.specs.declared.command.Command.TheVariants as command
 
--- whether what the words name reads an input: a node and a replay do
+-- whether what the words name reads an input: all but the schedule of a number do
 abbrev pub reads_input : Option Command → Bool
 reads_input None = false
 reads_input (Some (command.Node end)) = true
 reads_input (Some command.Replay) = true
 reads_input (Some (command.Bulk number events)) = false
+reads_input (Some command.Image) = true
+reads_input (Some command.Diagnose) = true
 
 -- the usage line was written, with status 2; or a first part of it, where a write failed
 pub record RanUsage (ended : Ended) (sink : Told) : Type 0 where
@@ -29,3 +33,5 @@ Runs None ended o = RanUsage ended o.sink
 Runs (Some (command.Node end)) ended o = RanNode end ended o
 Runs (Some command.Replay) ended o = RanReplay ended o
 Runs (Some (command.Bulk number events)) ended o = RanBulk number events ended o.sink
+Runs (Some command.Image) ended o = RanImage ended o
+Runs (Some command.Diagnose) ended o = RanDiagnose ended o

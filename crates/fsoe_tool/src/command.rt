@@ -15,6 +15,10 @@ pub enum Command {
     Replay,
     /// To run both ends over the first so many events of the schedule of this number.
     Bulk { number: u64, events: u64 },
+    /// To run ends on fixed places of a cyclic image.
+    Image,
+    /// To judge a recorded trace.
+    Diagnose,
 }
 
 /// The command of one word.
@@ -23,6 +27,10 @@ fn command_alone(word: &str) -> Option<Command>
 {
     if word == "replay" {
         Some(Command::Replay)
+    } else if word == "image" {
+        Some(Command::Image)
+    } else if word == "diagnose" {
+        Some(Command::Diagnose)
     } else {
         None
     }
@@ -54,7 +62,7 @@ fn bulk_of(number: &str, events: &str) -> Option<Command>
     }
 }
 
-/// The command that words name, which are those after the program's name: `node master`, `node slave`, `replay`, or
+/// The command that words name, which are those after the program's name: `node master`, `node slave`, `replay`, `image`, `diagnose`, or
 /// `bulk <number> <events>` with a number of at most 64 bits and from 1 to 200,000 events.
 pub fn command_said(words: &[String]) -> Option<Command>
     ensures { result ≡ command_said (map string_bytes words.now) }

@@ -30,7 +30,7 @@ fn main(rt: HostRuntime) -> ExitCode {
         Ok(words) => {
             let mut source = StdSource::new(rt.stdin());
             let mut sink = StdSink::new(rt.stdout());
-            run(words.as_slice(), &mut source, &mut sink).status
+            run(rt.alloc(), words.as_slice(), &mut source, &mut sink).status
         }
         Err(_) => Status::Memory,
     };

@@ -21,7 +21,7 @@ fn run_over(
     let mut source = MemSource::new(bytes, most, vec![in rt.alloc(); read_fails]?);
     let made = MemSink::new(rt.alloc(), 100_000, most, vec![in rt.alloc(); write_fails]?);
     let mut sink = made.ok().ok_or("no memory")?;
-    let ended = run(owned.as_slice(), &mut source, &mut sink);
+    let ended = run(rt.alloc(), owned.as_slice(), &mut source, &mut sink);
     Ok((ended, sink))
 }
 
