@@ -95,6 +95,8 @@ impl Machine for PairRun {
 
     ghost waits = { λ run now. [] };
 
+    ghost parts = { λ run now. 0 };
+
     ghost closes = { λ first now. EndsReport replay_reporting };
 
     fn laws() {}

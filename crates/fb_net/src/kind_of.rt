@@ -17,12 +17,15 @@ pub type AppKind = KindOf<Box<dyn Application>>;
 
 /// An application under its name.
 #[derive(Drop)]
-pub struct AppEntry {
+pub struct EntryOf<H> {
     /// The name.
     pub name: String,
     /// The application.
-    pub app: Box<dyn Application>,
+    pub app: H,
 }
+
+/// An application within a box, under its name.
+pub type AppEntry = EntryOf<Box<dyn Application>>;
 
 impl<H: Application> Application for KindOf<H> {
     ghost use Rattle.fb_net.specs.declared.kind_of.KindOf.TheVariants.{Net as InNet, Handed as InHanded};

@@ -16,7 +16,7 @@ mod wire;
 mod zeros;
 
 pub use fault::NetFault;
-pub use kind_of::{AppEntry, AppKind, KindOf};
+pub use kind_of::{AppEntry, AppKind, EntryOf, KindOf};
 pub use making::has_bit;
 pub use mirror::Mirror;
 pub use net::Net;

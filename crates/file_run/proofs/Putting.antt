@@ -1,6 +1,6 @@
 -- Texts that go through a buffer part by part.
 use Rattle.std.proofs.Common.{◌≡◌, ℕ, ◌+◌, ◌≤◌, ◌<◌, true, false, List, [], ◌∷◌, ◌++◌, length, refl, arith, ap, ◌∙◌, sym, append_assoc, inl, inr}
-use Rattle.std.specs.Prelude.{◌==◌, Result, Ok, Err}
+use Rattle.std.specs.Prelude.{◌==◌, ◌≢◌, Result, Ok, Err}
 use Rattle.std.specs.declared.option.Option.{Option}
 use Rattle.std.proofs.lemmas.Bool.{eqb-true}
 use Rattle.std.proofs.lemmas.List.{append-nil, length-append}
@@ -46,31 +46,29 @@ pub is_none : (xs : List ℕ) → true ≡ length xs == 0 → xs ≡ []
 is_none [] e = refl
 is_none (x ∷ xs) e = let zero = eqb-true (length (x ∷ xs)) 0 (sym e) in absurd (omega (arith, zero))
 
-pub is_some : (xs : List ℕ) → false ≡ length xs == 0 → 0 < length xs
-is_some [] e = cc
-is_some (x ∷ xs) e = omega arith
+pub not_none : (ys xs : List ℕ) → xs ≡ ys → false ≡ length xs == 0 → ys ≢ []
+not_none ys [] same e = cc
+not_none ys (x ∷ xs) same e = λ none. let zero = ap (length {A = ℕ}) (same ∙ none) in omega (arith, zero)
 
 -- of a whole text some parts were put, and this is left
 pub record Putting (old now : OutputView) (w0 w : Option (List ℕ)) (whole left : List ℕ) : Type 0 where
   pub done : List ℕ
   pub passes : Passes old now w0 w done now.bytes
   pub is : whole ≡ done ++ left
-  pub count : now.sent + length now.bytes ≡ old.sent + length old.bytes + length done
 
 pub putting_none : (old : OutputView) (w : Option (List ℕ)) (whole : List ℕ) → Putting old old w w whole whole
-putting_none old w whole = record { done = []; passes = passes_none old w; is = refl; count = omega arith }
+putting_none old w whole = record { done = []; passes = passes_none old w; is = refl }
 
 split_whole : (whole done left part later : List ℕ) → whole ≡ done ++ left → left ≡ part ++ later → whole ≡ (done ++ part) ++ later
 split_whole whole done left part later e f = e ∙ ap (λ (z : List ℕ). done ++ z) f ∙ sym (append_assoc done part later)
 
 -- a part more
 pub putting_more : (old now new : OutputView) (w0 w1 w2 : Option (List ℕ)) (whole left part later : List ℕ) → Putting old now w0 w1 whole left → left ≡ part ++ later → Passes now new w1 w2 part new.bytes
-    → new.sent + length new.bytes ≡ now.sent + length now.bytes + length part → Putting old new w0 w2 whole later
-putting_more old now new w0 w1 w2 whole left part later k e p count = record {
+    → Putting old new w0 w2 whole later
+putting_more old now new w0 w1 w2 whole left part later k e p = record {
   done = k.done ++ part;
   passes = passes_both old now new w0 w1 w2 k.done part new.bytes k.passes p;
   is = split_whole whole k.done left part later k.is e;
-  count = omega (arith, count, k.count, length-append k.done part);
 }
 
 -- a part is lost
@@ -80,17 +78,10 @@ putting_lost error old now new w0 w1 w2 whole left part later k e p =
     rw (split_whole whole k.done left part later k.is e) (puts_lost error old new w0 w2 (k.done ++ part) later (puts_both {T = Unit {0}} (Err error) old now new w0 w1 w2 k.done part k.passes p))
 
 -- all is put
-pub putting_all : (old now : OutputView) (w0 w : Option (List ℕ)) (whole left : List ℕ) → Putting old now w0 w whole left → left ≡ [] → Passes old now w0 w whole now.bytes × (now.sent + length now.bytes ≡ old.sent + length old.bytes + length whole)
+pub putting_all : (old now : OutputView) (w0 w : Option (List ℕ)) (whole left : List ℕ) → Putting old now w0 w whole left → left ≡ [] → Passes old now w0 w whole now.bytes
 putting_all old now w0 w whole left k none =
     let all : whole ≡ k.done = k.is ∙ ap (λ (z : List ℕ). k.done ++ z) none ∙ append-nil k.done in
-    (rw all k.passes, rw all k.count)
-
--- what is left has its place
-pub putting_room : (old now : OutputView) (w0 w : Option (List ℕ)) (whole left part later : List ℕ) → Putting old now w0 w whole left → left ≡ part ++ later
-    → now.sent + length now.bytes + length part + length later ≡ old.sent + length old.bytes + length whole
-putting_room old now w0 w whole left part later k e =
-    let all = ap (length {A = ℕ}) (split_whole whole k.done left part later k.is e) in
-    omega (arith, k.count, all, length-append (k.done ++ part) later, length-append k.done part)
+    rw all k.passes
 
 -- after a text was put, what is written last is written after it
 pub writes_after : (old mid : OutputView) (w0 w1 w2 : Option (List ℕ)) (faults between after : ℕ) (text : List ℕ) (ended result : Ended) → Passes old mid w0 w1 text mid.bytes → faults ≤ between

@@ -22,7 +22,7 @@ use Rattle.file_run.specs.Halt.{Blames, Goes, Stalls}
 use Rattle.file_run.specs.HaltOf.{halt_stopped}
 use Rattle.file_run.specs.Begun.{Begins}
 use Rattle.file_run.specs.Header.{HaltsHeader, IsHeaderCutOff, most_lines}
-use Rattle.file_run.specs.Machine.{Keeps, TakesEvent, MayCome, most_waiting}
+use Rattle.file_run.specs.Machine.{Keeps, TakesEvent, MayCome, most_parts}
 use Rattle.file_run.specs.Outside.{Outside, Wrote}
 use Rattle.file_run.specs.Ran.{CameToEnd, EndsAs, EndsWhole, MayWant, ReportsReadLines}
 use Rattle.file_run.specs.Report.{refused_line}
@@ -62,7 +62,7 @@ pub record Running {H L E : Type 0} (r : Reporting H L E) (stands : Standing H E
   pub seen : Seen r.format heading header left0 left log
   pub took : TookLines lines left0 left
   pub sent : Sent w0 w waiting text
-  pub size : waiting.sent + length waiting.bytes ≤ (1024 + most_waiting) * events
+  pub size : waiting.sent + length waiting.bytes ≤ (1024 + 1024 * most_parts) * events
   pub count : length log ≡ events
   pub few : events ≤ MAX_EVENTS
   pub lined : lines ≡ header + events
@@ -150,11 +150,11 @@ event_seen r stands says full left0 b c w0 w waiting events lines event k finds 
     seen_more r.format k.heading k.header left0 b c k.log said.line event finds.0 k.seen finds.1 finds.2 (sym (fullness k.heading k.log k.text k.count k.stood) ∙ said.room) (sym (k.same finds.0) ∙ said.says) said.is
 
 -- the machine did it, and all its text was put
-pub running_event : {H L E : Type 0} (r : Reporting H L E) (old mid new : Standing H E) (says : Saying L) (full : Bool) (left0 b c w0 w1 w2 : Option (List ℕ)) (waiting now : OutputView) (events lines next : ℕ) (event : E) (piece waits : List ℕ)
+pub running_event : {H L E : Type 0} (r : Reporting H L E) (old mid new : Standing H E) (says : Saying L) (full : Bool) (left0 b c w0 w1 w2 : Option (List ℕ)) (waiting now : OutputView) (events lines next : ℕ) (event : E) (piece waits : List ℕ) (parts : ℕ)
     → Running r old says left0 b w0 w1 waiting events lines → FindsEvent r.format.event says full (Ok (Some event)) b c → IsFullness r old events full → (full ≡ false → events < MAX_EVENTS) → next ≡ lines + 1 → TakesEvent old mid event (events + 1) (piece ++ waits) → Keeps mid new
-    → Passes waiting now w1 w2 (piece ++ waits) now.bytes → now.sent + length now.bytes ≤ waiting.sent + length waiting.bytes + 1024 + length waits → length waits ≤ most_waiting
+    → Passes waiting now w1 w2 (piece ++ waits) now.bytes → now.sent + length now.bytes ≤ waiting.sent + length waiting.bytes + 1024 + 1024 * parts → parts ≤ most_parts
     → Running r new says left0 c w0 w2 now (events + 1) next
-running_event r old mid new says full left0 b c w0 w1 w2 waiting now events lines next event piece waits k finds fullness few step on keeps p size most =
+running_event r old mid new says full left0 b c w0 w1 w2 waiting now events lines next event piece waits parts k finds fullness few step on keeps p size most =
     let said = has_event r.format.event says full finds.0 event finds.3 in
     let below = few said.room in
     record {

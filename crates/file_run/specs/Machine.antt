@@ -17,9 +17,9 @@ pub record MayCome {H L E : Type 0} (old : H → List E → List ℕ → Type 0)
   pub number_is : number ≡ length log + 1
   pub few : number ≤ MAX_EVENTS
 
--- no event, nor the end, has more bytes to write than this after the first part of its text
-abbrev pub most_waiting : ℕ
-most_waiting = 1048576
+-- neither an event nor the end has more parts to write than this after the first part of its text
+abbrev pub most_parts : ℕ
+most_parts = 1048576
 
 -- a machine stands for some events
 abbrev pub IsStanding : {H E : Type 0} → (H → List E → List ℕ → Type 0) → Type 0

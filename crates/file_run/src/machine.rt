@@ -1,10 +1,10 @@
 //! What a command runs over the events of its input.
-ghost use Rattle.std.specs.Prelude.{◌≡◌, ◌<◌, ◌≤◌, ◌^◌, ℕ, ◌++◌, Bool, List, [], IsTrue, IfOk, IfErr, OnOk, OnErr, false, length};
+ghost use Rattle.std.specs.Prelude.{◌≡◌, ◌≢◌, ◌<◌, ◌≤◌, ◌^◌, ℕ, ◌++◌, Bool, List, [], IsTrue, IfOk, IfErr, OnOk, OnErr, false, length};
 ghost use Rattle.fsoe_io.specs.declared.status.Ended.{Ended};
 ghost use Rattle.schedule_file.specs.Input.{InputCause, Refused, input_read};
 ghost use Rattle.schedule_file.specs.declared.event.TheConstants.{MAX_EVENTS};
 ghost use Rattle.file_run.specs.Header.{most_lines};
-ghost use Rattle.file_run.specs.Machine.{IsStanding, Keeps, MayCome, TakesEvent, most_waiting};
+ghost use Rattle.file_run.specs.Machine.{IsStanding, Keeps, MayCome, TakesEvent, most_parts};
 ghost use Rattle.file_run.specs.Ran.{EndsWhole};
 ghost use Rattle.file_run.specs.Report.{refused_line};
 ghost use Rattle.file_run.specs.Reporting.{EndsReport, EndsStopped, Reporting, ReportsSoFar, TakesMemory, input_headless, refused_at};
@@ -31,6 +31,9 @@ pub trait Machine: Drop {
 
     // What is still to be written of the last event, or of the end.
     ghost waits: { Self → Self.Handed → List ℕ };
+
+    // In how many parts that comes at most.
+    ghost parts: { Self → Self.Handed → ℕ };
 
     // Handed this first and now that, it did these events after this header: then this is the whole report, and the run ends so.
     ghost closes: { Self.Handed → Self.Handed → Self.Format.Header → List Self.Format.Event → List ℕ → Ended → Type 0 };
@@ -79,7 +82,7 @@ pub trait Machine: Drop {
     ) -> Result<(), Stopped>
         requires { (first : Self.Handed) × MayCome (stands first self.old handed.old) (reporting first).format event.now number }
         ensures takes_event { OnOk result ((first : Self.Handed) → TakesEvent (stands first self.old handed.old) (stands first self.new handed.new) event.now number (text.new ++ waits self.new handed.new)) }
-        ensures most { OnOk result (length (waits self.new handed.new) ≤ most_waiting) }
+        ensures most { OnOk result (parts self.new handed.new ≤ most_parts) }
         ensures stopped { IfErr result (λ why. (first : Self.Handed) (h : Self.Format.Header) (log : List Self.Format.Event) (text : List ℕ) → stands first self.old handed.old h log text → EndsStopped (reporting first) h log text event.now why) }
         ensures kept { OnErr result ((first : Self.Handed) → Keeps (stands first self.old handed.old) (stands first self.new handed.new)) };
 
@@ -87,7 +90,7 @@ pub trait Machine: Drop {
     fn close(&mut self, handed: &Self::Handed, events: u64, text: &mut LineText) -> Ended
         ensures closes { (first : Self.Handed) (h : Self.Format.Header) (log : List Self.Format.Event) (lines : List ℕ) → length log ≡ events → stands first self.old handed.now h log lines → closes first handed.now h log (lines ++ (text.new ++ waits self.new handed.now)) result }
         ensures ends { (first : Self.Handed) (h : Self.Format.Header) (log : List Self.Format.Event) (lines : List ℕ) → stands first self.old handed.now h log lines → EndsWhole (reporting first).judges result.status result.place }
-        ensures most { length (waits self.new handed.now) ≤ most_waiting }
+        ensures most { parts self.new handed.now ≤ most_parts }
         ensures kept { (first : Self.Handed) → Keeps (stands first self.old handed.now) (stands first self.new handed.now) };
 
     /// Writes the next part of what waits; nothing only where nothing waits.
@@ -95,5 +98,6 @@ pub trait Machine: Drop {
         requires { (first : Self.Handed) × IsStanding (stands first self.old handed.now) }
         ensures part { waits self.old handed.now ≡ text.new ++ waits self.new handed.now }
         ensures some { text.new ≡ [] → waits self.old handed.now ≡ [] }
+        ensures fewer { text.new ≢ [] → parts self.new handed.now < parts self.old handed.now }
         ensures kept { (first : Self.Handed) → Keeps (stands first self.old handed.now) (stands first self.new handed.now) };
 }

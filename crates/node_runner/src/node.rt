@@ -145,6 +145,8 @@ impl Machine for MasterNode {
 
     ghost waits = { λ v now. [] };
 
+    ghost parts = { λ v now. 0 };
+
     ghost closes = { λ first now. EndsReport (node_reporting side.Master) };
 
     fn laws() {}
@@ -209,6 +211,8 @@ impl Machine for SlaveNode {
     ghost stands = { λ first v now. SlaveStands v.slave };
 
     ghost waits = { λ v now. [] };
+
+    ghost parts = { λ v now. 0 };
 
     ghost closes = { λ first now. EndsReport (node_reporting side.Slave) };
 

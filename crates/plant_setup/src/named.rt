@@ -3,7 +3,8 @@ ghost use Rattle.std.specs.Prelude.{◌≡◌, ℕ, List, ◌<◌, MatchOption, 
 ghost use Rattle.plant_setup.specs.Names.{place_of, IsTaken};
 
 use black_channel::Channel;
-use fb_net::AppEntry;
+use failsafe_io::Application;
+use fb_net::EntryOf;
 
 /// What has a name.
 pub(crate) trait HasName {
@@ -15,7 +16,7 @@ pub(crate) trait HasName {
         ensures { result.now ≡ name_of self.now };
 }
 
-impl HasName for AppEntry {
+impl<H: Application> HasName for EntryOf<H> {
     ghost use Rattle.std.specs.Prelude.{string_bytes};
 
     ghost name_of = { λ entry. string_bytes entry.name };

@@ -238,6 +238,8 @@ impl Machine for ImageRun {
 
     ghost waits = { λ v now. waits v.waiting };
 
+    ghost parts = { λ v now. length (waits v.waiting) };
+
     ghost closes = { λ first now. EndsReport image_reporting };
 
     fn laws() {}

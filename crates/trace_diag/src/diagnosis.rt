@@ -32,6 +32,8 @@ impl Machine for Diagnosis {
 
     ghost waits = { λ v now. [] };
 
+    ghost parts = { λ v now. 0 };
+
     ghost closes = { λ first now. EndsReport diagnose_reporting };
 
     fn laws() {}

@@ -1,6 +1,5 @@
-use Rattle.std.proofs.Common.{◌++◌, ◌∙◌, ℕ, ap, arith, length, sym}
-use Rattle.std.proofs.lemmas.List.{length-append}
-use Rattle.file_run.proofs.Putting.{is_none, is_some, putting_all, putting_lost, putting_more, putting_none, putting_room}
+use Rattle.std.proofs.Common.{◌∙◌, arith, sym}
+use Rattle.file_run.proofs.Putting.{is_none, not_none, putting_all, putting_lost, putting_more, putting_none}
 use Rattle.file_run.proofs.Taking.{still_stands}
 use Rattle.file_run.proofs.Sending.{rose_since}
 use Rattle.file_run.proofs.parts.put_waiting.Goals as goal
@@ -9,6 +8,7 @@ pub loop-part-init : goal.loop-part-init
 loop-part-init g c = record {
   putting = putting_none c.args.output.now (g.K.Sink.written c.args.sink.now) (g.M.Machine.waits c.args.machine.now c.args.handed.now);
   kept = λ first h log text stood. stood;
+  room = omega arith;
   later = omega arith;
 }
 
@@ -19,11 +19,10 @@ more-requires g c =
 
 pub returns-then-is_empty-clause-puts : goal.returns-then-is_empty-clause-puts
 returns-then-is_empty-clause-puts g c =
-    (putting_all _ _ _ _ _ _ c.loop-part.invariant.putting (c.more.ensures.some (sym c.bytes-part.ensures.value ∙ is_none c.bytes-part.result.now (sym c.if-is_empty.true ∙ c.is_empty.ensures)))).0
+    putting_all _ _ _ _ _ _ c.loop-part.invariant.putting (c.more.ensures.some (sym c.bytes-part.ensures.value ∙ is_none c.bytes-part.result.now (sym c.if-is_empty.true ∙ c.is_empty.ensures)))
 
 pub returns-then-is_empty-clause-count : goal.returns-then-is_empty-clause-count
-returns-then-is_empty-clause-count g c =
-    (putting_all _ _ _ _ _ _ c.loop-part.invariant.putting (c.more.ensures.some (sym c.bytes-part.ensures.value ∙ is_none c.bytes-part.result.now (sym c.if-is_empty.true ∙ c.is_empty.ensures)))).1
+returns-then-is_empty-clause-count g c = omega (arith, c.loop-part.invariant.room)
 
 pub returns-then-is_empty-clause-kept : goal.returns-then-is_empty-clause-kept
 returns-then-is_empty-clause-kept g c = λ first h log text stood. c.more.ensures.kept first h log text (c.loop-part.invariant.kept first h log text stood)
@@ -32,21 +31,18 @@ pub returns-then-is_empty-clause-cause : goal.returns-then-is_empty-clause-cause
 returns-then-is_empty-clause-cause g c = record { later = c.loop-part.invariant.later; failed = tt }
 
 pub put-requires-clause-count : goal.put-requires-clause-count
-put-requires-clause-count g c =
-    let room = putting_room _ _ _ _ _ _ c.more.new.text (g.M.Machine.waits c.more.new.self c.args.handed.now) c.loop-part.invariant.putting c.more.ensures.part in
-    omega (arith, room, c.requires.room)
+put-requires-clause-count g c = omega (arith, c.loop-part.invariant.room, c.requires.room)
 
 pub loop-part-smaller : goal.loop-part-smaller
-loop-part-smaller g c =
-    let some = is_some c.bytes-part.result.now (sym c.if-is_empty.false ∙ c.is_empty.ensures) in
-    let all = ap (length {A = ℕ}) c.more.ensures.part in
-    let is = ap (length {A = ℕ}) c.bytes-part.ensures.value in
-    omega (arith, all, some, is, length-append c.more.new.text (g.M.Machine.waits c.more.new.self c.args.handed.now))
+loop-part-smaller g c = c.more.ensures.fewer (not_none c.more.new.text c.bytes-part.result.now c.bytes-part.ensures.value (sym c.if-is_empty.false ∙ c.is_empty.ensures))
 
 pub loop-part-preserved : goal.loop-part-preserved
 loop-part-preserved g c = record {
-  putting = putting_more _ _ _ _ _ _ _ _ c.bytes-part.result.now _ c.loop-part.invariant.putting (rw c.bytes-part.ensures.value c.more.ensures.part) c.in_default.ensures.puts c.in_default.ensures.count;
+  putting = putting_more _ _ _ _ _ _ _ _ c.bytes-part.result.now _ c.loop-part.invariant.putting (rw c.bytes-part.ensures.value c.more.ensures.part) c.in_default.ensures.puts;
   kept = λ first h log text stood. c.more.ensures.kept first h log text (c.loop-part.invariant.kept first h log text stood);
+  room =
+      let fewer = c.more.ensures.fewer (not_none c.more.new.text c.bytes-part.result.now c.bytes-part.ensures.value (sym c.if-is_empty.false ∙ c.is_empty.ensures)) in
+      omega (arith, fewer, c.loop-part.invariant.room, c.in_default.ensures.count, c.bytes-part.ensures.most);
   later = omega (arith, c.loop-part.invariant.later, c.in_default.ensures.cause.later);
 }
 

@@ -97,7 +97,7 @@ loop-output-preserved g c =
     record {
       source_later = omega (arith, c.loop-output.invariant.source_later, next.later);
       sink_later = omega (arith, c.loop-output.invariant.sink_later, c.in_default.ensures.cause.later, c.in_default-put_text.ensures.cause.later);
-      running = running_event (g.M.Machine.reporting c.args.handed.now) (g.M.Machine.stands c.args.handed.now c.loop-output.machine c.loop-output.handed) (g.M.Machine.stands c.args.handed.now c.report.new.self c.report.new.handed) (g.M.Machine.stands c.args.handed.now c.put_text.new.machine c.report.new.handed) _ c.is_full-full.result _ _ _ _ _ _ _ _ _ _ _ c.in-Some.event.now c.report.new.text _
+      running = running_event (g.M.Machine.reporting c.args.handed.now) (g.M.Machine.stands c.args.handed.now c.loop-output.machine c.loop-output.handed) (g.M.Machine.stands c.args.handed.now c.report.new.self c.report.new.handed) (g.M.Machine.stands c.args.handed.now c.put_text.new.machine c.report.new.handed) _ c.is_full-full.result _ _ _ _ _ _ _ _ _ _ _ c.in-Some.event.now c.report.new.text _ _
           sent finds (c.is_full-full.ensures.full c.args.handed.now) c.is_full-full.ensures.few next.goes on (c.in_default-put_text.ensures.kept c.args.handed.now) c.in_default-put_text.ensures.puts c.in_default-put_text.ensures.count c.in_default-report.ensures.most;
     }
 
