@@ -97,7 +97,7 @@ extern "C" {
 
 /* The memory of an end. gp_slave_size() and gp_master_size() answer the same numbers. */
 #define GP_SLAVE_SIZE 4456
-#define GP_MASTER_SIZE 2328
+#define GP_MASTER_SIZE 2320
 
 /* The most safe data bytes of a frame, bytes of a frame, and bytes of application parameters. */
 #define GP_MOST_DATA 126

@@ -14,27 +14,26 @@ use Rattle.seq_chain.specs.declared.opened.Opened.TheVariants as opened_as
 use Rattle.seq_chain.specs.Opened.{opened}
 use Rattle.seq_chain.specs.SessionFrame.{SessionFrameView}
 use Rattle.end_model.specs.Setup.{OfMaster, receives}
-use Rattle.master_core.specs.declared.due.Next.{Next}
-use Rattle.master_core.specs.declared.due.Next.TheVariants as next
-use Rattle.master_core.specs.declared.now.Now.{Now}
-use Rattle.master_core.specs.declared.now.Now.TheVariants as now
+use Rattle.master_core.specs.declared.phase.Phase.{Phase}
+use Rattle.master_core.specs.declared.phase.Phase.TheVariants as phase
 use Rattle.master_core.specs.Calls.{tells_due}
 use Rattle.master_core.specs.Kit.{KitView}
 use Rattle.fsoe_base.specs.Did.{takes, resets}
 use Rattle.end_model.specs.Verdict.{is_repeat}
 use Rattle.master_core.specs.Master.{Accepted, drops, makes_due, settles, refuses, on_session, accepted_by, accepted}
 use Rattle.master_core.specs.MasterView.{MasterView}
-use Rattle.master_core.specs.Now.{is_reset, is_due, kept_in, fault, next_state}
+use Rattle.master_core.specs.Now.{is_due}
+use Rattle.master_core.specs.Phase.{is_reset, kept_in, fault, next_phase}
 
 -- a kit with another offer and another nonce
 abbrev with_both : KitView → OfferView → ℕ → KitView
 with_both k o n = record { settings = k.settings; offer = o; nonce = n }
 
 -- what a frame leads to doesn't depend on them
-taken-with : (now : Now) (k : KitView) (o : OfferView) (n : ℕ) (f : SessionFrameView) → next_state (with_both k o n) now f ≡ next_state k now f
-taken-with (now.Session s) k o n f = refl
-taken-with (now.Connection s) k o n f = refl
-taken-with (now.Parameter s) k o n f = refl
+taken-with : (p : Phase) (k : KitView) (o : OfferView) (n : ℕ) (f : SessionFrameView) → next_phase (with_both k o n) p f ≡ next_phase k p f
+taken-with (phase.Session s) k o n f = refl
+taken-with (phase.Connection s) k o n f = refl
+taken-with (phase.Parameter s) k o n f = refl
 taken-with _ k o n f = refl
 
 abbrev pub view_with : MasterView → OfferView → ℕ → MasterView
@@ -43,36 +42,36 @@ view_with v o n = record { kit = with_both v.kit o n; state = v.state; timer = v
 -- both masters drop a frame, or the same frame is due at both, and is told to be
 pub data Alike (v w : MasterView) : Accepted → Accepted → Type 0 where
   Drops : (why : Dropped) → Alike v w (drops v why) (drops w why)
-  MakesDue : (n : Next) (did : Did) → tells_due did ≡ true → Alike v w (makes_due v n did) (makes_due w n did)
+  MakesDue : (p : Phase) (did : Did) → tells_due did ≡ true → Alike v w (makes_due v p did) (makes_due w p did)
 
 either : (b : Bool) (v w : MasterView) (x y x' y' : Accepted) → Alike v w x x' → Alike v w y y' → Alike v w (if b then x else y) (if b then x' else y')
 either true v w x y x' y' h i = h
 either false v w x y x' y' h i = i
 
-settled : (r : Result Next Code) (v w : MasterView) (f : SessionFrameView) → Alike v w (settles v f r) (settles w f r)
+settled : (r : Result Phase Code) (v w : MasterView) (f : SessionFrameView) → Alike v w (settles v f r) (settles w f r)
 settled (Ok n) v w f = MakesDue n (takes f.command f.frame.load true) refl
-settled (Err x) v w f = MakesDue (next.Reset x) (resets true (cause.Found x)) refl
+settled (Err x) v w f = MakesDue (phase.Reset x) (resets true (cause.Found x)) refl
 
 refused : (x : Code) (v : MasterView) (o : OfferView) (n : ℕ) → Alike v (view_with v o n) (refuses v x) (refuses (view_with v o n) x)
-refused x v o n = either (is_reset v.state) v (view_with v o n) _ _ _ _ (Drops dropped.InReset) (MakesDue (next.Reset x) (resets false (cause.Found x)) refl)
+refused x v o n = either (is_reset v.state.phase) v (view_with v o n) _ _ _ _ (Drops dropped.InReset) (MakesDue (phase.Reset x) (resets false (cause.Found x)) refl)
 
 in_session : (found : Option Code) (v : MasterView) (o : OfferView) (n : ℕ) (f : SessionFrameView) → Alike v (view_with v o n) (on_session v f found) (on_session (view_with v o n) f found)
 in_session None v o n f =
-    subst (λ (r : Result Next Code). Alike v (view_with v o n) (settles v f (next_state v.kit v.state f)) (settles (view_with v o n) f r))
-    (sym (taken-with v.state v.kit o n f)) (settled (next_state v.kit v.state f) v (view_with v o n) f)
+    subst (λ (r : Result Phase Code). Alike v (view_with v o n) (settles v f (next_phase v.kit v.state.phase f)) (settles (view_with v o n) f r))
+    (sym (taken-with v.state.phase v.kit o n f)) (settled (next_phase v.kit v.state.phase f) v (view_with v o n) f)
 in_session (Some x) v o n f = refused x v o n
 
 by_opened : (w : Opened) (v : MasterView) (o : OfferView) (n : ℕ) → Alike v (view_with v o n) (accepted_by v w) (accepted_by (view_with v o n) w)
 by_opened (opened_as.Drop why) v o n = Drops why
 by_opened (opened_as.Refuse x) v o n = refused x v o n
 by_opened (opened_as.ResetFrame x f) v o n =
-    either (is_reset v.state) v (view_with v o n) _ _ _ _
-    (either (x.0 == 0) v (view_with v o n) _ _ _ _ (MakesDue (next.Begin (bytes_of f)) (takes command.Reset f.load false) refl) (Drops dropped.InReset))
-    (MakesDue (next.Reset (code 0)) (resets false (cause.Peer x)) refl)
-by_opened (opened_as.OfSession f) v o n = in_session (fault v.kit.settings v.state f) v o n f
+    either (is_reset v.state.phase) v (view_with v o n) _ _ _ _
+    (either (x.0 == 0) v (view_with v o n) _ _ _ _ (MakesDue (phase.Begin (bytes_of f)) (takes command.Reset f.load false) refl) (Drops dropped.InReset))
+    (MakesDue (phase.Reset (code 0)) (resets false (cause.Peer x)) refl)
+by_opened (opened_as.OfSession f) v o n = in_session (fault v.kit.settings v.state.phase f) v o n f
 
 pub accepts_alike : (v : MasterView) (o : OfferView) (n : ℕ) (bytes : List ℕ) → Alike v (view_with v o n) (accepted v bytes) (accepted (view_with v o n) bytes)
-accepts_alike v o n bytes = by_opened (opened (receives (OfMaster v.kit.settings)) (is_repeat (kept_in v.state) bytes) bytes) v o n
+accepts_alike v o n bytes = by_opened (opened (receives (OfMaster v.kit.settings)) (is_repeat (kept_in v.state.phase) bytes) bytes) v o n
 
 -- the kit stays
 pub kit_kept : (v w : MasterView) (a b : Accepted) → Alike v w a b → a.master.kit ≡ v.kit

@@ -17,8 +17,8 @@ use Rattle.end_model.specs.Step.{on_verdict, did_on, IsProper, IsRun}
 use Rattle.end_model.specs.Verdict as model
 use Rattle.master_core.specs.After.{after}
 use Rattle.master_core.specs.Master.{Accepted, settles, answered_by}
-use Rattle.master_core.specs.Now.{next_state}
-use Rattle.master_core.specs.ViewOf.{notes_of, kit_of, now_in, view_in, view_of}
+use Rattle.master_core.specs.Phase.{next_phase}
+use Rattle.master_core.specs.ViewOf.{notes_of, kit_of, phase_in, view_in, view_of}
 use Rattle.master_core.proofs.Sound.{Sound, SoundAt}
 use Rattle.master_core.proofs.SameVerdict.{came, Came, Same, Drops, Refuses, ByReset, Passes, same}
 use Rattle.master_core.proofs.Agrees.{Agrees, drop-agrees, refuse-agrees, falls-agree, put-agrees, hold-agrees, nonce-agrees, tick-agrees}
@@ -32,7 +32,7 @@ use Rattle.master_core.proofs.TakenData.{process-passed, failsafe-passed}
 -- a frame that passed its tests
 passed-agrees : (p : State) (ms : MasterSettings) (e : List Deed) (bytes : List ℕ) (c : Command) → SoundAt p ms e → Came p ms bytes c → Arrived ms bytes → Sound ms e
     → Agrees ms e (move.Deliver bytes) (on_verdict p (OfMaster ms) (model.judged_contents c (came ms bytes).load (model.contents (OfMaster ms) e c (came ms bytes))))
-    (answered_by (settles (view_in p ms e) (record { command = c; frame = came ms bytes }) (next_state (kit_of ms e) (now_in p ms (notes_of ms e)) (record { command = c; frame = came ms bytes }))))
+    (answered_by (settles (view_in p ms e) (record { command = c; frame = came ms bytes }) (next_phase (kit_of ms e) (phase_in p ms (notes_of ms e)) (record { command = c; frame = came ms bytes }))))
 passed-agrees state.Session ms e bytes command.Session h k a s = session-passed ms e bytes h a s
 passed-agrees state.Connection ms e bytes command.Connection h k a s = connection-passed ms e bytes h a s
 passed-agrees state.Parameter ms e bytes command.Parameter h k a s = parameter-passed ms e bytes h a s

@@ -20,12 +20,13 @@ use Rattle.end_model.specs.Setup.{OfMaster}
 use Rattle.end_model.specs.Deed.{Deed}
 use Rattle.end_model.specs.Readiness.{state_of, ticks}
 use Rattle.end_model.specs.Step.{on_fault, on_expiry, code_sent, deed_of}
-use Rattle.master_core.specs.declared.now.Now.{Now}
+use Rattle.master_core.specs.declared.phase.Phase.{Phase}
 use Rattle.master_core.specs.Kit.{KitView}
 use Rattle.master_core.specs.After.{with_kit}
 use Rattle.master_core.specs.Master.{Outcome, drops, ends, refuses, answered_by, falls, at_limit, tick_of}
 use Rattle.master_core.specs.MasterView.{MasterView}
-use Rattle.master_core.specs.ViewOf.{notes_of, kit_of, now_in, view_in, view_of}
+use Rattle.master_core.specs.Now.{at_rest}
+use Rattle.master_core.specs.ViewOf.{notes_of, kit_of, phase_in, view_in, view_of}
 use Rattle.master_core.proofs.Sound.{Sound}
 
 -- bytes that are delivered are bytes
@@ -41,31 +42,21 @@ pub record Agrees (ms : MasterSettings) (e : List Deed) (m : Move) (d : Did) (o 
   pub sound : Sound ms (deed_of (OfMaster ms) e m d ∷ e)
 
 -- a master by its parts
-abbrev pub master_at : KitView → Now → ℕ → ℕ → MasterView
-master_at kit now limit age = record { kit = kit; state = now; timer = record { limit = limit; age = age } }
+abbrev pub master_at : KitView → Phase → ℕ → ℕ → MasterView
+master_at kit phase limit age = record { kit = kit; state = at_rest phase; timer = record { limit = limit; age = age } }
 
-pub same_master : (k k' : KitView) (n n' : Now) (l a a' : ℕ) → k ≡ k' → n ≡ n' → a ≡ a' → master_at k n l a ≡ master_at k' n' l a'
-same_master k k' n n' l a a' h i g = rw (h, i, g) refl
-
--- a machine at rest sends nothing after a drop
-at-rest : (p : State) (ms : MasterSettings) (e : List Deed) (because : Dropped) → answered_by (drops (view_in p ms e) because) ≡ record { master = view_in p ms e; did = dropped because; sent = [] }
-at-rest state.Reset ms e because = refl
-at-rest state.Session ms e because = refl
-at-rest state.Connection ms e because = refl
-at-rest state.Parameter ms e because = refl
-at-rest state.Data ms e because = refl
+pub same_master : (k k' : KitView) (p p' : Phase) (l a a' : ℕ) → k ≡ k' → p ≡ p' → a ≡ a' → master_at k p l a ≡ master_at k' p' l a'
+same_master k k' p p' l a a' h i g = rw (h, i, g) refl
 
 -- a frame is dropped
 pub drop-agrees : (p : State) (ms : MasterSettings) (e : List Deed) (bytes : List ℕ) (because : Dropped) → state_of (OfMaster ms) e ≡ p → Sound ms e
     → Agrees ms e (move.Deliver bytes) (dropped because) (answered_by (drops (view_in p ms e) because))
-drop-agrees p ms e bytes because now s =
-    subst (λ (o : Outcome). Agrees ms e (move.Deliver bytes) (dropped because) o) (sym (at-rest p ms e because))
-    (record {
-      view = λ r. ap (λ (p : State). view_in p ms e) now;
-      did = refl;
-      sent = refl;
-      sound = record { in_state = s.in_state; offer_len = s.offer_len; young = s.young };
-    })
+drop-agrees p ms e bytes because now s = record {
+  view = λ r. ap (λ (p : State). view_in p ms e) now;
+  did = refl;
+  sent = refl;
+  sound = record { in_state = s.in_state; offer_len = s.offer_len; young = s.young };
+}
 
 -- the session ends
 pub resets-agree : (p : State) (ms : MasterSettings) (e : List Deed) (m : Move) (passed : Bool) (because : Cause) (x : Code)
@@ -140,7 +131,7 @@ counts : (p : State) (ms : MasterSettings) (e : List Deed) (b : Bool) → state_
     → Agrees ms e move.Tick (if b then on_expiry p (OfMaster ms) else nothing) (tick_by b (view_in p ms e))
 counts p ms e true now h s = expiry-agrees p ms e now s
 counts p ms e false now h s = record {
-  view = λ r. same_master _ _ _ _ _ _ _ refl (ap (λ (p : State). now_in p ms (notes_of ms e)) now) (one-more (ticks (OfMaster ms) e));
+  view = λ r. same_master _ _ _ _ _ _ _ refl (ap (λ (p : State). phase_in p ms (notes_of ms e)) now) (one-more (ticks (OfMaster ms) e));
   did = refl;
   sent = refl;
   sound = record { in_state = s.in_state; offer_len = s.offer_len; young = later (ticks (OfMaster ms) e) ms.watchdog h };

@@ -24,8 +24,7 @@ use Rattle.end_model.specs.Readiness.{state_of}
 use Rattle.end_model.specs.Step.{takes_frame, on_reset_frame, begun, deed_of}
 use Rattle.end_model.proofs.Links.{taken_crc}
 use Rattle.end_model.proofs.ReadBack.{read_back}
-use Rattle.master_core.specs.declared.due.Next.TheVariants as next
-use Rattle.master_core.specs.declared.now.Now.TheVariants as now
+use Rattle.master_core.specs.declared.phase.Phase.TheVariants as phase
 use Rattle.fsoe_base.specs.Did.{takes as accepts}
 use Rattle.seq_chain.specs.Chain.{fresh, chain_sent, frame_sent}
 use Rattle.master_core.specs.Master.{Outcome, drops, makes_due, begins, answered_by}
@@ -69,7 +68,7 @@ begins-after ms e bytes h a s =
     let sent_is : frame_sent fresh 0 command.Session (first_load ms e) ≡ seal (OfMaster ms) (since e) 0 command.Session (first_load ms e) = sym (sealed-fresh (OfMaster ms) (since e) 0 command.Session (first_load ms e) none) in
     record {
       view = λ r. same_master _ _ _ _ _ _ _ refl
-          (ap now.Session (same_exchange _ _ _ _ _ _ _ _ _ _
+          (ap phase.Session (same_exchange _ _ _ _ _ _ _ _ _ _
           (chain-begun (OfMaster ms) (since e) bytes (came ms bytes).load (frame_sent fresh 0 command.Session (first_load ms e)) (first_load ms e) 0 command.Session refl (ap (λ (f : List ℕ). frame_of ms.lengths.master f) sent_is ∙ read_back (OfMaster ms) (since e) 0 command.Session (first_load ms e) full)
           ∙ ap (λ (chain : Chain). chain_sent chain 0 command.Session (first_load ms e)) none)
           (ap (λ (i : ℕ). session_payload i ms.profile) (there _ _ 0 id_is)) (none_before _ c (ap (λ (n : Notes). n.session) h)) (sym (a.back r))))
@@ -93,7 +92,7 @@ begins-sent ms e bytes h =
 -- in state Reset the Reset frame with code 0 begins a session, another one is dropped
 by-code : (ms : MasterSettings) (e : List Deed) (bytes : List ℕ) (b : Bool) → state_of (OfMaster ms) e ≡ state.Reset → notes_of ms e ≡ no_notes ms → Arrived ms bytes → Sound ms e
     → Agrees ms e (move.Deliver bytes) (if b then takes_frame command.Reset (came ms bytes).load else dropped why.InReset)
-    (answered_by (if b then makes_due (view_in state.Reset ms e) (next.Begin (bytes_of (came ms bytes))) (accepts command.Reset (came ms bytes).load false) else drops (view_in state.Reset ms e) why.InReset))
+    (answered_by (if b then makes_due (view_in state.Reset ms e) (phase.Begin (bytes_of (came ms bytes))) (accepts command.Reset (came ms bytes).load false) else drops (view_in state.Reset ms e) why.InReset))
 by-code ms e bytes true at h a s = takes-agree ms e bytes command.Reset (begun_outcome ms e bytes) (begins-after ms e bytes h a s) refl (begins-sent ms e bytes h)
 by-code ms e bytes false at h a s = drop-agrees state.Reset ms e bytes why.InReset at s
 

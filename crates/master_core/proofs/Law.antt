@@ -15,13 +15,13 @@ use Rattle.end_model.specs.Step.{did_on, IsProper, IsRun}
 use Rattle.end_model.specs.Outputs.{zeros, outputs, out}
 use Rattle.end_model.proofs.Runs.{set_deed}
 use Rattle.end_model.proofs.Shown.{looking_back, fail_safe}
-use Rattle.master_core.specs.declared.now.Now.{Now}
-use Rattle.master_core.specs.Now as machine
+use Rattle.master_core.specs.declared.phase.Phase.{Phase}
+use Rattle.master_core.specs.Phase as machine
 use Rattle.master_core.specs.After.{after}
 use Rattle.master_core.specs.Master.{first_master}
 use Rattle.master_core.specs.MasterView.{MasterView}
 use Rattle.master_core.specs.Standing.{MasterIsAfter, Follows, Answers, Shows}
-use Rattle.master_core.specs.ViewOf.{notes_of, now_in, view_of}
+use Rattle.master_core.specs.ViewOf.{notes_of, phase_in, view_of}
 use Rattle.master_core.proofs.Agrees.{Agrees, AreRead}
 use Rattle.master_core.proofs.Agreed.{agrees, run-sound}
 
@@ -56,27 +56,27 @@ set_answers old m d f k i j = record {
 }
 
 -- what the readers show
-abbrev ShownIn : State → MasterSettings → List Deed → Now → Type 0
-ShownIn p ms e x = (machine.state_of x ≡ p) × (machine.terms_shown_in x ≡ told_in p (terms (OfMaster ms) e)) × (machine.outputs_in ms x ≡ outputs (OfMaster ms) e)
+abbrev ShownIn : State → MasterSettings → List Deed → Phase → Type 0
+ShownIn p ms e x = (machine.state_of x ≡ p) × (machine.terms_in x ≡ told_in p (terms (OfMaster ms) e)) × (machine.outputs_in ms x ≡ outputs (OfMaster ms) e)
 
-shown-in : (p : State) (ms : MasterSettings) (e : List Deed) → (p ≢ state.Data → outputs (OfMaster ms) e ≡ zeros (OfMaster ms)) → ShownIn p ms e (now_in p ms (notes_of ms e))
+shown-in : (p : State) (ms : MasterSettings) (e : List Deed) → (p ≢ state.Data → outputs (OfMaster ms) e ≡ zeros (OfMaster ms)) → ShownIn p ms e (phase_in p ms (notes_of ms e))
 shown-in state.Data ms e h = (refl, refl, refl)
 shown-in _ ms e h = (refl, refl, sym (h (λ k. cc)))
 
-shown-after : (ms : MasterSettings) (e : List Deed) → IsRun (OfMaster ms) e → ShownIn (state_of (OfMaster ms) e) ms e (view_of ms e).state
+shown-after : (ms : MasterSettings) (e : List Deed) → IsRun (OfMaster ms) e → ShownIn (state_of (OfMaster ms) e) ms e (view_of ms e).state.phase
 shown-after ms e run = shown-in (state_of (OfMaster ms) e) ms e (fail_safe (OfMaster ms) e run)
 
-pub state_shown : (v : MasterView) (shown : State) → shown ≡ machine.state_of v.state → Shows v shown state_of
-state_shown v shown i = record { shows = λ ms e h. i ∙ ap (λ (v : MasterView). machine.state_of v.state) h.is ∙ (shown-after ms e h.reached).0 }
+pub state_shown : (v : MasterView) (shown : State) → shown ≡ machine.state_of v.state.phase → Shows v shown state_of
+state_shown v shown i = record { shows = λ ms e h. i ∙ ap (λ (v : MasterView). machine.state_of v.state.phase) h.is ∙ (shown-after ms e h.reached).0 }
 
-pub terms_shown : (v : MasterView) (shown : Option Terms) → shown ≡ machine.terms_shown_in v.state → Shows v shown told_terms
-terms_shown v shown i = record { shows = λ ms e h. i ∙ ap (λ (v : MasterView). machine.terms_shown_in v.state) h.is ∙ (shown-after ms e h.reached).1 }
+pub terms_shown : (v : MasterView) (shown : Option Terms) → shown ≡ machine.terms_in v.state.phase → Shows v shown told_terms
+terms_shown v shown i = record { shows = λ ms e h. i ∙ ap (λ (v : MasterView). machine.terms_in v.state.phase) h.is ∙ (shown-after ms e h.reached).1 }
 
-pub outputs_shown : (v : MasterView) (shown : List ℕ) → shown ≡ machine.outputs_in v.kit.settings v.state → Shows v shown out
+pub outputs_shown : (v : MasterView) (shown : List ℕ) → shown ≡ machine.outputs_in v.kit.settings v.state.phase → Shows v shown out
 outputs_shown v shown i = record {
   shows = λ ms e h.
       i
-      ∙ ap (λ (v : MasterView). machine.outputs_in v.kit.settings v.state) h.is
+      ∙ ap (λ (v : MasterView). machine.outputs_in v.kit.settings v.state.phase) h.is
       ∙ (shown-after ms e h.reached).2
       ∙ looking_back (OfMaster ms) e h.reached;
 }

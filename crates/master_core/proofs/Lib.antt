@@ -2,7 +2,6 @@ pub mod Accepting
 pub mod Agreed
 pub mod Agrees
 pub mod Arrived
-pub mod AtOnce
 pub mod Began
 pub mod Calls
 pub mod Law
@@ -10,6 +9,7 @@ pub mod Pieces
 pub mod SameVerdict
 pub mod ShownDue
 pub mod Sound
+pub mod Taken
 pub mod TakenConnection
 pub mod TakenData
 pub mod TakenParameter

@@ -26,8 +26,8 @@ use Rattle.seq_chain.proofs.OpenedFrame as opens
 use Rattle.seq_chain.proofs.OpenedFrame.{Tested, tested}
 use Rattle.end_model.proofs.Links.{own_crc}
 use Rattle.master_core.specs.Master.{Accepted, drops, refuses, on_reset_view, settles, on_session, accepted_by, accepted}
-use Rattle.master_core.specs.Now as machine
-use Rattle.master_core.specs.ViewOf.{Notes, notes_of, kit_of, now_in, view_in}
+use Rattle.master_core.specs.Phase as machine
+use Rattle.master_core.specs.ViewOf.{Notes, notes_of, kit_of, phase_in, view_in}
 use Rattle.master_core.proofs.Sound.{SoundAt}
 
 -- the frame that came
@@ -47,30 +47,30 @@ pub data Same (p : State) (ms : MasterSettings) (e : List Deed) (bytes : List �
   ByReset : length bytes ≡ frame_len ms.lengths.slave → (x : Code) → x ≡ code (first_of (came ms bytes).load) → Same p ms e bytes (model.Valid command.Reset (came ms bytes).load) (on_reset_view (view_in p ms e) x (came ms bytes))
   Passes : (c : Command) → Came p ms bytes c
       → Same p ms e bytes (model.judged_contents c (came ms bytes).load (model.contents (OfMaster ms) e c (came ms bytes)))
-      (settles (view_in p ms e) (record { command = c; frame = came ms bytes }) (machine.next_state (kit_of ms e) (now_in p ms (notes_of ms e)) (record { command = c; frame = came ms bytes })))
+      (settles (view_in p ms e) (record { command = c; frame = came ms bytes }) (machine.next_phase (kit_of ms e) (phase_in p ms (notes_of ms e)) (record { command = c; frame = came ms bytes })))
 
 -- the frame that is kept, and the chain
-kept-same : (p : State) (ms : MasterSettings) (e : List Deed) → SoundAt p ms e → machine.kept_in (now_in p ms (notes_of ms e)) ≡ kept (since e)
+kept-same : (p : State) (ms : MasterSettings) (e : List Deed) → SoundAt p ms e → machine.kept_in (phase_in p ms (notes_of ms e)) ≡ kept (since e)
 kept-same state.Reset ms e h = sym (ap (λ (n : Notes). n.kept) h)
 kept-same state.Session ms e h = sym h.kept_is
 kept-same state.Connection ms e h = sym h.kept_is
 kept-same state.Parameter ms e h = sym h.kept_is
 kept-same state.Data ms e h = sym h
 
-chain-same : (p : State) (ms : MasterSettings) (e : List Deed) → SoundAt p ms e → machine.chain_of (now_in p ms (notes_of ms e)) ≡ (notes_of ms e).chain
+chain-same : (p : State) (ms : MasterSettings) (e : List Deed) → SoundAt p ms e → machine.chain_of (phase_in p ms (notes_of ms e)) ≡ (notes_of ms e).chain
 chain-same state.Reset ms e h = sym (ap (λ (n : Notes). n.chain) h)
 chain-same state.Session ms e h = refl
 chain-same state.Connection ms e h = refl
 chain-same state.Parameter ms e h = refl
 chain-same state.Data ms e h = refl
 
-fits-same : (p : State) (ms : MasterSettings) (e : List Deed) (f : Frame) → SoundAt p ms e → fits_next (machine.chain_of (now_in p ms (notes_of ms e))) f ≡ fits (OfMaster ms) (since e) f
+fits-same : (p : State) (ms : MasterSettings) (e : List Deed) (f : Frame) → SoundAt p ms e → fits_next (machine.chain_of (phase_in p ms (notes_of ms e))) f ≡ fits (OfMaster ms) (since e) f
 fits-same p ms e f h =
     ap (λ chain. fits_next chain f) (chain-same p ms e h)
     ∙ ap (λ (last : ℕ). sealing.fits last (taken_link (OfMaster ms) (since e)) f) (own_crc (OfMaster ms) (since e))
 
 -- the test of the command
-allows-same : (p : State) (ms : MasterSettings) (n : Notes) (c : Command) → machine.allows (now_in p ms n) c ≡ master_allows p c
+allows-same : (p : State) (ms : MasterSettings) (n : Notes) (c : Command) → machine.allows (phase_in p ms n) c ≡ master_allows p c
 allows-same state.Reset ms n c = refl
 allows-same state.Session ms n c = refl
 allows-same state.Connection ms n c = refl

@@ -1,24 +1,21 @@
 -- What a master shows while a frame is due is what it shows after the reply.
-use Rattle.std.proofs.Common.{◌≡◌, ℕ, List, Bool, false, Option, IsTrue, refl, sym, ap, ◌∙◌}
+use Rattle.std.proofs.Common.{◌≡◌, ℕ, List, Bool, true, false, Option, IsTrue, refl, sym, ap, ◌∙◌}
 use Rattle.fsoe_base.specs.declared.command.State.{State}
-use Rattle.fsoe_base.specs.declared.command.State.TheVariants as state
 use Rattle.param_load.specs.declared.master_settings.MasterSettings.{MasterSettings}
 use Rattle.param_load.specs.declared.terms.Terms.{Terms}
 use Rattle.end_model.specs.Deed.{Deed}
-use Rattle.end_model.specs.Setup.{Setup, OfMaster}
+use Rattle.end_model.specs.Setup.{Setup}
 use Rattle.end_model.specs.Outputs.{out}
 use Rattle.end_model.specs.Readiness.{state_of, age, told_terms, offer, held}
-use Rattle.master_core.specs.declared.due.Next.{Next}
-use Rattle.master_core.specs.declared.due.Next.TheVariants as next
-use Rattle.master_core.specs.declared.now.Now.{Now}
-use Rattle.master_core.specs.declared.now.Now.TheVariants as now
+use Rattle.master_core.specs.declared.phase.Phase.{Phase}
+use Rattle.master_core.specs.declared.phase.Phase.TheVariants as phase
 use Rattle.master_core.specs.Kit.{KitView}
 use Rattle.master_core.specs.Master.{replies}
 use Rattle.master_core.specs.MasterView.{MasterView}
-use Rattle.master_core.specs.Now as machine
-use Rattle.master_core.specs.Now.{is_due}
+use Rattle.master_core.specs.Phase as machine
+use Rattle.master_core.specs.Now.{is_due, replied, reply}
 use Rattle.master_core.specs.Standing.{Shows}
-use Rattle.master_core.specs.ViewOf.{Notes, notes_of, now_in, view_of}
+use Rattle.master_core.specs.ViewOf.{view_of}
 use Rattle.master_core.specs.Waiting.{Delivery, with_delivery, Waits, ShowsDue}
 use Rattle.master_core.proofs.Accepting.{age_by, accepts_alike}
 use Rattle.master_core.proofs.Law.{state_shown, terms_shown, outputs_shown, age_shown, offer_shown, held_shown}
@@ -27,30 +24,30 @@ use Rattle.master_core.proofs.Waiting.{replies_by}
 -- what the master after the reply shows
 shows-due : {X : Type 0} (v : MasterView) (shown : X) (word : Setup → List Deed → X) → Shows (replies v) shown word → ShowsDue v shown word
 shows-due v shown word h = record {
-  shows = λ d w. h.shows d.settings (with_delivery d) ((replies_by v (replies v) (machine.reply v.kit v.state) refl refl).is_after d w);
+  shows = λ d w. h.shows d.settings (with_delivery d) ((replies_by v (replies v) (reply v.kit v.state) refl refl).is_after d w);
 }
 
--- the reply changes none of what the state shows
-abbrev ShowAlike : MasterSettings → Now → Now → Type 0
-ShowAlike settings x y = (machine.state_of x ≡ machine.state_of y) × (machine.terms_shown_in x ≡ machine.terms_shown_in y) × (machine.outputs_in settings x ≡ machine.outputs_in settings y)
+-- the reply changes none of what the phase shows
+abbrev ShowAlike : MasterSettings → Phase → Phase → Type 0
+ShowAlike settings x y = (machine.state_of x ≡ machine.state_of y) × (machine.terms_in x ≡ machine.terms_in y) × (machine.outputs_in settings x ≡ machine.outputs_in settings y)
 
-sent-alike : (kit : KitView) (n : Next) → ShowAlike kit.settings (machine.sent_state kit n) (now.Due (record { next = n }))
-sent-alike kit (next.Reset x) = (refl, refl, refl)
+sent-alike : (kit : KitView) (p : Phase) → ShowAlike kit.settings (machine.sent_phase kit p) p
+sent-alike kit (phase.Reset x) = (refl, refl, refl)
 sent-alike kit _ = (refl, refl, refl)
 
-replied-alike : (kit : KitView) (n : Now) → ShowAlike kit.settings (machine.replied kit n) n
-replied-alike kit (now.Due due) = sent-alike kit due.next
-replied-alike kit _ = (refl, refl, refl)
+replied-alike : (kit : KitView) (p : Phase) (due : Bool) → ShowAlike kit.settings (replied kit (record { phase = p; due = due })).phase p
+replied-alike kit p true = sent-alike kit p
+replied-alike kit p false = (refl, refl, refl)
 
 -- the readers
-pub state_due : (v : MasterView) (shown : State) → shown ≡ machine.state_of v.state → ShowsDue v shown state_of
-state_due v shown i = shows-due v shown state_of (state_shown (replies v) shown (i ∙ sym (replied-alike v.kit v.state).0))
+pub state_due : (v : MasterView) (shown : State) → shown ≡ machine.state_of v.state.phase → ShowsDue v shown state_of
+state_due v shown i = shows-due v shown state_of (state_shown (replies v) shown (i ∙ sym (replied-alike v.kit v.state.phase v.state.due).0))
 
-pub terms_due : (v : MasterView) (shown : Option Terms) → shown ≡ machine.terms_shown_in v.state → ShowsDue v shown told_terms
-terms_due v shown i = shows-due v shown told_terms (terms_shown (replies v) shown (i ∙ sym (replied-alike v.kit v.state).1))
+pub terms_due : (v : MasterView) (shown : Option Terms) → shown ≡ machine.terms_in v.state.phase → ShowsDue v shown told_terms
+terms_due v shown i = shows-due v shown told_terms (terms_shown (replies v) shown (i ∙ sym (replied-alike v.kit v.state.phase v.state.due).1))
 
-pub outputs_due : (v : MasterView) (shown : List ℕ) → shown ≡ machine.outputs_in v.kit.settings v.state → ShowsDue v shown out
-outputs_due v shown i = shows-due v shown out (outputs_shown (replies v) shown (i ∙ sym (replied-alike v.kit v.state).2))
+pub outputs_due : (v : MasterView) (shown : List ℕ) → shown ≡ machine.outputs_in v.kit.settings v.state.phase → ShowsDue v shown out
+outputs_due v shown i = shows-due v shown out (outputs_shown (replies v) shown (i ∙ sym (replied-alike v.kit v.state.phase v.state.due).2))
 
 pub age_due : (v : MasterView) (shown : ℕ) → shown ≡ v.timer.age → ShowsDue v shown age
 age_due v shown i = shows-due v shown age (age_shown (replies v) shown i)
@@ -61,15 +58,9 @@ offer_due v shown i = shows-due v shown offer (offer_shown (replies v) shown i)
 pub held_due : (v : MasterView) (shown : Bool) → shown ≡ v.kit.offer.held → ShowsDue v shown (λ s e. held e)
 held_due v shown i = shows-due v shown (λ s e. held e) (held_shown (replies v) shown i)
 
--- no frame is due after deeds
-none-due : (p : State) (ms : MasterSettings) (n : Notes) → is_due (now_in p ms n) ≡ false
-none-due state.Reset ms n = refl
-none-due _ ms n = refl
-
 -- while a frame is due the age is 0
 pub age_zero : (v : MasterView) (shown : ℕ) → shown ≡ v.timer.age → (d : Delivery) → Waits v d → IsTrue (is_due v.state) → shown ≡ 0
 age_zero v shown i d w k =
     let before : MasterView = view_of d.settings d.before in
-    let rest = none-due (state_of (OfMaster d.settings) d.before) d.settings (notes_of d.settings d.before) in
-    let start = age_by before _ _ _ (accepts_alike before before.kit.offer before.kit.nonce d.bytes) rest in
+    let start = age_by before _ _ _ (accepts_alike before before.kit.offer before.kit.nonce d.bytes) refl in
     i ∙ ap (λ (v : MasterView). v.timer.age) w.is ∙ start (sym (ap (λ (v : MasterView). is_due v.state) w.is) ∙ k)

@@ -17,7 +17,7 @@ use Rattle.end_model.specs.Chain.{since}
 use Rattle.end_model.specs.Readiness.{offer, held}
 use Rattle.end_model.specs.Step.{takes_frame, on_verdict, begun, with_data}
 use Rattle.end_model.specs.Verdict.{judged_contents, unless}
-use Rattle.master_core.specs.declared.now.Now.TheVariants as now
+use Rattle.master_core.specs.declared.phase.Phase.TheVariants as phase
 use Rattle.master_core.specs.Master.{Outcome, settles, answered_by}
 use Rattle.master_core.specs.MasterView.{MasterView}
 use Rattle.master_core.specs.States.{data_answered}
@@ -33,12 +33,11 @@ use Rattle.failsafe_io.specs.Offer.{data_command, data_load}
 use Rattle.failsafe_io.specs.Outputs.{outputs_of}
 use Rattle.param_load.specs.declared.terms.Terms.{Terms}
 use Rattle.end_model.specs.Phases.{is_reset}
-use Rattle.master_core.specs.declared.due.Next.TheVariants as next
 use Rattle.param_load.specs.MasterSettings.{terms_of}
 
 -- state Data by its parts
 pub same_data : (t : Terms) (c c' : Chain) (o o' l l' : List ℕ) → c ≡ c' → o ≡ o' → l ≡ l'
-    → now.Data (record { session = record { chain = c; last = l }; terms = t; outputs = o }) ≡ now.Data (record { session = record { chain = c'; last = l' }; terms = t; outputs = o' })
+    → phase.Data (record { session = record { chain = c; last = l }; terms = t; outputs = o }) ≡ phase.Data (record { session = record { chain = c'; last = l' }; terms = t; outputs = o' })
 same_data t c c' o o' l l' h j g = rw (h, j, g) refl
 
 -- a data frame is the offer, or zeros while the master is held
@@ -61,7 +60,7 @@ data_sent ms e bytes command.ProcessData r s = by-held ms e bytes (held e) (leng
 abbrev gone_on : MasterSettings → List Deed → List ℕ → Command → Command → List ℕ → MasterView
 gone_on ms e bytes c c2 load =
     master_at (kit_of ms e)
-    (now.Data (record { session = record { chain = next_chain ms e bytes ms.conn c2 load; last = bytes_of (came ms bytes) }; terms = terms_of ms; outputs = outputs_of c (came ms bytes).load }))
+    (phase.Data (record { session = record { chain = next_chain ms e bytes ms.conn c2 load; last = bytes_of (came ms bytes) }; terms = terms_of ms; outputs = outputs_of c (came ms bytes).load }))
     ms.watchdog 0
 
 -- what holds after a data frame that is answered by one with this command and load
@@ -98,7 +97,7 @@ abbrev before : MasterSettings → List Deed → InData
 before ms e = record { session = session_of (notes_of ms e); terms = terms_of ms; outputs = (notes_of ms e).outputs }
 
 abbrev data_outcome : MasterSettings → List Deed → List ℕ → Command → Bool → Outcome
-data_outcome ms e bytes c b = answered_by (settles (view_in state.Data ms e) (seen ms bytes c) (if b then Ok (next.Data (data_answered (before ms e) (seen ms bytes c))) else Err (code 0x07)))
+data_outcome ms e bytes c b = answered_by (settles (view_in state.Data ms e) (seen ms bytes c) (if b then Ok (phase.Data (data_answered (before ms e) (seen ms bytes c))) else Err (code 0x07)))
 
 -- a ProcessData frame that passed the tests
 pub process-passed : (ms : MasterSettings) (e : List Deed) (bytes : List ℕ) → Arrived ms bytes → Sound ms e

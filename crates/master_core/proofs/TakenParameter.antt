@@ -18,12 +18,12 @@ use Rattle.end_model.specs.Payloads.{nonce, pay, pieces}
 use Rattle.end_model.specs.Readiness.{offer, held}
 use Rattle.end_model.specs.Step.{takes_frame, on_verdict, deed_of}
 use Rattle.end_model.specs.Verdict.{judged_contents, contents, unless}
-use Rattle.master_core.specs.declared.now.Now.TheVariants as now
+use Rattle.master_core.specs.declared.phase.Phase.TheVariants as phase
 use Rattle.master_core.specs.Master.{Outcome, settles, answered_by}
-use Rattle.master_core.specs.Now.{next_state}
+use Rattle.master_core.specs.Phase.{next_phase}
 use Rattle.master_core.specs.States.{answered, parameter_by}
 use Rattle.master_core.specs.declared.states.Exchange.{Exchange}
-use Rattle.master_core.specs.ViewOf.{notes_of, kit_of, exchange_of, now_in, view_in}
+use Rattle.master_core.specs.ViewOf.{notes_of, kit_of, exchange_of, phase_in, view_in}
 use Rattle.master_core.proofs.Sound.{OfParameter, Sound}
 use Rattle.master_core.proofs.Pieces.{some_piece, piece_own, next_place}
 use Rattle.master_core.proofs.SameVerdict.{came}
@@ -73,7 +73,7 @@ goes-on ms e bytes h a s =
     let from_is : (suc (notes_of ms e).parameter - 1) * c ≡ next_from ms e = sym (next_place (notes_of ms e).parameter c h.some) in
     record {
       view = λ r. same_master _ _ _ _ _ _ _ refl
-          (ap now.Parameter (same_exchange _ _ _ _ _ _ _ _ _ _ (chain_after ms (since e) bytes command.Parameter ms.conn command.Parameter load refl full) refl from_is (sym (a.back r))))
+          (ap phase.Parameter (same_exchange _ _ _ _ _ _ _ _ _ _ (chain_after ms (since e) bytes command.Parameter ms.conn command.Parameter load refl full) refl from_is (sym (a.back r))))
           refl;
       sound = record {
         in_state = record { kept_is = refl; some = positive _ };
@@ -95,7 +95,7 @@ more-sent ms e bytes h m =
 entered : (ms : MasterSettings) (e : List Deed) (bytes : List ℕ) (held : Bool) (load : List ℕ) → length load ≡ ms.lengths.master → Arrived ms bytes → Sound ms e
     → After ms e bytes command.Parameter (next_frame ms e bytes ms.conn (if held then command.FailSafeData else command.ProcessData) (if held then replicate ms.lengths.master 0 else load))
     (master_at (kit_of ms e)
-    (now.Data (record {
+    (phase.Data (record {
       session = record { chain = next_chain ms e bytes ms.conn (if held then command.FailSafeData else command.ProcessData) (if held then replicate ms.lengths.master 0 else load); last = bytes_of (came ms bytes) };
       terms = terms_of ms;
       outputs = replicate ms.lengths.slave 0;
@@ -115,7 +115,7 @@ begins-next ms e bytes h a s =
     subst (λ (n : ℕ). After ms e bytes command.Parameter
     (next_frame ms e bytes ms.conn (data_command (kit_of ms e).offer) (if held e then replicate n 0 else offer (OfMaster ms) e))
     (master_at (kit_of ms e)
-    (now.Data (record {
+    (phase.Data (record {
       session = record { chain = next_chain ms e bytes ms.conn (data_command (kit_of ms e).offer) (if held e then replicate n 0 else offer (OfMaster ms) e); last = bytes_of (came ms bytes) };
       terms = terms_of ms;
       outputs = replicate ms.lengths.slave 0;
@@ -142,7 +142,7 @@ by-answer ms e bytes true true h a s m = takes-agree ms e bytes command.Paramete
 -- a Parameter frame that passed the tests
 pub parameter-passed : (ms : MasterSettings) (e : List Deed) (bytes : List ℕ) → OfParameter ms (notes_of ms e) → Arrived ms bytes → Sound ms e
     → Agrees ms e (move.Deliver bytes) (on_verdict state.Parameter (OfMaster ms) (judged_contents command.Parameter (came ms bytes).load (contents (OfMaster ms) e command.Parameter (came ms bytes))))
-    (answered_by (settles (view_in state.Parameter ms e) (seen ms bytes) (next_state (kit_of ms e) (now_in state.Parameter ms (notes_of ms e)) (seen ms bytes))))
+    (answered_by (settles (view_in state.Parameter ms e) (seen ms bytes) (next_phase (kit_of ms e) (phase_in state.Parameter ms (notes_of ms e)) (seen ms bytes))))
 parameter-passed ms e bytes h a s =
     let b : Bool = is_answer (before ms e).download (came ms bytes).load in
     let w : Bool = is_whole (advanced (before ms e).download) in

@@ -16,12 +16,12 @@ use Rattle.end_model.specs.Chain.{since}
 use Rattle.end_model.specs.Payloads.{nonce, pay, pieces}
 use Rattle.end_model.specs.Step.{takes_frame, on_verdict, deed_of}
 use Rattle.end_model.specs.Verdict.{judged_contents, contents, unless}
-use Rattle.master_core.specs.declared.now.Now.TheVariants as now
+use Rattle.master_core.specs.declared.phase.Phase.TheVariants as phase
 use Rattle.master_core.specs.Master.{Outcome, settles, answered_by}
-use Rattle.master_core.specs.Now.{next_state}
+use Rattle.master_core.specs.Phase.{next_phase}
 use Rattle.master_core.specs.States.{answered, session_by}
 use Rattle.master_core.specs.declared.states.Exchange.{Exchange}
-use Rattle.master_core.specs.ViewOf.{notes_of, kit_of, exchange_of, now_in, view_in}
+use Rattle.master_core.specs.ViewOf.{notes_of, kit_of, exchange_of, phase_in, view_in}
 use Rattle.master_core.proofs.Sound.{OfSession, Sound}
 use Rattle.master_core.proofs.Pieces.{some_piece, piece_own, next_place}
 use Rattle.master_core.proofs.SameVerdict.{came}
@@ -67,7 +67,7 @@ goes-on ms e bytes h a s =
     let from_is : (suc (notes_of ms e).session - 1) * c ≡ next_from ms e = sym (next_place (notes_of ms e).session c h.some) in
     record {
       view = λ r. same_master _ _ _ _ _ _ _ refl
-          (ap now.Session (same_exchange _ _ _ _ _ _ _ _ _ _ (chain_after ms (since e) bytes command.Session 0 command.Session load refl full) (ap (payload ms) (there _ _ 0 (keeps (notes_of ms e).id (Some (nonce (OfMaster ms) e)) _ h.id_is))) from_is (sym (a.back r))))
+          (ap phase.Session (same_exchange _ _ _ _ _ _ _ _ _ _ (chain_after ms (since e) bytes command.Session 0 command.Session load refl full) (ap (payload ms) (there _ _ 0 (keeps (notes_of ms e).id (Some (nonce (OfMaster ms) e)) _ h.id_is))) from_is (sym (a.back r))))
           refl;
       sound = record {
         in_state = record { kept_is = refl; id_is = is-there _ _ (keeps (notes_of ms e).id (Some (nonce (OfMaster ms) e)) _ h.id_is); some = positive _; no_connection = h.no_connection; no_parameter = h.no_parameter };
@@ -93,7 +93,7 @@ begins-next ms e bytes h a s =
     let full : length load ≡ ms.lengths.master = filled_piece (pay ms 0 state.Connection) 0 c ms.lengths.master (piece_own ms) in
     record {
       view = λ r. same_master _ _ _ _ _ _ _ refl
-          (ap now.Connection (same_exchange _ _ _ _ _ _ _ _ _ _ (chain_after ms (since e) bytes command.Session ms.conn command.Connection load refl full) refl (none_before (notes_of ms e).connection c h.no_connection) (sym (a.back r))))
+          (ap phase.Connection (same_exchange _ _ _ _ _ _ _ _ _ _ (chain_after ms (since e) bytes command.Session ms.conn command.Connection load refl full) refl (none_before (notes_of ms e).connection c h.no_connection) (sym (a.back r))))
           refl;
       sound = record {
         in_state = record { kept_is = refl; some = positive _; no_parameter = h.no_parameter };
@@ -123,11 +123,11 @@ by-answer ms e bytes true true h a s m = takes-agree ms e bytes command.Session 
 -- a Session frame that passed the tests
 pub session-passed : (ms : MasterSettings) (e : List Deed) (bytes : List ℕ) → OfSession ms (notes_of ms e) → Arrived ms bytes → Sound ms e
     → Agrees ms e (move.Deliver bytes) (on_verdict state.Session (OfMaster ms) (judged_contents command.Session (came ms bytes).load (contents (OfMaster ms) e command.Session (came ms bytes))))
-    (answered_by (settles (view_in state.Session ms e) (seen ms bytes) (next_state (kit_of ms e) (now_in state.Session ms (notes_of ms e)) (seen ms bytes))))
+    (answered_by (settles (view_in state.Session ms e) (seen ms bytes) (next_phase (kit_of ms e) (phase_in state.Session ms (notes_of ms e)) (seen ms bytes))))
 session-passed ms e bytes h a s =
     let b : Bool = is_answer (before ms e).download (came ms bytes).load in
     let w : Bool = is_whole (advanced (before ms e).download) in
     subst (λ (t : Bool). Agrees ms e (move.Deliver bytes) (on_verdict state.Session (OfMaster ms) (judged_contents command.Session (came ms bytes).load (unless t 0x07)))
-    (answered_by (settles (view_in state.Session ms e) (seen ms bytes) (next_state (kit_of ms e) (now_in state.Session ms (notes_of ms e)) (seen ms bytes)))))
+    (answered_by (settles (view_in state.Session ms e) (seen ms bytes) (next_phase (kit_of ms e) (phase_in state.Session ms (notes_of ms e)) (seen ms bytes)))))
     (sym (ap (λ (i : ℕ). is_padded (piece_from (payload ms i) (((notes_of ms e).session - 1) * piece_len (OfMaster ms)) (piece_len (OfMaster ms))) (came ms bytes).load) (there _ _ (nonce (OfMaster ms) e) h.id_is)))
     (by-answer ms e bytes b w h a s (more_to_come (length (payload ms (id_of ms e))) (piece_len (OfMaster ms)) (notes_of ms e).session w (some_piece ms) h.some refl))

@@ -12,13 +12,11 @@ use Rattle.param_load.specs.Profile.{allows_id}
 use Rattle.end_model.specs.Setup.{OfMaster}
 use Rattle.end_model.specs.Deed.{Deed}
 use Rattle.end_model.specs.Step.{IsProper, IsRun}
-use Rattle.master_core.specs.declared.now.Now.{Now}
-use Rattle.master_core.specs.declared.now.Now.TheVariants as now
 use Rattle.master_core.specs.After.{after}
 use Rattle.master_core.specs.Kit.{KitView}
 use Rattle.master_core.specs.Master.{accepted, replies}
 use Rattle.master_core.specs.MasterView.{MasterView}
-use Rattle.master_core.specs.Now.{is_due, replied, reply}
+use Rattle.master_core.specs.Now.{Now, is_due, replied, reply}
 use Rattle.master_core.specs.ViewOf.{kit_of, view_of}
 use Rattle.master_core.specs.Waiting.{Delivery, its_deed, Accepts, Keeps, Replies}
 use Rattle.master_core.proofs.Accepting.{kit_kept, commutes, accepts_alike}
@@ -27,8 +25,7 @@ use Rattle.master_core.proofs.Agreed.{agrees, run-sound}
 
 -- a master at rest sends nothing
 at-rest : (k : KitView) (s : Now) → is_due s ≡ false → replied k s ≡ s
-at-rest k (now.Due due) h = absurd (cc h)
-at-rest k _ h = refl
+at-rest k s h = rw h refl
 
 abbrev did_at : Option Took → Bool → Bool → Option Cause → Option Dropped → Did
 did_at took passed sent reset dropped = record { took = took; passed = passed; sent = sent; reset = reset; dropped = dropped }

@@ -4,6 +4,7 @@ pub mod Kit
 pub mod Master
 pub mod MasterView
 pub mod Now
+pub mod Phase
 pub mod Standing
 pub mod States
 pub mod ViewOf

@@ -20,13 +20,12 @@ use Rattle.seq_chain.specs.Reset.{reset_frame}
 use Rattle.seq_chain.specs.SessionFrame.{SessionFrameView}
 use Rattle.end_model.specs.Setup.{OfMaster, sends, receives}
 use Rattle.end_model.specs.Verdict.{is_repeat}
-use Rattle.master_core.specs.declared.due.Next.{Next}
-use Rattle.master_core.specs.declared.due.Next.TheVariants as next
-use Rattle.master_core.specs.declared.now.Now.TheVariants as now
+use Rattle.master_core.specs.declared.phase.Phase.{Phase}
+use Rattle.master_core.specs.declared.phase.Phase.TheVariants as phase
 use Rattle.master_core.specs.Kit.{first_kit}
-use Rattle.master_core.specs.Now.{is_reset, is_due, kept_in, fault, next_state, replied, reply}
+use Rattle.master_core.specs.Now.{at_rest, is_due, replied, reply}
+use Rattle.master_core.specs.Phase.{is_reset, kept_in, fault, next_phase}
 use Rattle.master_core.specs.MasterView.{MasterView}
-use Rattle.master_core.specs.States.{no_session}
 
 -- what a frame that is accepted leaves and does
 pub record Accepted : Type 0 where
@@ -41,40 +40,40 @@ pub record Outcome : Type 0 where
 
 -- a new master: its first tick reaches the limit
 abbrev pub first_master : MasterSettings → MasterView
-first_master settings = record { kit = first_kit settings; state = now.Reset no_session; timer = record { limit = settings.watchdog; age = settings.watchdog - 1 } }
+first_master settings = record { kit = first_kit settings; state = at_rest (phase.Reset local_reset); timer = record { limit = settings.watchdog; age = settings.watchdog - 1 } }
 
 -- a frame is dropped that didn't pass the test of the CRCs
 abbrev pub drops : MasterView → Dropped → Accepted
 drops v why = record { master = v; did = did.dropped why }
 
--- a step after which a frame is due: none was sent yet
-abbrev pub makes_due : MasterView → Next → Did → Accepted
-makes_due v n done = record { master = record v { state = now.Due (record { next = n }); timer = started v.kit.settings.watchdog }; did = record done { sent = false } }
+-- a step after which the frame of this phase is due: none was sent yet
+abbrev pub makes_due : MasterView → Phase → Did → Accepted
+makes_due v p done = record { master = record v { state = record { phase = p; due = true }; timer = started v.kit.settings.watchdog }; did = record done { sent = false } }
 
 -- a session ends, and a Reset frame with the code is due
 abbrev pub ends : MasterView → Bool → Cause → Code → Accepted
-ends v passed why x = makes_due v (next.Reset x) (resets passed why)
+ends v passed why x = makes_due v (phase.Reset x) (resets passed why)
 
 -- a test fails: in state Reset the frame is dropped, and else the session ends
 abbrev pub refuses : MasterView → Code → Accepted
-refuses v x = if is_reset v.state then drops v dropped.InReset else ends v false (cause.Found x) x
+refuses v x = if is_reset v.state.phase then drops v dropped.InReset else ends v false (cause.Found x) x
 
 -- in state Reset the Reset frame with code 0 begins a session, and one with another code is dropped
 abbrev pub begins : MasterView → Code → Frame → Accepted
-begins v x f = if x.0 == 0 then makes_due v (next.Begin (bytes_of f)) (takes command.Reset f.load false) else drops v dropped.InReset
+begins v x f = if x.0 == 0 then makes_due v (phase.Begin (bytes_of f)) (takes command.Reset f.load false) else drops v dropped.InReset
 
 -- a valid Reset frame: outside state Reset the session ends
 abbrev pub on_reset_view : MasterView → Code → Frame → Accepted
-on_reset_view v x f = if is_reset v.state then begins v x f else ends v false (cause.Peer x) local_reset
+on_reset_view v x f = if is_reset v.state.phase then begins v x f else ends v false (cause.Peer x) local_reset
 
 -- a frame that passed the tests, by its contents
-abbrev pub settles : MasterView → SessionFrameView → Result Next Code → Accepted
-settles v f (Ok n) = makes_due v n (takes f.command f.frame.load true)
+abbrev pub settles : MasterView → SessionFrameView → Result Phase Code → Accepted
+settles v f (Ok p) = makes_due v p (takes f.command f.frame.load true)
 settles v f (Err x) = ends v true (cause.Found x) x
 
 -- a frame of a session
 abbrev pub on_session : MasterView → SessionFrameView → Option Code → Accepted
-on_session v f None = settles v f (next_state v.kit v.state f)
+on_session v f None = settles v f (next_phase v.kit v.state.phase f)
 on_session v f (Some x) = refuses v x
 
 -- a frame is accepted, by what the tests that need no session say of it
@@ -82,11 +81,11 @@ abbrev pub accepted_by : MasterView → Opened → Accepted
 accepted_by v (opened_as.Drop why) = drops v why
 accepted_by v (opened_as.Refuse x) = refuses v x
 accepted_by v (opened_as.ResetFrame x f) = on_reset_view v x f
-accepted_by v (opened_as.OfSession f) = on_session v f (fault v.kit.settings v.state f)
+accepted_by v (opened_as.OfSession f) = on_session v f (fault v.kit.settings v.state.phase f)
 
 -- a frame is accepted: it is tested for its length, and against the frame that was taken last
 abbrev pub accepted : MasterView → List ℕ → Accepted
-accepted v bytes = accepted_by v (opened (receives (OfMaster v.kit.settings)) (is_repeat (kept_in v.state) bytes) bytes)
+accepted v bytes = accepted_by v (opened (receives (OfMaster v.kit.settings)) (is_repeat (kept_in v.state.phase) bytes) bytes)
 
 -- the frame that is due is sent, and the master is in the state that it leads to
 abbrev pub replies : MasterView → MasterView
@@ -104,18 +103,14 @@ answered_by a = record {
 abbrev pub on_frame : MasterView → List ℕ → Outcome
 on_frame v bytes = answered_by (accepted v bytes)
 
--- a session ends, and a Reset frame with the code is sent
+-- a session ends, and a Reset frame with the code is sent at once
 abbrev pub falls : MasterView → Cause → Code → Outcome
-falls v why x = record {
-  master = record v { state = now.Reset no_session; timer = started v.kit.settings.watchdog };
-  did = resets false why;
-  sent = reset_frame x.0 (sends (OfMaster v.kit.settings));
-}
+falls v why x = answered_by (ends v false why x)
 
 -- the limit is reached: in state Reset the Reset frame with code 0 is sent again
 abbrev pub at_limit : MasterView → Outcome
 at_limit v =
-    if is_reset v.state
+    if is_reset v.state.phase
     then record { master = record v { timer = started v.kit.settings.watchdog }; did = record did.nothing { sent = true }; sent = reset_frame 0 (sends (OfMaster v.kit.settings)) }
     else falls v (cause.Found watchdog_expired) watchdog_expired
 

@@ -16,16 +16,11 @@ use Rattle.fsoe_base.specs.Data.{data_holds}
 use Rattle.failsafe_io.specs.Offer.{data_command, data_load}
 use Rattle.failsafe_io.specs.Outputs.{outputs_of}
 use Rattle.end_model.specs.Setup.{OfMaster, sends, receives}
-use Rattle.master_core.specs.declared.states.InReset.{InReset}
 use Rattle.master_core.specs.declared.states.Exchange.{Exchange}
 use Rattle.master_core.specs.declared.states.InData.{InData}
-use Rattle.master_core.specs.declared.due.Next.{Next}
-use Rattle.master_core.specs.declared.due.Next.TheVariants as next
+use Rattle.master_core.specs.declared.phase.Phase.{Phase}
+use Rattle.master_core.specs.declared.phase.Phase.TheVariants as phase
 use Rattle.master_core.specs.Kit.{KitView, session_download, connection_download, parameter_download}
-
--- state Reset keeps nothing
-abbrev pub no_session : InReset
-no_session = record { private = tt }
 
 -- the safe data of the frame with the piece in turn
 abbrev pub piece_load : KitView → Exchange → List ℕ
@@ -56,33 +51,33 @@ abbrev pub first_data : KitView → Exchange → InData
 first_data kit x = record { session = x.session; terms = terms_of kit.settings; outputs = replicate (receives (OfMaster kit.settings)) 0 }
 
 -- by what the download said of an answer, a phase goes on, or the next one begins where the payload is whole
-abbrev pub next_by : Result Progress Code → Next → Next → Result Next Code
+abbrev pub next_by : Result Progress Code → Phase → Phase → Result Phase Code
 next_by (Err x) more whole = Err x
 next_by (Ok progress.More) more whole = Ok more
 next_by (Ok progress.Whole) more whole = Ok whole
 
 -- in this way Session goes on, or Connection begins
-abbrev pub session_by : Result Progress Code → KitView → Exchange → Result Next Code
-session_by r kit e = next_by r (next.Session e) (next.Connection (with_download e (connection_download kit.settings)))
+abbrev pub session_by : Result Progress Code → KitView → Exchange → Result Phase Code
+session_by r kit e = next_by r (phase.Session e) (phase.Connection (with_download e (connection_download kit.settings)))
 
 -- what an answer in Session leads to
-abbrev pub session_next : KitView → Exchange → SessionFrameView → Result Next Code
+abbrev pub session_next : KitView → Exchange → SessionFrameView → Result Phase Code
 session_next kit x f = session_by (outcome x.download f.frame.load) kit (answered x f)
 
 -- in this way Connection goes on, or Parameter begins
-abbrev pub connection_by : Result Progress Code → KitView → Exchange → Result Next Code
-connection_by r kit e = next_by r (next.Connection e) (next.Parameter (with_download e (parameter_download kit.settings)))
+abbrev pub connection_by : Result Progress Code → KitView → Exchange → Result Phase Code
+connection_by r kit e = next_by r (phase.Connection e) (phase.Parameter (with_download e (parameter_download kit.settings)))
 
 -- what an answer in Connection leads to
-abbrev pub connection_next : KitView → Exchange → SessionFrameView → Result Next Code
+abbrev pub connection_next : KitView → Exchange → SessionFrameView → Result Phase Code
 connection_next kit x f = connection_by (outcome x.download f.frame.load) kit (answered x f)
 
 -- in this way Parameter goes on, or Data begins
-abbrev pub parameter_by : Result Progress Code → KitView → Exchange → Result Next Code
-parameter_by r kit e = next_by r (next.Parameter e) (next.Data (first_data kit e))
+abbrev pub parameter_by : Result Progress Code → KitView → Exchange → Result Phase Code
+parameter_by r kit e = next_by r (phase.Parameter e) (phase.Data (first_data kit e))
 
 -- what an answer in Parameter leads to
-abbrev pub parameter_next : KitView → Exchange → SessionFrameView → Result Next Code
+abbrev pub parameter_next : KitView → Exchange → SessionFrameView → Result Phase Code
 parameter_next kit x f = parameter_by (outcome x.download f.frame.load) kit (answered x f)
 
 -- state Data after a data frame of the slave
@@ -90,12 +85,12 @@ abbrev pub data_answered : InData → SessionFrameView → InData
 data_answered s f = record s { session = session_taken s.session f; outputs = outputs_of f.command f.frame.load }
 
 -- what a data frame of the slave leads to: state Data goes on, and FailSafeData with other data than zeros has code 07h
-abbrev pub data_next : InData → SessionFrameView → Result Next Code
-data_next s f = if data_holds f.command f.frame.load then Ok (next.Data (data_answered s f)) else Err wrong_data
+abbrev pub data_next : InData → SessionFrameView → Result Phase Code
+data_next s f = if data_holds f.command f.frame.load then Ok (phase.Data (data_answered s f)) else Err wrong_data
 
 -- a state that went on in place
-abbrev pub in_place : Result (Unit {0}) Code → InData → Result Next Code
-in_place (Ok done) s = Ok (next.Data s)
+abbrev pub in_place : Result (Unit {0}) Code → InData → Result Phase Code
+in_place (Ok done) s = Ok (phase.Data s)
 in_place (Err x) s = Err x
 
 -- state Data after a data frame is sent

@@ -2,6 +2,7 @@
 use Rattle.std.specs.Prelude.{ℕ, ◌-◌, ◌*◌, Bool, true, false, List, [], Option, unwrap_or}
 use Rattle.fsoe_base.specs.declared.command.State.{State}
 use Rattle.fsoe_base.specs.declared.command.State.TheVariants as state
+use Rattle.fsoe_base.specs.Codes.{local_reset}
 use Rattle.seq_chain.specs.declared.chain.Chain.{Chain}
 use Rattle.seq_chain.specs.declared.session.Session.{Session}
 use Rattle.param_load.specs.declared.master_settings.MasterSettings.{MasterSettings}
@@ -11,12 +12,12 @@ use Rattle.end_model.specs.Chain.{since, own, kept, own_link, taken_link}
 use Rattle.end_model.specs.Payloads.{nonce, id_sent, pay, count_in, terms}
 use Rattle.end_model.specs.Readiness.{state_of, offer, held, ticks}
 use Rattle.end_model.specs.Outputs.{outputs}
-use Rattle.master_core.specs.declared.now.Now.{Now}
-use Rattle.master_core.specs.declared.now.Now.TheVariants as now
+use Rattle.master_core.specs.declared.phase.Phase.{Phase}
+use Rattle.master_core.specs.declared.phase.Phase.TheVariants as phase
 use Rattle.master_core.specs.declared.states.Exchange.{Exchange}
 use Rattle.master_core.specs.Kit.{KitView}
 use Rattle.master_core.specs.MasterView.{MasterView}
-use Rattle.master_core.specs.States.{no_session}
+use Rattle.master_core.specs.Now.{at_rest}
 
 -- the offer, the hold and the nonce outlast sessions
 abbrev pub kit_of : MasterSettings → List Deed → KitView
@@ -55,17 +56,17 @@ exchange_of ms n payload echo count = record {
   download = record { payload = payload; piece = piece_len (OfMaster ms); echo = echo; from = (count - 1) * piece_len (OfMaster ms) };
 }
 
--- the machine's state in each state, by what is noted
-abbrev pub now_in : State → MasterSettings → Notes → Now
-now_in state.Reset ms n = now.Reset no_session
-now_in state.Session ms n = now.Session (exchange_of ms n (pay ms (unwrap_or n.id 0) state.Session) false n.session)
-now_in state.Connection ms n = now.Connection (exchange_of ms n (pay ms 0 state.Connection) true n.connection)
-now_in state.Parameter ms n = now.Parameter (exchange_of ms n (pay ms 0 state.Parameter) true n.parameter)
-now_in state.Data ms n = now.Data (record { session = session_of n; terms = terms (OfMaster ms) []; outputs = n.outputs })
+-- the phase in each state, by what is noted
+abbrev pub phase_in : State → MasterSettings → Notes → Phase
+phase_in state.Reset ms n = phase.Reset local_reset
+phase_in state.Session ms n = phase.Session (exchange_of ms n (pay ms (unwrap_or n.id 0) state.Session) false n.session)
+phase_in state.Connection ms n = phase.Connection (exchange_of ms n (pay ms 0 state.Connection) true n.connection)
+phase_in state.Parameter ms n = phase.Parameter (exchange_of ms n (pay ms 0 state.Parameter) true n.parameter)
+phase_in state.Data ms n = phase.Data (record { session = session_of n; terms = terms (OfMaster ms) []; outputs = n.outputs })
 
 -- a master in this state after these deeds
 abbrev pub view_in : State → MasterSettings → List Deed → MasterView
-view_in p ms e = record { kit = kit_of ms e; state = now_in p ms (notes_of ms e); timer = record { limit = ms.watchdog; age = ticks (OfMaster ms) e } }
+view_in p ms e = record { kit = kit_of ms e; state = at_rest (phase_in p ms (notes_of ms e)); timer = record { limit = ms.watchdog; age = ticks (OfMaster ms) e } }
 
 -- a master after these deeds
 abbrev pub view_of : MasterSettings → List Deed → MasterView

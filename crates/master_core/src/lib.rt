@@ -32,11 +32,10 @@
 //! begin from then on, a new one for each. All three outlast resets.
 #![tactic(auto)]
 
-mod due;
 mod kit;
 pub mod laws;
 mod master;
-mod now;
+mod phase;
 pub mod states;
 
 pub use master::Master;

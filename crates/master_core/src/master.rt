@@ -4,24 +4,24 @@ ghost use Rattle.fsoe_base.specs.declared.command.Command.TheVariants as command
 ghost use Rattle.fsoe_base.specs.Did.{nothing, takes};
 ghost use Rattle.fsoe_frame.specs.Parts.{bytes_of};
 
-use crate::due::{Due, Next};
 use crate::kit::Kit;
-use crate::now::Now;
-use crate::states::{InReset, InSession};
+use crate::phase::Phase;
+use crate::states::InReset;
 use failsafe_io::Watchdog;
 use fsoe_base::{Cause, Code, Command, Did, Dropped, FrameBuf, Image, MOST_DATA, State, Took};
 use fsoe_frame::FrameView;
 use param_load::{MasterSettings, Terms};
 use seq_chain::{Link, Opened, SessionFrame, open, reset_frame};
 use std::marker::Model;
-use std::mem;
 
 /// The master of a connection. It has no clock and no line of its own: frames and ticks are handed in, and the
 /// frames that it sends are handed out.
 #[derive(Debug, Drop)]
 pub struct Master {
     kit: Kit,
-    state: Now,
+    phase: Phase,
+    /// Whether the frame of the phase is still to be sent.
+    due: bool,
     watchdog: Watchdog,
 }
 
@@ -41,16 +41,19 @@ fn kept(view: &FrameView<'_>) -> FrameBuf
     last
 }
 
-/// What is told of a Reset frame that is taken.
-fn reset_taken(view: &FrameView<'_>) -> Did
-    ensures { result ≡ takes command.Reset view.now.load false }
+/// Tells of a Reset frame that it was taken, and that nothing was sent yet.
+fn tell_reset(view: &FrameView<'_>, did: &mut Did)
+    ensures { did.new ≡ record (takes command.Reset view.now.load false) { sent = false } }
 {
     let mut took = Took {
         command: Command::Reset,
         load: Image::new(),
     };
     view.load_into(&mut took.load);
-    Did::taken(took, false)
+    *did = Did {
+        sent: false,
+        ..Did::taken(took, false)
+    };
 }
 
 impl Model for Master {
@@ -58,19 +61,20 @@ impl Model for Master {
 
     ghost Value = { MasterView };
 
-    ghost view = { λ m. record { kit = m.kit; state = m.state; timer = m.watchdog } };
+    ghost view = { λ m. record { kit = m.kit; state = record { phase = m.phase; due = m.due }; timer = m.watchdog } };
 
-    ghost invariant = { λ m. IsSoundMaster (record { kit = m.kit; state = m.state; timer = m.watchdog }) };
+    ghost invariant = { λ m. IsSoundMaster (record { kit = m.kit; state = record { phase = m.phase; due = m.due }; timer = m.watchdog }) };
 }
 
 impl Master {
     ghost use Rattle.std.specs.Prelude.{◌≤◌, ◌||◌, ℕ, List, true, IsTrue, OnOk, IfErr, is_some, length, [], option_copied};
     ghost use Rattle.fsoe_base.specs.declared.did.Cause.TheVariants as cause;
     ghost use Rattle.param_load.specs.Profile.{allows_id};
-    ghost use Rattle.master_core.specs.Master.{makes_due, ends, refuses, on_reset_view, settles, accepted_by, accepted, answered_by, replies, on_frame, tick_of};
-    ghost use Rattle.master_core.specs.Now.{NextUnder, chain_of, is_due, next_state, reply};
+    ghost use Rattle.failsafe_io.specs.Timer.{started};
+    ghost use Rattle.master_core.specs.Master.{ends, refuses, on_reset_view, settles, accepted, replies, falls, on_frame, tick_of};
+    ghost use Rattle.master_core.specs.Now.{is_due, reply};
+    ghost use Rattle.master_core.specs.Phase.{chain_of, next_phase};
     ghost use Rattle.param_load.specs.declared.entry.Move.TheVariants as event;
-    ghost use Rattle.seq_chain.specs.Opened.{HasLen};
     ghost use Rattle.seq_chain.specs.Session.{HasPassed};
     ghost use Rattle.end_model.specs.Setup.{OfMaster, sends, receives};
     ghost use Rattle.end_model.specs.Readiness as model;
@@ -89,17 +93,17 @@ impl Master {
         let limit = settings.watchdog();
         Master {
             kit: Kit::new(settings),
-            state: Now::Reset(InReset::new()),
+            phase: Phase::Reset(InReset::new(Code::LOCAL_RESET)),
+            due: false,
             watchdog: Watchdog::new(limit, limit - 1),
         }
     }
 
-    /// From now on this is to be sent, with the state that it leads to. The age is 0.
-    fn leave(&mut self, next: Next)
-        requires { NextUnder self.old.kit.settings next }
-        ensures { self.new ≡ (makes_due self.old next nothing).master }
+    /// The frame of the phase is due from now on. The age is 0.
+    fn owe(&mut self)
+        ensures { self.new ≡ record self.old { state = record self.old.state { due = true }; timer = started self.old.kit.settings.watchdog } }
     {
-        self.state = Now::Due(Due::new(next));
+        self.due = true;
         let limit = self.kit.settings().watchdog();
         self.watchdog.restart(limit);
     }
@@ -107,108 +111,108 @@ impl Master {
     /// Forgets the session; the Reset frame with this code is due.
     #[cold]
     #[inline(never)]
-    fn end(&mut self, passed: bool, why: Cause, code: Code) -> Did
+    fn end(&mut self, passed: bool, why: Cause, code: Code, did: &mut Did)
         ensures master { self.new ≡ (ends self.old passed why code).master }
-        ensures did { result ≡ (ends self.old passed why code).did }
+        ensures did { did.new ≡ (ends self.old passed why code).did }
     {
-        self.leave(Next::Reset(code));
-        Did {
+        self.phase = Phase::Reset(InReset::new(code));
+        self.owe();
+        *did = Did {
             sent: false,
             ..Did::reset(passed, why)
-        }
+        };
     }
 
     /// A test of a frame failed with this code: in state Reset the frame is dropped.
     #[cold]
     #[inline(never)]
-    fn refuse(&mut self, code: Code) -> Did
+    fn refuse(&mut self, code: Code, did: &mut Did)
         ensures master { self.new ≡ (refuses self.old code).master }
-        ensures did { result ≡ (refuses self.old code).did }
+        ensures did { did.new ≡ (refuses self.old code).did }
         ensures kit { self.new.kit ≡ self.old.kit }
+        ensures unsent { did.new.sent ≡ false }
     {
-        if self.state.is_reset() {
-            return Did::dropped(Dropped::InReset);
+        if self.phase.is_reset() {
+            did.clear();
+            did.dropped = Some(Dropped::InReset);
+            return;
         }
-        self.end(false, Cause::Found(code), code)
+        self.end(false, Cause::Found(code), code, did);
     }
 
     /// A valid Reset frame came: in state Reset the one with code 0 begins a session.
     #[cold]
     #[inline(never)]
-    fn acknowledge(&mut self, code: Code, view: &FrameView<'_>) -> Did
+    fn acknowledge(&mut self, code: Code, view: &FrameView<'_>, did: &mut Did)
         ensures master { self.new ≡ (on_reset_view self.old code view.now).master }
-        ensures did { result ≡ (on_reset_view self.old code view.now).did }
+        ensures did { did.new ≡ (on_reset_view self.old code view.now).did }
+        ensures kit { self.new.kit ≡ self.old.kit }
+        ensures unsent { did.new.sent ≡ false }
     {
-        if !self.state.is_reset() {
-            return self.end(false, Cause::Peer(code), Code::LOCAL_RESET);
+        if !self.phase.is_reset() {
+            return self.end(false, Cause::Peer(code), Code::LOCAL_RESET, did);
         }
         if !begins(code) {
-            return Did::dropped(Dropped::InReset);
+            did.clear();
+            did.dropped = Some(Dropped::InReset);
+            return;
         }
-        self.leave(Next::Begin(kept(view)));
-        Did {
-            sent: false,
-            ..reset_taken(view)
-        }
+        self.phase = Phase::Begin(kept(view));
+        self.owe();
+        tell_reset(view, did);
     }
 
-    /// Takes a frame that passed the tests, with what the chain notes of it, unless its contents are wrong.
-    fn take(&mut self, seen: &SessionFrame<'_>, link: Link) -> Did
-        requires passed { HasPassed (receives (OfMaster self.old.kit.settings)) (chain_of self.old.state) seen.now link }
-        ensures master { self.new ≡ (settles self.old seen.now (next_state self.old.kit self.old.state seen.now)).master }
-        ensures did { result ≡ (settles self.old seen.now (next_state self.old.kit self.old.state seen.now)).did }
+    /// Takes a frame that passed the tests, with what the chain notes of it, unless its contents are wrong. After a refusal
+    /// the phase is only left.
+    #[tactic(auto, using(crate::proofs::Taken::master_taken, crate::proofs::Taken::did_taken, crate::proofs::Taken::refused))]
+    fn take(&mut self, seen: &SessionFrame<'_>, link: Link) -> Result<(), Code>
+        requires passed { HasPassed (receives (OfMaster self.old.kit.settings)) (chain_of self.old.state.phase) seen.now link }
+        ensures master { OnOk result (self.new ≡ (settles self.old seen.now (next_phase self.old.kit self.old.state.phase seen.now)).master) }
+        ensures did { OnOk result (record (takes seen.now.command seen.now.frame.load true) { sent = false } ≡ (settles self.old seen.now (next_phase self.old.kit self.old.state.phase seen.now)).did) }
+        ensures refused { IfErr result (λ code. ends self.new true (cause.Found code) code ≡ settles self.old seen.now (next_phase self.old.kit self.old.state.phase seen.now)) }
         ensures kit { self.new.kit ≡ self.old.kit }
-        ensures unsent { result.sent ≡ false }
     {
-        let old = mem::replace(&mut self.state, Now::Reset(InReset::new()));
-        match old.take(seen, link, &self.kit) {
-            Ok(next) => {
-                self.leave(next);
-                Did {
-                    sent: false,
-                    ..Did::took(seen.command(), seen.load(), true)
-                }
-            }
-            Err(code) => self.end(true, Cause::Found(code), code),
-        }
-    }
-
-    /// Takes a frame, drops it, or leaves the session, by what the tests that need no session say of the frame.
-    fn settle(&mut self, opened: Opened<'_>) -> Did
-        requires len { HasLen (receives (OfMaster self.old.kit.settings)) opened }
-        ensures master { self.new ≡ (accepted_by self.old opened.entry).master }
-        ensures did { result ≡ (accepted_by self.old opened.entry).did }
-        ensures kit { self.new.kit ≡ self.old.kit }
-        ensures unsent { result.sent ≡ false }
-    {
-        match opened {
-            Opened::Drop(why) => Did::dropped(why),
-            Opened::Refuse(code) => self.refuse(code),
-            Opened::ResetFrame(code, view) => self.acknowledge(code, &view),
-            Opened::OfSession(unread) => {
-                let mut load = Image::new();
-                unread.load_into(&mut load);
-                let seen = SessionFrame::new(unread, &load);
-                match self.state.test(self.kit.settings(), &seen) {
-                    Err(code) => self.refuse(code),
-                    Ok(link) => self.take(&seen, link),
-                }
-            }
-        }
+        self.phase.take(seen, link, &self.kit)?;
+        self.owe();
+        Ok(())
     }
 
     /// Tests a frame and takes it, or drops it, or leaves the session.
     #[inline(never)]
-    fn receive(&mut self, frame: &[u8]) -> Did
-        requires { is_due self.old.state ≡ false }
+    fn receive(&mut self, frame: &[u8], did: &mut Did)
         ensures master { self.new ≡ (accepted self.old frame.now).master }
-        ensures did { result ≡ (accepted self.old frame.now).did }
+        ensures did { did.new ≡ (accepted self.old frame.now).did }
         ensures kit { self.new.kit ≡ self.old.kit }
-        ensures unsent { result.sent ≡ false }
+        ensures unsent { did.new.sent ≡ false }
     {
-        let repeats = self.state.is_repeat(frame);
-        let opened = open(frame, self.kit.settings().peer_len(), repeats);
-        self.settle(opened)
+        let repeats = self.phase.is_repeat(frame);
+        let unread = match open(frame, self.kit.settings().peer_len(), repeats) {
+            Opened::Drop(why) => {
+                did.clear();
+                did.dropped = Some(why);
+                return;
+            }
+            Opened::Refuse(code) => return self.refuse(code, did),
+            Opened::ResetFrame(code, view) => return self.acknowledge(code, &view, did),
+            Opened::OfSession(unread) => unread,
+        };
+        // The data are read where they are told, so that they aren't moved.
+        unread.took_into(did);
+        let Some(took) = &did.took else {
+            unreachable!();
+        };
+        let seen = SessionFrame::new(unread, &took.load);
+        let link = match self.phase.test(self.kit.settings(), &seen) {
+            Err(code) => return self.refuse(code, did),
+            Ok(link) => link,
+        };
+        match self.take(&seen, link) {
+            Err(code) => self.end(true, Cause::Found(code), code, did),
+            Ok(()) => {
+                did.tell_taken(true);
+                did.sent = false;
+            }
+        }
     }
 
     /// Accepts a frame of the slave, of any number of bytes, while no frame is due. A frame of another length, or
@@ -216,7 +220,6 @@ impl Master {
     /// state Reset where its code is 0; with another code it is dropped there. A frame that fails a test ends the
     /// session with the test's code, and is dropped in state Reset. Every other frame is taken. Where a frame was
     /// taken or the session ended, a frame is due then.
-    #[tactic(auto, using(crate::proofs::Accepting::due_told))]
     pub fn accept(&mut self, frame: &[u8]) -> Did
         requires { is_due self.old.state ≡ false }
         ensures accepts { Accepts self.old frame.now result self.new }
@@ -224,14 +227,28 @@ impl Master {
         ensures kit { self.new.kit ≡ self.old.kit }
         ensures unsent { result.sent ≡ false }
     {
-        self.receive(frame)
+        let mut did = Did::nothing();
+        self.accept_into(frame, &mut did);
+        did
+    }
+
+    /// As `accept`, and writes what was done to `did`, in place of what it told: of a frame that is taken no data are moved.
+    #[tactic(auto, using(crate::proofs::Accepting::due_told))]
+    pub fn accept_into(&mut self, frame: &[u8], did: &mut Did)
+        requires { is_due self.old.state ≡ false }
+        ensures accepts { Accepts self.old frame.now did.new self.new }
+        ensures due { is_due self.new.state ≡ (is_some did.new.took || is_some did.new.reset) }
+        ensures kit { self.new.kit ≡ self.old.kit }
+        ensures unsent { did.new.sent ≡ false }
+    {
+        self.receive(frame, did);
     }
 
     /// Whether a frame is due: a frame was taken or a session ended, and nothing was sent since.
     pub fn due(&self) -> bool
         ensures { result ≡ is_due self.now.state }
     {
-        self.state.is_due()
+        self.due
     }
 
     /// Sends the frame that is due, if one is.
@@ -241,8 +258,12 @@ impl Master {
         ensures kit { self.new.kit ≡ self.old.kit }
         ensures done { is_due self.new.state ≡ false }
     {
-        let old = mem::replace(&mut self.state, Now::Reset(InReset::new()));
-        self.state = old.reply(&self.kit, out);
+        if !self.due {
+            out.clear();
+            return;
+        }
+        self.phase.send(&self.kit, out);
+        self.due = false;
     }
 
     /// Writes the frame that is due to `out`, in place of what it held. It has the offer of this moment, and a first
@@ -257,90 +278,7 @@ impl Master {
         self.send(out);
     }
 
-    /// Forgets the session, and sends the Reset frame with this code.
-    #[cold]
-    #[inline(never)]
-    fn fall(&mut self, passed: bool, why: Cause, code: Code, did: &mut Did, out: &mut FrameBuf)
-        ensures master { self.new ≡ (answered_by (ends self.old passed why code)).master }
-        ensures did { did.new ≡ (answered_by (ends self.old passed why code)).did }
-        ensures sent { out.new ≡ (answered_by (ends self.old passed why code)).sent }
-    {
-        self.state = Now::Reset(InReset::new());
-        let limit = self.kit.settings().watchdog();
-        self.watchdog.restart(limit);
-        reset_frame(code, self.kit.settings().own_len(), out);
-        *did = Did::reset(passed, why);
-    }
-
-    /// A test of a frame failed with this code: in state Reset the frame is dropped, and else the Reset frame is sent at once.
-    #[tactic(auto, using(crate::proofs::AtOnce::stays, crate::proofs::AtOnce::reset_rests))]
-    #[cold]
-    #[inline(never)]
-    fn refuse_and_send(&mut self, code: Code, did: &mut Did, out: &mut FrameBuf)
-        ensures master { self.new ≡ (answered_by (refuses self.old code)).master }
-        ensures did { did.new ≡ (answered_by (refuses self.old code)).did }
-        ensures sent { out.new ≡ (answered_by (refuses self.old code)).sent }
-    {
-        if self.state.is_reset() {
-            out.clear();
-            did.clear();
-            did.dropped = Some(Dropped::InReset);
-            return;
-        }
-        self.fall(false, Cause::Found(code), code, did, out);
-    }
-
-    /// A valid Reset frame came: in state Reset the one with code 0 begins a session, and the frame that is due is sent at
-    /// once.
-    #[tactic(auto, using(crate::proofs::AtOnce::stays, crate::proofs::AtOnce::reset_rests))]
-    #[cold]
-    #[inline(never)]
-    fn acknowledge_and_send(
-        &mut self,
-        code: Code,
-        view: &FrameView<'_>,
-        did: &mut Did,
-        out: &mut FrameBuf,
-    )
-        ensures master { self.new ≡ (answered_by (on_reset_view self.old code view.now)).master }
-        ensures did { did.new ≡ (answered_by (on_reset_view self.old code view.now)).did }
-        ensures sent { out.new ≡ (answered_by (on_reset_view self.old code view.now)).sent }
-    {
-        if !self.state.is_reset() {
-            return self.fall(false, Cause::Peer(code), Code::LOCAL_RESET, did, out);
-        }
-        if !begins(code) {
-            out.clear();
-            did.clear();
-            did.dropped = Some(Dropped::InReset);
-            return;
-        }
-        self.state = Now::Session(InSession::begin(kept(view), &self.kit, out));
-        let limit = self.kit.settings().watchdog();
-        self.watchdog.restart(limit);
-        *did = reset_taken(view);
-    }
-
-    /// Takes a frame that passed the tests, and sends the frame that follows it, in place. After a refusal the state is only
-    /// left.
-    #[tactic(auto, using(crate::proofs::AtOnce::master_goes, crate::proofs::AtOnce::did_goes, crate::proofs::AtOnce::sent_goes, crate::proofs::AtOnce::refused))]
-    fn go_on(&mut self, seen: &SessionFrame<'_>, link: Link, out: &mut FrameBuf) -> Result<(), Code>
-        requires passed { HasPassed (receives (OfMaster self.old.kit.settings)) (chain_of self.old.state) seen.now link }
-        ensures master { OnOk result (self.new ≡ (answered_by (settles self.old seen.now (next_state self.old.kit self.old.state seen.now))).master) }
-        ensures did { OnOk result (takes seen.now.command seen.now.frame.load true ≡ (answered_by (settles self.old seen.now (next_state self.old.kit self.old.state seen.now))).did) }
-        ensures sent { OnOk result (out.new ≡ (answered_by (settles self.old seen.now (next_state self.old.kit self.old.state seen.now))).sent) }
-        ensures refused { IfErr result (λ code. answered_by (ends self.new true (cause.Found code) code) ≡ answered_by (settles self.old seen.now (next_state self.old.kit self.old.state seen.now))) }
-        ensures rest { OnOk result (is_due self.new.state ≡ false) }
-        ensures kit { self.new.kit ≡ self.old.kit }
-    {
-        self.state.go_on(seen, link, &self.kit, out)?;
-        let limit = self.kit.settings().watchdog();
-        self.watchdog.restart(limit);
-        Ok(())
-    }
-
     /// Tests a frame, and sends the frame that is due then at once.
-    #[tactic(auto, using(crate::proofs::AtOnce::stays))]
     #[inline(never)]
     fn exchange(&mut self, frame: &[u8], did: &mut Did, out: &mut FrameBuf)
         requires { is_due self.old.state ≡ false }
@@ -350,34 +288,9 @@ impl Master {
         ensures kit { self.new.kit ≡ self.old.kit }
         ensures done { is_due self.new.state ≡ false }
     {
-        let repeats = self.state.is_repeat(frame);
-        let unread = match open(frame, self.kit.settings().peer_len(), repeats) {
-            Opened::Drop(why) => {
-                out.clear();
-                did.clear();
-                did.dropped = Some(why);
-                return;
-            }
-            Opened::Refuse(code) => return self.refuse_and_send(code, did, out),
-            Opened::ResetFrame(code, view) => return self.acknowledge_and_send(
-                code, &view, did, out,
-            ),
-            Opened::OfSession(unread) => unread,
-        };
-        // The data are read where they are told, so that they aren't moved.
-        unread.took_into(did);
-        let Some(took) = &did.took else {
-            unreachable!();
-        };
-        let seen = SessionFrame::new(unread, &took.load);
-        let link = match self.state.test(self.kit.settings(), &seen) {
-            Err(code) => return self.refuse_and_send(code, did, out),
-            Ok(link) => link,
-        };
-        match self.go_on(&seen, link, out) {
-            Err(code) => self.fall(true, Cause::Found(code), code, did, out),
-            Ok(()) => did.tell_taken(true),
-        }
+        self.receive(frame, did);
+        did.sent = self.due;
+        self.send(out);
     }
 
     /// Accepts a frame while none is due, and writes the frame that is due then to `out`, in place of what it held;
@@ -405,6 +318,19 @@ impl Master {
         self.exchange(frame, did, out);
     }
 
+    /// Forgets the session, and sends the Reset frame with this code at once.
+    #[cold]
+    #[inline(never)]
+    fn fall(&mut self, why: Cause, code: Code, did: &mut Did, out: &mut FrameBuf)
+        ensures master { self.new ≡ (falls self.old why code).master }
+        ensures did { did.new ≡ (falls self.old why code).did }
+        ensures sent { out.new ≡ (falls self.old why code).sent }
+    {
+        self.end(false, why, code, did);
+        did.sent = true;
+        self.send(out);
+    }
+
     /// Counts a tick.
     fn count(&mut self, did: &mut Did, out: &mut FrameBuf)
         requires { is_due self.old.state ≡ false }
@@ -419,19 +345,14 @@ impl Master {
             did.clear();
             return;
         }
-        if self.state.is_reset() {
+        if self.phase.is_reset() {
             reset_frame(Code::LOCAL_RESET, self.kit.settings().own_len(), out);
             did.clear();
             did.sent = true;
             return;
         }
-        self.fall(
-            false,
-            Cause::Found(Code::WATCHDOG_EXPIRED),
-            Code::WATCHDOG_EXPIRED,
-            did,
-            out,
-        );
+        let code = Code::WATCHDOG_EXPIRED;
+        self.fall(Cause::Found(code), code, did, out);
     }
 
     /// Counts a tick while no frame is due. Where the age reaches the watchdog the session ends with code 5: the
@@ -472,7 +393,7 @@ impl Master {
         ensures done { is_due self.new.state ≡ false }
     {
         let mut did = Did::nothing();
-        self.fall(false, Cause::Local, Code::LOCAL_RESET, &mut did, out);
+        self.fall(Cause::Local, Code::LOCAL_RESET, &mut did, out);
         did
     }
 
@@ -527,7 +448,7 @@ impl Master {
         ensures shown { Shows self.now result model.state_of }
         ensures shown_due { ShowsDue self.now result model.state_of }
     {
-        self.state.state()
+        self.phase.state()
     }
 
     /// The outputs, as many bytes as the slave's frames have: those of the ProcessData frame that was taken last,
@@ -539,7 +460,7 @@ impl Master {
         ensures len { length result.now ≡ receives (OfMaster self.now.kit.settings) }
         ensures most { length result.now ≤ MOST_DATA }
     {
-        self.state.outputs(&self.kit)
+        self.phase.outputs(&self.kit)
     }
 
     /// The terms of the session, exactly in state Data.
@@ -548,7 +469,7 @@ impl Master {
         ensures shown { Shows self.now (option_copied result) model.told_terms }
         ensures shown_due { ShowsDue self.now (option_copied result) model.told_terms }
     {
-        self.state.terms()
+        self.phase.terms()
     }
 
     /// The ticks since the last frame was sent, 0 while a frame is due. That of a new master is its watchdog less 1.

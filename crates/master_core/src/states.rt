@@ -1,29 +1,29 @@
-//! The five states of a master. A state is made by the transitions of this crate alone, and owns what it needs. A
-//! transition takes an answer that passed the tests in this state, with what the chain notes of it, and gives what is to
-//! be sent next, or the code of the test of the answer's contents that fails.
-ghost use Rattle.std.specs.Prelude.{◌≡◌, IfOk, OnOk, OnErr};
+//! The five states of a master. A state is made by the transitions of this crate alone, and owns what it needs. It takes
+//! an answer that passed the tests in this state, with what the chain notes of it, or refuses it with the code of the test
+//! of the answer's contents that fails; and it sends the frame that follows.
+ghost use Rattle.std.specs.Prelude.{◌≡◌, OnOk, OnErr};
+ghost use Rattle.fsoe_base.specs.Codes.{local_reset};
 ghost use Rattle.fsoe_base.specs.declared.command.Command.TheVariants as command;
 ghost use Rattle.param_load.specs.Download.{outcome};
 ghost use Rattle.seq_chain.specs.Session.{HasPassed};
-ghost use Rattle.end_model.specs.Setup.{OfMaster, receives};
-ghost use Rattle.master_core.specs.Now.{NextUnder};
+ghost use Rattle.end_model.specs.Setup.{OfMaster, sends, receives};
+ghost use Rattle.seq_chain.specs.Reset.{reset_frame};
 ghost use Rattle.master_core.specs.Kit.{connection_download, parameter_download};
-ghost use Rattle.master_core.specs.States.{no_session, piece_sent, piece_frame, first_exchange, answered, with_download, first_data, session_next, connection_next, parameter_next, data_next, in_place, data_sent, data_frame};
+ghost use Rattle.master_core.specs.States.{piece_sent, piece_frame, first_exchange, answered, with_download, first_data, data_next, in_place, data_sent, data_frame};
 ghost use Rattle.master_core.specs.Views.{ExchangeUnder, DataUnder};
 
-use crate::due::Next;
 use crate::kit::Kit;
 use failsafe_io::{Outputs, data_holds};
 use fsoe_base::{Code, Command, FrameBuf};
 use param_load::{Download, Progress, Terms};
-use seq_chain::{Link, Session, SessionFrame};
+use seq_chain::{Link, Session, SessionFrame, reset_frame};
 use std::marker::Model;
 use std::mem;
 
-/// No session.
+/// No session. The code is that of the Reset frame that is due, and 0 while none is.
 #[derive(Debug, Drop)]
 pub struct InReset {
-    private: (),
+    code: Code,
 }
 
 /// A session in which session ids are exchanged.
@@ -57,6 +57,14 @@ pub struct InData {
 pub(crate) struct Exchange {
     pub(crate) session: Session,
     download: Download,
+}
+
+impl Model for InReset {
+    ghost use Rattle.fsoe_base.specs.declared.command.Code.{Code};
+
+    ghost Value = { Code };
+
+    ghost view = { λ s. s.code };
 }
 
 impl Model for InSession {
@@ -114,10 +122,20 @@ impl Exchange {
 }
 
 impl InReset {
-    pub(crate) fn new() -> InReset
-        ensures { result ≡ no_session }
+    /// The Reset frame with this code is to be sent.
+    pub(crate) fn new(code: Code) -> InReset
+        ensures { result ≡ code }
     {
-        InReset { private: () }
+        InReset { code }
+    }
+
+    /// Sends the Reset frame that is due.
+    pub(crate) fn send(&mut self, kit: &Kit, out: &mut FrameBuf)
+        ensures next { self.new ≡ local_reset }
+        ensures sent { out.new ≡ reset_frame self.old.0 (sends (OfMaster kit.now.settings)) }
+    {
+        reset_frame(self.code, kit.settings().own_len(), out);
+        self.code = Code::LOCAL_RESET;
     }
 }
 
@@ -133,28 +151,19 @@ impl InSession {
             session: Session::after(last),
             download: kit.session_download(),
         };
-        InSession { exchange }.send(kit, out)
+        let mut state = InSession { exchange };
+        state.send(kit, out);
+        state
     }
 
-    /// Sends the piece in turn of the session id, in place.
-    pub(crate) fn send_next(&mut self, kit: &Kit, out: &mut FrameBuf)
+    /// Sends the piece in turn of the session id.
+    pub(crate) fn send(&mut self, kit: &Kit, out: &mut FrameBuf)
         requires { ExchangeUnder kit.now.settings self.old }
         ensures next { self.new ≡ piece_sent command.Session 0 kit.now self.old }
         ensures sent { out.new ≡ piece_frame command.Session 0 kit.now self.old }
         ensures under { ExchangeUnder kit.now.settings self.new }
     {
         self.exchange.send(Command::Session, 0, kit, out);
-    }
-
-    /// Sends the piece in turn of the session id.
-    pub(crate) fn send(mut self, kit: &Kit, out: &mut FrameBuf) -> InSession
-        requires { ExchangeUnder kit.now.settings self }
-        ensures next { result ≡ piece_sent command.Session 0 kit.now self }
-        ensures sent { out.new ≡ piece_frame command.Session 0 kit.now self }
-        ensures under { ExchangeUnder kit.now.settings result }
-    {
-        self.send_next(kit, out);
-        self
     }
 
     /// State Connection of this session, of whose payload nothing was sent. This state is only left.
@@ -168,30 +177,11 @@ impl InSession {
             exchange: Exchange { session, download },
         }
     }
-
-    /// Goes on by a Session frame: the next piece, else the first Connection frame, is to be sent. Refused with 07h
-    /// where the padding isn't zeros.
-    pub(crate) fn take(
-        mut self,
-        seen: &SessionFrame<'_>,
-        link: Link,
-        kit: &Kit,
-    ) -> Result<Next, Code>
-        requires under { ExchangeUnder kit.now.settings self }
-        requires passed { HasPassed (receives (OfMaster kit.now.settings)) self.session.chain seen.now link }
-        ensures next { result ≡ session_next kit.now self seen.now }
-        ensures under { IfOk result (λ next. NextUnder kit.now.settings next) }
-    {
-        match self.exchange.take(seen, link, kit)? {
-            Progress::More => Ok(Next::Session(self)),
-            Progress::Whole => Ok(Next::Connection(self.to_connection(kit))),
-        }
-    }
 }
 
 impl InConnection {
-    /// Sends the piece in turn of the connection id and the address, in place.
-    pub(crate) fn send_next(&mut self, kit: &Kit, out: &mut FrameBuf)
+    /// Sends the piece in turn of the connection id and the address.
+    pub(crate) fn send(&mut self, kit: &Kit, out: &mut FrameBuf)
         requires { ExchangeUnder kit.now.settings self.old }
         ensures next { self.new ≡ piece_sent command.Connection kit.now.settings.conn kit.now self.old }
         ensures sent { out.new ≡ piece_frame command.Connection kit.now.settings.conn kit.now self.old }
@@ -199,17 +189,6 @@ impl InConnection {
     {
         let conn = kit.settings().conn();
         self.exchange.send(Command::Connection, conn, kit, out);
-    }
-
-    /// Sends the piece in turn of the connection id and the address.
-    pub(crate) fn send(mut self, kit: &Kit, out: &mut FrameBuf) -> InConnection
-        requires { ExchangeUnder kit.now.settings self }
-        ensures next { result ≡ piece_sent command.Connection kit.now.settings.conn kit.now self }
-        ensures sent { out.new ≡ piece_frame command.Connection kit.now.settings.conn kit.now self }
-        ensures under { ExchangeUnder kit.now.settings result }
-    {
-        self.send_next(kit, out);
-        self
     }
 
     /// State Parameter of this session, of whose payload nothing was sent. This state is only left.
@@ -223,30 +202,11 @@ impl InConnection {
             exchange: Exchange { session, download },
         }
     }
-
-    /// Goes on by a Connection frame: the next piece, else the first Parameter frame, is to be sent. Refused with 07h
-    /// where the answer isn't the piece sent, followed by zeros.
-    pub(crate) fn take(
-        mut self,
-        seen: &SessionFrame<'_>,
-        link: Link,
-        kit: &Kit,
-    ) -> Result<Next, Code>
-        requires under { ExchangeUnder kit.now.settings self }
-        requires passed { HasPassed (receives (OfMaster kit.now.settings)) self.session.chain seen.now link }
-        ensures next { result ≡ connection_next kit.now self seen.now }
-        ensures under { IfOk result (λ next. NextUnder kit.now.settings next) }
-    {
-        match self.exchange.take(seen, link, kit)? {
-            Progress::More => Ok(Next::Connection(self)),
-            Progress::Whole => Ok(Next::Parameter(self.to_parameter(kit))),
-        }
-    }
 }
 
 impl InParameter {
-    /// Sends the piece in turn of the parameters, in place.
-    pub(crate) fn send_next(&mut self, kit: &Kit, out: &mut FrameBuf)
+    /// Sends the piece in turn of the parameters.
+    pub(crate) fn send(&mut self, kit: &Kit, out: &mut FrameBuf)
         requires { ExchangeUnder kit.now.settings self.old }
         ensures next { self.new ≡ piece_sent command.Parameter kit.now.settings.conn kit.now self.old }
         ensures sent { out.new ≡ piece_frame command.Parameter kit.now.settings.conn kit.now self.old }
@@ -254,17 +214,6 @@ impl InParameter {
     {
         let conn = kit.settings().conn();
         self.exchange.send(Command::Parameter, conn, kit, out);
-    }
-
-    /// Sends the piece in turn of the parameters.
-    pub(crate) fn send(mut self, kit: &Kit, out: &mut FrameBuf) -> InParameter
-        requires { ExchangeUnder kit.now.settings self }
-        ensures next { result ≡ piece_sent command.Parameter kit.now.settings.conn kit.now self }
-        ensures sent { out.new ≡ piece_frame command.Parameter kit.now.settings.conn kit.now self }
-        ensures under { ExchangeUnder kit.now.settings result }
-    {
-        self.send_next(kit, out);
-        self
     }
 
     /// State Data of this session as it is entered, with zeros as outputs. This state is only left.
@@ -276,25 +225,6 @@ impl InParameter {
             session: mem::replace(&mut self.exchange.session, Session::new()),
             terms: kit.settings().terms(),
             outputs: Outputs::new(kit.settings().peer_len()),
-        }
-    }
-
-    /// Goes on by a Parameter frame: the next piece, else the first data frame, is to be sent. Refused with 07h where
-    /// the answer isn't the piece sent, followed by zeros.
-    pub(crate) fn take(
-        mut self,
-        seen: &SessionFrame<'_>,
-        link: Link,
-        kit: &Kit,
-    ) -> Result<Next, Code>
-        requires under { ExchangeUnder kit.now.settings self }
-        requires passed { HasPassed (receives (OfMaster kit.now.settings)) self.session.chain seen.now link }
-        ensures next { result ≡ parameter_next kit.now self seen.now }
-        ensures under { IfOk result (λ next. NextUnder kit.now.settings next) }
-    {
-        match self.exchange.take(seen, link, kit)? {
-            Progress::More => Ok(Next::Parameter(self)),
-            Progress::Whole => Ok(Next::Data(self.to_data(kit))),
         }
     }
 }
@@ -322,8 +252,8 @@ impl InData {
         Ok(())
     }
 
-    /// Sends a data frame, in place.
-    pub(crate) fn send_next(&mut self, kit: &Kit, out: &mut FrameBuf)
+    /// Sends a data frame.
+    pub(crate) fn send(&mut self, kit: &Kit, out: &mut FrameBuf)
         requires { DataUnder kit.now.settings self.old }
         ensures next { self.new ≡ data_sent kit.now self.old }
         ensures sent { out.new ≡ data_frame kit.now self.old }
@@ -332,16 +262,5 @@ impl InData {
         let offer = kit.offer();
         self.session
             .seal(offer.command(), self.terms.conn, offer.load(), out);
-    }
-
-    /// Sends a data frame.
-    pub(crate) fn send(mut self, kit: &Kit, out: &mut FrameBuf) -> InData
-        requires { DataUnder kit.now.settings self }
-        ensures next { result ≡ data_sent kit.now self }
-        ensures sent { out.new ≡ data_frame kit.now self }
-        ensures under { DataUnder kit.now.settings result }
-    {
-        self.send_next(kit, out);
-        self
     }
 }

@@ -1,0 +1,259 @@
+//! The phase that a master is in.
+ghost use Rattle.std.specs.Prelude.{◌≡◌, []};
+ghost use Rattle.end_model.specs.Setup.{OfMaster};
+ghost use Rattle.end_model.specs.Verdict.{has_conn};
+
+use crate::kit::Kit;
+use crate::states::{InConnection, InData, InParameter, InReset, InSession};
+use failsafe_io::zeros;
+use fsoe_base::{Code, Command, FrameBuf, MOST_DATA, State};
+use param_load::{MasterSettings, Progress, Terms};
+use seq_chain::{Link, Session, SessionFrame, test_session};
+use std::mem;
+
+/// The phase that a master is in: that of the frame that it sent last, or of the one that is due.
+#[derive(Debug, Drop)]
+pub(crate) enum Phase {
+    Reset(InReset),
+    /// This Reset frame of the slave began a session, whose first frame is due.
+    Begin(FrameBuf),
+    Session(InSession),
+    Connection(InConnection),
+    Parameter(InParameter),
+    Data(InData),
+}
+
+/// Whether the connection id of a frame with this command is right.
+fn has_conn(settings: &MasterSettings, command: Command, field: u16) -> bool
+    ensures { result ≡ has_conn (OfMaster settings.now) [] command field }
+{
+    match command {
+        Command::Reset | Command::Session => field == 0,
+        _ => field == settings.conn(),
+    }
+}
+
+impl Phase {
+    ghost use Rattle.std.specs.Prelude.{◌≡◌, ◌≤◌, length, Some, IfOk, option_copied};
+    ghost use Rattle.std.specs.Result.{result_err};
+    ghost use Rattle.seq_chain.specs.Chain.{tested};
+    ghost use Rattle.master_core.specs.declared.states.Exchange.{Exchange};
+    ghost use Rattle.master_core.specs.declared.phase.Phase.TheVariants as phase;
+    ghost use Rattle.master_core.specs.Kit.{connection_download, parameter_download};
+    ghost use Rattle.master_core.specs.States.{with_download, first_data};
+    ghost use Rattle.seq_chain.specs.Session.{HasPassed, is_repeat};
+    ghost use Rattle.end_model.specs.Setup.{OfMaster, receives};
+    ghost use Rattle.master_core.specs.Phase.{IsUnder, IsBegin, IsSession, IsConnection, IsParameter, state_of, is_reset, session_of, chain_of, kept_in, allows, fault, next_phase, placed, sent_phase, due_frame, outputs_in, terms_in};
+
+    pub(crate) fn state(&self) -> State
+        ensures { result ≡ state_of self.now }
+    {
+        match self {
+            Phase::Reset(_) => State::Reset,
+            Phase::Begin(_) | Phase::Session(_) => State::Session,
+            Phase::Connection(_) => State::Connection,
+            Phase::Parameter(_) => State::Parameter,
+            Phase::Data(_) => State::Data,
+        }
+    }
+
+    pub(crate) fn is_reset(&self) -> bool
+        ensures { result ≡ is_reset self.now }
+    {
+        matches!(self, Phase::Reset(_))
+    }
+
+    /// The session. There is none in state Reset, and none yet before its first frame.
+    fn session(&self) -> Option<&Session>
+        ensures { option_copied result ≡ session_of self.now }
+    {
+        match self {
+            Phase::Reset(_) | Phase::Begin(_) => None,
+            Phase::Session(state) => Some(&state.exchange.session),
+            Phase::Connection(state) => Some(&state.exchange.session),
+            Phase::Parameter(state) => Some(&state.exchange.session),
+            Phase::Data(state) => Some(&state.session),
+        }
+    }
+
+    /// Whether these bytes are those of the frame that was taken last. In state Reset none is kept.
+    pub(crate) fn is_repeat(&self, frame: &[u8]) -> bool
+        ensures { result ≡ is_repeat (kept_in self.now) frame.now }
+    {
+        seq_chain::is_repeat(self.session(), frame)
+    }
+
+    /// Whether a command of a session is allowed.
+    fn allows(&self, command: Command) -> bool
+        ensures { result ≡ allows self.now command }
+    {
+        match (self, command) {
+            (Phase::Session(_), Command::Session) => true,
+            (Phase::Connection(_), Command::Connection) => true,
+            (Phase::Parameter(_), Command::Parameter) => true,
+            (Phase::Data(_), Command::ProcessData) => true,
+            (Phase::Data(_), Command::FailSafeData) => true,
+            _ => false,
+        }
+    }
+
+    /// Tests a frame of a session: its command, its connection id, and its CRCs. It gives what is noted of the frame when
+    /// it is taken, or the code of the first test that fails.
+    pub(crate) fn test(
+        &self,
+        settings: &MasterSettings,
+        frame: &SessionFrame<'_>,
+    ) -> Result<Link, Code>
+        ensures code { result_err result ≡ fault settings.now self.now frame.now }
+        ensures link { IfOk result (λ link. tested (chain_of self.now) frame.now.frame ≡ Some link) }
+    {
+        let is_allowed = self.allows(frame.command());
+        let has_conn = has_conn(settings, frame.command(), frame.conn());
+        test_session(self.session(), is_allowed, has_conn, frame)
+    }
+
+    /// Takes a frame that passed the tests in this phase, with what the chain notes of it, and goes on to what is to be sent
+    /// next, in place. After a refusal the phase is only left.
+    pub(crate) fn take(
+        &mut self,
+        seen: &SessionFrame<'_>,
+        link: Link,
+        kit: &Kit,
+    ) -> Result<(), Code>
+        requires under { IsUnder kit.now.settings self.old }
+        requires passed { HasPassed (receives (OfMaster kit.now.settings)) (chain_of self.old) seen.now link }
+        ensures next { placed result self.new ≡ next_phase kit.now self.old seen.now }
+        ensures under { IsUnder kit.now.settings self.new }
+    {
+        let Phase::Data(state) = self else {
+            return self.shake_hands(seen, link, kit);
+        };
+        state.take(seen, link, kit)
+    }
+
+    // A function clears the room of all its locals, so that each change of phase, which makes a state, has one of its own.
+
+    /// Goes on to state Connection after the last answer in state Session.
+    #[inline(never)]
+    fn begin_connection(&mut self, kit: &Kit)
+        requires { IsSession self.old }
+        ensures next { (e : Exchange) → self.old ≡ phase.Session e → self.new ≡ phase.Connection (with_download e (connection_download kit.now.settings)) }
+        ensures under { IsUnder kit.now.settings self.new }
+    {
+        let Phase::Session(state) = self else {
+            unreachable!();
+        };
+        let next = state.to_connection(kit);
+        *self = Phase::Connection(next);
+    }
+
+    /// Goes on to state Parameter after the last answer in state Connection.
+    #[inline(never)]
+    fn begin_parameter(&mut self, kit: &Kit)
+        requires { IsConnection self.old }
+        ensures next { (e : Exchange) → self.old ≡ phase.Connection e → self.new ≡ phase.Parameter (with_download e (parameter_download kit.now.settings)) }
+        ensures under { IsUnder kit.now.settings self.new }
+    {
+        let Phase::Connection(state) = self else {
+            unreachable!();
+        };
+        let next = state.to_parameter(kit);
+        *self = Phase::Parameter(next);
+    }
+
+    /// Goes on to state Data after the last answer in state Parameter.
+    #[inline(never)]
+    fn begin_data(&mut self, kit: &Kit)
+        requires { IsParameter self.old }
+        ensures next { (e : Exchange) → self.old ≡ phase.Parameter e → self.new ≡ phase.Data (first_data kit.now e) }
+        ensures under { IsUnder kit.now.settings self.new }
+    {
+        let Phase::Parameter(state) = self else {
+            unreachable!();
+        };
+        let next = state.to_data(kit);
+        *self = Phase::Data(next);
+    }
+
+    /// The same, apart from state Data, so that a data frame doesn't bear the cost of a change of phase.
+    #[inline(never)]
+    fn shake_hands(&mut self, seen: &SessionFrame<'_>, link: Link, kit: &Kit) -> Result<(), Code>
+        requires under { IsUnder kit.now.settings self.old }
+        requires passed { HasPassed (receives (OfMaster kit.now.settings)) (chain_of self.old) seen.now link }
+        ensures next { placed result self.new ≡ next_phase kit.now self.old seen.now }
+        ensures under { IsUnder kit.now.settings self.new }
+    {
+        match self {
+            Phase::Reset(_) | Phase::Begin(_) => return Err(Code::COMMAND_NOT_ALLOWED),
+            Phase::Session(state) => match state.exchange.take(seen, link, kit)? {
+                Progress::More => {}
+                Progress::Whole => self.begin_connection(kit),
+            },
+            Phase::Connection(state) => match state.exchange.take(seen, link, kit)? {
+                Progress::More => {}
+                Progress::Whole => self.begin_parameter(kit),
+            },
+            Phase::Parameter(state) => match state.exchange.take(seen, link, kit)? {
+                Progress::More => {}
+                Progress::Whole => self.begin_data(kit),
+            },
+            Phase::Data(state) => state.take(seen, link, kit)?,
+        }
+        Ok(())
+    }
+
+    /// Begins a session by its first frame.
+    #[inline(never)]
+    fn begin_session(&mut self, kit: &Kit, out: &mut FrameBuf)
+        requires { IsBegin self.old }
+        ensures next { self.new ≡ sent_phase kit.now self.old }
+        ensures sent { out.new ≡ due_frame kit.now self.old }
+        ensures under { IsUnder kit.now.settings self.new }
+    {
+        let Phase::Begin(last) = self else {
+            unreachable!();
+        };
+        let last = mem::replace(last, FrameBuf::new());
+        *self = Phase::Session(InSession::begin(last, kit, out));
+    }
+
+    /// Sends the frame that is due, in place of what `out` held.
+    pub(crate) fn send(&mut self, kit: &Kit, out: &mut FrameBuf)
+        requires under { IsUnder kit.now.settings self.old }
+        ensures next { self.new ≡ sent_phase kit.now self.old }
+        ensures sent { out.new ≡ due_frame kit.now self.old }
+        ensures under { IsUnder kit.now.settings self.new }
+    {
+        match self {
+            Phase::Reset(state) => state.send(kit, out),
+            Phase::Begin(_) => self.begin_session(kit, out),
+            Phase::Session(state) => state.send(kit, out),
+            Phase::Connection(state) => state.send(kit, out),
+            Phase::Parameter(state) => state.send(kit, out),
+            Phase::Data(state) => state.send(kit, out),
+        }
+    }
+
+    /// The terms in state Data.
+    pub(crate) fn terms(&self) -> Option<&Terms>
+        ensures { option_copied result ≡ terms_in self.now }
+    {
+        match self {
+            Phase::Data(state) => Some(&state.terms),
+            _ => None,
+        }
+    }
+
+    /// The outputs: zeros in every state but Data.
+    pub(crate) fn outputs(&self, kit: &Kit) -> &[u8]
+        requires under { IsUnder kit.now.settings self.now }
+        ensures value { result.now ≡ outputs_in kit.now.settings self.now }
+        ensures len { length result.now ≡ receives (OfMaster kit.now.settings) }
+        ensures most { length result.now ≤ MOST_DATA }
+    {
+        match self {
+            Phase::Data(state) => state.outputs.bytes(),
+            _ => zeros(kit.settings().peer_len()),
+        }
+    }
+}
