@@ -1,5 +1,5 @@
 -- Why settings of many connections are refused.
-use Rattle.std.specs.Prelude.{◌≡◌, ℕ, false, nat_lt, List, [], length, Option, Some, None, option_map, map, if◌then◌else◌}
+use Rattle.std.specs.Prelude.{◌≡◌, ℕ, false, nat_lt, List, [], length, Option, Some, option_map, map, if◌then◌else◌}
 use Rattle.param_load.specs.SameConn.{same_conn}
 use Rattle.param_load.specs.declared.master_settings.MasterSettings.{MasterSettings}
 use Rattle.master_core.specs.MasterView.{MasterView}

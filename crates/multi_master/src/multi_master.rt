@@ -88,12 +88,26 @@ impl<A: Application> MultiMaster<A> {
         ensures settings { settings_of self.new ≡ settings_of self.old }
         ensures links { links self.new ≡ links self.old }
     {
+        let mut did = Did::nothing();
+        self.deliver_into(link, frame, &mut did, out);
+        did
+    }
+
+    /// As `deliver`, and writes what was done to `did`, in place of what it told: of a frame that is taken no data are moved.
+    pub fn deliver_into(&mut self, link: u16, frame: &[u8], did: &mut Did, out: &mut FrameBuf)
+        requires { HasLink self.old link }
+        ensures follows { let seen = seen A.rule A.holds A.guards in Follows (seen self.old) (Deliver link frame.now) (seen self.new) }
+        ensures offers { Offers (seen A.rule A.holds A.guards self.old) (Deliver link frame.now) }
+        ensures answers { AnswersFrame (seen A.rule A.holds A.guards self.old) link frame.now did.new out.new }
+        ensures settings { settings_of self.new ≡ settings_of self.old }
+        ensures links { links self.new ≡ links self.old }
+    {
         let place = usize::from(link) - 1;
-        let mut did = self.masters[place].accept(frame);
+        self.masters[place].accept_into(frame, did);
         if !self.masters[place].due() {
             self.changed.clear();
             out.clear();
-            return did;
+            return;
         }
         self.inputs[place].set(self.masters[place].outputs());
         run_cycle(
@@ -106,7 +120,6 @@ impl<A: Application> MultiMaster<A> {
         );
         self.masters[place].reply(out);
         did.sent = true;
-        did
     }
 
     /// Counts a tick at each connection, in their order, and writes what each did to its place in `dids`, and the frame that it sent
@@ -187,7 +200,8 @@ impl<A: Application> MultiMaster<A> {
     /// and zeros in every state but Data.
     pub fn outputs(&self, link: u16) -> &[u8]
         requires { HasLink self.now link }
-        ensures { ShowsAt (seen A.rule A.holds A.guards self.now) link result.now outputs_at }
+        ensures shown { ShowsAt (seen A.rule A.holds A.guards self.now) link result.now outputs_at }
+        ensures most { length result.now ≤ MOST_DATA }
     {
         self.masters[usize::from(link) - 1].outputs()
     }

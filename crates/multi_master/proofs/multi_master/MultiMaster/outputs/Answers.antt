@@ -4,8 +4,8 @@ use Rattle.end_model.specs.Outputs.{out}
 use Rattle.multi_master.proofs.Reading.{shown_at}
 use Rattle.multi_master.proofs.multi_master.MultiMaster.outputs.Goals as goal
 
-pub returns : goal.returns
-returns g c =
+pub returns-clause-shown : goal.returns-clause-shown
+returns-clause-shown g c =
     let place : ℕ = c.from.result - 1 in
     let fits : c.args.link ≤ length c.self.inside.masters.items = subst (λ v. c.args.link ≤ length v.masters) (sym c.self.view_is) c.requires.last in
     let at : slice_get c.self.inside.masters.items place ≡ Some c.index.result.now = slice_get_read c.self.inside.masters.items _ place _ refl (omega arith) c.index.ensures in

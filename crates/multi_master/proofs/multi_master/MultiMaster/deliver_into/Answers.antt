@@ -11,39 +11,39 @@ use Rattle.multi_master.proofs.Delivering.{drop_follows, drop_offers, drop_answe
 use Rattle.multi_master.proofs.Following.{runs_alike}
 use Rattle.multi_master.proofs.Keeping.{multi_set, one_rest, rest_at, written_back}
 use Rattle.multi_master.proofs.Places.{map_set, read_back, same_at, same_length, set_there}
-use Rattle.multi_master.proofs.multi_master.MultiMaster.deliver.Goals as goal
+use Rattle.multi_master.proofs.multi_master.MultiMaster.deliver_into.Goals as goal
 
 pub invariant_of-self : goal.invariant_of-self
 invariant_of-self g c =
     let place : ℕ = c.from-place.result - 1 in
     let masters : List MasterView = c.self.inside.masters.items in
-    let accepted : MasterView = c.accept-did.new.self in
+    let accepted : MasterView = c.accept_into.new.self in
     let fits : c.args.link ≤ length masters = subst (λ v. c.args.link ≤ length v.masters) (sym c.self.view_is) c.requires.last in
     let at : slice_get masters place ≡ Some c.index_mut.result.now = slice_get_read masters _ place _ refl (omega arith) c.index_mut.ensures.value in
     let same : c.index.result.now ≡ accepted = read_back masters place accepted _ (omega arith) c.index.ensures in
     let rest : is_due accepted.state ≡ false = ap due_in (sym same) ∙ sym c.due.ensures ∙ c.if-not-due.true in
-    multi_set masters c.self.inside.inputs.items c.self.inside.answers.items _ _ place c.index_mut.result.now accepted c.self.invariant at (ap (λ k. k.settings) c.accept-did.ensures.kit)
+    multi_set masters c.self.inside.inputs.items c.self.inside.answers.items _ _ place c.index_mut.result.now accepted c.self.invariant at (ap (λ k. k.settings) c.accept_into.ensures.kit)
     (rest ∙ sym (rest_at masters place c.index_mut.result.now c.self.invariant.rest at)) c.clear.ensures
 
 pub returns-then-not-due-clause-follows : goal.returns-then-not-due-clause-follows
 returns-then-not-due-clause-follows g c =
     let place : ℕ = c.from-place.result - 1 in
     let masters : List MasterView = c.self.inside.masters.items in
-    let accepted : MasterView = c.accept-did.new.self in
+    let accepted : MasterView = c.accept_into.new.self in
     let fits : c.args.link ≤ length masters = subst (λ v. c.args.link ≤ length v.masters) (sym c.self.view_is) c.requires.last in
     let at : slice_get masters place ≡ Some c.index_mut.result.now = slice_get_read masters _ place _ refl (omega arith) c.index_mut.ensures.value in
     let same : c.index.result.now ≡ accepted = read_back masters place accepted _ (omega arith) c.index.ensures in
     let rest : is_due accepted.state ≡ false = ap due_in (sym same) ∙ sym c.due.ensures ∙ c.if-not-due.true in
-    let none = sym c.accept-did.ensures.due ∙ rest in
+    let none = sym c.accept_into.ensures.due ∙ rest in
     rw (← c.self.view_is)
-    (drop_follows _ _ c.args.link place c.args.frame.now c.accept-did.result (omega arith) (record {
+    (drop_follows _ _ c.args.link place c.args.frame.now c.accept_into.new.did (omega arith) (record {
       before = c.index_mut.result.now;
       last = accepted;
       at = at;
-      accepts = c.accept-did.ensures.accepts;
+      accepts = c.accept_into.ensures.accepts;
       rest = rest;
       none = none;
-      unsent = c.accept-did.ensures.unsent;
+      unsent = c.accept_into.ensures.unsent;
       masters_are = refl;
       app_is = refl;
       inputs_are = refl;
@@ -54,21 +54,21 @@ pub returns-then-not-due-clause-offers : goal.returns-then-not-due-clause-offers
 returns-then-not-due-clause-offers g c =
     let place : ℕ = c.from-place.result - 1 in
     let masters : List MasterView = c.self.inside.masters.items in
-    let accepted : MasterView = c.accept-did.new.self in
+    let accepted : MasterView = c.accept_into.new.self in
     let fits : c.args.link ≤ length masters = subst (λ v. c.args.link ≤ length v.masters) (sym c.self.view_is) c.requires.last in
     let at : slice_get masters place ≡ Some c.index_mut.result.now = slice_get_read masters _ place _ refl (omega arith) c.index_mut.ensures.value in
     let same : c.index.result.now ≡ accepted = read_back masters place accepted _ (omega arith) c.index.ensures in
     let rest : is_due accepted.state ≡ false = ap due_in (sym same) ∙ sym c.due.ensures ∙ c.if-not-due.true in
-    let none = sym c.accept-did.ensures.due ∙ rest in
+    let none = sym c.accept_into.ensures.due ∙ rest in
     rw (← c.self.view_is)
-    (drop_offers _ _ c.args.link place c.args.frame.now c.accept-did.result (omega arith) (record {
+    (drop_offers _ _ c.args.link place c.args.frame.now c.accept_into.new.did (omega arith) (record {
       before = c.index_mut.result.now;
       last = accepted;
       at = at;
-      accepts = c.accept-did.ensures.accepts;
+      accepts = c.accept_into.ensures.accepts;
       rest = rest;
       none = none;
-      unsent = c.accept-did.ensures.unsent;
+      unsent = c.accept_into.ensures.unsent;
       masters_are = refl;
       app_is = refl;
       inputs_are = refl;
@@ -79,21 +79,21 @@ pub returns-then-not-due-clause-answers : goal.returns-then-not-due-clause-answe
 returns-then-not-due-clause-answers g c =
     let place : ℕ = c.from-place.result - 1 in
     let masters : List MasterView = c.self.inside.masters.items in
-    let accepted : MasterView = c.accept-did.new.self in
+    let accepted : MasterView = c.accept_into.new.self in
     let fits : c.args.link ≤ length masters = subst (λ v. c.args.link ≤ length v.masters) (sym c.self.view_is) c.requires.last in
     let at : slice_get masters place ≡ Some c.index_mut.result.now = slice_get_read masters _ place _ refl (omega arith) c.index_mut.ensures.value in
     let same : c.index.result.now ≡ accepted = read_back masters place accepted _ (omega arith) c.index.ensures in
     let rest : is_due accepted.state ≡ false = ap due_in (sym same) ∙ sym c.due.ensures ∙ c.if-not-due.true in
-    let none = sym c.accept-did.ensures.due ∙ rest in
+    let none = sym c.accept_into.ensures.due ∙ rest in
     rw (← c.self.view_is)
-    (drop_answers _ _ c.args.link place c.args.frame.now c.accept-did.result c.clear-then-not-due.new.self (omega arith) c.clear-then-not-due.ensures (record {
+    (drop_answers _ _ c.args.link place c.args.frame.now c.accept_into.new.did c.clear-then-not-due.new.self (omega arith) c.clear-then-not-due.ensures (record {
       before = c.index_mut.result.now;
       last = accepted;
       at = at;
-      accepts = c.accept-did.ensures.accepts;
+      accepts = c.accept_into.ensures.accepts;
       rest = rest;
       none = none;
-      unsent = c.accept-did.ensures.unsent;
+      unsent = c.accept_into.ensures.unsent;
       masters_are = refl;
       app_is = refl;
       inputs_are = refl;
@@ -104,27 +104,27 @@ pub returns-then-not-due-clause-settings : goal.returns-then-not-due-clause-sett
 returns-then-not-due-clause-settings g c =
     let place : ℕ = c.from-place.result - 1 in
     let masters : List MasterView = c.self.inside.masters.items in
-    let accepted : MasterView = c.accept-did.new.self in
+    let accepted : MasterView = c.accept_into.new.self in
     let fits : c.args.link ≤ length masters = subst (λ v. c.args.link ≤ length v.masters) (sym c.self.view_is) c.requires.last in
     let at : slice_get masters place ≡ Some c.index_mut.result.now = slice_get_read masters _ place _ refl (omega arith) c.index_mut.ensures.value in
-    rw (← c.self.view_is) (map_set settings_in masters place c.index_mut.result.now accepted at (ap (λ k. k.settings) c.accept-did.ensures.kit))
+    rw (← c.self.view_is) (map_set settings_in masters place c.index_mut.result.now accepted at (ap (λ k. k.settings) c.accept_into.ensures.kit))
 
 pub run_cycle-requires-clause-fits : goal.run_cycle-requires-clause-fits
 run_cycle-requires-clause-fits g c =
     let place : ℕ = c.from-place.result - 1 in
     let masters : List MasterView = c.self.inside.masters.items in
-    let accepted : MasterView = c.accept-did.new.self in
+    let accepted : MasterView = c.accept_into.new.self in
     let fits : c.args.link ≤ length masters = subst (λ v. c.args.link ≤ length v.masters) (sym c.self.view_is) c.requires.last in
     let at : slice_get masters place ≡ Some c.index_mut.result.now = slice_get_read masters _ place _ refl (omega arith) c.index_mut.ensures.value in
     ap (map length) c.as_mut_slice.ensures.value ∙ c.self.invariant.answers_fit
-    ∙ sym (map_set own_len masters place c.index_mut.result.now accepted at (ap (λ k. k.settings.lengths.master) c.accept-did.ensures.kit))
+    ∙ sym (map_set own_len masters place c.index_mut.result.now accepted at (ap (λ k. k.settings.lengths.master) c.accept_into.ensures.kit))
     ∙ ap (map own_len) (sym c.as_mut_slice-2.ensures.value)
 
 pub reply-requires : goal.reply-requires
 reply-requires g c =
     let place : ℕ = c.from-place.result - 1 in
     let masters : List MasterView = c.self.inside.masters.items in
-    let accepted : MasterView = c.accept-did.new.self in
+    let accepted : MasterView = c.accept_into.new.self in
     let fits : c.args.link ≤ length masters = subst (λ v. c.args.link ≤ length v.masters) (sym c.self.view_is) c.requires.last in
     let at : slice_get masters place ≡ Some c.index_mut.result.now = slice_get_read masters _ place _ refl (omega arith) c.index_mut.ensures.value in
     let same : c.index.result.now ≡ accepted = read_back masters place accepted _ (omega arith) c.index.ensures in
@@ -142,7 +142,7 @@ pub invariant_of-self-2 : goal.invariant_of-self-2
 invariant_of-self-2 g c =
     let place : ℕ = c.from-place.result - 1 in
     let masters : List MasterView = c.self.inside.masters.items in
-    let accepted : MasterView = c.accept-did.new.self in
+    let accepted : MasterView = c.accept_into.new.self in
     let fits : c.args.link ≤ length masters = subst (λ v. c.args.link ≤ length v.masters) (sym c.self.view_is) c.requires.last in
     let at : slice_get masters place ≡ Some c.index_mut.result.now = slice_get_read masters _ place _ refl (omega arith) c.index_mut.ensures.value in
     let same : c.index.result.now ≡ accepted = read_back masters place accepted _ (omega arith) c.index.ensures in
@@ -169,7 +169,7 @@ pub returns-clause-follows : goal.returns-clause-follows
 returns-clause-follows g c =
     let place : ℕ = c.from-place.result - 1 in
     let masters : List MasterView = c.self.inside.masters.items in
-    let accepted : MasterView = c.accept-did.new.self in
+    let accepted : MasterView = c.accept_into.new.self in
     let fits : c.args.link ≤ length masters = subst (λ v. c.args.link ≤ length v.masters) (sym c.self.view_is) c.requires.last in
     let at : slice_get masters place ≡ Some c.index_mut.result.now = slice_get_read masters _ place _ refl (omega arith) c.index_mut.ensures.value in
     let same : c.index.result.now ≡ accepted = read_back masters place accepted _ (omega arith) c.index.ensures in
@@ -183,7 +183,7 @@ returns-clause-follows g c =
     let ready : is_due c.index_mut-3.result.now.state ≡ true = same_at due_in due_in put (slice_set masters place accepted) place c.index_mut-3.result.now accepted dues ready_at (set_there masters place _ accepted at) ∙ due in
     let again : c.index-2.result.now ≡ accepted = read_back masters place accepted _ (omega arith) c.index-2.ensures in
     rw (← c.self.view_is, back)
-    (hear_follows _ _ c.args.link place c.args.frame.now c.accept-did.result c.reply.new.out (omega arith) (record {
+    (hear_follows _ _ c.args.link place c.args.frame.now c.accept_into.new.did c.reply.new.out (omega arith) (record {
       before = c.index_mut.result.now;
       accepted = accepted;
       input = c.set.new.self;
@@ -191,9 +191,9 @@ returns-clause-follows g c =
       ready = c.index_mut-3.result.now;
       last = c.reply.new.self;
       at = at;
-      accepts = c.accept-did.ensures.accepts;
-      settings = ap (λ k. k.settings) c.accept-did.ensures.kit;
-      some = sym c.accept-did.ensures.due ∙ due;
+      accepts = c.accept_into.ensures.accepts;
+      settings = ap (λ k. k.settings) c.accept_into.ensures.kit;
+      some = sym c.accept_into.ensures.due ∙ due;
       reads = subst (λ (m : MasterView). ShowsDue m c.set.new.self out) again (subst (λ (xs : List ℕ). ShowsDue c.index-2.result.now xs out) (sym c.set.ensures) c.outputs.ensures.shown_due);
       inputs_are = refl;
       cycle = runs_alike _ _ _ _ _ _ _ _ _ _ c.run_cycle.ensures.runs c.as_slice.ensures.value c.as_mut_slice-2.ensures.value refl;
@@ -207,7 +207,7 @@ pub returns-clause-offers : goal.returns-clause-offers
 returns-clause-offers g c =
     let place : ℕ = c.from-place.result - 1 in
     let masters : List MasterView = c.self.inside.masters.items in
-    let accepted : MasterView = c.accept-did.new.self in
+    let accepted : MasterView = c.accept_into.new.self in
     let fits : c.args.link ≤ length masters = subst (λ v. c.args.link ≤ length v.masters) (sym c.self.view_is) c.requires.last in
     let at : slice_get masters place ≡ Some c.index_mut.result.now = slice_get_read masters _ place _ refl (omega arith) c.index_mut.ensures.value in
     let same : c.index.result.now ≡ accepted = read_back masters place accepted _ (omega arith) c.index.ensures in
@@ -221,7 +221,7 @@ returns-clause-offers g c =
     let ready : is_due c.index_mut-3.result.now.state ≡ true = same_at due_in due_in put (slice_set masters place accepted) place c.index_mut-3.result.now accepted dues ready_at (set_there masters place _ accepted at) ∙ due in
     let again : c.index-2.result.now ≡ accepted = read_back masters place accepted _ (omega arith) c.index-2.ensures in
     rw (← c.self.view_is)
-    (hear_offers _ _ c.args.link place c.args.frame.now c.accept-did.result c.reply.new.out (omega arith) (record {
+    (hear_offers _ _ c.args.link place c.args.frame.now c.accept_into.new.did c.reply.new.out (omega arith) (record {
       before = c.index_mut.result.now;
       accepted = accepted;
       input = c.set.new.self;
@@ -229,9 +229,9 @@ returns-clause-offers g c =
       ready = c.index_mut-3.result.now;
       last = c.reply.new.self;
       at = at;
-      accepts = c.accept-did.ensures.accepts;
-      settings = ap (λ k. k.settings) c.accept-did.ensures.kit;
-      some = sym c.accept-did.ensures.due ∙ due;
+      accepts = c.accept_into.ensures.accepts;
+      settings = ap (λ k. k.settings) c.accept_into.ensures.kit;
+      some = sym c.accept_into.ensures.due ∙ due;
       reads = subst (λ (m : MasterView). ShowsDue m c.set.new.self out) again (subst (λ (xs : List ℕ). ShowsDue c.index-2.result.now xs out) (sym c.set.ensures) c.outputs.ensures.shown_due);
       inputs_are = refl;
       cycle = runs_alike _ _ _ _ _ _ _ _ _ _ c.run_cycle.ensures.runs c.as_slice.ensures.value c.as_mut_slice-2.ensures.value refl;
@@ -245,7 +245,7 @@ pub returns-clause-answers : goal.returns-clause-answers
 returns-clause-answers g c =
     let place : ℕ = c.from-place.result - 1 in
     let masters : List MasterView = c.self.inside.masters.items in
-    let accepted : MasterView = c.accept-did.new.self in
+    let accepted : MasterView = c.accept_into.new.self in
     let fits : c.args.link ≤ length masters = subst (λ v. c.args.link ≤ length v.masters) (sym c.self.view_is) c.requires.last in
     let at : slice_get masters place ≡ Some c.index_mut.result.now = slice_get_read masters _ place _ refl (omega arith) c.index_mut.ensures.value in
     let same : c.index.result.now ≡ accepted = read_back masters place accepted _ (omega arith) c.index.ensures in
@@ -259,7 +259,7 @@ returns-clause-answers g c =
     let ready : is_due c.index_mut-3.result.now.state ≡ true = same_at due_in due_in put (slice_set masters place accepted) place c.index_mut-3.result.now accepted dues ready_at (set_there masters place _ accepted at) ∙ due in
     let again : c.index-2.result.now ≡ accepted = read_back masters place accepted _ (omega arith) c.index-2.ensures in
     rw (← c.self.view_is)
-    (hear_answers _ _ c.args.link place c.args.frame.now c.accept-did.result c.reply.new.out (omega arith) (record {
+    (hear_answers _ _ c.args.link place c.args.frame.now c.accept_into.new.did c.reply.new.out (omega arith) (record {
       before = c.index_mut.result.now;
       accepted = accepted;
       input = c.set.new.self;
@@ -267,9 +267,9 @@ returns-clause-answers g c =
       ready = c.index_mut-3.result.now;
       last = c.reply.new.self;
       at = at;
-      accepts = c.accept-did.ensures.accepts;
-      settings = ap (λ k. k.settings) c.accept-did.ensures.kit;
-      some = sym c.accept-did.ensures.due ∙ due;
+      accepts = c.accept_into.ensures.accepts;
+      settings = ap (λ k. k.settings) c.accept_into.ensures.kit;
+      some = sym c.accept_into.ensures.due ∙ due;
       reads = subst (λ (m : MasterView). ShowsDue m c.set.new.self out) again (subst (λ (xs : List ℕ). ShowsDue c.index-2.result.now xs out) (sym c.set.ensures) c.outputs.ensures.shown_due);
       inputs_are = refl;
       cycle = runs_alike _ _ _ _ _ _ _ _ _ _ c.run_cycle.ensures.runs c.as_slice.ensures.value c.as_mut_slice-2.ensures.value refl;
@@ -283,7 +283,7 @@ pub returns-clause-settings : goal.returns-clause-settings
 returns-clause-settings g c =
     let place : ℕ = c.from-place.result - 1 in
     let masters : List MasterView = c.self.inside.masters.items in
-    let accepted : MasterView = c.accept-did.new.self in
+    let accepted : MasterView = c.accept_into.new.self in
     let fits : c.args.link ≤ length masters = subst (λ v. c.args.link ≤ length v.masters) (sym c.self.view_is) c.requires.last in
     let at : slice_get masters place ≡ Some c.index_mut.result.now = slice_get_read masters _ place _ refl (omega arith) c.index_mut.ensures.value in
     let same : c.index.result.now ≡ accepted = read_back masters place accepted _ (omega arith) c.index.ensures in
@@ -297,7 +297,7 @@ returns-clause-settings g c =
     let ready : is_due c.index_mut-3.result.now.state ≡ true = same_at due_in due_in put (slice_set masters place accepted) place c.index_mut-3.result.now accepted dues ready_at (set_there masters place _ accepted at) ∙ due in
     rw (← c.self.view_is, back)
     (map_set settings_in put place c.index_mut-3.result.now c.reply.new.self ready_at (ap (λ k. k.settings) c.reply.ensures.kit)
-    ∙ c.run_cycle.ensures.settings ∙ ap (map settings_in) c.as_mut_slice-2.ensures.value ∙ map_set settings_in masters place c.index_mut.result.now accepted at (ap (λ k. k.settings) c.accept-did.ensures.kit))
+    ∙ c.run_cycle.ensures.settings ∙ ap (map settings_in) c.as_mut_slice-2.ensures.value ∙ map_set settings_in masters place c.index_mut.result.now accepted at (ap (λ k. k.settings) c.accept_into.ensures.kit))
 
 pub returns-then-not-due-clause-links : goal.returns-then-not-due-clause-links
 returns-then-not-due-clause-links g c = same_length settings_in settings_in _ _ (returns-then-not-due-clause-settings g c)
