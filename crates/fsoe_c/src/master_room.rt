@@ -79,8 +79,8 @@ impl MasterRoom {
         ensures unsent { did.new.sent ≡ 0 }
         ensures past_load { drop did.new.load_len did.new.load ≡ drop did.new.load_len did.old.load }
     {
-        let done = self.master.accept(frame);
-        did.set(&done);
+        self.master.accept_into(frame, &mut self.heard);
+        did.set(&self.heard);
     }
 
     /// Writes the frame that is due.
