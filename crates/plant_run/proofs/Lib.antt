@@ -6,6 +6,7 @@ mod Given
 mod Growing
 mod Lines
 mod Linked
+mod LinkLines
 mod Linking
 mod Masters
 mod Names
@@ -14,7 +15,11 @@ mod OneDeed
 mod Others
 mod Proper
 mod Pulling
+mod RanPlant
 mod Readers
+mod ScriptFits
 mod Scripted
+mod TakenApps
 mod TicksText
 mod Traces
+mod Turned

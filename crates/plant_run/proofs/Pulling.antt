@@ -47,7 +47,7 @@ use Rattle.plant_run.proofs.OneDeed.{frame_in, one_frames, apart, quiet_answered
 more_acts : (more some done : List Act) → (more ++ some) ++ done ≡ more ++ (some ++ done)
 more_acts more some done = append_assoc more some done
 
-more_uses : (b : Beginning) (more some done : List Act) → uses_after b (more ++ some) done ≡ uses_after b some done ++ uses_after b more (some ++ done)
+pub more_uses : (b : Beginning) (more some done : List Act) → uses_after b (more ++ some) done ≡ uses_after b some done ++ uses_after b more (some ++ done)
 more_uses b [] some done = sym (append-nil (uses_after b some done))
 more_uses b (act ∷ more) some done =
     let own : List Act → List Use = λ z. uses_of b.seed act (all_pushes b.links (λ k. is_cut k (act ∷ z)) (journal b z) (journal b (act ∷ z))) in

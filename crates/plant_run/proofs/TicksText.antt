@@ -26,7 +26,7 @@ lines_split links before (x ∷ a) b one is =
     ∙ ap (λ (z : List JournalStep). (due ++ lines_from links (before ++ x ∷ []) a) ++ lines_from links (z ++ one ∷ []) b) (append_assoc before (x ∷ []) a)
 
 -- steps that are no lines of the script come before the lines of their tick
-lines_quiet : (links : List LinkConf) (before rest : List JournalStep) → line_steps rest ≡ [] → lines_from links before rest ≡ lines_due links (before ++ rest)
+pub lines_quiet : (links : List LinkConf) (before rest : List JournalStep) → line_steps rest ≡ [] → lines_from links before rest ≡ lines_due links (before ++ rest)
 lines_quiet links before [] none = ap (lines_due links) (sym (append-nil before))
 lines_quiet links before (step.Script e ∷ rest) none = cc
 lines_quiet links before (step.App ∷ rest) none = cc
@@ -39,7 +39,7 @@ in_tick_append : (before : Bool) (a b : List JournalStep) → in_tick before (a 
 in_tick_append before [] b = refl
 in_tick_append before (x ∷ a) b = in_tick_append (if is_line x then is_tick x else before) a b
 
-in_tick_quiet : (before : Bool) (rest : List JournalStep) → line_steps rest ≡ [] → in_tick before rest ≡ before
+pub in_tick_quiet : (before : Bool) (rest : List JournalStep) → line_steps rest ≡ [] → in_tick before rest ≡ before
 in_tick_quiet before [] none = refl
 in_tick_quiet before (step.Script e ∷ rest) none = cc
 in_tick_quiet before (step.App ∷ rest) none = cc

@@ -1,11 +1,13 @@
 pub mod Acts
 pub mod Doing
 pub mod FairPairs
+pub mod Given
 pub mod Link
 pub mod Making
 pub mod Pair
 pub mod PlantReport
 pub mod Promises
+pub mod Ran
 pub mod Reporting
 pub mod Running
 pub mod Script

@@ -7,15 +7,17 @@ mod event;
 mod journal;
 pub mod laws;
 mod link;
+mod machine;
 mod making;
 mod offers;
 mod plant;
 mod pushing;
-pub mod report_laws;
+mod run;
 mod script;
 mod script_line;
 
 pub use event::{MAX_SCRIPT, PlantEvent, PlantLine};
 pub use journal::{Journal, JournalStep};
 pub use plant::Plant;
+pub use run::run_plant;
 pub use script_line::read_plant_event;

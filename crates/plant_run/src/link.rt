@@ -1,11 +1,12 @@
 //! What a plant keeps of one connection beside its master.
-ghost use Rattle.std.specs.Prelude.{◌≡◌, ◌+◌, ◌<◌, ◌^◌, List, is_some};
+ghost use Rattle.std.specs.Prelude.{◌≡◌, ◌+◌, ◌<◌, ◌≤◌, ◌^◌, List, is_some, length};
 ghost use Rattle.param_load.specs.declared.entry.Move.TheVariants as event;
 ghost use Rattle.end_model.specs.Readiness as model;
 ghost use Rattle.end_model.specs.Outputs as looking_back;
 ghost use Rattle.param_load.specs.declared.entry.Entry.{Entry};
 ghost use Rattle.exchange_model.specs.Monitor.{view_of};
 ghost use Rattle.exchange_model.specs.Other.{first_other};
+ghost use Rattle.fsoe_base.specs.declared.lengths.TheConstants.{MOST_DATA};
 ghost use Rattle.slave_core.specs.Standing.{Shows};
 
 use exchange_model::Monitor;
@@ -167,7 +168,8 @@ impl Link {
 
     /// The outputs of the slave.
     pub(crate) fn outputs(&self) -> &[u8]
-        ensures { Shows self.now.slave result.now looking_back.out }
+        ensures shown { Shows self.now.slave result.now looking_back.out }
+        ensures most { length result.now ≤ MOST_DATA }
     {
         self.slave.outputs()
     }

@@ -1,8 +1,10 @@
 //! Many connections and an application.
-ghost use Rattle.std.specs.Prelude.{◌≡◌, ◌≤◌, List, length};
+ghost use Rattle.std.specs.Prelude.{◌≡◌, ◌≤◌, ◌⊎◌, All, List, length, map};
 ghost use Rattle.end_model.specs.Outputs.{out};
 ghost use Rattle.end_model.specs.Readiness.{state_of};
 ghost use Rattle.fsoe_base.specs.declared.command.End.TheVariants as side;
+ghost use Rattle.fsoe_base.specs.declared.lengths.TheConstants.{MOST_DATA};
+ghost use Rattle.plant_conf.specs.ConfView.{HasSameLengths};
 ghost use Rattle.plant_conf.specs.declared.conf.LinkConf.{LinkConf};
 ghost use Rattle.plant_run.specs.Pair.{state_at, outputs_at, lowest_other};
 ghost use Rattle.std.specs.Prelude.{[], ◌∷◌, map, IfOk, OnOk, OnErr};
@@ -21,11 +23,14 @@ use crate::link::Link;
 use crate::making::ends_made;
 use black_channel::Channel;
 use failsafe_io::Application;
-use fb_net::{KindOf, Net};
+use fb_net::{EntryOf, KindOf, Net};
+use file_run::Stopped;
 use fsoe_base::{Memory, State};
 use plant_conf::PlantConf;
+use plant_setup::take_app;
 use std::alloc::Global;
 use std::marker::Model;
+use std::mem;
 
 /// Up to 64 connections, each with both its ends, and an application that decides the offers of all masters. Their frames go through a
 /// channel that is handed in with each call. What was done is noted in a journal.
@@ -67,31 +72,60 @@ impl<H: Application> Plant<KindOf<H>> {
         ensures lengths { IfOk result (λ plant. lengths_kept plant.links ≡ map lengths_in conf.now.links) }
         ensures kept { OnErr result (channel.new ≡ channel.old) }
     {
-        let Ok(none) = Net::new(Vec::new(alloc), Vec::new(alloc), &[], &[]) else {
-            return Err(Memory);
-        };
-        begin(alloc, conf, KindOf::Net(none), app, channel)
+        let mut app = app;
+        Plant::begun(alloc, conf, &mut app, channel)
+    }
+
+    /// The same, with an application that stays where it is after `Memory`; else an empty net is left in its place.
+    pub(crate) fn begun<C: Channel>(
+        alloc: Global,
+        conf: &PlantConf,
+        app: &mut KindOf<H>,
+        channel: &mut C,
+    ) -> Result<Plant<KindOf<H>>, Memory>
+        ensures stands { let K = ⟦<KindOf<H> as Application>⟧ in IfOk result (λ plant. PlantStands (record { links = conf.now.links; app = app_view K.rule K.holds K.guards app.old; seed = conf.now.seed }) (seen K.rule K.holds K.guards plant) []) }
+        ensures channel { let K = ⟦<KindOf<H> as Application>⟧ in OnOk result (Trace (uses (record { links = conf.now.links; app = app_view K.rule K.holds K.guards app.old; seed = conf.now.seed }) (Start ∷ [])) (C.told channel.old) (C.told channel.new)) }
+        ensures lengths { IfOk result (λ plant. lengths_kept plant.links ≡ map lengths_in conf.now.links) }
+        ensures same_lengths { OnOk result (All HasSameLengths conf.now.links) }
+        ensures kept { OnErr result (channel.new ≡ channel.old) }
+        ensures unused { OnErr result (app.new ≡ app.old) }
+    {
+        let before = empty_net(alloc)?;
+        let after = empty_net(alloc)?;
+        begin(alloc, conf, before, app, after, channel)
     }
 }
 
-/// A plant of this configuration's connections, in which this application runs, and another one ran before its first cycle.
+/// The net that has no block and drives nothing.
+fn empty_net<H: Application>(alloc: Global) -> Result<KindOf<H>, Memory> {
+    match Net::new(Vec::new(alloc), Vec::new(alloc), &[], &[]) {
+        Ok(net) => Ok(KindOf::Net(net)),
+        Err(_) => Err(Memory),
+    }
+}
+
+/// A plant of this configuration's connections, in which this application runs, and another one ran before its first cycle. A third one is
+/// left in its place.
 fn begin<A: Application, C: Channel>(
     alloc: Global,
     conf: &PlantConf,
     before: A,
-    app: A,
+    app: &mut A,
+    after: A,
     channel: &mut C,
 ) -> Result<Plant<A>, Memory>
-    ensures stands { IfOk result (λ plant. PlantStands (record { links = conf.now.links; app = app_view A.rule A.holds A.guards app; seed = conf.now.seed }) (seen A.rule A.holds A.guards plant) []) }
-    ensures channel { OnOk result (Trace (uses (record { links = conf.now.links; app = app_view A.rule A.holds A.guards app; seed = conf.now.seed }) (Start ∷ [])) (C.told channel.old) (C.told channel.new)) }
+    ensures stands { IfOk result (λ plant. PlantStands (record { links = conf.now.links; app = app_view A.rule A.holds A.guards app.old; seed = conf.now.seed }) (seen A.rule A.holds A.guards plant) []) }
+    ensures channel { OnOk result (Trace (uses (record { links = conf.now.links; app = app_view A.rule A.holds A.guards app.old; seed = conf.now.seed }) (Start ∷ [])) (C.told channel.old) (C.told channel.new)) }
     ensures lengths { IfOk result (λ plant. lengths_kept plant.links ≡ map lengths_in conf.now.links) }
+    ensures same_lengths { OnOk result (All HasSameLengths conf.now.links) }
     ensures kept { OnErr result (channel.new ≡ channel.old) }
+    ensures unused { OnErr result (app.new ≡ app.old) }
 {
     let mut ends = ends_made(alloc, conf.links(), before)?;
     let mut journal = Journal::new(alloc);
     take_room(&mut journal.steps, ends.links.len())?;
     channel.begin(conf.seed());
-    ends.start(app, &mut journal.steps);
+    ends.start(mem::replace(app, after), &mut journal.steps);
     Ok(Plant { ends, journal })
 }
 
@@ -137,9 +171,17 @@ impl<A: Application> Plant<A> {
         &self.journal
     }
 
+    /// The same, of a plant that isn't needed any longer.
+    pub fn into_journal(self) -> Journal
+        ensures { result ≡ self.journal }
+    {
+        self.journal
+    }
+
     /// The number of connections, which are numbered from 1.
     pub fn links(&self) -> u16
-        ensures { result ≡ length self.now.links }
+        ensures count { result ≡ length self.now.links }
+        ensures most { result ≤ 64 }
     {
         self.ends.links.len() as u16
     }
@@ -163,7 +205,8 @@ impl<A: Application> Plant<A> {
     /// The outputs of the slave of this connection.
     pub fn slave_outputs(&self, link: u16) -> &[u8]
         requires { HasLink self.now link }
-        ensures { ShowsPair (seen A.rule A.holds A.guards self.now) link result.now (λ l w. outputs_at l side.Slave w) }
+        ensures shown { ShowsPair (seen A.rule A.holds A.guards self.now) link result.now (λ l w. outputs_at l side.Slave w) }
+        ensures most { length result.now ≤ MOST_DATA }
     {
         self.ends.links[usize::from(link) - 1].outputs()
     }
@@ -181,9 +224,49 @@ impl<A: Application> Plant<A> {
     #[tactic(auto, using(crate::proofs::Readers::master_has, crate::proofs::Readers::master_outputs_shown))]
     pub fn master_outputs(&self, link: u16) -> &[u8]
         requires { HasLink self.now link }
-        ensures { ShowsPair (seen A.rule A.holds A.guards self.now) link result.now (λ l w. outputs_at l side.Master w) }
+        ensures shown { ShowsPair (seen A.rule A.holds A.guards self.now) link result.now (λ l w. outputs_at l side.Master w) }
+        ensures most { length result.now ≤ MOST_DATA }
     {
         self.ends.master.outputs(link)
+    }
+}
+
+impl<H: Application> Plant<KindOf<H>> {
+    ghost use Rattle.std.specs.Prelude.{OnOk, OnErr, IfErr, None, string_bytes};
+    ghost use Rattle.multi_master.specs.Standing.{app_view};
+    ghost use Rattle.fb_net.specs.declared.kind_of.EntryOf.{EntryOf};
+    ghost use Rattle.fb_net.specs.declared.kind_of.KindOf.TheVariants as kind;
+    ghost use Rattle.file_run.specs.declared.stopped.Stopped.TheVariants as stopped;
+    ghost use Rattle.plant_setup.specs.Names.{place_of, IsTaken};
+    ghost use Rattle.plant_run.specs.Acts.{App};
+    ghost use Rattle.plant_run.specs.Standing.{seen, lengths_kept, Follows};
+
+    /// Has the first spare application of this name run in the place of the one that runs, as `change_app` does. All room is taken first;
+    /// after an error nothing is changed: `NoApp` where there is none of this name, or `Memory`.
+    pub(crate) fn take_spare(
+        &mut self,
+        name: &[u8],
+        spare: &mut Vec<EntryOf<H>>,
+    ) -> Result<(), Stopped>
+        ensures follows { let K = ⟦<KindOf<H> as Application>⟧ in let seen = seen K.rule K.holds K.guards in
+            OnOk result ((entry : EntryOf H) × IsTaken (λ e. string_bytes e.name) name.now spare.old.items entry spare.new.items
+            × ((told : Told) → Follows (seen self.old) (App (app_view K.rule K.holds K.guards (kind.Handed entry.app))) (seen self.new) told told)) }
+        ensures lengths { lengths_kept self.new.links ≡ lengths_kept self.old.links }
+        ensures none { IfErr result (λ why. (why ≡ stopped.Memory) ⊎ ((why ≡ stopped.NoApp) × (place_of name.now (map (λ e. string_bytes e.name) spare.old.items) ≡ None))) }
+        ensures kept { OnErr result (self.new ≡ self.old) }
+        ensures unused { OnErr result (spare.new.items ≡ spare.old.items) }
+    {
+        if take_room(&mut self.journal.steps, 1 + self.ends.links.len()).is_err() {
+            return Err(Stopped::Memory);
+        }
+        match take_app(name, spare) {
+            Some(entry) => {
+                self.ends
+                    .change_app(KindOf::Handed(entry.app), &mut self.journal.steps);
+                Ok(())
+            }
+            None => Err(Stopped::NoApp),
+        }
     }
 }
 

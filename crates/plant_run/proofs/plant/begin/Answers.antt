@@ -15,7 +15,8 @@ returns-clause-stands g c =
     let steps = c.in_ok-take_room.ensures.steps ∙ c.journal.view_is ∙ c.new-journal.ensures in
     let offers = rw (links, steps) at c.start.ensures.offers in
     let begins = rw c.seed.ensures at c.begin.ensures.begins in
-    starts _ _ _ _ (record {
+    let first = c.replace.ensures.value in
+    rw (← first) (starts _ _ _ _ (record {
       old = multi.seen A.rule A.holds A.guards c.in_ok-ends.ends.master;
       other = app_view A.rule A.holds A.guards c.args.before;
       stands = stands;
@@ -23,7 +24,7 @@ returns-clause-stands g c =
       offers = offers;
       cycles = c.start.ensures.cycles;
       begins = begins;
-    })
+    }))
 
 pub returns-clause-channel : goal.returns-clause-channel
 returns-clause-channel g c =
@@ -33,7 +34,9 @@ returns-clause-channel g c =
     let steps = c.in_ok-take_room.ensures.steps ∙ c.journal.view_is ∙ c.new-journal.ensures in
     let offers = rw (links, steps) at c.start.ensures.offers in
     let begins = rw c.seed.ensures at c.begin.ensures.begins in
-    start_uses (record { links = c.args.conf.now.links; app = app_view A.rule A.holds A.guards c.args.app; seed = c.args.conf.now.seed })
+    let first = c.replace.ensures.value in
+    rw (← first)
+    (start_uses (record { links = c.args.conf.now.links; app = app_view A.rule A.holds A.guards c.replace.result; seed = c.args.conf.now.seed })
     (record { master = multi.seen A.rule A.holds A.guards c.start.new.self.master; links = c.start.new.self.links.items; journal = c.start.new.steps.items }) _ _ (record {
       old = multi.seen A.rule A.holds A.guards c.in_ok-ends.ends.master;
       other = app_view A.rule A.holds A.guards c.args.before;
@@ -42,7 +45,7 @@ returns-clause-channel g c =
       offers = offers;
       cycles = c.start.ensures.cycles;
       begins = begins;
-    })
+    }))
 
 pub returns-clause-lengths : goal.returns-clause-lengths
 returns-clause-lengths g c =

@@ -1,0 +1,91 @@
+-- The lines of the connections that wait.
+use Rattle.std.proofs.Common.{◌≡◌, ◌<◌, ◌+◌, ℕ, zero, suc, Bool, List, [], ◌∷◌, ◌++◌, drop, slice_get, refl, sym, ap, ap₂, subst, ◌∙◌, arith}
+use Rattle.std.specs.Prelude.{IsSomeAnd, Option, Some, None, codes, decimal}
+use Rattle.hex.specs.Hex.{encode_lower}
+use Rattle.fsoe_base.specs.Command.{state_name}
+use Rattle.fsoe_base.specs.declared.command.End.TheVariants as side
+use Rattle.fsoe_base.specs.declared.command.State.{State}
+use Rattle.param_load.specs.declared.entry.Entry.{Entry}
+use Rattle.black_channel.specs.Told.{Told}
+use Rattle.failsafe_io.specs.declared.bit.Bit.{Bit}
+use Rattle.multi_master.specs.Calls.{Rule}
+use Rattle.plant_conf.specs.declared.conf.LinkConf.{LinkConf}
+use Rattle.plant_run.specs.declared.journal.JournalStep.{JournalStep}
+use Rattle.plant_run.specs.Acts.{Beginning}
+use Rattle.plant_run.specs.Given.{GivenStands, waiting, waiting_in}
+use Rattle.plant_run.specs.Pair.{link_at, outputs_at, pair, state_at}
+use Rattle.plant_run.specs.PlantReport.{link_line, link_lines}
+use Rattle.plant_run.specs.Reporting.{Terms}
+use Rattle.plant_run.specs.Script.{ScriptHeading}
+use Rattle.plant_run.specs.Standing.{PlantStands, PlantValue, PlantView, ShowsPair, seen}
+use Rattle.plant_run.specs.Turns.{Named, Turn}
+use Rattle.plant_run.specs.declared.event.PlantLine.{PlantLine}
+
+-- the text of an end
+abbrev pub end_by : State → List ℕ → List ℕ
+end_by state outputs = codes " " ++ state_name state ++ codes " " ++ encode_lower outputs
+
+line_is : (l : LinkConf) (k : ℕ) (w : List Entry) (ms ss : State) (mo so text : List ℕ) → ms ≡ state_at l side.Master w → mo ≡ outputs_at l side.Master w → ss ≡ state_at l side.Slave w → so ≡ outputs_at l side.Slave w
+    → text ≡ ((decimal k ++ end_by ms mo) ++ end_by ss so) ++ codes "\n" → text ≡ link_line l k w
+line_is l k w ms ss mo so text a b c d is =
+    is
+    ∙ ap₂ (λ (master slave : List ℕ). decimal k ++ master ++ slave ++ codes "\n") (ap₂ end_by a b) (ap₂ end_by c d)
+
+line_by : (o : Option LinkConf) (k : ℕ) (w : LinkConf → List Entry) (ms ss : State) (mo so text : List ℕ) → IsSomeAnd o (λ l. ms ≡ state_at l side.Master (w l)) → IsSomeAnd o (λ l. mo ≡ outputs_at l side.Master (w l))
+    → IsSomeAnd o (λ l. ss ≡ state_at l side.Slave (w l)) → IsSomeAnd o (λ l. so ≡ outputs_at l side.Slave (w l)) → text ≡ ((decimal k ++ end_by ms mo) ++ end_by ss so) ++ codes "\n" → IsSomeAnd o (λ l. text ≡ link_line l k (w l))
+line_by None k w ms ss mo so text a b c d is = a
+line_by (Some l) k w ms ss mo so text a b c d is = line_is l k (w l) ms ss mo so text a b c d is
+
+pub line_shown : (v : PlantView) (k : ℕ) (ms ss : State) (mo so text : List ℕ) → ShowsPair v k ms (λ l w. state_at l side.Master w) → ShowsPair v k mo (λ l w. outputs_at l side.Master w) → ShowsPair v k ss (λ l w. state_at l side.Slave w)
+    → ShowsPair v k so (λ l w. outputs_at l side.Slave w) → text ≡ ((decimal k ++ end_by ms mo) ++ end_by ss so) ++ codes "\n" → ShowsPair v k text (λ l w. link_line l k w)
+line_shown v k ms ss mo so text a b c d is = record {
+  shows = λ begins turns h.
+      line_by (link_at begins.links k) k (λ l. pair l k v.journal) ms ss mo so text (a.shows begins turns h) (b.shows begins turns h) (c.shows begins turns h) (d.shows begins turns h) is;
+}
+
+some_is : {X : Type 0} (x y : X) → Some x ≡ Some y → x ≡ y
+some_is x y e = cc
+
+drop_at : {X : Type 0} (xs : List X) (place : ℕ) (x : X) → slice_get xs place ≡ Some x → drop place xs ≡ x ∷ drop (suc place) xs
+drop_at [] place x e = cc
+drop_at {X = X} (y ∷ xs) zero x e = let same : y ≡ x = cc in ap (λ (z : X). z ∷ xs) same
+drop_at (y ∷ xs) (suc place) x e = drop_at xs place x e
+
+next_line : (o : Option LinkConf) (links : List LinkConf) (place : ℕ) (text : List ℕ) (steps : List JournalStep) → slice_get links place ≡ o → IsSomeAnd o (λ l. text ≡ link_line l (suc place) (pair l (suc place) steps))
+    → waiting (suc place) links steps ≡ text ++ waiting (suc (suc place)) links steps
+next_line None links place text steps at h = absurd h
+next_line (Some l) links place text steps at h =
+    ap (λ (z : List LinkConf). link_lines (suc place) z steps) (drop_at links place l at)
+    ∙ ap (λ (z : List ℕ). z ++ link_lines (suc (suc place)) (drop (suc place) links) steps) (sym h)
+
+-- the line of the next connection is the first part of what waits, and the rest waits on
+pub part_is : (b : Beginning) (turns : List Turn) (v : PlantView) (place : ℕ) (text : List ℕ) → PlantStands b v turns → ShowsPair v (suc place) text (λ l w. link_line l (suc place) w)
+    → waiting (suc place) b.links v.journal ≡ text ++ waiting (suc (suc place)) b.links v.journal
+part_is b turns v place text stands shown = next_line (slice_get b.links place) b.links place text v.journal refl (shown.shows b turns stands)
+
+-- none waits after the last
+none_dropped : {X : Type 0} (xs : List X) (place : ℕ) → slice_get xs place ≡ None → drop place xs ≡ []
+none_dropped [] zero e = refl
+none_dropped [] (suc place) e = refl
+none_dropped (x ∷ xs) zero e = cc
+none_dropped (x ∷ xs) (suc place) e = none_dropped xs place e
+
+pub none_after : (links : List LinkConf) (place : ℕ) (steps : List JournalStep) → slice_get links place ≡ None → waiting (suc place) links steps ≡ []
+none_after links place steps e = ap (λ (z : List LinkConf). link_lines (suc place) z steps) (none_dropped links place e)
+
+-- the next part of what waits, where a line more does
+next_part : {A : Type 0} (rule : A → Rule) (holds : A → List ℕ) (guards : A → Bit → Bit → Bool) (t : Terms) (plant : Option (PlantValue A)) (left : List Named) (before after : Told) (count : ℕ) (h : ScriptHeading) (log : List PlantLine) (text shown : List ℕ)
+    (p : PlantValue A) (next : ℕ) → GivenStands rule holds guards t plant left before after count h log text → plant ≡ Some p → 0 < next → ShowsPair (seen rule holds guards p) next shown (λ conf w. link_line conf next w)
+    → waiting next t.begins.links p.journal ≡ shown ++ waiting (next + 1) t.begins.links p.journal
+next_part rule holds guards t plant left before after count h log text shown p zero k is above shows = absurd (omega (arith, above))
+next_part rule holds guards t plant left before after count h log text shown p (suc place) k is above shows =
+    let same : k.value ≡ p = some_is k.value p (sym k.plant_is ∙ is) in
+    let stands : PlantStands t.begins (seen rule holds guards p) k.runs.turns = subst (λ v. PlantStands t.begins (seen rule holds guards v) k.runs.turns) same k.runs.stands in
+    let number : suc (suc place) ≡ suc place + 1 = omega arith in
+    part_is t.begins k.runs.turns (seen rule holds guards p) place shown stands shows ∙ ap (λ (n : ℕ). shown ++ waiting n t.begins.links p.journal) number
+
+pub part_shown : {A : Type 0} (rule : A → Rule) (holds : A → List ℕ) (guards : A → Bit → Bit → Bool) (t : Terms) (plant : Option (PlantValue A)) (left : List Named) (before after : Told) (count : ℕ) (h : ScriptHeading) (log : List PlantLine) (text shown : List ℕ)
+    (p : PlantValue A) (next : ℕ) (links : List LinkConf) → GivenStands rule holds guards t plant left before after count h log text → plant ≡ Some p → 0 < next → ShowsPair (seen rule holds guards p) next shown (λ conf w. link_line conf next w) → links ≡ t.begins.links
+    → waiting_in next links plant ≡ shown ++ waiting_in (next + 1) links plant
+part_shown rule holds guards t plant left before after count h log text shown p next links k is above shows same =
+    rw (is, same) (next_part rule holds guards t plant left before after count h log text shown p next k is above shows)

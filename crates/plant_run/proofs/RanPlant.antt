@@ -1,0 +1,118 @@
+-- What a run over a script leaves is what a plant did.
+use Rattle.std.proofs.Common.{◌≡◌, ℕ, List, [], Option, Some, None, All, refl, sym, ap, subst, ◌∙◌, inl, inr}
+use Rattle.std.specs.Prelude.{IfSome}
+use Rattle.std.proofs.lemmas.List.{append-nil}
+use Rattle.std.proofs.lemmas.List.Elements.{All-nil}
+use Rattle.std.specs.List.{IsDistinct}
+use Rattle.fsoe_base.specs.declared.lengths.Lengths.{Lengths}
+use Rattle.fsoe_io.specs.declared.status.Ended.{Ended}
+use Rattle.fsoe_io.specs.declared.status.Status.{Status}
+use Rattle.fsoe_io.specs.declared.status.Status.TheVariants as status
+use Rattle.black_channel.specs.Told.{Told}
+use Rattle.exchange_model.specs.Fair.{Fair}
+use Rattle.plant_conf.specs.ConfView.{HasSameLengths}
+use Rattle.plant_conf.specs.declared.conf.LinkConf.{LinkConf}
+use Rattle.schedule_file.specs.Input.{InputFormat}
+use Rattle.file_run.specs.Left.{Done, Leaves, LeavesAs, LeavesDone, MayFailIn}
+use Rattle.file_run.specs.Outside.{Outside}
+use Rattle.file_run.specs.Ran.{RanOver}
+use Rattle.plant_run.specs.Acts.{Said, uses}
+use Rattle.plant_run.specs.FairPairs.{PairsAreFair}
+use Rattle.plant_run.specs.Pair.{link_at}
+use Rattle.plant_run.specs.Ran.{IsReportOf, RanPlant}
+use Rattle.plant_run.specs.PlantReport.{ticks_text}
+use Rattle.plant_run.specs.Reporting.{Terms, plant_reporting}
+use Rattle.plant_run.specs.Running.{RunStands}
+use Rattle.plant_run.specs.Script.{ScriptHeading}
+use Rattle.plant_run.specs.Standing.{PlantView}
+use Rattle.plant_run.specs.Turns.{Named, acts, said, said_by_turns}
+use Rattle.plant_run.specs.Uses.{Trace}
+use Rattle.plant_run.specs.declared.event.PlantLine.{PlantLine}
+use Rattle.plant_run.specs.declared.journal.JournalStep.{JournalStep}
+use Rattle.plant_run.proofs.FairPlant.{plants_are_fair}
+
+-- a relation of a header, its events, their text and an end
+abbrev Closing : Type 1
+Closing = ScriptHeading → List PlantLine → List ℕ → Ended → Type 0
+
+-- each closing is of the second kind too
+abbrev Closer : Closing → Closing → Type 0
+Closer one two = (h : ScriptHeading) (log : List PlantLine) (text : List ℕ) (e : Ended) → one h log text e → two h log text e
+
+may_fail : (t : Terms) (one two : Closing) → Closer one two → (d : Done ScriptHeading PlantLine) (whole : List ℕ) (told : Option (List ℕ)) → MayFailIn (plant_reporting t).format one d whole told → MayFailIn (plant_reporting t).format two d whole told
+may_fail t one two f d whole told may =
+    elim may [
+      | inl text ↦ inl text
+      | inr later ↦ inr (elim later [ inl refused ↦ inl refused | inr closed ↦ inr (closed.0, f d.heading d.log whole closed.0 closed.1, closed.2) ])
+    ]
+
+-- what a run leaves by one closing it leaves by the other
+leaves_as : (t : Terms) (one two : Closing) → Closer one two → (d : Done ScriptHeading PlantLine) (s : Status) (ended : Ended) (o : Outside) → LeavesAs (plant_reporting t).format one d s ended o → LeavesAs (plant_reporting t).format two d s ended o
+leaves_as t one two f d status.Ok ended o l = record { input = l.input; report = l.report; closed = f d.heading d.log l.report ended l.closed; wrote = l.wrote }
+leaves_as t one two f d status.Other ended o l = record { input = l.input; report = l.report; closed = f d.heading d.log l.report ended l.closed; wrote = l.wrote }
+leaves_as t one two f d status.Line ended o l = l
+leaves_as t one two f d status.Read ended o l = l
+leaves_as t one two f d status.Write ended o l = record { whole = l.whole; within = may_fail t one two f d l.whole o.source.before l.within; wrote = l.wrote }
+leaves_as t one two f d status.Memory ended o l = l
+leaves_as t one two f d status.Usage ended o l = l
+leaves_as t one two f d status.Config ended o l = l
+leaves_as t one two f d status.Desk ended o l = l
+
+-- a plant stood for these lines, and its channel was used so
+pub record Stood (t : Terms) (h : ScriptHeading) (log : List PlantLine) (text : List ℕ) (before after : Told) (steps : List JournalStep) : Type 0 where
+  pub view : PlantView
+  pub left : List Named
+  pub runs : RunStands t view left h log text
+  pub steps_are : steps ≡ view.journal
+  pub channel : Trace (uses t.begins (acts runs.turns)) before after
+  pub same_lengths : All HasSameLengths t.begins.links
+
+-- nothing happened to any connection in no steps
+fair_none : (lengths : Lengths) → Fair lengths []
+unfolding IsDistinct
+fair_none lengths = record { from_awaited = tt; master_once = tt; slave_once = tt; outputs = tt }
+
+fair_if_none : (o : Option LinkConf) → IfSome o (λ link. Fair link.master.lengths [])
+fair_if_none None = tt
+fair_if_none (Some link) = fair_none link.master.lengths
+
+none_is_fair : (links : List LinkConf) → PairsAreFair links []
+none_is_fair links = λ k. fair_if_none (link_at links k)
+
+pub ran_plant : (t : Terms) (ended : Ended) (o : Outside) (before after : Told) (steps : List JournalStep) (unbegun : Type 0) (stands : ScriptHeading → List PlantLine → List ℕ → Type 0) (closes : Closing) → RanOver (plant_reporting t) ended o
+    → Leaves unbegun (plant_reporting t).format stands closes ended o → (unbegun → (after ≡ before) × (steps ≡ [])) → ((h : ScriptHeading) (log : List PlantLine) (text : List ℕ) → stands h log text → Stood t h log text before after steps)
+    → Closer closes (IsReportOf t steps) → RanPlant t ended o before after steps
+ran_plant t ended o before after steps unbegun stands closes ran leaves nothing stood closed =
+    elim leaves [
+      | inl none ↦
+          let was = nothing none.0 in
+          record { run = ran; turns = None; did = record { may = none.1; journal_is = was.1 }; channel = was.0; fair = subst (PairsAreFair t.begins.links) (sym was.1) (none_is_fair t.begins.links) }
+      | inr did ↦
+          let d = did.done in
+          let s = stood d.heading d.log d.text did.stood in
+          record {
+            run = ran;
+            turns = Some s.runs.turns;
+            did = record {
+              turns_are = s.runs.stands.turns_are;
+              journal_is = s.steps_are ∙ s.runs.stands.has_done.journal_is;
+              done = d;
+              said_are = sym (ap (said t.spare) (sym (append-nil d.log)) ∙ s.runs.says [] ∙ append-nil (said_by_turns s.runs.turns));
+              whole = s.runs.whole;
+              text_is = s.runs.text_is ∙ ap (ticks_text t.begins.links) (sym s.steps_are);
+              begun = did.begun;
+              ends = leaves_as t closes (IsReportOf t steps) closed d ended.status ended o did.ends;
+            };
+            channel = s.channel;
+            fair = subst (PairsAreFair t.begins.links) (sym s.steps_are) (plants_are_fair t.begins s.view s.runs.turns s.runs.stands s.same_lengths);
+          }
+    ]
+
+-- what holds by either way in which a run leaves what was handed
+pub left_so : {P H L E : Type 0} (f : InputFormat H L E) (ended : Ended) (o : Outside) (unbegun : Type 0) (stands : H → List E → List ℕ → Type 0) (closes : H → List E → List ℕ → Ended → Type 0) → Leaves unbegun f stands closes ended o → (unbegun → P)
+    → ((h : H) (log : List E) (text : List ℕ) → stands h log text → P) → P
+left_so f ended o unbegun stands closes leaves none some =
+    elim leaves [
+      | inl left ↦ none left.0
+      | inr did ↦ some did.done.heading did.done.log did.done.text did.stood
+    ]

@@ -1,0 +1,84 @@
+-- The event of a script's line fits the connections.
+use Rattle.std.proofs.Common.{◌≡◌, ℕ, ◌≤◌, Bool, true, false, List, [], ◌∷◌, length, refl, sym, subst}
+use Rattle.std.specs.Prelude.{IfOk, IsSome, IsSomeAnd, Option, Some, None, Result, Ok, Err, ◌==◌, ◌&&◌, nat_le, if◌then◌else◌}
+use Rattle.std.specs.Str.Parse.{digits_value}
+use Rattle.std.proofs.lemmas.Bool.{and_parts, eqb-true, leb-true}
+use Rattle.std.proofs.lemmas.Result.{IfOk-at_ok}
+use Rattle.fsoe_base.specs.LengthsOf.{length_of}
+use Rattle.fsoe_base.specs.declared.command.End.TheVariants as side
+use Rattle.fsoe_base.specs.declared.lengths.Lengths.{Lengths}
+use Rattle.fsoe_base.specs.declared.lengths.TheConstants.{MOST_DATA}
+use Rattle.schedule_file.specs.EventLine.{switch_of}
+use Rattle.schedule_file.specs.Field.{bytes_said, fields_of, is_number, number_said}
+use Rattle.schedule_file.specs.Fields.{next_field, no_field, number_16, one_field, value_or}
+use Rattle.schedule_file.specs.declared.line_cause.LineCause.{LineCause}
+use Rattle.schedule_file.specs.declared.line_cause.LineCause.TheVariants as cause
+use Rattle.schedule_file.proofs.Sound.{each, known, IfOk-every, IfOk-map}
+use Rattle.plant_run.specs.ScriptLine.{LineFits, end_of_letter, existing, lengths_at, link_and_switch, local_line, nonce_line, plant_line, plant_said, plant_said_by, plant_word_of, put_line}
+use Rattle.plant_run.specs.declared.event.PlantLine.{PlantLine}
+use Rattle.plant_run.specs.declared.script_line.PlantWord.{PlantWord}
+use Rattle.plant_run.specs.declared.script_line.PlantWord.TheVariants as word
+
+-- what comes only where a test holds
+ok_if : (b : Bool) (x : PlantLine) (why : LineCause) (P : PlantLine → Type 0) → (b ≡ true → P x) → IfOk (if b then Ok x else Err why) P
+ok_if true x why P h = h refl
+ok_if false x why P h = tt
+
+-- lengths that exist stand at their place
+exists : (o : Option Lengths) → IfOk (value_or cause.NoLink o) (λ ends. o ≡ Some ends)
+exists (Some ends) = refl
+exists None = tt
+
+is_some_by : (o : Option Lengths) (ends : Lengths) → o ≡ Some ends → IsSome o
+is_some_by o ends is = rw is refl
+
+-- a number of 16 bits
+within_if : (b : Bool) (n : ℕ) → (b ≡ true → n ≤ 65535) → IfOk (value_or cause.Number (if b then Some n else None)) (λ n. n ≤ 65535)
+within_if true n le = le refl
+within_if false n le = tt
+
+number_within : (text : List ℕ) → IfOk (number_16 text) (λ n. n ≤ 65535)
+number_within text =
+    within_if (is_number text && nat_le (digits_value 10 text) 65535) (digits_value 10 text)
+    (λ e. leb-true (digits_value 10 text) 65535 (and_parts (is_number text) (nat_le (digits_value 10 text) 65535) e).1)
+
+put_fits : (lengths : List Lengths) (fields : List (List ℕ)) → IfOk (put_line lengths fields) (LineFits lengths)
+put_fits lengths fields =
+    each (next_field fields) _ _ (λ link. each (one_field link.1) _ _ (λ digits. each (number_16 link.0) _ _ (λ number.
+    known (existing lengths number) _ _ _ (exists (lengths_at lengths number)) (λ ends is. each (value_or cause.Hex (bytes_said MOST_DATA digits)) _ _ (λ bytes.
+    ok_if (length bytes == length_of ends side.Slave) _ cause.Length _
+    (λ e. subst (λ (o : Option Lengths). IsSomeAnd o (λ ends. length bytes ≡ length_of ends side.Slave)) (sym is) (eqb-true (length bytes) (length_of ends side.Slave) e)))))))
+
+switch_exists : (lengths : List Lengths) (fields : List (List ℕ)) → IfOk (link_and_switch lengths fields) (λ said. IsSome (lengths_at lengths said.0))
+switch_exists lengths fields =
+    each (next_field fields) _ _ (λ link. each (one_field link.1) _ _ (λ switch. each (number_16 link.0) _ _ (λ number. each (value_or cause.Number (switch_of switch)) _ _ (λ on.
+    known (existing lengths number) _ _ _ (exists (lengths_at lengths number)) (λ ends is. is_some_by (lengths_at lengths number) ends is)))))
+
+local_fits : (lengths : List Lengths) (fields : List (List ℕ)) → IfOk (local_line lengths fields) (LineFits lengths)
+local_fits lengths fields =
+    each (one_field fields) _ _ (λ link. each (number_16 link) _ _ (λ number.
+    known (existing lengths number) _ _ _ (exists (lengths_at lengths number)) (λ ends is. is_some_by (lengths_at lengths number) ends is)))
+
+nonce_fits : (lengths : List Lengths) (fields : List (List ℕ)) → IfOk (nonce_line lengths fields) (LineFits lengths)
+nonce_fits lengths fields =
+    each (next_field fields) _ _ (λ link. each (next_field link.1) _ _ (λ letter. each (one_field letter.1) _ _ (λ digits. each (number_16 link.0) _ _ (λ number.
+    each (value_or cause.Number (end_of_letter letter.0)) _ _ (λ end. known (number_16 digits) _ _ _ (number_within digits) (λ id few.
+    known (existing lengths number) _ _ _ (exists (lengths_at lengths number)) (λ ends is. (is_some_by (lengths_at lengths number) ends is, few))))))))
+
+said_fits : (lengths : List Lengths) (said : Option PlantWord) (fields : List (List ℕ)) → IfOk (plant_said lengths said fields) (LineFits lengths)
+said_fits lengths None fields = tt
+said_fits lengths (Some word.Tick) fields = IfOk-map (no_field fields) _ _ (IfOk-every (no_field fields) _ (λ none. tt))
+said_fits lengths (Some word.Put) fields = put_fits lengths fields
+said_fits lengths (Some word.Hold) fields = IfOk-map (link_and_switch lengths fields) _ _ (switch_exists lengths fields)
+said_fits lengths (Some word.Local) fields = local_fits lengths fields
+said_fits lengths (Some word.Nonce) fields = nonce_fits lengths fields
+said_fits lengths (Some word.Cut) fields = IfOk-map (link_and_switch lengths fields) _ _ (switch_exists lengths fields)
+said_fits lengths (Some word.App) fields = IfOk-map (one_field fields) _ _ (IfOk-every (one_field fields) _ (λ name. tt))
+said_fits lengths (Some word.End) fields = IfOk-map (no_field fields) _ _ (IfOk-every (no_field fields) _ (λ none. tt))
+
+by_fields : (lengths : List Lengths) (fields : List (List ℕ)) → IfOk (plant_said_by lengths fields) (LineFits lengths)
+by_fields lengths [] = tt
+by_fields lengths (first ∷ fields) = said_fits lengths (plant_word_of first) fields
+
+pub line_fits : (lengths : List Lengths) (text : List ℕ) (said : PlantLine) → plant_line lengths text ≡ Ok said → LineFits lengths said
+line_fits lengths text said e = IfOk-at_ok (LineFits lengths) e (by_fields lengths (fields_of text))

@@ -1,0 +1,327 @@
+-- A plant that runs goes on by a line of its script.
+use Rattle.std.proofs.Common.{◌≡◌, ℕ, ◌+◌, ◌≤◌, Bool, true, false, cond, suc, List, [], ◌∷◌, ◌++◌, length, map, All, if◌then◌else◌, refl, sym, ap, ap₂, subst, ◌∙◌, append_assoc, arith, inl, inr}
+use Rattle.std.specs.Prelude.{◌⊎◌, IfSome, IsSomeAnd, Option, Some, None, Ok, codes, decimal, string_bytes}
+use Rattle.std.proofs.lemmas.List.{append-nil, length_push}
+use Rattle.std.proofs.lemmas.List.Sums.{sum_by-append, sum_by-cons}
+use Rattle.black_channel.specs.Told.{Told}
+use Rattle.failsafe_io.specs.declared.bit.Bit.{Bit}
+use Rattle.fb_net.specs.declared.kind_of.EntryOf.{EntryOf}
+use Rattle.fb_net.specs.declared.kind_of.KindOf.{KindOf}
+use Rattle.fb_net.specs.declared.kind_of.KindOf.TheVariants as kind
+use Rattle.file_run.specs.Machine.{IsSaid}
+use Rattle.file_run.specs.Ran.{EndsWhole}
+use Rattle.file_run.specs.Report.{ended_with}
+use Rattle.file_run.specs.Reporting.{EndsStopped}
+use Rattle.file_run.specs.declared.stopped.Stopped.{Stopped}
+use Rattle.file_run.specs.declared.stopped.Stopped.TheVariants as stopped
+use Rattle.file_run.proofs.EndedWith.{ended_whole}
+use Rattle.fsoe_io.specs.declared.status.Ended.{Ended}
+use Rattle.schedule_file.specs.Input.{AtEnd}
+use Rattle.fsoe_base.specs.declared.lengths.Lengths.{Lengths}
+use Rattle.multi_master.specs.Calls.{Rule}
+use Rattle.multi_master.specs.Standing.{app_view}
+use Rattle.plant_setup.specs.Names.{IsTaken, place_of}
+use Rattle.plant_conf.specs.ConfView.{HasSameLengths}
+use Rattle.plant_conf.specs.declared.conf.LinkConf.{LinkConf}
+use Rattle.plant_run.specs.declared.event.PlantEvent.{PlantEvent}
+use Rattle.plant_run.specs.declared.event.PlantEvent.TheVariants as event
+use Rattle.plant_run.specs.declared.event.PlantLine.{PlantLine}
+use Rattle.plant_run.specs.declared.event.PlantLine.TheVariants as line
+use Rattle.plant_run.specs.declared.journal.JournalStep.{JournalStep}
+use Rattle.plant_run.specs.declared.journal.JournalStep.TheVariants as step
+use Rattle.plant_run.specs.Acts.{Beginning, Said, Event, App, Act, Start, call_of, calls, journal, offers, uses, uses_after}
+use Rattle.plant_run.specs.FairPairs.{lengths_in}
+use Rattle.plant_run.specs.Given.{GivenCloses, GivenStands, journal_in, named, waiting_in}
+use Rattle.plant_run.specs.Pair.{has_other, is_tick, lowest_other, ticks}
+use Rattle.plant_run.specs.PlantReport.{last_lines, report_end, report_text, tick_lines, ticks_text}
+use Rattle.plant_run.specs.Promises.{line_step, line_steps}
+use Rattle.plant_run.specs.Ran.{IsReportOf}
+use Rattle.plant_run.specs.Reporting.{Terms, plant_reporting}
+use Rattle.plant_run.specs.Running.{RunStands}
+use Rattle.plant_run.specs.Script.{ScriptHeading, happening, script_format}
+use Rattle.plant_run.specs.ScriptLine.{Fits, LineFits, plant_line}
+use Rattle.plant_run.specs.Standing.{Follows, Plays, PlantStands, PlantValue, PlantView, TellsOther, lengths_kept, seen}
+use Rattle.plant_run.specs.Turns.{Named, Taken, Turn, acts, said, said_by_turns, said_with, turn_acts}
+use Rattle.plant_run.specs.Uses.{Trace, Use}
+use Rattle.plant_run.proofs.Acting.{trace_append}
+use Rattle.plant_run.proofs.Lines.{no_lines_by}
+use Rattle.plant_run.proofs.Pulling.{more_uses}
+use Rattle.plant_run.proofs.RanPlant.{Stood}
+use Rattle.plant_run.proofs.ScriptFits.{line_fits}
+use Rattle.plant_run.proofs.Scripted.{plant_unmet}
+use Rattle.plant_run.proofs.TakenApps.{app_missing, app_taken}
+use Rattle.plant_run.proofs.TicksText.{After, after_turn, in_tick_quiet, lines_quiet, text_after}
+
+-- steps that are no lines of the script are no ticks
+ticks_quiet : (rest : List JournalStep) → line_steps rest ≡ [] → ticks rest ≡ 0
+ticks_quiet [] none = refl
+ticks_quiet (step.Script e ∷ rest) none = cc
+ticks_quiet (step.App ∷ rest) none = cc
+ticks_quiet (step.Offer link load ∷ rest) none = ticks_quiet rest none
+ticks_quiet (step.Pulled parcel ∷ rest) none = ticks_quiet rest none
+
+-- one tick more, where the line is one
+abbrev pub one_if : Bool → ℕ
+one_if tick = cond tick 1 0
+
+one_most : (tick : Bool) → one_if tick ≤ 1
+one_most true = omega arith
+one_most false = omega arith
+
+ticks_after : (one : Said) (old new : List JournalStep) → After one old new → ticks new ≡ ticks old + one_if (is_tick (line_step one))
+ticks_after one old new a =
+    let none = ticks_quiet a.rest a.none in
+    let all = ap ticks a.is ∙ sum_by-append (λ x. one_if (is_tick x)) old (line_step one ∷ a.rest) in
+    let first = sum_by-cons (λ x. one_if (is_tick x)) (line_step one) a.rest in
+    omega (arith, none, all, first)
+
+-- the journal of a plant that played a turn is the one before, the line, and steps that are none
+played : (t : Terms) (old new : PlantView) (left : List Named) (h : ScriptHeading) (log : List PlantLine) (text : List ℕ) (one : Said) (before after : Told) (k : RunStands t old left h log text) → (p : Plays t.begins k.turns one new before after)
+    → After one old.journal new.journal
+played t old new left h log text one before after k p =
+    subst (λ (j : List JournalStep). After one j new.journal) (sym k.stands.has_done.journal_is)
+    (subst (After one (journal t.begins (acts k.turns))) (sym p.stands.has_done.journal_is) (after_turn t.begins one p.pulled (acts k.turns)))
+
+-- it stands for the line too, whatever is left of the applications, with the lines of the tick if it is one
+turned : (t : Terms) (old new : PlantView) (left next : List Named) (h : ScriptHeading) (log : List PlantLine) (text piece : List ℕ) (event : PlantLine) (one : Said) (before after : Told) (k : RunStands t old left h log text)
+    → Plays t.begins k.turns one new before after → ((more : List PlantLine) → said left (event ∷ more) ≡ one ∷ said next more)
+    → piece ≡ (if is_tick (line_step one) then tick_lines t.begins.links new.journal else []) → RunStands t new next h (log ++ event ∷ []) (text ++ piece)
+turned t old new left next h log text piece event one before after k p says is = record {
+  turns = record { said = one; pulled = p.pulled } ∷ k.turns;
+  stands = p.stands;
+  whole = omega (arith, k.whole, length_push log event);
+  says = λ more.
+      ap (said t.spare) (append_assoc log (event ∷ []) more)
+      ∙ k.says (event ∷ more)
+      ∙ ap (λ (z : List Said). said_by_turns k.turns ++ z) (says more)
+      ∙ sym (append_assoc (said_by_turns k.turns) (one ∷ []) (said next more));
+  lengths_are = k.lengths_are;
+  text_is =
+      ap₂ (λ (x y : List ℕ). x ++ y) k.text_is is
+      ∙ sym (text_after t.begins.links one old.journal new.journal (played t old new left h log text one before after k p));
+}
+
+-- its channel was used by that too
+used : (b : Beginning) (turns : List Turn) (one : Said) (new : PlantView) (before mid after : Told) → Trace (uses b (acts turns)) before mid → (p : Plays b turns one new mid after)
+    → Trace (uses b (acts (record { said = one; pulled = p.pulled } ∷ turns))) before after
+used b turns one new before mid after h p =
+    let more : List Act = turn_acts one p.pulled in
+    let whole = more_uses b more (acts turns) [] ∙ ap (λ (done : List Act). uses_after b (acts turns) [] ++ uses_after b more done) (append-nil (acts turns)) in
+    subst (λ (all : List Use). Trace all before after) (sym whole)
+    (trace_append (uses b (acts turns)) (uses_after b (turn_acts one p.pulled) (acts turns)) before mid after h p.channel)
+
+-- what is written at a line: the lines of a tick, the first of which numbers it; else nothing
+abbrev pub written_at : {A : Type 0} → Said → ℕ → List LinkConf → Option (PlantValue A) → List ℕ
+written_at one count links plant =
+    if is_tick (line_step one) then (codes "tick" ++ codes " " ++ decimal count ++ codes "\n") ++ waiting_in 1 links plant else []
+
+written_if : (tick : Bool) (a b piece : List ℕ) → a ≡ b → piece ≡ (if tick then a else []) → piece ≡ (if tick then b else [])
+written_if tick a b piece same is = is ∙ ap (λ (z : List ℕ). if tick then z else []) same
+
+-- a plant that runs goes on by a line
+goes_value : {A : Type 0} (rule : A → Rule) (holds : A → List ℕ) (guards : A → Bit → Bit → Bool) (t : Terms) (left next : List Named) (before mid after : Told) (count now : ℕ) (h : ScriptHeading) (log : List PlantLine) (text piece : List ℕ)
+    (event : PlantLine) (one : Said) (old : Option (PlantValue A)) (k : GivenStands rule holds guards t old left before mid count h log text) (new : PlantValue A) → Follows (seen rule holds guards k.value) one (seen rule holds guards new) mid after
+    → lengths_kept new.links ≡ lengths_kept k.value.links → ((more : List PlantLine) → said left (event ∷ more) ≡ one ∷ said next more) → now ≡ count + one_if (is_tick (line_step one)) → piece ≡ written_at one now t.begins.links (Some new)
+    → GivenStands rule holds guards t (Some new) next before after now h (log ++ event ∷ []) (text ++ piece)
+unfolding turned
+goes_value rule holds guards t left next before mid after count now h log text piece event one old k new follows same says counts is =
+    let p = follows.plays t.begins k.runs.turns k.runs.stands in
+    let after_line = played t (seen rule holds guards k.value) (seen rule holds guards new) left h log text one mid after k.runs p in
+    let counted : now ≡ ticks new.journal = let more = ticks_after one k.value.journal new.journal after_line in let before = k.counted in omega (arith, more, before, counts) in
+    record {
+      value = new;
+      plant_is = refl;
+      runs = turned t (seen rule holds guards k.value) (seen rule holds guards new) left next h log text piece event one mid after k.runs p says
+          (written_if (is_tick (line_step one)) _ (tick_lines t.begins.links new.journal) piece (ap (λ (n : ℕ). (codes "tick " ++ decimal n ++ codes "\n") ++ waiting_in 1 t.begins.links (Some new)) counted) is);
+      channel = used t.begins k.runs.turns one (seen rule holds guards new) before mid after k.channel p;
+      lengths = same ∙ k.lengths;
+      same_lengths = k.same_lengths;
+      counted = counted;
+      few = let most = k.few in let one_more = one_most (is_tick (line_step one)) in omega (arith, most, counts, one_more, length_push log event);
+    }
+
+goes_some : {A : Type 0} (rule : A → Rule) (holds : A → List ℕ) (guards : A → Bit → Bit → Bool) (t : Terms) (left next : List Named) (before mid after : Told) (count now : ℕ) (h : ScriptHeading) (log : List PlantLine) (text piece : List ℕ)
+    (event : PlantLine) (one : Said) (old : Option (PlantValue A)) (k : GivenStands rule holds guards t old left before mid count h log text) (new : Option (PlantValue A))
+    → IsSomeAnd new (λ v. Follows (seen rule holds guards k.value) one (seen rule holds guards v) mid after × (lengths_kept v.links ≡ lengths_kept k.value.links)) → ((more : List PlantLine) → said left (event ∷ more) ≡ one ∷ said next more)
+    → now ≡ count + one_if (is_tick (line_step one)) → piece ≡ written_at one now t.begins.links new → GivenStands rule holds guards t new next before after now h (log ++ event ∷ []) (text ++ piece)
+goes_some rule holds guards t left next before mid after count now h log text piece event one old k None follows says counts is = absurd follows
+goes_some rule holds guards t left next before mid after count now h log text piece event one old k (Some new) follows says counts is =
+    goes_value rule holds guards t left next before mid after count now h log text piece event one old k new follows.0 follows.1 says counts is
+
+pub goes_on : {A : Type 0} (rule : A → Rule) (holds : A → List ℕ) (guards : A → Bit → Bit → Bool) (t : Terms) (left next : List Named) (before mid after : Told) (count now : ℕ) (h : ScriptHeading) (log : List PlantLine) (text piece : List ℕ)
+    (event : PlantLine) (one : Said) (old new : Option (PlantValue A)) → GivenStands rule holds guards t old left before mid count h log text
+    → IsSomeAnd old (λ o. IsSomeAnd new (λ v. Follows (seen rule holds guards o) one (seen rule holds guards v) mid after × (lengths_kept v.links ≡ lengths_kept o.links))) → ((more : List PlantLine) → said left (event ∷ more) ≡ one ∷ said next more)
+    → now ≡ count + one_if (is_tick (line_step one)) → piece ≡ written_at one now t.begins.links new → GivenStands rule holds guards t new next before after now h (log ++ event ∷ []) (text ++ piece)
+goes_on {A = A} rule holds guards t left next before mid after count now h log text piece event one old new k follows says counts is =
+    goes_some rule holds guards t left next before mid after count now h log text piece event one old k new
+    (subst (λ (o : Option (PlantValue A)). IsSomeAnd o (λ o. IsSomeAnd new (λ v. Follows (seen rule holds guards o) one (seen rule holds guards v) mid after × (lengths_kept v.links ≡ lengths_kept o.links)))) k.plant_is follows)
+    says counts is
+
+-- a plant that has begun runs
+started : (t : Terms) (v : PlantView) (h : ScriptHeading) → PlantStands t.begins v [] → h.lengths ≡ map lengths_in t.begins.links → RunStands t v t.spare h [] []
+started t v h stands lengths_are =
+    let changed : List JournalStep = offers t.begins Start [] in
+    let none : line_steps changed ≡ [] = no_lines_by t.begins (call_of t.begins Start) [] in
+    record {
+      turns = [];
+      stands = stands;
+      whole = refl;
+      says = λ more. refl;
+      lengths_are = lengths_are;
+      text_is =
+          sym (
+          ap (ticks_text t.begins.links) stands.has_done.journal_is
+          ∙ lines_quiet t.begins.links [] changed none
+          ∙ ap (λ (tick : Bool). if tick then tick_lines t.begins.links changed else []) (in_tick_quiet false changed none)
+          );
+    }
+
+begun_all : {A : Type 0} (rule : A → Rule) (holds : A → List ℕ) (guards : A → Bit → Bit → Bool) (t : Terms) (plant : Option (PlantValue A)) (before after : Told) (h : ScriptHeading)
+    → IsSomeAnd plant (λ v. PlantStands t.begins (seen rule holds guards v) [] × (lengths_kept v.links ≡ map lengths_in t.begins.links)) → Trace (uses t.begins (Start ∷ [])) before after → All HasSameLengths t.begins.links → h.lengths ≡ map lengths_in t.begins.links
+    → GivenStands rule holds guards t plant t.spare before after 0 h [] []
+unfolding started
+begun_all rule holds guards t None before after h stands channel all lengths_are = absurd stands
+begun_all rule holds guards t (Some v) before after h stands channel all lengths_are =
+    let none = no_lines_by t.begins (call_of t.begins Start) [] in
+    record {
+      value = v;
+      plant_is = refl;
+      runs = started t (seen rule holds guards v) h stands.0 lengths_are;
+      channel = channel;
+      lengths = stands.1;
+      same_lengths = all;
+      counted = sym (ap ticks stands.0.has_done.journal_is ∙ ticks_quiet (offers t.begins Start []) none);
+      few = omega arith;
+    }
+
+pub begun : {A : Type 0} (rule : A → Rule) (holds : A → List ℕ) (guards : A → Bit → Bit → Bool) (t : Terms) (plant : Option (PlantValue A)) (left : List Named) (before after : Told) (h : ScriptHeading)
+    → IsSomeAnd plant (λ v. PlantStands t.begins (seen rule holds guards v) [] × (lengths_kept v.links ≡ map lengths_in t.begins.links)) → Trace (uses t.begins (Start ∷ [])) before after → All HasSameLengths t.begins.links → h.lengths ≡ map lengths_in t.begins.links → left ≡ t.spare
+    → GivenStands rule holds guards t plant left before after 0 h [] []
+begun rule holds guards t plant left before after h stands channel all lengths_are same =
+    subst (λ (z : List Named). GivenStands rule holds guards t plant z before after 0 h [] []) (sym same) (begun_all rule holds guards t plant before after h stands channel all lengths_are)
+
+-- an event of the script that is no tick
+pub no_tick : (e : PlantEvent) → (e ≡ event.Tick → ⊥) → is_tick (step.Script e) ≡ false
+no_tick event.Tick other = absurd (other refl)
+no_tick (event.Put link load) other = refl
+no_tick (event.Hold link failsafe) other = refl
+no_tick (event.Local link) other = refl
+no_tick (event.Nonce link end id) other = refl
+no_tick (event.Cut link cut) other = refl
+
+-- so the number of ticks stays
+pub same_count : (e : PlantEvent) (count : ℕ) → (e ≡ event.Tick → ⊥) → count ≡ count + one_if (is_tick (step.Script e))
+same_count e count other = let none = ap one_if (no_tick e other) in omega (arith, none)
+
+-- where no connection's line comes next, none waits
+none_waits : {A : Type 0} (links : List LinkConf) (plant : Option (PlantValue A)) → waiting_in 0 links plant ≡ []
+none_waits links None = refl
+none_waits links (Some p) = refl
+
+pub nothing_written : {A : Type 0} (links : List LinkConf) (plant : Option (PlantValue A)) (text : List ℕ) → text ≡ [] → text ++ waiting_in 0 links plant ≡ []
+nothing_written links plant text is = rw (is, none_waits links plant) refl
+
+pub nothing_at : {A : Type 0} (e : PlantEvent) (count : ℕ) (links all : List LinkConf) (plant : Option (PlantValue A)) (text : List ℕ) → (e ≡ event.Tick → ⊥) → text ≡ [] → text ++ waiting_in 0 links plant ≡ written_at (Event e) count all plant
+nothing_at e count links all plant text other is =
+    nothing_written links plant text is
+    ∙ sym (ap (λ (tick : Bool). if tick then (codes "tick" ++ codes " " ++ decimal count ++ codes "\n") ++ waiting_in 1 all plant else []) (no_tick e other))
+
+-- the line of an event
+says_step : (event : PlantLine) (e : PlantEvent) → happening event ≡ Some (line.Step e) → event ≡ line.Step e
+says_step (line.Step f) e is = cc
+says_step (line.App name) e is = cc
+says_step line.End e is = cc
+
+fits_value : (lengths : List Lengths) (h : ScriptHeading) (text : List ℕ) (said : PlantLine) (e : PlantEvent) → h.lengths ≡ lengths → plant_line h.lengths text ≡ Ok said → happening said ≡ Some (line.Step e) → Fits lengths e
+fits_value lengths h text said e same reads is =
+    subst (λ (all : List Lengths). Fits all e) same (subst (LineFits h.lengths) (says_step said e is) (line_fits h.lengths text said reads))
+
+-- it fits the connections of the plant
+pub step_fits : {A : Type 0} (rule : A → Rule) (holds : A → List ℕ) (guards : A → Bit → Bit → Bool) (t : Terms) (plant : Option (PlantValue A)) (left : List Named) (before after : Told) (count : ℕ) (h : ScriptHeading) (log : List PlantLine) (text : List ℕ)
+    (e : PlantEvent) → GivenStands rule holds guards t plant left before after count h log text → IsSaid (script_format (map lengths_in t.begins.links)) h (line.Step e) → IsSomeAnd plant (λ p. Fits (lengths_kept p.links) e)
+step_fits {A = A} rule holds guards t plant left before after count h log text e k said =
+    subst (λ (o : Option (PlantValue A)). IsSomeAnd o (λ p. Fits (lengths_kept p.links) e)) (sym k.plant_is)
+    (fits_value (lengths_kept k.value.links) h said.0 said.1 e (k.runs.lengths_are ∙ sym k.lengths) said.2 said.3)
+
+-- what follows by a change of the application, whatever the channel tells
+at_told : {A : Type 0} (rule : A → Rule) (holds : A → List ℕ) (guards : A → Bit → Bit → Bool) (one : Said) (old new : Option (PlantValue A)) (t : Told)
+    → IsSomeAnd old (λ o. IsSomeAnd new (λ v. ((told : Told) → Follows (seen rule holds guards o) one (seen rule holds guards v) told told) × (lengths_kept v.links ≡ lengths_kept o.links)))
+    → IsSomeAnd old (λ o. IsSomeAnd new (λ v. Follows (seen rule holds guards o) one (seen rule holds guards v) t t × (lengths_kept v.links ≡ lengths_kept o.links)))
+at_told rule holds guards one None new t h = h
+at_told rule holds guards one (Some o) None t h = h
+at_told rule holds guards one (Some o) (Some v) t h = (h.0 t, h.1)
+
+-- a plant that runs goes on with an application that its script takes
+pub takes_app : {H : Type 0} (rule : KindOf H → Rule) (holds : KindOf H → List ℕ) (guards : KindOf H → Bit → Bit → Bool) (t : Terms) (all left : List (EntryOf H)) (before mid : Told) (count : ℕ) (h : ScriptHeading) (log : List PlantLine) (text piece name : List ℕ)
+    (event : PlantLine) (entry : EntryOf H) (old new : Option (PlantValue (KindOf H))) → event ≡ line.App name → GivenStands rule holds guards t old (map (named (app_view rule holds guards)) all) before mid count h log text
+    → IsTaken (λ e. string_bytes e.name) name all entry left
+    → IsSomeAnd old (λ o. IsSomeAnd new (λ v. ((told : Told) → Follows (seen rule holds guards o) (App (app_view rule holds guards (kind.Handed entry.app))) (seen rule holds guards v) told told) × (lengths_kept v.links ≡ lengths_kept o.links)))
+    → piece ≡ [] → GivenStands rule holds guards t new (map (named (app_view rule holds guards)) left) before mid count h (log ++ event ∷ []) (text ++ piece)
+takes_app rule holds guards t all left before mid count h log text piece name event entry old new is k taken follows nothing =
+    let one : Said = App (app_view rule holds guards (kind.Handed entry.app)) in
+    let says : (more : List PlantLine) → said (map (named (app_view rule holds guards)) all) (event ∷ more) ≡ one ∷ said (map (named (app_view rule holds guards)) left) more =
+    λ more.
+    ap (λ (first : PlantLine). said (map (named (app_view rule holds guards)) all) (first ∷ more)) is
+    ∙ ap (λ (o : Option Taken). said_with o (λ rest. said rest more)) (app_taken (app_view rule holds guards) name all left entry taken) in
+    goes_on rule holds guards t (map (named (app_view rule holds guards)) all) (map (named (app_view rule holds guards)) left) before mid mid count count h log text piece event one old new k (at_told rule holds guards one old new mid follows) says
+    (omega arith) nothing
+
+-- a plant that runs goes on by an event
+pub goes_step : {A : Type 0} (rule : A → Rule) (holds : A → List ℕ) (guards : A → Bit → Bit → Bool) (t : Terms) (left : List Named) (before mid after : Told) (count now : ℕ) (h : ScriptHeading) (log : List PlantLine) (text piece : List ℕ)
+    (event : PlantLine) (e : PlantEvent) (old new : Option (PlantValue A)) → event ≡ line.Step e → GivenStands rule holds guards t old left before mid count h log text
+    → IsSomeAnd old (λ o. IsSomeAnd new (λ v. Follows (seen rule holds guards o) (Event e) (seen rule holds guards v) mid after × (lengths_kept v.links ≡ lengths_kept o.links)))
+    → now ≡ count + one_if (is_tick (step.Script e)) → piece ≡ written_at (Event e) now t.begins.links new → GivenStands rule holds guards t new left before after now h (log ++ event ∷ []) (text ++ piece)
+goes_step rule holds guards t left before mid after count now h log text piece event e old new is k follows counts written =
+    goes_on rule holds guards t left left before mid after count now h log text piece event (Event e) old new k follows (λ more. ap (λ (first : PlantLine). said left (first ∷ more)) is) counts written
+
+-- the lowest connection with an other entry is none before the first
+lowest_one : (k n : ℕ) → Some k ≡ Some n → k ≤ n
+lowest_one k n is = let same : k ≡ n = cc in omega (arith, same)
+
+lowest_by : (b : Bool) (k : ℕ) (rest : Option ℕ) (n : ℕ) → (rest ≡ Some n → suc k ≤ n) → (if b then Some k else rest) ≡ Some n → k ≤ n
+lowest_by true k rest n above is = lowest_one k n is
+lowest_by false k rest n above is = let more = above is in omega (arith, more)
+
+lowest_from : (k : ℕ) (links : List LinkConf) (steps : List JournalStep) (n : ℕ) → lowest_other k links steps ≡ Some n → k ≤ n
+lowest_from k [] steps n is = cc
+lowest_from k (link ∷ links) steps n is = lowest_by (has_other link k steps) k (lowest_other (suc k) links steps) n (λ e. lowest_from (suc k) links steps n e) is
+
+pub other_ends : {A : Type 0} (rule : A → Rule) (holds : A → List ℕ) (guards : A → Bit → Bit → Bool) (t : Terms) (plant : Option (PlantValue A)) (left : List Named) (before after : Told) (count : ℕ) (h : ScriptHeading) (log : List PlantLine) (text : List ℕ)
+    (other : Option ℕ) → GivenStands rule holds guards t plant left before after count h log text → IfSome plant (λ p. TellsOther (seen rule holds guards p) other) → EndsWhole true (ended_with other).status (ended_with other).place
+other_ends {A = A} rule holds guards t plant left before after count h log text other k tells =
+    let told : TellsOther (seen rule holds guards k.value) other = subst (λ (o : Option (PlantValue A)). IfSome o (λ p. TellsOther (seen rule holds guards p) other)) k.plant_is tells in
+    ended_whole other (λ n is. lowest_from 1 t.begins.links k.value.journal n (sym (told.tells t.begins k.runs.turns k.runs.stands) ∙ is))
+
+-- an application isn't taken: there is none of its name, or no memory
+pub app_stopped : {H : Type 0} (rule : KindOf H → Rule) (holds : KindOf H → List ℕ) (guards : KindOf H → Bit → Bit → Bool) (t : Terms) (all : List (EntryOf H)) (before after : Told) (count : ℕ) (h : ScriptHeading) (log : List PlantLine) (text name : List ℕ)
+    (event : PlantLine) (plant : Option (PlantValue (KindOf H))) (why : Stopped) → event ≡ line.App name → GivenStands rule holds guards t plant (map (named (app_view rule holds guards)) all) before after count h log text
+    → (why ≡ stopped.Memory) ⊎ ((why ≡ stopped.NoApp) × (place_of name (map (λ e. string_bytes e.name) all) ≡ None)) → EndsStopped (plant_reporting t) h log text event why
+app_stopped rule holds guards t all before after count h log text name event plant why is k cause =
+    elim cause [
+      | inl memory ↦ rw memory refl
+      | inr none ↦ rw (none.0, is)
+          (plant_unmet t (seen rule holds guards k.value) (map (named (app_view rule holds guards)) all) h log text name (app_missing (app_view rule holds guards) name all none.1) k.runs)
+    ]
+
+-- what a run has stood for
+pub stood : {A : Type 0} (rule : A → Rule) (holds : A → List ℕ) (guards : A → Bit → Bit → Bool) (t : Terms) (plant : Option (PlantValue A)) (left : List Named) (before after : Told) (count : ℕ) (h : ScriptHeading) (log : List PlantLine) (text : List ℕ)
+    → GivenStands rule holds guards t plant left before after count h log text → Stood t h log text before after (journal_in plant)
+stood rule holds guards t plant left before after count h log text k = record {
+  view = seen rule holds guards k.value;
+  left = left;
+  runs = k.runs;
+  steps_are = ap journal_in k.plant_is;
+  channel = k.channel;
+  same_lengths = k.same_lengths;
+}
+
+-- what it has closed with is the report of its journal
+pub reported : {A : Type 0} (rule : A → Rule) (holds : A → List ℕ) (guards : A → Bit → Bit → Bool) (t : Terms) (plant : Option (PlantValue A)) (left : List Named) (h : ScriptHeading) (log : List PlantLine) (text : List ℕ) (ended : Ended)
+    → GivenCloses rule holds guards t plant left h log text ended → IsReportOf t (journal_in plant) h log text ended
+reported rule holds guards t plant left h log text ended k =
+    let steps : journal_in plant ≡ k.value.journal = ap journal_in k.plant_is in (
+      k.closes.text_is
+          ∙ ap (λ (ticks : List ℕ). ticks ++ last_lines t.begins.links k.value.journal AtEnd) k.closes.stands.text_is
+          ∙ ap (λ (journal : List JournalStep). report_text t.begins.links journal AtEnd) (sym steps),
+      k.closes.ended_is ∙ ap (λ (journal : List JournalStep). report_end t.begins.links journal AtEnd) (sym steps),
+    )
