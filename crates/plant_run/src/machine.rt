@@ -41,7 +41,7 @@ pub(crate) struct Owned<H: Application> {
     pub plant: Option<Plant<KindOf<H>>>,
 }
 
-/// What a plant is run with.
+/// What a plant is run with. What a run owns is lent for a time of its own.
 #[derive(Drop)]
 pub(crate) struct PlantRun<'a, 'o, H: Application, C> {
     pub alloc: Global,
