@@ -51,11 +51,8 @@ impl Format for TraceFormat {
     }
 
     fn read(_: &(), line: &[u8], said: &mut TraceLine) -> Result<(), LineCause> {
-        match read_trace_line(line) {
-            Ok(line) => {
-                *said = line;
-                Ok(())
-            }
+        match read_trace_line(line, said) {
+            Ok(()) => Ok(()),
             Err(cause) => Err(cause),
         }
     }

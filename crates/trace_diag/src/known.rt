@@ -5,8 +5,8 @@ ghost use Rattle.fsoe_base.specs.Lengths.{is_length, frame_len, group_count};
 ghost use Rattle.fsoe_base.specs.LengthsOf.{length_of};
 ghost use Rattle.fsoe_base.specs.declared.lengths.Lengths.{Lengths};
 ghost use Rattle.fsoe_frame.specs.Parts.{Frame, frame_of, bytes_of};
-ghost use Rattle.exchange_model.specs.Ends.{same_end};
-ghost use Rattle.trace_diag.specs.Before.{before, chain_at, next_phase};
+ghost use Rattle.exchange_model.specs.Ends.{peer, same_end};
+ghost use Rattle.trace_diag.specs.Before.{before, next_phase};
 ghost use Rattle.trace_diag.specs.Kept.{chain_after, connection_with, conn_with, due_made, has_come, kept_from, parameters_with, phase_when, piece_of, place_when};
 ghost use Rattle.trace_diag.specs.Settings.{settings_by, word_if};
 ghost use Rattle.trace_diag.specs.Table.{crcs_due, field_by, first_differing, frame_field};
@@ -24,6 +24,23 @@ use std::marker::Model;
 /// The first bytes of a payload, with room for one more piece.
 type Head = ByteList<132>;
 
+/// Room for what is made of a frame while it is judged, kept from one frame to the next: its safe data, and the frame that is due in its place.
+#[derive(Drop)]
+pub(crate) struct Room {
+    load: Image,
+    made: FrameBuf,
+}
+
+impl Room {
+    /// Room in which nothing was made yet.
+    pub(crate) fn new() -> Room {
+        Room {
+            load: Image::new(),
+            made: FrameBuf::new(),
+        }
+    }
+}
+
 /// What is kept of the frames before one: the next frame is judged by it, and the settings are told by it.
 #[derive(Drop)]
 pub(crate) struct Known {
@@ -34,16 +51,17 @@ pub(crate) struct Known {
     connection: Head,
     parameters: Head,
     piece: Image,
+    /// The chain as the end has it whose turn it is.
     chain: Chain,
 }
 
 impl Model for Known {
     ghost use Rattle.std.specs.Prelude.{◌<◌, ◌≤◌, length};
-    ghost use Rattle.trace_diag.specs.Before.{Before};
+    ghost use Rattle.trace_diag.specs.Before.{chain_at, Before};
 
     ghost Value = { Before };
 
-    ghost view = { λ k. record { turn = k.turn; due = k.due; place = k.place; conn = k.conn; connection = k.connection; parameters = k.parameters; piece = k.piece; chain = k.chain } };
+    ghost view = { λ k. record { turn = k.turn; due = k.due; place = k.place; conn = k.conn; connection = k.connection; parameters = k.parameters; piece = k.piece; chain = chain_at k.turn k.chain } };
 
     ghost invariant = { λ k. (k.place < 65542) × (length k.connection ≤ 4) × (length k.parameters ≤ 6) };
 }
@@ -76,7 +94,13 @@ impl Known {
     }
 
     /// Judges the next frame: the first field of it that isn't as it must be. Where none is, what is kept goes on.
-    pub(crate) fn take(&mut self, lengths: Lengths, from: End, frame: &[u8]) -> Option<Field>
+    pub(crate) fn take(
+        &mut self,
+        lengths: Lengths,
+        from: End,
+        frame: &[u8],
+        room: &mut Room,
+    ) -> Option<Field>
         ensures field { result ≡ field_by lengths self.old (record { from = from; frame = frame.now }) }
         ensures kept { result ≡ None → self.new ≡ kept_from (piece_len lengths) self.old from (frame_of (length_of lengths from) frame.now) }
     {
@@ -86,7 +110,7 @@ impl Known {
         let Some(view) = fsoe_frame::view(frame, lengths.of(from)) else {
             return Some(Field::Length);
         };
-        self.take_frame(lengths.piece(), from, &view)
+        self.take_frame(lengths.piece(), from, &view, room)
     }
 
     /// What is told of the settings.
@@ -104,7 +128,13 @@ impl Known {
     }
 
     /// Judges a frame of the right length from this end, whose turn it is.
-    fn take_frame(&mut self, c: usize, from: End, view: &FrameView<'_>) -> Option<Field>
+    fn take_frame(
+        &mut self,
+        c: usize,
+        from: End,
+        view: &FrameView<'_>,
+        room: &mut Room,
+    ) -> Option<Field>
         requires turn { from ≡ self.old.turn }
         requires piece { c ≤ MOST_DATA }
         ensures field { result ≡ frame_field c self.old from view.now }
@@ -121,15 +151,14 @@ impl Known {
         let Some(command) = command else {
             return Some(Field::Command);
         };
-        let mut load = Image::new();
-        view.load_into(&mut load);
-        if let Some(place) = self.wrong_byte(c, from, command, load.bytes(), view) {
+        view.load_into(&mut room.load);
+        if let Some(place) = self.wrong_byte(c, from, command, room.load.bytes(), view) {
             return Some(Field::Data(place as u8));
         }
-        if let Some(group) = self.take_crcs(from, command, load.bytes(), view) {
+        if let Some(group) = self.take_crcs(command, room.load.bytes(), view, &mut room.made) {
             return Some(Field::Crc(group as u8));
         }
-        self.go_on(c, from, load.bytes(), view);
+        self.go_on(c, from, room.load.bytes(), view);
         None
     }
 
@@ -164,7 +193,8 @@ impl Known {
         }
     }
 
-    /// The same of a frame that carries a piece of its end's own payload.
+    /// The same of a frame that carries a piece of its end's own payload, which no data frame does.
+    #[inline(never)]
     fn wrong_in_own(&self, c: usize, load: &[u8], view: &FrameView<'_>) -> Option<usize>
         requires piece { c ≤ MOST_DATA }
         requires few { length load.now ≤ MOST_DATA }
@@ -185,64 +215,59 @@ impl Known {
         )
     }
 
-    /// The first group whose CRC isn't that of the chain. Where none is, the chain goes on.
+    /// The first group whose CRC isn't that of the chain. Where none is, the chain goes on. The frame that is due is made in `made`.
     #[tactic(auto, using(crate::proofs::DueMade::due_long, crate::proofs::DueMade::due_same_many, crate::proofs::DueMade::due_crcs, crate::proofs::DueMade::own_frame, crate::proofs::DueMade::chain_same))]
     fn take_crcs(
         &mut self,
-        from: End,
         command: Command,
         load: &[u8],
         view: &FrameView<'_>,
+        made: &mut FrameBuf,
     ) -> Option<usize>
         requires valid { IsTrue (is_length (length load.now)) }
         requires groups { length view.now.crcs ≡ group_count (length load.now) }
         requires command { view.now.cmd ≡ command_byte command }
         requires load { load.now ≡ view.now.load }
         requires reset { self.old.due ≡ State.Reset → (command ≡ Command.Reset) × (view.now.conn ≡ 0) }
-        ensures group { result ≡ first_differing 0 view.now.crcs (crcs_due self.old.due self.old.chain from view.now) }
+        ensures group { result ≡ first_differing 0 view.now.crcs (crcs_due self.old.due self.old.chain self.old.turn view.now) }
         ensures within { IfSome result (λ group. group < 256) }
-        ensures chain { result ≡ None → self.new ≡ record self.old { chain = chain_after self.old.due self.old.chain from view.now } }
+        ensures chain { result ≡ None → self.new ≡ record self.old { chain = chain_after self.old.due self.old.chain self.old.turn view.now } }
     {
-        let mut made = FrameBuf::new();
-        let chain = self.seal_due(from, command, load, view, &mut made);
-        let group = wrong_group(view, made.bytes(), load.len());
-        if group.is_none() {
-            self.chain = chain;
-        }
-        group
+        self.seal_due(command, load, view, made);
+        wrong_group(view, made.bytes(), load.len())
     }
 
-    /// Writes the frame that is due in place of this one, with the CRCs of the chain, and gives the chain after it.
-    fn seal_due(
-        &self,
-        from: End,
-        command: Command,
-        load: &[u8],
-        view: &FrameView<'_>,
-        made: &mut FrameBuf,
-    ) -> Chain
+    /// Writes the frame that is due in place of this one, with the CRCs of the chain, which goes on by it.
+    fn seal_due(&mut self, command: Command, load: &[u8], view: &FrameView<'_>, made: &mut FrameBuf)
         requires valid { IsTrue (is_length (length load.now)) }
         requires command { view.now.cmd ≡ command_byte command }
         requires load { load.now ≡ view.now.load }
-        requires reset { self.now.due ≡ State.Reset → (command ≡ Command.Reset) × (view.now.conn ≡ 0) }
-        ensures made { made.new ≡ bytes_of (due_made self.now from view.now) }
-        ensures chain { result ≡ chain_after self.now.due self.now.chain from (due_made self.now from view.now) }
+        requires reset { self.old.due ≡ State.Reset → (command ≡ Command.Reset) × (view.now.conn ≡ 0) }
+        ensures made { made.new ≡ bytes_of (due_made self.old self.old.turn view.now) }
+        ensures chain { self.new ≡ record self.old { chain = chain_after self.old.due self.old.chain self.old.turn (due_made self.old self.old.turn view.now) } }
     {
         match self.due {
             State::Reset => {
                 Chain::new().seal(Command::Reset, 0, load, made);
-                Chain::new()
+                self.chain = Chain::new();
             }
-            _ => {
-                let mut chain = chain_at(from, &self.chain);
-                chain.seal(command, view.conn(), load, made);
-                chain_at(from, &chain)
-            }
+            _ => self.chain.seal(command, view.conn(), load, made),
         }
+    }
+
+    /// From now on it's the other end's turn, which sees the chain from its side, and no piece is to be repeated.
+    fn turn_to(&mut self, next: End)
+        requires { next ≡ peer self.old.turn }
+        ensures { self.new ≡ record self.old { turn = next; piece = [] } }
+    {
+        self.turn = next;
+        self.chain = self.chain.turned();
+        self.piece.clear();
     }
 
     /// Keeps what comes with a frame that is as it must be; the chain has gone on.
     fn go_on(&mut self, c: usize, from: End, load: &[u8], view: &FrameView<'_>)
+        requires turn { from ≡ self.old.turn }
         requires piece { c ≤ MOST_DATA }
         requires load { load.now ≡ view.now.load }
         ensures { self.new ≡ record (kept_from c self.old from view.now) { chain = self.old.chain } }
@@ -255,11 +280,11 @@ impl Known {
 
     /// The same after a frame of the master with this piece.
     fn go_on_master(&mut self, part: &[u8], view: &FrameView<'_>)
-        requires { length part.now ≤ MOST_DATA }
+        requires turn { self.old.turn ≡ End.Master }
+        requires piece { length part.now ≤ MOST_DATA }
         ensures { self.new ≡ record { turn = End.Slave; due = self.old.due; place = self.old.place; conn = conn_with self.old.due self.old.conn view.now.conn; connection = connection_with self.old.due self.old.connection part.now; parameters = parameters_with self.old.due self.old.parameters part.now; piece = piece_of self.old.due part.now; chain = self.old.chain } }
     {
-        self.turn = End::Slave;
-        self.piece.clear();
+        self.turn_to(End::Slave);
         match self.due {
             State::Connection => {
                 if self.conn.is_none() {
@@ -278,11 +303,11 @@ impl Known {
 
     /// The same after an answer of the slave.
     fn go_on_slave(&mut self, c: usize)
-        requires { c ≤ MOST_DATA }
+        requires turn { self.old.turn ≡ End.Slave }
+        requires piece { c ≤ MOST_DATA }
         ensures { self.new ≡ record self.old { turn = End.Master; due = phase_when self.old.due (self.old.place + c) self.old.parameters; place = place_when self.old.due (self.old.place + c) self.old.parameters; piece = [] } }
     {
-        self.turn = End::Master;
-        self.piece.clear();
+        self.turn_to(End::Master);
         let came = self.place + c;
         match self.due {
             State::Reset => {
@@ -378,16 +403,6 @@ fn keep_first(head: &mut Head, part: &[u8], most: usize)
 {
     head.push_all(part);
     head.truncate(most);
-}
-
-/// The chain as an end has it.
-fn chain_at(which: End, chain: &Chain) -> Chain
-    ensures { result ≡ chain_at which chain.now }
-{
-    match which {
-        End::Master => *chain,
-        End::Slave => chain.turned(),
-    }
 }
 
 /// The first data byte of a data frame that isn't as it must be: zeros in FailSafeData.

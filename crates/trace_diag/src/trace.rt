@@ -6,7 +6,7 @@ ghost use Rattle.trace_diag.specs.Trace.{Noted};
 ghost use Rattle.trace_diag.specs.Verdicts.{IsVerdict};
 
 use crate::difference::Difference;
-use crate::known::Known;
+use crate::known::{Known, Room};
 use crate::verdict::Verdict;
 use fsoe_base::{End, Lengths};
 use std::marker::Model;
@@ -18,6 +18,7 @@ pub struct Trace {
     frames: u64,
     differs: Option<Difference>,
     known: Known,
+    room: Room,
 }
 
 impl Model for Trace {
@@ -39,6 +40,7 @@ impl Trace {
             frames: 0,
             differs: None,
             known: Known::new(),
+            room: Room::new(),
         }
     }
 
@@ -51,7 +53,7 @@ impl Trace {
     {
         self.frames += 1;
         if self.differs.is_none() {
-            if let Some(field) = self.known.take(self.lengths, from, frame) {
+            if let Some(field) = self.known.take(self.lengths, from, frame, &mut self.room) {
                 self.differs = Some(Difference {
                     number: self.frames,
                     field,
