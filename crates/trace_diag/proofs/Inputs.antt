@@ -18,7 +18,7 @@ use Rattle.fsoe_io.specs.declared.status.Ended.{Ended}
 use Rattle.schedule_file.specs.Field.{bytes_said, fields_of, some_bytes}
 use Rattle.schedule_file.specs.Fields.{map_ok, next_field, no_field, number_16, one_field, one_hex_field, value_or, ◌>>=◌}
 use Rattle.schedule_file.specs.HeaderLine.{lengths_line}
-use Rattle.schedule_file.specs.Input.{before_more, events_after, header_in, header_read, header_step, input_by, input_read, lines_of, steps, texts, with_room, AtEnd, InputCause, Refused, Stop, WholeHeaderOf}
+use Rattle.schedule_file.specs.Input.{before_more, header_in, header_read, header_step, input_by, input_read, lines_of, steps, texts, with_room, AtEnd, InputCause, Refused, Stop, WholeHeaderOf}
 use Rattle.schedule_file.specs.declared.header_line.LengthsLine.{LengthsLine}
 use Rattle.schedule_file.specs.declared.line_cause.LineCause.{LineCause}
 use Rattle.schedule_file.specs.declared.line_cause.LineCause.TheVariants as cause
@@ -27,9 +27,9 @@ use Rattle.file_run.specs.Ran.{EndsWhole}
 use Rattle.file_run.specs.Report.{refused_line}
 use Rattle.file_run.specs.Reporting.{refused_at, EndsReport, ReportsSoFar}
 use Rattle.trace_diag.specs.Judged.{first_difference, AreOfBytes, NotesFrame, TraceStands, TraceView}
-use Rattle.trace_diag.specs.Lines.{fields_taken, frame_line, frame_said, heading_new, lengths_taken, line_taken, title_taken, trace_format, trace_heading_after, trace_is_whole, trace_line, trace_said, trace_said_by, word_taken, TraceHeading}
-use Rattle.trace_diag.specs.Ran.{diagnose_reporting, DiagnosesInput, DiagnosisStands}
-use Rattle.trace_diag.specs.Report.{ended_by, frames_line, verdict_lines, AreLengths, DiagnoseReports, ReportsTrace}
+use Rattle.trace_diag.specs.Lines.{fields_taken, frame_line, frame_said, heading_new, lengths_taken, line_taken, trace_format, trace_heading_after, trace_is_whole, trace_line, trace_said, trace_said_by, word_taken, TraceHeading}
+use Rattle.trace_diag.specs.Ran.{judge_reporting, DiagnosisStands}
+use Rattle.trace_diag.specs.Report.{ended_by, frames_line, verdict_lines, AreLengths, DiagnoseReports}
 use Rattle.trace_diag.specs.Settings.{settings_told}
 use Rattle.trace_diag.specs.Trace.{Noted}
 use Rattle.trace_diag.specs.Verdicts.{IsVerdict}
@@ -124,6 +124,13 @@ headed-in number h (Err why ∷ rest) k = tt
 headed-in number h (Ok text ∷ rest) k =
     step-headed number rest (λ next. header_in trace_format (number + 1) next rest) (trace_heading_after h text) (line-holds h.stage h text k) (λ next valid. headed-in (number + 1) next rest valid)
 
+-- frames of bytes are so in either order
+reverse-bytes : (t : List Noted) → AreOfBytes t → AreOfBytes (reverse t)
+reverse-bytes [] all = All-nil (λ x. AreBytes x.frame)
+reverse-bytes (x ∷ t) all =
+    subst AreOfBytes (sym (reverse-append (x ∷ []) t))
+    (All-append (λ x. AreBytes x.frame) (reverse t) (x ∷ []) (reverse-bytes t (All-tail (λ x. AreBytes x.frame) x t all)) (All-cons (λ x. AreBytes x.frame) x [] (All-head (λ x. AreBytes x.frame) x t all) (All-nil (λ x. AreBytes x.frame))))
+
 -- a verdict on each trace
 verdict-on : (lengths : Lengths) (t : List Noted) (o : Option Difference) → first_difference lengths t ≡ o → (told : Verdict) × (AreOfBytes t → IsVerdict lengths t told)
 verdict-on lengths t None e = (verdict.Conforms (settings_told lengths t), λ are. record { conforms = conforms_where_none lengths t are e; read_is = refl })
@@ -134,7 +141,7 @@ IfAtEnd None AtEnd = ⊥
 IfAtEnd (Some h) AtEnd = HasLengths h
 IfAtEnd said (Refused number why) = Unit {0}
 
-report-of : (said : Option TraceHeading) (frames : List Noted) (stop : Stop) → IfAtEnd said stop → (report : List ℕ) × (ended : Ended) × DiagnoseReports said frames stop ended report
+report-of : (said : Option TraceHeading) (frames : List Noted) (stop : Stop) → IfAtEnd said stop → (report : List ℕ) × (ended : Ended) × (AreOfBytes frames → DiagnoseReports said frames stop ended report)
 report-of None frames AtEnd k = absurd k
 report-of (Some h) frames AtEnd k =
     let lengths : Lengths = record { master = h.master; slave = h.slave; valid_master = k.0; valid_slave = k.1 } in
@@ -142,35 +149,35 @@ report-of (Some h) frames AtEnd k =
     let told = verdict-on lengths t (first_difference lengths t) refl in (
       frames_line (length t) ++ verdict_lines told.0,
       ended_by told.0,
-      (lengths, record { master = refl; slave = refl }, record { told = told.0; is_verdict = told.1; text_is = refl; ended_is = refl }),
+      λ are. (lengths, record { master = refl; slave = refl }, record { told = told.0; is_verdict = told.1 (reverse-bytes frames are); text_is = refl; ended_is = refl }),
     )
-report-of None frames (Refused number why) k = (refused_line number why, refused_at number, (refl, refl))
-report-of (Some h) frames (Refused number why) k = (refused_line number why, refused_at number, (refl, refl))
+report-of None frames (Refused number why) k = (refused_line number why, refused_at number, λ are. (refl, refl))
+report-of (Some h) frames (Refused number why) k = (refused_line number why, refused_at number, λ are. (refl, refl))
 
 -- with lengths a header has a report however its input stops
 whichever-stop : (h : TraceHeading) (stop : Stop) → HasLengths h → IfAtEnd (Some h) stop
 whichever-stop h AtEnd k = k
 whichever-stop h (Refused number why) k = tt
 
-by-header : (r : Result (WholeHeaderOf TraceHeading) Stop) → IsHeaded r → (report : List ℕ) × (ended : Ended) × DiagnosesInput (input_by trace_format r) ended report
+by-header : (r : Result (WholeHeaderOf TraceHeading) Stop) → IsHeaded r → (report : List ℕ) × (ended : Ended) × judge_reporting.reports (input_by trace_format r) ended report
 by-header (Ok headed) k = report-of (Some headed.heading) (input_by trace_format (Ok headed)).events (input_by trace_format (Ok headed)).stop (whichever-stop headed.heading (input_by trace_format (Ok headed)).stop k)
 by-header (Err AtEnd) k = absurd k
-by-header (Err (Refused number why)) k = (refused_line number why, refused_at number, (refl, refl))
+by-header (Err (Refused number why)) k = (refused_line number why, refused_at number, λ are. (refl, refl))
 
 -- each input has a report
-pub some_report : (bytes : List ℕ) → (report : List ℕ) × (ended : Ended) × DiagnosesInput (input_read trace_format bytes) ended report
+pub some_report : (bytes : List ℕ) → (report : List ℕ) × (ended : Ended) × judge_reporting.reports (input_read trace_format bytes) ended report
 some_report bytes = by-header (header_read trace_format bytes) (headed-in 1 heading_new (lines_of bytes) (refl, refl))
 
 valid-of : (h : TraceHeading) (lengths : Lengths) → AreLengths h lengths → HasLengths h
 valid-of h lengths are = (subst (λ (n : ℕ). IsTrue (is_length n)) are.master lengths.valid_master, subst (λ (n : ℕ). IsTrue (is_length n)) are.slave lengths.valid_slave)
 
 -- nothing is written before the end
-pub so_far : (v : TraceView) (h : TraceHeading) (log : List Noted) (text : List ℕ) → DiagnosisStands v h log text → ReportsSoFar diagnose_reporting h log text
+pub so_far : (v : TraceView) (h : TraceHeading) (log : List Noted) (text : List ℕ) → DiagnosisStands v h log text → ReportsSoFar judge_reporting h log text
 so_far v h log text s = record {
   begins = λ lines more stop.
       let report = report-of (Some h) (log ++ more) stop (whichever-stop h stop (valid-of h s.lengths s.lengths_are)) in
       (report.0, report.1, report.2, (report.0, ap (λ (t : List ℕ). t ++ report.0) (sym s.unwritten)));
-  refused = λ lines number why. (ap (λ (t : List ℕ). t ++ refused_line number why) s.unwritten, refl);
+  refused = λ lines number why are. (ap (λ (t : List ℕ). t ++ refused_line number why) s.unwritten, refl);
 }
 
 -- one more frame is noted
@@ -234,13 +241,13 @@ few_noted v x number m = omega (arith, m.stands.stands.count, length-reverse m.l
 
 -- the whole report of the frames that were noted
 pub close_ends : (v : TraceView) (h : TraceHeading) (log : List Noted) (text piece : List ℕ) (events : ℕ) (told : Verdict) (ended : Ended) → length log ≡ events → DiagnosisStands v h log text
-    → ((lengths : Lengths) (t : List Noted) → TraceStands lengths t v → IsVerdict lengths t told) → piece ≡ frames_line events ++ verdict_lines told → ended ≡ ended_by told → EndsReport diagnose_reporting h log (text ++ piece) ended
-close_ends v h log text piece events told ended count s is-verdict is ends lines = (
+    → ((lengths : Lengths) (t : List Noted) → TraceStands lengths t v → IsVerdict lengths t told) → piece ≡ frames_line events ++ verdict_lines told → ended ≡ ended_by told → EndsReport judge_reporting h log (text ++ piece) ended
+close_ends v h log text piece events told ended count s is-verdict is ends lines are = (
   s.lengths,
   s.lengths_are,
   record {
     told = told;
-    is_verdict = λ are. is-verdict s.lengths (reverse log) s.stands;
+    is_verdict = is-verdict s.lengths (reverse log) s.stands;
     text_is = ap (λ (t : List ℕ). t ++ piece) s.unwritten ∙ (is ∙ ap (λ (n : ℕ). frames_line n ++ verdict_lines told) (sym count ∙ sym (length-reverse log)));
     ended_is = ends;
   },
@@ -290,18 +297,11 @@ room-bytes is_full log [] all = All-nil (λ x. AreBytes x.frame)
 room-bytes is_full log (x ∷ more) all =
     room-if (is_full log) x (with_room is_full (log ++ x ∷ []) more) (All-head (λ x. AreBytes x.frame) x more all) (room-bytes is_full (log ++ x ∷ []) more (All-tail (λ x. AreBytes x.frame) x more all))
 
-reverse-bytes : (t : List Noted) → AreOfBytes t → AreOfBytes (reverse t)
-reverse-bytes [] all = All-nil (λ x. AreBytes x.frame)
-reverse-bytes (x ∷ t) all =
-    subst AreOfBytes (sym (reverse-append (x ∷ []) t))
-    (All-append (λ x. AreBytes x.frame) (reverse t) (x ∷ []) (reverse-bytes t (All-tail (λ x. AreBytes x.frame) x t all)) (All-cons (λ x. AreBytes x.frame) x [] (All-head (λ x. AreBytes x.frame) x t all) (All-nil (λ x. AreBytes x.frame))))
-
-header-bytes : (r : Result (WholeHeaderOf TraceHeading) Stop) → AreOfBytes (reverse (input_by trace_format r).events)
+header-bytes : (r : Result (WholeHeaderOf TraceHeading) Stop) → AreOfBytes (input_by trace_format r).events
 header-bytes (Ok headed) =
-    reverse-bytes (events_after trace_format headed.heading headed.rest)
-    (room-bytes (trace_format.is_full headed.heading) [] (steps frame_said (map trace_line (texts headed.rest))) (steps-bytes (map trace_line (texts headed.rest)) (all-said (texts headed.rest))))
+    room-bytes (trace_format.is_full headed.heading) [] (steps frame_said (map trace_line (texts headed.rest))) (steps-bytes (map trace_line (texts headed.rest)) (all-said (texts headed.rest)))
 header-bytes (Err stop) = All-nil (λ x. AreBytes x.frame)
 
 -- the frames of an input are bytes
-pub input_bytes : (bytes : List ℕ) → AreOfBytes (reverse (input_read trace_format bytes).events)
+pub input_bytes : (bytes : List ℕ) → AreOfBytes (input_read trace_format bytes).events
 input_bytes bytes = header-bytes (header_read trace_format bytes)

@@ -34,3 +34,4 @@ pub mod Judging
 pub mod Conforming
 pub mod AnswersBack
 pub mod Inputs
+pub mod Reported

@@ -6,7 +6,7 @@ use Rattle.schedule_file.specs.Input.{InputOf}
 use Rattle.file_run.specs.Outside.{Outside}
 use Rattle.file_run.specs.Ran.{RanOver}
 use Rattle.file_run.specs.Reporting.{Never, Reporting}
-use Rattle.trace_diag.specs.Judged.{TraceStands, TraceView}
+use Rattle.trace_diag.specs.Judged.{AreOfBytes, TraceStands, TraceView}
 use Rattle.trace_diag.specs.Lines.{trace_format, TraceHeading}
 use Rattle.trace_diag.specs.Report.{AreLengths, DiagnoseReports}
 use Rattle.trace_diag.specs.Trace.{Noted}
@@ -17,8 +17,15 @@ abbrev pub DiagnosesInput : InputOf TraceHeading Noted → Ended → List ℕ �
 DiagnosesInput input ended text = DiagnoseReports input.heading input.events input.stop ended text
 
 -- what is reported of inputs: a trace that differs ends a run with status 1, and no memory is taken
+abbrev pub reporting_by : (InputOf TraceHeading Noted → Ended → List ℕ → Type 0) → Reporting TraceHeading TraceLine Noted
+reporting_by reports = record { format = trace_format; judges = true; memory = Never; reports = reports }
+
 abbrev pub diagnose_reporting : Reporting TraceHeading TraceLine Noted
-diagnose_reporting = record { format = trace_format; judges = true; memory = Never; reports = DiagnosesInput }
+diagnose_reporting = reporting_by DiagnosesInput
+
+-- the same where the frames are bytes, which those of each input are: so much a judge promises of any frames that may come
+abbrev pub judge_reporting : Reporting TraceHeading TraceLine Noted
+judge_reporting = reporting_by (λ input ended text. AreOfBytes input.events → DiagnosesInput input ended text)
 
 -- a trace was judged that an input holds
 abbrev pub RanDiagnose : Ended → Outside → Type 0

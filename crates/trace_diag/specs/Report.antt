@@ -6,7 +6,6 @@ use Rattle.fsoe_io.specs.declared.status.Status.TheVariants as status
 use Rattle.schedule_file.specs.Input.{Stop, AtEnd, Refused}
 use Rattle.file_run.specs.Report.{refused_line}
 use Rattle.file_run.specs.Reporting.{refused_at}
-use Rattle.trace_diag.specs.Judged.{AreOfBytes}
 use Rattle.trace_diag.specs.Lines.{TraceHeading}
 use Rattle.trace_diag.specs.Trace.{Noted}
 use Rattle.trace_diag.specs.Verdicts.{IsVerdict}
@@ -50,10 +49,10 @@ pub record AreLengths (h : TraceHeading) (lengths : Lengths) : Type 0 where
   pub master : lengths.master ≡ h.master
   pub slave : lengths.slave ≡ h.slave
 
--- the report of a trace that was read up to its `end`; its frames are bytes
+-- the report of a trace that was read up to its `end`
 pub record ReportsTrace (lengths : Lengths) (t : List Noted) (ended : Ended) (text : List ℕ) : Type 0 where
   pub told : Verdict
-  pub is_verdict : AreOfBytes t → IsVerdict lengths t told
+  pub is_verdict : IsVerdict lengths t told
   pub text_is : text ≡ frames_line (length t) ++ verdict_lines told
   pub ended_is : ended ≡ ended_by told
 

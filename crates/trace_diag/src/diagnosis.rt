@@ -20,13 +20,13 @@ pub(crate) struct Diagnosis {
 impl Machine for Diagnosis {
     ghost use Rattle.file_run.specs.Reporting.{EndsReport};
     ghost use Rattle.std.specs.Prelude.{[]};
-    ghost use Rattle.trace_diag.specs.Ran.{diagnose_reporting, DiagnosisStands};
+    ghost use Rattle.trace_diag.specs.Ran.{judge_reporting, DiagnosisStands};
 
     type Format = TraceFormat;
 
     type Handed = ();
 
-    ghost reporting = { λ handed. diagnose_reporting };
+    ghost reporting = { λ handed. judge_reporting };
 
     ghost stands = { λ first v now. DiagnosisStands v.trace };
 
@@ -34,7 +34,7 @@ impl Machine for Diagnosis {
 
     ghost parts = { λ v now. 0 };
 
-    ghost closes = { λ first now. EndsReport diagnose_reporting };
+    ghost closes = { λ first now. EndsReport judge_reporting };
 
     fn laws() {}
 

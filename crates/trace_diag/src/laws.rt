@@ -1,11 +1,9 @@
 //! What holds of the definitions. The calls do nothing: each law is a contract.
-ghost use Rattle.std.specs.Prelude.{◌≡◌, ℕ, List, reverse, [], ◌∷◌, Option, Some, None};
+ghost use Rattle.std.specs.Prelude.{◌≡◌, List, [], ◌∷◌, Some, None};
 ghost use Rattle.fsoe_base.specs.declared.lengths.Lengths.{Lengths};
 ghost use Rattle.trace_diag.specs.Conforms.{Conforms};
 ghost use Rattle.trace_diag.specs.Judged.{first_difference, AreOfBytes};
 ghost use Rattle.trace_diag.specs.declared.difference.Difference.{Difference};
-ghost use Rattle.schedule_file.specs.Input.{input_read};
-ghost use Rattle.trace_diag.specs.Lines.{trace_format};
 ghost use Rattle.trace_diag.specs.Trace.{Noted};
 ghost use Rattle.trace_diag.specs.Verdicts.{DiffersFirst};
 ghost use Rattle.trace_diag.specs.WorkedTraces.{FirstData, FirstFrames, Altered, LockStep, Rows, OtherLengths, EachByte, LaterGroups, CutWords, SteppedNumber};
@@ -39,9 +37,4 @@ pub fn table()
 pub fn beginnings()
     ensures empty { (lengths : Lengths) → Conforms lengths [] }
     ensures before { (lengths : Lengths) (newest : Noted) (t : List Noted) → AreOfBytes (newest ∷ t) → Conforms lengths (newest ∷ t) → Conforms lengths t }
-{}
-
-/// The frames of an input are bytes, so that its report has the verdict on them.
-pub fn inputs()
-    ensures { (bytes : List ℕ) → AreOfBytes (reverse (input_read trace_format bytes).events) }
 {}

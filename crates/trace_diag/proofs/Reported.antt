@@ -1,0 +1,58 @@
+-- The frames of an input are bytes, so that what a run reports of it has the verdict on them.
+use Rattle.std.proofs.Common.{ℕ, ◌+◌, List, Option, Some, None, IfSome}
+use Rattle.fsoe_io.specs.Sink.{Grew}
+use Rattle.fsoe_io.specs.declared.status.Ended.{Ended}
+use Rattle.fsoe_io.specs.declared.status.Status.{Status}
+use Rattle.fsoe_io.specs.declared.status.Status.TheVariants as status
+use Rattle.schedule_file.specs.Input.{input_read}
+use Rattle.file_run.specs.Outside.{Outside, Wrote}
+use Rattle.file_run.specs.Ran.{EndsAs, RanOver, ReportsReadLines}
+use Rattle.file_run.specs.Reporting.{refused_at, BeginsReport}
+use Rattle.trace_diag.specs.Lines.{trace_format}
+use Rattle.trace_diag.specs.Ran.{diagnose_reporting, judge_reporting, DiagnosesInput}
+use Rattle.trace_diag.proofs.Inputs.{input_bytes}
+
+reported : (bytes : List ℕ) (ended : Ended) (text : List ℕ) → judge_reporting.reports (input_read trace_format bytes) ended text → DiagnosesInput (input_read trace_format bytes) ended text
+reported bytes ended text h = h (input_bytes bytes)
+
+begun : (bytes text : List ℕ) → BeginsReport judge_reporting (input_read trace_format bytes) text → BeginsReport diagnose_reporting (input_read trace_format bytes) text
+begun bytes text h = (h.0, h.1, reported bytes h.1 h.0 h.2, h.3)
+
+if-some : {A : Type 0} (o : Option A) (P Q : A → Type 0) → ((x : A) → P x → Q x) → IfSome o P → IfSome o Q
+if-some None P Q h k = tt
+if-some (Some x) P Q h k = h x k
+
+wrote : (o : Outside) (P Q : List ℕ → List ℕ → Type 0) → ((input text : List ℕ) → P input text → Q input text) → Wrote o P → Wrote o Q
+wrote o P Q h k =
+    if-some o.source.before (λ input. (text : List ℕ) × Grew o.sink.before o.sink.after text × P input text) (λ input. (text : List ℕ) × Grew o.sink.before o.sink.after text × Q input text)
+    (λ input w. (w.0, w.1, h input w.0 w.2)) k
+
+read-lines : (lines : ℕ) (input : List ℕ) (left : Option (List ℕ)) (text : List ℕ) → ReportsReadLines judge_reporting lines input left text → ReportsReadLines diagnose_reporting lines input left text
+read-lines lines input left text k = record {
+  taken = k.taken;
+  held = k.held;
+  goes = k.goes;
+  open_line = k.open_line;
+  stops = k.stops;
+  writes = reported k.taken (refused_at (lines + 1)) _ k.writes;
+  begins = begun input text k.begins;
+}
+
+ends-as : (s : Status) (ended : Ended) (o : Outside) → EndsAs judge_reporting s ended o → EndsAs diagnose_reporting s ended o
+ends-as status.Ok ended o k = record { ends = k.ends; wrote = wrote o _ _ (λ input. reported input ended) k.wrote }
+ends-as status.Other ended o k = record { ends = k.ends; wrote = wrote o _ _ (λ input. reported input ended) k.wrote }
+ends-as status.Line ended o k = record { number = k.number; wrote = wrote o _ _ (λ input. reported input ended) k.wrote }
+ends-as status.Read ended o k = record { read = k.read; wrote = wrote o _ _ (λ input. read-lines ended.place input o.source.after) k.wrote; cause = k.cause }
+ends-as status.Write ended o k = record { appended = k.appended; wrote = wrote o _ _ (λ input text w. (w.0, begun input text w.1)) k.wrote; cause = k.cause }
+ends-as status.Memory ended o k = record { place_is = k.place_is; takes = k.takes; wrote = wrote o _ _ begun k.wrote }
+ends-as status.Usage ended o k = k
+ends-as status.Config ended o k = k
+ends-as status.Desk ended o k = k
+
+pub ran : (ended : Ended) (o : Outside) → RanOver judge_reporting ended o → RanOver diagnose_reporting ended o
+ran ended o k = record {
+  ends = ends-as ended.status ended o k.ends;
+  stops = λ read written memory. if-some o.source.before _ _ (λ input r. (r.0, reported input ended r.0 r.1)) (k.stops read written memory);
+  source_later = k.source_later;
+  sink_later = k.sink_later;
+}
