@@ -1,6 +1,6 @@
 -- What a run leaves.
 use Rattle.std.proofs.Common.{◌≡◌, ℕ, ◌+◌, ◌≤◌, Bool, List, [], ◌∷◌, ◌++◌, length, refl, arith, ap, sym, subst, inl, inr}
-use Rattle.std.specs.Prelude.{Ok, Err, Some, None}
+use Rattle.std.specs.Prelude.{◌⊎◌, Ok, Err, None, Some}
 use Rattle.std.specs.declared.option.Option.{Option}
 use Rattle.std.specs.Io.KnownBytes.{prepend_known}
 use Rattle.std.proofs.lemmas.List.{append-nil}
@@ -9,47 +9,30 @@ use Rattle.fsoe_io.specs.Sink.{Grew}
 use Rattle.fsoe_io.specs.declared.status.Ended.{Ended}
 use Rattle.fsoe_io.specs.declared.status.Status.{Status}
 use Rattle.fsoe_io.specs.declared.status.Status.TheVariants as status
-use Rattle.schedule_file.specs.Input.{InputCause, InputFormat, InputOf, NoFrame, NoApp, Stop, AtEnd}
+use Rattle.schedule_file.specs.Input.{InputCause, InputFormat, InputOf, NoFrame, NoApp, Stop, AtEnd, Refused}
 use Rattle.file_run.specs.Refusal.{input_cause}
 use Rattle.file_run.specs.Ending.{AppendedPart, Writes}
 use Rattle.file_run.specs.Event.{FindsEvent}
 use Rattle.file_run.specs.Halt.{Goes}
 use Rattle.file_run.specs.HaltOf.{halt_stopped}
-use Rattle.file_run.specs.Left.{LeavesDone, LeavesAll, LeavesAs, Done, IsBegun, Leaves, MayFailIn, MayNotBegin, line_after}
-use Rattle.file_run.specs.Machine.{TakesEvent}
-use Rattle.file_run.specs.Outside.{Outside, Told}
+use Rattle.file_run.specs.Left.{LeavesDone, LeavesAll, LeavesAs, Done, IsBegun, IsUnmet, MayFailIn, StopsAfter, line_after}
+use Rattle.file_run.specs.Outside.{Outside}
 use Rattle.file_run.specs.Ran.{EndsWhole}
 use Rattle.file_run.specs.Report.{refused_line}
 use Rattle.file_run.specs.Reporting.{Reporting, input_stopped, refused_at}
 use Rattle.file_run.specs.Stop.{halted_by, last_of}
 use Rattle.file_run.specs.declared.halt.Halt.{Halt}
+use Rattle.file_run.specs.declared.refusal.Refusal.{Refusal}
 use Rattle.file_run.specs.declared.halt.Halt.TheVariants as halt
 use Rattle.file_run.specs.declared.stopped.Stopped.{Stopped}
 use Rattle.file_run.specs.declared.stopped.Stopped.TheVariants as stopped
-use Rattle.file_run.proofs.Running.{IsFullness, Running, Saying, Standing, by_seen, ended_next, event_seen, stops_so}
+use Rattle.file_run.proofs.Running.{IsFullness, Running, Saying, Standing, by_seen, ended_next, event_seen, refused_after, stops_so}
 use Rattle.file_run.proofs.Seen.{Seen}
 use Rattle.file_run.proofs.Sending.{Sent, cut_part, grew_written, piece_part, text_part}
 
 -- how reports close
 abbrev pub Closing : Type 0 → Type 0 → Type 1
 Closing H E = H → List E → List ℕ → Ended → Type 0
-
--- no machine was begun
-not_begun : (why : Halt) → MayNotBegin (halted_by why).status
-not_begun (halt.Read lines) = tt
-not_begun halt.Memory = tt
-not_begun (halt.Refused line cause) = tt
-
-not_begun_by : (why : Halt) (sent : ℕ) (text : List ℕ) (result : Ended) (sink : Told) → Writes sent text (halted_by why) result sink → MayNotBegin result.status
-not_begun_by why sent text result sink writes =
-    elim writes [
-      | inl whole ↦ subst (λ (x : Ended). MayNotBegin x.status) (sym whole.0) (not_begun why)
-      | inr cut ↦ subst MayNotBegin (sym cut.status_is) tt
-    ]
-
-pub leaves_unbegun : {H L E : Type 0} (unchanged : Type 0) (f : InputFormat H L E) (stands : Standing H E) (closes : Closing H E) (o : Outside) (why : Halt) (sent : ℕ) (text : List ℕ) (result : Ended) (sink : Told) → unchanged
-    → Writes sent text (halted_by why) result sink → Leaves unchanged f stands closes result o
-leaves_unbegun unchanged f stands closes o why sent text result sink kept writes = inl (kept, not_begun_by why sent text result sink writes)
 
 -- what was read of an input is its beginning
 begun_so : {H L E : Type 0} (f : InputFormat H L E) (d : Done H E) (told left : Option (List ℕ)) → Seen f d.heading d.lines told left d.log → IsBegun f d told
@@ -80,12 +63,12 @@ did_text f closes d o between faults waiting ended result s writes ends =
 
 -- the line after the events is refused
 did_refused : {H L E : Type 0} (f : InputFormat H L E) (closes : Closing H E) (d : Done H E) (o : Outside) (between : Option (List ℕ)) (faults : ℕ) (waiting : OutputView) (number : ℕ) (why : InputCause) (result : Ended)
-    → Sent o.sink.before between waiting d.text → number ≡ line_after d
+    → Sent o.sink.before between waiting d.text → number ≡ line_after d → StopsAfter f d why o.source.before
     → Writes waiting.sent (waiting.bytes ++ refused_line number why) (refused_at number) result (record { before = between; after = o.sink.after; faults_before = faults; faults_after = o.sink.faults_after })
     → LeavesAs f closes d result.status result o
-did_refused f closes d o between faults waiting number why result s e writes =
-    did_written f closes d o between faults waiting (refused_line number why) (refused_at number) result s writes (inr (inl (why, ap (λ (n : ℕ). d.text ++ refused_line n why) e)))
-    (λ grew. record { why = why; number_is = e; wrote = grew })
+did_refused f closes d o between faults waiting number why result s e stops writes =
+    did_written f closes d o between faults waiting (refused_line number why) (refused_at number) result s writes (inr (inl (why, ap (λ (n : ℕ). d.text ++ refused_line n why) e, stops)))
+    (λ grew. record { why = why; stops = stops; number_is = e; wrote = grew })
 
 -- what a run did before a line
 abbrev done_so : {H L E : Type 0} (r : Reporting H L E) (stands : Standing H E) (says : Saying L) (left0 left w0 w : Option (List ℕ)) (waiting : OutputView) (events lines : ℕ) → Running r stands says left0 left w0 w waiting events lines → Done H E
@@ -116,53 +99,79 @@ left_lost {H} {L} {E} r old left closes says full o b c w1 waiting now events li
       ends = did_write r.format closes d o ended (k.text ++ piece) e (inl refl) (piece_part o.sink.before w1 o.sink.after waiting now k.text piece rest ended.place k.sent p place);
     }
 
+-- the next line is refused by itself
+stops_by : {H L E : Type 0} (r : Reporting H L E) (stands : Standing H E) (says : Saying L) (full : Bool) (left0 b c w0 w : Option (List ℕ)) (waiting : OutputView) (events lines number : ℕ) (why : Refusal) (k : Running r stands says left0 b w0 w waiting events lines)
+    → FindsEvent r.format.event says full (Err (halt.Refused number why)) b c → IsFullness r stands events full → number ≡ k.header + length k.log + 1
+    → StopsAfter r.format (done_so r stands says left0 b w0 w waiting events lines k) (input_cause why) left0
+stops_by {H} {L} {E} r stands says full left0 b c w0 w waiting events lines number why k finds fullness at =
+    stops_so r.format k.heading k.header k.log left0 b (Refused number (input_cause why))
+    (λ (input : InputOf H E).
+    (input ≡ input_stopped k.heading k.header k.log (Refused (k.header + length k.log + 1) (input_cause why)))
+    ⊎ ((event : E) × (more : List E) × (stop : Stop) × (input ≡ input_stopped k.heading k.header ((k.log ++ event ∷ []) ++ more) stop) × IsUnmet (input_cause why)))
+    k.seen (refused_after r stands says full left0 b c w0 w waiting events lines number why k finds fullness at) (inl (ap (λ (n : ℕ). input_stopped k.heading k.header k.log (Refused n (input_cause why))) at))
+
+-- the event of the next line isn't met
+stops_unmet : {H L E : Type 0} (r : Reporting H L E) (stands : Standing H E) (says : Saying L) (full : Bool) (left0 b c w0 w : Option (List ℕ)) (waiting : OutputView) (events lines : ℕ) (event : E) (why : InputCause) (k : Running r stands says left0 b w0 w waiting events lines)
+    → FindsEvent r.format.event says full (Ok (Some event)) b c → IsFullness r stands events full → IsUnmet why → StopsAfter r.format (done_so r stands says left0 b w0 w waiting events lines k) why left0
+stops_unmet {H} {L} {E} r stands says full left0 b c w0 w waiting events lines event why k finds fullness unmet =
+    by_seen r.format k.heading k.header (k.log ++ event ∷ []) left0 c
+    (λ (input : InputOf H E).
+    (input ≡ input_stopped k.heading k.header k.log (Refused (k.header + length k.log + 1) why))
+    ⊎ ((event : E) × (more : List E) × (stop : Stop) × (input ≡ input_stopped k.heading k.header ((k.log ++ event ∷ []) ++ more) stop) × IsUnmet why))
+    (event_seen r stands says full left0 b c w0 w waiting events lines event k finds fullness) (λ more stop. inr (event, more, stop, refl, unmet))
+
 -- the input goes no further
 halted_so : {H L E : Type 0} (r : Reporting H L E) (stands : Standing H E) (closes : Closing H E) (says : Saying L) (full : Bool) (o : Outside) (b c w1 : Option (List ℕ)) (faults : ℕ) (waiting : OutputView) (events lines now : ℕ) (why : Halt) (result : Ended)
-    (k : Running r stands says o.source.before b o.sink.before w1 waiting events lines) → FindsEvent r.format.event says full (Err why) b c → Goes {T = Unit {0}} (Err why) lines now b c
+    (k : Running r stands says o.source.before b o.sink.before w1 waiting events lines) → FindsEvent r.format.event says full (Err why) b c → IsFullness r stands events full → Goes {T = Unit {0}} (Err why) lines now b c
     → Writes waiting.sent (waiting.bytes ++ last_of why) (halted_by why) result (record { before = w1; after = o.sink.after; faults_before = faults; faults_after = o.sink.faults_after })
     → LeavesAs r.format closes (done_so r stands says o.source.before b o.sink.before w1 waiting events lines k) result.status result o
-halted_so r stands closes says full o b c w1 faults waiting events lines now (halt.Read count) result k finds goes writes =
+halted_so r stands closes says full o b c w1 faults waiting events lines now (halt.Read count) result k finds fullness goes writes =
     did_text r.format closes (done_so r stands says o.source.before b o.sink.before w1 waiting events lines k) o w1 faults waiting (halted_by (halt.Read count)) result k.sent writes
     (λ grew. record { lines_are = omega (arith, k.lined, k.count, goes.0); wrote = grew })
-halted_so r stands closes says full o b c w1 faults waiting events lines now halt.Memory result k finds goes writes = absurd finds
-halted_so r stands closes says full o b c w1 faults waiting events lines now (halt.Refused number why) result k finds goes writes =
-    did_refused r.format closes (done_so r stands says o.source.before b o.sink.before w1 waiting events lines k) o w1 faults waiting number (input_cause why) result k.sent (omega (arith, k.lined, k.count, goes)) writes
+halted_so r stands closes says full o b c w1 faults waiting events lines now halt.Memory result k finds fullness goes writes = absurd finds
+halted_so r stands closes says full o b c w1 faults waiting events lines now (halt.Refused number why) result k finds fullness goes writes =
+    let d = done_so r stands says o.source.before b o.sink.before w1 waiting events lines k in
+    let at : number ≡ line_after d = omega (arith, k.lined, k.count, goes) in
+    did_refused r.format closes d o w1 faults waiting number (input_cause why) result k.sent at
+    (stops_by r stands says full o.source.before b c o.sink.before w1 waiting events lines number why k finds fullness at) writes
 
 pub left_halted : {H L E : Type 0} (r : Reporting H L E) (stands left : Standing H E) (closes : Closing H E) (says : Saying L) (full : Bool) (o : Outside) (b c w1 : Option (List ℕ)) (faults : ℕ) (waiting : OutputView) (events lines now : ℕ) (why : Halt) (result : Ended)
-    (k : Running r stands says o.source.before b o.sink.before w1 waiting events lines) → left k.heading k.log k.text → FindsEvent r.format.event says full (Err why) b c → Goes {T = Unit {0}} (Err why) lines now b c
+    (k : Running r stands says o.source.before b o.sink.before w1 waiting events lines) → left k.heading k.log k.text → FindsEvent r.format.event says full (Err why) b c → IsFullness r stands events full → Goes {T = Unit {0}} (Err why) lines now b c
     → Writes waiting.sent (waiting.bytes ++ last_of why) (halted_by why) result (record { before = w1; after = o.sink.after; faults_before = faults; faults_after = o.sink.faults_after }) → LeavesDone r.format left closes result o
-left_halted r stands left closes says full o b c w1 faults waiting events lines now why result k stood finds goes writes =
+left_halted r stands left closes says full o b c w1 faults waiting events lines now why result k stood finds fullness goes writes =
     let d = done_so r stands says o.source.before b o.sink.before w1 waiting events lines k in
     record {
       done = d;
       stood = stood;
       begun = begun_so r.format d o.source.before b k.seen;
-      ends = halted_so r stands closes says full o b c w1 faults waiting events lines now why result k finds goes writes;
+      ends = halted_so r stands closes says full o b c w1 faults waiting events lines now why result k finds fullness goes writes;
     }
 
 -- the event of the next line isn't done
-stopped_so : {H L E : Type 0} (r : Reporting H L E) (stands : Standing H E) (closes : Closing H E) (says : Saying L) (o : Outside) (b w1 : Option (List ℕ)) (faults : ℕ) (waiting : OutputView) (events lines number : ℕ) (why : Stopped) (result : Ended)
-    (k : Running r stands says o.source.before b o.sink.before w1 waiting events lines) → number ≡ lines + 1
+stopped_so : {H L E : Type 0} (r : Reporting H L E) (stands : Standing H E) (closes : Closing H E) (says : Saying L) (full : Bool) (o : Outside) (b c w1 : Option (List ℕ)) (faults : ℕ) (waiting : OutputView) (events lines number : ℕ) (event : E) (why : Stopped) (result : Ended)
+    (k : Running r stands says o.source.before b o.sink.before w1 waiting events lines) → FindsEvent r.format.event says full (Ok (Some event)) b c → IsFullness r stands events full → number ≡ lines + 1
     → Writes waiting.sent (waiting.bytes ++ last_of (halt_stopped why number)) (halted_by (halt_stopped why number)) result (record { before = w1; after = o.sink.after; faults_before = faults; faults_after = o.sink.faults_after })
     → LeavesAs r.format closes (done_so r stands says o.source.before b o.sink.before w1 waiting events lines k) result.status result o
-stopped_so r stands closes says o b w1 faults waiting events lines number stopped.NoFrame result k step writes =
-    did_refused r.format closes (done_so r stands says o.source.before b o.sink.before w1 waiting events lines k) o w1 faults waiting number NoFrame result k.sent (omega (arith, k.lined, k.count, step)) writes
-stopped_so r stands closes says o b w1 faults waiting events lines number stopped.NoApp result k step writes =
-    did_refused r.format closes (done_so r stands says o.source.before b o.sink.before w1 waiting events lines k) o w1 faults waiting number NoApp result k.sent (omega (arith, k.lined, k.count, step)) writes
-stopped_so r stands closes says o b w1 faults waiting events lines number stopped.Memory result k step writes =
+stopped_so r stands closes says full o b c w1 faults waiting events lines number event stopped.NoFrame result k finds fullness step writes =
+    did_refused r.format closes (done_so r stands says o.source.before b o.sink.before w1 waiting events lines k) o w1 faults waiting number NoFrame result k.sent (omega (arith, k.lined, k.count, step))
+    (stops_unmet r stands says full o.source.before b c o.sink.before w1 waiting events lines event NoFrame k finds fullness (inl refl)) writes
+stopped_so r stands closes says full o b c w1 faults waiting events lines number event stopped.NoApp result k finds fullness step writes =
+    did_refused r.format closes (done_so r stands says o.source.before b o.sink.before w1 waiting events lines k) o w1 faults waiting number NoApp result k.sent (omega (arith, k.lined, k.count, step))
+    (stops_unmet r stands says full o.source.before b c o.sink.before w1 waiting events lines event NoApp k finds fullness (inr refl)) writes
+stopped_so r stands closes says full o b c w1 faults waiting events lines number event stopped.Memory result k finds fullness step writes =
     did_text r.format closes (done_so r stands says o.source.before b o.sink.before w1 waiting events lines k) o w1 faults waiting (halted_by halt.Memory) result k.sent writes (λ grew. grew)
 
-pub left_stopped : {H L E : Type 0} (r : Reporting H L E) (stands left : Standing H E) (closes : Closing H E) (says : Saying L) (o : Outside) (b w1 : Option (List ℕ)) (faults : ℕ) (waiting : OutputView) (events lines number : ℕ) (why : Stopped) (result : Ended)
-    (k : Running r stands says o.source.before b o.sink.before w1 waiting events lines) → left k.heading k.log k.text → number ≡ lines + 1
+pub left_stopped : {H L E : Type 0} (r : Reporting H L E) (stands left : Standing H E) (closes : Closing H E) (says : Saying L) (full : Bool) (o : Outside) (b c w1 : Option (List ℕ)) (faults : ℕ) (waiting : OutputView) (events lines number : ℕ) (event : E) (why : Stopped)
+    (result : Ended) (k : Running r stands says o.source.before b o.sink.before w1 waiting events lines) → left k.heading k.log k.text → FindsEvent r.format.event says full (Ok (Some event)) b c → IsFullness r stands events full → number ≡ lines + 1
     → Writes waiting.sent (waiting.bytes ++ last_of (halt_stopped why number)) (halted_by (halt_stopped why number)) result (record { before = w1; after = o.sink.after; faults_before = faults; faults_after = o.sink.faults_after })
     → LeavesDone r.format left closes result o
-left_stopped r stands left closes says o b w1 faults waiting events lines number why result k stood step writes =
+left_stopped r stands left closes says full o b c w1 faults waiting events lines number event why result k stood finds fullness step writes =
     let d = done_so r stands says o.source.before b o.sink.before w1 waiting events lines k in
     record {
       done = d;
       stood = stood;
       begun = begun_so r.format d o.source.before b k.seen;
-      ends = stopped_so r stands closes says o b w1 faults waiting events lines number why result k step writes;
+      ends = stopped_so r stands closes says full o b c w1 faults waiting events lines number event why result k finds fullness step writes;
     }
 
 -- a run to the end ends so

@@ -30,6 +30,7 @@ use Rattle.file_run.specs.Reporting.{BeginsReport, EndsReport, EndsStopped, Ends
 use Rattle.file_run.specs.Stop.{halted_by, last_of}
 use Rattle.file_run.specs.WholeLines.{TookLines}
 use Rattle.file_run.specs.declared.halt.Halt.{Halt}
+use Rattle.file_run.specs.declared.refusal.Refusal.{Refusal}
 use Rattle.file_run.specs.declared.halt.Halt.TheVariants as halt
 use Rattle.file_run.specs.declared.stopped.Stopped.{Stopped}
 use Rattle.file_run.specs.declared.stopped.Stopped.TheVariants as stopped
@@ -343,6 +344,15 @@ reads_failed {H} {L} {E} r says full o left held h n log text says_so fullness s
     let each : (told : Option (List ℕ)) → P told = elim [ None ↦ λ was begins. tt | Some xs ↦ cut xs ] in
     each o.source.before seen (by_seen r.format h n log o.source.before left (λ input. BeginsReport r input text) seen (so_far.begins n))
 
+-- what was read of an input says that its next line is refused
+pub refused_after : {H L E : Type 0} (r : Reporting H L E) (stands : Standing H E) (says : Saying L) (full : Bool) (left0 b c w0 w : Option (List ℕ)) (waiting : OutputView) (events lines number : ℕ) (why : Refusal) (k : Running r stands says left0 b w0 w waiting events lines)
+    → FindsEvent r.format.event says full (Err (halt.Refused number why)) b c → IsFullness r stands events full → number ≡ k.header + length k.log + 1
+    → IfSome b (λ rest. input_on r.format k.heading k.header k.log (lines_of rest) ≡ input_stopped k.heading k.header k.log (Refused number (input_cause why)))
+refused_after r stands says full left0 b c w0 w waiting events lines number why k finds fullness place =
+    IfSome_then b finds (λ rest first.
+    input_refused r.format says full k.heading k.header k.log (lines_of rest) (input_cause why) k.same (fullness k.heading k.log k.text k.count k.stood) first
+    ∙ ap (λ (n : ℕ). input_stopped k.heading k.header k.log (Refused n (input_cause why))) (sym place))
+
 -- the input goes no further
 pub ends_halted : {H L E : Type 0} (r : Reporting H L E) (stands : Standing H E) (says : Saying L) (full : Bool) (o : Outside) (b : Option (List ℕ)) (held : List ℕ) (w1 : Option (List ℕ)) (read faults : ℕ) (waiting : OutputView) (events lines now : ℕ) (why : Halt) (result : Ended)
     → Reports r stands → Running r stands says o.source.before b o.sink.before w1 waiting events lines → FindsEvent r.format.event says full (Err why) b (prepend_known held o.source.after) → IsFullness r stands events full
@@ -363,12 +373,8 @@ ends_halted r stands says full o b held w1 read faults waiting events lines now 
     })
 ends_halted r stands says full o b held w1 read faults waiting events lines now halt.Memory result reports k finds fullness goes stalls blames read_later writes later = absurd finds
 ends_halted r stands says full o b held w1 read faults waiting events lines now (halt.Refused number why) result reports k finds fullness goes stalls blames read_later writes later =
-    let place : k.header + length k.log + 1 ≡ number = omega (arith, k.lined, k.count, goes) in
     let so_far = reports k.heading k.log k.text k.stood in
-    let stops : IfSome b (λ rest. input_on r.format k.heading k.header k.log (lines_of rest) ≡ input_stopped k.heading k.header k.log (Refused number (input_cause why))) =
-    IfSome_then b finds (λ rest first.
-    input_refused r.format says full k.heading k.header k.log (lines_of rest) (input_cause why) k.same (fullness k.heading k.log k.text k.count k.stood) first
-    ∙ ap (λ (n : ℕ). input_stopped k.heading k.header k.log (Refused n (input_cause why))) place) in
+    let stops = refused_after r stands says full o.source.before b (prepend_known held o.source.after) o.sink.before w1 waiting events lines number why k finds fullness (omega (arith, k.lined, k.count, goes)) in
     ends_reported r o w1 faults waiting k.text (refused_line number (input_cause why)) (refused_at number) result k.sent writes later
     (stops_so r.format k.heading k.header k.log o.source.before b (Refused number (input_cause why)) (λ input. r.reports input (refused_at number) (k.text ++ refused_line number (input_cause why))) k.seen stops
     (so_far.refused k.header number (input_cause why)))

@@ -1,15 +1,19 @@
 -- What a run over an input leaves: which events were done, and what was written of them.
-use Rattle.std.specs.Prelude.{◌≡◌, ℕ, ◌+◌, List, ◌++◌, length, IfSome, ◌⊎◌}
+use Rattle.std.specs.Prelude.{◌≡◌, ℕ, ◌+◌, List, [], ◌∷◌, ◌++◌, length, IfSome, ◌⊎◌}
+use Rattle.std.specs.Io.KnownBytes.{prepend_known}
 use Rattle.std.specs.declared.option.Option.{Option}
 use Rattle.fsoe_io.specs.Sink.{Grew}
 use Rattle.fsoe_io.specs.declared.status.Ended.{Ended}
 use Rattle.fsoe_io.specs.declared.status.Status.{Status}
 use Rattle.fsoe_io.specs.declared.status.Status.TheVariants as status
-use Rattle.schedule_file.specs.Input.{InputCause, InputFormat, Stop, AtEnd, input_read}
-use Rattle.file_run.specs.Ending.{AppendedPart}
-use Rattle.file_run.specs.Outside.{Outside, Told}
+use Rattle.schedule_file.specs.Input.{InputCause, InputFormat, NoApp, NoFrame, Stop, AtEnd, Refused, input_read}
+use Rattle.file_run.specs.Ending.{AppendedPart, Writes}
+use Rattle.file_run.specs.Header.{HaltsHeader}
+use Rattle.file_run.specs.Outside.{Outside}
 use Rattle.file_run.specs.Report.{refused_line}
 use Rattle.file_run.specs.Reporting.{input_stopped}
+use Rattle.file_run.specs.Stop.{halted_by, last_of}
+use Rattle.file_run.specs.declared.halt.Halt.{Halt}
 
 -- what a machine did: the events, after a header of so many lines, and their whole text
 pub record Done (H E : Type 0) : Type 0 where
@@ -37,22 +41,34 @@ pub record LeavesAll {H L E : Type 0} (f : InputFormat H L E) (closes : H → Li
   pub closed : closes d.heading d.log report ended
   pub wrote : Grew o.sink.before o.sink.after report
 
+-- for these causes a line is refused that is right by itself: the run so far hasn't what it names
+abbrev pub IsUnmet : InputCause → Type 0
+IsUnmet why = (why ≡ NoFrame) ⊎ (why ≡ NoApp)
+
+-- the line after these events is refused for this cause: the input stops there by itself, or has an event there that isn't met
+abbrev pub StopsAfter : {H L E : Type 0} → InputFormat H L E → Done H E → InputCause → Option (List ℕ) → Type 0
+StopsAfter {H} {L} {E} f d why told =
+    IfSome told (λ input.
+    (input_read f input ≡ input_stopped d.heading d.lines d.log (Refused (line_after d) why))
+    ⊎ ((event : E) × (more : List E) × (stop : Stop) × (input_read f input ≡ input_stopped d.heading d.lines ((d.log ++ event ∷ []) ++ more) stop) × IsUnmet why))
+
 -- the events of all lines before a refused one were done, and their text and its line were written
-pub record LeavesRefused {H E : Type 0} (d : Done H E) (number : ℕ) (sink : Told) : Type 0 where
+pub record LeavesRefused {H L E : Type 0} (f : InputFormat H L E) (d : Done H E) (number : ℕ) (o : Outside) : Type 0 where
   pub why : InputCause
+  pub stops : StopsAfter f d why o.source.before
   pub number_is : number ≡ line_after d
-  pub wrote : Grew sink.before sink.after (d.text ++ refused_line number why)
+  pub wrote : Grew o.sink.before o.sink.after (d.text ++ refused_line number why)
 
 -- the events of so many whole lines were done, and their text was written
-pub record LeavesLines {H E : Type 0} (d : Done H E) (lines : ℕ) (sink : Told) : Type 0 where
+pub record LeavesLines {H E : Type 0} (d : Done H E) (lines : ℕ) (o : Outside) : Type 0 where
   pub lines_are : lines ≡ d.lines + length d.log
-  pub wrote : Grew sink.before sink.after d.text
+  pub wrote : Grew o.sink.before o.sink.after d.text
 
 -- a write may fail in the text of the events, in the line of a refusal after it, or, where all events were done, in the whole report
 abbrev pub MayFailIn : {H L E : Type 0} → InputFormat H L E → (H → List E → List ℕ → Ended → Type 0) → Done H E → List ℕ → Option (List ℕ) → Type 0
 MayFailIn f closes d whole told =
     (whole ≡ d.text)
-    ⊎ (((why : InputCause) × (whole ≡ d.text ++ refused_line (line_after d) why))
+    ⊎ (((why : InputCause) × (whole ≡ d.text ++ refused_line (line_after d) why) × StopsAfter f d why told)
     ⊎ ((ended : Ended) × closes d.heading d.log whole ended × IsWhole f d told))
 
 -- a write failed after so many bytes
@@ -65,8 +81,8 @@ pub record LeavesUnwritten {H L E : Type 0} (f : InputFormat H L E) (closes : H 
 abbrev pub LeavesAs : {H L E : Type 0} → InputFormat H L E → (H → List E → List ℕ → Ended → Type 0) → Done H E → Status → Ended → Outside → Type 0
 LeavesAs f closes d status.Ok ended o = LeavesAll f closes d ended o
 LeavesAs f closes d status.Other ended o = LeavesAll f closes d ended o
-LeavesAs f closes d status.Line ended o = LeavesRefused d ended.place o.sink
-LeavesAs f closes d status.Read ended o = LeavesLines d ended.place o.sink
+LeavesAs f closes d status.Line ended o = LeavesRefused f d ended.place o
+LeavesAs f closes d status.Read ended o = LeavesLines d ended.place o
 LeavesAs f closes d status.Write ended o = LeavesUnwritten f closes d ended.place o
 LeavesAs f closes d status.Memory ended o = Grew o.sink.before o.sink.after d.text
 LeavesAs f closes d status.Usage ended o = ⊥
@@ -80,18 +96,14 @@ pub record LeavesDone {H L E : Type 0} (f : InputFormat H L E) (stands : H → L
   pub begun : IsBegun f done o.source.before
   pub ends : LeavesAs f closes done ended.status ended o
 
--- only a run that doesn't come to the end of its input may begin no machine
-abbrev pub MayNotBegin : Status → Type 0
-MayNotBegin status.Line = Unit {0}
-MayNotBegin status.Read = Unit {0}
-MayNotBegin status.Write = Unit {0}
-MayNotBegin status.Memory = Unit {0}
-MayNotBegin status.Ok = ⊥
-MayNotBegin status.Other = ⊥
-MayNotBegin status.Usage = ⊥
-MayNotBegin status.Config = ⊥
-MayNotBegin status.Desk = ⊥
+-- no machine was begun: the header goes no further, or there was no memory where this may be, and no more was to be written than the line of
+-- its refusal
+pub record LeavesUnbegun {H L E : Type 0} (f : InputFormat H L E) (wants : Type 0) (ended : Ended) (o : Outside) : Type 0 where
+  pub why : Halt
+  pub held : List ℕ
+  pub header : HaltsHeader f wants why o.source.before (prepend_known held o.source.after)
+  pub writes : Writes 0 (last_of why) (halted_by why) ended o.sink
 
 -- a run began no machine, and left what was handed unchanged; or what its machine did stands
-abbrev pub Leaves : {H L E : Type 0} → Type 0 → InputFormat H L E → (H → List E → List ℕ → Type 0) → (H → List E → List ℕ → Ended → Type 0) → Ended → Outside → Type 0
-Leaves unchanged f stands closes ended o = (unchanged × MayNotBegin ended.status) ⊎ LeavesDone f stands closes ended o
+abbrev pub Leaves : {H L E : Type 0} → Type 0 → Type 0 → InputFormat H L E → (H → List E → List ℕ → Type 0) → (H → List E → List ℕ → Ended → Type 0) → Ended → Outside → Type 0
+Leaves unchanged wants f stands closes ended o = (unchanged × LeavesUnbegun f wants ended o) ⊎ LeavesDone f stands closes ended o

@@ -2,6 +2,7 @@
 ghost use Rattle.std.specs.Prelude.{◌≡◌};
 ghost use Rattle.file_run.specs.Left.{Leaves};
 ghost use Rattle.file_run.specs.Ran.{RanOver};
+ghost use Rattle.file_run.specs.Reporting.{TakesMemory};
 
 use crate::begin::begin_over;
 use crate::event::next_event;
@@ -28,7 +29,7 @@ pub fn run_over<M: Machine, S: Source, K: Sink>(
       source = record { before = S.left source.old; after = S.left source.new; faults_before = S.faults source.old; faults_after = S.faults source.new };
       sink = record { before = K.written sink.old; after = K.written sink.new; faults_before = K.faults sink.old; faults_after = K.faults sink.new };
     }) }
-    ensures leaves { Leaves (handed.new ≡ handed.old) (M.reporting handed.old).format (λ h log text. (v : M) × M.stands handed.old v handed.new h log text) (M.closes handed.old handed.new) result (record {
+    ensures leaves { Leaves (handed.new ≡ handed.old) (TakesMemory (M.reporting handed.old).memory) (M.reporting handed.old).format (λ h log text. (v : M) × M.stands handed.old v handed.new h log text) (M.closes handed.old handed.new) result (record {
       source = record { before = S.left source.old; after = S.left source.new; faults_before = S.faults source.old; faults_after = S.faults source.new };
       sink = record { before = K.written sink.old; after = K.written sink.new; faults_before = K.faults sink.old; faults_after = K.faults sink.new };
     }) }

@@ -80,13 +80,13 @@ none_is_fair : (links : List LinkConf) → PairsAreFair links []
 none_is_fair links = λ k. fair_if_none (link_at links k)
 
 pub ran_plant : (t : Terms) (ended : Ended) (o : Outside) (before after : Told) (steps : List JournalStep) (unbegun : Type 0) (stands : ScriptHeading → List PlantLine → List ℕ → Type 0) (closes : Closing) → RanOver (plant_reporting t) ended o
-    → Leaves unbegun (plant_reporting t).format stands closes ended o → (unbegun → (after ≡ before) × (steps ≡ [])) → ((h : ScriptHeading) (log : List PlantLine) (text : List ℕ) → stands h log text → Stood t h log text before after steps)
+    → Leaves unbegun (Unit {0}) (plant_reporting t).format stands closes ended o → (unbegun → (after ≡ before) × (steps ≡ [])) → ((h : ScriptHeading) (log : List PlantLine) (text : List ℕ) → stands h log text → Stood t h log text before after steps)
     → Closer closes (IsReportOf t steps) → RanPlant t ended o before after steps
 ran_plant t ended o before after steps unbegun stands closes ran leaves nothing stood closed =
     elim leaves [
       | inl none ↦
           let was = nothing none.0 in
-          record { run = ran; turns = None; did = record { may = none.1; journal_is = was.1 }; channel = was.0; fair = subst (PairsAreFair t.begins.links) (sym was.1) (none_is_fair t.begins.links) }
+          record { run = ran; turns = None; did = record { journal_is = was.1; left = none.1 }; channel = was.0; fair = subst (PairsAreFair t.begins.links) (sym was.1) (none_is_fair t.begins.links) }
       | inr did ↦
           let d = did.done in
           let s = stood d.heading d.log d.text did.stood in
@@ -99,6 +99,7 @@ ran_plant t ended o before after steps unbegun stands closes ran leaves nothing 
               done = d;
               said_are = sym (ap (said t.spare) (sym (append-nil d.log)) ∙ s.runs.says [] ∙ append-nil (said_by_turns s.runs.turns));
               whole = s.runs.whole;
+              answered = s.runs.stands.has_done.answered;
               text_is = s.runs.text_is ∙ ap (ticks_text t.begins.links) (sym s.steps_are);
               begun = did.begun;
               ends = leaves_as t closes (IsReportOf t steps) closed d ended.status ended o did.ends;
@@ -109,9 +110,9 @@ ran_plant t ended o before after steps unbegun stands closes ran leaves nothing 
     ]
 
 -- what holds by either way in which a run leaves what was handed
-pub left_so : {P H L E : Type 0} (f : InputFormat H L E) (ended : Ended) (o : Outside) (unbegun : Type 0) (stands : H → List E → List ℕ → Type 0) (closes : H → List E → List ℕ → Ended → Type 0) → Leaves unbegun f stands closes ended o → (unbegun → P)
+pub left_so : {P H L E : Type 0} (f : InputFormat H L E) (ended : Ended) (o : Outside) (unbegun wants : Type 0) (stands : H → List E → List ℕ → Type 0) (closes : H → List E → List ℕ → Ended → Type 0) → Leaves unbegun wants f stands closes ended o → (unbegun → P)
     → ((h : H) (log : List E) (text : List ℕ) → stands h log text → P) → P
-left_so f ended o unbegun stands closes leaves none some =
+left_so f ended o unbegun wants stands closes leaves none some =
     elim leaves [
       | inl left ↦ none left.0
       | inr did ↦ some did.done.heading did.done.log did.done.text did.stood

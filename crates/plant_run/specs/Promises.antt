@@ -1,5 +1,5 @@
--- What holds of a plant's journal and acts, whatever its channel gives: laws that rest on the definitions alone. Acts are listed newest
--- first, steps oldest first.
+-- What holds of a plant's journal and acts, whatever its channel gives: by the definitions alone, but that all offers are the answer, which
+-- rests on what an application promises. Acts are listed newest first, steps oldest first.
 use Rattle.std.specs.Prelude.{◌≡◌, ◌-◌, ◌<◌, ℕ, zero, suc, Bool, true, false, List, [], ◌∷◌, map, Option, Some, None, IfSome, IsSomeAnd, is_some, if◌then◌else◌}
 use Rattle.fsoe_base.specs.declared.command.End.{End}
 use Rattle.fsoe_base.specs.declared.command.End.TheVariants as side

@@ -6,8 +6,9 @@ ghost use Rattle.plant_run.specs.Acts.{Beginning, Act, journal, uses};
 ghost use Rattle.plant_run.specs.FairPairs.{PairsAreFair};
 ghost use Rattle.plant_run.specs.Promises.{MastersAgree, Cycles, AllAnswered, PullsFit, line_step, line_steps, pulled_in, short_ticks};
 ghost use Rattle.plant_run.specs.Standing.{PlantView, IsTurn, PlantStands};
-ghost use Rattle.plant_run.specs.Turns.{Turn, acts, said_by_turns};
+ghost use Rattle.plant_run.specs.Turns.{AppsAreSpare, Named, Turn, acts, said, said_by_turns};
 ghost use Rattle.plant_run.specs.Uses.{gifts, empty_pulls};
+ghost use Rattle.plant_run.specs.declared.event.PlantLine.{PlantLine};
 ghost use Rattle.plant_run.specs.WorkedActs.{FirstActs, CutActs};
 
 /// The master of each pair of the journal does what this connection of the master of many connections does.
@@ -33,6 +34,12 @@ pub fn pulls()
 #[tactic(auto, using(crate::proofs::Lines::lines_are_said))]
 pub fn lines()
     ensures { (b : Beginning) (turns : List Turn) → line_steps (journal b (acts turns)) ≡ map line_step (said_by_turns turns) }
+{}
+
+/// The applications that a script takes are among those that were handed in, each an entry that no earlier line took.
+#[tactic(auto, using(crate::proofs::TakenApps::apps_are_spare))]
+pub fn apps()
+    ensures { (spare : List Named) (lines : List PlantLine) → AppsAreSpare spare (said spare lines) }
 {}
 
 /// Exactly these acts run a cycle of the application: the start, each tick, each change of the application, and each parcel that a master

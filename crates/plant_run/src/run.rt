@@ -14,7 +14,7 @@ use fsoe_io::{Ended, Sink, Source};
 use plant_conf::PlantConf;
 use std::alloc::Global;
 
-/// Runs a plant that hasn't begun. What is lent stays lent.
+/// Runs a plant that hasn't begun. The channel and what the run owns are the same ones after it.
 fn run_given<'a, 'o, H: Application, C: Channel, S: Source, K: Sink>(
     given: &mut PlantRun<'a, 'o, H, C>,
     source: &mut S,
@@ -63,7 +63,8 @@ fn run_owned<H: Application, C: Channel, S: Source, K: Sink>(
 ///
 /// The status is `Ok` with place 0; `Other` with the lowest connection that has an other entry; `Line` with the number of the refused line;
 /// `Read` with the whole lines read, only where the source failed; `Write` with the bytes written, only where the sink failed; or `Memory`
-/// with place 0. Whatever it is, the journal has then the steps that were done.
+/// with place 0. Whatever it is, the journal has then the steps that were done: also those of lines whose text wasn't written yet as a write
+/// failed, and, from the script's first line on, the offers of the cycle at the start.
 pub fn run_plant<H: Application, C: Channel, S: Source, K: Sink>(
     alloc: Global,
     conf: &PlantConf,

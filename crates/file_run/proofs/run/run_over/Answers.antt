@@ -1,8 +1,8 @@
-use Rattle.std.proofs.Common.{inr, ◌+◌, ◌++◌, arith, ◌∙◌}
+use Rattle.std.proofs.Common.{inl, inr, ◌+◌, ◌++◌, arith, ◌∙◌}
 use Rattle.std.specs.Prelude.{Some, None}
 use Rattle.file_run.specs.Machine.{TakesEvent}
 use Rattle.file_run.proofs.Exact.{ran_by}
-use Rattle.file_run.proofs.Leaving.{leaves_unbegun, left_unsent, left_halted, left_stopped, left_lost, left_at_end}
+use Rattle.file_run.proofs.Leaving.{left_unsent, left_halted, left_stopped, left_lost, left_at_end}
 use Rattle.file_run.proofs.Running.{running_start, running_sent, running_event, event_may_come, halts_as, finds_as, ends_unsent, ends_lost, ends_at_end, ends_stopped, ends_halted, header_halted}
 use Rattle.file_run.proofs.Taking.{stands_after}
 use Rattle.file_run.proofs.Sending.{rose_since}
@@ -116,7 +116,9 @@ returns-in_default-event-clause-ran g c =
     (omega (arith, c.loop-output.invariant.source_later, next.later)) (omega (arith, later, c.in_default.ensures.cause.later, c.close_run.ensures.later))
 
 pub returns-in-Err-clause-leaves : goal.returns-in-Err-clause-leaves
-returns-in-Err-clause-leaves g c = leaves_unbegun _ _ _ _ _ c.in-Err.why _ _ c.halt.result _ c.in-Err.ensures.kept c.halt.ensures.writes
+returns-in-Err-clause-leaves g c =
+    let writes = rw (c.new-output.ensures.bytes, c.new-output.ensures.sent) at c.halt.ensures.writes in
+    inl (c.in-Err.ensures.kept, record { why = c.in-Err.why; held = c.begin_over.new.reader.bytes; header = c.in-Err.ensures.headless; writes = writes })
 
 pub returns-in-Err-send_before_read-clause-leaves : goal.returns-in-Err-send_before_read-clause-leaves
 returns-in-Err-send_before_read-clause-leaves g c =
@@ -133,15 +135,18 @@ returns-in-Err-next_event-clause-leaves g c =
     inr (left_halted (g.M.Machine.reporting c.args.handed.now) (g.M.Machine.stands c.args.handed.now c.loop-output.machine c.loop-output.handed) (λ h log text. (v : g.row.M.Denot) × g.M.Machine.stands c.args.handed.now v c.loop-output.handed h log text) (g.M.Machine.closes c.args.handed.now c.loop-output.handed) _ c.is_full-full.result _ _ _ _ _ _ _ _ _ c.in-Err-next_event.why c.halt-in-Err-next_event.result sent
     (c.loop-output.machine, sent.stood)
     (halts_as (g.M.Format.Format.format k.0) (g.M.Machine.reporting c.args.handed.now).format _ c.is_full-full.result c.in-Err-next_event.why _ _ k.1 (next.finds k.0))
-    next.goes c.halt-in-Err-next_event.ensures.writes)
+    (c.is_full-full.ensures.full c.args.handed.now) next.goes c.halt-in-Err-next_event.ensures.writes)
 
 pub returns-in-Err-report-clause-leaves : goal.returns-in-Err-report-clause-leaves
 returns-in-Err-report-clause-leaves g c =
     let sent = running_sent _ _ _ _ _ _ _ _ _ _ _ _ c.loop-output.invariant.running c.in_default.ensures.puts c.in_default.ensures.count in
     let next = c.in_default-next_event.ensures in
-    inr (left_stopped (g.M.Machine.reporting c.args.handed.now) (g.M.Machine.stands c.args.handed.now c.loop-output.machine c.loop-output.handed) (λ h log text. (v : g.row.M.Denot) × g.M.Machine.stands c.args.handed.now v c.report.new.handed h log text) (g.M.Machine.closes c.args.handed.now c.report.new.handed) _ _ _ _ _ _ _ _ c.lines.result c.in-Err-report.why c.halt-in-Err-report.result sent
+    let k = c.in-Ok.ensures.kind in
+    let finds = finds_as (g.M.Format.Format.format k.0) (g.M.Machine.reporting c.args.handed.now).format (g.M.Format.Format.says c.in-Ok.begun.1) c.is_full-full.result c.next_event.new.said (Some c.in-Some.event.now) _ _ k.1 (c.in-Some.ensures k.0)
+    (next.finds k.0) in
+    inr (left_stopped (g.M.Machine.reporting c.args.handed.now) (g.M.Machine.stands c.args.handed.now c.loop-output.machine c.loop-output.handed) (λ h log text. (v : g.row.M.Denot) × g.M.Machine.stands c.args.handed.now v c.report.new.handed h log text) (g.M.Machine.closes c.args.handed.now c.report.new.handed) _ c.is_full-full.result _ _ _ _ _ _ _ _ c.lines.result c.in-Some.event.now c.in-Err-report.why c.halt-in-Err-report.result sent
     (c.report.new.self, c.in-Err-report.ensures.kept c.args.handed.now sent.heading sent.log sent.text sent.stood)
-    (c.lines.ensures ∙ next.goes) (rw c.halt_stopped.ensures at c.halt-in-Err-report.ensures.writes))
+    finds (c.is_full-full.ensures.full c.args.handed.now) (c.lines.ensures ∙ next.goes) (rw c.halt_stopped.ensures at c.halt-in-Err-report.ensures.writes))
 
 pub returns-in-Err-put_text-clause-leaves : goal.returns-in-Err-put_text-clause-leaves
 returns-in-Err-put_text-clause-leaves g c =
