@@ -23,6 +23,10 @@ pub(crate) struct Ends<A> {
     pub(crate) links: Vec<Link>,
     pub(crate) dids: Vec<Did>,
     pub(crate) outs: Vec<FrameBuf>,
+    /// Where an end writes what it did at the last frame that was pulled. Its place for data stays, since ticks have places of their own.
+    pub(crate) heard: Did,
+    /// Where an end writes what it sent then.
+    pub(crate) sent: FrameBuf,
 }
 
 /// Notes in the journal that this parcel was pulled.
@@ -94,8 +98,8 @@ impl<A: Application> Ends<A> {
         ensures few { vec_len steps.new ≤ vec_len steps.old + 1 + vec_len self.old.links }
         ensures capacity { vec_capacity steps.old ≤ vec_capacity steps.new }
     {
-        let mut out = FrameBuf::new();
-        let did = self.master.deliver(link, frame.bytes(), &mut out);
+        self.master
+            .deliver_into(link, frame.bytes(), &mut self.heard, &mut self.sent);
         note_offers(&self.master, self.links.as_mut_slice(), steps);
         let to = Place {
             link,
@@ -103,7 +107,7 @@ impl<A: Application> Ends<A> {
         };
         note_pulled(to, frame, steps);
         let kept = &mut self.links[usize::from(link) - 1];
-        master_acted(link, kept, frame.bytes(), &did, &out, channel);
+        master_acted(link, kept, frame.bytes(), &self.heard, &self.sent, channel);
     }
 
     /// A frame that was pulled comes to the slave of this connection, and its answer is pushed.
@@ -130,7 +134,14 @@ impl<A: Application> Ends<A> {
         };
         note_pulled(to, frame, steps);
         let kept = &mut self.links[usize::from(link) - 1];
-        deliver_to_slave(link, kept, frame.bytes(), channel);
+        deliver_to_slave(
+            link,
+            kept,
+            frame.bytes(),
+            channel,
+            &mut self.heard,
+            &mut self.sent,
+        );
     }
 
     /// A parcel that was pulled is noted, and comes to its end, if there is one.

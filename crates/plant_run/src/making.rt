@@ -98,5 +98,7 @@ pub(crate) fn ends_made<A: Application>(
         links: links_made(alloc, confs)?,
         dids: dids_made(alloc, confs.len())?,
         outs: outs_made(alloc, confs.len())?,
+        heard: Did::nothing(),
+        sent: FrameBuf::new(),
     })
 }

@@ -53,15 +53,15 @@ pub(crate) fn deliver_to_slave<C: Channel>(
     link: &mut Link,
     frame: &[u8],
     channel: &mut C,
+    did: &mut Did,
+    out: &mut FrameBuf,
 )
     requires few { link.old.monitor.noted + 1 < 2 ^ 64 }
     ensures acts { SlaveActs number (event.Deliver frame.now) link.old link.new (C.told channel.old) (C.told channel.new) }
     ensures notes { NotesOne link.old link.new }
 {
-    let mut did = Did::nothing();
-    let mut out = FrameBuf::new();
-    link.deliver(frame, &mut did, &mut out);
-    push_sent(channel, number, End::Master, &out, link.is_cut());
+    link.deliver(frame, did, out);
+    push_sent(channel, number, End::Master, out, link.is_cut());
 }
 
 /// The slave of this connection is reset, and its frame is pushed.

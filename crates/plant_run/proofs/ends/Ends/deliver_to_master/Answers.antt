@@ -21,22 +21,22 @@ returns-clause-delivers g c =
     let count : length some ≡ length links.items = same_count some links.items lengths in
     let back = written_back some links.items links.len links.ok.0 count in
     let p = placed some links.len c.args.link c.from.result was (links.ok.0 ∙ sym count) c.from.ensures c.requires.first c.requires.last (rw back at c.index_mut-kept.ensures.value) in
-    let follows = rw c.bytes.ensures.value at c.deliver-did.ensures.follows in
-    let answers = rw c.bytes.ensures.value at c.deliver-did.ensures.answers in
+    let follows = rw c.bytes.ensures.value at c.deliver_into.ensures.follows in
+    let answers = rw c.bytes.ensures.value at c.deliver_into.ensures.answers in
     let offers = rw c.as_mut_slice.ensures.value at c.note_offers.ensures.offers in
     let acts = rw c.bytes-2.ensures.value at c.master_acted.ensures.acts in
     rw back (frame_goes _ _ c.args.link c.args.frame.now _ _ (record {
       mid = some;
       js = c.note_offers.new.steps.items;
-      did = c.deliver-did.result;
-      sent = c.deliver-did.new.out;
+      did = c.deliver_into.new.did;
+      sent = c.deliver_into.new.out;
       place = place;
       number = p.number;
       was = was;
       is = is;
       follows = follows;
       answers = answers;
-      cycles = rw c.bytes.ensures.value at c.deliver-did.ensures.offers;
+      cycles = rw c.bytes.ensures.value at c.deliver_into.ensures.offers;
       offers = offers;
       at = p.at;
       acts = acts;
@@ -62,8 +62,8 @@ returns-clause-ready g c =
     let had = all_at (λ (z : LinkView). z.monitor.noted ≤ 2 * before) some place was c.note_offers.ensures.noted p.at in
     let one = c.master_acted.ensures.notes.noted in
     let same = same_count (slice_set some place is) links.items (lengths_set some place was is p.at c.master_acted.ensures.notes.settings ∙ lengths) in
-    rw back (still_plant c.args.self.now.master c.deliver-did.new.self links.items (slice_set some place is) c.args.self.now.dids.items c.args.self.now.dids.items c.args.self.now.outs.items c.args.self.now.outs.items
-    (vec_len c.args.steps.now) after c.requires.ready c.deliver-did.ensures.links same refl refl
+    rw back (still_plant c.args.self.now.master c.deliver_into.new.self links.items (slice_set some place is) c.args.self.now.dids.items c.args.self.now.dids.items c.args.self.now.outs.items c.args.self.now.outs.items
+    (vec_len c.args.steps.now) after c.requires.ready c.deliver_into.ensures.links same refl refl
     (noted_set (2 * after) place some is (noted_less (2 * before) (2 * after) some (omega arith) c.note_offers.ensures.noted) (omega arith)))
 
 pub returns-clause-lengths : goal.returns-clause-lengths
