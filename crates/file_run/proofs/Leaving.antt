@@ -1,8 +1,7 @@
 -- What a run leaves.
-use Rattle.std.proofs.Common.{◌≡◌, ℕ, ◌+◌, ◌≤◌, Bool, List, [], ◌∷◌, ◌++◌, length, refl, arith, ap, sym, subst, inl, inr}
+use Rattle.std.proofs.Common.{◌≡◌, ℕ, ◌+◌, Bool, List, [], ◌∷◌, ◌++◌, length, refl, arith, ap, sym, subst, inl, inr}
 use Rattle.std.specs.Prelude.{◌⊎◌, Ok, Err, None, Some}
 use Rattle.std.specs.declared.option.Option.{Option}
-use Rattle.std.specs.Io.KnownBytes.{prepend_known}
 use Rattle.std.proofs.lemmas.List.{append-nil}
 use Rattle.fsoe_io.specs.Output.{OutputView, Passes}
 use Rattle.fsoe_io.specs.Sink.{Grew}

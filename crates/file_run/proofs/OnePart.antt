@@ -1,5 +1,5 @@
 -- A machine of which nothing waits: all text comes in one part.
-use Rattle.std.proofs.Common.{ℕ, List, [], ◌++◌, ap, sym, subst}
+use Rattle.std.proofs.Common.{ℕ, List, [], ◌++◌, sym, subst}
 use Rattle.std.proofs.lemmas.List.{append-nil}
 use Rattle.fsoe_io.specs.declared.status.Ended.{Ended}
 use Rattle.file_run.specs.Machine.{TakesEvent}

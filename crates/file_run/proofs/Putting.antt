@@ -1,5 +1,5 @@
 -- Texts that go through a buffer part by part.
-use Rattle.std.proofs.Common.{◌≡◌, ℕ, ◌+◌, ◌≤◌, ◌<◌, true, false, List, [], ◌∷◌, ◌++◌, length, refl, arith, ap, ◌∙◌, sym, append_assoc, inl, inr}
+use Rattle.std.proofs.Common.{◌≡◌, ℕ, ◌≤◌, true, false, List, [], ◌∷◌, ◌++◌, length, refl, arith, ap, ◌∙◌, sym, append_assoc, inl, inr}
 use Rattle.std.specs.Prelude.{◌==◌, ◌≢◌, Result, Ok, Err}
 use Rattle.std.specs.declared.option.Option.{Option}
 use Rattle.std.proofs.lemmas.Bool.{eqb-true}
@@ -10,7 +10,7 @@ use Rattle.fsoe_io.specs.Output.{OutputView, Passes, Puts}
 use Rattle.fsoe_io.specs.declared.status.Ended.{Ended}
 use Rattle.fsoe_io.specs.declared.status.Status.TheVariants as status
 use Rattle.fsoe_io.specs.Faults.{Rose}
-use Rattle.file_run.specs.Ending.{IsCutOff, Writes}
+use Rattle.file_run.specs.Ending.{Writes}
 use Rattle.file_run.proofs.Sending.{rose_since}
 
 -- a piece after another

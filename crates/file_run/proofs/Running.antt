@@ -1,6 +1,6 @@
 -- A run over the events of an input, whatever they do: what was read of it and what was written.
 use Rattle.std.proofs.Common.{◌≡◌, ℕ, ◌+◌, ◌*◌, ◌≤◌, ◌<◌, Bool, List, [], ◌∷◌, ◌++◌, length, refl, arith, ap, ◌∙◌, sym, subst}
-use Rattle.std.specs.Prelude.{IsTrue, false, Result, Ok, Err, IfSome, Some, None}
+use Rattle.std.specs.Prelude.{false, Result, Ok, Err, IfSome, Some, None}
 use Rattle.std.specs.declared.option.Option.{Option}
 use Rattle.std.specs.Io.KnownBytes.{Consumes, prepend_known}
 use Rattle.std.proofs.lemmas.List.{append-nil, length_push}

@@ -1,5 +1,5 @@
 -- What the slave or the master of a connection does and what is pushed, and what those of all connections do in a tick.
-use Rattle.std.proofs.Common.{◌≡◌, ◌≢◌, ◌≤◌, ◌<◌, ◌⊎◌, inl, inr, ℕ, zero, suc, ◌+◌, ◌*◌, ◌==◌, nat_lt, Bool, true, false, List, [], ◌∷◌, ◌++◌, map, take, length, slice_get, slice_set, slice_index_or, ◌-◌, Option, Some, option_map, All, if◌then◌else◌, refl, sym, ap, ap₂, subst, ◌∙◌, append_assoc, arith}
+use Rattle.std.proofs.Common.{◌≡◌, ◌≢◌, ◌≤◌, ◌<◌, ◌⊎◌, inl, inr, ℕ, zero, suc, ◌+◌, ◌*◌, ◌==◌, nat_lt, Bool, true, false, List, [], ◌∷◌, ◌++◌, take, length, slice_get, slice_set, slice_index_or, ◌-◌, Option, Some, option_map, All, if◌then◌else◌, refl, sym, ap, ap₂, subst, ◌∙◌, append_assoc, arith}
 use Rattle.std.proofs.lemmas.Bool.{eqb-true, lt-ltb, le-ltb}
 use Rattle.std.proofs.lemmas.Bool.Decides.{nat_tests}
 use Rattle.std.specs.Prelude.{IsSomeAnd}
@@ -12,21 +12,19 @@ use Rattle.fsoe_base.specs.declared.did.Did.{Did}
 use Rattle.fsoe_base.specs.declared.lengths.Lengths.{Lengths}
 use Rattle.param_load.specs.declared.entry.Entry.{Entry}
 use Rattle.param_load.specs.declared.entry.Move.{Move}
-use Rattle.param_load.specs.declared.entry.Move.TheVariants as move
 use Rattle.param_load.specs.declared.slave_settings.SlaveSettings.{SlaveSettings}
 use Rattle.black_channel.specs.Told.{Told, PushesParcel}
-use Rattle.black_channel.specs.declared.channel.Parcel.{Parcel}
 use Rattle.black_channel.specs.declared.channel.Place.{Place}
 use Rattle.plant_conf.specs.declared.conf.LinkConf.{LinkConf}
 use Rattle.exchange_model.specs.Monitor.{HasParts}
 use Rattle.multi_master.specs.Standing as multi
 use Rattle.multi_master.specs.Standing.{MultiValue}
 use Rattle.multi_master.proofs.Places.{map_set, same_length}
-use Rattle.plant_run.specs.Doing.{place_of, sent_uses, next_of, next_uses, SlaveActs, MasterActs, one_each, one_each_to, each_uses, frames_pushed, AllActed, ActedTo, HaveParts}
-use Rattle.plant_run.specs.Standing.{AreNoted, lengths_kept, EachLink, LinkIs, LinksAre, IsPlant}
+use Rattle.plant_run.specs.Doing.{place_of, sent_uses, SlaveActs, MasterActs, one_each, one_each_to, each_uses, frames_pushed, AllActed, ActedTo, HaveParts}
+use Rattle.plant_run.specs.Standing.{AreNoted, lengths_kept, LinkIs, LinksAre, IsPlant}
 use Rattle.plant_run.specs.Link.{LinkView, LinkStands, SlaveGoesOn, MasterNoted, NotesOne}
 use Rattle.plant_run.specs.ScriptLine.{lengths_at}
-use Rattle.plant_run.specs.Uses.{Use, Push, Trace}
+use Rattle.plant_run.specs.Uses.{Use, Trace}
 use Rattle.plant_run.proofs.Linking.{each_at, each_from, each_set, each_count}
 
 -- one trace after another

@@ -1,12 +1,11 @@
 -- Which acts run a cycle, and that the offers are then the answer.
-use Rattle.std.proofs.Common.{◌≡◌, ℕ, zero, suc, ◌==◌, Bool, true, false, List, [], ◌∷◌, ◌++◌, map, slice_get, Option, Some, None, if◌then◌else◌, refl, sym, ap, ap₂, subst, ◌∙◌, append_assoc}
+use Rattle.std.proofs.Common.{◌≡◌, ℕ, zero, suc, ◌==◌, Bool, true, false, List, [], ◌∷◌, ◌++◌, map, slice_get, Option, Some, None, if◌then◌else◌, refl, sym, ap, ap₂, ◌∙◌, append_assoc}
 use Rattle.std.specs.Prelude.{is_some, option_and_then}
 use Rattle.std.specs.Option.{option_map_or}
 use Rattle.std.proofs.lemmas.List.{append-nil}
 use Rattle.fsoe_base.specs.Did.{nothing}
 use Rattle.fsoe_base.specs.declared.command.End.{End}
 use Rattle.fsoe_base.specs.declared.command.End.TheVariants as side
-use Rattle.fsoe_base.specs.declared.did.Did.{Did}
 use Rattle.failsafe_io.specs.Application.{Answer}
 use Rattle.param_load.specs.declared.entry.Entry.{Entry}
 use Rattle.param_load.specs.declared.entry.Move.TheVariants as move
@@ -19,7 +18,7 @@ use Rattle.end_model.specs.Step.{did_on}
 use Rattle.exchange_model.specs.World.{deeds}
 use Rattle.master_core.specs.Calls.{tells_due}
 use Rattle.multi_master.specs.Calls.{Call, Deliver, Meant, connection, is_heard, cycle_in, meant, changed}
-use Rattle.multi_master.specs.Connection.{Connection, offer_at}
+use Rattle.multi_master.specs.Connection.{offer_at}
 use Rattle.plant_run.specs.declared.event.PlantEvent.TheVariants as event
 use Rattle.plant_run.specs.declared.journal.JournalStep.{JournalStep}
 use Rattle.plant_run.specs.declared.journal.JournalStep.TheVariants as step
@@ -29,7 +28,7 @@ use Rattle.plant_run.specs.Pair.{pair, link_at}
 use Rattle.plant_run.specs.Promises.{tells_hearing, master_hears, Cycles, AllAnswered}
 use Rattle.plant_run.specs.Standing.{PlantView, PlantStands}
 use Rattle.plant_run.specs.Turns.{Turn, acts}
-use Rattle.plant_run.proofs.Growing.{IsOne, pair_own, pair_one}
+use Rattle.plant_run.proofs.Growing.{pair_own, pair_one}
 use Rattle.plant_run.proofs.Masters.{mastered}
 
 -- a put changes nothing of what is done with a frame

@@ -1,8 +1,7 @@
 -- Acts that run a cycle: the offers that it changed are noted with them.
-use Rattle.std.proofs.Common.{◌≡◌, ◌≤◌, ◌<◌, ℕ, zero, suc, ◌+◌, ◌==◌, Bool, true, false, List, [], ◌∷◌, ◌++◌, map, length, slice_get, slice_set, Option, Some, None, option_map, if◌then◌else◌, refl, sym, ap, ap₂, subst, ◌∙◌, append_assoc, arith}
+use Rattle.std.proofs.Common.{◌≡◌, ℕ, suc, Bool, List, [], ◌∷◌, ◌++◌, map, slice_get, slice_set, Option, Some, option_map, if◌then◌else◌, refl, sym, ap, ap₂, subst, ◌∙◌, append_assoc}
 use Rattle.std.specs.Option.{option_map_or}
 use Rattle.std.specs.Prelude.{IfSome, option_to_list, option_and_then}
-use Rattle.std.proofs.lemmas.List.{append-nil}
 use Rattle.std.proofs.lemmas.Option.{slice_get-map}
 use Rattle.fsoe_base.specs.declared.command.End.{End}
 use Rattle.fsoe_base.specs.declared.command.End.TheVariants as side
@@ -10,7 +9,7 @@ use Rattle.fsoe_base.specs.declared.did.Did.{Did}
 use Rattle.param_load.specs.declared.entry.Entry.{Entry}
 use Rattle.param_load.specs.declared.entry.Move.TheVariants as move
 use Rattle.param_load.specs.declared.master_settings.MasterSettings.{MasterSettings}
-use Rattle.black_channel.specs.Told.{Told, Begins, PullsParcel}
+use Rattle.black_channel.specs.Told.{Told}
 use Rattle.black_channel.specs.declared.channel.Parcel.{Parcel}
 use Rattle.plant_conf.specs.declared.conf.LinkConf.{LinkConf}
 use Rattle.end_model.specs.Deed.{Deed}
@@ -26,17 +25,17 @@ use Rattle.multi_master.specs.Standing.{MultiView, StandsFor, AnswersFrame, Answ
 use Rattle.plant_run.specs.declared.event.PlantEvent.TheVariants as event
 use Rattle.plant_run.specs.declared.journal.JournalStep.{JournalStep}
 use Rattle.plant_run.specs.declared.journal.JournalStep.TheVariants as step
-use Rattle.plant_run.specs.Acts.{Beginning, Said, Event, App, Act, Start, Happen, PullFrom, settings, delivery_call, call_of, calls, masters, offer_step, offers_by, journal, is_cut, newer, push_to, pushes_of, all_pushes}
-use Rattle.plant_run.specs.Doing.{place_of, sent_uses, next_of, next_uses, one_each, frames_pushed, AllActed, SlavesTick, HaveParts, MastersNoted, MasterActs, OffersNoted, Done, GoesOn, Delivers}
+use Rattle.plant_run.specs.Acts.{Beginning, Event, App, Act, Happen, PullFrom, settings, delivery_call, call_of, calls, masters, offers_by, journal, is_cut, newer, push_to, pushes_of, all_pushes}
+use Rattle.plant_run.specs.Doing.{place_of, sent_uses, next_of, next_uses, one_each, frames_pushed, SlavesTick, HaveParts, MastersNoted, MasterActs, OffersNoted, GoesOn, Delivers}
 use Rattle.plant_run.specs.Link.{LinkView, LinkStands}
 use Rattle.plant_run.specs.Pair.{pair, link_at}
 use Rattle.plant_run.specs.Promises.{OffersAnswer}
-use Rattle.plant_run.specs.Standing.{PlantView, LinkIs, LinksAre, pairs_by, HasDone}
+use Rattle.plant_run.specs.Standing.{PlantView, LinkIs, LinksAre, pairs_by}
 use Rattle.plant_run.specs.Uses.{Use, Trace}
 use Rattle.plant_run.proofs.Acting.{trace_append}
-use Rattle.plant_run.proofs.Growing.{IsOne, pair_more, pair_own, pushes_each, with_frame}
+use Rattle.plant_run.proofs.Growing.{IsOne, pair_more, pair_own, pushes_each}
 use Rattle.plant_run.proofs.Linking.{from_one, each_at, each_map}
-use Rattle.plant_run.proofs.Masters.{Mastered, mastered}
+use Rattle.plant_run.proofs.Masters.{mastered}
 use Rattle.plant_run.proofs.Offering.{offers_send}
 use Rattle.plant_run.proofs.OneDeed.{one_links, one_pushes, no_entry, quiet_pushes}
 

@@ -1,6 +1,6 @@
 -- The pairs of a plant are worlds of proper events, since both ends of each are where their deeds leave them; so the law of the pair holds.
-use Rattle.std.proofs.Common.{◌≡◌, ◌<◌, ℕ, zero, suc, ◌+◌, List, [], ◌∷◌, length, slice_get, Option, Some, None, All, if◌then◌else◌, refl, sym, ap, subst, ◌∙◌, arith}
-use Rattle.std.specs.Prelude.{IfSome, IsSomeAnd}
+use Rattle.std.proofs.Common.{◌≡◌, ℕ, zero, suc, List, [], ◌∷◌, slice_get, Option, Some, None, All, if◌then◌else◌, refl, sym, ap, subst, ◌∙◌, arith}
+use Rattle.std.specs.Prelude.{IfSome}
 use Rattle.std.specs.List.{AllZip}
 use Rattle.std.proofs.lemmas.List.Elements.{All-head, All-tail}
 use Rattle.fsoe_base.specs.declared.command.End.{End}
@@ -25,11 +25,9 @@ use Rattle.exchange_model.proofs.Worlds.Others.{before_is_clean, before_is_world
 use Rattle.master_core.specs.MasterView.{MasterView}
 use Rattle.multi_master.specs.Connection.{Connection}
 use Rattle.multi_master.specs.Standing.{IsWhere}
-use Rattle.multi_master.proofs.Places.{some_at}
 use Rattle.plant_run.specs.declared.journal.JournalStep.{JournalStep}
 use Rattle.plant_run.specs.Acts.{Beginning, masters, is_cut}
 use Rattle.plant_run.specs.FairPairs.{PairsAreFair}
-use Rattle.plant_run.specs.Link.{LinkStands}
 use Rattle.plant_run.specs.Pair.{pair, own_events, link_at}
 use Rattle.plant_run.specs.Standing.{PlantView, LinkIs, pairs_by, PlantStands}
 use Rattle.plant_run.specs.Turns.{Turn, acts}

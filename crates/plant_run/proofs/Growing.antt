@@ -1,6 +1,5 @@
 -- How the entries of a pair grow with the journal, and which frames are pushed then.
-use Rattle.std.proofs.Common.{◌≡◌, ◌≢◌, ◌<◌, ℕ, zero, suc, ◌+◌, ◌-◌, ◌==◌, Bool, true, false, List, [], ◌∷◌, ◌++◌, map, take, reverse, length, slice_get, Option, Some, None, if◌then◌else◌, refl, sym, ap, ap₂, subst, ◌∙◌, arith}
-use Rattle.std.specs.List.{flat_map}
+use Rattle.std.proofs.Common.{◌≡◌, ◌≢◌, ◌<◌, ℕ, zero, suc, ◌+◌, ◌-◌, ◌==◌, Bool, true, false, List, [], ◌∷◌, ◌++◌, map, take, reverse, length, slice_get, Option, Some, if◌then◌else◌, refl, sym, ap, ap₂, subst, ◌∙◌, arith}
 use Rattle.std.proofs.lemmas.Grind.{flat_map-append}
 use Rattle.std.proofs.lemmas.List.{append-nil}
 use Rattle.std.proofs.lemmas.Bool.{eq-eqb}
@@ -18,11 +17,11 @@ use Rattle.end_model.specs.Deed.{is_empty}
 use Rattle.exchange_model.specs.Ends.{same_end, peer}
 use Rattle.exchange_model.specs.World.{setup_of, deeds, frames_of, end_of_event, move_from, next_entry, entry_on, entry_at, going_on, world_after, world}
 use Rattle.plant_run.specs.declared.journal.JournalStep.{JournalStep}
-use Rattle.plant_run.specs.Acts.{newer, push_to, pushes_at, pushes_of}
+use Rattle.plant_run.specs.Acts.{newer, push_to, pushes_of}
 use Rattle.plant_run.specs.Doing.{place_of, sent_uses, next_of, each_uses}
 use Rattle.plant_run.specs.Pair.{if_same, own_part, own_events, pair}
 use Rattle.plant_run.specs.Standing.{pairs_by}
-use Rattle.plant_run.specs.Uses.{Use, Push}
+use Rattle.plant_run.specs.Uses.{Use}
 use Rattle.plant_run.proofs.Masters.{IsPlain, ArePlain, events_plain, not_same}
 
 -- an event that names no frame, at an end

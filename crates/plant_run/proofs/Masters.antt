@@ -25,7 +25,7 @@ use Rattle.end_model.specs.Setup.{OfMaster, OfSlave}
 use Rattle.end_model.specs.Step.{run, continued}
 use Rattle.exchange_model.specs.World.{deeds, next_entry, world_after}
 use Rattle.multi_master.specs.Connection.{Connection, fresh, setup, with_event, offer_at, is_offer, with_offer, with_offers}
-use Rattle.multi_master.specs.Calls.{AppView, Call, Deliver, Tick, Nonce, ChangeApp, Meant, connection, replaced, event_at, all_tick, cycle_in, with_cycle, after, meant, changed_from}
+use Rattle.multi_master.specs.Calls.{Call, Deliver, Tick, Nonce, ChangeApp, Meant, connection, replaced, event_at, all_tick, cycle_in, with_cycle, after, meant, changed_from}
 use Rattle.multi_master.proofs.Neighbours.{runs_alone, settings_alone}
 use Rattle.multi_master.proofs.Places.{same_bytes}
 use Rattle.plant_run.specs.declared.event.PlantEvent.{PlantEvent}

@@ -1,5 +1,5 @@
 -- The offers that a cycle changed, in the journal and at their connections.
-use Rattle.std.proofs.Common.{◌≡◌, ◌≤◌, ◌<◌, ℕ, zero, suc, ◌+◌, ◌==◌, Bool, true, false, List, [], ◌∷◌, ◌++◌, map, take, length, slice_get, slice_set, Option, Some, None, option_map, if◌then◌else◌, refl, sym, ap, ap₂, subst, ◌∙◌, append_assoc, arith}
+use Rattle.std.proofs.Common.{◌≡◌, ◌≤◌, ℕ, zero, suc, ◌==◌, Bool, true, false, List, [], ◌∷◌, ◌++◌, map, take, length, slice_get, slice_set, Option, Some, None, option_map, if◌then◌else◌, refl, sym, ap, ap₂, subst, ◌∙◌, append_assoc}
 use Rattle.std.specs.Option.{option_map_or}
 use Rattle.std.proofs.lemmas.List.{append-nil, map-append, take_all}
 use Rattle.fsoe_base.specs.Did.{nothing}
@@ -9,7 +9,7 @@ use Rattle.param_load.specs.declared.entry.Move.TheVariants as move
 use Rattle.param_load.specs.declared.master_settings.MasterSettings.{MasterSettings}
 use Rattle.plant_conf.specs.declared.conf.LinkConf.{LinkConf}
 use Rattle.exchange_model.specs.World.{frames_of}
-use Rattle.multi_master.specs.Calls.{AppView, Call, Meant, connection, meant, changed}
+use Rattle.multi_master.specs.Calls.{AppView, Call, Meant, connection, meant}
 use Rattle.multi_master.specs.Connection.{Connection, offer_at}
 use Rattle.multi_master.specs.Standing.{MultiView, StandsFor, ShowsAt, ShowsChanged}
 use Rattle.plant_run.specs.declared.journal.JournalStep.{JournalStep}
@@ -20,7 +20,7 @@ use Rattle.plant_run.specs.Link.{LinkView, MasterNoted}
 use Rattle.plant_run.specs.Pair.{pair}
 use Rattle.plant_run.specs.Standing.{LinksAre, pairs_by}
 use Rattle.plant_run.proofs.Growing.{IsOne, with_frame}
-use Rattle.plant_run.proofs.OneDeed.{frame_in, one_links, one_frames}
+use Rattle.plant_run.proofs.OneDeed.{one_links, one_frames}
 
 -- the offers of these connections are noted
 pub record OffersOf (master : MultiView) (listed : List ℕ) (old new : List LinkView) (before after : List JournalStep) : Type 0 where

@@ -1,5 +1,5 @@
 -- Acts in which one end of one connection does something, and no cycle is run.
-use Rattle.std.proofs.Common.{◌≡◌, ◌≢◌, ℕ, zero, suc, ◌+◌, ◌-◌, ◌==◌, Bool, true, false, List, [], ◌∷◌, ◌++◌, map, slice_get, slice_set, Option, Some, None, option_map, if◌then◌else◌, refl, sym, ap, ap₂, subst, ◌∙◌, arith}
+use Rattle.std.proofs.Common.{◌≡◌, ◌≢◌, ℕ, zero, suc, ◌-◌, ◌==◌, Bool, true, false, List, [], ◌∷◌, ◌++◌, map, slice_get, slice_set, Option, Some, None, option_map, if◌then◌else◌, refl, sym, ap, ap₂, subst, ◌∙◌, arith}
 use Rattle.std.specs.Prelude.{IfSome, option_to_list, option_and_then}
 use Rattle.std.proofs.lemmas.Bool.{eq-eqb}
 use Rattle.std.proofs.lemmas.List.{append-nil}
@@ -9,13 +9,13 @@ use Rattle.fsoe_base.specs.declared.command.End.TheVariants as side
 use Rattle.param_load.specs.declared.entry.Entry.{Entry}
 use Rattle.param_load.specs.declared.entry.Move.{Move}
 use Rattle.param_load.specs.declared.entry.Move.TheVariants as move
-use Rattle.black_channel.specs.Told.{Told, PullsParcel}
+use Rattle.black_channel.specs.Told.{Told}
 use Rattle.black_channel.specs.declared.channel.Parcel.{Parcel}
 use Rattle.schedule_file.specs.declared.event.Event.{Event as WorldEvent}
 use Rattle.plant_conf.specs.declared.conf.LinkConf.{LinkConf}
 use Rattle.exchange_model.specs.Ends.{peer, same_end}
 use Rattle.exchange_model.specs.World.{frames_of, world_after}
-use Rattle.multi_master.specs.Calls.{Call, Nonce, Meant, connection, replaced, event_at, cycle_in, meant, changed}
+use Rattle.multi_master.specs.Calls.{Call, Nonce, Meant, connection, replaced, event_at, cycle_in, meant}
 use Rattle.multi_master.specs.Connection.{Connection, with_event, offer_at}
 use Rattle.multi_master.specs.Standing as multi
 use Rattle.multi_master.specs.Standing.{MultiView, StandsFor}
@@ -25,14 +25,14 @@ use Rattle.plant_run.specs.declared.event.PlantEvent.{PlantEvent}
 use Rattle.plant_run.specs.declared.event.PlantEvent.TheVariants as event
 use Rattle.plant_run.specs.declared.journal.JournalStep.{JournalStep}
 use Rattle.plant_run.specs.declared.journal.JournalStep.TheVariants as step
-use Rattle.plant_run.specs.Acts.{Beginning, Said, Event, App, Act, Start, Happen, PullFrom, settings, event_call, delivery_call, call_of, calls, offer_step, offers_by, offers, steps_of, journal, cut_after, is_cut, pushes_of, all_pushes, uses_after, masters}
-use Rattle.plant_run.specs.Doing.{place_of, sent_uses, next_of, next_uses, each_uses, SlaveActs, Done, GoesOn, Delivers}
+use Rattle.plant_run.specs.Acts.{Beginning, Event, Act, Happen, PullFrom, settings, event_call, delivery_call, call_of, calls, offer_step, offers_by, steps_of, journal, cut_after, is_cut, pushes_of, all_pushes, masters}
+use Rattle.plant_run.specs.Doing.{place_of, sent_uses, next_of, next_uses, SlaveActs, GoesOn, Delivers}
 use Rattle.plant_run.specs.Link.{LinkView, LinkStands, MasterNoted}
 use Rattle.plant_run.specs.Pair.{pair, link_at, own_part}
 use Rattle.plant_run.specs.Promises.{OffersAnswer}
-use Rattle.plant_run.specs.Standing.{PlantView, EachLink, LinkIs, LinksAre, pairs_by, HasDone}
-use Rattle.plant_run.specs.Uses.{Use, Pull, Trace}
-use Rattle.plant_run.proofs.Growing.{IsOne, one_more, pair_more, pair_one, pair_own, pair_other, with_frame, sent_in, frames_next, pushes_each, each_none, each_one}
+use Rattle.plant_run.specs.Standing.{PlantView, LinkIs, LinksAre, pairs_by, HasDone}
+use Rattle.plant_run.specs.Uses.{Use, Trace}
+use Rattle.plant_run.proofs.Growing.{IsOne, pair_more, pair_one, pair_own, pair_other, with_frame, sent_in, frames_next, pushes_each, each_none, each_one}
 use Rattle.plant_run.proofs.Linking.{from_one, each_at, each_map, each_set}
 use Rattle.plant_run.proofs.Masters.{not_same}
 

@@ -1,15 +1,15 @@
 -- The lowest connection whose pair has an other entry.
 use Rattle.std.proofs.lemmas.List.{drop_more}
 use Rattle.std.proofs.Common.{◌≡◌, ◌≤◌, ◌<◌, ℕ, zero, suc, ◌+◌, List, [], ◌∷◌, length, get_or, drop, subst, Option, Some, None, Bool, true, false, if◌then◌else◌, refl, sym, ap, ◌∙◌, arith}
-use Rattle.std.specs.Prelude.{is_some, IsSomeAnd, slice_get}
+use Rattle.std.specs.Prelude.{is_some}
 use Rattle.param_load.specs.declared.entry.Entry.{Entry}
 use Rattle.plant_conf.specs.declared.conf.LinkConf.{LinkConf}
 use Rattle.exchange_model.specs.Monitor.{view_of}
 use Rattle.exchange_model.specs.Other.{first_other}
 use Rattle.plant_run.specs.declared.journal.JournalStep.{JournalStep}
 use Rattle.plant_run.specs.Acts.{is_cut}
-use Rattle.plant_run.specs.Link.{LinkView, LinkStands}
-use Rattle.plant_run.specs.Pair.{pair, link_at, has_other, lowest_other}
+use Rattle.plant_run.specs.Link.{LinkView}
+use Rattle.plant_run.specs.Pair.{pair, has_other, lowest_other}
 use Rattle.plant_run.specs.Standing.{PlantView, EachLink, LinkIs, pairs_by, AllNoted, TellsOther}
 use Rattle.plant_run.specs.Turns.{acts}
 

@@ -1,5 +1,5 @@
 -- The pulls of a tick, a plant's start, and what both make of its turns.
-use Rattle.std.proofs.Common.{◌≡◌, ◌≢◌, ◌≤◌, ◌<◌, ◌⊎◌, inl, inr, ℕ, zero, suc, ◌+◌, ◌-◌, ◌*◌, ◌==◌, nat_lt, Bool, true, false, List, [], ◌∷◌, ◌++◌, map, length, slice_get, All, Option, Some, None, if◌then◌else◌, refl, sym, ap, ap₂, subst, ◌∙◌, append_assoc, arith}
+use Rattle.std.proofs.Common.{◌≡◌, ◌≢◌, ◌≤◌, ◌<◌, ◌⊎◌, inl, inr, ℕ, zero, suc, ◌+◌, ◌-◌, ◌*◌, Bool, false, List, [], ◌∷◌, ◌++◌, map, length, Option, Some, None, if◌then◌else◌, refl, sym, ap, ap₂, subst, ◌∙◌, append_assoc, arith}
 use Rattle.std.proofs.Math.Nat.{suc-mul}
 use Rattle.std.proofs.lemmas.Bool.{lt-ltb, le-ltb}
 use Rattle.std.proofs.lemmas.List.{append-nil, length-map}
@@ -26,16 +26,16 @@ use Rattle.plant_run.specs.declared.event.PlantEvent.{PlantEvent}
 use Rattle.plant_run.specs.declared.event.PlantEvent.TheVariants as event
 use Rattle.plant_run.specs.declared.journal.JournalStep.{JournalStep}
 use Rattle.plant_run.specs.declared.journal.JournalStep.TheVariants as step
-use Rattle.plant_run.specs.Acts.{Beginning, Said, Event, App, Act, Start, Happen, PullFrom, settings, delivery_call, call_of, calls, offers_by, journal, is_cut, pushes_of, all_pushes, uses_of, uses_after, uses}
-use Rattle.plant_run.specs.Doing.{place_of, sent_uses, next_of, each_uses, OffersNoted, Done, GoesOn, Delivers, PullsAll, Turns}
-use Rattle.plant_run.specs.Standing.{lengths_kept, PlantView, EachLink, LinkIs, LinksAre, pairs_by, HasDone, IsTurn, SaidFits, PlantStands, Plays, Follows, AreNoted, IsPlant}
+use Rattle.plant_run.specs.Acts.{Beginning, Event, App, Act, Start, Happen, PullFrom, settings, delivery_call, call_of, calls, offers_by, journal, is_cut, pushes_of, all_pushes, uses_of, uses_after, uses}
+use Rattle.plant_run.specs.Doing.{place_of, sent_uses, next_of, each_uses, OffersNoted, GoesOn, Delivers, PullsAll, Turns}
+use Rattle.plant_run.specs.Standing.{lengths_kept, PlantView, EachLink, LinkIs, LinksAre, pairs_by, HasDone, IsTurn, PlantStands, Follows, AreNoted, IsPlant}
 use Rattle.plant_run.specs.FairPairs.{lengths_in}
 use Rattle.plant_run.specs.Link.{LinkView, LinkStands}
 use Rattle.plant_run.specs.Making.{link_made, master_in}
 use Rattle.plant_run.specs.Pair.{pair, link_at}
 use Rattle.plant_run.specs.ScriptLine.{Fits}
-use Rattle.plant_run.specs.Turns.{Turn, MayPull, pulls, pulls_at, turn_acts, acts}
-use Rattle.plant_run.specs.Uses.{Use, Begin, Trace}
+use Rattle.plant_run.specs.Turns.{Turn, pulls, acts}
+use Rattle.plant_run.specs.Uses.{Use, Trace}
 use Rattle.plant_run.proofs.Acting.{trace_append}
 use Rattle.plant_run.proofs.Linked.{new_stands}
 use Rattle.plant_run.proofs.Growing.{IsOne, pair_other, sent_in, pushes_each}

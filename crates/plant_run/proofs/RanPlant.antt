@@ -1,8 +1,7 @@
 -- What a run over a script leaves is what a plant did.
-use Rattle.std.proofs.Common.{◌≡◌, ℕ, List, [], Option, Some, None, All, refl, sym, ap, subst, ◌∙◌, inl, inr}
+use Rattle.std.proofs.Common.{◌≡◌, ℕ, List, [], Option, Some, None, All, sym, ap, subst, ◌∙◌, inl, inr}
 use Rattle.std.specs.Prelude.{IfSome}
 use Rattle.std.proofs.lemmas.List.{append-nil}
-use Rattle.std.proofs.lemmas.List.Elements.{All-nil}
 use Rattle.std.specs.List.{IsDistinct}
 use Rattle.fsoe_base.specs.declared.lengths.Lengths.{Lengths}
 use Rattle.fsoe_io.specs.declared.status.Ended.{Ended}
@@ -13,10 +12,10 @@ use Rattle.exchange_model.specs.Fair.{Fair}
 use Rattle.plant_conf.specs.ConfView.{HasSameLengths}
 use Rattle.plant_conf.specs.declared.conf.LinkConf.{LinkConf}
 use Rattle.schedule_file.specs.Input.{InputFormat}
-use Rattle.file_run.specs.Left.{Done, Leaves, LeavesAs, LeavesDone, MayFailIn}
+use Rattle.file_run.specs.Left.{Done, Leaves, LeavesAs, MayFailIn}
 use Rattle.file_run.specs.Outside.{Outside}
 use Rattle.file_run.specs.Ran.{RanOver}
-use Rattle.plant_run.specs.Acts.{Said, uses}
+use Rattle.plant_run.specs.Acts.{uses}
 use Rattle.plant_run.specs.FairPairs.{PairsAreFair}
 use Rattle.plant_run.specs.Pair.{link_at}
 use Rattle.plant_run.specs.Ran.{IsReportOf, RanPlant}

@@ -1,5 +1,5 @@
 -- What a plant shows of an end is what the pair of its connection tells.
-use Rattle.std.proofs.Common.{◌≡◌, ◌≤◌, ◌<◌, ℕ, zero, suc, ◌+◌, List, [], ◌∷◌, length, slice_get, Option, Some, None, option_map, sym, ap, ap₂, subst, ◌∙◌, arith}
+use Rattle.std.proofs.Common.{◌≡◌, ◌≤◌, ◌<◌, ℕ, zero, suc, List, length, slice_get, Option, Some, option_map, sym, ap, ap₂, subst, ◌∙◌, arith}
 use Rattle.std.specs.Prelude.{IsSomeAnd}
 use Rattle.fsoe_base.specs.declared.command.End.TheVariants as side
 use Rattle.fsoe_base.specs.declared.command.State.{State}
@@ -18,7 +18,7 @@ use Rattle.multi_master.specs.Standing.{MultiView, ShowsAt}
 use Rattle.multi_master.proofs.Places.{some_at}
 use Rattle.plant_run.specs.declared.journal.JournalStep.{JournalStep}
 use Rattle.plant_run.specs.Acts.{Beginning, settings, calls, masters, is_cut}
-use Rattle.plant_run.specs.Link.{LinkView, LinkStands}
+use Rattle.plant_run.specs.Link.{LinkView}
 use Rattle.plant_run.specs.Pair as pairs
 use Rattle.plant_run.specs.Pair.{pair, link_at}
 use Rattle.plant_run.specs.Standing.{PlantView, PlantValue, IsPlant, HasLink, LinkIs, pairs_by, PlantStands, ShowsPair}

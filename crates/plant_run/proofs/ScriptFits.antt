@@ -1,6 +1,6 @@
 -- The event of a script's line fits the connections.
 use Rattle.std.proofs.Common.{◌≡◌, ℕ, ◌≤◌, Bool, true, false, List, [], ◌∷◌, length, refl, sym, subst}
-use Rattle.std.specs.Prelude.{IfOk, IsSome, IsSomeAnd, Option, Some, None, Result, Ok, Err, ◌==◌, ◌&&◌, nat_le, if◌then◌else◌}
+use Rattle.std.specs.Prelude.{IfOk, IsSome, IsSomeAnd, Option, Some, None, Ok, Err, ◌==◌, ◌&&◌, nat_le, if◌then◌else◌}
 use Rattle.std.specs.Str.Parse.{digits_value}
 use Rattle.std.proofs.lemmas.Bool.{and_parts, eqb-true, leb-true}
 use Rattle.std.proofs.lemmas.Result.{IfOk-at_ok}
@@ -9,7 +9,7 @@ use Rattle.fsoe_base.specs.declared.command.End.TheVariants as side
 use Rattle.fsoe_base.specs.declared.lengths.Lengths.{Lengths}
 use Rattle.fsoe_base.specs.declared.lengths.TheConstants.{MOST_DATA}
 use Rattle.schedule_file.specs.EventLine.{switch_of}
-use Rattle.schedule_file.specs.Field.{bytes_said, fields_of, is_number, number_said}
+use Rattle.schedule_file.specs.Field.{bytes_said, fields_of, is_number}
 use Rattle.schedule_file.specs.Fields.{next_field, no_field, number_16, one_field, value_or}
 use Rattle.schedule_file.specs.declared.line_cause.LineCause.{LineCause}
 use Rattle.schedule_file.specs.declared.line_cause.LineCause.TheVariants as cause

@@ -1,6 +1,6 @@
 -- What a plant reports of its script, as far as it ran.
-use Rattle.std.proofs.Common.{◌≡◌, ℕ, ◌+◌, ◌≤◌, Bool, List, [], ◌∷◌, ◌++◌, length, map, All, if◌then◌else◌, refl, sym, ap, subst, ◌∙◌, append_assoc, arith, eq-eqb}
-use Rattle.std.specs.Prelude.{◌==◌, Option, Some, None}
+use Rattle.std.proofs.Common.{◌≡◌, ℕ, ◌+◌, Bool, List, [], ◌∷◌, ◌++◌, length, map, All, if◌then◌else◌, refl, sym, ap, subst, ◌∙◌, append_assoc, arith, eq-eqb}
+use Rattle.std.specs.Prelude.{None}
 use Rattle.std.proofs.lemmas.Bool.{ne_eqb}
 use Rattle.std.proofs.lemmas.List.{append-nil, length-append}
 use Rattle.std.proofs.lemmas.List.Elements.{All-cons, All-head, All-nil, All-tail}
@@ -18,7 +18,7 @@ use Rattle.plant_run.specs.FairPairs.{lengths_in}
 use Rattle.plant_run.specs.Pair.{is_tick}
 use Rattle.plant_run.specs.PlantReport.{last_lines, report_end, report_text, tick_lines, ticks_text}
 use Rattle.plant_run.specs.Promises.{line_step}
-use Rattle.plant_run.specs.Reporting.{AreTurns, PlantReports, Terms, journal_after, plant_reporting, run_stop}
+use Rattle.plant_run.specs.Reporting.{PlantReports, Terms, journal_after, plant_reporting, run_stop}
 use Rattle.plant_run.specs.Running.{RunCloses, RunStands}
 use Rattle.plant_run.specs.Script.{Script, ScriptHeading, script_format}
 use Rattle.plant_run.specs.Standing.{IsTurn, PlantView}

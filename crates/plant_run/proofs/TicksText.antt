@@ -6,7 +6,7 @@ use Rattle.plant_conf.specs.declared.conf.LinkConf.{LinkConf}
 use Rattle.plant_run.specs.declared.event.PlantEvent.TheVariants as event
 use Rattle.plant_run.specs.declared.journal.JournalStep.{JournalStep}
 use Rattle.plant_run.specs.declared.journal.JournalStep.TheVariants as step
-use Rattle.plant_run.specs.Acts.{Beginning, Said, Event, App, Act, Happen, PullFrom, call_of, calls, offers, journal, steps_of}
+use Rattle.plant_run.specs.Acts.{Beginning, Said, Event, App, Act, Happen, PullFrom, call_of, calls, offers, journal}
 use Rattle.plant_run.specs.Pair.{is_tick}
 use Rattle.plant_run.specs.PlantReport.{in_tick, is_line, lines_due, lines_from, tick_lines, ticks_text}
 use Rattle.plant_run.specs.Promises.{line_step, line_steps}

@@ -1,5 +1,5 @@
 -- A plant that runs goes on by a line of its script.
-use Rattle.std.proofs.Common.{◌≡◌, ℕ, ◌+◌, ◌≤◌, Bool, true, false, cond, suc, List, [], ◌∷◌, ◌++◌, length, map, All, if◌then◌else◌, refl, sym, ap, ap₂, subst, ◌∙◌, append_assoc, arith, inl, inr}
+use Rattle.std.proofs.Common.{◌≡◌, ℕ, ◌+◌, ◌≤◌, Bool, true, false, cond, suc, List, [], ◌∷◌, ◌++◌, map, All, if◌then◌else◌, refl, sym, ap, ap₂, subst, ◌∙◌, append_assoc, arith, inl, inr}
 use Rattle.std.specs.Prelude.{◌⊎◌, IfSome, IsSomeAnd, Option, Some, None, Ok, codes, decimal, string_bytes}
 use Rattle.std.proofs.lemmas.List.{append-nil, length_push}
 use Rattle.std.proofs.lemmas.List.Sums.{sum_by-append, sum_by-cons}
@@ -29,7 +29,7 @@ use Rattle.plant_run.specs.declared.event.PlantLine.{PlantLine}
 use Rattle.plant_run.specs.declared.event.PlantLine.TheVariants as line
 use Rattle.plant_run.specs.declared.journal.JournalStep.{JournalStep}
 use Rattle.plant_run.specs.declared.journal.JournalStep.TheVariants as step
-use Rattle.plant_run.specs.Acts.{Beginning, Said, Event, App, Act, Start, call_of, calls, journal, offers, uses, uses_after}
+use Rattle.plant_run.specs.Acts.{Beginning, Said, Event, App, Act, Start, call_of, journal, offers, uses, uses_after}
 use Rattle.plant_run.specs.FairPairs.{lengths_in}
 use Rattle.plant_run.specs.Given.{GivenCloses, GivenStands, journal_in, named, waiting_in}
 use Rattle.plant_run.specs.Pair.{has_other, is_tick, lowest_other, ticks}

@@ -1,6 +1,6 @@
 -- How the parts of a plant do an act, step by step. Contracts of private functions alone rest on these words. Entries and acts are listed
 -- newest first, steps oldest first.
-use Rattle.std.specs.Prelude.{◌≡◌, ◌≤◌, ◌+◌, ◌*◌, ◌==◌, nat_lt, ℕ, suc, Bool, List, [], ◌∷◌, ◌++◌, map, take, length, All, slice_get, Some, if◌then◌else◌}
+use Rattle.std.specs.Prelude.{◌≡◌, ◌≤◌, ◌+◌, ◌*◌, nat_lt, ℕ, suc, Bool, List, [], ◌∷◌, ◌++◌, map, take, length, slice_get, Some, if◌then◌else◌}
 use Rattle.fsoe_base.specs.declared.command.End.{End}
 use Rattle.fsoe_base.specs.declared.command.End.TheVariants as side
 use Rattle.fsoe_base.specs.declared.did.Did.{Did}

@@ -1,6 +1,4 @@
-use Rattle.std.proofs.Common.{arith}
 use Rattle.file_run.proofs.Putting.{puts_both, puts_lost}
-use Rattle.file_run.proofs.Sending.{rose_since}
 use Rattle.file_run.proofs.parts.put_text.Goals as goal
 
 pub returns-in-Ok-clause-puts : goal.returns-in-Ok-clause-puts

@@ -1,6 +1,5 @@
-use Rattle.std.proofs.Common.{inl, inr, ◌+◌, ◌++◌, arith, ◌∙◌}
+use Rattle.std.proofs.Common.{inl, inr, ◌++◌, arith, ◌∙◌}
 use Rattle.std.specs.Prelude.{Some, None}
-use Rattle.file_run.specs.Machine.{TakesEvent}
 use Rattle.file_run.proofs.Exact.{ran_by}
 use Rattle.file_run.proofs.Leaving.{left_unsent, left_halted, left_stopped, left_lost, left_at_end}
 use Rattle.file_run.proofs.Running.{running_start, running_sent, running_event, event_may_come, halts_as, finds_as, ends_unsent, ends_lost, ends_at_end, ends_stopped, ends_halted, header_halted}

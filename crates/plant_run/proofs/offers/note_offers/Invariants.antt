@@ -1,4 +1,4 @@
-use Rattle.std.proofs.Common.{◌≡◌, ◌≤◌, ◌+◌, ◌*◌, take, length, vec_len, vec_capacity}
+use Rattle.std.proofs.Common.{◌≡◌, ◌≤◌, ◌+◌, ◌*◌, take, vec_len, vec_capacity}
 use Rattle.multi_master.specs.Standing.{seen}
 use Rattle.plant_run.specs.Standing.{AreNoted, lengths_kept}
 use Rattle.plant_run.proofs.Offering.{OffersOf}

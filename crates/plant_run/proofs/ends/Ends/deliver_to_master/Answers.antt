@@ -1,10 +1,6 @@
-use Rattle.std.proofs.Common.{◌≡◌, ◌≤◌, ◌<◌, ◌+◌, ◌-◌, ◌*◌, ◌^◌, [], ◌∷◌, ◌++◌, ◌⊎◌, inl, inr, ℕ, suc, List, Some, None, length, vec_len, vec_capacity, slice_get, slice_index_or, slice_index, slice_set, take, drop, refl, sym, ap, subst, ◌∙◌, arith}
-use Rattle.fsoe_base.specs.declared.command.End.TheVariants as side
-use Rattle.black_channel.specs.declared.channel.Parcel.{Parcel}
-use Rattle.plant_run.specs.declared.event.PlantEvent.TheVariants as event
-use Rattle.plant_run.specs.declared.journal.JournalStep.TheVariants as step
+use Rattle.std.proofs.Common.{◌≡◌, ◌≤◌, ◌-◌, ◌*◌, ℕ, List, length, vec_len, slice_set, refl, sym, ap, ◌∙◌, arith}
 use Rattle.plant_run.specs.Link.{LinkView}
-use Rattle.plant_run.specs.Standing.{AreNoted, IsPlant, lengths_kept}
+use Rattle.plant_run.specs.Standing.{lengths_kept}
 use Rattle.multi_master.proofs.Keeping.{written_back}
 use Rattle.plant_run.proofs.Acting.{all_at, placed, same_count, still_plant, noted_set, noted_less, lengths_set}
 use Rattle.plant_run.proofs.Cycling.{frame_goes}

@@ -1,13 +1,8 @@
-use Rattle.std.proofs.Common.{◌≡◌, ◌≤◌, ◌<◌, ◌+◌, ◌-◌, ◌*◌, ◌^◌, [], ◌∷◌, ◌++◌, ℕ, suc, List, Some, length, vec_len, vec_capacity, slice_get, slice_index_or, slice_index, slice_set, take, drop, refl, sym, ap, subst, ◌∙◌, arith}
-use Rattle.std.proofs.lemmas.Option.{slice_get_read, slice_get-get_or}
-use Rattle.fsoe_base.specs.declared.command.End.TheVariants as side
+use Rattle.std.proofs.Common.{◌-◌, refl}
 use Rattle.param_load.specs.declared.entry.Move.TheVariants as move
 use Rattle.plant_run.specs.declared.event.PlantEvent.TheVariants as event
-use Rattle.plant_run.specs.declared.journal.JournalStep.TheVariants as step
-use Rattle.plant_run.specs.Link.{LinkView}
-use Rattle.plant_run.specs.Standing.{AreNoted, IsPlant, lengths_kept}
-use Rattle.plant_run.proofs.Acting.{placed, kept_fits, lengths_set}
-use Rattle.plant_run.proofs.OneDeed.{slave_event, put_acts, hold_acts, nonce_acts}
+use Rattle.plant_run.proofs.Acting.{placed, lengths_set}
+use Rattle.plant_run.proofs.OneDeed.{slave_event, hold_acts}
 use Rattle.plant_run.proofs.ends.Ends.hold.Goals as goal
 
 pub returns-clause-goes : goal.returns-clause-goes

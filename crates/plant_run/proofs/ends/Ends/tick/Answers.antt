@@ -1,11 +1,6 @@
-use Rattle.std.proofs.Common.{◌≡◌, ◌≤◌, ◌<◌, ◌+◌, ◌-◌, ◌*◌, ◌^◌, [], ◌∷◌, ◌++◌, ℕ, suc, List, Some, length, vec_len, vec_capacity, slice_get, slice_index_or, slice_index, slice_set, take, drop, refl, sym, ap, subst, ◌∙◌, arith}
-use Rattle.std.proofs.lemmas.Option.{slice_get_read, slice_get-get_or}
-use Rattle.fsoe_base.specs.declared.command.End.TheVariants as side
-use Rattle.param_load.specs.declared.entry.Move.TheVariants as move
-use Rattle.plant_run.specs.declared.event.PlantEvent.TheVariants as event
-use Rattle.plant_run.specs.declared.journal.JournalStep.TheVariants as step
+use Rattle.std.proofs.Common.{◌≡◌, ◌+◌, ◌-◌, ◌*◌, ◌^◌, ℕ, List, length, vec_len, sym, ap, subst, ◌∙◌, arith}
 use Rattle.plant_run.specs.Link.{LinkView}
-use Rattle.plant_run.specs.Standing.{AreNoted, IsPlant, lengths_kept}
+use Rattle.plant_run.specs.Standing.{AreNoted, lengths_kept}
 use Rattle.multi_master.proofs.Keeping.{written_back}
 use Rattle.plant_run.proofs.Acting.{same_count, noted_less, still_plant}
 use Rattle.plant_run.proofs.Cycling.{tick_goes}
