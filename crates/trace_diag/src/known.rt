@@ -93,6 +93,22 @@ impl Known {
         }
     }
 
+    /// The same again.
+    pub(crate) fn copy(&self) -> Known
+        ensures { result ≡ self.now }
+    {
+        Known {
+            turn: self.turn,
+            due: self.due,
+            place: self.place,
+            conn: self.conn,
+            connection: self.connection.copy(),
+            parameters: self.parameters.copy(),
+            piece: self.piece.copy(),
+            chain: self.chain,
+        }
+    }
+
     /// Judges the next frame: the first field of it that isn't as it must be. Where none is, what is kept goes on.
     pub(crate) fn take(
         &mut self,

@@ -1,5 +1,5 @@
 //! The judge of a trace.
-ghost use Rattle.std.specs.Prelude.{◌≡◌, ◌≤◌, ◌<◌, ◌^◌, ◌-◌, ◌+◌, [], List, length};
+ghost use Rattle.std.specs.Prelude.{◌≡◌, ◌≤◌, ◌<◌, ◌^◌, ◌-◌, ◌+◌, [], ⊤, List, length};
 ghost use Rattle.fsoe_base.specs.declared.lengths.Lengths.{Lengths};
 ghost use Rattle.trace_diag.specs.Judged.{NotesFrame, TraceStands};
 ghost use Rattle.trace_diag.specs.Trace.{Noted};
@@ -9,6 +9,7 @@ use crate::difference::Difference;
 use crate::known::{Known, Room};
 use crate::verdict::Verdict;
 use fsoe_base::{End, Lengths};
+use std::alloc::AllocError;
 use std::marker::Model;
 
 /// Judges a recorded trace frame by frame, as they come: no frame is kept. It judges from the frames alone, and runs no end.
@@ -73,5 +74,22 @@ impl Trace {
             },
             None => Verdict::Conforms(self.known.read_off()),
         }
+    }
+}
+
+/// A clone goes on by itself, so that several frames that may come next can be judged each. It takes no memory.
+impl Clone for Trace {
+    ghost is_clone = { λ trace clone. clone ≡ trace };
+
+    ghost is_infallible = { λ _. ⊤ };
+
+    fn clone(&self) -> Result<Trace, AllocError> {
+        Ok(Trace {
+            lengths: self.lengths,
+            frames: self.frames,
+            differs: self.differs,
+            known: self.known.copy(),
+            room: Room::new(),
+        })
     }
 }
