@@ -99,7 +99,7 @@ type Short = (
     &'static str,
 );
 
-const SHORTS: [Short; 3] = [
+const SHORTS: [Short; 4] = [
     (
         &["node", "slave"],
         "fsoe 1 node slave\nlengths 2 2\nslave 2 200 1000 2\nrule any 0\ngo\nt\nh 1\nend\n",
@@ -135,6 +135,13 @@ const SHORTS: [Short; 3] = [
             "1 m quiet Reset 0000\n2 s quiet Reset 0000\n3 m again Reset 0000 > 2a0000c42d0000\n",
         ],
         "1 m quiet Reset 0000\n2 s quiet Reset 0000\n3 m again Reset 0000 > 2a0000c42d0000\nevents 3\nother none\n",
+    ),
+    (
+        &["diagnose"],
+        "fsoe 1 trace\nlengths 2 2\ngo\nm 2a0000c42d0000\ns 2a0000c42d0000\nend\n",
+        3,
+        ["", "", "", ""],
+        "frames 2\nread - - - -\nconforms\n",
     ),
 ];
 
