@@ -29,15 +29,27 @@ bulk_of None events = None
 bulk_of (Some number) None = None
 bulk_of (Some number) (Some events) = if events == 0 then None else Some (command.Bulk number events)
 
--- the command that words name: `node master`, `node slave`, `replay`, `image`, `diagnose`, or `bulk` with a number of at most 64 bits and from
--- 1 to 200,000 events
+-- the command of two words
+abbrev pub command_of_two : List ℕ → List ℕ → Option Command
+command_of_two first word =
+    if bytes_eq first (codes "node") then node_at word
+    else if bytes_eq first (codes "plant") then Some command.Plant
+    else None
+
+-- the command that words name: `node master`, `node slave`, `replay`, `image`, `diagnose`, `plant` with the name of a file, or `bulk` with a number
+-- of at most 64 bits and from 1 to 200,000 events
 abbrev pub command_said : List (List ℕ) → Option Command
 command_said [] = None
 command_said (word ∷ []) = command_alone word
-command_said (first ∷ word ∷ []) = if bytes_eq first (codes "node") then node_at word else None
+command_said (first ∷ word ∷ []) = command_of_two first word
 command_said (first ∷ number ∷ events ∷ []) =
     if bytes_eq first (codes "bulk") then bulk_of (number_said (2 ^ 64 - 1) number) (number_said MAX_EVENTS events) else None
 command_said (first ∷ second ∷ third ∷ fourth ∷ words) = None
+
+-- the file that words name: the second of two
+abbrev pub file_named : List (List ℕ) → List ℕ
+file_named (first ∷ file ∷ []) = file
+file_named words = []
 
 -- the line that is written where the words name no command
 abbrev pub usage_line : List ℕ

@@ -1,2 +1,4 @@
 pub mod Command
+pub mod Handed
+pub mod Plant
 pub mod Running

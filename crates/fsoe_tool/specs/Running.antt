@@ -10,6 +10,8 @@ use Rattle.node_runner.specs.Ran.{RanNode}
 use Rattle.process_image.specs.Ran.{RanImage}
 use Rattle.trace_diag.specs.Ran.{RanDiagnose}
 use Rattle.fsoe_tool.specs.Command.{usage_line}
+use Rattle.fsoe_tool.specs.Handed.{DeskTold, Handed}
+use Rattle.fsoe_tool.specs.Plant.{RanFile}
 use Rattle.fsoe_tool.specs.declared.command.Command.{Command}
 use Rattle.fsoe_tool.specs.declared.command.Command.TheVariants as command
 
@@ -21,6 +23,12 @@ reads_input (Some command.Replay) = true
 reads_input (Some (command.Bulk number events)) = false
 reads_input (Some command.Image) = true
 reads_input (Some command.Diagnose) = true
+reads_input (Some command.Plant) = true
+
+-- whether the words name a plant, which alone has to do with the desk, the applications, the channels and the journal
+abbrev pub runs_plant : Option Command → Bool
+runs_plant (Some command.Plant) = true
+runs_plant said = false
 
 -- the usage line was written, with status 2; or a first part of it, where a write failed
 pub record RanUsage (ended : Ended) (sink : Told) : Type 0 where
@@ -28,10 +36,11 @@ pub record RanUsage (ended : Ended) (sink : Told) : Type 0 where
   pub later : sink.faults_before ≤ sink.faults_after
 
 -- what holds of the run of what the words name: of a command all that its own call says
-abbrev pub Runs : Option Command → Ended → Outside → Type 0
-Runs None ended o = RanUsage ended o.sink
-Runs (Some (command.Node end)) ended o = RanNode end ended o
-Runs (Some command.Replay) ended o = RanReplay ended o
-Runs (Some (command.Bulk number events)) ended o = RanBulk number events ended o.sink
-Runs (Some command.Image) ended o = RanImage ended o
-Runs (Some command.Diagnose) ended o = RanDiagnose ended o
+abbrev pub Runs : {C : Type 0} → Option Command → Ended → Outside → DeskTold → Handed C → Type 0
+Runs None ended o desk h = RanUsage ended o.sink
+Runs (Some (command.Node end)) ended o desk h = RanNode end ended o
+Runs (Some command.Replay) ended o desk h = RanReplay ended o
+Runs (Some (command.Bulk number events)) ended o desk h = RanBulk number events ended o.sink
+Runs (Some command.Image) ended o desk h = RanImage ended o
+Runs (Some command.Diagnose) ended o desk h = RanDiagnose ended o
+Runs (Some command.Plant) ended o desk h = RanFile ended o desk h

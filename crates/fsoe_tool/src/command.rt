@@ -1,7 +1,7 @@
 //! The words that name a command.
 ghost use Rattle.std.specs.Prelude.{◌≡◌, ◌-◌, ◌^◌, map, string_bytes};
 ghost use Rattle.schedule_file.specs.Field.{number_said};
-ghost use Rattle.fsoe_tool.specs.Command.{bulk_of, command_alone, command_said, node_at};
+ghost use Rattle.fsoe_tool.specs.Command.{bulk_of, command_alone, command_said, file_named, node_at};
 
 use fsoe_base::End;
 use schedule_file::{MAX_EVENTS, read_number};
@@ -19,6 +19,8 @@ pub enum Command {
     Image,
     /// To judge a recorded trace.
     Diagnose,
+    /// To run a plant by its configuration, which lies under the second word.
+    Plant,
 }
 
 /// The command of one word.
@@ -62,8 +64,8 @@ fn bulk_of(number: &str, events: &str) -> Option<Command>
     }
 }
 
-/// The command that words name, which are those after the program's name: `node master`, `node slave`, `replay`, `image`, `diagnose`, or
-/// `bulk <number> <events>` with a number of at most 64 bits and from 1 to 200,000 events.
+/// The command that words name, which are those after the program's name: `node master`, `node slave`, `replay`, `image`, `diagnose`,
+/// `plant <file>`, or `bulk <number> <events>` with a number of at most 64 bits and from 1 to 200,000 events.
 pub fn command_said(words: &[String]) -> Option<Command>
     ensures { result ≡ command_said (map string_bytes words.now) }
 {
@@ -72,6 +74,8 @@ pub fn command_said(words: &[String]) -> Option<Command>
         [first, word] => {
             if first.as_str() == "node" {
                 node_at(word.as_str())
+            } else if first.as_str() == "plant" {
+                Some(Command::Plant)
             } else {
                 None
             }
@@ -84,5 +88,15 @@ pub fn command_said(words: &[String]) -> Option<Command>
             }
         }
         _ => None,
+    }
+}
+
+/// The file that words name: the second of two, and no name else.
+pub fn file_named(words: &[String]) -> &str
+    ensures { result.now ≡ file_named (map string_bytes words.now) }
+{
+    match words {
+        [_, file] => file.as_str(),
+        _ => "",
     }
 }

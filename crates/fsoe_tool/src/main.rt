@@ -1,10 +1,14 @@
-//! Runs one of the commands over standard input and standard output, and ends with the number of its status.
+//! Runs one of the commands over standard input, standard output and files, and ends with the number of its status.
 #![tactic(auto)]
 
 mod command;
+mod plant;
 mod run;
 
-use fsoe_io::{Status, StdSink, StdSource};
+use black_channel::{Channel, HostileChannel, PerfectChannel};
+use fb_net::{AppEntry, Mirror, Zeros};
+use fsoe_base::Memory;
+use fsoe_io::{FileDesk, Status, StdSink, StdSource};
 use run::run;
 use std::process::ExitCode;
 use std::{env, io};
@@ -25,15 +29,46 @@ fn words_of(rt: &HostRuntime) -> io::Result<Vec<String>> {
     Ok(words)
 }
 
+/// Runs the command that the program's words name, with the applications and the channels that it has for plants. None where there is no
+/// memory for these.
+fn run_program(rt: HostRuntime) -> Option<Status> {
+    let alloc = rt.alloc();
+    let words = words_of(&rt).ok()?;
+    let mut apps = Vec::new(alloc);
+    apps.push(AppEntry {
+        name: "zeros".to_string(alloc).ok()?,
+        app: Box::new(alloc, Zeros).ok()?,
+    })
+    .ok()?;
+    apps.push(AppEntry {
+        name: "mirror".to_string(alloc).ok()?,
+        app: Box::new(alloc, Mirror).ok()?,
+    })
+    .ok()?;
+    let mut channels: Vec<Box<dyn Channel>> = Vec::new(alloc);
+    channels
+        .push(Box::new(alloc, PerfectChannel::new(alloc).ok()?).ok()?)
+        .ok()?;
+    channels
+        .push(Box::new(alloc, HostileChannel::new(alloc).ok()?).ok()?)
+        .ok()?;
+    let mut desk = FileDesk::new(rt);
+    let mut source = StdSource::new(rt.stdin());
+    let mut sink = StdSink::new(rt.stdout());
+    let outcome = run(
+        alloc,
+        words.as_slice(),
+        &mut desk,
+        &mut source,
+        &mut sink,
+        apps,
+        &mut channels,
+    );
+    Some(outcome.status)
+}
+
 fn main(rt: HostRuntime) -> ExitCode {
-    let status = match words_of(&rt) {
-        Ok(words) => {
-            let mut source = StdSource::new(rt.stdin());
-            let mut sink = StdSink::new(rt.stdout());
-            run(rt.alloc(), words.as_slice(), &mut source, &mut sink).status
-        }
-        Err(_) => Status::Memory,
-    };
+    let status = run_program(rt).unwrap_or(Status::Memory);
     ExitCode::from(status.number())
 }
 

@@ -1,13 +1,18 @@
 //! The run of a command.
-ghost use Rattle.std.specs.Prelude.{◌≡◌, false, map, string_bytes};
-ghost use Rattle.fsoe_tool.specs.Command.{command_said};
-ghost use Rattle.fsoe_tool.specs.Running.{Runs, reads_input};
+ghost use Rattle.std.specs.Prelude.{◌≡◌, ◌≢◌, ℕ, List, [], false, map, string_bytes};
+ghost use Rattle.fsoe_tool.specs.Command.{command_said, file_named};
+ghost use Rattle.fsoe_tool.specs.Handed.{entry_seen};
+ghost use Rattle.fsoe_tool.specs.Running.{Runs, reads_input, runs_plant};
 
-use crate::command::{Command, command_said};
+use crate::command::{Command, command_said, file_named};
+use crate::plant::run_file;
+use black_channel::Channel;
 use duo_run::{run_bulk, run_replay};
+use fb_net::AppEntry;
 use file_run::write_report;
-use fsoe_io::{Ended, Sink, Source, Status};
+use fsoe_io::{Desk, Ended, Sink, Source, Status};
 use node_runner::run_node;
+use plant_run::Journal;
 use process_image::run_image;
 use std::alloc::Global;
 use trace_diag::run_diagnose;
@@ -16,38 +21,105 @@ use trace_diag::run_diagnose;
 const USAGE: &[u8] =
     b"usage: fsoe_tool node master|slave, replay, bulk <number> <events>, plant <file>, image, diagnose, convert\n";
 
+/// How a run ended, and what it left.
+#[derive(Drop)]
+pub struct Outcome {
+    /// The status, by whose number the program ends.
+    pub status: Status,
+    /// The place that is told with it, or 0.
+    pub place: u64,
+    /// What a plant did. It is empty where none ran.
+    pub journal: Journal,
+}
+
+/// What a run leaves that ended so and ran no plant.
+fn without_journal(alloc: Global, ended: Ended) -> Outcome
+    ensures ended { record { status = result.status; place = result.place } ≡ ended }
+    ensures journal { result.journal ≡ [] }
+{
+    Outcome {
+        status: ended.status,
+        place: ended.place,
+        journal: Journal::new(alloc),
+    }
+}
+
 /// Runs the command that the words after the program's name are, over what the source gives, and writes its
 /// report to the sink.
 ///
 /// `node master` and `node slave` run this end over a node file, `replay` runs both ends over a schedule, `image` runs ends on fixed places of a
 /// cyclic image, and `diagnose` judges a recorded trace. `bulk <number> <events>` runs both ends over the first events of the schedule of that
-/// number. It doesn't read the source, nor do words that name no command: these write the usage line, with status `Usage`. Only `image` takes
-/// memory.
-pub fn run<S: Source, K: Sink>(
+/// number. It doesn't read the source, nor do words that name no command: these write the usage line, with status `Usage`.
+///
+/// `plant <file>` runs a plant over a script, by the configuration that the desk has under the name of the file, of at most 262,144 bytes.
+/// Where the load failed it writes `desk failed`, with status `Desk`, and where a plant can't be run with what is handed in a line
+/// `config <fault>`, with status `Config`; neither reads the source. The application that runs first is the net of the configuration, where it
+/// names `net`, or else the first of `apps` that has the name; the script takes others, and those that are left are dropped. The channel is the
+/// first of `channels` that has the name; all others are unchanged. What the plant did stands in the journal.
+///
+/// Only `image` and `plant` take memory, and so have the status `Memory`.
+pub fn run<D: Desk, S: Source, K: Sink>(
     alloc: Global,
     words: &[String],
+    desk: &mut D,
     source: &mut S,
     sink: &mut K,
-) -> Ended
+    apps: Vec<AppEntry>,
+    channels: &mut Vec<Box<dyn Channel>>,
+) -> Outcome
     // The words name a command, of which all holds that its own call says, or none.
-    ensures runs { Runs (command_said (map string_bytes words.now)) result (record {
-      source = record { before = S.left source.old; after = S.left source.new; faults_before = S.faults source.old; faults_after = S.faults source.new };
-      sink = record { before = K.written sink.old; after = K.written sink.new; faults_before = K.faults sink.old; faults_after = K.faults sink.new };
-    }) }
+    ensures runs { Runs (command_said (map string_bytes words.now)) (record { status = result.status; place = result.place })
+        (record {
+          source = record { before = S.left source.old; after = S.left source.new; faults_before = S.faults source.old; faults_after = S.faults source.new };
+          sink = record { before = K.written sink.old; after = K.written sink.new; faults_before = K.faults sink.old; faults_after = K.faults sink.new };
+        })
+        (let file = file_named (map string_bytes words.now) in record { text = D.holds desk.old file; faults_before = D.faults desk.old file; faults_after = D.faults desk.new file })
+        (record {
+          apps = map (entry_seen (λ app. record { rule = (Application-box app).rule app.value; holds = (Application-box app).holds app.value; guards = (Application-box app).guards app.value })) apps.items;
+          name_of = λ channel. name channel;
+          tells = λ channel. told channel;
+          channels_before = channels.old.items;
+          channels_after = channels.new.items;
+          journal = result.journal;
+        }) }
     ensures unread { reads_input (command_said (map string_bytes words.now)) ≡ false → source.new ≡ source.old }
+    ensures others { (other : List ℕ) → other ≢ file_named (map string_bytes words.now) → D.faults desk.new other ≡ D.faults desk.old other }
+    ensures unasked { runs_plant (command_said (map string_bytes words.now)) ≡ false → desk.new ≡ desk.old }
+    ensures unused { runs_plant (command_said (map string_bytes words.now)) ≡ false → channels.new.items ≡ channels.old.items }
+    ensures no_journal { runs_plant (command_said (map string_bytes words.now)) ≡ false → result.journal ≡ [] }
 {
     match command_said(words) {
-        Some(Command::Node(end)) => run_node(end, source, sink),
-        Some(Command::Replay) => run_replay(source, sink),
-        Some(Command::Bulk { number, events }) => run_bulk(number, events, sink),
-        Some(Command::Image) => run_image(alloc, source, sink),
-        Some(Command::Diagnose) => run_diagnose(source, sink),
+        Some(Command::Node(end)) => without_journal(alloc, run_node(end, source, sink)),
+        Some(Command::Replay) => without_journal(alloc, run_replay(source, sink)),
+        Some(Command::Bulk { number, events }) => {
+            without_journal(alloc, run_bulk(number, events, sink))
+        }
+        Some(Command::Image) => without_journal(alloc, run_image(alloc, source, sink)),
+        Some(Command::Diagnose) => without_journal(alloc, run_diagnose(source, sink)),
+        Some(Command::Plant) => {
+            let mut journal = Journal::new(alloc);
+            let ended = run_file(
+                alloc,
+                file_named(words),
+                desk,
+                source,
+                sink,
+                apps,
+                channels,
+                &mut journal,
+            );
+            Outcome {
+                status: ended.status,
+                place: ended.place,
+                journal,
+            }
+        }
         None => {
             let usage = Ended {
                 status: Status::Usage,
                 place: 0,
             };
-            write_report(sink, USAGE, usage)
+            without_journal(alloc, write_report(sink, USAGE, usage))
         }
     }
 }

@@ -1,72 +1,171 @@
-use crate::run::run;
-use fsoe_io::{Ended, MemSink, MemSource, Status};
+use crate::run::{Outcome, run};
+use black_channel::{Channel, HostileChannel, PerfectChannel};
+use fb_net::{AppEntry, Mirror, Zeros};
+use fsoe_io::{MemDesk, MemSink, MemSource, Status};
 use schedule_file::{LineBuf, Maker, write_event};
 use std::test::Fail;
 
-/// Runs the words over an input, of which `most` bytes come and go in a call, and at which the listed calls fail.
+/// The configuration of a plant with a stop and a drive.
+const STOP: &str = "[plant]
+app = \"net\"
+channel = \"perfect\"
+[[connection]]
+id = 1
+address = 11
+watchdog = 5
+master_length = 2
+slave_length = 2
+[[connection]]
+id = 2
+address = 12
+watchdog = 5
+master_length = 2
+slave_length = 2
+[[block]]
+kind = \"estop\"
+ins = [\"i1.0\", \"i1.1\"]
+[[drive]]
+out = \"o2.0\"
+from = \"b1\"
+";
+
+/// The one call that fails, by its number from 1, or none.
+#[derive(Clone, Copy)]
+enum Fails {
+    Never,
+    Load(u64),
+    Read(u64),
+    Write(u64),
+}
+
+impl Fails {
+    /// The number of the load that fails, that of the read and that of the write; 0 for none.
+    fn numbers(self) -> (u64, u64, u64) {
+        match self {
+            Fails::Never => (0, 0, 0),
+            Fails::Load(number) => (number, 0, 0),
+            Fails::Read(number) => (0, number, 0),
+            Fails::Write(number) => (0, 0, number),
+        }
+    }
+}
+
+/// Runs the words over an input, of which `most` bytes come and go in a call. The configuration of a plant lies under the name `stop`; two
+/// applications and two channels are handed in.
 fn run_over(
     rt: &HostRuntime,
     words: &[&str],
     input: &[u8],
     most: usize,
-    read_fails: u64,
-    write_fails: u64,
-) -> Result<(Ended, MemSink), Fail> {
+    fails: Fails,
+) -> Result<(Outcome, MemSink), Fail> {
+    let alloc = rt.alloc();
     let most = most.max(1);
-    let mut owned = Vec::new(rt.alloc());
+    let (load, read, write) = fails.numbers();
+    let mut owned = Vec::new(alloc);
     for word in words {
-        owned.push(word.to_string(rt.alloc())?)?;
+        owned.push(word.to_string(alloc)?)?;
     }
-    let bytes = input.to_vec(rt.alloc())?;
-    let mut source = MemSource::new(bytes, most, vec![in rt.alloc(); read_fails]?);
-    let made = MemSink::new(rt.alloc(), 100_000, most, vec![in rt.alloc(); write_fails]?);
+    let mut files = Vec::new(alloc);
+    files.push(("stop".to_string(alloc)?, STOP.as_bytes().to_vec(alloc)?))?;
+    let mut desk = MemDesk::new(files, vec![in alloc; load]?);
+    let bytes = input.to_vec(alloc)?;
+    let mut source = MemSource::new(bytes, most, vec![in alloc; read]?);
+    let made = MemSink::new(alloc, 100_000, most, vec![in alloc; write]?);
     let mut sink = made.ok().ok_or("no memory")?;
-    let ended = run(rt.alloc(), owned.as_slice(), &mut source, &mut sink);
-    Ok((ended, sink))
+    let mut apps = Vec::new(alloc);
+    apps.push(AppEntry {
+        name: "zeros".to_string(alloc)?,
+        app: Box::new(alloc, Zeros)?,
+    })?;
+    apps.push(AppEntry {
+        name: "mirror".to_string(alloc)?,
+        app: Box::new(alloc, Mirror)?,
+    })?;
+    let mut channels: Vec<Box<dyn Channel>> = Vec::new(alloc);
+    let perfect = PerfectChannel::new(alloc).ok().ok_or("no memory")?;
+    channels.push(Box::new(alloc, perfect)?)?;
+    let hostile = HostileChannel::new(alloc).ok().ok_or("no memory")?;
+    channels.push(Box::new(alloc, hostile)?)?;
+    let outcome = run(
+        alloc,
+        owned.as_slice(),
+        &mut desk,
+        &mut source,
+        &mut sink,
+        apps,
+        &mut channels,
+    );
+    Ok((outcome, sink))
 }
 
-/// The words, how many bytes come and go in a call, the read and the write that fail, how the run ends, and what is written.
-type Failing = (
+/// The words, how many bytes come and go in a call, the call that fails, how the run ends, and what is written.
+type Row = (
     &'static [&'static str],
     usize,
-    u64,
-    u64,
-    Status,
-    u64,
+    Fails,
+    (Status, u64),
     &'static str,
 );
 
 /// Header and first event have 65 bytes, so that five reads of 14 bytes bring both, and part of a frame.
-const FAILING: [Failing; 5] = [
+const ROWS: [Row; 8] = [
     (
         &["node", "slave"],
         14,
-        6,
-        0,
-        Status::Read,
-        6,
+        Fails::Read(6),
+        (Status::Read, 6),
         "1 quiet Reset 0000\n",
     ),
-    (&["node", "slave"], 1000, 1, 0, Status::Read, 0, ""),
+    (
+        &["node", "slave"],
+        1000,
+        Fails::Read(1),
+        (Status::Read, 0),
+        "",
+    ),
     (
         &["node", "slave"],
         8,
-        0,
-        3,
-        Status::Write,
-        16,
+        Fails::Write(3),
+        (Status::Write, 16),
         "1 quiet Reset 00",
     ),
     (
         &["bulk", "0", "17"],
         8,
-        0,
-        3,
-        Status::Write,
-        16,
+        Fails::Write(3),
+        (Status::Write, 16),
         "bulk 0 17\ndata m",
     ),
-    (&["-h"], 8, 0, 3, Status::Write, 16, "usage: fsoe_tool"),
+    (
+        &["-h"],
+        8,
+        Fails::Write(3),
+        (Status::Write, 16),
+        "usage: fsoe_tool",
+    ),
+    (
+        &["plant", "stop"],
+        1000,
+        Fails::Load(1),
+        (Status::Desk, 0),
+        "desk failed\n",
+    ),
+    (
+        &["plant", "x"],
+        1000,
+        Fails::Never,
+        (Status::Desk, 0),
+        "desk failed\n",
+    ),
+    (
+        &["plant", "x"],
+        4,
+        Fails::Write(3),
+        (Status::Write, 8),
+        "desk fai",
+    ),
 ];
 
 const INPUT: &str = "fsoe 1 node slave
@@ -82,9 +181,9 @@ end
 
 #[test]
 fn a_failing_end_is_blamed(rt: HostRuntime) -> Result<(), Fail> {
-    for (words, most, read_fails, write_fails, status, place, written) in FAILING {
-        let (ended, sink) = run_over(&rt, words, INPUT.as_bytes(), most, read_fails, write_fails)?;
-        assert_eq!(rt; ended, Ended { status, place });
+    for (words, most, fails, ended, written) in ROWS {
+        let (outcome, sink) = run_over(&rt, words, INPUT.as_bytes(), most, fails)?;
+        assert_eq!(rt; (outcome.status, outcome.place), ended);
         assert_eq!(rt; sink.bytes(), written.as_bytes());
     }
     Ok(())
@@ -99,7 +198,7 @@ type Short = (
     &'static str,
 );
 
-const SHORTS: [Short; 4] = [
+const SHORTS: [Short; 5] = [
     (
         &["node", "slave"],
         "fsoe 1 node slave\nlengths 2 2\nslave 2 200 1000 2\nrule any 0\ngo\nt\nh 1\nend\n",
@@ -137,6 +236,18 @@ const SHORTS: [Short; 4] = [
         "1 m quiet Reset 0000\n2 s quiet Reset 0000\n3 m again Reset 0000 > 2a0000c42d0000\nevents 3\nother none\n",
     ),
     (
+        &["plant", "stop"],
+        "fsoe 1 plant\nt\nh 1 1\nend\n",
+        1,
+        [
+            "",
+            "tick 1\n1 Data 0000 Data 0000\n2 Data 0000 Data 0000\n",
+            "tick 1\n1 Data 0000 Data 0000\n2 Data 0000 Data 0000\n",
+            "",
+        ],
+        "tick 1\n1 Data 0000 Data 0000\n2 Data 0000 Data 0000\nticks 1\nother none\n",
+    ),
+    (
         &["diagnose"],
         "fsoe 1 trace\nlengths 2 2\ngo\nm 2a0000c42d0000\ns 2a0000c42d0000\nend\n",
         3,
@@ -160,16 +271,10 @@ fn whole_lines(bytes: &[u8]) -> u64 {
 fn each_read_that_fails_ends_a_run_after_the_whole_lines(rt: HostRuntime) -> Result<(), Fail> {
     for (words, input, header, reports, _) in SHORTS {
         for read in 0..input.len() {
-            let fails = read as u64 + 1;
-            let (ended, sink) = run_over(&rt, words, input.as_bytes(), 1, fails, 0)?;
+            let fails = Fails::Read(read as u64 + 1);
+            let (outcome, sink) = run_over(&rt, words, input.as_bytes(), 1, fails)?;
             let place = whole_lines(&input.as_bytes()[..read]);
-            assert_eq!(rt;
-                ended,
-                Ended {
-                    status: Status::Read,
-                    place
-                }
-            );
+            assert_eq!(rt; (outcome.status, outcome.place), (Status::Read, place));
             let events = place.saturating_sub(header).min(3) as usize;
             assert_eq!(rt; sink.bytes(), reports[events].as_bytes());
         }
@@ -182,14 +287,11 @@ fn each_write_that_fails_ends_a_run_after_the_bytes_written(rt: HostRuntime) -> 
     for (words, input, _, _, report) in SHORTS {
         let report = report.as_bytes();
         for written in 0..report.len() {
-            let fails = written as u64 + 1;
-            let (ended, sink) = run_over(&rt, words, input.as_bytes(), 1, 0, fails)?;
+            let fails = Fails::Write(written as u64 + 1);
+            let (outcome, sink) = run_over(&rt, words, input.as_bytes(), 1, fails)?;
             assert_eq!(rt;
-                ended,
-                Ended {
-                    status: Status::Write,
-                    place: written as u64
-                }
+                (outcome.status, outcome.place),
+                (Status::Write, written as u64)
             );
             assert_eq!(rt; sink.bytes(), &report[..written]);
         }
@@ -223,8 +325,8 @@ fn a_replay_of_the_events_of_a_number_ends_alike(rt: HostRuntime) -> Result<(), 
         (&["bulk", "3", "500"], "\nother 154\n"),
     ];
     for (words, last) in rows {
-        let (ended, sink) = run_over(&rt, words, &input, 1000, 0, 0)?;
-        assert_eq!(rt; (ended.status, ended.place), (Status::Other, 154));
+        let (outcome, sink) = run_over(&rt, words, &input, 1000, Fails::Never)?;
+        assert_eq!(rt; (outcome.status, outcome.place), (Status::Other, 154));
         assert!(rt; sink.bytes().ends_with(last.as_bytes()));
     }
     Ok(())

@@ -1,0 +1,30 @@
+use Rattle.std.proofs.Common.{refl, arith}
+use Rattle.fsoe_tool.proofs.Picked.{within}
+use Rattle.fsoe_tool.proofs.SetUp.{set_up_ran, set_up_refused}
+use Rattle.fsoe_tool.proofs.plant.run_conf.Goals as goal
+
+pub index_mut-channel-requires : goal.index_mut-channel-requires
+index_mut-channel-requires g c =
+    let place = rw c.as_slice.ensures.value at c.in-Ok.ensures.channel in
+    let below = within _ c.args.conf.channel c.args.channels.now.items c.in-Ok.setup.channel place in
+    omega (arith, below, c.args.channels.now.ok.0)
+
+pub returns-in-Ok : goal.returns-in-Ok
+returns-in-Ok g c = record {
+  ran =
+      let fault = rw c.as_slice.ensures.value at c.in-Ok.ensures.fault in
+      let place = rw c.as_slice.ensures.value at c.in-Ok.ensures.channel in
+      set_up_ran _ _ _ c.args.conf c.set_up.new.conf c.args.apps.items c.in-Ok.setup.spare.items c.in-Ok.setup.app _ c.args.channels.now.items c.in-Ok.setup.channel _ c.run_plant.new.channel _ _ _
+      c.run_plant.ensures c.in-Ok.ensures.rest (λ e. rw e refl) (λ x e. rw e refl) fault c.in-Ok.ensures.app place c.index_mut-channel.ensures.value;
+}
+
+pub returns : goal.returns
+returns g c = record {
+  ran =
+      let fault = rw c.as_slice.ensures.value at c.in-Err.ensures.fault in
+      set_up_refused _ _ _ c.args.conf c.args.apps.items c.args.channels.now.items c.in-Err.why _ _ _ fault (record {
+        nothing = record { left = refl; faults = refl; channels = refl; journal = c.requires.empty };
+        wrote = c.refuse.ensures.writes;
+        later = c.refuse.ensures.later;
+      });
+}

@@ -1,0 +1,28 @@
+-- What a plant is run with and what is left of it, as contracts see it.
+use Rattle.std.specs.Prelude.{ℕ, List, string_bytes}
+use Rattle.std.specs.declared.option.Option.{Option}
+use Rattle.black_channel.specs.Told.{Told}
+use Rattle.fb_net.specs.declared.kind_of.EntryOf.{EntryOf}
+use Rattle.multi_master.specs.Calls.{AppView}
+use Rattle.plant_run.specs.Turns.{Named}
+use Rattle.plant_run.specs.declared.journal.JournalStep.{JournalStep}
+
+-- what a desk tells of one name: the text under it, where it tells that, and how often loads of it failed before a run and by its end
+pub record DeskTold : Type 0 where
+  pub text : Option (List ℕ)
+  pub faults_before : ℕ
+  pub faults_after : ℕ
+
+-- an application that is handed in, under its name
+abbrev pub entry_seen : {H : Type 0} → (H → AppView) → EntryOf H → Named
+entry_seen app_of entry = record { name = string_bytes entry.name; app = app_of entry.app }
+
+-- the applications that are handed in, each under its name; the channels before and after a run, each with a name and what it tells; and the
+-- journal that the run leaves
+pub record Handed (C : Type 0) : Type 0 where
+  pub apps : List Named
+  pub name_of : C → List ℕ
+  pub tells : C → Told
+  pub channels_before : List C
+  pub channels_after : List C
+  pub journal : List JournalStep

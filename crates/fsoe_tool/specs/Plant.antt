@@ -1,0 +1,106 @@
+-- What running a plant comes to by the text of its configuration: where no plant can be run with it, one line is written and the script
+-- isn't read; else the plant runs over its script.
+use Rattle.std.specs.Prelude.{◌≡◌, ◌≢◌, ℕ, ◌≤◌, ◌<◌, List, [], codes, length, map, slice_get, slice_set, Option, Some, None, IfSome, Result, Ok, Err}
+use Rattle.fsoe_io.specs.Faults.{Rose}
+use Rattle.fsoe_io.specs.declared.desk.LoadFault.{LoadFault}
+use Rattle.fsoe_io.specs.declared.desk.LoadFault.TheVariants as load
+use Rattle.fsoe_io.specs.declared.status.Ended.{Ended}
+use Rattle.fsoe_io.specs.declared.status.Status.{Status}
+use Rattle.fsoe_io.specs.declared.status.Status.TheVariants as status
+use Rattle.fb_net.specs.Meaning.{net_holds, rule_of, guards_of}
+use Rattle.file_run.specs.Ending.{Writes}
+use Rattle.file_run.specs.Outside.{Outside}
+use Rattle.plant_conf.specs.ConfView.{ConfView, conf_values}
+use Rattle.plant_conf.specs.Meaning.{Means}
+use Rattle.plant_conf.specs.declared.fault.ConfFault.{ConfFault}
+use Rattle.plant_conf.specs.declared.fault.ConfFault.TheVariants as conf_fault
+use Rattle.plant_setup.specs.ConfigLine.{config_line}
+use Rattle.plant_setup.specs.Names.{place_of}
+use Rattle.plant_setup.specs.Setup.{IsChosen, net_of, setup_fault}
+use Rattle.plant_setup.specs.declared.fault.SetupFault.{SetupFault}
+use Rattle.plant_setup.specs.declared.fault.SetupFault.TheVariants as setup
+use Rattle.plant_run.specs.Ran.{RanPlant}
+use Rattle.multi_master.specs.Calls.{AppView}
+use Rattle.plant_run.specs.Turns.{Named}
+use Rattle.fsoe_tool.specs.Handed.{DeskTold, Handed}
+use Rattle.fsoe_tool.specs.declared.plant.TheConstants.{MAX_CONFIG}
+
+-- the script wasn't read, no channel was used, and the journal is empty
+pub record BeganNothing {C : Type 0} (o : Outside) (h : Handed C) : Type 0 where
+  pub left : o.source.after ≡ o.source.before
+  pub faults : o.source.faults_after ≡ o.source.faults_before
+  pub channels : h.channels_after ≡ h.channels_before
+  pub journal : h.journal ≡ []
+
+-- no plant ran: this line was written with this status, or a first part of it where a write failed
+pub record WroteLine {C : Type 0} (line : List ℕ) (why : Status) (ended : Ended) (o : Outside) (h : Handed C) : Type 0 where
+  pub nothing : BeganNothing o h
+  pub wrote : Writes 0 line (record { status = why; place = 0 }) ended o.sink
+  pub later : o.sink.faults_before ≤ o.sink.faults_after
+
+-- no plant ran, for want of memory: nothing was written
+pub record HadNoMemory {C : Type 0} (ended : Ended) (o : Outside) (h : Handed C) : Type 0 where
+  pub nothing : BeganNothing o h
+  pub ended_is : ended ≡ record { status = status.Memory; place = 0 }
+  pub written : o.sink.after ≡ o.sink.before
+  pub faults : o.sink.faults_after ≡ o.sink.faults_before
+
+-- the net of a configuration, as contracts see an application
+abbrev pub net_view : ConfView → AppView
+net_view conf = let net = net_of conf in record { rule = rule_of net; holds = net_holds net; guards = guards_of net }
+
+-- a plant with this configuration ran over its script: first with the net, or the first application of the name that the configuration has, and
+-- over the first channel of the name that it has. The other applications were left to the script, and the other channels alone
+pub record RanSetUp {C : Type 0} (conf : ConfView) (ended : Ended) (o : Outside) (h : Handed C) : Type 0 where
+  pub app : AppView
+  pub spare : List Named
+  pub chosen : IsChosen (λ named. named.name) conf.app h.apps spare (app ≡ net_view conf) (λ named. app ≡ named.app)
+  pub place : ℕ
+  pub place_is : place_of conf.channel (map h.name_of h.channels_before) ≡ Some place
+  pub before : C
+  pub before_is : slice_get h.channels_before place ≡ Some before
+  pub after : C
+  pub channels : h.channels_after ≡ slice_set h.channels_before place after
+  pub ran : RanPlant (record { begins = record { links = conf.links; app = app; seed = conf.seed }; spare = spare }) ended o (h.tells before) (h.tells after) h.journal
+
+-- what comes of a configuration that has this first fault, or none
+abbrev pub RanUnless : {C : Type 0} → Option SetupFault → ConfView → Ended → Outside → Handed C → Type 0
+RanUnless (Some why) conf ended o h = WroteLine (config_line why) status.Config ended o h
+RanUnless None conf ended o h = RanSetUp conf ended o h
+
+-- a text says this configuration, or has this first fault; of want of memory nothing is said
+abbrev pub Says : List ℕ → Result ConfView ConfFault → Type 0
+Says text (Ok conf) = Means text (Ok (conf_values conf))
+Says text (Err why) = why ≢ conf_fault.Memory → Means text (Err why)
+
+-- what comes of that
+abbrev pub RanSaid : {C : Type 0} → Result ConfView ConfFault → Ended → Outside → Handed C → Type 0
+RanSaid (Ok conf) ended o h = RanUnless (setup_fault conf (map (λ named. named.name) h.apps) (map h.name_of h.channels_before)) conf ended o h
+RanSaid (Err conf_fault.Memory) ended o h = HadNoMemory ended o h
+RanSaid (Err why) ended o h = WroteLine (config_line (setup.Conf why)) status.Config ended o h
+
+-- what comes of a text
+abbrev pub RanText : {C : Type 0} → List ℕ → Ended → Outside → Handed C → Type 0
+RanText text ended o h = (said : Result ConfView ConfFault) × Says text said × RanSaid said ended o h
+
+-- what may be answered to a load of a configuration: where the desk tells it, the text under the name; that it is too long, only where it is; and
+-- a failure, only where the desk's count of failed loads of this name rose
+abbrev pub MayAnswer : DeskTold → Result (List ℕ) LoadFault → Type 0
+MayAnswer desk (Ok text) = IfSome desk.text (λ held. text ≡ held) × (length text ≤ MAX_CONFIG)
+MayAnswer desk (Err load.Failed) = Rose desk.faults_before desk.faults_after
+MayAnswer desk (Err load.TooLong) = IfSome desk.text (λ held. MAX_CONFIG < length held)
+MayAnswer desk (Err load.Memory) = Unit {0}
+
+-- what comes of an answer
+abbrev pub RanAnswer : {C : Type 0} → Result (List ℕ) LoadFault → Ended → Outside → Handed C → Type 0
+RanAnswer (Ok text) ended o h = RanText text ended o h
+RanAnswer (Err load.Failed) ended o h = WroteLine (codes "desk failed\n") status.Desk ended o h
+RanAnswer (Err load.TooLong) ended o h = WroteLine (config_line setup.TooLong) status.Config ended o h
+RanAnswer (Err load.Memory) ended o h = HadNoMemory ended o h
+
+-- a plant was to be run by the configuration that a desk has, and this came of it
+pub record RanFile {C : Type 0} (ended : Ended) (o : Outside) (desk : DeskTold) (h : Handed C) : Type 0 where
+  pub answer : Result (List ℕ) LoadFault
+  pub may : MayAnswer desk answer
+  pub ran : RanAnswer answer ended o h
+  pub later : desk.faults_before ≤ desk.faults_after

@@ -1,0 +1,188 @@
+//! The run of a plant by the configuration that a desk has.
+ghost use Rattle.std.specs.Prelude.{◌≡◌, ◌≢◌, ◌≤◌, ℕ, List, [], Ok, map};
+ghost use Rattle.fsoe_io.specs.declared.status.Status.TheVariants as status;
+ghost use Rattle.file_run.specs.Ending.{Writes};
+ghost use Rattle.plant_conf.specs.declared.fault.ConfFault.TheVariants as fault;
+ghost use Rattle.plant_setup.specs.ConfigLine.{config_line};
+ghost use Rattle.plant_setup.specs.declared.fault.SetupFault.TheVariants as setup;
+ghost use Rattle.fsoe_tool.specs.Handed.{entry_seen};
+ghost use Rattle.fsoe_tool.specs.Plant.{RanFile, RanSaid, RanText};
+
+use black_channel::Channel;
+use fb_net::AppEntry;
+use file_run::write_report;
+use fsoe_io::{Desk, Ended, LineText, LoadFault, Sink, Source, Status};
+use plant_conf::{ConfFault, PlantConf, read_conf};
+use plant_run::{Journal, run_plant};
+use plant_setup::{SetupFault, set_up, write_config_line};
+use std::alloc::Global;
+
+/// The most bytes of a configuration.
+pub const MAX_CONFIG: usize = 262_144;
+
+/// How a run ends that has no memory to begin with.
+const NO_MEMORY: Ended = Ended {
+    status: Status::Memory,
+    place: 0,
+};
+
+/// Writes the line that says why a configuration can't be run. The run ends so, unless the write fails.
+fn refuse<K: Sink>(why: SetupFault, sink: &mut K) -> Ended
+    ensures writes { Writes 0 (config_line why) (record { status = status.Config; place = 0 }) result (record {
+      before = K.written sink.old;
+      after = K.written sink.new;
+      faults_before = K.faults sink.old;
+      faults_after = K.faults sink.new;
+    }) }
+    ensures later { K.faults sink.old ≤ K.faults sink.new }
+{
+    let mut line = LineText::new();
+    write_config_line(why, &mut line);
+    let ended = Ended {
+        status: Status::Config,
+        place: 0,
+    };
+    write_report(sink, line.bytes(), ended)
+}
+
+/// Writes the line that says why a text is no configuration; nothing where there was no memory to read it.
+fn refuse_text<K: Sink>(why: ConfFault, sink: &mut K) -> Ended
+    ensures memory { why ≡ fault.Memory → (result ≡ record { status = status.Memory; place = 0 }) × (sink.new ≡ sink.old) }
+    ensures writes { why ≢ fault.Memory → Writes 0 (config_line (setup.Conf why)) (record { status = status.Config; place = 0 }) result (record {
+      before = K.written sink.old;
+      after = K.written sink.new;
+      faults_before = K.faults sink.old;
+      faults_after = K.faults sink.new;
+    }) }
+    ensures later { K.faults sink.old ≤ K.faults sink.new }
+{
+    match why {
+        ConfFault::Memory => NO_MEMORY,
+        _ => refuse(SetupFault::Conf(why), sink),
+    }
+}
+
+/// Runs a plant of this configuration over its script, with the application and the channel that it names; or writes the line that says why it
+/// can't be run with what was handed in.
+fn run_conf<S: Source, K: Sink>(
+    alloc: Global,
+    mut conf: PlantConf,
+    source: &mut S,
+    sink: &mut K,
+    apps: Vec<AppEntry>,
+    channels: &mut Vec<Box<dyn Channel>>,
+    journal: &mut Journal,
+) -> Ended
+    requires empty { journal.old ≡ [] }
+    ensures ran { RanSaid (Ok conf) result
+        (record {
+          source = record { before = S.left source.old; after = S.left source.new; faults_before = S.faults source.old; faults_after = S.faults source.new };
+          sink = record { before = K.written sink.old; after = K.written sink.new; faults_before = K.faults sink.old; faults_after = K.faults sink.new };
+        })
+        (record {
+          apps = map (entry_seen (λ app. record { rule = (Application-box app).rule app.value; holds = (Application-box app).holds app.value; guards = (Application-box app).guards app.value })) apps.items;
+          name_of = λ channel. name channel;
+          tells = λ channel. told channel;
+          channels_before = channels.old.items;
+          channels_after = channels.new.items;
+          journal = journal.new;
+        }) }
+{
+    match set_up(&mut conf, apps, channels.as_slice()) {
+        Ok(setup) => {
+            let channel = &mut channels[setup.channel];
+            run_plant(
+                alloc,
+                &conf,
+                setup.app,
+                channel,
+                setup.spare,
+                source,
+                sink,
+                journal,
+            )
+        }
+        Err(why) => refuse(why, sink),
+    }
+}
+
+/// Runs a plant by the text of its configuration.
+fn run_text<S: Source, K: Sink>(
+    alloc: Global,
+    text: &[u8],
+    source: &mut S,
+    sink: &mut K,
+    apps: Vec<AppEntry>,
+    channels: &mut Vec<Box<dyn Channel>>,
+    journal: &mut Journal,
+) -> Ended
+    requires empty { journal.old ≡ [] }
+    ensures ran { RanText text.now result
+        (record {
+          source = record { before = S.left source.old; after = S.left source.new; faults_before = S.faults source.old; faults_after = S.faults source.new };
+          sink = record { before = K.written sink.old; after = K.written sink.new; faults_before = K.faults sink.old; faults_after = K.faults sink.new };
+        })
+        (record {
+          apps = map (entry_seen (λ app. record { rule = (Application-box app).rule app.value; holds = (Application-box app).holds app.value; guards = (Application-box app).guards app.value })) apps.items;
+          name_of = λ channel. name channel;
+          tells = λ channel. told channel;
+          channels_before = channels.old.items;
+          channels_after = channels.new.items;
+          journal = journal.new;
+        }) }
+{
+    match read_conf(alloc, text) {
+        Ok(conf) => run_conf(alloc, conf, source, sink, apps, channels, journal),
+        Err(why) => refuse_text(why, sink),
+    }
+}
+
+/// Runs a plant by the configuration that a desk has under this name.
+pub fn run_file<D: Desk, S: Source, K: Sink>(
+    alloc: Global,
+    file: &str,
+    desk: &mut D,
+    source: &mut S,
+    sink: &mut K,
+    apps: Vec<AppEntry>,
+    channels: &mut Vec<Box<dyn Channel>>,
+    journal: &mut Journal,
+) -> Ended
+    requires empty { journal.old ≡ [] }
+    ensures ran { RanFile result
+        (record {
+          source = record { before = S.left source.old; after = S.left source.new; faults_before = S.faults source.old; faults_after = S.faults source.new };
+          sink = record { before = K.written sink.old; after = K.written sink.new; faults_before = K.faults sink.old; faults_after = K.faults sink.new };
+        })
+        (record { text = D.holds desk.old file.now; faults_before = D.faults desk.old file.now; faults_after = D.faults desk.new file.now })
+        (record {
+          apps = map (entry_seen (λ app. record { rule = (Application-box app).rule app.value; holds = (Application-box app).holds app.value; guards = (Application-box app).guards app.value })) apps.items;
+          name_of = λ channel. name channel;
+          tells = λ channel. told channel;
+          channels_before = channels.old.items;
+          channels_after = channels.new.items;
+          journal = journal.new;
+        }) }
+    ensures others { (other : List ℕ) → other ≢ file.now → D.faults desk.new other ≡ D.faults desk.old other }
+{
+    match desk.load(file, MAX_CONFIG) {
+        Ok(text) => run_text(
+            alloc,
+            text.as_slice(),
+            source,
+            sink,
+            apps,
+            channels,
+            journal,
+        ),
+        Err(LoadFault::Failed) => {
+            let ended = Ended {
+                status: Status::Desk,
+                place: 0,
+            };
+            write_report(sink, b"desk failed\n", ended)
+        }
+        Err(LoadFault::TooLong) => refuse(SetupFault::TooLong, sink),
+        Err(LoadFault::Memory) => NO_MEMORY,
+    }
+}
