@@ -25,3 +25,4 @@ some_slots stage.Title before last h = absurd (h refl)
 some_slots stage.Size before last h = absurd (h refl)
 some_slots stage.Slots before last h = refl
 some_slots stage.Done before last h = refl
+some_slots stage.Refused before last h = absurd (h refl)

@@ -21,6 +21,7 @@ pub mod SentLength
 pub mod Set
 pub mod SomeReport
 pub mod Telling
+pub mod Tested
 pub mod ToldLines
 pub mod WithBytes
 pub mod Worked

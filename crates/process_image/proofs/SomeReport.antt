@@ -48,6 +48,7 @@ begun-all : (s : Stage) (before : List SlotHeader) (last : SlotHeader) → All I
 begun-all stage.Start before last h p = All-nil IsSound
 begun-all stage.Title before last h p = All-nil IsSound
 begun-all stage.Size before last h p = All-nil IsSound
+begun-all stage.Refused before last h p = All-nil IsSound
 begun-all stage.Slots before last h p = all-snoc IsSound before last h p
 begun-all stage.Done before last h p = all-snoc IsSound before last h p
 
@@ -88,6 +89,7 @@ line-taken stage.Size h text first fields s = chosen (bytes_eq first (codes "slo
 line-taken stage.Slots h text first fields s = either (bytes_eq first (codes "slot") && may_end h.last.own) (slot_taken h fields) (own_taken h text) AreSound (slot-taken h fields s) (own-taken h text s)
 line-taken stage.Start h text first fields s = tt
 line-taken stage.Done h text first fields s = tt
+line-taken stage.Refused h text first fields s = tt
 
 fields-taken : (h : ImageHeading) (text : List ℕ) (fields : List (List ℕ)) → AreSound h → IfOk (image_fields_taken h text fields) AreSound
 fields-taken h text [] s = tt
@@ -99,6 +101,7 @@ text-taken stage.Title h text s = fields-taken h text (fields_of text) s
 text-taken stage.Size h text s = fields-taken h text (fields_of text) s
 text-taken stage.Slots h text s = fields-taken h text (fields_of text) s
 text-taken stage.Done h text s = fields-taken h text (fields_of text) s
+text-taken stage.Refused h text s = fields-taken h text (fields_of text) s
 
 -- so when it is whole
 step-by : (done : Bool) (h : ImageHeading) (number : ℕ) (rest : List (Result (List ℕ) InputCause)) (later : Result (WholeHeaderOf ImageHeading) Stop) → AreSound h → IfOk later (λ whole. AreSound whole.heading)

@@ -12,4 +12,5 @@ pub mod Sound
 pub mod Standing
 pub mod Telling
 pub mod Steps
+pub mod Tested
 pub mod Worked

@@ -14,6 +14,7 @@ own_left stage.Title last = 1
 own_left stage.Size last = 0
 own_left stage.Slots last = lines_left last.own
 own_left stage.Done last = lines_left last.own
+own_left stage.Refused last = 0
 
 -- at most 1,032 lines are those of each slot that is still to come
 abbrev pub image_lines_left : ImageHeading → ℕ

@@ -1,11 +1,13 @@
 //! The header of images, line by line.
-ghost use Rattle.std.specs.Prelude.{◌≡◌, ◌≤◌, ◌<◌, ◌⊎◌, [], ◌∷◌, ◌++◌, IsTrue, IfOk, OnOk, length, map};
+ghost use Rattle.std.specs.Prelude.{◌≡◌, ◌≤◌, ◌<◌, ◌⊎◌, [], ◌∷◌, ◌++◌, IsTrue, IfOk, OnOk, None, length, map};
 ghost use Rattle.std.specs.List.{AllZip, list_any};
 ghost use Rattle.schedule_file.specs.Field.{fields_after, fields_of};
 ghost use Rattle.schedule_file.specs.Fields.{Becomes};
+ghost use Rattle.schedule_file.specs.NodeHeader.{may_end};
+ghost use Rattle.process_image.specs.Fault.{first_fault};
 ghost use Rattle.process_image.specs.Header.{image_heading_new, image_heading_is_whole, image_heading_after, image_fields_taken, image_title_taken, size_line, slot_line, slot_begun, size_taken, slot_taken, own_taken, slots_of, fits_images, heading_spans, end_of, is_size};
 ghost use Rattle.process_image.specs.LinesLeft.{image_lines_left};
-ghost use Rattle.process_image.specs.Places.{overlap};
+ghost use Rattle.process_image.specs.Places.{overlap, plan_of};
 ghost use Rattle.process_image.specs.Report.{IsMadeOf, end_terms};
 
 use crate::event_line::SlotEnd;
@@ -37,6 +39,8 @@ pub enum Stage {
     Slots,
     /// `go`.
     Done,
+    /// A line of the last slot that was refused.
+    Refused,
 }
 
 /// A slot as its lines say it, as far as they are read.
@@ -141,6 +145,7 @@ pub struct ImageHeader {
 impl Model for ImageHeader {
     ghost use Rattle.std.specs.Prelude.{◌≤◌, ◌<◌, length, vec_capacity, vec_len};
     ghost use Rattle.process_image.specs.Header.{ImageHeading};
+    ghost use Rattle.process_image.specs.Tested.{IsTested};
     ghost use Rattle.process_image.specs.declared.header.TheConstants.{MOST_SIZE};
     ghost use Rattle.process_image.specs.declared.spans.TheConstants.{MOST_SLOTS};
 
@@ -155,7 +160,17 @@ impl Model for ImageHeader {
           last = h.last;
         } };
 
-    ghost invariant = { λ h. (MOST_SLOTS ≤ vec_capacity h.before) × (vec_len h.before < MOST_SLOTS) × (h.size_out ≤ MOST_SIZE) };
+    ghost invariant = { λ h.
+        (MOST_SLOTS ≤ vec_capacity h.before)
+        × (vec_len h.before < MOST_SLOTS)
+        × (h.size_out ≤ MOST_SIZE)
+        × IsTested (record {
+          stage = h.stage;
+          size_in = h.size_in;
+          size_out = h.size_out;
+          before = h.before.items;
+          last = h.last;
+        }) };
 }
 
 /// Whether an image may have so many bytes.
@@ -295,13 +310,14 @@ impl ImageHeader {
     {
         match self.stage {
             Stage::Slots | Stage::Done => self.before.len() as u16 + 1,
-            Stage::Start | Stage::Title | Stage::Size => 0,
+            Stage::Start | Stage::Title | Stage::Size | Stage::Refused => 0,
         }
     }
 
     /// Takes a `slot` line.
     fn take_slot(&mut self, fields: Option<&[u8]>) -> Result<(), LineCause>
-        requires { (self.old.stage ≡ Stage.Size) ⊎ (self.old.stage ≡ Stage.Slots) }
+        requires turn { (self.old.stage ≡ Stage.Size) ⊎ (self.old.stage ≡ Stage.Slots) }
+        requires before { self.old.stage ≡ Stage.Slots → IsTrue (may_end self.old.last.own) }
         ensures next { Becomes result self.new (slot_taken self.old (fields_after fields.entry)) }
         ensures fewer { OnOk result (image_lines_left self.new < image_lines_left self.old) }
     {
@@ -315,13 +331,15 @@ impl ImageHeader {
 
     /// Goes on with this slot.
     fn begin_slot(&mut self, slot: SlotHeader)
-        requires { length (slots_of self.old) < MOST_SLOTS }
+        requires room { length (slots_of self.old) < MOST_SLOTS }
+        requires before { self.old.stage ≡ Stage.Slots → IsTrue (may_end self.old.last.own) }
+        requires begun { slot ≡ slot_begun slot.at_in slot.at_out }
         ensures { self.new ≡ record self.old { stage = Stage.Slots; before = slots_of self.old; last = slot } }
     {
         let last = mem::replace(&mut self.last, slot);
         match self.stage {
             Stage::Slots | Stage::Done => self.before.push_reserved(last),
-            Stage::Start | Stage::Title | Stage::Size => self.before.clear(),
+            Stage::Start | Stage::Title | Stage::Size | Stage::Refused => self.before.clear(),
         }
         self.stage = Stage::Slots;
     }
@@ -332,6 +350,8 @@ impl ImageHeader {
         ensures next { Becomes result self.new (own_taken self.old line.now) }
         ensures fewer { OnOk result (image_lines_left self.new < image_lines_left self.old) }
     {
+        // So it stays where the line isn't taken: the last slot may be one then that doesn't fit.
+        self.stage = Stage::Refused;
         let done = self.last.own.node_line(line)?;
         if self.last.own.is_end_line() && !self.fits() {
             return Err(LineCause::Range);
@@ -364,10 +384,12 @@ impl ImageHeader {
         ends
     }
 
-    /// The slots, in their order, each with a new end that is set to what its lines say.
+    /// The slots, in their order, each with a new end that is set to what its lines say. Those of a whole header have no fault: each was tested
+    /// at its `master` or `slave` line.
     pub(crate) fn slots(&self, alloc: Global) -> Result<Vec<Slot>, Memory>
         ensures made { IfOk result (λ slots. AllZip IsMadeOf (slots_of self.now) slots.items) }
         ensures most { IfOk result (λ slots. length slots.items ≤ MOST_SLOTS) }
+        ensures fit { IsTrue (image_heading_is_whole self.now) → IfOk result (λ slots. first_fault (plan_of self.now.size_in self.now.size_out slots.items) ≡ None) }
     {
         let Ok(mut slots) = Vec::with_capacity(alloc, usize::from(self.count())) else {
             return Err(Memory);

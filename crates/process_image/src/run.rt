@@ -10,6 +10,7 @@ ghost use Rattle.process_image.specs.declared.waiting.TheConstants.{MOST_TEXT};
 use crate::event::{ImageEvent, ImageLine, MOST_EVENTS};
 use crate::event_line::{SlotEnd, read_image_line};
 use crate::event_run;
+use crate::fault::SlotFault;
 use crate::header::ImageHeader;
 use crate::images::Images;
 use crate::spans::MOST_SLOTS;
@@ -252,8 +253,12 @@ impl Machine for ImageRun {
         let slots = header.slots(*alloc)?;
         let count = slots.len();
         let (size_in, size_out) = header.sizes();
-        let Ok(images) = Images::new(size_in, size_out, slots) else {
-            return Err(Memory);
+        let images = match Images::new(size_in, size_out, slots) {
+            Ok(images) => images,
+            Err(SlotFault::Memory) => return Err(Memory),
+            Err(SlotFault::TooMany | SlotFault::Bounds { .. } | SlotFault::Overlap { .. }) => {
+                unreachable!()
+            }
         };
         Ok(ImageRun {
             images,

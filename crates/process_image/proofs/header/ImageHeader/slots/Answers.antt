@@ -1,10 +1,12 @@
-use Rattle.std.proofs.Common.{◌≡◌, ◌∷◌, ◌++◌, [], List, length, ap, sym, ◌∙◌, arith}
+use Rattle.std.proofs.Common.{◌≡◌, ◌∷◌, ◌++◌, [], List, length, ap, sym, subst, ◌∙◌, arith}
 use Rattle.process_image.specs.Header.{ImageHeading, slots_of}
 use Rattle.process_image.specs.Report.{IsMadeOf}
 use Rattle.process_image.specs.declared.header.SlotHeader.{SlotHeader}
 use Rattle.std.proofs.lemmas.Slice.Zip.{AllZip-long}
 use Rattle.std.specs.List.{AllZip}
+use Rattle.process_image.specs.Tested.{IsTested}
 use Rattle.process_image.proofs.Headers.{some_slots}
+use Rattle.process_image.proofs.Tested.{whole_fit}
 use Rattle.process_image.proofs.Zips.{zip_more, zip_last, zip_whole}
 use Rattle.process_image.proofs.header.ImageHeader.slots.Goals as goal
 
@@ -26,3 +28,7 @@ returns-clause-most c =
     let made = returns-clause-made c in
     let n = AllZip-long IsMadeOf (slots_of c.args.self.now) c.push-2.new.slots.items made in
     omega (arith, n, c.count.ensures.value, c.count.ensures.most)
+
+pub returns-clause-fit : goal.returns-clause-fit
+returns-clause-fit c = λ whole.
+    whole_fit c.args.self.now c.push-2.new.slots.items (subst IsTested c.self.view_is c.self.invariant.3) (returns-clause-made c) (returns-clause-most c) whole

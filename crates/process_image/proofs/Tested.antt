@@ -1,0 +1,291 @@
+-- The slots of a header fit its images, line by line.
+use Rattle.std.proofs.Common.{◌≡◌, ◌≤◌, ◌⊎◌, inl, inr, ℕ, suc, List, [], ◌∷◌, ◌++◌, Bool, true, false, length, map, refl, sym, ap, ap₂, subst, ◌∙◌}
+use Rattle.std.specs.Prelude.{◌&&◌, ◌||◌, not, IsTrue, IfOk, Option, Some, None, Result, Ok, Err, if◌then◌else◌}
+use Rattle.std.specs.List.{AllZip, list_any}
+use Rattle.std.proofs.lemmas.Bool.{false≢true}
+use Rattle.std.proofs.lemmas.Result.{IfOk-weaker}
+use Rattle.std.specs.Str.{bytes_eq}
+use Rattle.fsoe_base.specs.Lengths.{frame_len}
+use Rattle.fsoe_base.specs.declared.command.End.{End}
+use Rattle.fsoe_base.specs.declared.command.End.TheVariants as side
+use Rattle.schedule_file.specs.EventLine.{delivered_len}
+use Rattle.schedule_file.specs.Field.{fields_of}
+use Rattle.schedule_file.specs.Fields.{◌>>=◌, map_ok, no_field, one_hex_field}
+use Rattle.schedule_file.specs.Header.{Heading, heading_after, heading_is_whole, heading_with, fields_taken, profile_given, profile_taken, title_taken}
+use Rattle.schedule_file.specs.HeaderKind.{title_of}
+use Rattle.schedule_file.specs.HeaderLine.{header_line, lengths_line, master_line, profile_line, slave_line, rule_line, range_line}
+use Rattle.schedule_file.specs.HeaderPart.{master_with_app, slave_with_bytes, slave_with_pairs}
+use Rattle.schedule_file.specs.Input.{own_length}
+use Rattle.schedule_file.specs.NodeHeader.{kind_after, node_heading_after, is_end_line}
+use Rattle.schedule_file.specs.Place.{admitted, header_word_of, is_last, is_start, may_stand}
+use Rattle.schedule_file.specs.declared.header_kind.HeaderKind.{HeaderKind}
+use Rattle.schedule_file.specs.declared.header_line.HeaderLine.{HeaderLine}
+use Rattle.schedule_file.specs.declared.header_line.HeaderLine.TheVariants as says
+use Rattle.schedule_file.specs.declared.header_line.LengthsLine.{LengthsLine}
+use Rattle.schedule_file.specs.declared.line_cause.LineCause.{LineCause}
+use Rattle.schedule_file.specs.declared.line_cause.LineCause.TheVariants as cause
+use Rattle.schedule_file.specs.declared.place.Place.{Place}
+use Rattle.schedule_file.specs.declared.place.Place.TheVariants as place
+use Rattle.schedule_file.specs.declared.place.Word.{Word}
+use Rattle.schedule_file.specs.declared.place.Word.TheVariants as word
+use Rattle.end_model.specs.Setup.{Setup, OfMaster, OfSlave, sends, receives}
+use Rattle.end_core.specs.Core.{setup_of}
+use Rattle.process_image.specs.Fault.{first_outside, first_with, pair_or, first_pair, first_fault}
+use Rattle.process_image.specs.Header.{ImageHeading, end_of, end_of_kind, heading_spans, fits_images, image_heading_is_whole, is_done, slots_begun, slots_of}
+use Rattle.process_image.specs.Places.{lie_inside, overlap, places_from, plan_of, slot_spans}
+use Rattle.process_image.specs.Report.{IsEndOf, IsMadeOf}
+use Rattle.process_image.specs.Tested.{IsApart, Fit, is_placed, and_placed, tested_by, IsTested}
+use Rattle.process_image.specs.declared.header.SlotHeader.{SlotHeader}
+use Rattle.process_image.specs.declared.header.Stage.{Stage}
+use Rattle.process_image.specs.declared.header.Stage.TheVariants as stage
+use Rattle.process_image.specs.declared.slot.Slot.{Slot}
+use Rattle.process_image.specs.declared.spans.Spans.{Spans}
+use Rattle.process_image.proofs.Faults.{tested}
+
+-- the tests of a slot
+or-parts : (a b : Bool) → (a || b) ≡ false → (a ≡ false) × (b ≡ false)
+or-parts true b h = absurd (cc h)
+or-parts false b h = (refl, h)
+
+and-parts : (a b : Bool) → (a && not b) ≡ true → (a ≡ true) × (b ≡ false)
+and-parts true true h = absurd (cc h)
+and-parts true false h = (refl, refl)
+and-parts false b h = absurd (cc h)
+
+-- one slot more that was tested
+apart-push : (s : Spans) (ss : List SlotHeader) (t : SlotHeader) → IsApart s (map heading_spans ss) → overlap s (heading_spans t) ≡ false → IsApart s (map heading_spans (ss ++ t ∷ []))
+apart-push s [] t a h = (h, tt)
+apart-push s (u ∷ ss) t a h = (a.0, apart-push s ss t a.1 h)
+
+fit-push : (si so : ℕ) (ss : List SlotHeader) (t : SlotHeader) → Fit si so (map heading_spans ss) → lie_inside si so (heading_spans t) ≡ true → list_any (λ s. overlap (heading_spans s) (heading_spans t)) ss ≡ false
+    → Fit si so (map heading_spans (ss ++ t ∷ []))
+fit-push si so [] t f inside none = (inside, tt, tt)
+fit-push si so (s ∷ ss) t f inside none =
+    let h = or-parts (overlap (heading_spans s) (heading_spans t)) (list_any (λ s. overlap (heading_spans s) (heading_spans t)) ss) none in
+    (f.0, apart-push (heading_spans s) ss t f.1 h.0, fit-push si so ss t f.2 inside h.1)
+
+-- and those before it
+apart-front : (s : Spans) (ss : List SlotHeader) (t : SlotHeader) → IsApart s (map heading_spans (ss ++ t ∷ [])) → IsApart s (map heading_spans ss)
+apart-front s [] t a = tt
+apart-front s (u ∷ ss) t a = (a.0, apart-front s ss t a.1)
+
+fit-front : (si so : ℕ) (ss : List SlotHeader) (t : SlotHeader) → Fit si so (map heading_spans (ss ++ t ∷ [])) → Fit si so (map heading_spans ss)
+fit-front si so [] t f = tt
+fit-front si so (s ∷ ss) t f = (f.0, apart-front (heading_spans s) ss t f.1, fit-front si so ss t f.2)
+
+same-spans : (ss : List SlotHeader) (t u : SlotHeader) → heading_spans t ≡ heading_spans u → map heading_spans (ss ++ t ∷ []) ≡ map heading_spans (ss ++ u ∷ [])
+same-spans [] t u h = ap (λ (s : Spans). s ∷ []) h
+same-spans (s ∷ ss) t u h = ap (λ (later : List Spans). heading_spans s ∷ later) (same-spans ss t u h)
+
+-- the last slot counts, or doesn't
+fit-before : (si so : ℕ) (b : Bool) (ss : List SlotHeader) (t : SlotHeader) → Fit si so (map heading_spans (and_placed b ss t)) → Fit si so (map heading_spans ss)
+fit-before si so true ss t f = fit-front si so ss t f
+fit-before si so false ss t f = f
+
+fit-either : (si so : ℕ) (b : Bool) (ss : List SlotHeader) (t : SlotHeader) → Fit si so (map heading_spans (ss ++ t ∷ [])) → Fit si so (map heading_spans (and_placed b ss t))
+fit-either si so true ss t f = f
+fit-either si so false ss t f = fit-front si so ss t f
+
+fit-placed : (si so : ℕ) (b : Bool) (ss : List SlotHeader) (t : SlotHeader) → b ≡ true → Fit si so (map heading_spans (and_placed b ss t)) → Fit si so (map heading_spans (ss ++ t ∷ []))
+fit-placed si so true ss t h f = f
+fit-placed si so false ss t h f = absurd (false≢true h)
+
+-- what a line makes of an end: it places it; or it isn't placed yet; or it was, and stays there
+abbrev Goes : Heading → Heading → Type 0
+Goes h h' = (is_end_line h'.place ≡ true) ⊎ ((is_placed h'.place ≡ false) ⊎ ((is_placed h.place ≡ true) × (h'.lengths ≡ h.lengths) × (h'.kind ≡ h.kind)))
+
+-- a line with this word comes after the one that places the end
+abbrev is-later : Word → Bool
+is-later word.Lengths = false
+is-later word.Master = false
+is-later word.Slave = false
+is-later other = true
+
+placed-by : (kind : HeaderKind) (p : Place) (w : Word) → is-later w ≡ true → IsTrue (may_stand kind p w) → is_placed p ≡ true
+placed-by kind place.Title word.Lengths l h = absurd (false≢true l)
+placed-by kind place.Lengths word.Master l h = absurd (false≢true l)
+placed-by kind place.Lengths word.Slave l h = absurd (false≢true l)
+placed-by kind place.Start w l h = absurd (false≢true h)
+placed-by kind place.Title w l h = absurd (false≢true h)
+placed-by kind place.Lengths w l h = absurd (false≢true h)
+placed-by kind p w l h = refl
+
+each-taken : {A : Type 0} (r : Result A LineCause) (f : A → HeaderLine) (given : Result (Unit {0}) LineCause) (h : Heading) (P : Heading → Type 0) → ((x : A) → IfOk (heading_with h (f x)) P)
+    → IfOk (map_ok f r >>= (λ line. given >>= (λ it. heading_with h line))) P
+each-taken (Ok x) f (Ok it) h P all = all x
+each-taken (Ok x) f (Err e) h P all = tt
+each-taken (Err e) f given h P all = tt
+
+mapped : {A B : Type 0} (r : Result A LineCause) (f : A → B) (P : B → Type 0) → ((x : A) → P (f x)) → IfOk (map_ok f r) P
+mapped (Ok x) f P all = all x
+mapped (Err e) f P all = tt
+
+profile-goes : (p : Place) (h : Heading) (n : ℕ) → is_placed h.place ≡ true → Goes h (profile_taken p h n)
+profile-goes place.Slave h n is = inr (inr (is, refl, refl))
+profile-goes other h n is = inr (inr (is, refl, refl))
+
+word-goes : (h : Heading) (w : Word) (fields : List (List ℕ)) → IsTrue (may_stand h.kind h.place w) → IfOk (header_line w fields >>= (λ line. profile_given h w >>= (λ it. heading_with h line))) (Goes h)
+word-goes h word.Lengths fields stands = each-taken (lengths_line fields) says.Lengths (profile_given h word.Lengths) h (Goes h) (λ line. inr (inl refl))
+word-goes h word.Master fields stands = each-taken (master_line fields) says.Master (profile_given h word.Master) h (Goes h) (λ line. inl refl)
+word-goes h word.Slave fields stands = each-taken (slave_line fields) says.Slave (profile_given h word.Slave) h (Goes h) (λ line. inl refl)
+word-goes h word.Profile fields stands = each-taken (profile_line fields) says.Profile (profile_given h word.Profile) h (Goes h) (λ n. profile-goes h.place h n (placed-by h.kind h.place word.Profile refl stands))
+word-goes h word.App fields stands =
+    each-taken (one_hex_field 256 fields) says.App (profile_given h word.App) h (Goes h)
+    (λ bytes. mapped (master_with_app h.master bytes) (λ master. record h { place = place.App; master = master }) (Goes h) (λ master. inr (inr (placed-by h.kind h.place word.App refl stands, refl, refl))))
+word-goes h word.Rule fields stands =
+    each-taken (rule_line fields) says.Rule (profile_given h word.Rule) h (Goes h) (λ line. inr (inr (placed-by h.kind h.place word.Rule refl stands, refl, refl)))
+word-goes h word.Bytes fields stands =
+    each-taken (one_hex_field 256 fields) says.Bytes (profile_given h word.Bytes) h (Goes h)
+    (λ bytes. mapped (slave_with_bytes h.slave bytes) (λ slave. record h { place = place.RuleExact; slave = slave }) (Goes h) (λ slave. inr (inr (placed-by h.kind h.place word.Bytes refl stands, refl, refl))))
+word-goes h word.Range fields stands =
+    each-taken (range_line fields) says.Range (profile_given h word.Range) h (Goes h)
+    (λ pairs. mapped (slave_with_pairs h.slave pairs) (λ slave. record h { place = place.RuleRanges; slave = slave }) (Goes h) (λ slave. inr (inr (placed-by h.kind h.place word.Range refl stands, refl, refl))))
+word-goes h word.Go fields stands =
+    each-taken (no_field fields) (λ none. says.Go) (profile_given h word.Go) h (Goes h) (λ none. inr (inr (placed-by h.kind h.place word.Go refl stands, refl, refl)))
+
+allowed : (b : Bool) (w : Word) (next : Word → Result Heading LineCause) (P : Heading → Type 0) → (b ≡ true → IfOk (next w) P) → IfOk ((if b then Ok w else Err cause.Header) >>= next) P
+allowed true w next P h = h refl
+allowed false w next P h = tt
+
+admitted-goes : (h : Heading) (o : Option Word) (fields : List (List ℕ))
+    → IfOk (admitted h.kind h.place o >>= (λ w. header_line w fields >>= (λ line. profile_given h w >>= (λ it. heading_with h line)))) (Goes h)
+admitted-goes h None fields = tt
+admitted-goes h (Some w) fields =
+    allowed (may_stand h.kind h.place w) w (λ w. header_line w fields >>= (λ line. profile_given h w >>= (λ it. heading_with h line))) (Goes h) (λ stands. word-goes h w fields stands)
+
+fields-goes : (h : Heading) (fields : List (List ℕ)) → IfOk (fields_taken h fields) (Goes h)
+fields-goes h [] = tt
+fields-goes h (first ∷ fields) = admitted-goes h (header_word_of first) fields
+
+titled : (h : Heading) (b : Bool) → IfOk (if b then Ok (record h { place = place.Title }) else Err cause.Header) (Goes h)
+titled h true = inr (inl refl)
+titled h false = tt
+
+either : {A : Type 0} (b : Bool) (r t : Result A LineCause) (P : A → Type 0) → IfOk r P → IfOk t P → IfOk (if b then r else t) P
+either true r t P h i = h
+either false r t P h i = i
+
+after-goes : (h : Heading) (text : List ℕ) → IfOk (heading_after h text) (Goes h)
+after-goes h text = either (is_start h.place) (title_taken h text) (fields_taken h (fields_of text)) (Goes h) (titled h (bytes_eq text (title_of h.kind))) (fields-goes h (fields_of text))
+
+kind-stays : (p : Place) (fields : List (List ℕ)) (kind : HeaderKind) → is_placed p ≡ true → kind_after p fields kind ≡ kind
+kind-stays place.Lengths fields kind h = absurd (false≢true h)
+kind-stays p fields kind h = refl
+
+goes-on : (h : Heading) (kind : HeaderKind) (h' : Heading) → (is_placed h.place ≡ true → kind ≡ h.kind) → Goes (record h { kind = kind }) h' → Goes h h'
+goes-on h kind h' same (inl end) = inl end
+goes-on h kind h' same (inr (inl not_yet)) = inr (inl not_yet)
+goes-on h kind h' same (inr (inr stays)) = inr (inr (stays.0, stays.1, stays.2 ∙ same stays.0))
+
+node-goes : (h : Heading) (text : List ℕ) → IfOk (node_heading_after h text) (Goes h)
+node-goes h text =
+    let kind : HeaderKind = kind_after h.place (fields_of text) h.kind in
+    IfOk-weaker (node_heading_after h text) (Goes (record h { kind = kind })) (Goes h) (λ h' goes. goes-on h kind h' (λ placed. kind-stays h.place (fields_of text) h.kind placed) goes) (after-goes (record h { kind = kind }) text)
+
+-- the bytes of frames go by the lengths and the kind of a header
+abbrev spans-by : ℕ → ℕ → LengthsLine → End → Spans
+spans-by at_in at_out l side.Master = record { at_in = at_in; len_in = frame_len l.slave; at_out = at_out; len_out = frame_len l.master }
+spans-by at_in at_out l side.Slave = record { at_in = at_in; len_in = frame_len l.master; at_out = at_out; len_out = frame_len l.slave }
+
+spans-are : (at_in at_out : ℕ) (own : Heading) (end : End)
+    → record { at_in = at_in; len_in = delivered_len (own_length own) end; at_out = at_out; len_out = frame_len (own_length own end) } ≡ spans-by at_in at_out own.lengths end
+spans-are at_in at_out own side.Master = refl
+spans-are at_in at_out own side.Slave = refl
+
+spans-stay : (s : SlotHeader) (own : Heading) → own.lengths ≡ s.own.lengths → own.kind ≡ s.own.kind → heading_spans (record s { own = own }) ≡ heading_spans s
+spans-stay s own l k =
+    spans-are s.at_in s.at_out own (end_of_kind own.kind)
+    ∙ ap₂ (λ (l : LengthsLine) (kind : HeaderKind). spans-by s.at_in s.at_out l (end_of_kind kind)) l k
+    ∙ sym (spans-are s.at_in s.at_out s.own (end_of s))
+
+end-placed : (p : Place) → is_end_line p ≡ true → is_placed p ≡ true
+end-placed place.Start h = absurd (false≢true h)
+end-placed place.Title h = absurd (false≢true h)
+end-placed place.Lengths h = absurd (false≢true h)
+end-placed p h = refl
+
+last-placed : (p : Place) → is_last p ≡ true → is_placed p ≡ true
+last-placed place.Start h = absurd (false≢true h)
+last-placed place.Title h = absurd (false≢true h)
+last-placed place.Lengths h = absurd (false≢true h)
+last-placed p h = refl
+
+-- a line of the last slot
+fits-on : (si so : ℕ) (ss : List SlotHeader) (last : SlotHeader) (own : Heading) → Fit si so (map heading_spans (and_placed (is_placed last.own.place) ss last)) → Goes last.own own
+    → (is_end_line own.place ≡ true → (lie_inside si so (heading_spans (record last { own = own })) && not (list_any (λ t. overlap (heading_spans t) (heading_spans (record last { own = own }))) ss)) ≡ true)
+    → Fit si so (map heading_spans (and_placed (is_placed own.place) ss (record last { own = own })))
+fits-on si so ss last own f (inl end) fits =
+    let t : SlotHeader = record last { own = own } in
+    let h = and-parts (lie_inside si so (heading_spans t)) (list_any (λ s. overlap (heading_spans s) (heading_spans t)) ss) (fits end) in
+    fit-either si so (is_placed own.place) ss t (fit-push si so ss t (fit-before si so (is_placed last.own.place) ss last f) h.0 h.1)
+fits-on si so ss last own f (inr (inl not_yet)) fits =
+    subst (λ b. Fit si so (map heading_spans (and_placed b ss (record last { own = own })))) (sym not_yet) (fit-before si so (is_placed last.own.place) ss last f)
+fits-on si so ss last own f (inr (inr stays)) fits =
+    let t : SlotHeader = record last { own = own } in
+    fit-either si so (is_placed own.place) ss t
+    (subst (Fit si so) (same-spans ss last t (sym (spans-stay last own stays.1 stays.2))) (fit-placed si so (is_placed last.own.place) ss last stays.0 f))
+
+tested-at : (si so : ℕ) (done : Bool) (ss : List SlotHeader) (t : SlotHeader) → (done ≡ true → is_placed t.own.place ≡ true) → Fit si so (map heading_spans (and_placed (is_placed t.own.place) ss t))
+    → Fit si so (map heading_spans (tested_by (if done then stage.Done else stage.Slots) ss t))
+tested-at si so true ss t placed f = fit-placed si so (is_placed t.own.place) ss t (placed refl) f
+tested-at si so false ss t placed f = f
+
+pub own_tested : (h : ImageHeading) (text : List ℕ) (own : Heading) (done : Bool) → h.stage ≡ stage.Slots → IsTested h → node_heading_after h.last.own text ≡ Ok own → done ≡ heading_is_whole own
+    → (is_end_line own.place ≡ true → fits_images h (record h.last { own = own }) ≡ true) → IsTested (record h { stage = if done then stage.Done else stage.Slots; last = record h.last { own = own } })
+own_tested h text own done slots tested after whole fits =
+    let old : Fit h.size_in h.size_out (map heading_spans (tested_by stage.Slots h.before h.last)) = subst (λ s. Fit h.size_in h.size_out (map heading_spans (tested_by s h.before h.last))) slots tested in
+    tested-at h.size_in h.size_out done h.before (record h.last { own = own }) (λ d. last-placed own.place (sym whole ∙ d))
+    (fits-on h.size_in h.size_out h.before h.last own old (subst (λ r. IfOk r (Goes h.last.own)) after (node-goes h.last.own text)) fits)
+
+-- slots that are made as a header says take the bytes that it says
+made-by : (s : SlotHeader) (t : Setup) → IsEndOf s t → (frame_len (receives t) ≡ delivered_len (own_length s.own) (end_of s)) × (frame_len (sends t) ≡ frame_len (own_length s.own (end_of s)))
+made-by s (OfMaster ms) is = (ap frame_len is.1.1 ∙ ap (delivered_len (own_length s.own)) (sym is.0), ap frame_len (is.1.0 ∙ ap (own_length s.own) (sym is.0)))
+made-by s (OfSlave ss) is = (ap frame_len is.1.0 ∙ ap (delivered_len (own_length s.own)) (sym is.0), ap frame_len (is.1.1 ∙ ap (own_length s.own) (sym is.0)))
+
+made-spans : (s : SlotHeader) (slot : Slot) → IsMadeOf s slot → slot_spans slot ≡ heading_spans s
+made-spans s slot m = let e = made-by s (setup_of slot.core) m.end_is in rw (m.at_in_is, m.at_out_is, e.0, e.1) refl
+
+-- so no test finds a fault
+none-outside : (si so n : ℕ) (ss : List SlotHeader) (slots : List Slot) → Fit si so (map heading_spans ss) → AllZip IsMadeOf ss slots → first_outside si so (places_from n slots) ≡ None
+none-outside si so n [] [] f z = refl
+none-outside si so n [] (slot ∷ slots) f z = absurd z
+none-outside si so n (s ∷ ss) [] f z = absurd z
+none-outside si so n (s ∷ ss) (slot ∷ slots) f z =
+    let inside : lie_inside si so (slot_spans slot) ≡ true = ap (lie_inside si so) (made-spans s slot z.0) ∙ f.0 in
+    ap (λ b. if b then first_outside si so (places_from (suc n) slots) else Some n) inside ∙ none-outside si so (suc n) ss slots f.2 z.1
+
+none-with : (s : Spans) (n : ℕ) (ss : List SlotHeader) (slots : List Slot) → IsApart s (map heading_spans ss) → AllZip IsMadeOf ss slots → first_with s (places_from n slots) ≡ None
+none-with s n [] [] a z = refl
+none-with s n [] (slot ∷ slots) a z = absurd z
+none-with s n (t ∷ ss) [] a z = absurd z
+none-with s n (t ∷ ss) (slot ∷ slots) a z =
+    let apart : overlap s (slot_spans slot) ≡ false = ap (overlap s) (made-spans t slot z.0) ∙ a.0 in
+    ap (λ b. if b then Some n else first_with s (places_from (suc n) slots)) apart ∙ none-with s (suc n) ss slots a.1 z.1
+
+none-pair : (si so n : ℕ) (ss : List SlotHeader) (slots : List Slot) → Fit si so (map heading_spans ss) → AllZip IsMadeOf ss slots → first_pair (places_from n slots) ≡ None
+none-pair si so n [] [] f z = refl
+none-pair si so n [] (slot ∷ slots) f z = absurd z
+none-pair si so n (s ∷ ss) [] f z = absurd z
+none-pair si so n (s ∷ ss) (slot ∷ slots) f z =
+    let alone : first_with (slot_spans slot) (places_from (suc n) slots) ≡ None =
+    ap (λ (t : Spans). first_with t (places_from (suc n) slots)) (made-spans s slot z.0) ∙ none-with (heading_spans s) (suc n) ss slots f.1 z.1
+    in
+    ap (λ (o : Option ℕ). pair_or n o (first_pair (places_from (suc n) slots))) alone ∙ none-pair si so (suc n) ss slots f.2 z.1
+
+none-at : (si so : ℕ) (ss : List SlotHeader) (slots : List Slot) → Fit si so (map heading_spans ss) → AllZip IsMadeOf ss slots → length slots ≤ 64 → first_fault (plan_of si so slots) ≡ None
+none-at si so ss slots f z few =
+    sym (tested si so slots None few (sym (none-outside si so 1 ss slots f z))) ∙ none-pair si so 1 ss slots f z
+
+whole-tested : (s : Stage) (ss : List SlotHeader) (last : SlotHeader) → is_done s ≡ true → tested_by s ss last ≡ slots_begun s ss last
+whole-tested stage.Done ss last h = refl
+whole-tested stage.Start ss last h = absurd (false≢true h)
+whole-tested stage.Title ss last h = absurd (false≢true h)
+whole-tested stage.Size ss last h = absurd (false≢true h)
+whole-tested stage.Slots ss last h = absurd (false≢true h)
+whole-tested stage.Refused ss last h = absurd (false≢true h)
+
+-- the slots of a whole header have no fault
+pub whole_fit : (h : ImageHeading) (slots : List Slot) → IsTested h → AllZip IsMadeOf (slots_of h) slots → length slots ≤ 64 → IsTrue (image_heading_is_whole h) → first_fault (plan_of h.size_in h.size_out slots) ≡ None
+whole_fit h slots t z few whole =
+    none-at h.size_in h.size_out (slots_of h) slots
+    (subst (λ (ss : List SlotHeader). Fit h.size_in h.size_out (map heading_spans ss)) (whole-tested h.stage h.before h.last whole) t) z few

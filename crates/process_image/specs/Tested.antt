@@ -1,0 +1,42 @@
+-- Which slots of a header were tested, and that there are images with them.
+use Rattle.std.specs.Prelude.{◌≡◌, ℕ, Bool, true, false, List, [], ◌∷◌, ◌++◌, map}
+use Rattle.schedule_file.specs.declared.place.Place.{Place}
+use Rattle.schedule_file.specs.declared.place.Place.TheVariants as place
+use Rattle.process_image.specs.Header.{ImageHeading, heading_spans}
+use Rattle.process_image.specs.Places.{lie_inside, overlap}
+use Rattle.process_image.specs.declared.header.SlotHeader.{SlotHeader}
+use Rattle.process_image.specs.declared.header.Stage.{Stage}
+use Rattle.process_image.specs.declared.header.Stage.TheVariants as stage
+use Rattle.process_image.specs.declared.spans.Spans.{Spans}
+
+-- frames that take these bytes share none with any of the others
+abbrev pub IsApart : Spans → List Spans → Type 0
+IsApart s [] = Unit {0}
+IsApart s (t ∷ later) = (overlap s t ≡ false) × IsApart s later
+
+-- frames of slots lie inside images of these sizes, and those of no two slots share a byte
+abbrev pub Fit : ℕ → ℕ → List Spans → Type 0
+Fit size_in size_out [] = Unit {0}
+Fit size_in size_out (s ∷ later) = (lie_inside size_in size_out s ≡ true) × IsApart s later × Fit size_in size_out later
+
+-- the `master` or `slave` line of a slot was read: which bytes its frames take is said by then, and no later line changes it
+abbrev pub is_placed : Place → Bool
+is_placed place.Start = false
+is_placed place.Title = false
+is_placed place.Lengths = false
+is_placed other = true
+
+-- slots, the last of which counts once it is placed
+abbrev pub and_placed : Bool → List SlotHeader → SlotHeader → List SlotHeader
+and_placed true before last = before ++ last ∷ []
+and_placed false before last = before
+
+-- the slots of a header that were tested, by how far it is
+abbrev pub tested_by : Stage → List SlotHeader → SlotHeader → List SlotHeader
+tested_by stage.Slots before last = and_placed (is_placed last.own.place) before last
+tested_by stage.Done before last = before ++ last ∷ []
+tested_by other before last = []
+
+-- they fit the images of the header
+abbrev pub IsTested : ImageHeading → Type 0
+IsTested h = Fit h.size_in h.size_out (map heading_spans (tested_by h.stage h.before h.last))
