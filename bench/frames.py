@@ -5,7 +5,8 @@ END is `master` or `slave`: N ticks, or the peer's frames of a session with N da
 prints a pair file for `fsoe_tool replay`, in which the last frame comes to each end in turn, so many times after the handshake.
 `python3 frames.py trace frames LENGTH N` prints the trace of a session with N data frames of each end for `fsoe_tool diagnose`.
 `python3 frames.py image samples N` prints 64 slots of slaves at lengths 2 and 2, and N samples, for `fsoe_tool image`, and
-`python3 frames.py image frames LENGTH N` one slot of a slave into which the master's frames of a session are written and sampled.
+`python3 frames.py image frames LENGTH N SLOTS` so many slots of slaves: the master's frames of a session are written into all of them,
+and sampled at once.
 """
 import sys
 
@@ -158,10 +159,13 @@ def trace_lines(length, data_frames):
         yield f"m {sent_by_master.hex()}\ns {sent_by_slave.hex()}\n"
 
 
-def written_lines(length, data_frames):
-    """The master's frames, each written into the only slot and then sampled."""
+def written_lines(length, data_frames, slots):
+    """The master's frames, each written into every slot, with as many bytes as a line takes, and then sampled."""
     for sent_by_master, _ in session(length, data_frames, "slave"):
-        yield f"w 0 {sent_by_master.hex()}\ns\n"
+        image = sent_by_master * slots
+        for at in range(0, len(image), 256):
+            yield f"w {at} {image[at:at + 256].hex()}\n"
+        yield "s\n"
 
 
 def main(end, what, *numbers):
@@ -171,8 +175,9 @@ def main(end, what, *numbers):
         sys.stdout.writelines(image_header(64, 2))
         sys.stdout.write("s\n" * int(numbers[0]))
     elif end == "image":
-        sys.stdout.writelines(image_header(1, int(numbers[0])))
-        sys.stdout.writelines(written_lines(*map(int, numbers)))
+        length, data_frames, slots = map(int, numbers)
+        sys.stdout.writelines(image_header(slots, length))
+        sys.stdout.writelines(written_lines(length, data_frames, slots))
     elif end == "trace":
         sys.stdout.write(header(end, int(numbers[0])))
         sys.stdout.writelines(trace_lines(*map(int, numbers)))

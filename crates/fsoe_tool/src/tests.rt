@@ -198,7 +198,7 @@ type Short = (
     &'static str,
 );
 
-const SHORTS: [Short; 5] = [
+const SHORTS: [Short; 6] = [
     (
         &["node", "slave"],
         "fsoe 1 node slave\nlengths 2 2\nslave 2 200 1000 2\nrule any 0\ngo\nt\nh 1\nend\n",
@@ -253,6 +253,18 @@ const SHORTS: [Short; 5] = [
         3,
         ["", "", "", ""],
         "frames 2\nread - - - -\nconforms\n",
+    ),
+    (
+        &["image"],
+        "fsoe 1 image\nsize 7 7\nslot 1 0 0\nlengths 2 2\nslave 2 200 1000 2\nrule any 0\ngo\nw 0 2a0000c42d0000\ns\ns\nend\n",
+        7,
+        [
+            "",
+            "",
+            "2 1 took Reset Reset 0000 > 2a0000c42d0000\n",
+            "2 1 took Reset Reset 0000 > 2a0000c42d0000\n",
+        ],
+        "2 1 took Reset Reset 0000 > 2a0000c42d0000\nevents 3\nout 2a0000c42d0000\n",
     ),
 ];
 

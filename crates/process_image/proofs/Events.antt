@@ -1,5 +1,5 @@
 -- The text of each kind of event.
-use Rattle.std.proofs.Common.{◌≡◌, ◌≤◌, ◌<◌, ◌+◌, ◌==◌, ℕ, zero, suc, List, [], ◌∷◌, ◌++◌, Bool, true, false, length, map, slice_get, Option, Some, None, refl, sym, ap, ◌∙◌, arith}
+use Rattle.std.proofs.Common.{◌≡◌, ◌≤◌, ◌<◌, ◌+◌, ◌==◌, ℕ, zero, suc, List, [], ◌∷◌, ◌++◌, Bool, true, false, length, slice_get, Option, Some, None, refl, sym, ap, subst, ◌∙◌, arith}
 use Rattle.std.specs.Prelude.{option_map, if◌then◌else◌}
 use Rattle.std.proofs.lemmas.Bool.Decides.{nat_tests}
 use Rattle.std.proofs.lemmas.List.{append-nil}
@@ -11,8 +11,9 @@ use Rattle.process_image.specs.Calls.{if_named, move_in, deeds, next_deed}
 use Rattle.process_image.specs.Fault.{AreNumbered}
 use Rattle.process_image.specs.Places.{Place, Plan}
 use Rattle.process_image.specs.Report.{entry_line, move_line, event_lines}
-use Rattle.process_image.specs.Standing.{ImagesView, StandsFor, Follows, HasSlot, ShowsAt, AnswersSample, AnswersTick, AnswersReset}
-use Rattle.process_image.specs.Telling.{TellsEvent, TellsAll, told_line}
+use Rattle.process_image.specs.Standing.{ImagesView, StandsFor, Follows, HasSlot, ShowsAt, AnswersReset}
+use Rattle.process_image.specs.SlotLines.{told_line}
+use Rattle.process_image.specs.Telling.{DoesEvent, TellsEvent}
 use Rattle.process_image.specs.declared.event.ImageEvent.{ImageEvent}
 use Rattle.process_image.specs.declared.event.ImageEvent.TheVariants as event
 use Rattle.process_image.proofs.ToldLines.{number_at, shown_entry}
@@ -25,20 +26,9 @@ no-lines size at bytes calls (p ∷ places) = no-lines size at bytes calls place
 pub write_tells : (old : ImagesView) (at : ℕ) (bytes : List ℕ) (n : ℕ) (text : List ℕ) → text ≡ [] → TellsEvent old (event.Write at bytes) n text
 write_tells old at bytes n text e = record { lines = λ plan calls h number. e ∙ sym (no-lines plan.size_in at bytes calls plan.places) }
 
--- a sample and a tick
-pub sample_tells : (old new : ImagesView) (dids : List (Option Did)) (n : ℕ) (text : List ℕ) → Follows old event.Sample new → AnswersSample old dids → TellsAll new event.Sample dids n text → TellsEvent old event.Sample n text
-sample_tells old new dids n text f a t = record { lines = λ plan calls h number. t.lines plan calls (f.stands plan calls h) (a.told_are plan calls h) number }
-
-map-map : {A B C : Type 0} (f : A → B) (g : B → C) (xs : List A) → map g (map f xs) ≡ map (λ x. g (f x)) xs
-map-map f g [] = refl
-map-map f g (x ∷ xs) = ap (λ ys. g (f x) ∷ ys) (map-map f g xs)
-
-pub tick_tells : (old new : ImagesView) (dids : List Did) (n : ℕ) (text : List ℕ) → Follows old event.Tick new → AnswersTick old dids → TellsAll new event.Tick (map (λ did. Some did) dids) n text → TellsEvent old event.Tick n text
-tick_tells old new dids n text f a t = record {
-  lines = λ plan calls h number.
-      t.lines plan calls (f.stands plan calls h)
-      (ap (map (λ (did : Did). Some did)) (a.told_are plan calls h) ∙ map-map (λ (p : Place). (next_deed plan.size_in p calls move.Tick).did) (λ (did : Did). Some did) plan.places) number;
-}
+-- nothing waits behind a text
+pub alone : (old new : ImagesView) (event : ImageEvent) (n : ℕ) (text behind : List ℕ) → DoesEvent old event n new text → behind ≡ [] → DoesEvent old event n new (text ++ behind)
+alone old new event n text behind d e = subst (λ (all : List ℕ). DoesEvent old event n new all) (sym (ap (λ (behind : List ℕ). text ++ behind) e ∙ append-nil text)) d
 
 -- an event that names a slot
 other : (slot n : ℕ) → slot < n → (slot == n) ≡ false
@@ -106,30 +96,31 @@ by-slot : (P : ℕ → Type 0) (slot : ℕ) → 1 ≤ slot → ((k : ℕ) → P 
 by-slot P zero h all = absurd (omega arith)
 by-slot P (suc k) h all = all k
 
-pub put_tells : (old new : ImagesView) (slot n : ℕ) (load line text : List ℕ) → HasSlot old slot → Follows old (event.Put slot load) new → ShowsAt new slot line (told_line n slot nothing) → text ≡ [] ++ line → TellsEvent old (event.Put slot load) n text
-put_tells old new slot n load line text has f shows e =
-    rw e (by-slot (λ slot. Follows old (event.Put slot load) new → ShowsAt new slot line (told_line n slot nothing) → TellsEvent old (event.Put slot load) n line) slot has.first
-    (λ k f shows. named-tells old new (event.Put (suc k) load) k n (move.Put load) nothing line (λ size calls p. refl) (λ plan calls p h at. refl) f shows) f shows)
+pub put_tells : (old new : ImagesView) (slot n : ℕ) (load : List ℕ) (line : List ℕ) (did : Did) → HasSlot old slot → Follows old (event.Put slot load) new → did ≡ nothing → ShowsAt new slot line (told_line n slot did)
+    → TellsEvent old (event.Put slot load) n line
+put_tells old new slot n load line did has f none shows =
+    by-slot (λ slot. Follows old (event.Put slot load) new → ShowsAt new slot line (told_line n slot did) → TellsEvent old (event.Put slot load) n line) slot has.first
+    (λ k f shows. named-tells old new (event.Put (suc k) load) k n (move.Put load) did line (λ size calls p. refl) (λ plan calls p h at. none) f shows) f shows
 
-pub hold_tells : (old new : ImagesView) (slot n : ℕ) (failsafe : Bool) (line text : List ℕ) → HasSlot old slot → Follows old (event.Hold slot failsafe) new → ShowsAt new slot line (told_line n slot nothing) → text ≡ [] ++ line
-    → TellsEvent old (event.Hold slot failsafe) n text
-hold_tells old new slot n failsafe line text has f shows e =
-    rw e (by-slot (λ slot. Follows old (event.Hold slot failsafe) new → ShowsAt new slot line (told_line n slot nothing) → TellsEvent old (event.Hold slot failsafe) n line) slot has.first
-    (λ k f shows. named-tells old new (event.Hold (suc k) failsafe) k n (move.Hold failsafe) nothing line (λ size calls p. refl) (λ plan calls p h at. refl) f shows) f shows)
+pub hold_tells : (old new : ImagesView) (slot n : ℕ) (failsafe : Bool) (line : List ℕ) (did : Did) → HasSlot old slot → Follows old (event.Hold slot failsafe) new → did ≡ nothing → ShowsAt new slot line (told_line n slot did)
+    → TellsEvent old (event.Hold slot failsafe) n line
+hold_tells old new slot n failsafe line did has f none shows =
+    by-slot (λ slot. Follows old (event.Hold slot failsafe) new → ShowsAt new slot line (told_line n slot did) → TellsEvent old (event.Hold slot failsafe) n line) slot has.first
+    (λ k f shows. named-tells old new (event.Hold (suc k) failsafe) k n (move.Hold failsafe) did line (λ size calls p. refl) (λ plan calls p h at. none) f shows) f shows
 
-pub nonce_tells : (old new : ImagesView) (slot n id : ℕ) (line text : List ℕ) → HasSlot old slot → Follows old (event.Nonce slot id) new → ShowsAt new slot line (told_line n slot nothing) → text ≡ [] ++ line
-    → TellsEvent old (event.Nonce slot id) n text
-nonce_tells old new slot n id line text has f shows e =
-    rw e (by-slot (λ slot. Follows old (event.Nonce slot id) new → ShowsAt new slot line (told_line n slot nothing) → TellsEvent old (event.Nonce slot id) n line) slot has.first
-    (λ k f shows. named-tells old new (event.Nonce (suc k) id) k n (move.Nonce id) nothing line (λ size calls p. refl) (λ plan calls p h at. refl) f shows) f shows)
+pub nonce_tells : (old new : ImagesView) (slot n : ℕ) (id : ℕ) (line : List ℕ) (did : Did) → HasSlot old slot → Follows old (event.Nonce slot id) new → did ≡ nothing → ShowsAt new slot line (told_line n slot did)
+    → TellsEvent old (event.Nonce slot id) n line
+nonce_tells old new slot n id line did has f none shows =
+    by-slot (λ slot. Follows old (event.Nonce slot id) new → ShowsAt new slot line (told_line n slot did) → TellsEvent old (event.Nonce slot id) n line) slot has.first
+    (λ k f shows. named-tells old new (event.Nonce (suc k) id) k n (move.Nonce id) did line (λ size calls p. refl) (λ plan calls p h at. none) f shows) f shows
 
 reset-did : (plan : Plan) (calls : List ImageEvent) (k : ℕ) (p : Place) (did : Did) → slice_get plan.places k ≡ Some p → option_map (λ p. (next_deed plan.size_in p calls move.Local).did) (slice_get plan.places k) ≡ Some did
     → did ≡ (next_deed plan.size_in p calls move.Local).did
 reset-did plan calls k p did at h =
     let s : Some (next_deed plan.size_in p calls move.Local).did ≡ Some did = ap (option_map (λ (p : Place). (next_deed plan.size_in p calls move.Local).did)) (sym at) ∙ h in cc
 
-pub reset_tells : (old new : ImagesView) (slot n : ℕ) (did : Did) (line text : List ℕ) → HasSlot old slot → Follows old (event.Reset slot) new → AnswersReset old slot did → ShowsAt new slot line (told_line n slot did) → text ≡ [] ++ line
-    → TellsEvent old (event.Reset slot) n text
-reset_tells old new slot n did line text has f a shows e =
-    rw e (by-slot (λ slot. Follows old (event.Reset slot) new → AnswersReset old slot did → ShowsAt new slot line (told_line n slot did) → TellsEvent old (event.Reset slot) n line) slot has.first
-    (λ k f a shows. named-tells old new (event.Reset (suc k)) k n move.Local did line (λ size calls p. refl) (λ plan calls p h at. reset-did plan calls k p did at (a.did plan calls h)) f shows) f a shows)
+pub reset_tells : (old new : ImagesView) (slot n : ℕ) (did : Did) (line : List ℕ) → HasSlot old slot → Follows old (event.Reset slot) new → AnswersReset old slot did → ShowsAt new slot line (told_line n slot did)
+    → TellsEvent old (event.Reset slot) n line
+reset_tells old new slot n did line has f a shows =
+    by-slot (λ slot. Follows old (event.Reset slot) new → AnswersReset old slot did → ShowsAt new slot line (told_line n slot did) → TellsEvent old (event.Reset slot) n line) slot has.first
+    (λ k f a shows. named-tells old new (event.Reset (suc k)) k n move.Local did line (λ size calls p. refl) (λ plan calls p h at. reset-did plan calls k p did at (a.did plan calls h)) f shows) f a shows

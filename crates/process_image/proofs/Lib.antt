@@ -11,6 +11,7 @@ pub mod Headers
 pub mod ImageText
 pub mod Keeping
 pub mod Looping
+pub mod Numbers
 pub mod One
 pub mod Parts
 pub mod Planned
@@ -25,4 +26,5 @@ pub mod Tested
 pub mod ToldLines
 pub mod WithBytes
 pub mod Worked
+pub mod Written
 pub mod Zips

@@ -1,10 +1,11 @@
 -- Loops over all slots, step by step.
-use Rattle.std.proofs.Common.{◌≡◌, ◌≤◌, ℕ, zero, suc, ◌+◌, ◌<◌, List, [], ◌∷◌, ◌++◌, map, length, slice_get, slice_set, Some, All, ◌==◌, Bool, true, false, if◌then◌else◌, refl, sym, ap, subst, ◌∙◌, arith}
+use Rattle.std.proofs.Common.{◌≡◌, ◌≤◌, ℕ, zero, suc, ◌+◌, ◌<◌, List, [], ◌∷◌, ◌++◌, map, length, slice_get, slice_set, Some, All, ◌==◌, Bool, true, false, if◌then◌else◌, append_assoc, refl, sym, ap, subst, ◌∙◌, arith}
 use Rattle.std.proofs.lemmas.Bool.Decides.{nat_tests}
 use Rattle.std.proofs.lemmas.Grind.{common_steps}
 use Rattle.std.proofs.lemmas.List.Elements.{All-push, All-nil}
 use Rattle.process_image.specs.Image.{with_bytes}
 use Rattle.process_image.specs.Steps.{SeatStep, Does, DoesEach, with_sent, after_steps}
+use Rattle.process_image.specs.SlotLines.{IsLineOf, AreLinesOf, Tells, TellsEach}
 use Rattle.process_image.specs.declared.seat.Seat.{Seat}
 use Rattle.process_image.proofs.WithBytes.{same_size}
 
@@ -61,60 +62,97 @@ steps-push [] x image = refl
 steps-push (y ∷ steps) x image = steps-push steps x (with_sent y.old y.sent image)
 
 -- so many slots did their part
-pub record DoneSoFar {T : Type 0} (Q : SeatStep → Type 0) (tell : SeatStep → T) (old : List Seat) (before : List ℕ) (new : List Seat) (after : List ℕ) (told : List T) (i : ℕ) : Type 0 where
+pub record StepsSoFar (Q : SeatStep → Type 0) (old : List Seat) (before : List ℕ) (new : List Seat) (after : List ℕ) (i : ℕ) : Type 0 where
   pub steps : List SeatStep
   pub each : All Q steps
   pub count : length steps ≡ i
   pub rest : List Seat
-  pub untold : List T
   pub old_are : old ≡ map (λ x. x.old) steps ++ rest
   pub new_are : new ≡ map (λ x. x.new) steps ++ rest
-  pub told_are : told ≡ map tell steps ++ untold
   pub output_is : after ≡ after_steps steps before
 
+abbrev steps-begun : (Q : SeatStep → Type 0) (old : List Seat) (image : List ℕ) → StepsSoFar Q old image old image 0
+steps-begun Q old image = record { steps = []; each = All-nil Q; count = refl; rest = old; old_are = refl; new_are = refl; output_is = refl }
+
+abbrev steps-more : (Q : SeatStep → Type 0) (old : List Seat) (before : List ℕ) (new new' : List Seat) (after after' : List ℕ) (i : ℕ) (seat seat' : Seat) (x : SeatStep) → StepsSoFar Q old before new after i → slice_get new i ≡ Some seat
+    → Q x → x.old ≡ seat → x.new ≡ seat' → after' ≡ with_sent seat x.sent after → new' ≡ slice_set new i seat' → StepsSoFar Q old before new' after' (i + 1)
+steps-more Q old before new new' after after' i seat seat' x p at is old_is new_is output_is set =
+    let m = left (λ (y : SeatStep). y.new) new p.steps p.rest i seat p.new_are p.count at in
+    record {
+      steps = p.steps ++ x ∷ [];
+      each = All-push Q p.steps x p.each is;
+      count = length-push p.steps x i p.count;
+      rest = m.more;
+      old_are = p.old_are ∙ ap (λ r. map (λ (y : SeatStep). y.old) p.steps ++ r) (m.is ∙ ap (λ s. s ∷ m.more) (sym old_is)) ∙ split-after (λ (y : SeatStep). y.old) p.steps x m.more;
+      new_are = written (λ (y : SeatStep). y.new) new new' p.steps x seat p.rest m.more i seat' p.new_are m.is p.count (sym new_is) set;
+      output_is = output_is ∙ ap (λ s. with_sent s x.sent after) (sym old_is) ∙ ap (with_sent x.old x.sent) p.output_is ∙ sym (steps-push p.steps x before);
+    }
+
+-- and this is told of them
+pub record DoneSoFar {T : Type 0} (Q : SeatStep → Type 0) (tell : SeatStep → T) (old : List Seat) (before : List ℕ) (new : List Seat) (after : List ℕ) (told : List T) (i : ℕ) : Type 0 where
+  pub so_far : StepsSoFar Q old before new after i
+  pub untold : List T
+  pub told_are : told ≡ map tell so_far.steps ++ untold
+
 pub does_begun : {T : Type 0} (Q : SeatStep → Type 0) (tell : SeatStep → T) (old : List Seat) (image : List ℕ) (told : List T) → DoneSoFar Q tell old image old image told 0
-does_begun Q tell old image told = record {
-  steps = [];
-  each = All-nil Q;
-  count = refl;
-  rest = old;
-  untold = told;
-  old_are = refl;
-  new_are = refl;
-  told_are = refl;
-  output_is = refl;
-}
+does_begun Q tell old image told = record { so_far = steps-begun Q old image; untold = told; told_are = refl }
 
 pub does_more : {T : Type 0} (Q : SeatStep → Type 0) (tell : SeatStep → T) (old : List Seat) (before : List ℕ) (new new' : List Seat) (after after' : List ℕ) (told told' : List T) (i : ℕ)
     (seat seat' : Seat) (t t' : T) → DoneSoFar Q tell old before new after told i → slice_get new i ≡ Some seat → slice_get told i ≡ Some t → Does Q tell seat after seat' after' t'
     → new' ≡ slice_set new i seat' → told' ≡ slice_set told i t' → DoneSoFar Q tell old before new' after' told' (i + 1)
 does_more Q tell old before new new' after after' told told' i seat seat' t t' p at-s at-t d set-s set-t =
-    let m = left (λ (y : SeatStep). y.new) new p.steps p.rest i seat p.new_are p.count at-s in
-    let u = left tell told p.steps p.untold i t p.told_are p.count at-t in
+    let u = left tell told p.so_far.steps p.untold i t p.told_are p.so_far.count at-t in
     record {
-      steps = p.steps ++ d.step ∷ [];
-      each = All-push Q p.steps d.step p.each d.is;
-      count = length-push p.steps d.step i p.count;
-      rest = m.more;
+      so_far = steps-more Q old before new new' after after' i seat seat' d.step p.so_far at-s d.is d.old_is d.new_is d.output_is set-s;
       untold = u.more;
-      old_are = p.old_are ∙ ap (λ r. map (λ (y : SeatStep). y.old) p.steps ++ r) (m.is ∙ ap (λ s. s ∷ m.more) (sym d.old_is)) ∙ split-after (λ (y : SeatStep). y.old) p.steps d.step m.more;
-      new_are = written (λ (y : SeatStep). y.new) new new' p.steps d.step seat p.rest m.more i seat' p.new_are m.is p.count (sym d.new_is) set-s;
-      told_are = written tell told told' p.steps d.step t p.untold u.more i t' p.told_are u.is p.count d.told_is set-t;
-      output_is = d.output_is
-          ∙ ap (λ s. with_sent s d.step.sent after) (sym d.old_is)
-          ∙ ap (with_sent d.step.old d.step.sent) p.output_is
-          ∙ sym (steps-push p.steps d.step before);
+      told_are = written tell told told' p.so_far.steps d.step t p.untold u.more i t' p.told_are u.is p.so_far.count d.told_is set-t;
     }
 
 pub does_done : {T : Type 0} (Q : SeatStep → Type 0) (tell : SeatStep → T) (old : List Seat) (before : List ℕ) (new : List Seat) (after : List ℕ) (told : List T) (i : ℕ)
     → DoneSoFar Q tell old before new after told i → i ≡ length old → i ≡ length new → i ≡ length told → DoesEach Q tell old before new after told
 does_done Q tell old before new after told i p o n t = record {
-  steps = p.steps;
-  each = p.each;
-  old_are = all-done (λ (y : SeatStep). y.old) old p.steps p.rest p.old_are (p.count ∙ o);
-  new_are = all-done (λ (y : SeatStep). y.new) new p.steps p.rest p.new_are (p.count ∙ n);
-  told_are = sym (all-done tell told p.steps p.untold p.told_are (p.count ∙ t));
-  output_is = p.output_is;
+  steps = p.so_far.steps;
+  each = p.so_far.each;
+  old_are = all-done (λ (y : SeatStep). y.old) old p.so_far.steps p.so_far.rest p.so_far.old_are (p.so_far.count ∙ o);
+  new_are = all-done (λ (y : SeatStep). y.new) new p.so_far.steps p.so_far.rest p.so_far.new_are (p.so_far.count ∙ n);
+  told_are = sym (all-done tell told p.so_far.steps p.untold p.told_are (p.so_far.count ∙ t));
+  output_is = p.so_far.output_is;
+}
+
+-- one line more
+lines-push : (number n m : ℕ) (steps : List SeatStep) (x : SeatStep) (text line : List ℕ) → m ≡ n + length steps → AreLinesOf number n steps text → IsLineOf x.what number m x line
+    → AreLinesOf number n (steps ++ x ∷ []) (text ++ line)
+lines-push number n m [] x text line e h is =
+    let same : m ≡ n = omega arith in
+    (line, [], subst (λ (k : ℕ). IsLineOf x.what number k x line) same is, refl, ap (λ (xs : List ℕ). xs ++ line) h ∙ sym (append-none line))
+lines-push number n m (y ∷ steps) x text line e h is =
+    (h.0, h.1 ++ line, h.2, lines-push number (suc n) m steps x h.1 line (omega arith) h.3 is, ap (λ (xs : List ℕ). xs ++ line) h.4 ∙ append_assoc h.0 h.1 line)
+
+-- and this text has their lines
+pub record ToldSoFar (Q : SeatStep → Type 0) (number : ℕ) (old : List Seat) (before : List ℕ) (new : List Seat) (after text : List ℕ) (i : ℕ) : Type 0 where
+  pub so_far : StepsSoFar Q old before new after i
+  pub lines : AreLinesOf number 1 so_far.steps text
+
+pub tells_begun : (Q : SeatStep → Type 0) (number : ℕ) (old : List Seat) (image text : List ℕ) → text ≡ [] → ToldSoFar Q number old image old image text 0
+tells_begun Q number old image text e = record { so_far = steps-begun Q old image; lines = e }
+
+pub tells_more : (Q : SeatStep → Type 0) (number slot : ℕ) (old : List Seat) (before : List ℕ) (new new' : List Seat) (after after' text text' : List ℕ) (i : ℕ) (seat seat' : Seat)
+    → ToldSoFar Q number old before new after text i → slice_get new i ≡ Some seat → slot ≡ i + 1 → Tells Q number slot seat after text seat' after' text' → new' ≡ slice_set new i seat'
+    → ToldSoFar Q number old before new' after' text' (i + 1)
+tells_more Q number slot old before new new' after after' text text' i seat seat' p at named d set = record {
+  so_far = steps-more Q old before new new' after after' i seat seat' d.step p.so_far at d.is d.old_is d.new_is d.output_is set;
+  lines = subst (AreLinesOf number 1 (p.so_far.steps ++ d.step ∷ [])) (sym d.text_is) (lines-push number 1 slot p.so_far.steps d.step text d.line (omega (arith, named, p.so_far.count)) p.lines d.line_is);
+}
+
+pub tells_done : (Q : SeatStep → Type 0) (number : ℕ) (old : List Seat) (before : List ℕ) (new : List Seat) (after text : List ℕ) (i : ℕ) → ToldSoFar Q number old before new after text i → i ≡ length old → i ≡ length new
+    → TellsEach Q number old before new after text
+tells_done Q number old before new after text i p o n = record {
+  steps = p.so_far.steps;
+  each = p.so_far.each;
+  old_are = all-done (λ (y : SeatStep). y.old) old p.so_far.steps p.so_far.rest p.so_far.old_are (p.so_far.count ∙ o);
+  new_are = all-done (λ (y : SeatStep). y.new) new p.so_far.steps p.so_far.rest p.so_far.new_are (p.so_far.count ∙ n);
+  output_is = p.so_far.output_is;
+  lines = p.lines;
 }
 
 -- the number of bytes of the output image stays
@@ -128,6 +166,9 @@ sent_size seat sent image inside = kept-by seat.at_out seat.len_out sent image (
 pub does_size : {T : Type 0} (Q : SeatStep → Type 0) (tell : SeatStep → T) (old new : Seat) (before after : List ℕ) (told : T) → Does Q tell old before new after told → old.at_out + old.len_out ≤ length before
     → length after ≡ length before
 does_size Q tell old new before after told d inside = ap length d.output_is ∙ kept-by old.at_out old.len_out d.step.sent before (length d.step.sent == old.len_out) refl inside
+
+pub tells_size : (Q : SeatStep → Type 0) (number slot : ℕ) (old new : Seat) (before text after text' : List ℕ) → Tells Q number slot old before text new after text' → old.at_out + old.len_out ≤ length before → length after ≡ length before
+tells_size Q number slot old new before text after text' d inside = ap length d.output_is ∙ kept-by old.at_out old.len_out d.step.sent before (length d.step.sent == old.len_out) refl inside
 
 -- there is something at each place of a list
 pub some_at : {A : Type 0} (xs : List A) (k : ℕ) → k < length xs → (x : A) × (slice_get xs k ≡ Some x)

@@ -21,12 +21,8 @@ use Rattle.process_image.specs.declared.event.ImageEvent.{ImageEvent}
 use Rattle.process_image.specs.declared.event.ImageEvent.TheVariants as event
 use Rattle.process_image.specs.declared.seat.Seat.{Seat}
 use Rattle.process_image.proofs.Following.{IsPart, stands_more}
-use Rattle.process_image.proofs.Seats.{stays}
+use Rattle.process_image.proofs.Seats.{stays, still}
 use Rattle.process_image.proofs.Zips.{all_at}
-
--- a slot of which a call is no move
-abbrev pub still : Seat → SeatStep
-still seat = record { old = seat; what = None; did = nothing; sent = []; new = seat }
 
 -- a call after which the slots have seen what they saw before
 abbrev Unsampled : ℕ → List ImageEvent → ImageEvent → Type 0

@@ -1,5 +1,6 @@
 -- What is shown of one slot.
-use Rattle.std.proofs.Common.{◌≡◌, ◌≤◌, ◌+◌, ◌-◌, ℕ, zero, suc, take, drop, length-take, arith, List, [], ◌∷◌, map, length, slice_get, Some, IfSome, sym, ap, ◌∙◌}
+use Rattle.std.proofs.Common.{◌≡◌, ◌≤◌, ◌+◌, ◌-◌, ℕ, zero, suc, take, drop, length-take, arith, Bool, true, false, List, [], ◌∷◌, map, length, slice_get, Option, Some, IfSome, option_map, refl, sym, ap, ◌∙◌}
+use Rattle.std.specs.Prelude.{if◌then◌else◌}
 use Rattle.std.proofs.lemmas.Bool.Decides.{nat_tests}
 use Rattle.fsoe_base.specs.declared.did.Did.{Did}
 use Rattle.param_load.specs.declared.entry.Move.TheVariants as move
@@ -14,6 +15,7 @@ use Rattle.process_image.specs.Image.{bytes_at}
 use Rattle.process_image.specs.Places.{Place}
 use Rattle.process_image.specs.Sound.{IsSoundSeat}
 use Rattle.process_image.specs.Standing.{ImagesView, IsSeatOf, ShowsAt, AnswersReset, numbered, setups_of}
+use Rattle.process_image.specs.SlotLines.{entry_told, told_line}
 use Rattle.process_image.specs.declared.seat.Seat.{Seat}
 use Rattle.process_image.proofs.Beginning.{frame_most}
 use Rattle.process_image.proofs.Following.{setup_is}
@@ -72,3 +74,27 @@ frame_short si so seat image s =
     let few = length-take (seat.at_out + seat.len_out - seat.at_out) (drop seat.at_out image) in
     let len = s.len_out_is in
     grind (arith, nat_tests)
+
+-- the frame that an end sent is its last one, if it sent one
+sent-is : (b : Bool) (sent last : List ℕ) → (b ≡ true → last ≡ sent) → (b ≡ false → sent ≡ []) → sent ≡ (if b then last else [])
+sent-is true sent last some none = sym (some refl)
+sent-is false sent last some none = none refl
+
+last-at : (o : Option Place) (p : Place) (word : Place → List ℕ) (sent : List ℕ) → o ≡ Some p → option_map word o ≡ Some sent → word p ≡ sent
+last-at o p word sent e h = let s : Some (word p) ≡ Some sent = ap (option_map word) (sym e) ∙ h in cc
+
+-- a line that shows what the end of a slot did
+pub told_at : (v : ImagesView) (slot place : ℕ) (seat : Seat) (n : ℕ) (did : Did) (sent line : List ℕ) → slot ≡ suc place → slice_get v.seats place ≡ Some seat → end_core.Shows seat.core line (entry_told n slot did sent)
+    → (did.sent ≡ true → ShowsAt v slot sent last_frame) → (did.sent ≡ false → sent ≡ []) → ShowsAt v slot line (told_line n slot did)
+told_at v slot place seat n did sent line named at s frame none = record {
+  shows = λ plan calls h.
+      let p = at_place (IsSeatOf plan.size_in calls) plan.places v.seats place seat h.slots at in
+      let q : Place = p.there in
+      let e : List Deed = deeds plan.size_in q calls in
+      let there : numbered slot plan.places ≡ Some q = rw named p.is in
+      let last : did.sent ≡ true → last_frame q.setup e ≡ sent =
+      λ yes. last-at (numbered slot plan.places) q (λ (p : Place). last_frame p.setup (deeds plan.size_in p calls)) sent there ((frame yes).shows plan calls h)
+      in
+      ap (option_map (λ (p : Place). told_line n slot did p.setup (deeds plan.size_in p calls))) there
+      ∙ ap (λ (line : List ℕ). Some line) (sym (s.shows q.setup e p.holds.end_is ∙ ap (λ (sent : List ℕ). entry_told n slot did sent q.setup e) (sent-is did.sent sent (last_frame q.setup e) last none)));
+}

@@ -208,6 +208,10 @@ closes_so v h log text last n count r is =
     λ lines.
     ((r.plan, r.made, ap₂ (λ (a b : List ℕ). a ++ b) r.lines (is ∙ ap₂ (λ (m : ℕ) (out : List ℕ). events_line m ++ codes "out " ++ encode_lower out ++ codes "\n") (count ∙ sym (length-reverse log)) r.images.output_is)), refl)
 
+pub last_lines_are : (first image end : List ℕ) → first ++ ((codes "out " ++ image) ++ end) ≡ ((first ++ codes "out ") ++ image) ++ end
+last_lines_are first image end =
+    ap (λ (rest : List ℕ). first ++ rest) (append_assoc (codes "out ") image end) ∙ sym (append_assoc (first ++ codes "out ") image end ∙ append_assoc first (codes "out ") (image ++ end))
+
 -- at the beginning
 pub all_new : (ss : List SlotHeader) (slots : List Slot) → AllZip IsMadeOf ss slots → All (λ slot. IsNew slot.core) slots
 all_new [] [] z = All-nil (λ slot. IsNew slot.core)

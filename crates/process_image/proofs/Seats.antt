@@ -1,20 +1,22 @@
 -- One slot at a sample and at a tick.
-use Rattle.std.proofs.Common.{◌≡◌, ℕ, ◌+◌, ◌-◌, ◌*◌, ◌==◌, ◌≤◌, List, [], length, take, drop, min, Some, None, Bool, true, false, if◌then◌else◌, nat_eq, refl, sym, ap, subst, ◌∙◌, arith}
+use Rattle.std.proofs.Common.{◌≡◌, ℕ, ◌+◌, ◌-◌, ◌*◌, ◌==◌, ◌≤◌, List, [], length, take, drop, min, Option, Some, None, option_map, Bool, true, false, if◌then◌else◌, nat_eq, refl, sym, ap, subst, ◌∙◌, arith}
 use Rattle.std.proofs.lemmas.Grind.{common_steps}
-use Rattle.std.proofs.lemmas.List.{length-take, length-drop}
+use Rattle.std.proofs.lemmas.List.{append-nil, length-take, length-drop}
 use Rattle.std.specs.Cmp.Lexicographic.{pointwise, same_text}
 use Rattle.fsoe_base.specs.Did.{nothing}
 use Rattle.fsoe_base.specs.Lengths.{frame_len}
 use Rattle.fsoe_base.specs.declared.did.Did.{Did}
+use Rattle.param_load.specs.declared.entry.Move.{Move}
 use Rattle.param_load.specs.declared.entry.Move.TheVariants as move
 use Rattle.end_model.specs.Setup.{sends}
 use Rattle.end_core.specs.Core.{setup_of, IsAtRest}
-use Rattle.end_core.specs.Standing.{Follows, Answers}
+use Rattle.end_core.specs.Standing.{Follows, Answers, Shows}
 use Rattle.end_core.specs.declared.one_end.Core.{Core}
 use Rattle.process_image.specs.Calls.{delivery}
 use Rattle.process_image.specs.Image.{bytes_at, with_bytes}
 use Rattle.process_image.specs.Sound.{IsSoundSeat}
-use Rattle.process_image.specs.Steps.{Does, IsSampleStep, IsTickStep, told_by, did_in, seat_contents, with_sent}
+use Rattle.process_image.specs.Steps.{SeatStep, Does, IsSampleStep, IsTickStep, told_by, did_in, answer_in, seat_contents, with_sent}
+use Rattle.process_image.specs.SlotLines.{IsLineOf, Tells, AddsLine, entry_told}
 use Rattle.process_image.specs.declared.seat.Seat.{Seat}
 
 -- a frame has some bytes
@@ -32,16 +34,23 @@ none-sent seat image h = sym (ap (λ b. if b then with_bytes seat.at_out [] imag
 pub stays : (size_in size_out : ℕ) (seat : Seat) (image : List ℕ) → IsSoundSeat size_in size_out seat → image ≡ with_sent seat [] image
 stays size_in size_out seat image s = none-sent seat image (subst (λ (n : ℕ). (0 == n) ≡ false) (sym s.len_out_is) (some_frame (sends (setup_of seat.core))))
 
+-- a slot of which a call is no move
+abbrev pub still : Seat → SeatStep
+still seat = record { old = seat; what = None; did = nothing; sent = []; new = seat }
+
 -- contents that were seen aren't delivered
+still-sample : (size_in size_out : ℕ) (input : List ℕ) (seat : Seat) → IsSoundSeat size_in size_out seat → pointwise nat_eq seat.seen (seat_contents seat input) ≡ true → IsSampleStep input (still seat)
+still-sample size_in size_out input seat s h = record {
+  is = record { makes = (refl, refl); at_in_is = refl; at_out_is = refl; len_out_is = refl; seen_len = refl; setup = refl; rest = s.rest };
+  what_is = sym (ap (λ b. if b then None else Some (move.Deliver (seat_contents seat input))) h);
+  seen_is = same_text seat.seen (seat_contents seat input) (sym h);
+}
+
 pub samples_none : (size_in size_out : ℕ) (input : List ℕ) (seat : Seat) (image : List ℕ) → IsSoundSeat size_in size_out seat → pointwise nat_eq seat.seen (seat_contents seat input) ≡ true
     → Does (IsSampleStep input) told_by seat image seat image None
 samples_none size_in size_out input seat image s h = record {
-  step = record { old = seat; what = None; did = nothing; sent = []; new = seat };
-  is = record {
-    is = record { makes = (refl, refl); at_in_is = refl; at_out_is = refl; len_out_is = refl; seen_len = refl; setup = refl; rest = s.rest };
-    what_is = sym (ap (λ b. if b then None else Some (move.Deliver (seat_contents seat input))) h);
-    seen_is = same_text seat.seen (seat_contents seat input) (sym h);
-  };
+  step = still seat;
+  is = still-sample size_in size_out input seat s h;
   old_is = refl;
   new_is = refl;
   told_is = refl;
@@ -57,11 +66,11 @@ contents-long at len input h =
     grind (arith, common_steps)
 
 -- other contents are
-pub samples_some : (size_out : ℕ) (input : List ℕ) (old : Seat) (before after : List ℕ) (core : Core) (did : Did) (sent seen now : List ℕ) → IsSoundSeat (length input) size_out old
+pub delivers : (size_out : ℕ) (input : List ℕ) (old : Seat) (before after : List ℕ) (core : Core) (did : Did) (sent seen now : List ℕ) → IsSoundSeat (length input) size_out old
     → now ≡ seat_contents old input → pointwise nat_eq old.seen now ≡ false → seen ≡ now → Follows old.core (move.Deliver now) core → Answers old.core (move.Deliver now) did sent
     → setup_of core ≡ setup_of old.core → IsAtRest core → after ≡ with_sent old sent before
-    → Does (IsSampleStep input) told_by old before (record { at_in = old.at_in; at_out = old.at_out; len_out = old.len_out; core = core; seen = seen }) after (Some did)
-samples_some size_out input old before after core did sent seen now s e h same f a setup rest out = record {
+    → Does (IsSampleStep input) answer_in old before (record { at_in = old.at_in; at_out = old.at_out; len_out = old.len_out; core = core; seen = seen }) after (did, sent)
+delivers size_out input old before after core did sent seen now s e h same f a setup rest out = record {
   step = record {
     old = old;
     what = Some (move.Deliver now);
@@ -88,11 +97,29 @@ samples_some size_out input old before after core did sent seen now s e h same f
   output_is = out;
 }
 
+-- where contents changed, a sample is a delivery of them
+pub delivered : (input : List ℕ) (x : SeatStep) → IsSampleStep input x → pointwise nat_eq x.old.seen (seat_contents x.old input) ≡ false → x.what ≡ Some (move.Deliver (seat_contents x.old input))
+delivered input x q h = q.what_is ∙ ap (λ b. if b then None else Some (move.Deliver (seat_contents x.old input))) h
+
+-- so a sample tells of it
+pub samples_some : (input : List ℕ) (old new : Seat) (before after : List ℕ) (did : Did) (sent : List ℕ) → Does (IsSampleStep input) answer_in old before new after (did, sent)
+    → pointwise nat_eq old.seen (seat_contents old input) ≡ false → Does (IsSampleStep input) told_by old before new after (Some did)
+samples_some input old new before after did sent d h =
+    let what : d.step.what ≡ Some (move.Deliver (seat_contents d.step.old input)) = delivered input d.step d.is (rw d.old_is h) in
+    record {
+      step = d.step;
+      is = d.is;
+      old_is = d.old_is;
+      new_is = d.new_is;
+      told_is = ap (λ (a : Did × List ℕ). Some a.0) d.told_is ∙ sym (ap (option_map (λ (what : Move). d.step.did)) what);
+      output_is = d.output_is;
+    }
+
 -- a tick
-pub ticks_seat : (old : Seat) (before after : List ℕ) (core : Core) (did : Did) (sent : List ℕ) → Follows old.core move.Tick core → Answers old.core move.Tick did sent
+pub ticks : (old : Seat) (before after : List ℕ) (core : Core) (did : Did) (sent : List ℕ) → Follows old.core move.Tick core → Answers old.core move.Tick did sent
     → setup_of core ≡ setup_of old.core → IsAtRest core → after ≡ with_sent old sent before
-    → Does IsTickStep did_in old before (record { at_in = old.at_in; at_out = old.at_out; len_out = old.len_out; core = core; seen = old.seen }) after did
-ticks_seat old before after core did sent f a setup rest out = record {
+    → Does IsTickStep answer_in old before (record { at_in = old.at_in; at_out = old.at_out; len_out = old.len_out; core = core; seen = old.seen }) after (did, sent)
+ticks old before after core did sent f a setup rest out = record {
   step = record {
     old = old;
     what = Some move.Tick;
@@ -109,4 +136,64 @@ ticks_seat old before after core did sent f a setup rest out = record {
   new_is = refl;
   told_is = refl;
   output_is = out;
+}
+
+-- of which what the end did is told alone
+pub did_alone : (old new : Seat) (before after : List ℕ) (did : Did) (sent : List ℕ) → Does IsTickStep answer_in old before new after (did, sent) → Does IsTickStep did_in old before new after did
+did_alone old new before after did sent d = record {
+  step = d.step;
+  is = d.is;
+  old_is = d.old_is;
+  new_is = d.new_is;
+  told_is = ap (λ (a : Did × List ℕ). a.0) d.told_is;
+  output_is = d.output_is;
+}
+
+-- a line that shows the end of a slot after a step
+shown-line : (number slot : ℕ) (new : Seat) (did : Did) (sent : List ℕ) (x : SeatStep) (line : List ℕ) → x.new ≡ new → (did, sent) ≡ answer_in x → Shows new.core line (entry_told number slot did sent)
+    → Shows x.new.core line (entry_told number slot x.did x.sent)
+shown-line number slot new did sent x line n a s =
+    subst (λ (a : Did × List ℕ). Shows x.new.core line (entry_told number slot a.0 a.1)) a (subst (λ (seat : Seat). Shows seat.core line (entry_told number slot did sent)) (sym n) s)
+
+-- a line that shows what was done tells of the slot
+pub tells_sample : (input : List ℕ) (number slot : ℕ) (old new : Seat) (before after text text' : List ℕ) (did : Did) (sent : List ℕ) → Does (IsSampleStep input) answer_in old before new after (did, sent)
+    → pointwise nat_eq old.seen (seat_contents old input) ≡ false → AddsLine new.core (entry_told number slot did sent) text text' → Tells (IsSampleStep input) number slot old before text new after text'
+tells_sample input number slot old new before after text text' did sent d h a =
+    let what : d.step.what ≡ Some (move.Deliver (seat_contents d.step.old input)) = delivered input d.step d.is (rw d.old_is h) in
+    record {
+      step = d.step;
+      is = d.is;
+      old_is = d.old_is;
+      new_is = d.new_is;
+      output_is = d.output_is;
+      line = a.line;
+      line_is = subst (λ (o : Option Move). IsLineOf o number slot d.step a.line) (sym what) (shown-line number slot new did sent d.step a.line d.new_is d.told_is a.shows);
+      text_is = a.text_is;
+    }
+
+pub tells_tick : (number slot : ℕ) (old new : Seat) (before after text text' : List ℕ) (did : Did) (sent : List ℕ) → Does IsTickStep answer_in old before new after (did, sent)
+    → AddsLine new.core (entry_told number slot did sent) text text' → Tells IsTickStep number slot old before text new after text'
+tells_tick number slot old new before after text text' did sent d a = record {
+  step = d.step;
+  is = d.is;
+  old_is = d.old_is;
+  new_is = d.new_is;
+  output_is = d.output_is;
+  line = a.line;
+  line_is = subst (λ (o : Option Move). IsLineOf o number slot d.step a.line) (sym d.is.what_is) (shown-line number slot new did sent d.step a.line d.new_is d.told_is a.shows);
+  text_is = a.text_is;
+}
+
+-- contents that were seen aren't told of
+pub tells_none : (size_in size_out : ℕ) (input : List ℕ) (number slot : ℕ) (seat : Seat) (image text : List ℕ) → IsSoundSeat size_in size_out seat → pointwise nat_eq seat.seen (seat_contents seat input) ≡ true
+    → Tells (IsSampleStep input) number slot seat image text seat image text
+tells_none size_in size_out input number slot seat image text s h = record {
+  step = still seat;
+  is = still-sample size_in size_out input seat s h;
+  old_is = refl;
+  new_is = refl;
+  output_is = stays size_in size_out seat image s;
+  line = [];
+  line_is = refl;
+  text_is = sym (append-nil text);
 }

@@ -11,13 +11,17 @@ use Rattle.end_core.specs.Standing as end_core
 use Rattle.process_image.specs.Calls.{move_in, contents, delivery, deeds, next_deed}
 use Rattle.process_image.specs.Image.{bytes_at, input, sampled}
 use Rattle.process_image.specs.Places.{Place, Plan, spans_of}
-use Rattle.process_image.specs.Sound.{IsSoundSeat}
+use Rattle.process_image.specs.Sound.{IsSound, IsSoundSeat}
 use Rattle.process_image.specs.Standing.{ImagesView, IsSeatOf, StandsFor, Follows, AnswersSample, AnswersTick, told}
 use Rattle.process_image.specs.Steps.{SeatStep, Makes, IsSampleStep, IsTickStep, DoesEach, told_by, did_in, seat_contents}
 use Rattle.process_image.specs.declared.event.ImageEvent.{ImageEvent}
 use Rattle.process_image.specs.declared.event.ImageEvent.TheVariants as event
 use Rattle.process_image.specs.declared.seat.Seat.{Seat}
+use Rattle.process_image.specs.SlotLines.{TellsEach}
+use Rattle.process_image.specs.Telling.{DoesEvent}
 use Rattle.process_image.proofs.Following.{IsPart, setup_is, stands_more}
+use Rattle.process_image.proofs.Keeping.{does_setups, images_sound}
+use Rattle.process_image.proofs.ToldLines.{lines_are}
 
 -- one slot at a sample
 sample-part : (size so : ℕ) (calls : List ImageEvent) (now : List ℕ) (p : Place) (x : SeatStep) → now ≡ input size calls → IsSeatOf size calls p x.old → IsSoundSeat (length now) so x.old → IsSampleStep now x
@@ -126,3 +130,63 @@ pub tick_answers : (si so : ℕ) (old : ImagesView) (new : List Seat) (after : L
 tick_answers si so old new after dids s d = record {
   told_are = λ plan calls h. d.told_are ∙ ticked-all plan.size_in calls plan.places d.steps (ticked-parts plan calls old si so new after dids h s d);
 }
+
+-- what is done and told of all slots, without what is told
+abbrev as-done : (Q : SeatStep → Type 0) (number : ℕ) (old : List Seat) (before : List ℕ) (new : List Seat) (after text : List ℕ) → (t : TellsEach Q number old before new after text)
+    → DoesEach Q told_by old before new after (map told_by t.steps)
+as-done Q number old before new after text t = record { steps = t.steps; each = t.each; old_are = t.old_are; new_are = t.new_are; told_are = refl; output_is = t.output_is }
+
+pub sample_does : (so number : ℕ) (old new : ImagesView) (text : List ℕ) → All (IsSoundSeat (length old.input) so) old.seats → TellsEach (IsSampleStep old.input) number old.seats old.output new.seats new.output text
+    → new.input ≡ old.input → length new.output ≡ length old.output → DoesEvent old event.Sample number new text
+sample_does so number old new text s t now size =
+    let d : DoesEach (IsSampleStep old.input) told_by old.seats old.output new.seats new.output (map told_by t.steps) = as-done (IsSampleStep old.input) number old.seats old.output new.seats new.output text t in
+    record {
+      follows = sample_follows so old new (map told_by t.steps) s d now;
+      tells = record {
+        lines = λ plan calls h n.
+            lines_are plan.size_in number 1 calls event.Sample plan.places t.steps text n (sampled-parts plan calls old so new.seats new.output (map told_by t.steps) h s d) h.made.numbers t.lines;
+      };
+      setups = does_setups (IsSampleStep old.input) told_by old.seats old.output new.seats new.output (map told_by t.steps) (λ x q. q.is) d;
+      size_in = ap length now;
+      size_out = size;
+    }
+
+abbrev as-ticked : (number : ℕ) (old : List Seat) (before : List ℕ) (new : List Seat) (after text : List ℕ) → (t : TellsEach IsTickStep number old before new after text) → DoesEach IsTickStep did_in old before new after (map did_in t.steps)
+as-ticked number old before new after text t = record { steps = t.steps; each = t.each; old_are = t.old_are; new_are = t.new_are; told_are = refl; output_is = t.output_is }
+
+pub tick_does : (si so number : ℕ) (old new : ImagesView) (text : List ℕ) → All (IsSoundSeat si so) old.seats → TellsEach IsTickStep number old.seats old.output new.seats new.output text → new.input ≡ old.input
+    → length new.output ≡ length old.output → DoesEvent old event.Tick number new text
+tick_does si so number old new text s t now size =
+    let d : DoesEach IsTickStep did_in old.seats old.output new.seats new.output (map did_in t.steps) = as-ticked number old.seats old.output new.seats new.output text t in
+    record {
+      follows = tick_follows si so old new (map did_in t.steps) s d now;
+      tells = record {
+        lines = λ plan calls h n.
+            lines_are plan.size_in number 1 calls event.Tick plan.places t.steps text n (ticked-parts plan calls old si so new.seats new.output (map did_in t.steps) h s d) h.made.numbers t.lines;
+      };
+      setups = does_setups IsTickStep did_in old.seats old.output new.seats new.output (map did_in t.steps) (λ x q. q.is) d;
+      size_in = ap length now;
+      size_out = size;
+    }
+
+-- images stay sound
+pub sample_sound : (number : ℕ) (v : ImagesView) (new : List Seat) (after text : List ℕ) → IsSound v → TellsEach (IsSampleStep v.input) number v.seats v.output new after text → length after ≡ length v.output
+    → IsSound (record { seats = new; input = v.input; output = after })
+sample_sound number v new after text s t n =
+    images_sound (IsSampleStep v.input) told_by v new after (map told_by t.steps) (λ x q. q.is) s (as-done (IsSampleStep v.input) number v.seats v.output new after text t) n
+
+pub tick_sound : (number : ℕ) (v : ImagesView) (new : List Seat) (after text : List ℕ) → IsSound v → TellsEach IsTickStep number v.seats v.output new after text → length after ≡ length v.output
+    → IsSound (record { seats = new; input = v.input; output = after })
+tick_sound number v new after text s t n = images_sound IsTickStep did_in v new after (map did_in t.steps) (λ x q. q.is) s (as-ticked number v.seats v.output new after text t) n
+
+-- the same, of the lists that are at hand
+pub sample_alike : (number : ℕ) (input input' : List ℕ) (old old' : List Seat) (before before' : List ℕ) (new : List Seat) (after text : List ℕ) → TellsEach (IsSampleStep input) number old before new after text
+    → input ≡ input' → old ≡ old' → before ≡ before' → TellsEach (IsSampleStep input') number old' before' new after text
+sample_alike number input input' old old' before before' new after text t e f g =
+    subst (λ (xs : List ℕ). TellsEach (IsSampleStep xs) number old' before' new after text) e
+    (subst (λ (xs : List Seat). TellsEach (IsSampleStep input) number xs before' new after text) f (subst (λ (xs : List ℕ). TellsEach (IsSampleStep input) number old xs new after text) g t))
+
+pub tick_alike : (number : ℕ) (old old' : List Seat) (before before' : List ℕ) (new : List Seat) (after text : List ℕ) → TellsEach IsTickStep number old before new after text → old ≡ old' → before ≡ before'
+    → TellsEach IsTickStep number old' before' new after text
+tick_alike number old old' before before' new after text t f g =
+    subst (λ (xs : List Seat). TellsEach IsTickStep number xs before' new after text) f (subst (λ (xs : List ℕ). TellsEach IsTickStep number old xs new after text) g t)

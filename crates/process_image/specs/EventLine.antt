@@ -39,6 +39,19 @@ end_at slot ends = value_or cause.NoLink (numbered slot ends)
 abbrev pub bare_line : ImageLine → List (List ℕ) → Result ImageLine LineCause
 bare_line says fields = map_ok (λ none. says) (no_field fields)
 
+-- a cause, or the one for want of a value that comes before it
+abbrev pub cause_or : {A : Type 0} → LineCause → Result A LineCause → LineCause
+cause_or cause (Ok x) = cause
+cause_or cause (Err e) = e
+
+-- bytes from a place on, which lie inside an input image of this size
+abbrev pub written_at : ℕ → List ℕ → ℕ → Result ImageLine LineCause
+written_at size bytes at = if nat_le (at + length bytes) size then Ok (line.Step (event.Write at bytes)) else Err cause.Position
+
+-- bytes from the place on that a field says
+abbrev pub written_by : ℕ → List ℕ → List ℕ → Result ImageLine LineCause
+written_by size place bytes = number_16 place >>= written_at size bytes
+
 -- from 1 to 256 bytes, which lie inside the input image from their place on
 abbrev pub write_line : ℕ → List (List ℕ) → Result ImageLine LineCause
 write_line size fields = do
@@ -46,7 +59,14 @@ write_line size fields = do
   digits ← one_field place.1
   at ← number_16 place.0
   bytes ← value_or cause.Hex (bytes_said MOST_WRITTEN digits)
-  if nat_le (at + length bytes) size then Ok (line.Step (event.Write at bytes)) else Err cause.Position
+  written_at size bytes at
+
+-- why a place says nothing that is written with these fields behind it, of which none is bytes: there isn't one, the place is no number, or
+-- there are no bytes
+abbrev pub not_written : List ℕ → List (List ℕ) → LineCause
+not_written place [] = cause.Fields
+not_written place (digits ∷ []) = cause_or cause.Hex (number_16 place)
+not_written place (digits ∷ next ∷ more) = cause.Fields
 
 -- safe data bytes, exactly as many as the end of the slot sends
 abbrev pub put_line : List SlotEnd → List (List ℕ) → Result ImageLine LineCause

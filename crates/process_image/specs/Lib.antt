@@ -8,6 +8,8 @@ pub mod Own
 pub mod Places
 pub mod Ran
 pub mod Report
+pub mod Said
+pub mod SlotLines
 pub mod Sound
 pub mod Standing
 pub mod Telling

@@ -82,3 +82,7 @@ pub record DoesEach {T : Type 0} (Q : SeatStep → Type 0) (tell : SeatStep → 
 -- what a tick tells of a step
 abbrev pub did_in : SeatStep → Did
 did_in x = x.did
+
+-- what the end of a slot did in a step, and the frame that it sent
+abbrev pub answer_in : SeatStep → Did × List ℕ
+answer_in x = (x.did, x.sent)

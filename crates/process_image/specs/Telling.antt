@@ -1,16 +1,10 @@
 -- The text of an event of images: a line for each slot of which the event is a move.
-use Rattle.std.specs.Prelude.{◌≡◌, ◌≤◌, ℕ, ◌+◌, List, [], ◌∷◌, ◌++◌, length, map, take, drop, codes, decimal, Option, IfSome, IsTrue, if◌then◌else◌}
-use Rattle.fsoe_base.specs.declared.did.Did.{Did}
-use Rattle.entry_text.specs.EntryText.{entry_text}
+use Rattle.std.specs.Prelude.{◌≡◌, ◌≤◌, ℕ, ◌+◌, List, length, drop, IfSome, IsTrue}
 use Rattle.param_load.specs.Profile.{allows_id}
-use Rattle.end_model.specs.Deed.{Deed}
-use Rattle.end_model.specs.Outputs.{out}
-use Rattle.end_model.specs.Readiness.{state_of}
-use Rattle.end_model.specs.Setup.{Setup, profile_of, sends}
-use Rattle.process_image.specs.Calls.{last_frame}
+use Rattle.end_model.specs.Setup.{profile_of, sends}
 use Rattle.process_image.specs.Places.{Plan}
 use Rattle.process_image.specs.Report.{event_lines}
-use Rattle.process_image.specs.Standing.{ImagesView, StandsFor, Follows, HasSlot, numbered, setups_of, told}
+use Rattle.process_image.specs.Standing.{ImagesView, StandsFor, Follows, HasSlot, numbered, setups_of}
 use Rattle.process_image.specs.declared.event.ImageEvent.{ImageEvent}
 use Rattle.process_image.specs.declared.event.ImageEvent.TheVariants as event
 
@@ -22,11 +16,6 @@ pub record WaitingText : Type 0 where
 -- what wasn't
 abbrev pub waits : WaitingText → List ℕ
 waits w = drop w.given w.text
-
--- the line of a slot whose end did this at the event of this number, and is after these deeds: its last frame is the one that it sent, if it
--- sent one
-abbrev pub told_line : ℕ → ℕ → Did → Setup → List Deed → List ℕ
-told_line n slot did s e = decimal n ++ codes " " ++ decimal slot ++ codes " " ++ entry_text did (state_of s e) (out s e) (if did.sent then last_frame s e else []) ++ codes "\n"
 
 -- an event may come to images: bytes lie inside the input image, a slot exists, and its end may be put or given this
 abbrev pub FitsImages : ImagesView → ImageEvent → Type 0
@@ -49,13 +38,3 @@ pub record DoesEvent (old : ImagesView) (event : ImageEvent) (number : ℕ) (new
   pub setups : setups_of new ≡ setups_of old
   pub size_in : length new.input ≡ length old.input
   pub size_out : length new.output ≡ length old.output
-
--- the text of an event that came to images, where this is what is told of each slot
-pub record TellsAll (v : ImagesView) (event : ImageEvent) (dids : List (Option Did)) (number : ℕ) (text : List ℕ) : Type 0 where
-  pub lines : (plan : Plan) (calls : List ImageEvent) → StandsFor plan v (event ∷ calls) → dids ≡ map (told plan.size_in calls event) plan.places → number ≡ length calls + 1
-      → text ≡ event_lines plan.size_in calls event plan.places
-
--- the first of these slots are told of
-pub record TellsFirst (v : ImagesView) (event : ImageEvent) (dids : List (Option Did)) (number count : ℕ) (text : List ℕ) : Type 0 where
-  pub lines : (plan : Plan) (calls : List ImageEvent) → StandsFor plan v (event ∷ calls) → dids ≡ map (told plan.size_in calls event) plan.places → number ≡ length calls + 1
-      → text ≡ event_lines plan.size_in calls event (take count plan.places)

@@ -1,12 +1,15 @@
 //! Lines of events.
-ghost use Rattle.std.specs.Prelude.{◌≡◌};
-ghost use Rattle.schedule_file.specs.Field.{fields_after};
+ghost use Rattle.std.specs.Prelude.{◌≡◌, ◌≤◌, length};
+ghost use Rattle.schedule_file.specs.Field.{fields_after, fields_of};
 ghost use Rattle.schedule_file.specs.Fields.{Becomes};
-ghost use Rattle.process_image.specs.EventLine.{word_of, end_at, bare_line, write_line, put_line, hold_line, nonce_line, reset_line, image_line};
+ghost use Rattle.process_image.specs.EventLine.{word_of, end_at, bare_line, write_line, written_by, not_written, put_line, hold_line, nonce_line, reset_line, image_line};
 ghost use Rattle.process_image.specs.Standing.{numbered};
+ghost use Rattle.process_image.specs.declared.event.ImageEvent.TheVariants as event;
+ghost use Rattle.process_image.specs.declared.event.ImageLine.TheVariants as said;
 
-use crate::event::{ImageEvent, ImageLine, MOST_WRITTEN};
-use fsoe_base::{ByteList, Image, MOST_DATA};
+use crate::event::{ImageEvent, MOST_WRITTEN};
+use crate::said::Said;
+use fsoe_base::{Image, MOST_DATA};
 use param_load::Profile;
 use schedule_file::{
     HexBytes, LineCause, cut, next_field, no_field, number_16, number_32, one_field, read_switch,
@@ -85,33 +88,80 @@ fn end_at(slot: u16, ends: &[SlotEnd]) -> Result<SlotEnd, LineCause>
     find_end(slot, ends).ok_or(LineCause::NoLink)
 }
 
-/// No field.
-fn read_bare(says: ImageLine, fields: Option<&[u8]>) -> Result<ImageLine, LineCause>
-    ensures { result ≡ bare_line says (fields_after fields.entry) }
+/// No field: a sample.
+fn read_sample(fields: Option<&[u8]>, says: &mut Said) -> Result<(), LineCause>
+    ensures { Becomes result says.new (bare_line (said.Step event.Sample) (fields_after fields.entry)) }
 {
     no_field(fields)?;
-    Ok(says)
+    says.set_sample();
+    Ok(())
+}
+
+/// No field: a tick.
+fn read_tick(fields: Option<&[u8]>, says: &mut Said) -> Result<(), LineCause>
+    ensures { Becomes result says.new (bare_line (said.Step event.Tick) (fields_after fields.entry)) }
+{
+    no_field(fields)?;
+    says.set_tick();
+    Ok(())
+}
+
+/// No field: the end.
+fn read_end(fields: Option<&[u8]>, says: &mut Said) -> Result<(), LineCause>
+    ensures { Becomes result says.new (bare_line said.End (fields_after fields.entry)) }
+{
+    no_field(fields)?;
+    says.set_end();
+    Ok(())
 }
 
 /// `<at> <hex>`: from 1 to 256 bytes inside the input image.
-fn read_write(size: u16, fields: Option<&[u8]>) -> Result<ImageLine, LineCause>
-    ensures { result ≡ write_line size (fields_after fields.entry) }
+#[tactic(auto, using(crate::proofs::Written::said, crate::proofs::Written::unsaid))]
+fn read_write(size: u16, fields: Option<&[u8]>, says: &mut Said) -> Result<(), LineCause>
+    ensures { Becomes result says.new (write_line size (fields_after fields.entry)) }
 {
     let (place, rest) = next_field(fields)?;
-    let digits = one_field(rest)?;
+    let Some(digits) = rest else {
+        return Err(LineCause::Fields);
+    };
+    // Digits have no space among them, so one is sought only where they aren't digits.
+    match &HexBytes::read(digits, MOST_WRITTEN) {
+        Some(written) => set_written(size, place, written.bytes(), says),
+        None => Err(not_written(place, digits)),
+    }
+}
+
+/// These bytes from a place on, where they lie inside an input image of this size.
+fn set_written(size: u16, place: &[u8], bytes: &[u8], says: &mut Said) -> Result<(), LineCause>
+    requires { length bytes.now ≤ MOST_WRITTEN }
+    ensures { Becomes result says.new (written_by size place.now bytes.now) }
+{
     let at = number_16(place)?;
-    let written = HexBytes::read(digits, MOST_WRITTEN).ok_or(LineCause::Hex)?;
-    if usize::from(at) + written.bytes().len() > usize::from(size) {
+    if usize::from(at) + bytes.len() > usize::from(size) {
         return Err(LineCause::Position);
     }
-    let mut bytes = ByteList::new();
-    bytes.set(written.bytes());
-    Ok(ImageLine::Step(ImageEvent::Write { at, bytes }))
+    says.set_write(at, bytes);
+    Ok(())
+}
+
+/// Why a place with what stands behind it, which isn't bytes, says nothing that is written.
+#[cold]
+#[inline(never)]
+fn not_written(place: &[u8], rest: &[u8]) -> LineCause
+    ensures { result ≡ not_written place.now (fields_of rest.now) }
+{
+    match one_field(Some(rest)) {
+        Ok(_) => match number_16(place) {
+            Ok(_) => LineCause::Hex,
+            Err(cause) => cause,
+        },
+        Err(cause) => cause,
+    }
 }
 
 /// `<k> <hex>`: as many safe data bytes as the end of the slot sends.
-fn read_put(ends: &[SlotEnd], fields: Option<&[u8]>) -> Result<ImageLine, LineCause>
-    ensures { result ≡ put_line ends.now (fields_after fields.entry) }
+fn read_put(ends: &[SlotEnd], fields: Option<&[u8]>, says: &mut Said) -> Result<(), LineCause>
+    ensures { Becomes result says.new (put_line ends.now (fields_after fields.entry)) }
 {
     let (first, rest) = next_field(fields)?;
     let digits = one_field(rest)?;
@@ -123,71 +173,75 @@ fn read_put(ends: &[SlotEnd], fields: Option<&[u8]>) -> Result<ImageLine, LineCa
     }
     let mut load = Image::new();
     load.set(said.bytes());
-    Ok(ImageLine::Step(ImageEvent::Put { slot, load }))
+    says.set(ImageEvent::Put { slot, load });
+    Ok(())
 }
 
 /// `<k> 0` or `<k> 1`: fail-safe data off or on.
-fn read_hold(ends: &[SlotEnd], fields: Option<&[u8]>) -> Result<ImageLine, LineCause>
-    ensures { result ≡ hold_line ends.now (fields_after fields.entry) }
+fn read_hold(ends: &[SlotEnd], fields: Option<&[u8]>, says: &mut Said) -> Result<(), LineCause>
+    ensures { Becomes result says.new (hold_line ends.now (fields_after fields.entry)) }
 {
     let (first, rest) = next_field(fields)?;
     let field = one_field(rest)?;
     let slot = number_16(first)?;
     let failsafe = read_switch(field).ok_or(LineCause::Number)?;
     end_at(slot, ends)?;
-    Ok(ImageLine::Step(ImageEvent::Hold { slot, failsafe }))
+    says.set(ImageEvent::Hold { slot, failsafe });
+    Ok(())
 }
 
 /// `<k> <id>`: a session id that the profile of the slot's end allows.
-fn read_nonce(ends: &[SlotEnd], fields: Option<&[u8]>) -> Result<ImageLine, LineCause>
-    ensures { result ≡ nonce_line ends.now (fields_after fields.entry) }
+fn read_nonce(ends: &[SlotEnd], fields: Option<&[u8]>, says: &mut Said) -> Result<(), LineCause>
+    ensures { Becomes result says.new (nonce_line ends.now (fields_after fields.entry)) }
 {
     let (first, rest) = next_field(fields)?;
     let field = one_field(rest)?;
     let slot = number_16(first)?;
     let id = number_32(field)?;
     match find_end(slot, ends) {
-        Some(end) if end.profile.allows_id(id) => Ok(ImageLine::Step(ImageEvent::Nonce {
-            slot,
-            id,
-        })),
+        Some(end) if end.profile.allows_id(id) => {
+            says.set(ImageEvent::Nonce { slot, id });
+            Ok(())
+        }
         None if id <= 65535 => Err(LineCause::NoLink),
         _ => Err(LineCause::Number),
     }
 }
 
 /// `<k>`: the slot that resets itself.
-fn read_reset(ends: &[SlotEnd], fields: Option<&[u8]>) -> Result<ImageLine, LineCause>
-    ensures { result ≡ reset_line ends.now (fields_after fields.entry) }
+fn read_reset(ends: &[SlotEnd], fields: Option<&[u8]>, says: &mut Said) -> Result<(), LineCause>
+    ensures { Becomes result says.new (reset_line ends.now (fields_after fields.entry)) }
 {
     let field = one_field(fields)?;
     let slot = number_16(field)?;
     end_at(slot, ends)?;
-    Ok(ImageLine::Step(ImageEvent::Reset { slot }))
+    says.set(ImageEvent::Reset { slot });
+    Ok(())
 }
 
 /// What a line after the header says, without its newline, where the input image has this size and the slots have these ends: an event,
-/// or that there are no more. The lines are `w <at> <hex>` (from 1 to 256 bytes inside the input image), `s` (a sample), `t` (a tick),
-/// `p <k> <hex>` (exactly as many safe data bytes as the end of slot `k` sends), `h <k> 0` and `h <k> 1` (fail-safe data off and on),
-/// `n <k> <id>` (a session id that its profile allows), `z <k>` (a local reset), and `end`. An error is the first of these causes that
-/// applies: `Word`, `Fields`, `Number`, `NoLink`, `Hex`, `Length`, `Position`.
+/// or that there are no more. It is written over `says`. The lines are `w <at> <hex>` (from 1 to 256 bytes inside the input image), `s` (a
+/// sample), `t` (a tick), `p <k> <hex>` (exactly as many safe data bytes as the end of slot `k` sends), `h <k> 0` and `h <k> 1` (fail-safe
+/// data off and on), `n <k> <id>` (a session id that its profile allows), `z <k>` (a local reset), and `end`. An error is the first of these
+/// causes that applies: `Word`, `Fields`, `Number`, `NoLink`, `Hex`, `Length`, `Position`.
 pub(crate) fn read_image_line(
     line: &[u8],
     size: u16,
     ends: &[SlotEnd],
-) -> Result<ImageLine, LineCause>
-    ensures { result ≡ image_line size ends.now line.now }
+    says: &mut Said,
+) -> Result<(), LineCause>
+    ensures { Becomes result says.new (image_line size ends.now line.now) }
 {
     let (first, fields) = cut(line);
     match read_word(first) {
-        Some(Word::Write) => read_write(size, fields),
-        Some(Word::Sample) => read_bare(ImageLine::Step(ImageEvent::Sample), fields),
-        Some(Word::Tick) => read_bare(ImageLine::Step(ImageEvent::Tick), fields),
-        Some(Word::Put) => read_put(ends, fields),
-        Some(Word::Hold) => read_hold(ends, fields),
-        Some(Word::Nonce) => read_nonce(ends, fields),
-        Some(Word::Reset) => read_reset(ends, fields),
-        Some(Word::End) => read_bare(ImageLine::End, fields),
+        Some(Word::Write) => read_write(size, fields, says),
+        Some(Word::Sample) => read_sample(fields, says),
+        Some(Word::Tick) => read_tick(fields, says),
+        Some(Word::Put) => read_put(ends, fields, says),
+        Some(Word::Hold) => read_hold(ends, fields, says),
+        Some(Word::Nonce) => read_nonce(ends, fields, says),
+        Some(Word::Reset) => read_reset(ends, fields, says),
+        Some(Word::End) => read_end(fields, says),
         None => Err(LineCause::Word),
     }
 }

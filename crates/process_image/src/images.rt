@@ -1,5 +1,5 @@
 //! The images.
-ghost use Rattle.std.specs.Prelude.{◌≡◌, ◌≤◌, ◌+◌, [], map, length, vec_len, IsTrue, IfOk, IfErr, IfSome, None, Some, All};
+ghost use Rattle.std.specs.Prelude.{◌≡◌, ◌≤◌, ◌+◌, ◌++◌, [], map, length, vec_len, IsTrue, IfOk, IfErr, IfSome, None, Some, All};
 ghost use Rattle.std.specs.Result.{result_err};
 ghost use Rattle.param_load.specs.Profile.{allows_id};
 ghost use Rattle.end_model.specs.Outputs.{out};
@@ -15,7 +15,9 @@ use crate::making::{seats_of, zeros};
 use crate::seat::{Seat, overwrite, sample_all, tick_all};
 use crate::slot::Slot;
 use crate::spans::first_fault;
+use crate::told_lines::{Telling, sample_telling, tick_telling, write_line};
 use fsoe_base::{Did, FrameBuf, MOST_DATA, MOST_FRAME, State};
+use fsoe_io::LineText;
 use std::marker::Model;
 
 /// An input image and an output image of up to 64 slots, no two of which share a byte. No call but `new` takes memory.
@@ -44,6 +46,8 @@ impl Images {
     ghost use Rattle.process_image.specs.Fault.{first_fault};
     ghost use Rattle.process_image.specs.Places.{plan_of};
     ghost use Rattle.process_image.specs.Standing.{numbered, setups_of, slots_in, StandsFor, HasSlot, Follows, AnswersSample, AnswersTick, AnswersReset, ShowsAt, ShowsImage, ShowsFrames};
+    ghost use Rattle.process_image.specs.SlotLines.{told_line};
+    ghost use Rattle.process_image.specs.Telling.{DoesEvent};
 
     /// Images of these sizes with these slots, in this order. Both hold zeros, and so does what was sampled last. There may be no slot
     /// at all. Refused are more than 64 slots; then the first whose frames don't lie inside both images; then the first two that share
@@ -211,5 +215,46 @@ impl Images {
         ensures value { result.now ≡ self.now.output }
     {
         self.output.as_slice()
+    }
+
+    /// Samples as `sample` does at the event of this number, and tells of each slot to which something is delivered.
+    pub(crate) fn sample_telling(&mut self, number: u64, telling: &mut Telling, text: &mut LineText)
+        requires empty { text.old ≡ [] }
+        requires fresh { telling.old.waiting.text ≡ [] }
+        ensures { DoesEvent self.old event.Sample number self.new (text.new ++ telling.new.waiting.text) }
+    {
+        sample_telling(
+            self.seats.as_mut_slice(),
+            number,
+            self.input.as_slice(),
+            self.output.as_mut_slice(),
+            telling,
+            text,
+        );
+    }
+
+    /// Counts a tick as `tick` does at the event of this number, and tells of each slot.
+    pub(crate) fn tick_telling(&mut self, number: u64, telling: &mut Telling, text: &mut LineText)
+        requires empty { text.old ≡ [] }
+        requires fresh { telling.old.waiting.text ≡ [] }
+        ensures { DoesEvent self.old event.Tick number self.new (text.new ++ telling.new.waiting.text) }
+    {
+        tick_telling(
+            self.seats.as_mut_slice(),
+            number,
+            self.output.as_mut_slice(),
+            telling,
+            text,
+        );
+    }
+
+    /// Writes over `text` what the end of this slot did at the event of this number.
+    pub(crate) fn write_line(&self, slot: u16, number: u64, did: &Did, text: &mut LineText)
+        requires { HasSlot self.now slot }
+        ensures { ShowsAt self.now slot text.new (told_line number slot did.now) }
+    {
+        let sent: &[u8] = if did.sent { self.frame(slot) } else { b"" };
+        let core = &self.seats[usize::from(slot) - 1].core;
+        write_line(core, slot, number, did, sent, text);
     }
 }

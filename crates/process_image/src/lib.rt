@@ -34,6 +34,7 @@ mod images;
 pub mod laws;
 mod making;
 mod run;
+mod said;
 mod seat;
 mod slot;
 mod spans;

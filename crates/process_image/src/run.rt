@@ -1,23 +1,24 @@
 //! The run of images over an input.
-ghost use Rattle.std.specs.Prelude.{◌≡◌, ◌≤◌, ◌+◌, ◌*◌, ◌++◌, [], IfOk, codes, length};
+ghost use Rattle.std.specs.Prelude.{◌≡◌, ◌≤◌, ◌+◌, ◌*◌, ◌++◌, [], codes, length};
 ghost use Rattle.hex.specs.Hex.{encode_lower};
-ghost use Rattle.file_run.specs.Report.{events_line};
 ghost use Rattle.process_image.specs.Ran.{RanImage};
 ghost use Rattle.process_image.specs.Telling.{DoesEvent, FitsImages};
 ghost use Rattle.process_image.specs.declared.header.TheConstants.{MOST_SIZE};
 ghost use Rattle.process_image.specs.declared.waiting.TheConstants.{MOST_TEXT};
 
-use crate::event::{ImageEvent, ImageLine, MOST_EVENTS};
+use crate::event::{ImageEvent, MOST_EVENTS};
 use crate::event_line::{SlotEnd, read_image_line};
 use crate::event_run;
 use crate::fault::SlotFault;
 use crate::header::ImageHeader;
 use crate::images::Images;
+use crate::said::Said;
 use crate::spans::MOST_SLOTS;
+use crate::told_lines::Telling;
 use crate::waiting::Waiting;
 use arrayvec::ArrayVec;
 use file_run::{Format, Machine, Stopped, Untaken, run_over, write_events};
-use fsoe_base::{Did, Memory};
+use fsoe_base::Memory;
 use fsoe_io::{Ended, LineText, Sink, Source, Status};
 use schedule_file::LineCause;
 use std::alloc::Global;
@@ -46,7 +47,7 @@ impl Format for ImageFormat {
 
     type Grammar = ImageGrammar;
 
-    type Line = ImageLine;
+    type Line = Said;
 
     type Event = ImageEvent;
 
@@ -77,81 +78,36 @@ impl Format for ImageFormat {
         }
     }
 
-    fn end() -> ImageLine {
-        ImageLine::End
+    fn end() -> Said {
+        Said::end()
     }
 
-    fn read(grammar: &ImageGrammar, line: &[u8], said: &mut ImageLine) -> Result<(), LineCause> {
-        match read_image_line(line, grammar.size_in, grammar.ends.as_slice()) {
-            Ok(says) => {
-                *said = says;
-                Ok(())
-            }
-            Err(cause) => Err(cause),
-        }
+    fn read(grammar: &ImageGrammar, line: &[u8], said: &mut Said) -> Result<(), LineCause> {
+        read_image_line(line, grammar.size_in, grammar.ends.as_slice(), said)
     }
 
-    fn event(line: &ImageLine) -> Option<&ImageEvent> {
-        match line {
-            ImageLine::Step(event) => Some(event),
-            ImageLine::End => None,
-        }
+    fn event(line: &Said) -> Option<&ImageEvent> {
+        line.event()
     }
 }
 
-/// Images that run over the events of an input, with what their slots did last and the text of that. All memory is taken before the first
-/// event.
+/// Images that run over the events of an input, with what is told of their slots. All memory is taken before the first event.
 #[derive(Drop)]
 pub(crate) struct ImageRun {
     images: Images,
-    sampled: Vec<Option<Did>>,
-    ticked: Vec<Did>,
-    line: LineText,
-    waiting: Waiting,
+    telling: Telling,
 }
 
 impl Model for ImageRun {
-    ghost use Rattle.std.specs.Prelude.{◌≡◌, ◌≤◌, length};
+    ghost use Rattle.std.specs.Prelude.{◌≤◌, length};
     ghost use Rattle.process_image.specs.Ran.{RunView};
-    ghost use Rattle.process_image.specs.Standing.{slots_in};
     ghost use Rattle.process_image.specs.declared.header.TheConstants.{MOST_SIZE};
-    ghost use Rattle.process_image.specs.declared.waiting.TheConstants.{MOST_TEXT};
 
     ghost Value = { RunView };
 
-    ghost view = { λ r. record { images = r.images; waiting = r.waiting } };
+    ghost view = { λ r. record { images = r.images; waiting = r.telling.waiting } };
 
-    ghost invariant = { λ r. (length r.sampled.items ≡ slots_in r.images) × (length r.ticked.items ≡ slots_in r.images) × (slots_in r.images ≤ 64) × (length r.images.output ≤ MOST_SIZE) };
-}
-
-/// A place for what each slot did at a sample.
-fn places(alloc: Global, count: usize) -> Result<Vec<Option<Did>>, Memory>
-    ensures { IfOk result (λ places. length places.items ≡ count) }
-{
-    let Ok(mut places) = Vec::with_capacity(alloc, count) else {
-        return Err(Memory);
-    };
-    for _ in 0..count {
-        if places.push(None).is_err() {
-            return Err(Memory);
-        }
-    }
-    Ok(places)
-}
-
-/// What each slot did at a tick, before the first one.
-fn dids(alloc: Global, count: usize) -> Result<Vec<Did>, Memory>
-    ensures { IfOk result (λ dids. length dids.items ≡ count) }
-{
-    let Ok(mut dids) = Vec::with_capacity(alloc, count) else {
-        return Err(Memory);
-    };
-    for _ in 0..count {
-        if dids.push(Did::nothing()).is_err() {
-            return Err(Memory);
-        }
-    }
-    Ok(dids)
+    ghost invariant = { λ r. length r.images.output ≤ MOST_SIZE };
 }
 
 /// Appends an image as hexadecimal digits to what waits.
@@ -169,57 +125,45 @@ fn push_image(image: &[u8], line: &mut LineText, waiting: &mut Waiting)
     }
 }
 
-/// The last lines after so many events: their number, and the output image.
-fn push_last(events: u64, image: &[u8], line: &mut LineText, waiting: &mut Waiting)
+/// The last line, the output image.
+fn push_last(image: &[u8], line: &mut LineText, waiting: &mut Waiting)
     requires size { length image.now ≤ MOST_SIZE }
     requires fresh { waiting.old.text ≡ [] }
-    ensures { waiting.new.text ≡ events_line events ++ codes "out " ++ encode_lower image.now ++ codes "\n" }
+    ensures { waiting.new.text ≡ codes "out " ++ encode_lower image.now ++ codes "\n" }
 {
-    write_events(events, line);
-    waiting.push(line.bytes());
     waiting.push(b"out ");
     push_image(image, line, waiting);
     waiting.push(b"\n");
 }
 
 impl ImageRun {
-    /// Does the event of this number, from 1. Its text is then what waits.
-    fn take(&mut self, event: &ImageEvent, number: u64)
+    /// Does the event of this number, from 1. Its text is then `text`, and what waits behind it.
+    #[tactic(auto, using(crate::proofs::Events::alone))]
+    fn take(&mut self, event: &ImageEvent, number: u64, text: &mut LineText)
         requires fits { FitsImages self.old.images event.now }
+        requires empty { text.old ≡ [] }
         requires fresh { self.old.waiting.text ≡ [] }
-        ensures { DoesEvent self.old.images event.now number self.new.images self.new.waiting.text }
+        ensures { DoesEvent self.old.images event.now number self.new.images (text.new ++ self.new.waiting.text) }
     {
-        let ImageRun {
-            images,
-            sampled,
-            ticked,
-            line,
-            waiting,
-        } = self;
+        let ImageRun { images, telling } = self;
         match event {
             ImageEvent::Write { at, bytes } => {
-                event_run::write(images, *at, bytes.bytes(), number, waiting)
+                event_run::write(images, *at, bytes.bytes(), number, text)
             }
-            ImageEvent::Sample => {
-                event_run::sample(images, sampled.as_mut_slice(), number, line, waiting)
-            }
-            ImageEvent::Tick => event_run::tick(
-                images,
-                ticked.as_mut_slice(),
-                number,
-                line,
-                waiting,
-            ),
+            ImageEvent::Sample => images.sample_telling(number, telling, text),
+            ImageEvent::Tick => images.tick_telling(number, telling, text),
             ImageEvent::Put { slot, load } => {
-                event_run::put(images, *slot, load.bytes(), number, line, waiting)
+                event_run::put(images, *slot, load.bytes(), number, &mut telling.did, text)
             }
             ImageEvent::Hold { slot, failsafe } => {
-                event_run::hold(images, *slot, *failsafe, number, line, waiting)
+                event_run::hold(images, *slot, *failsafe, number, &mut telling.did, text)
             }
             ImageEvent::Nonce { slot, id } => {
-                event_run::nonce(images, *slot, *id, number, line, waiting)
+                event_run::nonce(images, *slot, *id, number, &mut telling.did, text)
             }
-            ImageEvent::Reset { slot } => event_run::reset(images, *slot, number, line, waiting),
+            ImageEvent::Reset { slot } => {
+                event_run::reset(images, *slot, number, &mut telling.did, text)
+            }
         }
     }
 }
@@ -251,7 +195,6 @@ impl Machine for ImageRun {
 
     fn begin(header: &ImageHeader, alloc: &mut Global) -> Result<ImageRun, Memory> {
         let slots = header.slots(*alloc)?;
-        let count = slots.len();
         let (size_in, size_out) = header.sizes();
         let images = match Images::new(size_in, size_out, slots) {
             Ok(images) => images,
@@ -262,10 +205,7 @@ impl Machine for ImageRun {
         };
         Ok(ImageRun {
             images,
-            sampled: places(*alloc, count)?,
-            ticked: dids(*alloc, count)?,
-            line: LineText::new(),
-            waiting: Waiting::new(*alloc)?,
+            telling: Telling::new(*alloc)?,
         })
     }
 
@@ -280,18 +220,19 @@ impl Machine for ImageRun {
         number: u64,
         text: &mut LineText,
     ) -> Result<(), Stopped> {
-        self.waiting.clear();
-        self.take(event, number);
-        self.waiting.start();
-        self.waiting.give(text);
+        text.clear();
+        self.telling.waiting.clear();
+        self.take(event, number, text);
+        self.telling.waiting.start();
         Ok(())
     }
 
     fn close(&mut self, _: &Global, events: u64, text: &mut LineText) -> Ended {
-        self.waiting.clear();
-        push_last(events, self.images.out(), &mut self.line, &mut self.waiting);
-        self.waiting.start();
-        self.waiting.give(text);
+        write_events(events, text);
+        let Telling { line, waiting, .. } = &mut self.telling;
+        waiting.clear();
+        push_last(self.images.out(), line, waiting);
+        waiting.start();
         Ended {
             status: Status::Ok,
             place: 0,
@@ -299,7 +240,7 @@ impl Machine for ImageRun {
     }
 
     fn more(&mut self, _: &Global, text: &mut LineText) {
-        self.waiting.give(text);
+        self.telling.waiting.give(text);
     }
 }
 

@@ -28,7 +28,9 @@ pub(crate) struct Seat {
 }
 
 impl Seat {
-    ghost use Rattle.process_image.specs.Steps.{with_sent, Does};
+    ghost use Rattle.std.specs.Prelude.{nat_eq, false};
+    ghost use Rattle.std.specs.Cmp.Lexicographic.{pointwise};
+    ghost use Rattle.process_image.specs.Steps.{with_sent, Does, seat_contents, answer_in};
 
     /// A slot of which nothing is sampled yet.
     #[tactic(auto, using(crate::proofs::Beginning::frame_most))]
@@ -55,7 +57,34 @@ impl Seat {
         }
     }
 
-    /// Delivers the slot's contents where they aren't those that it saw last.
+    /// Whether the slot's contents are those that it saw last.
+    pub(crate) fn is_unchanged(&self, input: &[u8]) -> bool
+        requires { self.now.at_in + length self.now.seen ≤ length input.now }
+        ensures { result ≡ pointwise nat_eq self.now.seen (seat_contents self.now input.now) }
+    {
+        self.seen.bytes() == &input[self.at_in..self.at_in + self.seen.len()]
+    }
+
+    /// Delivers the slot's contents, which aren't those that it saw last. What its end did is written to `did`, and the frame that it sent
+    /// to `sent`.
+    pub(crate) fn deliver(
+        &mut self,
+        input: &[u8],
+        output: &mut [u8],
+        sent: &mut FrameBuf,
+        did: &mut Did,
+    )
+        requires sound { IsSoundSeat (length input.now) (length output.old) self.old }
+        requires changed { pointwise nat_eq self.old.seen (seat_contents self.old input.now) ≡ false }
+        ensures { Does (IsSampleStep input.now) answer_in self.old output.old self.new output.new (did.new, sent.new) }
+    {
+        let now = &input[self.at_in..self.at_in + self.seen.len()];
+        self.seen.set(now);
+        self.core.deliver_into(now, did, sent);
+        self.give(sent, output);
+    }
+
+    /// Delivers the slot's contents where they aren't those that it saw last, and tells what its end did then.
     fn sample(
         &mut self,
         input: &[u8],
@@ -66,21 +95,18 @@ impl Seat {
         requires { IsSoundSeat (length input.now) (length output.old) self.old }
         ensures { Does (IsSampleStep input.now) told_by self.old output.old self.new output.new told.new }
     {
-        let now = &input[self.at_in..self.at_in + self.seen.len()];
-        if self.seen.bytes() == now {
+        if self.is_unchanged(input) {
             *told = None;
             return;
         }
-        self.seen.set(now);
         let did = told.insert(Did::nothing());
-        self.core.deliver_into(now, did, sent);
-        self.give(sent, output);
+        self.deliver(input, output, sent, did);
     }
 
-    /// Counts a tick at the slot.
-    fn tick(&mut self, output: &mut [u8], sent: &mut FrameBuf, did: &mut Did)
+    /// Counts a tick at the slot. What its end did is written to `did`, and the frame that it sent to `sent`.
+    pub(crate) fn tick(&mut self, output: &mut [u8], sent: &mut FrameBuf, did: &mut Did)
         requires { MaySend (length output.old) self.old }
-        ensures { Does IsTickStep did_in self.old output.old self.new output.new did.new }
+        ensures { Does IsTickStep answer_in self.old output.old self.new output.new (did.new, sent.new) }
     {
         self.core.tick_into(did, sent);
         self.give(sent, output);

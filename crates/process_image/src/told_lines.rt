@@ -1,84 +1,219 @@
 //! What is written of an event: a line for each slot of which it is a move.
-ghost use Rattle.std.specs.Prelude.{◌≡◌, ◌≤◌, ◌+◌, ◌++◌, [], Some, length, map};
-ghost use Rattle.process_image.specs.Standing.{HasSlot, ShowsAt, slots_in};
-ghost use Rattle.process_image.specs.Telling.{TellsAll, told_line};
-ghost use Rattle.process_image.specs.declared.event.ImageEvent.TheVariants as event;
+ghost use Rattle.std.specs.Prelude.{◌≡◌, ◌≤◌, ◌<◌, ◌+◌, ◌++◌, [], All, decimal, false, length, nat_eq};
+ghost use Rattle.std.specs.Cmp.Lexicographic.{pointwise};
+ghost use Rattle.end_core.specs.Standing.{Shows};
+ghost use Rattle.process_image.specs.Sound.{IsSoundSeat, MaySend};
+ghost use Rattle.process_image.specs.Steps.{IsSampleStep, IsTickStep, seat_contents};
+ghost use Rattle.process_image.specs.SlotLines.{AddsLine, Tells, TellsEach, entry_told};
 
-use crate::images::Images;
+use crate::seat::Seat;
 use crate::waiting::{MOST_TEXT, Waiting};
+use end_core::Core;
 use entry_text::push_entry;
-use fsoe_base::Did;
+use fsoe_base::{Did, FrameBuf, MOST_FRAME, Memory};
 use fsoe_io::LineText;
+use std::alloc::Global;
 
-/// Writes over `line` what the end of this slot did at the event of this number, with its state and its outputs after it, and the frame
-/// that it sent.
-fn write_line(images: &Images, slot: u16, number: u64, did: &Did, line: &mut LineText)
-    requires { HasSlot images.now slot }
-    ensures { ShowsAt images.now slot line.new (told_line number slot did.now) }
-{
-    line.clear();
-    line.push_decimal(number);
-    line.push(b" ");
-    line.push_decimal(u64::from(slot));
-    line.push(b" ");
-    let sent: &[u8] = if did.sent { images.frame(slot) } else { b"" };
-    push_entry(did, images.state(slot), images.outputs(slot), sent, line);
-    line.push(b"\n");
+/// What a run keeps to tell of its slots, so that nothing of it is made anew.
+#[derive(Drop)]
+pub(crate) struct Telling {
+    /// What the end of a slot did last.
+    pub(crate) did: Did,
+    /// The frame that it sent then.
+    sent: FrameBuf,
+    /// A line on its way to those that wait.
+    pub(crate) line: LineText,
+    /// The lines of an event but its first one, which is written where it is handed out.
+    pub(crate) waiting: Waiting,
 }
 
-/// Appends that line to what waits.
-pub(crate) fn tell(
-    images: &Images,
-    slot: u16,
-    number: u64,
-    did: &Did,
-    line: &mut LineText,
-    waiting: &mut Waiting,
-)
-    requires slot { HasSlot images.now slot }
-    requires room { length waiting.old.text + 1024 ≤ MOST_TEXT }
-    ensures line { ShowsAt images.now slot line.new (told_line number slot did.now) }
-    ensures text { waiting.new ≡ record { text = waiting.old.text ++ line.new; given = waiting.old.given } }
-    ensures most { length line.new ≤ 1024 }
-{
-    write_line(images, slot, number, did, line);
-    waiting.push(line.bytes());
-}
-
-/// Tells of each slot at which a sample delivered something. What is told of it is what `dids` says.
-pub(crate) fn tell_sample(
-    images: &Images,
-    number: u64,
-    dids: &[Option<Did>],
-    line: &mut LineText,
-    waiting: &mut Waiting,
-)
-    requires count { length dids.now ≡ slots_in images.now }
-    requires few { length dids.now ≤ 64 }
-    requires fresh { waiting.old.text ≡ [] }
-    ensures { TellsAll images.now event.Sample dids.now number waiting.new.text }
-{
-    for i in 0..dids.len() {
-        if let Some(did) = &dids[i] {
-            tell(images, i as u16 + 1, number, did, line, waiting);
-        }
+impl Telling {
+    /// Nothing is told yet.
+    pub(crate) fn new(alloc: Global) -> Result<Telling, Memory> {
+        Ok(Telling {
+            did: Did::nothing(),
+            sent: FrameBuf::new(),
+            line: LineText::new(),
+            waiting: Waiting::new(alloc)?,
+        })
     }
 }
 
-/// Tells of each slot what its end did at a tick.
-pub(crate) fn tell_tick(
-    images: &Images,
-    number: u64,
-    dids: &[Did],
-    line: &mut LineText,
-    waiting: &mut Waiting,
-)
-    requires count { length dids.now ≡ slots_in images.now }
-    requires few { length dids.now ≤ 64 }
-    requires fresh { waiting.old.text ≡ [] }
-    ensures { TellsAll images.now event.Tick (map (λ did. Some did) dids.now) number waiting.new.text }
+/// Appends the number of a slot. The numeral of the text is left to the numbers of events, of which the next one mostly costs little.
+#[tactic(auto, using(std::proofs::lemmas::Fmt::decimal_digit, crate::proofs::Numbers::two_digits))]
+fn push_slot(slot: u16, text: &mut LineText)
+    requires { length text.old + 20 ≤ 1024 }
+    ensures text { text.new ≡ text.old ++ decimal slot }
+    ensures most { length text.new ≤ length text.old + 20 }
 {
-    for i in 0..dids.len() {
-        tell(images, i as u16 + 1, number, &dids[i], line, waiting);
+    if slot < 10 {
+        text.push(&[b'0' + slot as u8]);
+        return;
+    }
+    if slot < 100 {
+        text.push(&[b'0' + (slot / 10) as u8, b'0' + (slot % 10) as u8]);
+        return;
+    }
+    text.push_decimal(u64::from(slot));
+}
+
+/// Writes over `text` what the end of this slot did at the event of this number, with its state and its outputs after it, and the frame
+/// that it sent.
+pub(crate) fn write_line(
+    core: &Core,
+    slot: u16,
+    number: u64,
+    did: &Did,
+    sent: &[u8],
+    text: &mut LineText,
+)
+    requires { length sent.now ≤ MOST_FRAME }
+    ensures line { Shows core.now text.new (entry_told number slot did.now sent.now) }
+    ensures some { 0 < length text.new }
+    ensures most { length text.new ≤ 1024 }
+{
+    text.clear();
+    text.push_decimal(number);
+    text.push(b" ");
+    push_slot(slot, text);
+    text.push(b" ");
+    push_entry(did, core.state(), core.outputs(), sent, text);
+    text.push(b"\n");
+}
+
+/// Tells of this slot what was done: its line is the text, where nothing is told yet, and else it waits behind it.
+fn tell(core: &Core, slot: u16, number: u64, telling: &mut Telling, text: &mut LineText)
+    requires first { text.old ≡ [] → telling.old.waiting.text ≡ [] }
+    requires room { length telling.old.waiting.text + 1024 ≤ MOST_TEXT }
+    ensures line { AddsLine core.now (entry_told number slot telling.old.did telling.old.sent) (text.old ++ telling.old.waiting.text) (text.new ++ telling.new.waiting.text) }
+    ensures some { 0 < length text.new }
+    ensures room { length telling.new.waiting.text ≤ length telling.old.waiting.text + 1024 }
+{
+    let Telling {
+        did,
+        sent,
+        line,
+        waiting,
+    } = telling;
+    if text.bytes().is_empty() {
+        write_line(core, slot, number, did, sent.bytes(), text);
+        return;
+    }
+    write_line(core, slot, number, did, sent.bytes(), line);
+    waiting.push(line.bytes());
+}
+
+/// Delivers the contents of a slot, and tells of it.
+#[inline(never)]
+fn deliver(
+    seat: &mut Seat,
+    slot: u16,
+    number: u64,
+    input: &[u8],
+    output: &mut [u8],
+    telling: &mut Telling,
+    text: &mut LineText,
+)
+    requires sound { IsSoundSeat (length input.now) (length output.old) seat.old }
+    requires changed { pointwise nat_eq seat.old.seen (seat_contents seat.old input.now) ≡ false }
+    requires first { text.old ≡ [] → telling.old.waiting.text ≡ [] }
+    requires room { length telling.old.waiting.text + 1024 ≤ MOST_TEXT }
+    ensures tells { Tells (IsSampleStep input.now) number slot seat.old output.old (text.old ++ telling.old.waiting.text) seat.new output.new (text.new ++ telling.new.waiting.text) }
+    ensures some { 0 < length text.new }
+    ensures room { length telling.new.waiting.text ≤ length telling.old.waiting.text + 1024 }
+{
+    seat.deliver(input, output, &mut telling.sent, &mut telling.did);
+    tell(&seat.core, slot, number, telling, text);
+}
+
+/// Samples a slot, and tells of it where its contents are delivered.
+#[inline(always)]
+fn sample(
+    seat: &mut Seat,
+    slot: u16,
+    number: u64,
+    input: &[u8],
+    output: &mut [u8],
+    telling: &mut Telling,
+    text: &mut LineText,
+)
+    requires sound { IsSoundSeat (length input.now) (length output.old) seat.old }
+    requires first { text.old ≡ [] → telling.old.waiting.text ≡ [] }
+    requires room { length telling.old.waiting.text + 1024 ≤ MOST_TEXT }
+    ensures tells { Tells (IsSampleStep input.now) number slot seat.old output.old (text.old ++ telling.old.waiting.text) seat.new output.new (text.new ++ telling.new.waiting.text) }
+    ensures first { text.new ≡ [] → telling.new.waiting.text ≡ [] }
+    ensures room { length telling.new.waiting.text ≤ length telling.old.waiting.text + 1024 }
+{
+    if !seat.is_unchanged(input) {
+        deliver(seat, slot, number, input, output, telling, text);
+    }
+}
+
+/// Counts a tick at a slot, and tells of it.
+fn tick(
+    seat: &mut Seat,
+    slot: u16,
+    number: u64,
+    output: &mut [u8],
+    telling: &mut Telling,
+    text: &mut LineText,
+)
+    requires send { MaySend (length output.old) seat.old }
+    requires first { text.old ≡ [] → telling.old.waiting.text ≡ [] }
+    requires room { length telling.old.waiting.text + 1024 ≤ MOST_TEXT }
+    ensures tells { Tells IsTickStep number slot seat.old output.old (text.old ++ telling.old.waiting.text) seat.new output.new (text.new ++ telling.new.waiting.text) }
+    ensures some { 0 < length text.new }
+    ensures room { length telling.new.waiting.text ≤ length telling.old.waiting.text + 1024 }
+{
+    seat.tick(output, &mut telling.sent, &mut telling.did);
+    tell(&seat.core, slot, number, telling, text);
+}
+
+/// Samples each slot, one after another, and tells of those to which something is delivered.
+pub(crate) fn sample_telling(
+    seats: &mut [Seat],
+    number: u64,
+    input: &[u8],
+    output: &mut [u8],
+    telling: &mut Telling,
+    text: &mut LineText,
+)
+    requires sound { All (IsSoundSeat (length input.now) (length output.old)) seats.old }
+    requires few { length seats.old ≤ 64 }
+    requires empty { text.old ≡ [] }
+    requires fresh { telling.old.waiting.text ≡ [] }
+    ensures tells { TellsEach (IsSampleStep input.now) number seats.old output.old seats.new output.new (text.new ++ telling.new.waiting.text) }
+    ensures size { length output.new ≡ length output.old }
+{
+    for i in 0..seats.len() {
+        sample(
+            &mut seats[i],
+            i as u16 + 1,
+            number,
+            input,
+            output,
+            telling,
+            text,
+        );
+    }
+}
+
+/// Counts a tick at each slot, one after another, and tells of it.
+pub(crate) fn tick_telling(
+    seats: &mut [Seat],
+    number: u64,
+    output: &mut [u8],
+    telling: &mut Telling,
+    text: &mut LineText,
+)
+    requires send { All (MaySend (length output.old)) seats.old }
+    requires few { length seats.old ≤ 64 }
+    requires empty { text.old ≡ [] }
+    requires fresh { telling.old.waiting.text ≡ [] }
+    ensures tells { TellsEach IsTickStep number seats.old output.old seats.new output.new (text.new ++ telling.new.waiting.text) }
+    ensures size { length output.new ≡ length output.old }
+{
+    for i in 0..seats.len() {
+        tick(&mut seats[i], i as u16 + 1, number, output, telling, text);
     }
 }

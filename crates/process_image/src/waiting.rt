@@ -1,4 +1,4 @@
-//! The text of an event, or of the end, and how much of it was handed out.
+//! What waits of the text of an event, or of the end, and how much of it was handed out.
 ghost use Rattle.std.specs.Prelude.{◌≡◌, ◌≤◌, ◌+◌, ◌++◌, [], IfOk, length};
 ghost use Rattle.process_image.specs.Telling.{waits};
 
@@ -56,7 +56,8 @@ impl Waiting {
 
     /// Begins to hand the text out.
     pub(crate) fn start(&mut self)
-        ensures { self.new ≡ record { text = self.old.text; given = 0 } }
+        ensures text { self.new ≡ record { text = self.old.text; given = 0 } }
+        ensures most { length self.new.text ≤ MOST_TEXT }
     {
         self.given = 0;
     }
@@ -76,8 +77,11 @@ impl Waiting {
         ensures some { part.new ≡ [] → waits self.old ≡ [] }
         ensures most { length (waits self.new) ≤ MOST_TEXT }
     {
-        let count = (self.len - self.given).min(1024);
         part.clear();
+        if self.given == self.len {
+            return;
+        }
+        let count = (self.len - self.given).min(1024);
         part.push(&self.bytes[self.given..self.given + count]);
         self.given += count;
     }

@@ -4,23 +4,9 @@ use Rattle.hex.proofs.HexLemmas.{length-encode_with}
 use Rattle.process_image.specs.Telling.{WaitingText}
 use Rattle.process_image.proofs.run.push_last.Goals as goal
 
-pub push-requires-3 : goal.push-requires-3
-push-requires-3 c =
-    let a = length-append c.push-2.new.self.text (encode_lower c.args.image.now) in
-    let b = length-append c.push.new.self.text (codes "out ") in
-    let d = length-append c.args.waiting.now.text c.bytes.result.now in
+pub push-requires-2 : goal.push-requires-2
+push-requires-2 c =
+    let a = length-append c.push.new.self.text (encode_lower c.args.image.now) in
+    let b = length-append c.args.waiting.now.text (codes "out ") in
     let e = length-encode_with lower_digits c.args.image.now in
-    omega (
-      arith,
-      a,
-      b,
-      d,
-      e,
-      ap (λ (w : WaitingText). length w.text) c.push_image.ensures,
-      ap (λ (w : WaitingText). length w.text) c.push-2.ensures,
-      ap (λ (w : WaitingText). length w.text) c.push.ensures,
-      ap length c.requires.fresh,
-      c.requires.size,
-      c.write_events.ensures.most,
-      ap length c.bytes.ensures.value,
-    )
+    omega (arith, a, b, e, ap (λ (w : WaitingText). length w.text) c.push_image.ensures, ap (λ (w : WaitingText). length w.text) c.push.ensures, ap length c.requires.fresh, c.requires.size)

@@ -3,8 +3,16 @@ use Rattle.std.proofs.lemmas.Option.{slice_get-get_or}
 use Rattle.process_image.specs.Sound.{IsSoundSeat}
 use Rattle.process_image.specs.Steps.{IsSampleStep, told_by}
 use Rattle.process_image.specs.declared.seat.Seat.{Seat}
-use Rattle.process_image.proofs.Looping.{does_more, does_size, some_at, set_before}
+use Rattle.process_image.proofs.Looping.{does_begun, does_more, does_size, some_at, set_before}
+use Rattle.process_image.proofs.Zips.{all_at}
 use Rattle.process_image.proofs.seat.sample_all.Goals as goal
+
+pub loop-i-init : goal.loop-i-init
+loop-i-init c = record {
+  sound = λ k seat late at. all_at (IsSoundSeat (length c.args.input.now) (length c.args.output.now)) c.args.seats.now k seat c.requires.sound at;
+  size = refl;
+  so_far = does_begun (IsSampleStep c.args.input.now) told_by c.args.seats.now c.args.output.now c.args.told.now;
+}
 
 pub loop-i-preserved : goal.loop-i-preserved
 loop-i-preserved c =

@@ -3,8 +3,23 @@ use Rattle.std.proofs.lemmas.Option.{slice_get-get_or}
 use Rattle.process_image.specs.Sound.{MaySend}
 use Rattle.process_image.specs.Steps.{IsTickStep, did_in}
 use Rattle.process_image.specs.declared.seat.Seat.{Seat}
-use Rattle.process_image.proofs.Looping.{does_more, does_size, some_at, set_before}
+use Rattle.process_image.proofs.Looping.{does_begun, does_more, does_size, some_at, set_before}
+use Rattle.process_image.proofs.Seats.{did_alone}
+use Rattle.process_image.proofs.Zips.{all_at}
 use Rattle.process_image.proofs.seat.tick_all.Goals as goal
+
+pub loop-i-init : goal.loop-i-init
+loop-i-init c = record {
+  send = λ k seat late at. all_at (MaySend (length c.args.output.now)) c.args.seats.now k seat c.requires.send at;
+  size = refl;
+  so_far = does_begun IsTickStep did_in c.args.seats.now c.args.output.now c.args.dids.now;
+}
+
+pub tick-requires : goal.tick-requires
+tick-requires c =
+    let i : ℕ = c.loop-i.i in
+    let seat : Seat = slice_index_or c.loop-i.seats i c.index-seats-i.result in
+    c.loop-i.invariant.send i seat (omega arith) (slice_get-get_or c.loop-i.seats i c.index-seats-i.result (omega arith))
 
 pub loop-i-preserved : goal.loop-i-preserved
 loop-i-preserved c =
@@ -18,5 +33,5 @@ loop-i-preserved c =
       send = λ k s late is. subst (λ (n : ℕ). MaySend n s) (sym kept) (c.loop-i.invariant.send k s (omega arith) (sym (set_before c.loop-i.seats i k c.tick.new.self (omega arith)) ∙ is));
       size = kept ∙ c.loop-i.invariant.size;
       so_far = does_more IsTickStep did_in _ _ c.loop-i.seats _ c.loop-i.output _ c.loop-i.dids _ i seat c.tick.new.self at-t.0 c.tick.new.did c.loop-i.invariant.so_far at-s at-t.1
-          c.tick.ensures refl refl;
+          (did_alone _ _ _ _ _ _ c.tick.ensures) refl refl;
     }

@@ -13,12 +13,13 @@ take-requires-clause-fits c =
 pub returns-clause-takes_event : goal.returns-clause-takes_event
 returns-clause-takes_event c = λ first. record {
   takes = λ h log text number stands.
-      let d : DoesEvent c.args.self.now.images c.args.event.now c.args.number c.take.new.self.images c.take.new.self.waiting.text =
-      subst (λ (m : ImagesView). DoesEvent m c.args.event.now c.args.number c.take.new.self.images c.take.new.self.waiting.text) (ap (λ (v : RunView). v.images) c.self.view_is) c.take.ensures
+      let piece : List ℕ = c.take.new.text ++ c.take.new.self.waiting.text in
+      let d : DoesEvent c.args.self.now.images c.args.event.now c.args.number c.take.new.self.images piece =
+      subst (λ (m : ImagesView). DoesEvent m c.args.event.now c.args.number c.take.new.self.images piece) (ap (λ (v : RunView). v.images) c.self.view_is) c.take.ensures
       in
-      let is : c.give.new.part ++ waits c.give.new.self ≡ c.take.new.self.waiting.text =
-      sym c.give.ensures.part ∙ ap waits c.start.ensures ∙ ap (λ (v : RunView). v.waiting.text) c.self-2.view_is
+      let is : c.take.new.text ++ waits c.start.new.self ≡ piece =
+      ap (λ (xs : List ℕ). c.take.new.text ++ xs) (ap waits c.start.ensures.text ∙ ap (λ (v : RunView). v.waiting.text) c.self-2.view_is)
       in
-      same_images c.take.new.self _ h (log ++ c.args.event.now ∷ []) (text ++ c.take.new.self.waiting.text) (text ++ (c.give.new.part ++ waits c.give.new.self)) (sym (ap (λ (v : RunView). v.images) c.self-2.view_is))
-      (ap (λ (xs : List ℕ). text ++ xs) is) (takes_more c.args.self.now c.take.new.self h log text c.take.new.self.waiting.text c.args.event.now c.args.number d number stands);
+      same_images c.take.new.self _ h (log ++ c.args.event.now ∷ []) (text ++ piece) (text ++ (c.take.new.text ++ waits c.start.new.self)) (sym (ap (λ (v : RunView). v.images) c.self-2.view_is))
+      (ap (λ (xs : List ℕ). text ++ xs) is) (takes_more c.args.self.now c.take.new.self h log text piece c.args.event.now c.args.number d number stands);
 }

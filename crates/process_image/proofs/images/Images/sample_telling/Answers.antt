@@ -1,0 +1,24 @@
+use Rattle.std.proofs.Common.{length, refl, ap, ◌∙◌}
+use Rattle.process_image.specs.Standing.{ImagesView}
+use Rattle.process_image.proofs.Keeping.{written_back}
+use Rattle.process_image.proofs.Telling.{sample_alike, sample_does, sample_sound}
+use Rattle.process_image.proofs.images.Images.sample_telling.Goals as goal
+
+pub sample_telling-requires-clause-sound : goal.sample_telling-requires-clause-sound
+sample_telling-requires-clause-sound c = rw (c.as_mut_slice.ensures.value, c.as_slice.ensures.value, c.as_mut_slice-2.ensures.value) c.self.invariant.seats
+
+pub invariant_of-self : goal.invariant_of-self
+invariant_of-self c =
+    let v : ImagesView = record { seats = c.self.inside.seats.items; input = c.self.inside.input.items; output = c.self.inside.output.items } in
+    let seats = written_back c.sample_telling.new.seats c.self.inside.seats.items c.self.inside.seats.len (cc) (cc) in
+    let out = written_back c.sample_telling.new.output c.self.inside.output.items c.self.inside.output.len (cc) (cc) in
+    let t = sample_alike c.args.number _ _ _ _ _ _ _ _ _ c.sample_telling.ensures.tells c.as_slice.ensures.value c.as_mut_slice.ensures.value c.as_mut_slice-2.ensures.value in
+    rw (seats, out) (sample_sound c.args.number v c.sample_telling.new.seats c.sample_telling.new.output _ c.self.invariant t (c.sample_telling.ensures.size ∙ ap length c.as_mut_slice-2.ensures.value))
+
+pub returns : goal.returns
+returns c =
+    let seats = written_back c.sample_telling.new.seats c.self.inside.seats.items c.self.inside.seats.len (cc) (cc) in
+    let out = written_back c.sample_telling.new.output c.self.inside.output.items c.self.inside.output.len (cc) (cc) in
+    let t = sample_alike c.args.number _ _ _ _ _ _ _ _ _ c.sample_telling.ensures.tells c.as_slice.ensures.value c.as_mut_slice.ensures.value c.as_mut_slice-2.ensures.value in
+    rw (← c.self.view_is, seats, out)
+    (sample_does (length c.self.inside.output.items) c.args.number _ _ _ c.self.invariant.seats t refl (c.sample_telling.ensures.size ∙ ap length c.as_mut_slice-2.ensures.value))
