@@ -16,8 +16,3 @@ pub use bulk::run_bulk;
 pub use duo::Duo;
 pub use fault::StepFault;
 pub use replay::run_replay;
-
-#[cfg(test)]
-mod fairness;
-#[cfg(test)]
-mod tests;

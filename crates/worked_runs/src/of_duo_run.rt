@@ -1,8 +1,8 @@
 ghost use Rattle.std.specs.Prelude.{◌≡◌, ◌<◌, ◌≤◌, ◌+◌, ◌^◌, length, IfOk};
 ghost use Rattle.duo_run.specs.Duo.{steps_done};
 
-use super::*;
 use crate::fairness::first_unfair;
+use duo_run::Duo;
 use fsoe_base::{Command, Did, Image, Lengths};
 use param_load::{AppBytes, AppRule, Entry, MasterSettings, Move, Profiles, SlaveSettings};
 use schedule_file::{ScheduleLine, read_event};
@@ -26,7 +26,7 @@ fn pair() -> Result<Duo, Fail>
 }
 
 /// Does the event of a line.
-fn step(duo: &mut Duo, line: &str) -> Option<Entry>
+pub(crate) fn step(duo: &mut Duo, line: &[u8]) -> Option<Entry>
     requires { steps_done duo.old + 1 < 2 ^ 64 }
     ensures { steps_done duo.new ≤ steps_done duo.old + 1 }
 {
@@ -35,7 +35,7 @@ fn step(duo: &mut Duo, line: &str) -> Option<Entry>
         slave: duo.slave().settings().profile(),
     };
     let lengths = duo.master().settings().lengths();
-    match read_event(line.as_bytes(), lengths, &profiles).ok()? {
+    match read_event(line, lengths, &profiles).ok()? {
         ScheduleLine::Step(event) => duo.step(&event).ok(),
         ScheduleLine::End => None,
     }
@@ -48,10 +48,10 @@ fn entries_after_first_data(alloc: Global, rows: &[&str]) -> Result<Vec<Entry>, 
     let mut duo = pair()?;
     let mut entries = Vec::new(alloc);
     for event in &UNTIL_DATA {
-        entries.push(step(&mut duo, event).ok_or("event")?)?;
+        entries.push(step(&mut duo, event.as_bytes()).ok_or("event")?)?;
     }
     for event in rows {
-        entries.push(step(&mut duo, event).ok_or("event")?)?;
+        entries.push(step(&mut duo, event.as_bytes()).ok_or("event")?)?;
     }
     Ok(entries)
 }

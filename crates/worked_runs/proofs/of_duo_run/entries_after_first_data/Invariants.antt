@@ -1,6 +1,6 @@
 use Rattle.std.proofs.Common.{◌≤◌, ◌+◌}
 use Rattle.duo_run.specs.Duo.{steps_done}
-use Rattle.duo_run.proofs.tests.entries_after_first_data.Given as goal
+use Rattle.worked_runs.proofs.of_duo_run.entries_after_first_data.Given as goal
 
 abbrev pub invariant-loop-event : goal.invariant-loop-event
 invariant-loop-event l = steps_done l.duo ≤ l.event-index

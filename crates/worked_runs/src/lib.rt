@@ -1,0 +1,16 @@
+//! Worked cases of whole runs, of a pair over a schedule and of a plant over its script, each module those of one crate: rows that were given
+//! from outside. A plain program judges whether the entries of a run are fair.
+#![tactic(auto)]
+
+#[cfg(test)]
+mod fairness;
+#[cfg(test)]
+mod of_duo_run;
+#[cfg(test)]
+mod of_plant_run;
+#[cfg(test)]
+mod pairs;
+#[cfg(test)]
+mod plants;
+#[cfg(test)]
+mod test_channels;

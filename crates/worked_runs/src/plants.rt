@@ -1,0 +1,145 @@
+//! The worked plant, in which an emergency stop at the first connection drives a bit of the second: set up and run as a command does it, over
+//! a script in memory.
+use crate::test_channels::Crossed;
+use black_channel::{Channel, HostileChannel, ListChannel, PerfectChannel};
+use fb_net::{AppEntry, Zeros};
+use fsoe_io::{Ended, MemSink, MemSource};
+use plant_conf::{PlantConf, read_conf};
+use plant_run::{Journal, run_plant};
+use plant_setup::{Setup, set_up};
+use std::alloc::Global;
+
+/// What stands in its configuration after the names of its application and channel, and the seed.
+const TABLES: &str = "
+[[connection]]
+id = 1
+address = 11
+watchdog = 5
+master_length = 2
+slave_length = 2
+
+[[connection]]
+id = 2
+address = 12
+watchdog = 5
+master_length = 2
+slave_length = 2
+
+[[block]]
+kind = \"estop\"
+ins = [\"i1.0\", \"i1.1\"]
+
+[[drive]]
+out = \"o2.0\"
+from = \"b1\"
+";
+
+/// How many bytes come and go in a call, and the calls that fail, by their number from 1.
+#[derive(Clone, Copy)]
+pub(crate) struct Outside {
+    pub most: usize,
+    pub read_fails: u64,
+    pub write_fails: u64,
+}
+
+/// No call fails.
+pub(crate) const SURE: Outside = Outside {
+    most: 1000,
+    read_fails: 0,
+    write_fails: 0,
+};
+
+/// How a plant ran.
+#[derive(Drop)]
+pub(crate) struct Ran {
+    pub conf: PlantConf,
+    pub ended: Ended,
+    pub sink: MemSink,
+    pub journal: Journal,
+}
+
+/// The channels that are handed in: those of the program, one that gives nothing, and one of a test's own.
+fn channels(alloc: Global) -> Option<Vec<Box<dyn Channel>>> {
+    let mut channels: Vec<Box<dyn Channel>> = Vec::new(alloc);
+    let perfect = PerfectChannel::new(alloc).ok()?;
+    channels.push(Box::new(alloc, perfect).ok()?).ok()?;
+    let hostile = HostileChannel::new(alloc).ok()?;
+    channels.push(Box::new(alloc, hostile).ok()?).ok()?;
+    let list = ListChannel::new(alloc, Vec::new(alloc), 0).ok()?;
+    channels.push(Box::new(alloc, list).ok()?).ok()?;
+    let crossed = Crossed::new(alloc)?;
+    channels.push(Box::new(alloc, crossed).ok()?).ok()?;
+    Some(channels)
+}
+
+/// The worked plant set up with the channel of this name and this seed, and the channels that were handed in. Its script may take the
+/// application `zeros`.
+pub(crate) fn set_worked(
+    alloc: Global,
+    channel: &str,
+    seed: u64,
+) -> Option<(PlantConf, Setup, Vec<Box<dyn Channel>>)> {
+    let text = format!(in alloc;
+        "[plant]\napp = \"net\"\nchannel = \"{channel}\"\nseed = {seed}\n{TABLES}"
+    ).ok()?;
+    let mut conf = read_conf(alloc, text.as_bytes()).ok()?;
+    let mut apps = Vec::new(alloc);
+    let name = "zeros".to_string(alloc).ok()?;
+    let app = Box::new(alloc, Zeros).ok()?;
+    apps.push(AppEntry { name, app }).ok()?;
+    let channels = channels(alloc)?;
+    let setup = set_up(&mut conf, apps, channels.as_slice()).ok()?;
+    Some((conf, setup, channels))
+}
+
+/// Runs it over a script, and this channel. None where there is no memory for the script and the report.
+pub(crate) fn run_over<C: Channel>(
+    alloc: Global,
+    conf: PlantConf,
+    setup: Setup,
+    channel: &mut C,
+    script: &str,
+    outside: Outside,
+) -> Option<Ran> {
+    let most = outside.most.max(1);
+    let bytes = script.as_bytes().to_vec(alloc).ok()?;
+    let mut source = MemSource::new(bytes, most, vec![in alloc; outside.read_fails].ok()?);
+    let mut sink = MemSink::new(
+        alloc,
+        20_000,
+        most,
+        vec![in alloc; outside.write_fails].ok()?,
+    )
+    .ok()?;
+    let mut journal = Journal::new(alloc);
+    let Setup { app, spare, .. } = setup;
+    let ended = run_plant(
+        alloc,
+        &conf,
+        app,
+        channel,
+        spare,
+        &mut source,
+        &mut sink,
+        &mut journal,
+    );
+    Some(Ran {
+        conf,
+        ended,
+        sink,
+        journal,
+    })
+}
+
+/// Runs it over a script, with the channel of this name and this seed. None where there is no memory for what it is handed.
+pub(crate) fn run_worked(
+    alloc: Global,
+    channel: &str,
+    seed: u64,
+    script: &str,
+    outside: Outside,
+) -> Option<Ran> {
+    let (conf, setup, mut channels) = set_worked(alloc, channel, seed)?;
+    let channel = channels.get_mut(setup.channel)?;
+    run_over(alloc, conf, setup, channel, script, outside)
+}
