@@ -71,6 +71,3 @@ fn main(rt: HostRuntime) -> ExitCode {
     let status = run_program(rt).unwrap_or(Status::Memory);
     ExitCode::from(status.number())
 }
-
-#[cfg(test)]
-mod tests;

@@ -1,9 +1,11 @@
-//! Worked cases of whole runs, of a pair over a schedule and of a plant over its script, each module those of one crate: rows that were given
-//! from outside. A plain program judges whether the entries of a run are fair.
+//! Worked cases of whole runs: of commands over an input at which the outside fails, of a pair over a schedule, and of a plant over its script;
+//! rows that were given from outside. A plain program judges whether the entries of a run are fair.
 #![tactic(auto)]
 
 #[cfg(test)]
 mod fairness;
+#[cfg(test)]
+mod of_commands;
 #[cfg(test)]
 mod of_duo_run;
 #[cfg(test)]
