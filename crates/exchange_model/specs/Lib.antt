@@ -3,6 +3,7 @@ pub mod World
 pub mod Items
 pub mod Other
 pub mod Fair
+pub mod Offering
 pub mod Honest
 pub mod Schedules
 pub mod WorkedRuns
