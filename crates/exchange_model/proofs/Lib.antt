@@ -5,6 +5,7 @@ pub mod Joint
 pub mod Alone
 pub mod Terms
 pub mod Fairness
+pub mod Offering
 pub mod Honest
 -- Beside it: what monitors keep.
 pub mod Monitors

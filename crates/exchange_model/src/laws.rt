@@ -1,9 +1,10 @@
 //! What holds of the definitions. The calls do nothing: each law is a contract.
 
-ghost use Rattle.std.specs.Prelude.{◌≡◌, ◌+◌, ℕ, suc, nat_eq, List, All, Some, length, map};
+ghost use Rattle.std.specs.Prelude.{◌≡◌, ◌+◌, ◌-◌, ◌*◌, ℕ, suc, nat_eq, IsTrue, List, All, Some, IsSomeAnd, length, map};
 ghost use Rattle.std.specs.List.{IsDistinct};
 ghost use Rattle.fsoe_base.specs.declared.command.End.{End};
 ghost use Rattle.fsoe_base.specs.declared.command.State.TheVariants as state;
+ghost use Rattle.fsoe_base.specs.Image.{bit_of};
 ghost use Rattle.param_load.specs.declared.entry.Entry.{Entry};
 ghost use Rattle.param_load.specs.declared.master_settings.MasterSettings.{MasterSettings};
 ghost use Rattle.param_load.specs.declared.slave_settings.SlaveSettings.{SlaveSettings};
@@ -11,14 +12,16 @@ ghost use Rattle.schedule_file.specs.declared.event.Event.{Event};
 ghost use Rattle.end_model.specs.Setup.{Setup, OfMaster, receives, piece_len};
 ghost use Rattle.end_model.specs.Deed.{Deed};
 ghost use Rattle.end_model.specs.Payloads.{pay, pieces};
+ghost use Rattle.end_model.specs.Readiness.{told_terms};
 ghost use Rattle.end_model.specs.Outputs.{out};
 ghost use Rattle.end_model.specs.Step.{run, IsRun};
 ghost use Rattle.end_model.specs.Entries.{entries};
 ghost use Rattle.exchange_model.specs.Ends.{of_end};
-ghost use Rattle.exchange_model.specs.World.{setup_of, frames_of, moves, world, SameLengths, IsProperEvent, IsWorld};
+ghost use Rattle.exchange_model.specs.World.{setup_of, deeds, frames_of, moves, world, SameLengths, IsProperEvent, IsWorld};
 ghost use Rattle.exchange_model.specs.Items.{items_of, items};
 ghost use Rattle.exchange_model.specs.Other.{first_other, NoOther, before_other};
-ghost use Rattle.exchange_model.specs.Fair.{TakesAwaited, numbers_taken, outputs_due, OutputsAreDue, Fair};
+ghost use Rattle.exchange_model.specs.Fair.{received_len, TakesAwaited, numbers_taken, outputs_due, OutputsAreDue, Fair};
+ghost use Rattle.exchange_model.specs.Offering.{WasOffered};
 ghost use Rattle.exchange_model.specs.Honest.{Match, exchanges, IsHonest};
 ghost use Rattle.exchange_model.specs.Serving.{Serves};
 ghost use Rattle.exchange_model.specs.WorkedServing.{ReachesData};
@@ -66,6 +69,17 @@ pub fn headline()
     ensures fair { (ms : MasterSettings) (ss : SlaveSettings) (events : List Event) → SameLengths ms ss → All (IsProperEvent ms ss) events → NoOther (world ms ss events) → Fair ms.lengths (world ms ss events) }
     ensures fair_before { (ms : MasterSettings) (ss : SlaveSettings) (events : List Event) → SameLengths ms ss → All (IsProperEvent ms ss) events → Fair ms.lengths (before_other (world ms ss events)) }
     ensures from_awaited { (ms : MasterSettings) (ss : SlaveSettings) (w : List Entry) → SameLengths ms ss → IsWorld ms ss w → NoOther w → TakesAwaited ms.lengths w }
+{}
+
+/// What the outputs of an end rest on, for both ends' settings with equal lengths and each world without another entry, with no
+/// clock that both ends share. Where a bit of the outputs is 1, the end's peer sent a data frame while it offered that bit as 1
+/// and wasn't held, and at most twice the master's watchdog, less 2, of the end's own ticks came since: fewer than the watchdog from
+/// the end's frame, which that one answers, until it took the answer, and fewer from then on. The terms that the end tells
+/// have the master's watchdog.
+#[tactic(auto, using(crate::proofs::Offering::Offered::was_offered, crate::proofs::Offering::Offered::told_watchdog))]
+pub fn offers()
+    ensures lately { (ms : MasterSettings) (ss : SlaveSettings) (which : End) (bit : ℕ) (w : List Entry) → SameLengths ms ss → IsWorld ms ss w → NoOther w → IsTrue (bit_of (outputs_due (received_len ms.lengths which) (of_end which w)) bit) → WasOffered which bit (2 * ms.watchdog - 2) w }
+    ensures watchdog { (ms : MasterSettings) (ss : SlaveSettings) (which : End) (bit : ℕ) (w : List Entry) → SameLengths ms ss → IsWorld ms ss w → NoOther w → IsTrue (bit_of (outputs_due (received_len ms.lengths which) (of_end which w)) bit) → IsSomeAnd (told_terms (setup_of ms ss which) (deeds which w)) (λ terms. terms.watchdog ≡ ms.watchdog) }
 {}
 
 /// No entry before the first other one is other, which is the whole run where there is none; they are a world where the

@@ -66,8 +66,8 @@ whole-terms ms ss t uploads same h k u =
     (k.same state.Parameter refl ∙ (carried_is ms ss state.Parameter t same ∙ (h.parameters ∙ front_whole (parameters_of ms) (piece_len (OfMaster ms)) _ (some-piece ms) o.1))) u
 
 -- a slave in Data has the master's terms
-terms-agree : (ms : MasterSettings) (ss : SlaveSettings) (w : List Entry) → SameLengths ms ss → IsWorld ms ss w → Related ms ss w → state_of (OfSlave ss) (deeds end_name.Slave w) ≡ state.Data → terms (OfSlave ss) (deeds end_name.Slave w) ≡ terms_of ms
-terms-agree ms ss w same so_far h now = by-standing h.standing
+pub terms_agree : (ms : MasterSettings) (ss : SlaveSettings) (w : List Entry) → SameLengths ms ss → IsWorld ms ss w → Related ms ss w → state_of (OfSlave ss) (deeds end_name.Slave w) ≡ state.Data → terms (OfSlave ss) (deeds end_name.Slave w) ≡ terms_of ms
+terms_agree ms ss w same so_far h now = by-standing h.standing
   where
     by-standing : Standing (receives (OfSlave ss)) (piece_len (OfSlave ss)) (state_of (OfSlave ss) (deeds end_name.Slave w)) (λ phase. uploaded ss phase (deeds end_name.Slave w)) (items_of end_name.Slave (items w)) (items_of end_name.Master (items w))
         → terms_in ss.profile (uploaded ss state.Connection (deeds end_name.Slave w)) (uploaded ss state.Parameter (deeds end_name.Slave w)) ≡ terms_of ms
@@ -104,4 +104,4 @@ slave_told ms ss x w same h k is next now =
     let e : deeds end_name.Slave (x ∷ w) ≡ deed_in x ∷ deeds end_name.Slave w = ap (λ (end : End). if same_end end_name.Slave end then deed_in x ∷ deeds end_name.Slave w else deeds end_name.Slave w) is in
     ap (λ (y : Entry). y.terms) (next_told (OfSlave ss) x (deeds end_name.Slave w) next)
     ∙ told-data (state_of (OfSlave ss) (deed_in x ∷ deeds end_name.Slave w)) (terms (OfSlave ss) (deed_in x ∷ deeds end_name.Slave w)) (terms_of ms)
-    (ap (state_of (OfSlave ss)) (sym e) ∙ now) (ap (terms (OfSlave ss)) (sym e) ∙ terms-agree ms ss (x ∷ w) same h k now)
+    (ap (state_of (OfSlave ss)) (sym e) ∙ now) (ap (terms (OfSlave ss)) (sym e) ∙ terms_agree ms ss (x ∷ w) same h k now)

@@ -1,0 +1,58 @@
+-- What holds of a run holds of its older entries; and the ticks of an end since.
+use Rattle.std.proofs.Common.{◌≡◌, ℕ, ◌+◌, ◌≤◌, List, [], ◌∷◌, ◌++◌, Bool, true, false, if◌then◌else◌, refl, ap, ◌∙◌, arith}
+use Rattle.fsoe_base.specs.declared.command.End.{End}
+use Rattle.param_load.specs.declared.entry.Move.{Move}
+use Rattle.param_load.specs.declared.entry.Move.TheVariants as move
+use Rattle.param_load.specs.declared.entry.Entry.{Entry}
+use Rattle.param_load.specs.declared.master_settings.MasterSettings.{MasterSettings}
+use Rattle.param_load.specs.declared.slave_settings.SlaveSettings.{SlaveSettings}
+use Rattle.end_model.specs.Deed.{ticked}
+use Rattle.exchange_model.specs.Ends.{same_end}
+use Rattle.exchange_model.specs.World.{IsWorld}
+use Rattle.exchange_model.specs.Other.{NoOther}
+use Rattle.exchange_model.specs.Offering.{ticks_of}
+use Rattle.exchange_model.proofs.Joint.Taking.{NoneOther, none_other}
+
+-- the older entries of a world are one
+pub older_world : (ms : MasterSettings) (ss : SlaveSettings) (later w : List Entry) → IsWorld ms ss (later ++ w) → IsWorld ms ss w
+older_world ms ss [] w h = h
+older_world ms ss (x ∷ later) w h = older_world ms ss later w h.1
+
+-- where no entry is other, no older one is
+pub older_clean : (later w : List Entry) → NoOther (later ++ w) → NoOther w
+older_clean [] w n = n
+older_clean (x ∷ later) w n = let o : NoneOther x (later ++ w) = none_other x (later ++ w) n in older_clean later w o.before
+
+-- a tick more is one more of the whole, and of either part
+pub ticked_left : (m : Move) (a b : ℕ) → ticked m (a + b) ≡ ticked m a + b
+ticked_left move.Tick a b = omega arith
+ticked_left (move.Deliver bytes) a b = refl
+ticked_left (move.Put load) a b = refl
+ticked_left (move.Hold failsafe) a b = refl
+ticked_left (move.Nonce id) a b = refl
+ticked_left move.Local a b = refl
+
+pub ticked_across : (m : Move) (a b : ℕ) → ticked m a + b ≡ a + ticked m b
+ticked_across move.Tick a b = omega arith
+ticked_across (move.Deliver bytes) a b = refl
+ticked_across (move.Put load) a b = refl
+ticked_across (move.Hold failsafe) a b = refl
+ticked_across (move.Nonce id) a b = refl
+ticked_across move.Local a b = refl
+
+pub ticked_most : (m : Move) (a b : ℕ) → a ≤ b → ticked m a ≤ ticked m b
+ticked_most move.Tick a b h = omega arith
+ticked_most (move.Deliver bytes) a b h = h
+ticked_most (move.Put load) a b h = h
+ticked_most (move.Hold failsafe) a b h = h
+ticked_most (move.Nonce id) a b h = h
+ticked_most move.Local a b h = h
+
+ticks-head : (m : Move) (mine : Bool) (both a b : ℕ) → both ≡ a + b → (if mine then ticked m both else both) ≡ (if mine then ticked m a else a) + b
+ticks-head m true both a b h = ap (ticked m) h ∙ ticked_left m a b
+ticks-head m false both a b h = h
+
+-- the ticks among joined entries
+pub ticks_joined : (which : End) (later w : List Entry) → ticks_of which (later ++ w) ≡ ticks_of which later + ticks_of which w
+ticks_joined which [] w = omega arith
+ticks_joined which (x ∷ later) w = ticks-head x.what (same_end which x.end) (ticks_of which (later ++ w)) (ticks_of which later) (ticks_of which w) (ticks_joined which later w)

@@ -1,0 +1,80 @@
+-- An end takes data before its watchdog expires: the watchdog in the terms that it tells then.
+use Rattle.std.proofs.Common.{◌≡◌, ◌≢◌, ℕ, ◌<◌, List, ◌∷◌, Bool, true, false, Some, None, if◌then◌else◌, refl, sym, ap, ◌∙◌, arith}
+use Rattle.fsoe_base.specs.declared.command.State.{State}
+use Rattle.fsoe_base.specs.declared.command.State.TheVariants as state
+use Rattle.fsoe_base.specs.declared.command.Command.{Command}
+use Rattle.fsoe_base.specs.declared.command.Command.TheVariants as command
+use Rattle.fsoe_base.specs.declared.did.Did.{Did}
+use Rattle.fsoe_base.specs.declared.did.Took.{Took}
+use Rattle.fsoe_base.specs.Data.{is_data}
+use Rattle.param_load.specs.declared.entry.Move.{Move}
+use Rattle.param_load.specs.declared.slave_settings.SlaveSettings.{SlaveSettings}
+use Rattle.param_load.specs.Payload.{number_at}
+use Rattle.end_model.specs.Setup.{Setup, OfMaster, OfSlave}
+use Rattle.end_model.specs.Deed.{Deed, ticked}
+use Rattle.end_model.specs.Payloads.{uploaded, whole, terms}
+use Rattle.end_model.specs.Readiness.{state_of, ticks, slave_age, age, slave_limit, limit, upload_is_whole}
+use Rattle.end_model.specs.Step.{IsRun}
+use Rattle.end_model.specs.Reactions.{IsInSession, with_answer, Taking, SlaveRejoins, SlaveStarts, SlaveGoesOn, SlaveNextPhase, SlaveFirstData, SlaveMoreData, Reaction, Answers}
+use Rattle.end_model.proofs.Reactions.{phase_of_data}
+use Rattle.end_model.proofs.SoundRuns.{handshake-data, next-data}
+use Rattle.end_model.proofs.AgeBelow.{age_below}
+use Rattle.end_model.proofs.Taken.{data_after}
+use Rattle.exchange_model.specs.Fair.{data_taken}
+use Rattle.exchange_model.proofs.Alone.Pieces.{deed}
+
+-- data leave what a slave uploaded
+data-keeps : (ss : SlaveSettings) (e : List Deed) (bytes load f : List ℕ) (c : Command) → is_data c ≡ true → IsInSession f
+    → uploaded ss state.Parameter (with_answer bytes c load f e) ≡ uploaded ss state.Parameter e
+data-keeps ss e bytes load f command.FailSafeData d k = let a = k.in_session in simp a
+data-keeps ss e bytes load f command.ProcessData d k = let a = k.in_session in simp a
+data-keeps ss e bytes load f _ d k = absurd (cc d)
+
+-- a slave outside state Reset counts its ticks
+counted : (now : State) (n : ℕ) → now ≢ state.Reset → slave_age now n ≡ n
+counted state.Reset n h = absurd (h refl)
+counted _ n h = refl
+
+whole-limit : (ss : SlaveSettings) (u : List ℕ) → whole ss.profile state.Parameter u ≡ true → slave_limit ss u ≡ number_at 2 u
+whole-limit ss u h = simp h
+
+below-watchdog : (old now most watchdog told : ℕ) → old < most → old ≡ now → most ≡ watchdog → told ≡ watchdog → now < told
+below-watchdog old now most watchdog told h i j k = omega arith
+
+slave-young : (ss : SlaveSettings) (e : List Deed) (bytes load f : List ℕ) (c : Command) → IsRun (OfSlave ss) e → is_data c ≡ true → state_of (OfSlave ss) e ≢ state.Reset → upload_is_whole ss state.Parameter e ≡ true → IsInSession f
+    → ticks (OfSlave ss) e < (terms (OfSlave ss) (with_answer bytes c load f e)).watchdog
+slave-young ss e bytes load f c r d now all k =
+    below-watchdog (age (OfSlave ss) e) (ticks (OfSlave ss) e) (limit (OfSlave ss) e) (number_at 2 (uploaded ss state.Parameter e)) (number_at 2 (uploaded ss state.Parameter (with_answer bytes c load f e)))
+    (age_below (OfSlave ss) e r) (counted (state_of (OfSlave ss) e) (ticks (OfSlave ss) e) now) (whole-limit ss (uploaded ss state.Parameter e) all) (ap (number_at 2) (data-keeps ss e bytes load f c d k))
+
+in-state : (s : Setup) (e : List Deed) (p : State) → state_of s e ≡ p → p ≢ state.Reset → state_of s e ≢ state.Reset
+in-state s e p h n = λ k. n (sym h ∙ k)
+
+slave-takes : (ss : SlaveSettings) (e : List Deed) (bytes load f : List ℕ) (c : Command) → IsRun (OfSlave ss) e → is_data c ≡ true → Taking e bytes load (OfSlave ss) c f
+    → ticks (OfSlave ss) e < (terms (OfSlave ss) (with_answer bytes c load f e)).watchdog
+slave-takes ss e bytes load f c r d (SlaveRejoins _ now none frame) = absurd (cc d)
+slave-takes ss e bytes load f c r d (SlaveStarts _ _ now none x) = absurd (cc d)
+slave-takes ss e bytes load f c r d (SlaveGoesOn _ _ _ is now part x) = absurd (handshake-data c is (phase_of_data c d))
+slave-takes ss e bytes load f c r d (SlaveNextPhase _ before _ _ is now whole x) = absurd (next-data before c is (phase_of_data c d))
+slave-takes ss e bytes load f c r d (SlaveFirstData _ _ _ is now whole x) = slave-young ss e bytes load f c r d (in-state (OfSlave ss) e state.Parameter now (λ k. cc)) whole x.in_session
+slave-takes ss e bytes load f c r d (SlaveMoreData _ _ _ is now whole x) = slave-young ss e bytes load f c r d (in-state (OfSlave ss) e state.Data now (λ k. cc)) whole x.in_session
+
+takes-young : (s : Setup) (e : List Deed) (bytes load f : List ℕ) (c : Command) → IsRun s e → is_data c ≡ true → Taking e bytes load s c f → ticks s e < (terms s (with_answer bytes c load f e)).watchdog
+takes-young (OfMaster ms) e bytes load f c r d taking = age_below (OfMaster ms) e r
+takes-young (OfSlave ss) e bytes load f c r d taking = slave-takes ss e bytes load f c r d taking
+
+-- a deed that takes data: its end is in Data then, the watchdog had not expired before, and the deed is no tick
+pub record TakesYoung (s : Setup) (e : List Deed) (x : Deed) : Type 0 where
+  pub in_data : state_of s (x ∷ e) ≡ state.Data
+  pub young : ticks s e < (terms s (x ∷ e)).watchdog
+  pub no_tick : (n : ℕ) → ticked x.what n ≡ n
+
+some-data : (b : Bool) (t u : Took) → (if b then Some t else None) ≡ Some u → b ≡ true
+some-data true t u h = refl
+some-data false t u h = cc
+
+pub takes_young : (s : Setup) (e : List Deed) (m : Move) (d : Did) (f : List ℕ) (t : Took) → IsRun s e → Reaction s e m d f → data_taken d.took ≡ Some t → TakesYoung s e (deed m d f)
+takes_young s e m d f t r (Answers bytes load c answer taking) h =
+    let some : is_data c ≡ true = some-data (is_data c) (record { command = c; load = load }) t h in
+    record { in_data = data_after e bytes load s c answer taking some; young = takes-young s e bytes load answer c r some taking; no_tick = λ n. refl }
+takes_young s e m d f t r _ h = cc
