@@ -8,6 +8,7 @@ pub mod Honest
 pub mod Schedules
 pub mod WorkedRuns
 pub mod WorkedItems
+pub mod WorkedOffering
 pub mod WorkedSchedules
 pub mod Monitor
 pub mod ListMonitor

@@ -25,6 +25,7 @@ ghost use Rattle.exchange_model.specs.Offering.{WasOffered};
 ghost use Rattle.exchange_model.specs.Honest.{Match, exchanges, IsHonest};
 ghost use Rattle.exchange_model.specs.Serving.{Serves};
 ghost use Rattle.exchange_model.specs.WorkedServing.{ReachesData};
+ghost use Rattle.exchange_model.specs.WorkedOffering.{SlaveShowsLongest, MasterShowsLongest};
 ghost use Rattle.exchange_model.specs.WorkedItems.{Answering, AnsweringLate, Carrying, Awaiting, Taking};
 ghost use Rattle.exchange_model.specs.WorkedSchedules.{Mismatches, NotPlain, OutOfTurn, TickedLate};
 ghost use Rattle.exchange_model.specs.WorkedRuns.{FirstData, ByteByByte, LongestFrames, ProfileTwo, NumberStepped, NoFrame, OtherAddress, LongWatchdog, NoParameters, HighParameter, ForgedWatchdog, OtherWord, OtherProfile, OtherProfileLater, Repeated, AlteredGroup, OldData, FiveTicks, AnswerUnderWay, OldSession, ForgedData, HeldSlave, OldConnection, EqualIds, FreshId, FirstDataFair, AnswerUnderWayFair, OldSessionFair, HeldSlaveFair, ProfileTwoFair, ForgedDataFair, OldConnectionFair, Honest, HonestTicks, Exchanges};
@@ -158,6 +159,13 @@ pub fn worked_items()
     ensures carrying { Carrying }
     ensures awaiting { Awaiting }
     ensures taking { Taking }
+{}
+
+/// Worked runs in which each end shows its peer's offer for as many ticks after the peer's last frame as the law of offers allows, and no
+/// longer.
+pub fn worked_offers()
+    ensures slave { SlaveShowsLongest }
+    ensures master { MasterShowsLongest }
 {}
 
 /// Worked runs that are fair, those with an other entry before it.
