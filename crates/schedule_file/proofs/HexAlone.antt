@@ -1,6 +1,6 @@
 -- Hexadecimal digits are one field.
 use Rattle.std.proofs.Common.{◌≡◌, ℕ, ◌<◌, ◌≤◌, length, List, [], ◌∷◌, refl, sym, ap, ◌∙◌, arith, false, true}
-use Rattle.std.specs.Prelude.{Result, Ok, Err, Some, None}
+use Rattle.std.specs.Prelude.{Option, Result, Ok, Err, Some, None}
 use Rattle.std.proofs.lemmas.Bool.Decides.{nat_tests}
 use Rattle.std.proofs.lemmas.List.Splits.{slice_split_none, join_with_byte-slice_split}
 use Rattle.std.proofs.lemmas.List.{take_at}
@@ -8,10 +8,10 @@ use Rattle.std.specs.List.{join_with_byte, refill}
 use Rattle.hex.specs.Hex.{decode_of, is_hex_digit}
 use Rattle.hex.specs.declared.error.FromHexError.{FromHexError}
 use Rattle.hex.proofs.HexLemmas.{decode_of-ok}
-use Rattle.fsoe_base.specs.declared.lengths.TheConstants.{MOST_FRAME}
 use Rattle.schedule_file.proofs.HexDigits.{some_bytes-within}
 use Rattle.schedule_file.specs.Field.{is_space, fields_of, some_bytes, bytes_said}
 use Rattle.schedule_file.specs.Fields.{one_hex_field, not_hex, value_or}
+use Rattle.schedule_file.specs.declared.line_cause.LineCause.{LineCause}
 use Rattle.schedule_file.specs.declared.line_cause.LineCause.TheVariants as cause
 
 -- a space is no digit
@@ -40,6 +40,21 @@ unsaid most text (field ∷ next ∷ more) e same = refl
 pub hex_unsaid : (most : ℕ) (text : List ℕ) → bytes_said most text ≡ None → one_hex_field most (fields_of text) ≡ Err (not_hex (fields_of text))
 hex_unsaid most text e = unsaid most text (fields_of text) e (λ field is. ap (join_with_byte 32) (sym is) ∙ join_with_byte-slice_split 32 text)
 
--- digits that are decoded over as many bytes are the bytes of the only field
-pub hex_written : (text bytes before : List ℕ) → decode_of text ≡ Ok bytes → 0 < length bytes → length bytes ≤ MOST_FRAME → length bytes ≡ length before → one_hex_field MOST_FRAME (fields_of text) ≡ Ok (refill (length before) before bytes)
-hex_written text bytes before e some few same = hex_said MOST_FRAME text bytes (ap (some_bytes MOST_FRAME) e ∙ some_bytes-within MOST_FRAME bytes some few) ∙ ap Ok (sym (take_at bytes _ (length before) same))
+-- what a field says or doesn't, it says or doesn't as the only one
+said-of : (most : ℕ) (text bytes : List ℕ) (said : Option (List ℕ)) → bytes_said most text ≡ said → value_or cause.Hex said ≡ Ok bytes → bytes_said most text ≡ Some bytes
+said-of most text bytes None is e = cc
+said-of most text bytes (Some all) is e = cc
+
+unsaid-of : (most : ℕ) (text : List ℕ) (why : LineCause) (said : Option (List ℕ)) → bytes_said most text ≡ said → value_or cause.Hex said ≡ Err why → bytes_said most text ≡ None
+unsaid-of most text why None is e = is
+unsaid-of most text why (Some all) is e = cc
+
+pub said_alone : (most : ℕ) (text bytes : List ℕ) → value_or cause.Hex (bytes_said most text) ≡ Ok bytes → one_hex_field most (fields_of text) ≡ Ok bytes
+said_alone most text bytes e = hex_said most text bytes (said-of most text bytes (bytes_said most text) refl e)
+
+pub unsaid_alone : (most : ℕ) (text : List ℕ) (why : LineCause) → value_or cause.Hex (bytes_said most text) ≡ Err why → one_hex_field most (fields_of text) ≡ Err (not_hex (fields_of text))
+unsaid_alone most text why e = hex_unsaid most text (unsaid-of most text why (bytes_said most text) refl e)
+
+-- digits that are decoded over as many bytes say those
+pub hex_written : (most : ℕ) (text bytes before : List ℕ) → decode_of text ≡ Ok bytes → 0 < length bytes → length bytes ≤ most → length bytes ≡ length before → bytes_said most text ≡ Some (refill (length before) before bytes)
+hex_written most text bytes before e some few same = ap (some_bytes most) e ∙ some_bytes-within most bytes some few ∙ ap Some (sym (take_at bytes _ (length before) same))

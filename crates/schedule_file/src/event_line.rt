@@ -1,21 +1,21 @@
 //! What the fields of an event's line say that stand after its word: one reader for each kind of event. Each writes what they
 //! say over `says`, which is as it was after an error. So what a line says is made in its place.
-ghost use Rattle.std.specs.Prelude.{◌≡◌, ◌≤◌, ◌<◌, IfSome, OnOk, OnErr};
+ghost use Rattle.std.specs.Prelude.{◌≡◌, ◌≤◌, ◌<◌, [], ◌∷◌, IfSome, OnOk, OnErr, option_map};
 ghost use Rattle.fsoe_base.specs.LengthsOf.{length_of};
 ghost use Rattle.fsoe_base.specs.declared.command.End.{End};
 ghost use Rattle.param_load.specs.declared.profile.Profile.{Profile};
 ghost use Rattle.schedule_file.specs.Event.{PairLineFits};
 ghost use Rattle.schedule_file.specs.EventLine.{switch_of, reference_of, delivered_len, bare_line, deliver_line, altered_line, raw_line, put_line, hold_line, nonce_line};
-ghost use Rattle.schedule_file.specs.Field.{fields_after};
+ghost use Rattle.schedule_file.specs.Field.{bytes_said, fields_after};
 ghost use Rattle.schedule_file.specs.Fields.{Becomes};
 
 use crate::event::{Event, MAX_BACK, ScheduleLine};
 use crate::field::{
-    HexBytes, frame_field, next_field, no_field, number, number_16, number_32, one_field,
-    one_hex_field,
+    bytes_field, count_bytes, next_field, no_field, number, number_16, number_32, one_field,
 };
+use crate::hex_digits::decode;
 use crate::line_cause::LineCause;
-use fsoe_base::{End, FrameBuf, Image, Lengths, MOST_DATA, MOST_FRAME};
+use fsoe_base::{End, FrameBuf, Image, Lengths, MOST_FRAME};
 use param_load::Profile;
 
 /// Off or on: `0` or `1`.
@@ -45,6 +45,16 @@ fn read_reference(text: &[u8]) -> Option<u8>
         return None;
     }
     Some(back as u8)
+}
+
+/// One byte in two digits.
+fn read_mask(text: &[u8]) -> Option<u8>
+    ensures { option_map (λ mask. mask ∷ []) result ≡ bytes_said 1 text.now }
+{
+    count_bytes(text, 1)?;
+    let mut mask = [0];
+    decode(text, &mut mask);
+    Some(mask[0])
 }
 
 /// The number of bytes of a frame that is delivered to this end, which its peer sent.
@@ -89,7 +99,7 @@ pub fn read_altered(
     let digits = one_field(rest)?;
     let pos = number_16(place)?;
     let back = read_reference(reference).ok_or(LineCause::Reference)?;
-    let mask = HexBytes::read(digits, 1).ok_or(LineCause::Hex)?;
+    let mask = read_mask(digits).ok_or(LineCause::Hex)?;
     if usize::from(pos) >= delivered_len(to, lengths) {
         return Err(LineCause::Position);
     }
@@ -97,7 +107,7 @@ pub fn read_altered(
         to,
         back,
         pos: pos as u8,
-        mask: mask.bytes()[0],
+        mask,
     });
     Ok(())
 }
@@ -126,7 +136,7 @@ pub fn read_raw(to: End, fields: Option<&[u8]>, says: &mut ScheduleLine) -> Resu
     match says {
         ScheduleLine::Step(event) => match event {
             Event::Raw { to: end, frame } => {
-                frame_field(fields, frame)?;
+                bytes_field(fields, frame)?;
                 *end = to;
                 Ok(())
             }
@@ -143,7 +153,7 @@ fn read_first_raw(to: End, fields: Option<&[u8]>, says: &mut ScheduleLine) -> Re
     ensures unwritten { OnErr result (says.new ≡ says.old) }
 {
     let mut frame = FrameBuf::new();
-    frame_field(fields, &mut frame)?;
+    bytes_field(fields, &mut frame)?;
     *says = ScheduleLine::Step(Event::Raw { to, frame });
     Ok(())
 }
@@ -158,12 +168,11 @@ pub fn read_put(
     ensures value { Becomes result says.new (put_line at count (fields_after fields.entry)) }
     ensures unwritten { OnErr result (says.new ≡ says.old) }
 {
-    let bytes = one_hex_field(fields, MOST_DATA)?;
-    if bytes.bytes().len() != count {
+    let mut load = Image::new();
+    bytes_field(fields, &mut load)?;
+    if load.len() != count {
         return Err(LineCause::Length);
     }
-    let mut load = Image::new();
-    load.set(bytes.bytes());
     *says = ScheduleLine::Step(Event::Put { at, load });
     Ok(())
 }

@@ -1,12 +1,13 @@
 //! The fields of a line, and what one field says.
 ghost use Rattle.std.specs.Prelude.{◌≡◌, ◌≤◌, ◌<◌, ◌∷◌, length, IfSome, IfOk, OnOk, OnErr};
 ghost use Rattle.memchr.specs.Find.{IsFirstByte, is_byte};
-ghost use Rattle.schedule_file.specs.Fields.{next_field, no_field, one_field, number_16, number_32, one_hex_field, not_hex, IsField, AreFields, Becomes};
+ghost use Rattle.schedule_file.specs.Fields.{value_or, next_field, no_field, one_field, number_16, number_32, one_hex_field, not_hex, IsField, AreFields, Becomes};
 ghost use Rattle.schedule_file.specs.Field.{CountsBytes, fields_of, fields_after, number_said, bytes_said};
+ghost use Rattle.schedule_file.specs.declared.line_cause.LineCause.TheVariants as cause;
 
 use crate::hex_digits::{are_digits, decode};
 use crate::line_cause::LineCause;
-use fsoe_base::{FrameBuf, MOST_FRAME};
+use fsoe_base::ByteList;
 use std::marker::Model;
 
 /// Where the first space stands. Fields that are cut are short, so it's sought byte by byte.
@@ -62,8 +63,9 @@ pub fn number(text: &[u8], most: u32) -> Option<u32>
     }
 }
 
-/// How many bytes a field says in digits of either case, from one to `most`.
-fn count_bytes(text: &[u8], most: usize) -> Option<usize>
+/// How many bytes a field says in digits of either case, from one to `most`. None where it says no such bytes. `decode` writes them where
+/// they are to stand, so that none is moved.
+pub fn count_bytes(text: &[u8], most: usize) -> Option<usize>
     ensures { CountsBytes result most text.now }
 {
     let len = text.len() / 2;
@@ -184,25 +186,45 @@ pub fn one_hex_field(fields: Option<&[u8]>, most: usize) -> Result<HexBytes, Lin
     }
 }
 
-/// Writes to `frame` the bytes of the only field, from one to 255. `Fields` where there is no field or more than one, else
-/// `Hex`; the frame is then as it was.
+/// Writes to `bytes` those that a field says in digits of either case, from one to as many as there is room for. `Hex` where it says no such
+/// bytes; they are then as they were.
 #[inline(always)]
-#[tactic(auto, using(crate::proofs::HexAlone::hex_said, crate::proofs::HexAlone::hex_unsaid))]
-pub fn frame_field(fields: Option<&[u8]>, frame: &mut FrameBuf) -> Result<(), LineCause>
-    ensures value { Becomes result frame.new (one_hex_field MOST_FRAME (fields_after fields.entry)) }
-    ensures count { OnOk result ((0 < length frame.new) × (length frame.new ≤ MOST_FRAME)) }
-    ensures unwritten { OnErr result (frame.new ≡ frame.old) }
+pub fn read_bytes<const MOST: usize>(
+    text: &[u8],
+    bytes: &mut ByteList<MOST>,
+) -> Result<(), LineCause>
+    ensures value { Becomes result bytes.new (value_or cause.Hex (bytes_said MOST text.now)) }
+    ensures count { OnOk result ((0 < length bytes.new) × (length bytes.new ≤ MOST)) }
+    ensures unwritten { OnErr result (bytes.new ≡ bytes.old) }
+{
+    match count_bytes(text, MOST) {
+        Some(len) => {
+            bytes.resize(len);
+            decode(text, bytes.bytes_mut());
+            Ok(())
+        }
+        None => Err(LineCause::Hex),
+    }
+}
+
+/// The same of the only field. `Fields` where there is no field or more than one. Digits have no space among them, so one is sought only
+/// where they aren't digits.
+#[inline(always)]
+#[tactic(auto, using(crate::proofs::HexAlone::said_alone, crate::proofs::HexAlone::unsaid_alone))]
+pub fn bytes_field<const MOST: usize>(
+    fields: Option<&[u8]>,
+    bytes: &mut ByteList<MOST>,
+) -> Result<(), LineCause>
+    ensures value { Becomes result bytes.new (one_hex_field MOST (fields_after fields.entry)) }
+    ensures count { OnOk result ((0 < length bytes.new) × (length bytes.new ≤ MOST)) }
+    ensures unwritten { OnErr result (bytes.new ≡ bytes.old) }
 {
     let Some(text) = fields else {
         return Err(LineCause::Fields);
     };
-    match count_bytes(text, MOST_FRAME) {
-        Some(len) => {
-            frame.resize(len);
-            decode(text, frame.bytes_mut());
-            Ok(())
-        }
-        None => Err(not_hex(text)),
+    match read_bytes(text, bytes) {
+        Ok(()) => Ok(()),
+        Err(_) => Err(not_hex(text)),
     }
 }
 

@@ -96,8 +96,8 @@ fn decode_sixteen(text: &[u8]) -> u8x8
     high * u8x8::splat(16) + low
 }
 
-/// The bytes of these digits, two a byte.
-pub(crate) fn decode(text: &[u8], out: &mut [u8])
+/// Writes the bytes of these digits of either case, two a byte, over `out`, which is half as long.
+pub fn decode(text: &[u8], out: &mut [u8])
     requires digits { IsTrue (list_all is_hex_digit text.now) }
     requires two { length text.now ≡ 2 * length out.old }
     ensures { decode_of text.now ≡ Ok out.new }
