@@ -1,3 +1,4 @@
 pub mod Forms
 pub mod Pulling
+pub mod Ringing
 pub mod Pushed

@@ -1,7 +1,6 @@
 -- What a channel holds, in one of three forms, and what each call makes of it. Parcels are listed oldest first.
-use Rattle.std.specs.Prelude.{ℕ, ◌/◌, ◌%◌, ◌^◌, ◌==◌, ◌≤◌, nat_le, if◌then◌else◌, List, [], ◌∷◌, ◌++◌, length, All, Option, Some, None, IfSome, ⊤}
+use Rattle.std.specs.Prelude.{ℕ, ◌-◌, ◌/◌, ◌%◌, ◌^◌, ◌==◌, ◌≤◌, nat_le, if◌then◌else◌, List, [], ◌∷◌, ◌++◌, length, drop, All, Option, Some, None, IfSome, ⊤}
 use Rattle.std.specs.Option.{option_or}
-use Rattle.circular_buffer.specs.Buffer.{keep_last}
 use Rattle.rand_core.specs.Pcg32Seed.{pcg32_seed}
 use Rattle.rand_pcg.specs.Lcg.{Lcg}
 use Rattle.rand_pcg.specs.Pcg.{pcg32, pcg32_of_seed}
@@ -31,9 +30,13 @@ IsForm (Ring ring) = IsRing ring
 IsForm (Chance ring last words) = IsRing ring × IfSome last HasFrame
 IsForm (Gifts gifts) = ⊤
 
+-- the last so many parcels
+abbrev pub newest : ℕ → List Parcel → List Parcel
+newest most parcels = drop (length parcels - most) parcels
+
 -- a parcel is appended to a ring, and the oldest is lost where it was full
 abbrev pub ring_with : Parcel → List Parcel → List Parcel
-ring_with parcel ring = keep_last 1024 (ring ++ parcel ∷ [])
+ring_with parcel ring = newest 1024 (ring ++ parcel ∷ [])
 
 -- the generator of a seed
 abbrev pub generator_of : ℕ → Lcg

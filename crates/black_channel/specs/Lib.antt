@@ -1,5 +1,6 @@
 pub mod Altered
 pub mod Holds
 pub mod Listed
+pub mod ParcelRing
 pub mod Told
 pub mod Window
