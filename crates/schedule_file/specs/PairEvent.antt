@@ -49,6 +49,11 @@ pair_said sends profiles (Some (word.Nonce at)) fields = nonce_line at (profiles
 pair_said sends profiles (Some (word.Local at)) fields = bare_line (line.Step (event.Local at)) fields
 pair_said sends profiles (Some word.End) fields = bare_line line.End fields
 
+-- the same of an event: the word `end` is that of none
+abbrev pub event_said : (End → ℕ) → (End → Profile) → PairWord → List (List ℕ) → Result ScheduleLine LineCause
+event_said sends profiles word.End fields = Err cause.Word
+event_said sends profiles word fields = pair_said sends profiles (Some word) fields
+
 -- what the fields of a line say, of which the first is its word
 abbrev pub pair_said_by : (End → ℕ) → (End → Profile) → List (List ℕ) → Result ScheduleLine LineCause
 pair_said_by sends profiles [] = Err cause.Word

@@ -1,10 +1,10 @@
-//! What the fields of an event's line say that stand after its word: one reader for each kind of event. Each writes what they
-//! say over `says`, which is as it was after an error. So what a line says is made in its place.
+//! What the fields of an event's line say that stand after its word: one reader for each kind of event. Each writes the event over
+//! `event`, which is as it was after an error. So what a line says is made in its place.
 ghost use Rattle.std.specs.Prelude.{◌≡◌, ◌≤◌, ◌<◌, [], ◌∷◌, IfSome, OnOk, OnErr, option_map};
 ghost use Rattle.fsoe_base.specs.LengthsOf.{length_of};
 ghost use Rattle.fsoe_base.specs.declared.command.End.{End};
 ghost use Rattle.param_load.specs.declared.profile.Profile.{Profile};
-ghost use Rattle.schedule_file.specs.Event.{PairLineFits};
+ghost use Rattle.schedule_file.specs.Event.{Fits};
 ghost use Rattle.schedule_file.specs.EventLine.{switch_of, reference_of, delivered_len, bare_line, deliver_line, altered_line, raw_line, put_line, hold_line, nonce_line};
 ghost use Rattle.schedule_file.specs.Field.{bytes_said, fields_after};
 ghost use Rattle.schedule_file.specs.Fields.{Becomes};
@@ -69,17 +69,13 @@ fn delivered_len(to: End, lengths: &Lengths) -> usize
 }
 
 /// `-<back>`: a frame that the peer sent.
-pub fn read_deliver(
-    to: End,
-    fields: Option<&[u8]>,
-    says: &mut ScheduleLine,
-) -> Result<(), LineCause>
-    ensures value { Becomes result says.new (deliver_line to (fields_after fields.entry)) }
-    ensures unwritten { OnErr result (says.new ≡ says.old) }
+pub fn read_deliver(to: End, fields: Option<&[u8]>, event: &mut Event) -> Result<(), LineCause>
+    ensures value { Becomes result (ScheduleLine.Step event.new) (deliver_line to (fields_after fields.entry)) }
+    ensures unwritten { OnErr result (event.new ≡ event.old) }
 {
     let field = one_field(fields)?;
     let back = read_reference(field).ok_or(LineCause::Reference)?;
-    *says = ScheduleLine::Step(Event::Deliver { to, back });
+    *event = Event::Deliver { to, back };
     Ok(())
 }
 
@@ -88,11 +84,11 @@ pub fn read_altered(
     to: End,
     lengths: &Lengths,
     fields: Option<&[u8]>,
-    says: &mut ScheduleLine,
+    event: &mut Event,
 ) -> Result<(), LineCause>
-    ensures value { Becomes result says.new (altered_line to (length_of lengths.now) (fields_after fields.entry)) }
-    ensures fits { (profiles : End → Profile) → OnOk result (PairLineFits (length_of lengths.now) profiles says.new) }
-    ensures unwritten { OnErr result (says.new ≡ says.old) }
+    ensures value { Becomes result (ScheduleLine.Step event.new) (altered_line to (length_of lengths.now) (fields_after fields.entry)) }
+    ensures fits { (profiles : End → Profile) → OnOk result (Fits (length_of lengths.now) profiles event.new) }
+    ensures unwritten { OnErr result (event.new ≡ event.old) }
 {
     let (reference, rest) = next_field(fields)?;
     let (place, rest) = next_field(rest)?;
@@ -103,58 +99,52 @@ pub fn read_altered(
     if usize::from(pos) >= delivered_len(to, lengths) {
         return Err(LineCause::Position);
     }
-    *says = ScheduleLine::Step(Event::Altered {
+    *event = Event::Altered {
         to,
         back,
         pos: pos as u8,
         mask,
-    });
+    };
     Ok(())
 }
 
-/// No field: a tick. It's written over a tick alone where `says` has one: to write an event of another kind blanks a frame's room.
-pub fn read_tick(at: End, fields: Option<&[u8]>, says: &mut ScheduleLine) -> Result<(), LineCause>
-    ensures value { Becomes result says.new (bare_line (ScheduleLine.Step (Event.Tick at)) (fields_after fields.entry)) }
-    ensures unwritten { OnErr result (says.new ≡ says.old) }
+/// No field: a tick. It's written over a tick alone where `event` is one: to write an event of another kind blanks a frame's room.
+pub fn read_tick(at: End, fields: Option<&[u8]>, event: &mut Event) -> Result<(), LineCause>
+    ensures value { Becomes result (ScheduleLine.Step event.new) (bare_line (ScheduleLine.Step (Event.Tick at)) (fields_after fields.entry)) }
+    ensures unwritten { OnErr result (event.new ≡ event.old) }
 {
     no_field(fields)?;
-    match says {
-        ScheduleLine::Step(event) => match event {
-            Event::Tick { at: end } => *end = at,
-            _ => *event = Event::Tick { at },
-        },
-        ScheduleLine::End => *says = ScheduleLine::Step(Event::Tick { at }),
+    match event {
+        Event::Tick { at: end } => *end = at,
+        _ => *event = Event::Tick { at },
     }
     Ok(())
 }
 
-/// `<hex>`: a frame of from 1 to 255 bytes. It stays in its place where `says` has one.
-pub fn read_raw(to: End, fields: Option<&[u8]>, says: &mut ScheduleLine) -> Result<(), LineCause>
-    ensures value { Becomes result says.new (raw_line to (fields_after fields.entry)) }
-    ensures unwritten { OnErr result (says.new ≡ says.old) }
+/// `<hex>`: a frame of from 1 to 255 bytes. It stays in its place where `event` has one.
+pub fn read_raw(to: End, fields: Option<&[u8]>, event: &mut Event) -> Result<(), LineCause>
+    ensures value { Becomes result (ScheduleLine.Step event.new) (raw_line to (fields_after fields.entry)) }
+    ensures unwritten { OnErr result (event.new ≡ event.old) }
 {
-    match says {
-        ScheduleLine::Step(event) => match event {
-            Event::Raw { to: end, frame } => {
-                bytes_field(fields, frame)?;
-                *end = to;
-                Ok(())
-            }
-            _ => read_first_raw(to, fields, says),
-        },
-        ScheduleLine::End => read_first_raw(to, fields, says),
+    match event {
+        Event::Raw { to: end, frame } => {
+            bytes_field(fields, frame)?;
+            *end = to;
+            Ok(())
+        }
+        _ => read_first_raw(to, fields, event),
     }
 }
 
 /// The same where the line before had no frame.
 #[inline(never)]
-fn read_first_raw(to: End, fields: Option<&[u8]>, says: &mut ScheduleLine) -> Result<(), LineCause>
-    ensures value { Becomes result says.new (raw_line to (fields_after fields.entry)) }
-    ensures unwritten { OnErr result (says.new ≡ says.old) }
+fn read_first_raw(to: End, fields: Option<&[u8]>, event: &mut Event) -> Result<(), LineCause>
+    ensures value { Becomes result (ScheduleLine.Step event.new) (raw_line to (fields_after fields.entry)) }
+    ensures unwritten { OnErr result (event.new ≡ event.old) }
 {
     let mut frame = FrameBuf::new();
     bytes_field(fields, &mut frame)?;
-    *says = ScheduleLine::Step(Event::Raw { to, frame });
+    *event = Event::Raw { to, frame };
     Ok(())
 }
 
@@ -163,28 +153,28 @@ pub fn read_put(
     at: End,
     count: usize,
     fields: Option<&[u8]>,
-    says: &mut ScheduleLine,
+    event: &mut Event,
 ) -> Result<(), LineCause>
-    ensures value { Becomes result says.new (put_line at count (fields_after fields.entry)) }
-    ensures unwritten { OnErr result (says.new ≡ says.old) }
+    ensures value { Becomes result (ScheduleLine.Step event.new) (put_line at count (fields_after fields.entry)) }
+    ensures unwritten { OnErr result (event.new ≡ event.old) }
 {
     let mut load = Image::new();
     bytes_field(fields, &mut load)?;
     if load.len() != count {
         return Err(LineCause::Length);
     }
-    *says = ScheduleLine::Step(Event::Put { at, load });
+    *event = Event::Put { at, load };
     Ok(())
 }
 
 /// `0` or `1`: fail-safe data off or on.
-pub fn read_hold(at: End, fields: Option<&[u8]>, says: &mut ScheduleLine) -> Result<(), LineCause>
-    ensures value { Becomes result says.new (hold_line at (fields_after fields.entry)) }
-    ensures unwritten { OnErr result (says.new ≡ says.old) }
+pub fn read_hold(at: End, fields: Option<&[u8]>, event: &mut Event) -> Result<(), LineCause>
+    ensures value { Becomes result (ScheduleLine.Step event.new) (hold_line at (fields_after fields.entry)) }
+    ensures unwritten { OnErr result (event.new ≡ event.old) }
 {
     let field = one_field(fields)?;
     let failsafe = read_switch(field).ok_or(LineCause::Number)?;
-    *says = ScheduleLine::Step(Event::Hold { at, failsafe });
+    *event = Event::Hold { at, failsafe };
     Ok(())
 }
 
@@ -193,27 +183,27 @@ pub fn read_nonce(
     at: End,
     profile: Profile,
     fields: Option<&[u8]>,
-    says: &mut ScheduleLine,
+    event: &mut Event,
 ) -> Result<(), LineCause>
-    ensures value { Becomes result says.new (nonce_line at profile (fields_after fields.entry)) }
-    ensures unwritten { OnErr result (says.new ≡ says.old) }
+    ensures value { Becomes result (ScheduleLine.Step event.new) (nonce_line at profile (fields_after fields.entry)) }
+    ensures unwritten { OnErr result (event.new ≡ event.old) }
 {
     let field = one_field(fields)?;
     let id = number_32(field)?;
     if !profile.allows_id(id) {
         return Err(LineCause::Number);
     }
-    *says = ScheduleLine::Step(Event::Nonce { at, id });
+    *event = Event::Nonce { at, id };
     Ok(())
 }
 
 /// No field: a local reset.
-pub fn read_local(at: End, fields: Option<&[u8]>, says: &mut ScheduleLine) -> Result<(), LineCause>
-    ensures value { Becomes result says.new (bare_line (ScheduleLine.Step (Event.Local at)) (fields_after fields.entry)) }
-    ensures unwritten { OnErr result (says.new ≡ says.old) }
+pub fn read_local(at: End, fields: Option<&[u8]>, event: &mut Event) -> Result<(), LineCause>
+    ensures value { Becomes result (ScheduleLine.Step event.new) (bare_line (ScheduleLine.Step (Event.Local at)) (fields_after fields.entry)) }
+    ensures unwritten { OnErr result (event.new ≡ event.old) }
 {
     no_field(fields)?;
-    *says = ScheduleLine::Step(Event::Local { at });
+    *event = Event::Local { at };
     Ok(())
 }
 

@@ -1,11 +1,12 @@
 //! What an event line of a node says.
 ghost use Rattle.std.specs.Prelude.{◌≡◌, IfOk, OnOk, OnErr};
 ghost use Rattle.fsoe_base.specs.LengthsOf.{length_of};
-ghost use Rattle.schedule_file.specs.Event.{LineFits};
+ghost use Rattle.schedule_file.specs.Event.{FitsNode, LineFits};
+ghost use Rattle.schedule_file.specs.Field.{fields_after};
 ghost use Rattle.schedule_file.specs.Fields.{Becomes};
-ghost use Rattle.schedule_file.specs.NodeEvent.{word_of, node_line};
+ghost use Rattle.schedule_file.specs.NodeEvent.{word_of, node_event_said, node_line};
 
-use crate::event::ScheduleLine;
+use crate::event::{Event, ScheduleLine};
 use crate::event_line::{
     read_end, read_hold, read_local, read_nonce, read_put, read_raw, read_tick,
 };
@@ -82,13 +83,56 @@ pub fn read_node_event_into(
 {
     let (first, fields) = cut(line);
     match read_word(first) {
-        Some(Word::Tick) => read_tick(end, fields, says),
-        Some(Word::Deliver) => read_raw(end, fields, says),
-        Some(Word::Put) => read_put(end, lengths.of(end), fields, says),
-        Some(Word::Hold) => read_hold(end, fields, says),
-        Some(Word::Nonce) => read_nonce(end, profile, fields, says),
-        Some(Word::Local) => read_local(end, fields, says),
         Some(Word::End) => read_end(fields, says),
+        Some(word) => read_over(word, fields, end, lengths, profile, says),
         None => Err(LineCause::Word),
+    }
+}
+
+/// An event by its word, written over what a line said.
+fn read_over(
+    word: Word,
+    fields: Option<&[u8]>,
+    end: End,
+    lengths: &Lengths,
+    profile: Profile,
+    says: &mut ScheduleLine,
+) -> Result<(), LineCause>
+    ensures value { Becomes result says.new (node_event_said end (length_of lengths.now end) profile word (fields_after fields.entry)) }
+    ensures fits { OnOk result (LineFits end lengths.now profile says.new) }
+    ensures unwritten { OnErr result (says.new ≡ says.old) }
+{
+    match says {
+        ScheduleLine::Step(event) => read_step(word, fields, end, lengths, profile, event),
+        ScheduleLine::End => {
+            let mut event = Event::Tick { at: end };
+            read_step(word, fields, end, lengths, profile, &mut event)?;
+            *says = ScheduleLine::Step(event);
+            Ok(())
+        }
+    }
+}
+
+/// The same, written over `event`, which is as it was after an error. The word `end` is that of no event: `Word`.
+fn read_step(
+    word: Word,
+    fields: Option<&[u8]>,
+    end: End,
+    lengths: &Lengths,
+    profile: Profile,
+    event: &mut Event,
+) -> Result<(), LineCause>
+    ensures value { Becomes result (ScheduleLine.Step event.new) (node_event_said end (length_of lengths.now end) profile word (fields_after fields.entry)) }
+    ensures fits { OnOk result (FitsNode end lengths.now profile event.new) }
+    ensures unwritten { OnErr result (event.new ≡ event.old) }
+{
+    match word {
+        Word::Tick => read_tick(end, fields, event),
+        Word::Deliver => read_raw(end, fields, event),
+        Word::Put => read_put(end, lengths.of(end), fields, event),
+        Word::Hold => read_hold(end, fields, event),
+        Word::Nonce => read_nonce(end, profile, fields, event),
+        Word::Local => read_local(end, fields, event),
+        Word::End => Err(LineCause::Word),
     }
 }

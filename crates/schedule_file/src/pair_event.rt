@@ -1,11 +1,12 @@
 //! What an event line of both ends says.
 ghost use Rattle.std.specs.Prelude.{◌≡◌, IfOk, OnOk, OnErr};
 ghost use Rattle.fsoe_base.specs.LengthsOf.{length_of};
-ghost use Rattle.schedule_file.specs.Event.{PairLineFits, profile_of};
+ghost use Rattle.schedule_file.specs.Event.{Fits, PairLineFits, profile_of};
+ghost use Rattle.schedule_file.specs.Field.{fields_after};
 ghost use Rattle.schedule_file.specs.Fields.{Becomes};
-ghost use Rattle.schedule_file.specs.PairEvent.{pair_word_of, pair_line};
+ghost use Rattle.schedule_file.specs.PairEvent.{pair_word_of, event_said, pair_line};
 
-use crate::event::ScheduleLine;
+use crate::event::{Event, ScheduleLine};
 use crate::event_line::{
     read_altered, read_deliver, read_end, read_hold, read_local, read_nonce, read_put, read_raw,
     read_tick,
@@ -17,7 +18,7 @@ use param_load::{Profile, Profiles};
 
 /// The first field of a line: what happens, and at which end.
 #[derive(Clone, Copy)]
-enum PairWord {
+pub enum PairWord {
     Deliver(End),
     Altered(End),
     Raw(End),
@@ -30,7 +31,7 @@ enum PairWord {
 }
 
 /// The word that begins a line.
-fn read_pair_word(text: &[u8]) -> Option<PairWord>
+pub fn read_pair_word(text: &[u8]) -> Option<PairWord>
     ensures { result ≡ pair_word_of text.now }
 {
     if text == b"dm".as_slice() {
@@ -115,15 +116,56 @@ pub fn read_event_into(
 {
     let (first, fields) = cut(line);
     match read_pair_word(first) {
-        Some(PairWord::Deliver(to)) => read_deliver(to, fields, says),
-        Some(PairWord::Altered(to)) => read_altered(to, lengths, fields, says),
-        Some(PairWord::Raw(to)) => read_raw(to, fields, says),
-        Some(PairWord::Tick(at)) => read_tick(at, fields, says),
-        Some(PairWord::Put(at)) => read_put(at, lengths.of(at), fields, says),
-        Some(PairWord::Hold(at)) => read_hold(at, fields, says),
-        Some(PairWord::Nonce(at)) => read_nonce(at, profile_of(profiles, at), fields, says),
-        Some(PairWord::Local(at)) => read_local(at, fields, says),
         Some(PairWord::End) => read_end(fields, says),
+        Some(word) => read_over(word, fields, lengths, profiles, says),
         None => Err(LineCause::Word),
+    }
+}
+
+/// An event by its word, written over what a line said.
+fn read_over(
+    word: PairWord,
+    fields: Option<&[u8]>,
+    lengths: &Lengths,
+    profiles: &Profiles,
+    says: &mut ScheduleLine,
+) -> Result<(), LineCause>
+    ensures value { Becomes result says.new (event_said (length_of lengths.now) (profile_of profiles.now) word (fields_after fields.entry)) }
+    ensures fits { OnOk result (PairLineFits (length_of lengths.now) (profile_of profiles.now) says.new) }
+    ensures unwritten { OnErr result (says.new ≡ says.old) }
+{
+    match says {
+        ScheduleLine::Step(event) => read_step(word, fields, lengths, profiles, event),
+        ScheduleLine::End => {
+            let mut event = Event::Tick { at: End::Slave };
+            read_step(word, fields, lengths, profiles, &mut event)?;
+            *says = ScheduleLine::Step(event);
+            Ok(())
+        }
+    }
+}
+
+/// The same, written over `event`, which is as it was after an error. The word `end` is that of no event: `Word`.
+pub fn read_step(
+    word: PairWord,
+    fields: Option<&[u8]>,
+    lengths: &Lengths,
+    profiles: &Profiles,
+    event: &mut Event,
+) -> Result<(), LineCause>
+    ensures value { Becomes result (ScheduleLine.Step event.new) (event_said (length_of lengths.now) (profile_of profiles.now) word (fields_after fields.entry)) }
+    ensures fits { OnOk result (Fits (length_of lengths.now) (profile_of profiles.now) event.new) }
+    ensures unwritten { OnErr result (event.new ≡ event.old) }
+{
+    match word {
+        PairWord::Deliver(to) => read_deliver(to, fields, event),
+        PairWord::Altered(to) => read_altered(to, lengths, fields, event),
+        PairWord::Raw(to) => read_raw(to, fields, event),
+        PairWord::Tick(at) => read_tick(at, fields, event),
+        PairWord::Put(at) => read_put(at, lengths.of(at), fields, event),
+        PairWord::Hold(at) => read_hold(at, fields, event),
+        PairWord::Nonce(at) => read_nonce(at, profile_of(profiles, at), fields, event),
+        PairWord::Local(at) => read_local(at, fields, event),
+        PairWord::End => Err(LineCause::Word),
     }
 }
