@@ -70,7 +70,7 @@ altered_fits sends profiles to fields =
     given (reference_of reference.0) cause.Reference _ _ _ (reference_within reference.0) (λ back range. each (value_or cause.Hex (bytes_said 1 digits)) _ _ (λ mask.
     ok_if (nat_lt pos (delivered_len sends to)) _ cause.Position _ (λ e. (range, ltb-true pos (delivered_len sends to) e))))))))
 
-said_fits : (sends : End → ℕ) (profiles : End → Profile) (word : Option PairWord) (fields : List (List ℕ)) → IfOk (pair_said sends profiles word fields) (OnStep (Fits sends profiles))
+pub said_fits : (sends : End → ℕ) (profiles : End → Profile) (word : Option PairWord) (fields : List (List ℕ)) → IfOk (pair_said sends profiles word fields) (OnStep (Fits sends profiles))
 said_fits sends profiles None fields = tt
 said_fits sends profiles (Some (word.Deliver to)) fields =
     each (one_field fields) _ _ (λ field. given (reference_of field) cause.Reference _ _ _ (reference_within field) (λ back range. (range, tt)))

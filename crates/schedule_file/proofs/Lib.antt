@@ -15,3 +15,4 @@ pub mod Fitting
 pub mod OneSetting
 pub mod DigitLanes
 pub mod DigitParts
+pub mod Pairs

@@ -16,5 +16,11 @@ pub mod Maker
 pub mod NodeEvent
 pub mod NodeHeader
 pub mod PairEvent
+pub mod PairsEnds
+pub mod PairsEvent
+pub mod PairsHeader
+pub mod PairsInput
+pub mod PairsLine
+pub mod PairsLinesLeft
 pub mod Place
 pub mod WorkedInputs

@@ -15,3 +15,16 @@ cause_name cause.Hex = codes "Hex"
 cause_name cause.Length = codes "Length"
 cause_name cause.Range = codes "Range"
 cause_name cause.Position = codes "Position"
+
+-- the place of a cause in the order in which causes count
+abbrev pub cause_order : LineCause → ℕ
+cause_order cause.Header = 0
+cause_order cause.Word = 1
+cause_order cause.Fields = 2
+cause_order cause.Number = 3
+cause_order cause.NoLink = 4
+cause_order cause.Reference = 5
+cause_order cause.Hex = 6
+cause_order cause.Length = 7
+cause_order cause.Range = 8
+cause_order cause.Position = 9

@@ -7,6 +7,7 @@ ghost use Rattle.schedule_file.specs.HeaderKind.{has_end};
 ghost use Rattle.schedule_file.specs.HeaderLine.{InRange};
 ghost use Rattle.schedule_file.specs.LinesLeft.{lines_left};
 ghost use Rattle.schedule_file.specs.NodeHeader.{heading_begun, kind_after, node_heading_after, is_end_line, may_end};
+ghost use Rattle.schedule_file.specs.PairsHeader.{pair_begun};
 ghost use Rattle.schedule_file.specs.Place.{is_start};
 
 use crate::field::cut;
@@ -95,6 +96,15 @@ impl Header {
         ensures { result ≡ heading_begun }
     {
         let mut header = Header::new(HeaderKind::Node(End::Slave));
+        header.place = Place::Title;
+        header
+    }
+
+    /// A header of a pair within a longer input, of which no line is read. It has no first line: `lengths` comes next.
+    pub fn begun_pair() -> Header
+        ensures { result ≡ pair_begun }
+    {
+        let mut header = Header::new(HeaderKind::Pair);
         header.place = Place::Title;
         header
     }

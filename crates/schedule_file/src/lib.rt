@@ -18,6 +18,10 @@ mod line_cause;
 mod maker;
 mod node_event;
 mod pair_event;
+mod pairs_ends;
+mod pairs_event;
+mod pairs_header;
+mod pairs_line;
 mod place;
 
 pub use event::{Event, MAX_BACK, MAX_EVENTS, ScheduleLine};
@@ -35,3 +39,7 @@ pub use line_cause::LineCause;
 pub use maker::Maker;
 pub use node_event::{read_node_event, read_node_event_into};
 pub use pair_event::{profile_of, read_event, read_event_into};
+pub use pairs_ends::PairsEnds;
+pub use pairs_event::{read_pairs_event, read_pairs_event_into};
+pub use pairs_header::{MOST_PAIRS, PairsHeader};
+pub use pairs_line::{PairsEvent, PairsLine, PairsSaid};

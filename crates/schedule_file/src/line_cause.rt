@@ -1,6 +1,6 @@
 //! Why a line by itself is refused.
 ghost use Rattle.std.specs.Prelude.{◌≡◌};
-ghost use Rattle.schedule_file.specs.LineCause.{cause_name};
+ghost use Rattle.schedule_file.specs.LineCause.{cause_name, cause_order};
 
 use thiserror::Error;
 
@@ -55,6 +55,24 @@ impl LineCause {
             LineCause::Length => "Length",
             LineCause::Range => "Range",
             LineCause::Position => "Position",
+        }
+    }
+
+    /// The place of the cause in the order in which causes count.
+    pub fn order(self) -> u8
+        ensures { result ≡ cause_order self }
+    {
+        match self {
+            LineCause::Header => 0,
+            LineCause::Word => 1,
+            LineCause::Fields => 2,
+            LineCause::Number => 3,
+            LineCause::NoLink => 4,
+            LineCause::Reference => 5,
+            LineCause::Hex => 6,
+            LineCause::Length => 7,
+            LineCause::Range => 8,
+            LineCause::Position => 9,
         }
     }
 }

@@ -1,0 +1,128 @@
+-- What lines of several pairs say.
+use Rattle.std.proofs.Common.{◌≡◌, ℕ, zero, suc, ◌+◌, ◌<◌, Bool, true, false, List, [], ◌∷◌, ◌++◌, map, take, length, refl, sym, ap, ◌∙◌, add-one, inl, inr, arith}
+use Rattle.std.specs.Prelude.{◌⊎◌, Result, Ok, Err, Option, Some, None, IfOk, OnOk, slice_get, option_map, ◌&&◌}
+use Rattle.std.specs.Char.{is_ascii_digit}
+use Rattle.std.specs.List.{list_all}
+use Rattle.std.specs.Str.{all_ascii_digits}
+use Rattle.std.proofs.lemmas.List.{length_push, map-append, take_more}
+use Rattle.std.proofs.lemmas.Option.{get_or_from_slice_get, slice_get-map, slice_get_within}
+use Rattle.std.proofs.lemmas.Result.{IfOk-at_ok}
+use Rattle.fsoe_base.specs.LengthsOf.{length_of}
+use Rattle.fsoe_base.specs.declared.command.End.{End}
+use Rattle.fsoe_base.specs.declared.command.End.TheVariants as side
+use Rattle.fsoe_base.specs.declared.lengths.Lengths.{Lengths}
+use Rattle.param_load.specs.declared.profile.Profile.{Profile}
+use Rattle.param_load.specs.declared.profile.Profile.TheVariants as profile
+use Rattle.param_load.specs.declared.profile.Profiles.{Profiles}
+use Rattle.schedule_file.specs.Event.{Fits, OnStep, profile_of}
+use Rattle.schedule_file.specs.Field.{number_said}
+use Rattle.schedule_file.specs.Fields.{value_or, next_field, Becomes}
+use Rattle.schedule_file.specs.PairEvent.{event_said, pair_word_of}
+use Rattle.schedule_file.specs.PairsEvent.{PairsLineFits, numbered, numbered_line, of_pair, said_to, said_to_number, unlinked}
+use Rattle.schedule_file.specs.Header.{Heading}
+use Rattle.schedule_file.specs.PairsHeader.{pairs_begun}
+use Rattle.schedule_file.specs.declared.pairs_header.PairsStage.{PairsStage}
+use Rattle.schedule_file.specs.declared.pairs_header.PairsStage.TheVariants as stage
+use Rattle.schedule_file.specs.PairsLine.{pairs_event_of, said_in}
+use Rattle.schedule_file.specs.declared.event.ScheduleLine.{ScheduleLine}
+use Rattle.schedule_file.specs.declared.event.ScheduleLine.TheVariants as line
+use Rattle.schedule_file.specs.declared.line_cause.LineCause.{LineCause}
+use Rattle.schedule_file.specs.declared.line_cause.LineCause.TheVariants as cause
+use Rattle.schedule_file.specs.declared.pair_event.PairWord.{PairWord}
+use Rattle.schedule_file.specs.declared.pair_event.PairWord.TheVariants as word
+use Rattle.schedule_file.specs.declared.pairs_line.PairsEvent.{PairsEvent}
+use Rattle.schedule_file.specs.declared.pairs_line.PairsEvent.TheVariants as event
+use Rattle.schedule_file.specs.declared.pairs_line.PairsLine.{PairsLine}
+use Rattle.schedule_file.proofs.Fitting.{said_fits}
+use Rattle.schedule_file.proofs.Sound.{each}
+
+-- what is said of each pair is found by its number
+pub numbered_map : {A B : Type 0} (f : A → B) (pairs : List A) (pair : ℕ) → numbered pair (map f pairs) ≡ option_map f (numbered pair pairs)
+numbered_map f pairs zero = refl
+numbered_map f pairs (suc before) = slice_get-map f pairs before
+
+pub all_digits : (text : List ℕ) → list_all is_ascii_digit text ≡ all_ascii_digits text
+all_digits [] = refl
+all_digits (c ∷ text) = ap (λ b. is_ascii_digit c && b) (all_digits text)
+
+-- the event that is kept
+pub said-event : (s : PairsLine) (ended : Bool) (kept : PairsEvent) → said_in ended kept ≡ s → ended ≡ false → pairs_event_of s ≡ Some kept
+said-event s ended event.Tick is e = ap pairs_event_of (sym is) ∙ ap (λ b. pairs_event_of (said_in b event.Tick)) e
+said-event s ended (event.One pair what) is e = ap pairs_event_of (sym is) ∙ ap (λ b. pairs_event_of (said_in b (event.One pair what))) e
+
+pub said-end : (s : PairsLine) (ended : Bool) (kept : PairsEvent) → said_in ended kept ≡ s → ended ≡ true → pairs_event_of s ≡ None
+said-end s ended kept is e = ap pairs_event_of (sym is) ∙ ap (λ b. pairs_event_of (said_in b kept)) e
+
+-- ends that send one byte each and are in profile One
+at_ends : {X : Type 0} (f g : End → X) → f side.Master ≡ g side.Master → f side.Slave ≡ g side.Slave → (end : End) → f end ≡ g end
+at_ends f g master slave side.Master = master
+at_ends f g master slave side.Slave = slave
+
+pub same_ends : {X : Type 0} (f g : End → X) → f side.Master ≡ g side.Master → f side.Slave ≡ g side.Slave → f ≡ g
+same_ends f g master slave = λ i. λ end. at_ends f g master slave end i
+
+pub unlinked-is : (lengths : Lengths) (profiles : Profiles) (word : PairWord) (fields : List (List ℕ)) → lengths.master ≡ 1 → lengths.slave ≡ 1 → profiles.master ≡ profile.One → profiles.slave ≡ profile.One
+    → event_said (length_of lengths) (profile_of profiles) word fields ≡ unlinked word fields
+unlinked-is lengths profiles word fields lm ls pm ps =
+    ap (λ (s : End → ℕ). event_said s (profile_of profiles) word fields) (same_ends (length_of lengths) (λ end. 1) lm ls)
+    ∙ ap (λ (p : End → Profile). event_said (λ end. 1) p word fields) (same_ends (profile_of profiles) (λ end. profile.One) pm ps)
+
+-- the event of a line, where it is that of one pair, fits this
+event_fits : (sends : End → ℕ) (profiles : End → Profile) (word : PairWord) (fields : List (List ℕ)) → IfOk (event_said sends profiles word fields) (OnStep (Fits sends profiles))
+event_fits sends profiles (word.Deliver to) fields = said_fits sends profiles (Some (word.Deliver to)) fields
+event_fits sends profiles (word.Altered to) fields = said_fits sends profiles (Some (word.Altered to)) fields
+event_fits sends profiles (word.Raw to) fields = said_fits sends profiles (Some (word.Raw to)) fields
+event_fits sends profiles (word.Tick at) fields = said_fits sends profiles (Some (word.Tick at)) fields
+event_fits sends profiles (word.Put at) fields = said_fits sends profiles (Some (word.Put at)) fields
+event_fits sends profiles (word.Hold at) fields = said_fits sends profiles (Some (word.Hold at)) fields
+event_fits sends profiles (word.Nonce at) fields = said_fits sends profiles (Some (word.Nonce at)) fields
+event_fits sends profiles (word.Local at) fields = said_fits sends profiles (Some (word.Local at)) fields
+event_fits sends profiles word.End fields = tt
+
+one_fits : (sends : List (End → ℕ)) (profiles : List (End → Profile)) (pair : ℕ) (s : End → ℕ) (p : End → Profile) (r : Result ScheduleLine LineCause)
+    → numbered pair sends ≡ Some s → numbered pair profiles ≡ Some p → IfOk r (OnStep (Fits s p)) → IfOk (of_pair pair r) (PairsLineFits sends profiles)
+one_fits sends profiles pair s p (Ok (line.Step event)) e d fits = rw (e, d) fits
+one_fits sends profiles pair s p (Ok line.End) e d fits = tt
+one_fits sends profiles pair s p (Err cause) e d fits = tt
+
+to_fits : (sends : List (End → ℕ)) (profiles : List (End → Profile)) (pair : ℕ) (s : Option (End → ℕ)) (p : Option (End → Profile)) (word : PairWord) (fields : List (List ℕ))
+    → numbered pair sends ≡ s → numbered pair profiles ≡ p → IfOk (said_to pair s p word fields) (PairsLineFits sends profiles)
+to_fits sends profiles pair (Some s) (Some p) word fields e d = one_fits sends profiles pair s p (event_said s p word fields) e d (event_fits s p word fields)
+to_fits sends profiles pair None p word fields e d = tt
+to_fits sends profiles pair (Some s) None word fields e d = tt
+
+number_fits : (sends : List (End → ℕ)) (profiles : List (End → Profile)) (number : Option ℕ) (word : PairWord) (fields : List (List ℕ)) → IfOk (said_to_number sends profiles number word fields) (PairsLineFits sends profiles)
+number_fits sends profiles None word fields = tt
+number_fits sends profiles (Some pair) word fields = to_fits sends profiles pair (numbered pair sends) (numbered pair profiles) word fields refl refl
+
+numbered_fits : (sends : List (End → ℕ)) (profiles : List (End → Profile)) (digits : List ℕ) (fields : List (List ℕ)) → IfOk (numbered_line sends profiles digits fields) (PairsLineFits sends profiles)
+numbered_fits sends profiles digits fields =
+    each (next_field fields) _ _ (λ second. each (value_or cause.Word (pair_word_of second.0)) _ _ (λ word. number_fits sends profiles (number_said 65535 digits) word second.1))
+
+-- what a call read fits
+pub so_fits : (result : Result (Unit {0}) LineCause) (new : PairsLine) (sends : List (End → ℕ)) (profiles : List (End → Profile)) (digits : List ℕ) (fields : List (List ℕ)) → Becomes result new (numbered_line sends profiles digits fields)
+    → OnOk result (PairsLineFits sends profiles new)
+so_fits (Ok u) new sends profiles digits fields said = IfOk-at_ok (PairsLineFits sends profiles) said (numbered_fits sends profiles digits fields)
+so_fits (Err e) new sends profiles digits fields said = tt
+
+-- the pairs before one, and this one
+next_found : {X : Type 0} (pairs : List X) (before : ℕ) (x : X) → numbered (before + 1) pairs ≡ Some x → slice_get pairs before ≡ Some x
+next_found pairs before x found = rw (add-one before) at found
+
+take-next : {X : Type 0} (pairs : List X) (before : ℕ) (x : X) → slice_get pairs before ≡ Some x → take (before + 1) pairs ≡ take before pairs ++ x ∷ []
+take-next pairs before x found = take_more pairs before x (slice_get_within pairs before x found) ∙ ap (λ y. take before pairs ++ y ∷ []) (get_or_from_slice_get pairs before x x found)
+
+-- a list with the next pair
+pub map-next : {A B X : Type 0} (f : A → X) (g : B → X) (kept new : List A) (pairs : List B) (before : ℕ) (a : A) (b : B) → map f kept ≡ map g (take before pairs) → new ≡ kept ++ a ∷ [] → numbered (before + 1) pairs ≡ Some b → f a ≡ g b
+    → map f new ≡ map g (take (before + 1) pairs)
+map-next f g kept new pairs before a b e is found same =
+    ap (map f) is ∙ map-append f kept (a ∷ []) ∙ ap (λ xs. xs ++ f a ∷ []) e ∙ ap (λ x. map g (take before pairs) ++ x ∷ []) same
+    ∙ sym (map-append g (take before pairs) (b ∷ [])) ∙ ap (map g) (sym (take-next pairs before b (next_found pairs before b found)))
+
+-- a header that has pairs has those before the last one, and the last one
+pub room_before : (s : PairsStage) (before : List Heading) (last : Heading) (most : ℕ) → length (pairs_begun s before last) < most → (s ≡ stage.Pairs) ⊎ (s ≡ stage.Done) → length before + 1 < most
+room_before stage.Pairs before last most few some = let all = length_push before last in omega (arith, all, few)
+room_before stage.Done before last most few some = let all = length_push before last in omega (arith, all, few)
+room_before stage.Start before last most few some = elim some [ inl e ↦ cc | inr e ↦ cc ]
+room_before stage.Title before last most few some = elim some [ inl e ↦ cc | inr e ↦ cc ]
+room_before stage.Refused before last most few some = elim some [ inl e ↦ cc | inr e ↦ cc ]

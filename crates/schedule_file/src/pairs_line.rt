@@ -1,0 +1,149 @@
+//! What a line of several pairs says after the header.
+ghost use Rattle.std.specs.Prelude.{◌≡◌, MatchOption, None, OnErr, Some};
+ghost use Rattle.fsoe_base.specs.LengthsOf.{length_of};
+ghost use Rattle.schedule_file.specs.Event.{profile_of};
+ghost use Rattle.schedule_file.specs.Field.{fields_after};
+ghost use Rattle.schedule_file.specs.Fields.{Becomes};
+ghost use Rattle.schedule_file.specs.PairEvent.{event_said};
+ghost use Rattle.schedule_file.specs.PairsEvent.{of_pair};
+ghost use Rattle.schedule_file.specs.PairsLine.{line_of_event, pairs_event_of};
+
+use crate::event::Event;
+use crate::line_cause::LineCause;
+use crate::pair_event::{PairWord, read_step};
+use fsoe_base::{End, Lengths};
+use param_load::Profiles;
+use std::marker::Model;
+
+/// What a line after the header of several pairs says.
+#[derive(Debug, Drop)]
+pub enum PairsLine {
+    /// The time of all pairs goes on by one tick: of every slave in the order of pairs, and then of every master.
+    Tick,
+    /// An event of the pair of this number, from 1.
+    One { pair: u16, event: Event },
+    /// The end of the schedule.
+    End,
+}
+
+/// What happens to several pairs: a line that isn't the end.
+#[derive(Debug, Drop)]
+pub enum PairsEvent {
+    /// The time of all pairs goes on by one tick.
+    Tick,
+    /// An event of the pair of this number, from 1.
+    One { pair: u16, event: Event },
+}
+
+/// What a line after the header says, a `PairsLine`, in room that is kept from one line to the next: an event of a pair is written over
+/// that of the line before, where this has one.
+#[derive(Drop)]
+pub struct PairsSaid {
+    ended: bool,
+    event: PairsEvent,
+}
+
+impl Model for PairsSaid {
+    ghost use Rattle.schedule_file.specs.PairsLine.{said_in};
+    ghost use Rattle.schedule_file.specs.declared.pairs_line.PairsLine.{PairsLine};
+
+    ghost Value = { PairsLine };
+
+    ghost view = { λ s. said_in s.ended s.event };
+}
+
+impl PairsSaid {
+    /// The end.
+    pub fn end() -> PairsSaid
+        ensures { result ≡ PairsLine.End }
+    {
+        PairsSaid {
+            ended: true,
+            event: PairsEvent::Tick,
+        }
+    }
+
+    /// The event that is said. The end is none.
+    pub fn event(&self) -> Option<&PairsEvent>
+        ensures { MatchOption result (pairs_event_of self.now ≡ None) (λ event. pairs_event_of self.now ≡ Some event.now) }
+    {
+        if self.ended {
+            return None;
+        }
+        Some(&self.event)
+    }
+
+    /// What is said, as a line by itself.
+    pub fn into_line(self) -> PairsLine
+        ensures { result ≡ self }
+    {
+        if self.ended {
+            return PairsLine::End;
+        }
+        match self.event {
+            PairsEvent::Tick => PairsLine::Tick,
+            PairsEvent::One { pair, event } => PairsLine::One { pair, event },
+        }
+    }
+
+    /// Says the end.
+    pub(crate) fn set_end(&mut self)
+        ensures { self.new ≡ PairsLine.End }
+    {
+        self.ended = true;
+    }
+
+    /// Says a tick.
+    pub(crate) fn set_tick(&mut self)
+        ensures { self.new ≡ PairsLine.Tick }
+    {
+        self.ended = false;
+        self.event = PairsEvent::Tick;
+    }
+
+    /// Says the event of a pair by its word and the fields after it. After an error it says what it said.
+    pub(crate) fn read_one(
+        &mut self,
+        pair: u16,
+        word: PairWord,
+        fields: Option<&[u8]>,
+        lengths: &Lengths,
+        profiles: &Profiles,
+    ) -> Result<(), LineCause>
+        ensures value { Becomes result self.new (of_pair pair (event_said (length_of lengths.now) (profile_of profiles.now) word (fields_after fields.entry))) }
+        ensures unwritten { OnErr result (self.new ≡ self.old) }
+    {
+        read_one_over(pair, word, fields, lengths, profiles, &mut self.event)?;
+        self.ended = false;
+        Ok(())
+    }
+}
+
+/// The event of a pair, written over what happened, which is as it was after an error.
+fn read_one_over(
+    number: u16,
+    word: PairWord,
+    fields: Option<&[u8]>,
+    lengths: &Lengths,
+    profiles: &Profiles,
+    over: &mut PairsEvent,
+) -> Result<(), LineCause>
+    ensures value { Becomes result (line_of_event over.new) (of_pair number (event_said (length_of lengths.now) (profile_of profiles.now) word (fields_after fields.entry))) }
+    ensures unwritten { OnErr result (over.new ≡ over.old) }
+{
+    match over {
+        PairsEvent::One { pair, event } => {
+            read_step(word, fields, lengths, profiles, event)?;
+            *pair = number;
+        }
+        PairsEvent::Tick => {
+            let mut event = Event::Tick { at: End::Slave };
+            read_step(word, fields, lengths, profiles, &mut event)?;
+            *over = PairsEvent::One {
+                pair: number,
+                event,
+            };
+        }
+    }
+    Ok(())
+}
