@@ -1,10 +1,10 @@
 //! An application whose outputs are its inputs.
-ghost use Rattle.std.specs.Prelude.{◌≡◌, ◌≤◌, [], map, length, get_or, slice_index};
+ghost use Rattle.std.specs.Prelude.{◌≡◌, [], map, length, get_or, slice_index};
 ghost use Rattle.fb_net.specs.Mirror.{mirrored, mirror_images};
 
 use crate::guards::is_same_bit;
 use failsafe_io::{Application, Bit};
-use fsoe_base::{Image, MOST_DATA};
+use fsoe_base::Image;
 
 /// Gives each connection its input bytes as its outputs where both are there, and 0 elsewhere. It guards each output bit by
 /// the same input bit.
@@ -19,16 +19,15 @@ fn byte_or_zero(bytes: &[u8], place: usize) -> u8
     if place < bytes.len() { bytes[place] } else { 0 }
 }
 
-/// These bytes as far as `len` goes, at most 126, and zeros behind them.
-fn mirrored(bytes: &[u8], len: usize) -> Image
-    requires { len ≤ MOST_DATA }
-    ensures { result ≡ mirrored bytes.now len }
+/// Writes these bytes over an image as far as it goes, and zeros behind them.
+fn write_over(bytes: &[u8], image: &mut Image)
+    ensures { image.new ≡ mirrored bytes.now (length image.old) }
 {
-    let mut image = Image::new();
+    let len = image.len();
+    image.clear();
     for i in 0..len {
         image.push(byte_or_zero(bytes, i));
     }
-    image
 }
 
 /// The bytes of the image at this place, from 0, or none.
@@ -48,8 +47,7 @@ fn mirror_all(inputs: &[Image], outputs: &mut [Image])
     ensures { outputs.new ≡ mirror_images inputs.now (map length outputs.old) }
 {
     for i in 0..outputs.len() {
-        let image = &mut outputs[i];
-        *image = mirrored(bytes_at(inputs, i), image.len());
+        write_over(bytes_at(inputs, i), &mut outputs[i]);
     }
 }
 

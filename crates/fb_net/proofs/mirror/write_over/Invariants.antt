@@ -1,6 +1,6 @@
 use Rattle.std.proofs.Common.{◌≡◌, length}
 use Rattle.fb_net.specs.Mirror.{mirrored}
-use Rattle.fb_net.proofs.mirror.mirrored.Given as goal
+use Rattle.fb_net.proofs.mirror.write_over.Given as goal
 
 abbrev pub invariant-loop-i : goal.invariant-loop-i
 invariant-loop-i l = record {

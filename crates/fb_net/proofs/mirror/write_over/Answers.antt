@@ -1,5 +1,5 @@
 use Rattle.fb_net.proofs.Mirroring.{mirrored_more, counted_more}
-use Rattle.fb_net.proofs.mirror.mirrored.Goals as goal
+use Rattle.fb_net.proofs.mirror.write_over.Goals as goal
 
 pub loop-i-preserved : goal.loop-i-preserved
 loop-i-preserved c = record {
