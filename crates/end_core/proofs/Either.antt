@@ -1,11 +1,13 @@
 -- What holds of a master, and what holds of a slave, holds of an end.
-use Rattle.std.proofs.Common.{◌≡◌, ℕ, List, [], ◌∷◌, false, sym, ap, subst}
+use Rattle.std.proofs.Common.{◌≡◌, ℕ, List, [], ◌∷◌, false, refl, sym, ap, subst}
+use Rattle.fsoe_base.specs.Did.{nothing}
 use Rattle.fsoe_base.specs.declared.did.Did.{Did}
 use Rattle.param_load.specs.declared.entry.Move.{Move}
+use Rattle.param_load.specs.declared.entry.Move.TheVariants as move
 use Rattle.param_load.specs.declared.master_settings.MasterSettings.{MasterSettings}
 use Rattle.param_load.specs.declared.slave_settings.SlaveSettings.{SlaveSettings}
 use Rattle.end_model.specs.Setup.{Setup, OfMaster, OfSlave}
-use Rattle.end_model.specs.Deed.{Deed}
+use Rattle.end_model.specs.Deed.{Deed, IsSetting}
 use Rattle.end_model.specs.Step.{step}
 use Rattle.master_core.specs.MasterView.{MasterView}
 use Rattle.master_core.specs.Now.{is_due}
@@ -14,7 +16,24 @@ use Rattle.slave_core.specs.SlaveView.{SlaveView}
 use Rattle.slave_core.specs.Standing as slave_core
 use Rattle.end_core.specs.Core.{setup_of}
 use Rattle.end_core.specs.Standing.{IsAfter, IsNew, Follows, Answers, Shows}
+use Rattle.end_core.specs.declared.one_end.Core.{Core}
 use Rattle.end_core.specs.declared.one_end.Core.TheVariants as core
+
+-- an end that is after some deeds is set as they say
+pub setup_is : (s : Setup) (end : Core) (e : List Deed) → IsAfter s end e → setup_of end ≡ s
+setup_is (OfMaster ms) (core.Master m) e h = ap (λ (v : MasterView). OfMaster v.kit.settings) h.is
+setup_is (OfMaster ms) (core.Slave v) e h = absurd h
+setup_is (OfSlave ss) (core.Master m) e h = absurd h
+setup_is (OfSlave ss) (core.Slave v) e h = ap (λ (v : SlaveView). OfSlave v.kit.settings) h.is
+
+-- a put, a hold and a nonce do nothing else and send nothing
+pub set_answers : (old : Core) (what : Move) → IsSetting what → Answers old what nothing []
+set_answers old (move.Put load) k = record { did = λ s e h. refl; sent = λ s e h. refl }
+set_answers old (move.Hold failsafe) k = record { did = λ s e h. refl; sent = λ s e h. refl }
+set_answers old (move.Nonce id) k = record { did = λ s e h. refl; sent = λ s e h. refl }
+set_answers old (move.Deliver bytes) k = absurd k
+set_answers old move.Tick k = absurd k
+set_answers old move.Local k = absurd k
 
 -- a new end, and what it is set to
 pub master_set : (settings : MasterSettings) (m : MasterView) → master_core.MasterIsAfter settings m [] → setup_of (core.Master m) ≡ OfMaster settings
