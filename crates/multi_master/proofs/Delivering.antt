@@ -17,8 +17,8 @@ use Rattle.master_core.specs.Waiting.{Accepts, Replies, ShowsDue}
 use Rattle.multi_master.specs.Connection.{Connection, setup, next_deed, with_event, outputs_at, offer_at, offer_len, with_offers}
 use Rattle.multi_master.specs.Calls.{AppView, Call, Deliver, Meant, event_at, answer, is_heard, cycle_in, with_cycle, after, meant}
 use Rattle.multi_master.specs.Puts.{own_len, PutsEach, RunsCycle}
-use Rattle.multi_master.specs.Standing.{MultiView, settings_in, IsWhere, StandsFor, Follows, Offers, AnswersFrame, newest_at}
-use Rattle.multi_master.proofs.Following.{own_lens, cycle_answers}
+use Rattle.multi_master.specs.Standing.{MultiView, settings_in, IsWhere, StandsFor, Follows, Offers, IsGuarded, Guards, AnswersFrame, newest_at}
+use Rattle.multi_master.proofs.Following.{own_lens, cycle_answers, guards_alike}
 use Rattle.multi_master.proofs.Hearing.{replied}
 use Rattle.multi_master.proofs.Places.{at_place, map_set, set_there}
 use Rattle.multi_master.proofs.Putting.{offers_put, all_outputs_put, puts_told}
@@ -96,6 +96,16 @@ drop_offers old new link place bytes did n d = record {
       subst (λ (o : Option Answer). IfSome o (λ a. map offer_at (meant settings app (Deliver link bytes ∷ calls)).connections ≡ a.outputs)) (sym none) tt;
 }
 
+pub drop_guards : (old new : MultiView) (link place : ℕ) (bytes : List ℕ) (did : Did) → link ≡ suc place → Drops old place bytes did new → Guards old (Deliver link bytes)
+drop_guards old new link place bytes did n d = record {
+  guards = λ settings app calls h.
+      let m : Meant = meant settings app calls in
+      let x = dropped settings app old new calls place bytes did h d in
+      let none : cycle_in (Deliver link bytes) m ≡ None = ap (λ (k : ℕ). cycle_in (Deliver k bytes) m) n ∙ cycle-is m place x.there bytes false x.is x.none in
+      let later : Meant = meant settings app (Deliver link bytes ∷ calls) in
+      subst (λ (o : Option Answer). IfSome o (IsGuarded later)) (sym none) tt;
+}
+
 pub drop_answers : (old new : MultiView) (link place : ℕ) (bytes : List ℕ) (did : Did) (frame : List ℕ) → link ≡ suc place → frame ≡ [] → Drops old place bytes did new
     → AnswersFrame old link bytes did frame
 drop_answers old new link place bytes did frame n f d = record {
@@ -142,6 +152,7 @@ record Heard (m : Meant) (place : ℕ) (bytes : List ℕ) (did : Did) (new : Mul
   pub after_is : after (Deliver (suc place) bytes) m ≡ later
   pub stands : StandsIn m later new
   pub offers_are : map offer_at later.connections ≡ cycle.outputs
+  pub guarded : IsGuarded later cycle
   pub is : slice_get later.connections place ≡ Some (with_event (move.Deliver bytes) there)
   pub deed_is : next_deed (move.Deliver bytes) there ≡ deed (move.Deliver bytes) (record did { sent = true }) frame
 
@@ -179,6 +190,10 @@ heard settings app old new calls place bytes did frame h t =
     let took : (next_deed (move.Deliver bytes) r.there).did.took ≡ (next_deed (move.Deliver bytes) c).did.took = ap (λ (x : Did). x.took) same_did ∙ ap (λ (x : Did). x.took) u.did in
     let reset : (next_deed (move.Deliver bytes) r.there).did.reset ≡ (next_deed (move.Deliver bytes) c).did.reset = ap (λ (x : Did). x.reset) same_did ∙ ap (λ (x : Did). x.reset) u.did in
     let shows : outputs_at e ≡ outputs_at d = same_outputs c r.there bytes r.settings_are r.outputs_are took reset in
+    let inputs_after : new.inputs ≡ map outputs_at later.connections =
+    inputs ∙ map-set outputs_at cs place d
+    ∙ ap₂ (λ (xs : List (List ℕ)) (x : List ℕ). slice_set xs place x) (sym (all_outputs_put cs loads)) (sym shows) ∙ sym (map-set outputs_at (with_offers loads cs) place e)
+    in
     record {
       later = later;
       there = r.there;
@@ -190,11 +205,11 @@ heard settings app old new calls place bytes did frame h t =
       stands = record {
         masters = subst (λ (ms : List MasterView). AllZip IsWhere later.connections ms) (ap (λ (ms : List MasterView). slice_set ms place t.last) puts.new_are ∙ sym t.masters_are) r.masters;
         app_is = said.1;
-        inputs_are = inputs ∙ map-set outputs_at cs place d
-            ∙ ap₂ (λ (xs : List (List ℕ)) (x : List ℕ). slice_set xs place x) (sym (all_outputs_put cs loads)) (sym shows) ∙ sym (map-set outputs_at (with_offers loads cs) place e);
+        inputs_are = inputs_after;
         changed_are = puts.changed_are ∙ sym (puts_told 1 cs puts.steps r.shown) ∙ sym (told_set 1 cs (with_offers loads cs) place r.there e r.is refl);
       };
       offers_are = map_set offer_at (with_offers loads cs) place r.there e r.is refl ∙ offers_put cs puts.steps r.shown ∙ load;
+      guarded = guards_alike old.app.guards m.app.guards new.inputs _ t.cycle.answers _ (ap (λ (app : AppView). app.guards) h.app_is) inputs_after said.0 t.cycle.cycle.guarded;
       is = set_there (with_offers loads cs) place r.there e r.is;
       deed_is = same_deed (move.Deliver bytes) _ _ _ _ same_did (sym r.sent_is);
     }
@@ -215,6 +230,18 @@ hear_offers old new link place bytes did frame n t = record {
       let is : after (Deliver link bytes) m ≡ x.later = ap (λ (k : ℕ). after (Deliver k bytes) m) n ∙ x.after_is in
       subst (λ (o : Option Answer). IfSome o (λ a. map offer_at (meant settings app (Deliver link bytes ∷ calls)).connections ≡ a.outputs)) (sym some)
       (ap (λ (y : Meant). map offer_at y.connections) is ∙ x.offers_are);
+}
+
+pub hear_guards : (old new : MultiView) (link place : ℕ) (bytes : List ℕ) (did : Did) (frame : List ℕ) → link ≡ suc place → Hears old place bytes did new frame → Guards old (Deliver link bytes)
+hear_guards old new link place bytes did frame n t = record {
+  guards = λ settings app calls h.
+      let m : Meant = meant settings app calls in
+      let x = heard settings app old new calls place bytes did frame h t in
+      let some : cycle_in (Deliver link bytes) m ≡ Some x.cycle = ap (λ (k : ℕ). cycle_in (Deliver k bytes) m) n ∙ x.cycle_is in
+      let is : after (Deliver link bytes) m ≡ x.later = ap (λ (k : ℕ). after (Deliver k bytes) m) n ∙ x.after_is in
+      let later : Meant = meant settings app (Deliver link bytes ∷ calls) in
+      subst (λ (o : Option Answer). IfSome o (IsGuarded later)) (sym some)
+      (subst (λ (y : Meant). IsGuarded y x.cycle) (sym is) x.guarded);
 }
 
 pub hear_answers : (old new : MultiView) (link place : ℕ) (bytes : List ℕ) (did : Did) (frame : List ℕ) → link ≡ suc place → Hears old place bytes did new frame

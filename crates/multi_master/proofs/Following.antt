@@ -2,13 +2,14 @@
 use Rattle.std.proofs.Common.{◌≡◌, ℕ, List, [], ◌∷◌, map, Some, Bool, true, false, refl, sym, ap, ap₂, subst, ◌∙◌}
 use Rattle.std.specs.List.{AllZip}
 use Rattle.fsoe_base.specs.declared.did.Did.{Did}
-use Rattle.failsafe_io.specs.Application.{Answer}
+use Rattle.failsafe_io.specs.declared.bit.Bit.{Bit}
+use Rattle.failsafe_io.specs.Application.{Answer, GuardsBy}
 use Rattle.param_load.specs.declared.master_settings.MasterSettings.{MasterSettings}
 use Rattle.master_core.specs.MasterView.{MasterView}
 use Rattle.multi_master.specs.Connection.{Connection, outputs_at, offer_at, offer_len, with_offers}
 use Rattle.multi_master.specs.Calls.{AppView, Call, Tick, ChangeApp, Meant, all_tick, answer, with_cycle, meant, changed_from}
 use Rattle.multi_master.specs.Puts.{own_len, PutsEach, Cycles, RunsCycle, TicksEach}
-use Rattle.multi_master.specs.Standing.{MultiView, IsWhere, StandsFor, Follows, Offers, AnswersTick}
+use Rattle.multi_master.specs.Standing.{MultiView, IsWhere, StandsFor, Follows, Offers, IsGuarded, Guards, AnswersTick}
 use Rattle.multi_master.proofs.Putting.{puts_where, all_shown, offers_put, all_outputs_put, puts_told}
 use Rattle.multi_master.proofs.Ticking.{ticks_where, ticks_read, ticks_did, ticks_sent, told_ticked}
 
@@ -32,6 +33,14 @@ cycle_answers m old new ticked inputs lens answers a i n c =
       c.app_is ∙ ap₂ (λ (app : AppView) (x : Answer). record app { holds = x.holds }) a same,
     )
 
+-- what is guarded stays so for the same guards, inputs and outputs
+pub guards_alike : (guards guards' : Bit → Bit → Bool) (inputs inputs' outputs outputs' : List (List ℕ)) → guards ≡ guards' → inputs ≡ inputs' → outputs ≡ outputs'
+    → GuardsBy guards inputs outputs → GuardsBy guards' inputs' outputs'
+guards_alike guards guards' inputs inputs' outputs outputs' g i o h =
+    subst (λ (x : List (List ℕ)). GuardsBy guards' inputs' x) o
+    (subst (λ (x : List (List ℕ)). GuardsBy guards' x outputs) i
+    (subst (λ (x : Bit → Bit → Bool). GuardsBy x inputs outputs) g h))
+
 -- a cycle was run over what is meant, and its answers were put
 pub record CycleDone (m : Meant) (ticked : Bool) (masters : List MasterView) (app : AppView) (inputs : List (List ℕ)) (told : List ℕ) : Type 0 where
   pub masters_are : AllZip IsWhere (with_cycle (Some (answer ticked m)) m).connections masters
@@ -39,6 +48,7 @@ pub record CycleDone (m : Meant) (ticked : Bool) (masters : List MasterView) (ap
   pub inputs_are : inputs ≡ map outputs_at (with_cycle (Some (answer ticked m)) m).connections
   pub told_are : told ≡ changed_from 1 m.connections (with_cycle (Some (answer ticked m)) m).connections
   pub offers_are : map offer_at (with_cycle (Some (answer ticked m)) m).connections ≡ (answer ticked m).outputs
+  pub guarded : IsGuarded (with_cycle (Some (answer ticked m)) m) (answer ticked m)
 
 pub cycle_done : (m : Meant) (old new : AppView) (ticked : Bool) (inputs : List (List ℕ)) (middle masters : List MasterView) (told : List ℕ) → old ≡ m.app
     → inputs ≡ map outputs_at m.connections → AllZip IsWhere m.connections middle → RunsCycle old ticked inputs middle new masters told
@@ -49,14 +59,16 @@ cycle_done m old new ticked inputs middle masters told a i w r =
     let both = cycle_answers m old new ticked inputs (map own_len middle) r.answers a i (own_lens m.connections middle w) r.cycle in
     let load : map (λ x. x.answer) p.steps ≡ (answer ticked m).outputs = p.answers_are ∙ both.0 in
     let shown = all_shown m.connections p.steps at p.each in
+    let inputs_after : inputs ≡ map outputs_at (with_offers (answer ticked m).outputs m.connections) = i ∙ sym (all_outputs_put m.connections (answer ticked m).outputs) in
     record {
       masters_are =
           subst (λ (ms : List MasterView). AllZip IsWhere (with_offers (answer ticked m).outputs m.connections) ms) p.new_are
           (subst (λ (loads : List (List ℕ)). AllZip IsWhere (with_offers loads m.connections) (map (λ x. x.new) p.steps)) load (puts_where m.connections p.steps at p.each));
       app_is = both.1;
-      inputs_are = i ∙ sym (all_outputs_put m.connections (answer ticked m).outputs);
+      inputs_are = inputs_after;
       told_are = p.changed_are ∙ sym (puts_told 1 m.connections p.steps shown) ∙ ap (λ (loads : List (List ℕ)). changed_from 1 m.connections (with_offers loads m.connections)) load;
       offers_are = ap (λ (loads : List (List ℕ)). map offer_at (with_offers loads m.connections)) (sym load) ∙ offers_put m.connections p.steps shown ∙ load;
+      guarded = guards_alike old.guards m.app.guards inputs _ r.answers _ (ap (λ (app : AppView). app.guards) a) inputs_after both.0 r.cycle.guarded;
     }
 
 -- a tick of all connections
@@ -94,6 +106,9 @@ tick_follows old new dids frames t = record {
 pub tick_offers : (old new : MultiView) (dids : List Did) (frames : List (List ℕ)) → Ticks old new dids frames → Offers old Tick
 tick_offers old new dids frames t = record { offers = λ settings app calls h. (tick-done settings app old new dids frames calls h t).offers_are }
 
+pub tick_guards : (old new : MultiView) (dids : List Did) (frames : List (List ℕ)) → Ticks old new dids frames → Guards old Tick
+tick_guards old new dids frames t = record { guards = λ settings app calls h. (tick-done settings app old new dids frames calls h t).guarded }
+
 pub tick_answers : (old new : MultiView) (dids : List Did) (frames : List (List ℕ)) → Ticks old new dids frames → AnswersTick old dids frames
 tick_answers old new dids frames t = record {
   dids = λ settings app calls h.
@@ -121,6 +136,9 @@ change_follows old new app t = record {
 
 pub change_offers : (old new : MultiView) (app : AppView) → Changes old app new → Offers old (ChangeApp app)
 change_offers old new app t = record { offers = λ settings first calls h. (change-done settings first app old new calls h t).offers_are }
+
+pub change_guards : (old new : MultiView) (app : AppView) → Changes old app new → Guards old (ChangeApp app)
+change_guards old new app t = record { guards = λ settings first calls h. (change-done settings first app old new calls h t).guarded }
 
 -- a cycle over lists that are the same
 pub runs_alike : (old new : AppView) (ticked : Bool) (inputs inputs' : List (List ℕ)) (before before' put put' : List MasterView) (told : List ℕ) → RunsCycle old ticked inputs before new put told

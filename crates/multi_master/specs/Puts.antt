@@ -4,6 +4,7 @@ use Rattle.std.specs.Prelude.{◌≡◌, ℕ, suc, nat_eq, Bool, true, false, no
 use Rattle.std.specs.Cmp.Lexicographic.{pointwise}
 use Rattle.fsoe_base.specs.declared.did.Cause.{Cause}
 use Rattle.fsoe_base.specs.declared.did.Did.{Did}
+use Rattle.failsafe_io.specs.Application.{GuardsBy}
 use Rattle.param_load.specs.declared.entry.Move.TheVariants as move
 use Rattle.end_model.specs.Outputs.{out}
 use Rattle.end_model.specs.Readiness.{offer}
@@ -79,10 +80,11 @@ pub record PutsEach (old : List MasterView) (answers : List (List ℕ)) (new : L
   pub new_are : map (λ x. x.new) steps ≡ new
   pub changed_are : changed ≡ changed_steps 1 steps
 
--- what a cycle does: the application that runs answers by its rule, and holds then what its answer says
+-- what a cycle does: the application that runs answers by its rule, as it guards, and holds then what its answer says
 pub record Cycles (old : AppView) (ticked : Bool) (inputs : List (List ℕ)) (lens : List ℕ) (answers : List (List ℕ)) (new : AppView) : Type 0 where
   pub answers_are : answers ≡ (old.rule old.holds ticked inputs lens).outputs
   pub app_is : new ≡ record old { holds = (old.rule old.holds ticked inputs lens).holds }
+  pub guarded : GuardsBy old.guards inputs answers
 
 -- a cycle is run, and each of its answers is put
 pub record RunsCycle (old : AppView) (ticked : Bool) (inputs : List (List ℕ)) (before : List MasterView) (new : AppView) (put : List MasterView) (changed : List ℕ) : Type 0 where

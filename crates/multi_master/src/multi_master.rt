@@ -47,7 +47,7 @@ impl<A: Application> MultiMaster<A> {
     ghost use Rattle.multi_master.specs.Connection.{setup, outputs_at, offer_at};
     ghost use Rattle.multi_master.specs.Calls.{Deliver, Tick, Nonce, ChangeApp};
     ghost use Rattle.multi_master.specs.New.{first_fault};
-    ghost use Rattle.multi_master.specs.Standing.{app_view, seen, links, HasLink, StandsFor, Follows, Offers, AnswersFrame, AnswersTick, ShowsAt, ShowsApp, ShowsChanged, AreNumbers, settings_of};
+    ghost use Rattle.multi_master.specs.Standing.{app_view, seen, links, HasLink, StandsFor, Follows, Offers, Guards, AnswersFrame, AnswersTick, ShowsAt, ShowsApp, ShowsChanged, AreNumbers, settings_of};
 
     /// The masters of connections with these settings, in this order, each in state Reset, and this application. No cycle is
     /// run: the offers are zeros until the first one. There may be no connection at all. Refused are more than 64 connections; then
@@ -84,6 +84,7 @@ impl<A: Application> MultiMaster<A> {
         requires { HasLink self.old link }
         ensures follows { let seen = seen A.rule A.holds A.guards in Follows (seen self.old) (Deliver link frame.now) (seen self.new) }
         ensures offers { Offers (seen A.rule A.holds A.guards self.old) (Deliver link frame.now) }
+        ensures guarded { Guards (seen A.rule A.holds A.guards self.old) (Deliver link frame.now) }
         ensures answers { AnswersFrame (seen A.rule A.holds A.guards self.old) link frame.now result out.new }
         ensures settings { settings_of self.new ≡ settings_of self.old }
         ensures links { links self.new ≡ links self.old }
@@ -98,6 +99,7 @@ impl<A: Application> MultiMaster<A> {
         requires { HasLink self.old link }
         ensures follows { let seen = seen A.rule A.holds A.guards in Follows (seen self.old) (Deliver link frame.now) (seen self.new) }
         ensures offers { Offers (seen A.rule A.holds A.guards self.old) (Deliver link frame.now) }
+        ensures guarded { Guards (seen A.rule A.holds A.guards self.old) (Deliver link frame.now) }
         ensures answers { AnswersFrame (seen A.rule A.holds A.guards self.old) link frame.now did.new out.new }
         ensures settings { settings_of self.new ≡ settings_of self.old }
         ensures links { links self.new ≡ links self.old }
@@ -130,6 +132,7 @@ impl<A: Application> MultiMaster<A> {
         requires dids { length dids.old ≡ links self.old }
         ensures follows { let seen = seen A.rule A.holds A.guards in Follows (seen self.old) Tick (seen self.new) }
         ensures offers { Offers (seen A.rule A.holds A.guards self.old) Tick }
+        ensures guarded { Guards (seen A.rule A.holds A.guards self.old) Tick }
         ensures answers { AnswersTick (seen A.rule A.holds A.guards self.old) dids.new outs.new }
         ensures settings { settings_of self.new ≡ settings_of self.old }
         ensures links { links self.new ≡ links self.old }
@@ -156,6 +159,7 @@ impl<A: Application> MultiMaster<A> {
     pub fn change_app(&mut self, app: A)
         ensures follows { let seen = seen A.rule A.holds A.guards in Follows (seen self.old) (ChangeApp (app_view A.rule A.holds A.guards app)) (seen self.new) }
         ensures offers { Offers (seen A.rule A.holds A.guards self.old) (ChangeApp (app_view A.rule A.holds A.guards app)) }
+        ensures guarded { Guards (seen A.rule A.holds A.guards self.old) (ChangeApp (app_view A.rule A.holds A.guards app)) }
         ensures settings { settings_of self.new ≡ settings_of self.old }
         ensures links { links self.new ≡ links self.old }
     {

@@ -7,7 +7,7 @@ use Rattle.master_core.specs.Now.{is_due}
 use Rattle.master_core.specs.Waiting.{ShowsDue}
 use Rattle.multi_master.specs.Puts.{own_len, due_in}
 use Rattle.multi_master.specs.Standing.{settings_in}
-use Rattle.multi_master.proofs.Delivering.{drop_follows, drop_offers, drop_answers, hear_follows, hear_offers, hear_answers}
+use Rattle.multi_master.proofs.Delivering.{drop_follows, drop_offers, drop_guards, drop_answers, hear_follows, hear_offers, hear_guards, hear_answers}
 use Rattle.multi_master.proofs.Following.{runs_alike}
 use Rattle.multi_master.proofs.Keeping.{multi_set, one_rest, rest_at, written_back}
 use Rattle.multi_master.proofs.Places.{map_set, read_back, same_at, same_length, set_there}
@@ -62,6 +62,31 @@ returns-then-not-due-clause-offers g c =
     let none = sym c.accept_into.ensures.due ∙ rest in
     rw (← c.self.view_is)
     (drop_offers _ _ c.args.link place c.args.frame.now c.accept_into.new.did (omega arith) (record {
+      before = c.index_mut.result.now;
+      last = accepted;
+      at = at;
+      accepts = c.accept_into.ensures.accepts;
+      rest = rest;
+      none = none;
+      unsent = c.accept_into.ensures.unsent;
+      masters_are = refl;
+      app_is = refl;
+      inputs_are = refl;
+      changed_are = c.clear.ensures;
+    }))
+
+pub returns-then-not-due-clause-guarded : goal.returns-then-not-due-clause-guarded
+returns-then-not-due-clause-guarded g c =
+    let place : ℕ = c.from-place.result - 1 in
+    let masters : List MasterView = c.self.inside.masters.items in
+    let accepted : MasterView = c.accept_into.new.self in
+    let fits : c.args.link ≤ length masters = subst (λ v. c.args.link ≤ length v.masters) (sym c.self.view_is) c.requires.last in
+    let at : slice_get masters place ≡ Some c.index_mut.result.now = slice_get_read masters _ place _ refl (omega arith) c.index_mut.ensures.value in
+    let same : c.index.result.now ≡ accepted = read_back masters place accepted _ (omega arith) c.index.ensures in
+    let rest : is_due accepted.state ≡ false = ap due_in (sym same) ∙ sym c.due.ensures ∙ c.if-not-due.true in
+    let none = sym c.accept_into.ensures.due ∙ rest in
+    rw (← c.self.view_is)
+    (drop_guards _ _ c.args.link place c.args.frame.now c.accept_into.new.did (omega arith) (record {
       before = c.index_mut.result.now;
       last = accepted;
       at = at;
@@ -222,6 +247,44 @@ returns-clause-offers g c =
     let again : c.index-2.result.now ≡ accepted = read_back masters place accepted _ (omega arith) c.index-2.ensures in
     rw (← c.self.view_is)
     (hear_offers _ _ c.args.link place c.args.frame.now c.accept_into.new.did c.reply.new.out (omega arith) (record {
+      before = c.index_mut.result.now;
+      accepted = accepted;
+      input = c.set.new.self;
+      put = put;
+      ready = c.index_mut-3.result.now;
+      last = c.reply.new.self;
+      at = at;
+      accepts = c.accept_into.ensures.accepts;
+      settings = ap (λ k. k.settings) c.accept_into.ensures.kit;
+      some = sym c.accept_into.ensures.due ∙ due;
+      reads = subst (λ (m : MasterView). ShowsDue m c.set.new.self out) again (subst (λ (xs : List ℕ). ShowsDue c.index-2.result.now xs out) (sym c.set.ensures) c.outputs.ensures.shown_due);
+      inputs_are = refl;
+      cycle = runs_alike _ _ _ _ _ _ _ _ _ _ c.run_cycle.ensures.runs c.as_slice.ensures.value c.as_mut_slice-2.ensures.value refl;
+      ready_at = ready_at;
+      due = ready;
+      replies = c.reply.ensures.replies;
+      masters_are = refl;
+    }))
+
+pub returns-clause-guarded : goal.returns-clause-guarded
+returns-clause-guarded g c =
+    let place : ℕ = c.from-place.result - 1 in
+    let masters : List MasterView = c.self.inside.masters.items in
+    let accepted : MasterView = c.accept_into.new.self in
+    let fits : c.args.link ≤ length masters = subst (λ v. c.args.link ≤ length v.masters) (sym c.self.view_is) c.requires.last in
+    let at : slice_get masters place ≡ Some c.index_mut.result.now = slice_get_read masters _ place _ refl (omega arith) c.index_mut.ensures.value in
+    let same : c.index.result.now ≡ accepted = read_back masters place accepted _ (omega arith) c.index.ensures in
+    let due : is_due accepted.state ≡ true = ap due_in (sym same) ∙ sym c.due.ensures ∙ c.if-not-due.false in
+    let put : List MasterView = c.run_cycle.new.masters in
+    let back = written_back put (slice_set masters place accepted) c.self.inside.masters.len (cc) (cc) in
+    let as_long : length (slice_set masters place accepted) ≡ length masters = grind (arith, common_steps) in
+    let long : length put ≡ length masters = cc in
+    let ready_at : slice_get put place ≡ Some c.index_mut-3.result.now = slice_get_read put _ place _ refl (omega arith) (rw back at c.index_mut-3.ensures.value) in
+    let dues : map due_in put ≡ map due_in (slice_set masters place accepted) = c.run_cycle.ensures.due ∙ ap (map due_in) c.as_mut_slice-2.ensures.value in
+    let ready : is_due c.index_mut-3.result.now.state ≡ true = same_at due_in due_in put (slice_set masters place accepted) place c.index_mut-3.result.now accepted dues ready_at (set_there masters place _ accepted at) ∙ due in
+    let again : c.index-2.result.now ≡ accepted = read_back masters place accepted _ (omega arith) c.index-2.ensures in
+    rw (← c.self.view_is)
+    (hear_guards _ _ c.args.link place c.args.frame.now c.accept_into.new.did c.reply.new.out (omega arith) (record {
       before = c.index_mut.result.now;
       accepted = accepted;
       input = c.set.new.self;
