@@ -11,3 +11,4 @@ mod side;
 
 pub use list_monitor::ListMonitor;
 pub use monitor::Monitor;
+pub use reading::delivered;

@@ -29,11 +29,11 @@ impl Model for Monitor {
 }
 
 impl Monitor {
-    ghost use Rattle.std.specs.Prelude.{◌<◌, ◌+◌, ◌^◌, List, []};
+    ghost use Rattle.std.specs.Prelude.{◌<◌, ◌+◌, ◌^◌, ℕ, List, []};
     ghost use Rattle.param_load.specs.declared.entry.Entry.{Entry};
     ghost use Rattle.exchange_model.specs.Items.{items, awaited};
-    ghost use Rattle.exchange_model.specs.Other.{first_other};
-    ghost use Rattle.exchange_model.specs.Monitor.{item_number, noted_next, view_of, NotesEntry, NotesParts};
+    ghost use Rattle.exchange_model.specs.Other.{is_other, first_other};
+    ghost use Rattle.exchange_model.specs.Monitor.{item_number, noted_next, view_of, HasParts, NotesEntry, NotesParts};
 
     /// A monitor that noted no entry.
     pub fn new() -> Monitor
@@ -87,6 +87,18 @@ impl Monitor {
         ensures { (w : List Entry) → self.now ≡ view_of w → result ≡ first_other w }
     {
         self.other
+    }
+
+    /// Whether the next entry of the run would be other, by what is read of it: its end, the bytes that came, none where nothing did,
+    /// and what the end did.
+    #[tactic(auto, using(crate::proofs::Monitors::Noted::tells_other))]
+    pub fn is_other(&self, at: End, came: &[u8], did: &Did) -> bool
+        ensures { (w : List Entry) (x : Entry) (sent : List ℕ) → self.now ≡ view_of w → HasParts x at came.now did.now sent → result ≡ is_other (items w) x }
+    {
+        match at {
+            End::Master => self.master.is_other(did.passed, came),
+            End::Slave => self.slave.is_other(did.passed, came),
+        }
     }
 
     /// The number of the item that an end awaits, among those of its peer, from 1; None exactly where it awaits none.

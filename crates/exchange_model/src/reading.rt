@@ -8,7 +8,7 @@ use fsoe_base::Command;
 use param_load::Move;
 
 /// The bytes that came, none where nothing did.
-pub(crate) fn delivered(what: &Move) -> &[u8]
+pub fn delivered(what: &Move) -> &[u8]
     ensures { result.now ≡ delivered what.now }
 {
     match what {

@@ -16,7 +16,7 @@ use Rattle.exchange_model.specs.declared.side.Side.{Side}
 use Rattle.exchange_model.specs.Ends.{same_end, peer}
 use Rattle.exchange_model.specs.Items.{Item, newest, items_of, items, item_of, item_taken, awaited, answers_to, newest_answer, answer_among, has_bytes, number_if}
 use Rattle.exchange_model.specs.Other.{is_other, first_of_both, first_other}
-use Rattle.exchange_model.specs.Monitor.{sent_of, kept_of, MonitorView, view_of, NotesEntry, NotesParts, sent_number, item_number, has, number_of, next_number, is_answer, is_other_to, number_taken, sent_next, heard_next, own_after, peer_after, side_of, master_after, slave_after, noted_next}
+use Rattle.exchange_model.specs.Monitor.{sent_of, kept_of, MonitorView, view_of, HasParts, NotesEntry, NotesParts, sent_number, item_number, has, number_of, next_number, is_answer, is_other_to, number_taken, sent_next, heard_next, own_after, peer_after, side_of, master_after, slave_after, noted_next}
 use Rattle.exchange_model.proofs.Worlds.Projection.{same}
 use Rattle.exchange_model.proofs.Worlds.Numbered.{Numbered, Grown, Same, More, grown, numbered}
 use Rattle.exchange_model.proofs.Joint.Awaited.{awaited_found}
@@ -209,3 +209,15 @@ number-of-item (Some i) = refl
 pub awaited_number : (v : MonitorView) (by : End) (w : List Entry) → v ≡ view_of w → sent_number (side_of by v).awaited ≡ item_number (awaited (items w) by)
 awaited_number v end_name.Master w h = ap (λ (v : MonitorView). sent_number v.master.awaited) h ∙ number-of-item (awaited (items w) end_name.Master)
 awaited_number v end_name.Slave w h = ap (λ (v : MonitorView). sent_number v.slave.awaited) h ∙ number-of-item (awaited (items w) end_name.Slave)
+
+-- whether an entry with these parts is other
+pub tells_other : (v : MonitorView) (at : End) (came : List ℕ) (did : Did) (w : List Entry) (x : Entry) (sent : List ℕ) → v ≡ view_of w → HasParts x at came did sent
+    → is_other_to (side_of at v) did.passed came ≡ is_other (items w) x
+tells_other v end_name.Master came did w x sent h parts =
+    ap (λ (v : MonitorView). is_other_to v.master did.passed came) h
+    ∙ ap₂ (λ (d : Did) (bytes : List ℕ). is_other_to (kept_of end_name.Master (items w)) d.passed bytes) (sym parts.did_is) (sym parts.came_is)
+    ∙ other_is end_name.Master x w parts.end_is
+tells_other v end_name.Slave came did w x sent h parts =
+    ap (λ (v : MonitorView). is_other_to v.slave did.passed came) h
+    ∙ ap₂ (λ (d : Did) (bytes : List ℕ). is_other_to (kept_of end_name.Slave (items w)) d.passed bytes) (sym parts.did_is) (sym parts.came_is)
+    ∙ other_is end_name.Slave x w parts.end_is

@@ -1,0 +1,5 @@
+-- Why what is kept of the ages is what the definitions say: how an entry changes what is kept of the item that an end awaits
+-- (Waiting) and of its outputs (Outputs), and so all that is kept (Noted).
+pub mod Waiting
+pub mod Outputs
+pub mod Noted

@@ -1,0 +1,183 @@
+-- The ticks since the item that an end awaits was sent.
+use Rattle.std.proofs.Common.{◌≡◌, ℕ, suc, ◌-◌, ◌^◌, ◌≤◌, min, ◌==◌, List, [], ◌∷◌, length, Bool, true, false, ◌&&◌, not, Option, Some, None, if◌then◌else◌, refl, sym, ap, ◌∙◌, subst, arith, inl, inr}
+use Rattle.std.proofs.lemmas.Bool.{eq-eqb}
+use Rattle.std.proofs.lemmas.Bool.Decides.{nat_tests, eqb_tells}
+use Rattle.fsoe_base.specs.declared.command.End.{End}
+use Rattle.fsoe_base.specs.declared.command.End.TheVariants as end_name
+use Rattle.fsoe_base.specs.declared.command.Command.TheVariants as command
+use Rattle.fsoe_base.specs.declared.did.Did.{Did}
+use Rattle.param_load.specs.declared.entry.Move.{Move}
+use Rattle.param_load.specs.declared.entry.Move.TheVariants as move
+use Rattle.param_load.specs.declared.entry.Entry.{Entry}
+use Rattle.end_model.specs.Phases.{has_command}
+use Rattle.end_model.specs.Deed.{delivered, ticked, is_empty}
+use Rattle.exchange_model.specs.declared.side.Side.{Side}
+use Rattle.exchange_model.specs.Ends.{same_end, peer}
+use Rattle.exchange_model.specs.Items.{Item, items_of, items, awaited}
+use Rattle.exchange_model.specs.Honest.{is_tick}
+use Rattle.exchange_model.specs.Monitor as monitor
+use Rattle.exchange_model.specs.Monitor.{MonitorView, sent_number, item_number, next_number, is_answer, next_sent, sent_next, heard_next, side_of, noted_next, number_taken}
+use Rattle.exchange_model.proofs.Worlds.Numbered.{Grown, Same, More, grown, numbered}
+use Rattle.exchange_model.proofs.Joint.Awaited.{awaited_found}
+use Rattle.exchange_model.proofs.Monitors.Noted.{newest_next, notes_by, awaited_number}
+use Rattle.reaction_bound.specs.Age.{sends_item, ticks_since, told}
+use Rattle.reaction_bound.specs.Ages.{awaited_by, waited, waited_next, counted}
+
+-- an item with a number
+record HasNumber (k : ℕ) (o : Option Item) : Type 0 where
+  pub item : Item
+  pub is : o ≡ Some item
+  pub number_is : item.number ≡ k
+
+number-found : (o : Option Item) (k : ℕ) → item_number o ≡ Some k → HasNumber k o
+number-found None k h = cc
+number-found (Some i) k h = record { item = i; is = refl; number_is = cc }
+
+-- the number of an awaited item is one of those of the peer's items
+pub awaited_within : (which : End) (w : List Entry) (k : ℕ) → awaited_by which w ≡ Some k → k ≤ length (items_of (peer which) (items w))
+awaited_within which w k h =
+    let it : HasNumber k (awaited (items w) which) = number-found (awaited (items w) which) k h in
+    let f = awaited_found (items_of which (items w)) (items_of (peer which) (items w)) it.item (numbered which w) (numbered (peer which) w) it.is in
+    subst (λ (k : ℕ). k ≤ length (items_of (peer which) (items w))) it.number_is f.within
+
+grown-length : (old new : List Item) → Grown old new → length old ≤ length new
+grown-length old new (Same e) = let q : length new ≡ length old = ap length e in omega arith
+grown-length old new (More i e h) = let q : length new ≡ suc (length old) = ap length e in omega arith
+
+-- an end has no fewer items after an entry
+pub items_grow : (which : End) (x : Entry) (w : List Entry) → length (items_of which (items w)) ≤ length (items_of which (items (x ∷ w)))
+items_grow which x w = grown-length _ _ (grown which x w)
+
+and-false : (b c : Bool) → c ≡ false → (b && c) ≡ false
+and-false true c h = h
+and-false false c h = refl
+
+-- an item is sent once
+not-again : (which : End) (k : ℕ) (x : Entry) (w : List Entry) → k ≤ length (items_of which (items w)) → sends_item which k x w ≡ false
+not-again which k x w h =
+    let n : ℕ = length (items_of which (items w)) in
+    let q : (k == suc n) ≡ false = later k n h in
+    and-false (same_end which x.end && not (is_empty x.sent)) (k == suc n) q
+  where
+    later : (k n : ℕ) → k ≤ n → (k == suc n) ≡ false
+    later k n h = grind (arith, nat_tests)
+
+-- the ticks since an item that was sent before an entry
+pub since_next : (which : End) (k : ℕ) (x : Entry) (w : List Entry) (mine : Bool) → same_end which x.end ≡ mine → k ≤ length (items_of (peer which) (items w))
+    → ticks_since which k (x ∷ w) ≡ (if mine then ticked x.what (ticks_since which k w) else ticks_since which k w)
+since_next which k x w mine e h =
+    ap (λ (b : Bool). if b then 0 else if same_end which x.end then ticked x.what (ticks_since which k w) else ticks_since which k w) (not-again (peer which) k x w h)
+    ∙ ap (λ (b : Bool). if b then ticked x.what (ticks_since which k w) else ticks_since which k w) e
+
+-- what an entry does to the item that an end awaits: it is the same one, it is none, or it is the item that its peer sends in the entry
+data Next (which : End) (x : Entry) (w : List Entry) : Type 0 where
+  Kept : awaited_by which (x ∷ w) ≡ awaited_by which w → Next which x w
+  Gone : awaited_by which (x ∷ w) ≡ None → Next which x w
+  Fresh : (k : ℕ) → awaited_by which (x ∷ w) ≡ Some k → sends_item (peer which) k x w ≡ true → Next which x w
+
+own-next : (which : End) (x : Entry) (w : List Entry) (own : Side) (none : Bool) → sent_number own.awaited ≡ awaited_by which w
+    → sent_number (if none then own else sent_next own x.sent).awaited ≡ awaited_by which (x ∷ w) → Next which x w
+own-next which x w own true h k = Kept (sym k ∙ h)
+own-next which x w own false h k = Gone (sym k)
+
+all-true : (a b : Bool) (m n : ℕ) → a ≡ true → b ≡ false → m ≡ n → (a && not b && m == n) ≡ true
+all-true a b m n h k e = let q : (m == n) ≡ true = eq-eqb m n e in simp (h, k, q)
+
+peer-heard : (which : End) (x : Entry) (w : List Entry) (theirs mine : Side) (answered : Bool) → sends_item (peer which) (next_number theirs.newest) x w ≡ true → sent_number mine.awaited ≡ awaited_by which w
+    → sent_number (if answered then Some (next_sent theirs x.sent) else mine.awaited) ≡ awaited_by which (x ∷ w) → Next which x w
+peer-heard which x w theirs mine true s h k = Fresh (next_number theirs.newest) (sym k) s
+peer-heard which x w theirs mine false s h k = Kept (sym k ∙ h)
+
+peer-next : (which : End) (x : Entry) (w : List Entry) (theirs mine : Side) (answer : Option ℕ) (none : Bool) → is_empty x.sent ≡ none → same_end (peer which) x.end ≡ true
+    → next_number theirs.newest ≡ suc (length (items_of (peer which) (items w))) → sent_number mine.awaited ≡ awaited_by which w
+    → sent_number (if none then mine else heard_next theirs mine x.sent answer).awaited ≡ awaited_by which (x ∷ w) → Next which x w
+peer-next which x w theirs mine answer true e s n h k = Kept (sym k ∙ h)
+peer-next which x w theirs mine answer false e s n h k =
+    peer-heard which x w theirs mine (not (has_command command.Reset x.sent) && is_answer mine.newest answer) (all-true (same_end (peer which) x.end) (is_empty x.sent) _ _ s e n) h k
+
+awaits : (which at : End) (x : Entry) (w : List Entry) → x.end ≡ at → sent_number (side_of which (noted_next (monitor.view_of w) at (delivered x.what) x.did x.sent)).awaited ≡ awaited_by which (x ∷ w)
+awaits which at x w h =
+    let v : MonitorView = monitor.view_of w in
+    let n : MonitorView = noted_next v at (delivered x.what) x.did x.sent in
+    let noted : monitor.NotesParts v at (delivered x.what) x.did x.sent n = notes_by refl in
+    awaited_number n which (x ∷ w) ((noted.notes x (record { end_is = h; came_is = refl; did_is = refl; sent_is = refl })).notes w refl)
+
+next : (which : End) (x : Entry) (w : List Entry) → Next which x w
+next which x w = by-ends which x.end refl
+  where
+    answer : End → End → Option ℕ
+    answer a b = number_taken (monitor.kept_of a (items w)) (monitor.kept_of b (items w)) (delivered x.what) x.did.took
+    before : (which : End) → sent_number (side_of which (monitor.view_of w)).awaited ≡ awaited_by which w
+    before which = awaited_number (monitor.view_of w) which w refl
+    by-ends : (which at : End) → x.end ≡ at → Next which x w
+    by-ends end_name.Master end_name.Master h = own-next end_name.Master x w (monitor.kept_of end_name.Master (items w)) (is_empty x.sent) (before end_name.Master) (awaits end_name.Master end_name.Master x w h)
+    by-ends end_name.Slave end_name.Slave h = own-next end_name.Slave x w (monitor.kept_of end_name.Slave (items w)) (is_empty x.sent) (before end_name.Slave) (awaits end_name.Slave end_name.Slave x w h)
+    by-ends end_name.Master end_name.Slave h =
+        peer-next end_name.Master x w (monitor.kept_of end_name.Slave (items w)) (monitor.kept_of end_name.Master (items w)) _ (is_empty x.sent) refl (ap (same_end end_name.Slave) h)
+        (newest_next (items_of end_name.Slave (items w)) (numbered end_name.Slave w)) (before end_name.Master) (awaits end_name.Master end_name.Slave x w h)
+    by-ends end_name.Slave end_name.Master h =
+        peer-next end_name.Slave x w (monitor.kept_of end_name.Master (items w)) (monitor.kept_of end_name.Slave (items w)) _ (is_empty x.sent) refl (ap (same_end end_name.Master) h)
+        (newest_next (items_of end_name.Master (items w)) (numbered end_name.Master w)) (before end_name.Slave) (awaits end_name.Slave end_name.Master x w h)
+
+told-twice : (n m : ℕ) → min (suc n) m ≡ min (suc (min n m)) m
+told-twice n m = omega arith
+
+-- ticks are counted as they are told
+pub told_ticked : (m : Move) (n : ℕ) → told (ticked m n) ≡ counted (is_tick m) (told n)
+told_ticked move.Tick n = told-twice n (2 ^ 32 - 1)
+told_ticked (move.Deliver bytes) n = refl
+told_ticked (move.Put load) n = refl
+told_ticked (move.Hold failsafe) n = refl
+told_ticked (move.Nonce id) n = refl
+told_ticked move.Local n = refl
+
+-- ticks that were counted, after an entry of the end or of its peer
+abbrev pub counted_at : Bool → Move → ℕ → ℕ
+counted_at mine m n = if mine then counted (is_tick m) n else n
+
+told-at : (mine : Bool) (m : Move) (n : ℕ) → told (if mine then ticked m n else n) ≡ counted_at mine m (told n)
+told-at true m n = told_ticked m n
+told-at false m n = refl
+
+-- the ticks since an item that was sent before an entry, as they are told
+pub told_since : (which : End) (k : ℕ) (x : Entry) (w : List Entry) (mine : Bool) → same_end which x.end ≡ mine → k ≤ length (items_of (peer which) (items w))
+    → told (ticks_since which k (x ∷ w)) ≡ counted_at mine x.what (told (ticks_since which k w))
+told_since which k x w mine e h = ap told (since_next which k x w mine e h) ∙ told-at mine x.what (ticks_since which k w)
+
+none-after : (before : Option ℕ) (n : ℕ) → waited_next before None n ≡ 0
+none-after None n = refl
+none-after (Some k) n = refl
+
+kept-after : (which : End) (x : Entry) (w : List Entry) (mine : Bool) (before : Option ℕ) → same_end which x.end ≡ mine → awaited_by which w ≡ before
+    → waited which (x ∷ w) before ≡ waited_next before before (counted_at mine x.what (waited which w before))
+kept-after which x w mine None e h = refl
+kept-after which x w mine (Some k) e h =
+    told_since which k x w mine e (awaited_within which w k h)
+    ∙ sym (ap (λ (b : Bool). if b then counted_at mine x.what (told (ticks_since which k w)) else 0) (eq-eqb k k refl))
+
+fresh-now : (which : End) (k : ℕ) (x : Entry) (w : List Entry) → sends_item (peer which) k x w ≡ true → ticks_since which k (x ∷ w) ≡ 0
+fresh-now which k x w s = ap (λ (b : Bool). if b then 0 else if same_end which x.end then ticked x.what (ticks_since which k w) else ticks_since which k w) s
+
+fresh-after : (which : End) (k : ℕ) (x : Entry) (w : List Entry) (before : Option ℕ) (n : ℕ) → sends_item (peer which) k x w ≡ true → awaited_by which w ≡ before
+    → waited_next before (Some k) n ≡ 0
+fresh-after which k x w None n s h = refl
+fresh-after which k x w (Some j) n s h =
+    elim (eqb_tells j k) [
+      | inl p ↦ let again : sends_item (peer which) k x w ≡ false = not-again (peer which) k x w (subst (λ (k : ℕ). k ≤ length (items_of (peer which) (items w))) p.1 (awaited_within which w j h)) in cc
+      | inr p ↦ ap (λ (b : Bool). if b then n else 0) p.0
+    ]
+
+by-next : (which : End) (x : Entry) (w : List Entry) (mine : Bool) (after : Option ℕ) → same_end which x.end ≡ mine → awaited_by which (x ∷ w) ≡ after → Next which x w
+    → waited which (x ∷ w) after ≡ waited_next (awaited_by which w) after (counted_at mine x.what (waited which w (awaited_by which w)))
+by-next which x w mine after e h (Gone g) =
+    subst (λ (after : Option ℕ). waited which (x ∷ w) after ≡ waited_next (awaited_by which w) after (counted_at mine x.what (waited which w (awaited_by which w)))) (sym g ∙ h) (sym (none-after (awaited_by which w) _))
+by-next which x w mine after e h (Kept g) =
+    subst (λ (after : Option ℕ). waited which (x ∷ w) after ≡ waited_next (awaited_by which w) after (counted_at mine x.what (waited which w (awaited_by which w)))) (sym g ∙ h) (kept-after which x w mine (awaited_by which w) e refl)
+by-next which x w mine after e h (Fresh k g s) =
+    subst (λ (after : Option ℕ). waited which (x ∷ w) after ≡ waited_next (awaited_by which w) after (counted_at mine x.what (waited which w (awaited_by which w)))) (sym g ∙ h)
+    (ap told (fresh-now which k x w s) ∙ sym (fresh-after which k x w (awaited_by which w) _ s refl))
+
+-- the ticks since the item that an end awaits was sent, after an entry
+pub waited_step : (which : End) (x : Entry) (w : List Entry) (mine : Bool) → same_end which x.end ≡ mine
+    → waited which (x ∷ w) (awaited_by which (x ∷ w)) ≡ waited_next (awaited_by which w) (awaited_by which (x ∷ w)) (counted_at mine x.what (waited which w (awaited_by which w)))
+waited_step which x w mine e = by-next which x w mine (awaited_by which (x ∷ w)) e refl (next which x w)

@@ -1,0 +1,78 @@
+//! Whether a drive was switched off in time.
+use std::marker::Model;
+
+/// Finds the first tick at which a drive is on though its stop was quiet for `limit` ticks. It takes no memory.
+#[derive(Debug, Drop)]
+pub struct Reaction {
+    limit: u32,
+    ticks: u64,
+    quiet_from: Option<u64>,
+    broken: Option<u64>,
+}
+
+impl Model for Reaction {
+    ghost use Rattle.std.specs.Prelude.{◌≤◌, IfSome};
+    ghost use Rattle.reaction_bound.specs.Reaction.{ReactionView};
+
+    ghost Value = { ReactionView };
+
+    ghost view = { λ r. record { limit = r.limit; ticks = r.ticks; quiet_from = r.quiet_from; broken = r.broken } };
+}
+
+impl Reaction {
+    ghost use Rattle.std.specs.Prelude.{◌≡◌, ◌<◌, ◌+◌, ◌^◌, ℕ, List, []};
+    ghost use Rattle.reaction_bound.specs.Reaction.{Said, Quiet, Tick, Hears, broken_of, view_of};
+
+    /// A reaction to which nothing was said. The drive is to be off at the tick of this number, counted from the first one with which
+    /// the stop is quiet.
+    pub fn new(limit: u32) -> Reaction
+        ensures { result ≡ view_of limit [] }
+    {
+        Reaction {
+            limit,
+            ticks: 0,
+            quiet_from: None,
+            broken: None,
+        }
+    }
+
+    /// Whether the stop is quiet from now on. That it is again changes nothing.
+    pub fn quiet(&mut self, is: bool)
+        ensures hears { Hears self.old (Quiet is) self.new }
+        ensures ticks { self.new.ticks ≡ self.old.ticks }
+    {
+        if !is {
+            self.quiet_from = None;
+        } else if self.quiet_from.is_none() {
+            self.quiet_from = Some(self.ticks);
+        }
+    }
+
+    /// A tick ended with the drive on, or off. Fewer than 2^64 - 1 ticks were said before.
+    pub fn tick(&mut self, on: bool)
+        requires { self.old.ticks + 1 < 2 ^ 64 }
+        ensures hears { Hears self.old (Tick on) self.new }
+        ensures ticks { self.new.ticks ≡ self.old.ticks + 1 }
+    {
+        self.ticks += 1;
+        if self.broken.is_none() && self.is_late(on) {
+            self.broken = Some(self.ticks);
+        }
+    }
+
+    /// Whether the newest tick, which ended with the drive on or off, is late.
+    fn is_late(&self, on: bool) -> bool {
+        match self.quiet_from {
+            Some(from) => on && self.ticks.saturating_sub(from) >= u64::from(self.limit),
+            None => false,
+        }
+    }
+
+    /// The number from 1 of the first tick with the drive on at which at least the limit of ticks, itself counted, came since the
+    /// stop was quiet, without a break; None exactly where there is none.
+    pub fn broken(&self) -> Option<u64>
+        ensures { (limit : ℕ) (said : List Said) → self.now ≡ view_of limit said → result ≡ broken_of limit said }
+    {
+        self.broken
+    }
+}
