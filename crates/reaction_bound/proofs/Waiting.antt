@@ -1,11 +1,10 @@
 -- The ticks since the item that an end awaits was sent.
-use Rattle.std.proofs.Common.{◌≡◌, ℕ, suc, ◌-◌, ◌^◌, ◌≤◌, min, ◌==◌, List, [], ◌∷◌, length, Bool, true, false, ◌&&◌, not, Option, Some, None, if◌then◌else◌, refl, sym, ap, ◌∙◌, subst, arith, inl, inr}
+use Rattle.std.proofs.Common.{◌≡◌, ℕ, suc, ◌-◌, ◌^◌, ◌≤◌, min, ◌==◌, List, ◌∷◌, length, Bool, true, false, ◌&&◌, not, Option, Some, None, if◌then◌else◌, refl, sym, ap, ◌∙◌, subst, arith, inl, inr}
 use Rattle.std.proofs.lemmas.Bool.{eq-eqb}
 use Rattle.std.proofs.lemmas.Bool.Decides.{nat_tests, eqb_tells}
 use Rattle.fsoe_base.specs.declared.command.End.{End}
 use Rattle.fsoe_base.specs.declared.command.End.TheVariants as end_name
 use Rattle.fsoe_base.specs.declared.command.Command.TheVariants as command
-use Rattle.fsoe_base.specs.declared.did.Did.{Did}
 use Rattle.param_load.specs.declared.entry.Move.{Move}
 use Rattle.param_load.specs.declared.entry.Move.TheVariants as move
 use Rattle.param_load.specs.declared.entry.Entry.{Entry}
@@ -107,8 +106,10 @@ next which x w = by-ends which x.end refl
   where
     answer : End → End → Option ℕ
     answer a b = number_taken (monitor.kept_of a (items w)) (monitor.kept_of b (items w)) (delivered x.what) x.did.took
+
     before : (which : End) → sent_number (side_of which (monitor.view_of w)).awaited ≡ awaited_by which w
     before which = awaited_number (monitor.view_of w) which w refl
+
     by-ends : (which at : End) → x.end ≡ at → Next which x w
     by-ends end_name.Master end_name.Master h = own-next end_name.Master x w (monitor.kept_of end_name.Master (items w)) (is_empty x.sent) (before end_name.Master) (awaits end_name.Master end_name.Master x w h)
     by-ends end_name.Slave end_name.Slave h = own-next end_name.Slave x w (monitor.kept_of end_name.Slave (items w)) (is_empty x.sent) (before end_name.Slave) (awaits end_name.Slave end_name.Slave x w h)

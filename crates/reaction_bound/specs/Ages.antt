@@ -1,5 +1,5 @@
 -- What is kept of both ends to tell the ages of their outputs, and how an entry changes it.
-use Rattle.std.specs.Prelude.{ℕ, suc, ◌≡◌, ◌-◌, ◌==◌, nat_le, List, ◌∷◌, Bool, Option, Some, None, is_some, option_map, if◌then◌else◌}
+use Rattle.std.specs.Prelude.{ℕ, suc, ◌≡◌, ◌-◌, ◌==◌, nat_le, List, [], ◌∷◌, Bool, Option, Some, None, is_some, option_map, if◌then◌else◌}
 use Rattle.fsoe_base.specs.declared.command.End.{End}
 use Rattle.fsoe_base.specs.declared.command.End.TheVariants as end_name
 use Rattle.fsoe_base.specs.declared.command.Command.{Command}
@@ -16,7 +16,7 @@ use Rattle.exchange_model.specs.Monitor as monitor
 use Rattle.exchange_model.specs.Monitor.{MonitorView, item_number, HasParts}
 use Rattle.reaction_bound.specs.declared.end_age.Standing.{Standing}
 use Rattle.reaction_bound.specs.declared.end_age.EndAge.{EndAge}
-use Rattle.reaction_bound.specs.Age.{source, ticks_since, age_of, greater, worst_of, told, told_age}
+use Rattle.reaction_bound.specs.Age.{source, ticks_since, greater, worst_of, told, told_age}
 
 -- the number of the item that an end awaits, if it awaits one
 abbrev pub awaited_by : End → List Entry → Option ℕ

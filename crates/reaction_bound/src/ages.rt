@@ -67,7 +67,6 @@ impl Ages {
     /// Notes the next entry of the run by what is read of it: its end, whether it is a tick, the bytes that came, none where nothing
     /// did, what the end did, the frame that it sent, and the watchdog, in ticks, in the terms that it tells after it, if it tells some.
     /// Fewer than 2^64 - 1 entries were noted before.
-    #[tactic(auto, using(crate::proofs::Noted::notes_by))]
     pub fn note_parts(
         &mut self,
         at: End,

@@ -146,13 +146,13 @@ fn taken(
     ensures { result ≡ standing_taken other awaited watchdog sent_ago command }
 {
     match command {
-        Command::ProcessData if !other => standing(awaited, watchdog, sent_ago),
+        Command::ProcessData if !other => from_item(awaited, watchdog, sent_ago),
         _ => None,
     }
 }
 
 /// Outputs from the item of this number, which was sent so many ticks ago, under this watchdog.
-fn standing(number: Option<u64>, watchdog: Option<u16>, sent_ago: u32) -> Option<Standing>
+fn from_item(number: Option<u64>, watchdog: Option<u16>, sent_ago: u32) -> Option<Standing>
     ensures { result ≡ standing_from number watchdog sent_ago }
 {
     match (number, watchdog) {

@@ -11,7 +11,6 @@ pub struct Reaction {
 }
 
 impl Model for Reaction {
-    ghost use Rattle.std.specs.Prelude.{◌≤◌, IfSome};
     ghost use Rattle.reaction_bound.specs.Reaction.{ReactionView};
 
     ghost Value = { ReactionView };
@@ -21,7 +20,7 @@ impl Model for Reaction {
 
 impl Reaction {
     ghost use Rattle.std.specs.Prelude.{◌≡◌, ◌<◌, ◌+◌, ◌^◌, ℕ, List, []};
-    ghost use Rattle.reaction_bound.specs.Reaction.{Said, Quiet, Tick, Hears, broken_of, view_of};
+    ghost use Rattle.reaction_bound.specs.Reaction.{Said, Quiet, Tick, Hears, is_late, first_late, broken_of, view_of};
 
     /// A reaction to which nothing was said. The drive is to be off at the tick of this number, counted from the first one with which
     /// the stop is quiet.
@@ -55,14 +54,25 @@ impl Reaction {
         ensures ticks { self.new.ticks ≡ self.old.ticks + 1 }
     {
         self.ticks += 1;
-        if self.broken.is_none() && self.is_late(on) {
-            self.broken = Some(self.ticks);
+        self.broken = self.first_late(on);
+    }
+
+    /// The number of the first late tick, where the newest one ended with the drive on, or off.
+    fn first_late(&self, on: bool) -> Option<u64>
+        ensures { result ≡ first_late self.now.broken (is_late self.now.limit on self.now.ticks self.now.quiet_from) self.now.ticks }
+    {
+        match self.broken {
+            None if self.is_late(on) => Some(self.ticks),
+            first => first,
         }
     }
 
-    /// Whether the newest tick, which ended with the drive on or off, is late.
-    fn is_late(&self, on: bool) -> bool {
+    /// Whether the newest tick, which ended with the drive on, or off, is late.
+    fn is_late(&self, on: bool) -> bool
+        ensures { result ≡ is_late self.now.limit on self.now.ticks self.now.quiet_from }
+    {
         match self.quiet_from {
+            // The stop was quiet from no later tick on than the newest, so this is the count of the ticks since.
             Some(from) => on && self.ticks.saturating_sub(from) >= u64::from(self.limit),
             None => false,
         }

@@ -16,6 +16,8 @@ mod of_plant_run;
 #[cfg(test)]
 mod of_process_image;
 #[cfg(test)]
+mod of_reaction_bound;
+#[cfg(test)]
 mod of_slave_core;
 #[cfg(test)]
 mod of_trace_diag;
