@@ -1,8 +1,11 @@
 -- What is kept of the ages after an entry is what the definitions say of the entries with it.
-use Rattle.std.proofs.Common.{◌≡◌, ℕ, List, ◌∷◌, Bool, true, false, Option, refl, sym, ap, ap₂, ◌∙◌}
+use Rattle.std.proofs.Common.{◌≡◌, ℕ, List, ◌∷◌, Bool, true, false, Option, None, Some, IfSome, is_some, if◌then◌else◌, refl, sym, ap, ap₂, ◌∙◌}
 use Rattle.fsoe_base.specs.declared.command.End.{End}
 use Rattle.fsoe_base.specs.declared.command.End.TheVariants as end_name
+use Rattle.fsoe_base.specs.declared.command.Command.{Command}
+use Rattle.fsoe_base.specs.declared.command.Command.TheVariants as command
 use Rattle.fsoe_base.specs.declared.did.Did.{Did}
+use Rattle.fsoe_base.specs.declared.did.Took.{Took}
 use Rattle.param_load.specs.declared.entry.Entry.{Entry}
 use Rattle.end_model.specs.Deed.{delivered}
 use Rattle.exchange_model.specs.Ends.{same_end}
@@ -14,7 +17,7 @@ use Rattle.exchange_model.specs.Monitor.{MonitorView, item_number, HasParts}
 use Rattle.reaction_bound.specs.declared.end_age.Standing.{Standing}
 use Rattle.reaction_bound.specs.declared.end_age.EndAge.{EndAge}
 use Rattle.reaction_bound.specs.Age.{age_of, greater, worst_of, told_age}
-use Rattle.reaction_bound.specs.Ages.{awaited_by, kept_of, AgesView, view_of, NotesEntry, NotesParts, watchdog_in, age_in, acted_next, heard_next}
+use Rattle.reaction_bound.specs.Ages.{awaited_by, kept_of, AgesView, view_of, NotesEntry, NotesParts, watchdog_in, age_in, waited_next, counted, standing_counted, standing_taken, standing_at, judged, acted_next, heard_next}
 use Rattle.reaction_bound.proofs.Waiting.{waited_step}
 use Rattle.reaction_bound.proofs.Outputs.{heard_outputs, acted_outputs, age_told, acted_worst, heard_worst}
 
@@ -41,14 +44,33 @@ TellsAwaited v which number = (w : List Entry) → v ≡ monitor.view_of w → n
 abbrev TellsOther : MonitorView → End → List ℕ → Did → Bool → Type 0
 TellsOther v at came did other = (w : List Entry) (x : Entry) (sent : List ℕ) → v ≡ monitor.view_of w → HasParts x at came did sent → other ≡ is_other (items w) x
 
-acts-alike : (tick tick' other other' : Bool) (did did' : Did) (watchdog watchdog' before before' after after' : Option ℕ) (old old' : EndAge)
-    → tick ≡ tick' → other ≡ other' → did ≡ did' → watchdog ≡ watchdog' → before ≡ before' → after ≡ after' → old ≡ old'
-    → acted_next tick other did watchdog before after old ≡ acted_next tick' other' did' watchdog' before' after' old'
-acts-alike tick tick' other other' did did' watchdog watchdog' before before' after after' old old' a b c d e f g =
+acts-alike : (tick tick' other other' : Bool) (did did' : Did) (watchdog before before' after after' : Option ℕ) (old old' : EndAge)
+    → tick ≡ tick' → other ≡ other' → did ≡ did' → before ≡ before' → after ≡ after' → old ≡ old'
+    → acted_next tick other did watchdog before after old ≡ acted_next tick' other' did' watchdog before' after' old'
+acts-alike tick tick' other other' did did' watchdog before before' after after' old old' a b c e f g =
     ap₂ (λ (t o : Bool). acted_next t o did watchdog before after old) a b
-    ∙ ap₂ (λ (x : Did) (n : Option ℕ). acted_next tick' other' x n before after old) c d
-    ∙ ap₂ (λ (n m : Option ℕ). acted_next tick' other' did' watchdog' n m old) e f
-    ∙ ap (λ (k : EndAge). acted_next tick' other' did' watchdog' before' after' k) g
+    ∙ ap (λ (x : Did). acted_next tick' other' x watchdog before after old) c
+    ∙ ap₂ (λ (n m : Option ℕ). acted_next tick' other' did' watchdog n m old) e f
+    ∙ ap (λ (k : EndAge). acted_next tick' other' did' watchdog before' after' k) g
+
+-- the watchdog is asked where ProcessData were taken alone
+by-command : (c : Command) (other : Bool) (before watchdog watchdog' : Option ℕ) (n : ℕ) → (c ≡ command.ProcessData → watchdog ≡ watchdog') → standing_taken other before watchdog n c ≡ standing_taken other before watchdog' n c
+by-command command.ProcessData other before watchdog watchdog' n h = ap (λ (d : Option ℕ). standing_taken other before d n command.ProcessData) (h refl)
+by-command command.Reset other before watchdog watchdog' n h = refl
+by-command command.Session other before watchdog watchdog' n h = refl
+by-command command.Connection other before watchdog watchdog' n h = refl
+by-command command.Parameter other before watchdog watchdog' n h = refl
+by-command command.FailSafeData other before watchdog watchdog' n h = refl
+
+by-took : (took : Option Took) (other : Bool) (before watchdog watchdog' : Option ℕ) (n : ℕ) (earlier : Option Standing) → IfSome took (λ t. t.command ≡ command.ProcessData → watchdog ≡ watchdog') → standing_at other before watchdog n took earlier ≡ standing_at other before watchdog' n took earlier
+by-took None other before watchdog watchdog' n earlier h = refl
+by-took (Some t) other before watchdog watchdog' n earlier h = by-command t.command other before watchdog watchdog' n h
+
+same-watchdog : (tick other : Bool) (did : Did) (watchdog watchdog' before after : Option ℕ) (old : EndAge) → IfSome did.took (λ t. t.command ≡ command.ProcessData → watchdog ≡ watchdog')
+    → acted_next tick other did watchdog before after old ≡ acted_next tick other did watchdog' before after old
+same-watchdog tick other did watchdog watchdog' before after old h =
+    ap (λ (s : Option Standing). judged (if is_some did.reset then None else s) (waited_next before after (counted tick old.waited)) old.worst)
+    (by-took did.took other before watchdog watchdog' (counted tick old.waited) (standing_counted tick old.standing) h)
 
 hears-alike : (before before' after after' : Option ℕ) (old old' : EndAge) → before ≡ before' → after ≡ after' → old ≡ old' → heard_next before after old ≡ heard_next before' after' old'
 hears-alike before before' after after' old old' a b c = ap₂ (λ (n m : Option ℕ). heard_next n m old) a b ∙ ap (λ (k : EndAge). heard_next before' after' k) c
@@ -69,7 +91,8 @@ notes_master {old} {new} {at} {tick} {other} {came} {sent} {did} {watchdog} {mas
         let after : new.monitor ≡ monitor.view_of (x ∷ w) = (noted.notes x parts.parts).notes w before in
         let mine : new.master ≡ kept_of end_name.Master (x ∷ w) =
         acts
-        ∙ acts-alike _ _ _ _ _ _ _ _ _ _ _ _ _ _ (sym parts.tick_is) (o w x sent before parts.parts) (sym parts.parts.did_is) (sym parts.watchdog_is) (m w before) (m' (x ∷ w) after) (ap (λ (v : AgesView). v.master) is)
+        ∙ acts-alike _ _ _ _ _ _ _ _ _ _ _ _ _ (sym parts.tick_is) (o w x sent before parts.parts) (sym parts.parts.did_is) (m w before) (m' (x ∷ w) after) (ap (λ (v : AgesView). v.master) is)
+        ∙ same-watchdog (is_tick x.what) (is_other (items w) x) x.did watchdog (watchdog_in x.terms) (awaited_by end_name.Master w) (awaited_by end_name.Master (x ∷ w)) (kept_of end_name.Master w) parts.watchdog_is
         ∙ acted end_name.Master x w (ap (same_end end_name.Master) (parts.parts.end_is ∙ here)) in
         let theirs : new.slave ≡ kept_of end_name.Slave (x ∷ w) =
         hears ∙ hears-alike _ _ _ _ _ _ (s w before) (s' (x ∷ w) after) (ap (λ (v : AgesView). v.slave) is) ∙ heard end_name.Slave x w (ap (same_end end_name.Slave) (parts.parts.end_is ∙ here)) in
@@ -90,7 +113,8 @@ notes_slave {old} {new} {at} {tick} {other} {came} {sent} {did} {watchdog} {mast
         let after : new.monitor ≡ monitor.view_of (x ∷ w) = (noted.notes x parts.parts).notes w before in
         let mine : new.slave ≡ kept_of end_name.Slave (x ∷ w) =
         acts
-        ∙ acts-alike _ _ _ _ _ _ _ _ _ _ _ _ _ _ (sym parts.tick_is) (o w x sent before parts.parts) (sym parts.parts.did_is) (sym parts.watchdog_is) (s w before) (s' (x ∷ w) after) (ap (λ (v : AgesView). v.slave) is)
+        ∙ acts-alike _ _ _ _ _ _ _ _ _ _ _ _ _ (sym parts.tick_is) (o w x sent before parts.parts) (sym parts.parts.did_is) (s w before) (s' (x ∷ w) after) (ap (λ (v : AgesView). v.slave) is)
+        ∙ same-watchdog (is_tick x.what) (is_other (items w) x) x.did watchdog (watchdog_in x.terms) (awaited_by end_name.Slave w) (awaited_by end_name.Slave (x ∷ w)) (kept_of end_name.Slave w) parts.watchdog_is
         ∙ acted end_name.Slave x w (ap (same_end end_name.Slave) (parts.parts.end_is ∙ here)) in
         let theirs : new.master ≡ kept_of end_name.Master (x ∷ w) =
         hears ∙ hears-alike _ _ _ _ _ _ (m w before) (m' (x ∷ w) after) (ap (λ (v : AgesView). v.master) is) ∙ heard end_name.Master x w (ap (same_end end_name.Master) (parts.parts.end_is ∙ here)) in
@@ -98,10 +122,14 @@ notes_slave {old} {new} {at} {tick} {other} {came} {sent} {did} {watchdog} {mast
   };
 }
 
+itself : (took : Option Took) (watchdog : Option ℕ) → IfSome took (λ t. t.command ≡ command.ProcessData → watchdog ≡ watchdog)
+itself None watchdog = tt
+itself (Some t) watchdog = λ h. refl
+
 -- an entry has its own parts
 pub notes_whole : (old new : AgesView) (x : Entry) → NotesParts old x.end (is_tick x.what) (delivered x.what) x.did x.sent (watchdog_in x.terms) new → NotesEntry old x new
 notes_whole old new x noted =
-    noted.notes x (record { parts = record { end_is = refl; came_is = refl; did_is = refl; sent_is = refl }; tick_is = refl; watchdog_is = refl })
+    noted.notes x (record { parts = record { end_is = refl; came_is = refl; did_is = refl; sent_is = refl }; tick_is = refl; watchdog_is = itself x.did.took (watchdog_in x.terms) })
 
 -- what is kept of an end
 abbrev pub side_of : End → AgesView → EndAge

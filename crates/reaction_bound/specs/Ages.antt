@@ -1,5 +1,5 @@
 -- What is kept of both ends to tell the ages of their outputs, and how an entry changes it.
-use Rattle.std.specs.Prelude.{ℕ, suc, ◌≡◌, ◌-◌, ◌==◌, nat_le, List, [], ◌∷◌, Bool, Option, Some, None, is_some, option_map, if◌then◌else◌}
+use Rattle.std.specs.Prelude.{ℕ, suc, ◌≡◌, ◌-◌, ◌==◌, nat_le, List, [], ◌∷◌, Bool, Option, Some, None, IfSome, is_some, option_map, if◌then◌else◌}
 use Rattle.fsoe_base.specs.declared.command.End.{End}
 use Rattle.fsoe_base.specs.declared.command.End.TheVariants as end_name
 use Rattle.fsoe_base.specs.declared.command.Command.{Command}
@@ -69,15 +69,19 @@ pub record NotesEntry (old : AgesView) (x : Entry) (new : AgesView) : Type 0 whe
 abbrev pub watchdog_in : Option Terms → Option ℕ
 watchdog_in terms = option_map (λ t. t.watchdog) terms
 
--- an entry has these parts, by which its age is noted: those by which a monitor notes it, whether it is a tick, and the watchdog in
--- the terms that the end tells after it
+-- this is the watchdog in the terms that an entry tells, where it took ProcessData; of another entry none is asked
+abbrev pub HasWatchdog : Entry → Option ℕ → Type 0
+HasWatchdog x watchdog = IfSome x.did.took (λ t. t.command ≡ command.ProcessData → watchdog ≡ watchdog_in x.terms)
+
+-- an entry has these parts, by which its age is noted: those by which a monitor notes it, whether it is a tick, and the watchdog
 pub record HasAgeParts (x : Entry) (at : End) (tick : Bool) (came : List ℕ) (did : Did) (sent : List ℕ) (watchdog : Option ℕ) : Type 0 where
   pub parts : HasParts x at came did sent
   pub tick_is : is_tick x.what ≡ tick
-  pub watchdog_is : watchdog_in x.terms ≡ watchdog
+  pub watchdog_is : HasWatchdog x watchdog
 
 -- ages that had noted some entries have noted one with these parts too
-pub record NotesParts (old : AgesView) (at : End) (tick : Bool) (came : List ℕ) (did : Did) (sent : List ℕ) (watchdog : Option ℕ) (new : AgesView) : Type 0 where
+pub record NotesParts (old : AgesView) (at : End) (tick : Bool) (came : List ℕ) (did : Did) (sent : List ℕ) (watchdog : Option ℕ) (new : AgesView)
+    : Type 0 where
   pub notes : (x : Entry) → HasAgeParts x at tick came did sent watchdog → NotesEntry old x new
 
 -- an end of which nothing was noted

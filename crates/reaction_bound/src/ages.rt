@@ -31,6 +31,7 @@ impl Ages {
     ghost use Rattle.std.specs.Prelude.{◌<◌, ◌+◌, ◌^◌, List, []};
     ghost use Rattle.param_load.specs.declared.entry.Entry.{Entry};
     ghost use Rattle.exchange_model.specs.Other.{first_other};
+    ghost use Rattle.exchange_model.specs.Monitor as monitor;
     ghost use Rattle.reaction_bound.specs.Age.{age_of, worst_of, told_age};
     ghost use Rattle.reaction_bound.specs.Ages.{view_of, NotesEntry, NotesParts};
 
@@ -65,8 +66,8 @@ impl Ages {
     }
 
     /// Notes the next entry of the run by what is read of it: its end, whether it is a tick, the bytes that came, none where nothing
-    /// did, what the end did, the frame that it sent, and the watchdog, in ticks, in the terms that it tells after it, if it tells some.
-    /// Fewer than 2^64 - 1 entries were noted before.
+    /// did, what the end did, the frame that it sent, and where it took ProcessData, the watchdog, in ticks, in the terms that the end
+    /// tells after it; at another entry the watchdog isn't read. Fewer than 2^64 - 1 entries were noted before.
     pub fn note_parts(
         &mut self,
         at: End,
@@ -78,6 +79,7 @@ impl Ages {
     )
         requires { self.old.monitor.noted + 1 < 2 ^ 64 }
         ensures notes { NotesParts self.old at tick came.now did.now sent.now watchdog self.new }
+        ensures monitor { monitor.NotesParts self.old.monitor at came.now did.now sent.now self.new.monitor }
         ensures noted { self.new.monitor.noted ≡ self.old.monitor.noted + 1 }
     {
         let other = self.monitor.is_other(at, came, did);
@@ -125,7 +127,8 @@ impl Ages {
 
     /// The number of the first other entry, from 1; None exactly where no entry that was noted is other.
     pub fn other(&self) -> Option<u64>
-        ensures { (w : List Entry) → self.now ≡ view_of w → result ≡ first_other w }
+        ensures tells { (w : List Entry) → self.now ≡ view_of w → result ≡ first_other w }
+        ensures monitor { (w : List Entry) → self.now.monitor ≡ monitor.view_of w → result ≡ first_other w }
     {
         self.monitor.other()
     }
