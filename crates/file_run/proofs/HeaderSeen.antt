@@ -2,7 +2,7 @@
 use Rattle.std.proofs.Common.{◌≡◌, ℕ, ◌+◌, Bool, true, false, List, [], ◌∷◌, ◌++◌, refl, ap, ◌∙◌, sym, subst, append_assoc}
 use Rattle.std.specs.Prelude.{IsTrue, Result, Ok, Err, IfSome, Some, None}
 use Rattle.std.specs.declared.option.Option.{Option}
-use Rattle.std.specs.Io.KnownBytes.{Consumes, prepend_known}
+use Rattle.std.specs.Io.KnownBytes.{Consumes}
 use Rattle.std.proofs.lemmas.List.{append-nil}
 use Rattle.fsoe_io.proofs.Taken.{consumes_then}
 use Rattle.fsoe_io.specs.Line.{IsLine}
@@ -22,9 +22,10 @@ pub record HeaderSeen {H L E : Type 0} (f : InputFormat H L E) (h : H) (lines : 
   pub goes : Consumes old new taken
   pub says : (more : List ℕ) → header_read f (taken ++ more) ≡ header_in f (lines + 1) h (lines_of more)
 
-pub header_none : {H L E : Type 0} (f : InputFormat H L E) (h : H) (lines : ℕ) (left : Option (List ℕ)) (held : List ℕ) → h ≡ f.start → lines ≡ 0 → held ≡ [] → HeaderSeen f h lines left (prepend_known held left)
-header_none f h lines None held is none e = record { taken = []; goes = tt; says = λ more. rw (is, none) refl }
-header_none f h lines (Some xs) held is none e = record { taken = []; goes = sym (ap (λ (z : List ℕ). z ++ xs) e); says = λ more. rw (is, none) refl }
+-- before its first line
+pub header_none : {H L E : Type 0} (f : InputFormat H L E) (h : H) (left : Option (List ℕ)) → h ≡ f.start → HeaderSeen f h 0 left left
+header_none f h None is = record { taken = []; goes = tt; says = λ more. rw is refl }
+header_none f h (Some xs) is = record { taken = []; goes = refl; says = λ more. rw is refl }
 
 said : {H L E : Type 0} (f : InputFormat H L E) (h : H) (lines : ℕ) (taken text more : List ℕ) → ((more : List ℕ) → header_read f (taken ++ more) ≡ header_in f (lines + 1) h (lines_of more)) → IsLine text
     → header_read f ((taken ++ (text ++ 10 ∷ [])) ++ more)

@@ -11,3 +11,7 @@ pub mod EndedWith
 pub mod Running
 pub mod Leaving
 pub mod Exact
+pub mod Before
+pub mod Declined
+pub mod Titled
+pub mod Unread

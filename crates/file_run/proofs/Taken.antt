@@ -6,9 +6,10 @@ use Rattle.std.specs.Io.KnownBytes.{Consumes, prepend_known}
 use Rattle.std.proofs.lemmas.List.{append-nil, length_push}
 use Rattle.std.proofs.lemmas.List.Elements.{All-nil, All-push}
 use Rattle.fsoe_io.proofs.Taken.{consumes_then}
-use Rattle.fsoe_io.specs.Line.{IsLine}
+use Rattle.fsoe_io.specs.Line.{Held, IsLine}
 use Rattle.file_run.specs.Ending.{Halts}
 use Rattle.file_run.specs.Halt.{Goes, Stalls}
+use Rattle.file_run.specs.NextLine.{from_line}
 use Rattle.file_run.specs.WholeLines.{joined, TookLines}
 use Rattle.file_run.specs.declared.halt.Halt.{Halt}
 use Rattle.file_run.specs.declared.halt.Halt.TheVariants as halt
@@ -18,10 +19,15 @@ joined-append [] ys = refl
 joined-append (line ∷ xs) ys =
     ap (λ (z : List ℕ). (line ++ 10 ∷ []) ++ z) (joined-append xs ys) ∙ sym (append_assoc (line ++ 10 ∷ []) (joined xs) (joined ys))
 
--- where nothing is held, nothing was taken
-pub took_none : (left : Option (List ℕ)) (held : List ℕ) (lines : ℕ) → held ≡ [] → lines ≡ 0 → TookLines lines left (prepend_known held left)
-took_none None held lines e z = record { lines = []; each = All-nil IsLine; counts = sym z; taken = tt }
-took_none (Some xs) held lines e z = record { lines = []; each = All-nil IsLine; counts = sym z; taken = sym (ap (λ (h : List ℕ). h ++ xs) e) }
+-- before the first line
+pub took_none : (left : Option (List ℕ)) → TookLines 0 left left
+took_none None = record { lines = []; each = All-nil IsLine; counts = refl; taken = tt }
+took_none (Some xs) = record { lines = []; each = All-nil IsLine; counts = refl; taken = refl }
+
+-- the line that a reader lends was taken from what was to come before it
+pub line_taken : (reader : Held) (left : Option (List ℕ)) → Consumes (from_line reader left) (prepend_known reader.bytes left) (reader.line ++ 10 ∷ [])
+line_taken reader None = tt
+line_taken reader (Some xs) = refl
 
 -- a line more
 pub took_line : (k lines : ℕ) (a b c : Option (List ℕ)) (line : List ℕ) → TookLines k a b → IsLine line → Consumes b c (line ++ 10 ∷ []) → lines ≡ k + 1 → TookLines lines a c

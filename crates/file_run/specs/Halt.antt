@@ -9,11 +9,12 @@ use Rattle.fsoe_io.specs.Line.{HasNoNewline}
 use Rattle.file_run.specs.declared.halt.Halt.{Halt}
 use Rattle.file_run.specs.declared.halt.Halt.TheVariants as halt
 
--- the line of this number is refused
-abbrev pub Refuses : ℕ → Halt → Type 0
-Refuses number (halt.Refused line cause) = line ≡ number
-Refuses number (halt.Read lines) = ⊥
-Refuses number halt.Memory = ⊥
+-- where a line isn't taken, it has this number, or there is no memory for it
+abbrev pub Declines : {T : Type 0} → Result T Halt → ℕ → Type 0
+Declines (Ok taken) number = Unit {0}
+Declines (Err (halt.Read lines)) number = ⊥
+Declines (Err halt.Memory) number = Unit {0}
+Declines (Err (halt.Refused line cause)) number = line ≡ number
 
 -- one line more was taken; a refused line is the one after those before; a failed read took nothing
 abbrev pub Goes : {T : Type 0} → Result T Halt → ℕ → ℕ → Option (List ℕ) → Option (List ℕ) → Type 0

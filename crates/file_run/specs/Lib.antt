@@ -1,4 +1,5 @@
 pub mod Begun
+pub mod ByTitle
 pub mod Ending
 pub mod Event
 pub mod Halt

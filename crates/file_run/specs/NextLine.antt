@@ -1,8 +1,8 @@
 -- The next line of an input.
 use Rattle.std.specs.Prelude.{◌≡◌, ℕ, List, [], ◌∷◌, ◌++◌, Result, Ok, Err, IfSome}
 use Rattle.std.specs.declared.option.Option.{Option}
-use Rattle.std.specs.Io.KnownBytes.{Consumes}
-use Rattle.fsoe_io.specs.Line.{IsLine}
+use Rattle.std.specs.Io.KnownBytes.{Consumes, prepend_known}
+use Rattle.fsoe_io.specs.Line.{Held, IsLine}
 use Rattle.schedule_file.specs.Input.{InputCause, NoLine, lines_of}
 use Rattle.file_run.specs.Refusal.{input_cause}
 use Rattle.file_run.specs.declared.halt.Halt.{Halt}
@@ -12,6 +12,10 @@ use Rattle.file_run.specs.declared.halt.Halt.TheVariants as halt
 abbrev pub first_line : List (Result (List ℕ) InputCause) → Result (List ℕ) InputCause
 first_line [] = Err NoLine
 first_line (line ∷ rest) = line
+
+-- what was to come before the line that a reader lends: it with its newline, what is held behind it, and what the source has left
+abbrev pub from_line : Held → Option (List ℕ) → Option (List ℕ)
+from_line reader left = prepend_known (reader.line ++ 10 ∷ []) (prepend_known reader.bytes left)
 
 -- the next line has these bytes, or there is none for this cause
 abbrev pub FindsLine : Result (Unit {0}) Halt → List ℕ → Option (List ℕ) → Option (List ℕ) → Type 0

@@ -1,10 +1,12 @@
 //! How a run begins.
 ghost use Rattle.std.specs.Io.KnownBytes.{prepend_known};
 ghost use Rattle.std.specs.Prelude.{◌≡◌, ◌≤◌, [], IfErr, IfOk, OnErr, OnOk};
+ghost use Rattle.fsoe_io.specs.Line.{IsLine};
 ghost use Rattle.file_run.specs.Begun.{Begins};
 ghost use Rattle.file_run.specs.Ending.{Halts};
 ghost use Rattle.file_run.specs.Halt.{Blames, Stalls};
 ghost use Rattle.file_run.specs.Header.{HaltsHeader};
+ghost use Rattle.file_run.specs.NextLine.{from_line};
 ghost use Rattle.file_run.specs.Reporting.{TakesMemory};
 
 use crate::format::Format;
@@ -13,24 +15,25 @@ use crate::header::read_header;
 use crate::machine::Machine;
 use fsoe_io::{LineReader, Source};
 
-/// Reads a header and begins a machine that is set to what it says, with what lines after it are read by; or tells why there is none.
+/// Reads a header, whose first line the reader lends, and begins a machine that is set to what it says, with what lines after it are read
+/// by; or tells why there is none.
 pub(crate) fn begin_over<M: Machine, S: Source>(
     handed: &mut M::Handed,
     reader: &mut LineReader,
     source: &mut S,
 ) -> Result<(M, <M::Format as Format>::Grammar), Halt>
-    requires bytes { reader.old.bytes ≡ [] }
-    requires lines { reader.old.lines ≡ 0 }
+    requires line { IsLine reader.old.line }
+    requires lines { reader.old.lines ≡ 1 }
     ensures begins { IfOk result (λ begun. Begins (M.reporting handed.old) (M.stands handed.old begun.0 handed.new) (M.Format.says begun.1) reader.new.lines
-        (S.left source.old)
+        (from_line reader.old (S.left source.old))
         (prepend_known reader.new.bytes (S.left source.new))) }
     ensures kind { OnOk result ((k : M.Format.Kind) × (M.Format.format k ≡ (M.reporting handed.old).format)) }
     ensures kept { OnErr result (handed.new ≡ handed.old) }
     ensures headless { IfErr result (λ why. HaltsHeader (M.reporting handed.old).format (TakesMemory (M.reporting handed.old).memory) why
-        (S.left source.old)
+        (from_line reader.old (S.left source.old))
         (prepend_known reader.new.bytes (S.left source.new))) }
     ensures stalls { Stalls result reader.new.bytes }
-    ensures halts { Halts result (S.left source.old) (S.left source.new) }
+    ensures halts { Halts result (from_line reader.old (S.left source.old)) (S.left source.new) }
     ensures later { S.faults source.old ≤ S.faults source.new }
     ensures cause { Blames result (S.faults source.old) (S.faults source.new) }
 {

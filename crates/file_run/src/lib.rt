@@ -4,6 +4,7 @@
 #![tactic(auto)]
 
 mod begin;
+mod either;
 mod event;
 mod format;
 mod halt;
@@ -19,6 +20,7 @@ mod schedule;
 mod stop;
 mod stopped;
 
+pub use either::run_either;
 pub use format::Format;
 pub use machine::Machine;
 pub use report::{ended_with, push_other, write_events};

@@ -1,11 +1,20 @@
-use Rattle.file_run.proofs.Found.{no_header_line, refused_header_line}
+use Rattle.file_run.proofs.Declined.{declines_blames, declines_goes, declines_stalls}
+use Rattle.file_run.proofs.Found.{no_header_line}
 use Rattle.file_run.proofs.header.next_header_line.Goals as goal
 
-pub returns-in-Err-Line-clause-finds : goal.returns-in-Err-Line-clause-finds
-returns-in-Err-Line-clause-finds g c =
+pub returns-in-Ok-clause-finds : goal.returns-in-Ok-clause-finds
+returns-in-Ok-clause-finds g c =
     let line = c.in-Ok.ensures.finds in
-    refused_header_line (g.F.Format.format (g.F.Format.kind c.args.header.now)) c.args.header.now _ _ c.next_line.new.reader.line c.in-Err-Line.cause line.0 line.1
-    (rw (c.in-Err-Line.field-0-is, c.line.ensures) at c.in-Err-Line.ensures.next)
+    c.take_heading.ensures.finds _ _ line.0 line.1
+
+pub returns-in-Ok-clause-goes : goal.returns-in-Ok-clause-goes
+returns-in-Ok-clause-goes g c = declines_goes c.take_heading.result _ _ _ _ c.take_heading.ensures.declines c.in-Ok.ensures.goes
+
+pub returns-in-Ok-clause-stalls : goal.returns-in-Ok-clause-stalls
+returns-in-Ok-clause-stalls g c = declines_stalls c.take_heading.result _ _ c.take_heading.ensures.declines
+
+pub returns-in-Ok-clause-cause : goal.returns-in-Ok-clause-cause
+returns-in-Ok-clause-cause g c = declines_blames c.take_heading.result _ _ _ c.take_heading.ensures.declines
 
 pub returns-in-Err-clause-finds : goal.returns-in-Err-clause-finds
 returns-in-Err-clause-finds g c =

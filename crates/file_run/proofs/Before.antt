@@ -1,0 +1,111 @@
+-- What holds of a run from some bytes on holds of it from before them, where those that were told before are the same.
+use Rattle.std.proofs.Common.{◌≡◌, ◌≤◌, ℕ, List, ◌∷◌, [], ◌++◌, Option, ap, sym, subst, inl, inr, arith}
+use Rattle.std.specs.Prelude.{IfSome, Some, None}
+use Rattle.std.specs.Io.KnownBytes.{Consumes, prepend_known}
+use Rattle.fsoe_io.specs.Line.{Held}
+use Rattle.fsoe_io.specs.declared.status.Ended.{Ended}
+use Rattle.fsoe_io.specs.declared.status.Status.{Status}
+use Rattle.fsoe_io.specs.declared.status.Status.TheVariants as status
+use Rattle.schedule_file.specs.Input.{InputFormat}
+use Rattle.file_run.specs.Ending.{LinesBefore, ReadLines}
+use Rattle.file_run.specs.Header.{HaltsHeader}
+use Rattle.file_run.specs.Left.{Done, Leaves, LeavesAs, MayFailIn}
+use Rattle.file_run.specs.NextLine.{from_line}
+use Rattle.file_run.specs.Outside.{Outside}
+use Rattle.file_run.specs.Ran.{EndsAs, RanOver}
+use Rattle.file_run.specs.Reporting.{Reporting}
+use Rattle.file_run.specs.WholeLines.{TookLines}
+use Rattle.file_run.specs.declared.halt.Halt.{Halt}
+use Rattle.file_run.specs.declared.halt.Halt.TheVariants as halt
+use Rattle.file_run.proofs.Sending.{rose_since}
+
+-- where bytes are told, they are those that come
+abbrev pub AreTold : Option (List ℕ) → Option (List ℕ) → Type 0
+AreTold told comes = IfSome told (λ input. comes ≡ Some input)
+
+-- the bytes of which the first line was taken, where they are told
+pub told_from : (reader : Held) (told left : Option (List ℕ)) → Consumes told (prepend_known reader.bytes left) (reader.line ++ 10 ∷ []) → AreTold told (from_line reader left)
+told_from reader None left goes = tt
+told_from reader (Some input) None goes = absurd goes
+told_from reader (Some input) (Some left) goes = ap (λ (z : List ℕ). Some z) (sym goes)
+
+if_told : (P : List ℕ → Type 0) (told comes : Option (List ℕ)) → AreTold told comes → IfSome comes P → IfSome told P
+if_told P None comes same holds = tt
+if_told P (Some input) comes same holds = subst (λ (o : Option (List ℕ)). IfSome o P) same holds
+
+consumes_told : (told comes now : Option (List ℕ)) (taken : List ℕ) → AreTold told comes → Consumes comes now taken → Consumes told now taken
+consumes_told None comes now taken same goes = tt
+consumes_told (Some input) comes now taken same goes = subst (λ (o : Option (List ℕ)). Consumes o now taken) same goes
+
+took_told : (count : ℕ) (told comes now : Option (List ℕ)) → AreTold told comes → TookLines count comes now → TookLines count told now
+took_told count told comes now same took = record {
+  lines = took.lines;
+  each = took.each;
+  counts = took.counts;
+  taken = consumes_told told comes now _ same took.taken;
+}
+
+read_told : (count : ℕ) (told comes left : Option (List ℕ)) → AreTold told comes → ReadLines count comes left → ReadLines count told left
+read_told count told comes left same read = (read.0, read.1, took_told count told comes (prepend_known read.0 left) same read.2)
+
+before_told : (line : ℕ) (told comes : Option (List ℕ)) → AreTold told comes → LinesBefore line comes → LinesBefore line told
+before_told line told comes same lines = (lines.0, lines.1, lines.2, took_told lines.0 told comes lines.1 same lines.3)
+
+-- the same outside, with what a source told before some bytes came, and how often it had failed then
+abbrev pub since : Option (List ℕ) → ℕ → Outside → Outside
+since told faults o = record {
+  source = record { before = told; after = o.source.after; faults_before = faults; faults_after = o.source.faults_after };
+  sink = o.sink;
+}
+
+ends_told : {H L E : Type 0} (r : Reporting H L E) (s : Status) (ended : Ended) (o : Outside) (told : Option (List ℕ)) (faults : ℕ) → AreTold told o.source.before → faults ≤ o.source.faults_before → EndsAs r s ended o → EndsAs r s ended (since told faults o)
+ends_told r status.Ok ended o told faults same fewer ends = record { ends = ends.ends; wrote = if_told _ told o.source.before same ends.wrote }
+ends_told r status.Other ended o told faults same fewer ends = record { ends = ends.ends; wrote = if_told _ told o.source.before same ends.wrote }
+ends_told r status.Line ended o told faults same fewer ends = record { number = before_told ended.place told o.source.before same ends.number; wrote = if_told _ told o.source.before same ends.wrote }
+ends_told r status.Read ended o told faults same fewer ends = record {
+  read = read_told ended.place told o.source.before o.source.after same ends.read;
+  wrote = if_told _ told o.source.before same ends.wrote;
+  cause = rose_since faults o.source.faults_before o.source.faults_after fewer ends.cause;
+}
+ends_told r status.Write ended o told faults same fewer ends = record { appended = ends.appended; wrote = if_told _ told o.source.before same ends.wrote; cause = ends.cause }
+ends_told r status.Usage ended o told faults same fewer ends = ends
+ends_told r status.Config ended o told faults same fewer ends = ends
+ends_told r status.Desk ended o told faults same fewer ends = ends
+ends_told r status.Memory ended o told faults same fewer ends = record { place_is = ends.place_is; takes = ends.takes; wrote = if_told _ told o.source.before same ends.wrote }
+
+pub ran_told : {H L E : Type 0} (r : Reporting H L E) (ended : Ended) (o : Outside) (told : Option (List ℕ)) (faults : ℕ) → AreTold told o.source.before → faults ≤ o.source.faults_before → RanOver r ended o → RanOver r ended (since told faults o)
+ran_told r ended o told faults same fewer ran = record {
+  ends = ends_told r ended.status ended o told faults same fewer ran.ends;
+  stops = λ read write memory. if_told _ told o.source.before same (ran.stops (λ rose. read (rose_since faults o.source.faults_before o.source.faults_after fewer rose)) write memory);
+  source_later = omega (arith, fewer, ran.source_later);
+  sink_later = ran.sink_later;
+}
+
+halts_told : {H L E : Type 0} (f : InputFormat H L E) (wants : Type 0) (why : Halt) (told comes new : Option (List ℕ)) → AreTold told comes → HaltsHeader f wants why comes new → HaltsHeader f wants why told new
+halts_told f wants (halt.Read count) told comes new same cut = record { taken = cut.taken; goes = consumes_told told comes new cut.taken same cut.goes; says = cut.says }
+halts_told f wants halt.Memory told comes new same wanting = wanting
+halts_told f wants (halt.Refused number why) told comes new same refused = if_told _ told comes same refused
+
+may_told : {H L E : Type 0} (f : InputFormat H L E) (closes : H → List E → List ℕ → Ended → Type 0) (d : Done H E) (whole : List ℕ) (told comes : Option (List ℕ)) → AreTold told comes → MayFailIn f closes d whole comes → MayFailIn f closes d whole told
+may_told f closes d whole told comes same (inl text) = inl text
+may_told f closes d whole told comes same (inr (inl refused)) = inr (inl (refused.0, refused.1, if_told _ told comes same refused.2))
+may_told f closes d whole told comes same (inr (inr closed)) = inr (inr (closed.0, closed.1, if_told _ told comes same closed.2))
+
+leaves_as : {H L E : Type 0} (f : InputFormat H L E) (closes : H → List E → List ℕ → Ended → Type 0) (d : Done H E) (s : Status) (ended : Ended) (o : Outside) (told : Option (List ℕ)) (faults : ℕ) → AreTold told o.source.before
+    → LeavesAs f closes d s ended o → LeavesAs f closes d s ended (since told faults o)
+leaves_as f closes d status.Ok ended o told faults same all = record { input = if_told _ told o.source.before same all.input; report = all.report; closed = all.closed; wrote = all.wrote }
+leaves_as f closes d status.Other ended o told faults same all = record { input = if_told _ told o.source.before same all.input; report = all.report; closed = all.closed; wrote = all.wrote }
+leaves_as f closes d status.Line ended o told faults same l = record { why = l.why; stops = if_told _ told o.source.before same l.stops; number_is = l.number_is; wrote = l.wrote }
+leaves_as f closes d status.Read ended o told faults same l = record { lines_are = l.lines_are; wrote = l.wrote }
+leaves_as f closes d status.Write ended o told faults same l = record { whole = l.whole; within = may_told f closes d l.whole told o.source.before same l.within; wrote = l.wrote }
+leaves_as f closes d status.Memory ended o told faults same l = l
+leaves_as f closes d status.Usage ended o told faults same l = l
+leaves_as f closes d status.Config ended o told faults same l = l
+leaves_as f closes d status.Desk ended o told faults same l = l
+
+pub leaves_told : {H L E : Type 0} (unchanged wants : Type 0) (f : InputFormat H L E) (stands : H → List E → List ℕ → Type 0) (closes : H → List E → List ℕ → Ended → Type 0) (ended : Ended) (o : Outside) (told : Option (List ℕ)) (faults : ℕ)
+    → AreTold told o.source.before → Leaves unchanged wants f stands closes ended o → Leaves unchanged wants f stands closes ended (since told faults o)
+leaves_told unchanged wants f stands closes ended o told faults same (inl l) =
+    inl (l.0, record { why = l.1.why; held = l.1.held; header = halts_told f wants l.1.why told o.source.before (prepend_known l.1.held o.source.after) same l.1.header; writes = l.1.writes })
+leaves_told unchanged wants f stands closes ended o told faults same (inr l) =
+    inr (record { done = l.done; stood = l.stood; begun = if_told _ told o.source.before same l.begun; ends = leaves_as f closes l.done ended.status ended o told faults same l.ends })

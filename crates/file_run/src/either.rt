@@ -1,0 +1,52 @@
+//! The run of one of two machines, which the first line of its input decides.
+ghost use Rattle.std.specs.Prelude.{◌≡◌};
+ghost use Rattle.file_run.specs.ByTitle.{ByTitle};
+ghost use Rattle.file_run.specs.Left.{Leaves};
+ghost use Rattle.file_run.specs.Outside.{Outside};
+ghost use Rattle.file_run.specs.Ran.{RanOver};
+ghost use Rattle.file_run.specs.Reporting.{TakesMemory};
+
+use crate::line::next_line;
+use crate::machine::Machine;
+use crate::run::{end_unread, run_on};
+use fsoe_io::{Ended, LineReader, Sink, Source};
+
+/// Runs the machine `T` over an input whose first line is `title`, which is then the first line of its header, and else the machine
+/// `M`: also where the first line doesn't come, or is too long. The run is that of `run_over`, and what was handed for the other machine
+/// stays as it was.
+pub fn run_either<T: Machine, M: Machine, S: Source, K: Sink>(
+    title: &[u8],
+    titled: &mut T::Handed,
+    plain: &mut M::Handed,
+    source: &mut S,
+    sink: &mut K,
+) -> Ended
+    ensures ran { let outside : Outside = record {
+      source = record { before = S.left source.old; after = S.left source.new; faults_before = S.faults source.old; faults_after = S.faults source.new };
+      sink = record { before = K.written sink.old; after = K.written sink.new; faults_before = K.faults sink.old; faults_after = K.faults sink.new };
+    } in
+        ByTitle title.now (S.left source.old) (RanOver (T.reporting titled.old) result outside) (RanOver (M.reporting plain.old) result outside) }
+    ensures leaves { let outside : Outside = record {
+      source = record { before = S.left source.old; after = S.left source.new; faults_before = S.faults source.old; faults_after = S.faults source.new };
+      sink = record { before = K.written sink.old; after = K.written sink.new; faults_before = K.faults sink.old; faults_after = K.faults sink.new };
+    } in
+        ByTitle title.now (S.left source.old)
+        ((plain.new ≡ plain.old)
+        × Leaves (titled.new ≡ titled.old) (TakesMemory (T.reporting titled.old).memory) (T.reporting titled.old).format (λ h log text. (v : T) × T.stands titled.old v titled.new h log text) (T.closes titled.old titled.new) result outside)
+        ((titled.new ≡ titled.old)
+        × Leaves (plain.new ≡ plain.old) (TakesMemory (M.reporting plain.old).memory) (M.reporting plain.old).format (λ h log text. (v : M) × M.stands plain.old v plain.new h log text) (M.closes plain.old plain.new) result outside) }
+{
+    T::laws();
+    M::laws();
+    let mut reader = LineReader::new();
+    match next_line(&mut reader, source) {
+        Ok(()) => {
+            if reader.line() == title {
+                run_on::<T, S, K>(titled, &mut reader, source, sink)
+            } else {
+                run_on::<M, S, K>(plain, &mut reader, source, sink)
+            }
+        }
+        Err(why) => end_unread(sink, why),
+    }
+}
