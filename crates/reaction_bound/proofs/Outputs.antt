@@ -44,7 +44,7 @@ by-end true false peers earlier k l h e is = e is
 by-end false reset peers earlier k l h e is = h is
 
 -- the number of the item from which outputs are is one of those of the peer's items
-source_within : (which : End) (n : ℕ) (w : List Entry) (k : ℕ) → source_after which n w ≡ Some k → k ≤ length (items_of (peer which) (items w))
+pub source_within : (which : End) (n : ℕ) (w : List Entry) (k : ℕ) → source_after which n w ≡ Some k → k ≤ length (items_of (peer which) (items w))
 source_within which n [] k is = cc
 source_within which n (x ∷ w) k is =
     let l : ℕ = length (items_of (peer which) (items w)) in

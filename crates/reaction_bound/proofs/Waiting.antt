@@ -15,7 +15,7 @@ use Rattle.exchange_model.specs.Ends.{same_end, peer}
 use Rattle.exchange_model.specs.Items.{Item, items_of, items, awaited}
 use Rattle.exchange_model.specs.Honest.{is_tick}
 use Rattle.exchange_model.specs.Monitor as monitor
-use Rattle.exchange_model.specs.Monitor.{MonitorView, sent_number, item_number, next_number, is_answer, next_sent, sent_next, heard_next, side_of, noted_next, number_taken}
+use Rattle.exchange_model.specs.Monitor.{MonitorView, sent_number, item_number, next_number, is_answer, next_sent, sent_next, heard_next, side_of, noted_next}
 use Rattle.exchange_model.proofs.Worlds.Numbered.{Grown, Same, More, grown, numbered}
 use Rattle.exchange_model.proofs.Joint.Awaited.{awaited_found}
 use Rattle.exchange_model.proofs.Monitors.Noted.{newest_next, notes_by, awaited_number}
@@ -68,31 +68,32 @@ since_next which k x w mine e h =
     ap (λ (b : Bool). if b then 0 else if same_end which x.end then ticked x.what (ticks_since which k w) else ticks_since which k w) (not-again (peer which) k x w h)
     ∙ ap (λ (b : Bool). if b then ticked x.what (ticks_since which k w) else ticks_since which k w) e
 
--- what an entry does to the item that an end awaits: it is the same one, it is none, or it is the item that its peer sends in the entry
-data Next (which : End) (x : Entry) (w : List Entry) : Type 0 where
-  Kept : awaited_by which (x ∷ w) ≡ awaited_by which w → Next which x w
+-- what an entry does to the item that an end awaits: it is the same one, and the end sent nothing; it is none; or it is the item that
+-- its peer sends in the entry
+pub data Next (which : End) (x : Entry) (w : List Entry) : Type 0 where
+  Kept : awaited_by which (x ∷ w) ≡ awaited_by which w → (same_end which x.end ≡ true → is_empty x.sent ≡ true) → Next which x w
   Gone : awaited_by which (x ∷ w) ≡ None → Next which x w
   Fresh : (k : ℕ) → awaited_by which (x ∷ w) ≡ Some k → sends_item (peer which) k x w ≡ true → Next which x w
 
-own-next : (which : End) (x : Entry) (w : List Entry) (own : Side) (none : Bool) → sent_number own.awaited ≡ awaited_by which w
+own-next : (which : End) (x : Entry) (w : List Entry) (own : Side) (none : Bool) → is_empty x.sent ≡ none → sent_number own.awaited ≡ awaited_by which w
     → sent_number (if none then own else sent_next own x.sent).awaited ≡ awaited_by which (x ∷ w) → Next which x w
-own-next which x w own true h k = Kept (sym k ∙ h)
-own-next which x w own false h k = Gone (sym k)
+own-next which x w own true e h k = Kept (sym k ∙ h) (λ mine. e)
+own-next which x w own false e h k = Gone (sym k)
 
 all-true : (a b : Bool) (m n : ℕ) → a ≡ true → b ≡ false → m ≡ n → (a && not b && m == n) ≡ true
 all-true a b m n h k e = let q : (m == n) ≡ true = eq-eqb m n e in simp (h, k, q)
 
-peer-heard : (which : End) (x : Entry) (w : List Entry) (theirs mine : Side) (answered : Bool) → sends_item (peer which) (next_number theirs.newest) x w ≡ true → sent_number mine.awaited ≡ awaited_by which w
+peer-heard : (which : End) (x : Entry) (w : List Entry) (theirs mine : Side) (answered : Bool) → same_end which x.end ≡ false → sends_item (peer which) (next_number theirs.newest) x w ≡ true → sent_number mine.awaited ≡ awaited_by which w
     → sent_number (if answered then Some (next_sent theirs x.sent) else mine.awaited) ≡ awaited_by which (x ∷ w) → Next which x w
-peer-heard which x w theirs mine true s h k = Fresh (next_number theirs.newest) (sym k) s
-peer-heard which x w theirs mine false s h k = Kept (sym k ∙ h)
+peer-heard which x w theirs mine true a s h k = Fresh (next_number theirs.newest) (sym k) s
+peer-heard which x w theirs mine false a s h k = Kept (sym k ∙ h) (λ b. cc)
 
-peer-next : (which : End) (x : Entry) (w : List Entry) (theirs mine : Side) (answer : Option ℕ) (none : Bool) → is_empty x.sent ≡ none → same_end (peer which) x.end ≡ true
+peer-next : (which : End) (x : Entry) (w : List Entry) (theirs mine : Side) (answer : Option ℕ) (none : Bool) → same_end which x.end ≡ false → is_empty x.sent ≡ none → same_end (peer which) x.end ≡ true
     → next_number theirs.newest ≡ suc (length (items_of (peer which) (items w))) → sent_number mine.awaited ≡ awaited_by which w
     → sent_number (if none then mine else heard_next theirs mine x.sent answer).awaited ≡ awaited_by which (x ∷ w) → Next which x w
-peer-next which x w theirs mine answer true e s n h k = Kept (sym k ∙ h)
-peer-next which x w theirs mine answer false e s n h k =
-    peer-heard which x w theirs mine (not (has_command command.Reset x.sent) && is_answer mine.newest answer) (all-true (same_end (peer which) x.end) (is_empty x.sent) _ _ s e n) h k
+peer-next which x w theirs mine answer true a e s n h k = Kept (sym k ∙ h) (λ b. cc)
+peer-next which x w theirs mine answer false a e s n h k =
+    peer-heard which x w theirs mine (not (has_command command.Reset x.sent) && is_answer mine.newest answer) a (all-true (same_end (peer which) x.end) (is_empty x.sent) _ _ s e n) h k
 
 awaits : (which at : End) (x : Entry) (w : List Entry) → x.end ≡ at → sent_number (side_of which (noted_next (monitor.view_of w) at (delivered x.what) x.did x.sent)).awaited ≡ awaited_by which (x ∷ w)
 awaits which at x w h =
@@ -101,23 +102,20 @@ awaits which at x w h =
     let noted : monitor.NotesParts v at (delivered x.what) x.did x.sent n = notes_by refl in
     awaited_number n which (x ∷ w) ((noted.notes x (record { end_is = h; came_is = refl; did_is = refl; sent_is = refl })).notes w refl)
 
-next : (which : End) (x : Entry) (w : List Entry) → Next which x w
+pub next : (which : End) (x : Entry) (w : List Entry) → Next which x w
 next which x w = by-ends which x.end refl
   where
-    answer : End → End → Option ℕ
-    answer a b = number_taken (monitor.kept_of a (items w)) (monitor.kept_of b (items w)) (delivered x.what) x.did.took
-
     before : (which : End) → sent_number (side_of which (monitor.view_of w)).awaited ≡ awaited_by which w
     before which = awaited_number (monitor.view_of w) which w refl
 
     by-ends : (which at : End) → x.end ≡ at → Next which x w
-    by-ends end_name.Master end_name.Master h = own-next end_name.Master x w (monitor.kept_of end_name.Master (items w)) (is_empty x.sent) (before end_name.Master) (awaits end_name.Master end_name.Master x w h)
-    by-ends end_name.Slave end_name.Slave h = own-next end_name.Slave x w (monitor.kept_of end_name.Slave (items w)) (is_empty x.sent) (before end_name.Slave) (awaits end_name.Slave end_name.Slave x w h)
+    by-ends end_name.Master end_name.Master h = own-next end_name.Master x w (monitor.kept_of end_name.Master (items w)) (is_empty x.sent) refl (before end_name.Master) (awaits end_name.Master end_name.Master x w h)
+    by-ends end_name.Slave end_name.Slave h = own-next end_name.Slave x w (monitor.kept_of end_name.Slave (items w)) (is_empty x.sent) refl (before end_name.Slave) (awaits end_name.Slave end_name.Slave x w h)
     by-ends end_name.Master end_name.Slave h =
-        peer-next end_name.Master x w (monitor.kept_of end_name.Slave (items w)) (monitor.kept_of end_name.Master (items w)) _ (is_empty x.sent) refl (ap (same_end end_name.Slave) h)
+        peer-next end_name.Master x w (monitor.kept_of end_name.Slave (items w)) (monitor.kept_of end_name.Master (items w)) _ (is_empty x.sent) (ap (same_end end_name.Master) h) refl (ap (same_end end_name.Slave) h)
         (newest_next (items_of end_name.Slave (items w)) (numbered end_name.Slave w)) (before end_name.Master) (awaits end_name.Master end_name.Slave x w h)
     by-ends end_name.Slave end_name.Master h =
-        peer-next end_name.Slave x w (monitor.kept_of end_name.Master (items w)) (monitor.kept_of end_name.Slave (items w)) _ (is_empty x.sent) refl (ap (same_end end_name.Master) h)
+        peer-next end_name.Slave x w (monitor.kept_of end_name.Master (items w)) (monitor.kept_of end_name.Slave (items w)) _ (is_empty x.sent) (ap (same_end end_name.Slave) h) refl (ap (same_end end_name.Master) h)
         (newest_next (items_of end_name.Master (items w)) (numbered end_name.Master w)) (before end_name.Slave) (awaits end_name.Slave end_name.Master x w h)
 
 told-twice : (n m : ℕ) → min (suc n) m ≡ min (suc (min n m)) m
@@ -156,8 +154,8 @@ kept-after which x w mine (Some k) e h =
     told_since which k x w mine e (awaited_within which w k h)
     ∙ sym (ap (λ (b : Bool). if b then counted_at mine x.what (told (ticks_since which k w)) else 0) (eq-eqb k k refl))
 
-fresh-now : (which : End) (k : ℕ) (x : Entry) (w : List Entry) → sends_item (peer which) k x w ≡ true → ticks_since which k (x ∷ w) ≡ 0
-fresh-now which k x w s = ap (λ (b : Bool). if b then 0 else if same_end which x.end then ticked x.what (ticks_since which k w) else ticks_since which k w) s
+pub fresh_now : (which : End) (k : ℕ) (x : Entry) (w : List Entry) → sends_item (peer which) k x w ≡ true → ticks_since which k (x ∷ w) ≡ 0
+fresh_now which k x w s = ap (λ (b : Bool). if b then 0 else if same_end which x.end then ticked x.what (ticks_since which k w) else ticks_since which k w) s
 
 fresh-after : (which : End) (k : ℕ) (x : Entry) (w : List Entry) (before : Option ℕ) (n : ℕ) → sends_item (peer which) k x w ≡ true → awaited_by which w ≡ before
     → waited_next before (Some k) n ≡ 0
@@ -172,11 +170,11 @@ by-next : (which : End) (x : Entry) (w : List Entry) (mine : Bool) (after : Opti
     → waited which (x ∷ w) after ≡ waited_next (awaited_by which w) after (counted_at mine x.what (waited which w (awaited_by which w)))
 by-next which x w mine after e h (Gone g) =
     subst (λ (after : Option ℕ). waited which (x ∷ w) after ≡ waited_next (awaited_by which w) after (counted_at mine x.what (waited which w (awaited_by which w)))) (sym g ∙ h) (sym (none-after (awaited_by which w) _))
-by-next which x w mine after e h (Kept g) =
+by-next which x w mine after e h (Kept g quiet) =
     subst (λ (after : Option ℕ). waited which (x ∷ w) after ≡ waited_next (awaited_by which w) after (counted_at mine x.what (waited which w (awaited_by which w)))) (sym g ∙ h) (kept-after which x w mine (awaited_by which w) e refl)
 by-next which x w mine after e h (Fresh k g s) =
     subst (λ (after : Option ℕ). waited which (x ∷ w) after ≡ waited_next (awaited_by which w) after (counted_at mine x.what (waited which w (awaited_by which w)))) (sym g ∙ h)
-    (ap told (fresh-now which k x w s) ∙ sym (fresh-after which k x w (awaited_by which w) _ s refl))
+    (ap told (fresh_now which k x w s) ∙ sym (fresh-after which k x w (awaited_by which w) _ s refl))
 
 -- the ticks since the item that an end awaits was sent, after an entry
 pub waited_step : (which : End) (x : Entry) (w : List Entry) (mine : Bool) → same_end which x.end ≡ mine

@@ -4,6 +4,7 @@
 
 mod ages;
 mod end_age;
+pub mod laws;
 mod reaction;
 
 pub use ages::Ages;

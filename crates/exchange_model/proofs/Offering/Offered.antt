@@ -37,13 +37,13 @@ use Rattle.exchange_model.proofs.Offering.Sending.{SentLately, sent_lately}
 use Rattle.exchange_model.proofs.Offering.Young.{TakesYoung, takes_young}
 
 -- an end in Data has the terms of the master's settings
-agrees : (ms : MasterSettings) (ss : SlaveSettings) (which : End) (w : List Entry) → SameLengths ms ss → IsWorld ms ss w → NoOther w → state_of (setup_of ms ss which) (deeds which w) ≡ state.Data
+pub agrees : (ms : MasterSettings) (ss : SlaveSettings) (which : End) (w : List Entry) → SameLengths ms ss → IsWorld ms ss w → NoOther w → state_of (setup_of ms ss which) (deeds which w) ≡ state.Data
     → terms (setup_of ms ss which) (deeds which w) ≡ terms_of ms
 agrees ms ss end_name.Master w lens h n now = refl
 agrees ms ss end_name.Slave w lens h n now = terms_agree ms ss w lens h (related ms ss w lens h n) now
 
 -- and tells them
-tells : (s : Setup) (e : List Deed) (t : Terms) → state_of s e ≡ state.Data → terms s e ≡ t → told_terms s e ≡ Some t
+pub tells : (s : Setup) (e : List Deed) (t : Terms) → state_of s e ≡ state.Data → terms s e ≡ t → told_terms s e ≡ Some t
 tells s e t now h = ap (λ (now : State). told_in now (terms s e)) now ∙ ap Some h
 
 -- an item with a bit as 1 was sent as data, and its end offered that bit
@@ -81,19 +81,19 @@ record TakesBit (ms : MasterSettings) (bit : ℕ) (x : Entry) (w : List Entry) :
   pub told : x.terms ≡ Some (terms_of ms)
   pub no_tick : (n : ℕ) → ticked x.what n ≡ n
 
-same-itself : (which : End) → same_end which which ≡ true
-same-itself end_name.Master = refl
-same-itself end_name.Slave = refl
+pub same_itself : (which : End) → same_end which which ≡ true
+same_itself end_name.Master = refl
+same_itself end_name.Slave = refl
 
-own-head : (x : Entry) (w : List Entry) → deeds x.end (x ∷ w) ≡ deed_in x ∷ deeds x.end w
-own-head x w = let it : same_end x.end x.end ≡ true = same-itself x.end in simp it
+pub own_head : (x : Entry) (w : List Entry) → deeds x.end (x ∷ w) ≡ deed_in x ∷ deeds x.end w
+own_head x w = let it : same_end x.end x.end ≡ true = same_itself x.end in simp it
 
 -- the terms of an end that takes data
-taking-agrees : (ms : MasterSettings) (ss : SlaveSettings) (x : Entry) (w : List Entry) → SameLengths ms ss → IsWorld ms ss (x ∷ w) → NoOther (x ∷ w) → state_of (setup_of ms ss x.end) (deed_in x ∷ deeds x.end w) ≡ state.Data
+pub taking_agrees : (ms : MasterSettings) (ss : SlaveSettings) (x : Entry) (w : List Entry) → SameLengths ms ss → IsWorld ms ss (x ∷ w) → NoOther (x ∷ w) → state_of (setup_of ms ss x.end) (deed_in x ∷ deeds x.end w) ≡ state.Data
     → terms (setup_of ms ss x.end) (deed_in x ∷ deeds x.end w) ≡ terms_of ms
-taking-agrees ms ss x w lens h n now =
-    subst (λ (e : List Deed). terms (setup_of ms ss x.end) e ≡ terms_of ms) (own-head x w)
-    (agrees ms ss x.end (x ∷ w) lens h n (ap (state_of (setup_of ms ss x.end)) (own-head x w) ∙ now))
+taking_agrees ms ss x w lens h n now =
+    subst (λ (e : List Deed). terms (setup_of ms ss x.end) e ≡ terms_of ms) (own_head x w)
+    (agrees ms ss x.end (x ∷ w) lens h n (ap (state_of (setup_of ms ss x.end)) (own_head x w) ∙ now))
 
 before-taking : (later now told watchdog : ℕ) → later ≤ now → now < told → told ≡ watchdog → later ≤ watchdog - 1
 before-taking later now told watchdog h i j = omega arith
@@ -109,7 +109,7 @@ takes-bit ms ss bit x w t lens h n took one =
     (subst (λ (took : Option Took). IsTakenFrom l took x.terms (awaited (items w) x.end)) took (takes_awaited ms ss (x ∷ w) lens h n).0) in
     let sent : SentLately s x.end f.item w = sent_lately s x.end f.item w f.is in
     let o : OffersBit bit sent.at.sending.sent (of_end sent.at.sending.end sent.at.before) = offers l bit sent.at.sending.sent (of_end sent.at.sending.end sent.at.before) t (ap (λ (i : Item). frame_if l i.offered) sent.at.is_item ∙ f.from.same_load) one in
-    let agree : terms s (deed_in x ∷ e) ≡ terms_of ms = taking-agrees ms ss x w lens h n y.in_data in
+    let agree : terms s (deed_in x ∷ e) ≡ terms_of ms = taking_agrees ms ss x w lens h n y.in_data in
     record {
       was_offered = record {
         later = sent.at.later;

@@ -1,0 +1,20 @@
+//! What holds of ages. The calls do nothing: each law is a contract.
+
+ghost use Rattle.std.specs.Prelude.{◌*◌, ◌-◌, ◌≤◌, List, IfSome, IsSomeAnd};
+ghost use Rattle.fsoe_base.specs.declared.command.End.{End};
+ghost use Rattle.param_load.specs.declared.entry.Entry.{Entry};
+ghost use Rattle.param_load.specs.declared.master_settings.MasterSettings.{MasterSettings};
+ghost use Rattle.param_load.specs.declared.slave_settings.SlaveSettings.{SlaveSettings};
+ghost use Rattle.end_model.specs.Readiness.{told_terms};
+ghost use Rattle.exchange_model.specs.World.{setup_of, deeds, SameLengths, IsWorld};
+ghost use Rattle.exchange_model.specs.Other.{NoOther};
+ghost use Rattle.reaction_bound.specs.Age.{age_of, worst_of};
+
+/// The law of the age, for both ends' settings with equal lengths and each world in which no entry is other: outputs are at most
+/// twice the watchdog less two ticks old, the watchdog being that in the terms that the end tells then. So is the greatest age, by
+/// the master's watchdog, since all terms have that one. The ticks are the end's own: no clock is common to both ends.
+#[tactic(auto, using(crate::proofs::Bounded::age_bounded, crate::proofs::Bounded::worst_bounded))]
+pub fn bounded_ages()
+    ensures age { (ms : MasterSettings) (ss : SlaveSettings) (which : End) (w : List Entry) → SameLengths ms ss → IsWorld ms ss w → NoOther w → IfSome (age_of which w) (λ n. IsSomeAnd (told_terms (setup_of ms ss which) (deeds which w)) (λ terms. n ≤ 2 * terms.watchdog - 2)) }
+    ensures worst { (ms : MasterSettings) (ss : SlaveSettings) (which : End) (w : List Entry) → SameLengths ms ss → IsWorld ms ss w → NoOther w → IfSome (worst_of which w) (λ n. n ≤ 2 * ms.watchdog - 2) }
+{}
