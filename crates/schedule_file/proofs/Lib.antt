@@ -16,3 +16,4 @@ pub mod OneSetting
 pub mod DigitLanes
 pub mod DigitParts
 pub mod Pairs
+pub mod PairsRead

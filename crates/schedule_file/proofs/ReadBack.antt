@@ -31,7 +31,7 @@ use Rattle.schedule_file.specs.declared.event.Event.TheVariants as event
 use Rattle.schedule_file.specs.declared.event.ScheduleLine.TheVariants as line
 
 -- no space stands in a text
-abbrev HasNoSpace : List ℕ → Type 0
+abbrev pub HasNoSpace : List ℕ → Type 0
 HasNoSpace text = All (λ b. is_space b ≡ false) text
 
 spaceless-none : HasNoSpace []
@@ -65,10 +65,10 @@ begins n lt = elim (cases_lt 0 n) [
   | inr none ↦ inl (ap length (decimal_digit n (omega arith)))
 ]
 
-digits-decimal : (n : ℕ) → n < 2 ^ 64 → all_ascii_digits (decimal n) ≡ true
+pub digits-decimal : (n : ℕ) → n < 2 ^ 64 → all_ascii_digits (decimal n) ≡ true
 digits-decimal n lt = digits_decimal (numerals_by_value _ tells_all_ascii_digits) n lt
 
-number_said-decimal : (most n : ℕ) → n < 2 ^ 64 → n ≤ most → number_said most (decimal n) ≡ Some n
+pub number_said-decimal : (most n : ℕ) → n < 2 ^ 64 → n ≤ most → number_said most (decimal n) ≡ Some n
 number_said-decimal most n lt le =
     number_said-numeral most n (decimal n) (decimal_nonempty n lt) (digits-decimal n lt) (begins n lt) (digits_value-decimal (numerals_by_value _ tells_all_ascii_digits) n lt) le
 
@@ -81,7 +81,7 @@ no_space-digits (c ∷ text) h =
     let parts = and_parts (is_ascii_digit c) (all_ascii_digits text) h in
     spaceless-more c text (no_space-digit c parts.0) (no_space-digits text parts.1)
 
-no_space-decimal : (n : ℕ) → n < 2 ^ 64 → HasNoSpace (decimal n)
+pub no_space-decimal : (n : ℕ) → n < 2 ^ 64 → HasNoSpace (decimal n)
 no_space-decimal n lt = no_space-digits (decimal n) (digits-decimal n lt)
 
 -- hexadecimal digits are read as the bytes that they were made of

@@ -24,3 +24,4 @@ pub mod PairsLine
 pub mod PairsLinesLeft
 pub mod Place
 pub mod WorkedInputs
+pub mod WorkedPairs

@@ -6,7 +6,6 @@ use Rattle.fsoe_base.specs.declared.command.End.{End}
 use Rattle.param_load.specs.declared.profile.Profile.{Profile}
 use Rattle.param_load.specs.declared.profile.Profile.TheVariants as profile
 use Rattle.schedule_file.specs.Event.{Fits}
-use Rattle.schedule_file.specs.EventText.{event_text}
 use Rattle.schedule_file.specs.Field.{fields_of, number_said}
 use Rattle.schedule_file.specs.Fields.{◌>>=◌, map_ok, value_or, next_field, no_field}
 use Rattle.schedule_file.specs.LineCause.{cause_order}
@@ -97,6 +96,6 @@ abbrev pub PairsLineFits : List (End → ℕ) → List (End → Profile) → Pai
 PairsLineFits sends profiles (said.One pair event) = FitsPair sends profiles pair event
 PairsLineFits sends profiles other = Unit {0}
 
--- the line of an event of a pair, without its newline
-abbrev pub pair_text : ℕ → Event → List ℕ
-pair_text pair event = decimal pair ++ codes " " ++ event_text event
+-- a line with the number of a pair before it
+abbrev pub with_pair : ℕ → List ℕ → List ℕ
+with_pair pair text = decimal pair ++ 32 ∷ text

@@ -1,6 +1,6 @@
 //! What is written is read again, and what inputs say.
-ghost use Rattle.std.specs.Prelude.{◌≡◌, ◌≤◌, ℕ, All, List, [], ◌∷◌, ◌++◌, None, IfSome, codes, length, true};
-ghost use Rattle.std.specs.declared.result.Result.TheVariants.{Ok};
+ghost use Rattle.std.specs.Prelude.{◌≡◌, ◌<◌, ◌≤◌, ℕ, Some, All, List, [], ◌∷◌, ◌++◌, None, IfSome, codes, length, true};
+ghost use Rattle.std.specs.declared.result.Result.TheVariants.{Err, Ok};
 ghost use Rattle.fsoe_base.specs.declared.command.End.{End};
 ghost use Rattle.param_load.specs.declared.master_settings.MasterSettings.{MasterSettings};
 ghost use Rattle.param_load.specs.declared.profile.Profile.{Profile};
@@ -19,11 +19,30 @@ ghost use Rattle.schedule_file.specs.declared.header_kind.HeaderKind.TheVariants
 ghost use Rattle.schedule_file.specs.declared.line_cause.LineCause.TheVariants as cause;
 ghost use Rattle.fsoe_base.specs.declared.command.End.TheVariants as side;
 ghost use Rattle.schedule_file.specs.PairEvent.{pair_line};
+ghost use Rattle.schedule_file.specs.PairsEvent.{FitsPair, numbered, pairs_line, with_pair};
+ghost use Rattle.schedule_file.specs.PairsInput.{pairs_input};
+ghost use Rattle.schedule_file.specs.WorkedPairs.{pairs_with, says_to_two};
+ghost use Rattle.schedule_file.specs.declared.pairs_line.PairsEvent.TheVariants as pairs_event;
+ghost use Rattle.schedule_file.specs.declared.pairs_line.PairsLine.TheVariants.{One};
 
 /// The line that is written of an event is read as the same event, at all ends that the event fits.
 /// The call does nothing: the law is its contract.
 pub fn written_is_read()
     ensures { (sends : End → ℕ) (profiles : End → Profile) (event : Event) → IsOfTypes event → Fits sends profiles event → pair_line sends profiles (event_text event) ≡ Ok (Step event) }
+{}
+
+/// An event line of a pair that is written with the number of another pair before it says the same of this one, where its ends send as
+/// many bytes and have the same profiles.
+pub fn numbered_lines_say_the_same()
+    ensures { (sends : List (End → ℕ)) (profiles : List (End → Profile)) (pair : ℕ) (own : End → ℕ) (profile : End → Profile) (text : List ℕ) (event : Event) → pair < 65536
+        → numbered pair sends ≡ Some own → numbered pair profiles ≡ Some profile → pair_line own profile text ≡ Ok (Step event) → pairs_line sends profiles (with_pair pair text) ≡ Ok (One pair event) }
+{}
+
+/// The line that is written of an event with the number of its pair before it is read as the same event of this pair, at all pairs that the
+/// event fits.
+pub fn written_of_pair_is_read()
+    ensures { (sends : List (End → ℕ)) (profiles : List (End → Profile)) (pair : ℕ) (event : Event) → pair < 65536 → IsOfTypes event → FitsPair sends profiles pair event
+        → pairs_line sends profiles (with_pair pair (event_text event)) ≡ Ok (One pair event) }
 {}
 
 /// An input without a byte is refused at its first line, since there is none.
@@ -62,4 +81,38 @@ pub fn worked_inputs()
     ensures leading_zero { (input_with (codes "t\nn 007\nend\n")).stop ≡ Refused 7 (Line cause.Number) }
     ensures no_newline { (input_with (codes "t\nend")).stop ≡ Refused 7 NoNewline }
     ensures no_end { (input_with (codes "t\n")).stop ≡ Refused 7 NoLine }
+{}
+
+/// What inputs of two pairs say: a tick of both, an event of one, and the end; a pair that doesn't exist; and headers that are refused.
+pub fn worked_pairs()
+    ensures events { (pairs_with (codes "t\n1 ds -1\nend\n")).events ≡ pairs_event.Tick ∷ pairs_event.One 1 (event.Deliver side.Slave 1) ∷ [] }
+    ensures end { (pairs_with (codes "t\n1 ds -1\nend\n")).stop ≡ AtEnd }
+    ensures no_link { (pairs_with (codes "t\n3 ds -1\nend\n")).stop ≡ Refused 14 (Line cause.NoLink) }
+    ensures first_line { (pairs_input (codes "fsoe 1 pair\n")).stop ≡ Refused 1 (Line cause.Header) }
+    ensures no_pair { (pairs_input (codes "fsoe 2 pairs\ngo\n")).stop ≡ Refused 2 (Line cause.Header) }
+    ensures second_first { (pairs_input (codes "fsoe 2 pairs\npair 2\n")).stop ≡ Refused 2 (Line cause.Range) }
+    ensures part_of_pair { (pairs_input (codes "fsoe 2 pairs\npair 1\npair 2\n")).stop ≡ Refused 3 (Line cause.Header) }
+    ensures early_go { (pairs_input (codes "fsoe 2 pairs\npair 1\nlengths 2 2\ngo\n")).stop ≡ Refused 4 (Line cause.Header) }
+{}
+
+/// Why lines of two pairs are refused, and which cause counts where several apply.
+pub fn worked_lines_of_pairs()
+    ensures digits_alone { says_to_two (codes "1") ≡ Err cause.Fields }
+    ensures end_of_pair { says_to_two (codes "1 end") ≡ Err cause.Word }
+    ensures tick_of_pair { says_to_two (codes "1 t") ≡ Err cause.Word }
+    ensures empty_word { says_to_two (codes "1 ") ≡ Err cause.Word }
+    ensures word_before_number { says_to_two (codes "007 x") ≡ Err cause.Word }
+    ensures leading_zeros { says_to_two (codes "007 tm") ≡ Err cause.Number }
+    ensures high_number { says_to_two (codes "65536 tm") ≡ Err cause.Number }
+    ensures no_digits { says_to_two (codes "1x tm") ≡ Err cause.Word }
+    ensures sign { says_to_two (codes "-1 tm") ≡ Err cause.Word }
+    ensures tick_with_field { says_to_two (codes "t 1") ≡ Err cause.Fields }
+    ensures end_with_field { says_to_two (codes "end 1") ≡ Err cause.Fields }
+    ensures no_pair { says_to_two (codes "0 tm") ≡ Err cause.NoLink }
+    ensures fields_before_pair { says_to_two (codes "3 tm 1") ≡ Err cause.Fields }
+    ensures number_before_pair { says_to_two (codes "3 nm 65536") ≡ Err cause.Number }
+    ensures nonce_of_no_pair { says_to_two (codes "3 nm 65535") ≡ Err cause.NoLink }
+    ensures pair_before_reference { says_to_two (codes "3 ds -65") ≡ Err cause.NoLink }
+    ensures number_before_reference { says_to_two (codes "01 ds -65") ≡ Err cause.Number }
+    ensures reference { says_to_two (codes "2 ds -65") ≡ Err cause.Reference }
 {}

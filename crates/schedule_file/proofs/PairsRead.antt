@@ -1,0 +1,64 @@
+-- A line with the number of a pair before it says the same of this pair.
+use Rattle.std.proofs.Common.{◌≡◌, ℕ, ◌<◌, ◌^◌, Bool, true, List, [], ◌∷◌, refl, ap, ◌∙◌, arith}
+use Rattle.std.specs.Prelude.{decimal, Option, Some, None, Ok, if◌then◌else◌}
+use Rattle.std.proofs.lemmas.Bool.Decides.{nat_tests}
+use Rattle.std.proofs.lemmas.Fmt.{decimal_nonempty}
+use Rattle.std.proofs.lemmas.List.Splits.{slice_split_at}
+use Rattle.fsoe_base.specs.declared.command.End.{End}
+use Rattle.param_load.specs.declared.profile.Profile.{Profile}
+use Rattle.schedule_file.specs.EventText.{IsOfTypes, event_text}
+use Rattle.schedule_file.specs.Field.{fields_of, is_space, number_said}
+use Rattle.schedule_file.specs.PairEvent.{event_said, pair_line, pair_said, pair_said_by, pair_word_of}
+use Rattle.schedule_file.specs.PairsEvent.{FitsEnds, FitsPair, common_line, is_digits, numbered, numbered_line, pairs_line, pairs_said_by, with_pair}
+use Rattle.schedule_file.specs.declared.event.Event.{Event}
+use Rattle.schedule_file.specs.declared.event.ScheduleLine.TheVariants as line
+use Rattle.schedule_file.specs.declared.pair_event.PairWord.{PairWord}
+use Rattle.schedule_file.specs.declared.pair_event.PairWord.TheVariants as word
+use Rattle.schedule_file.specs.declared.pairs_line.PairsLine.TheVariants as said
+use Rattle.schedule_file.proofs.ReadBack.{digits-decimal, no_space-decimal, number_said-decimal, read_back}
+
+-- what a word of an event says to a pair, where it says this event
+word_said : (own : End → ℕ) (profile : End → Profile) (word : PairWord) (fields : List (List ℕ)) (event : Event) → pair_said own profile (Some word) fields ≡ Ok (line.Step event) → event_said own profile word fields ≡ Ok (line.Step event)
+word_said own profile (word.Deliver to) fields event e = e
+word_said own profile (word.Altered to) fields event e = e
+word_said own profile (word.Raw to) fields event e = e
+word_said own profile (word.Tick at) fields event e = e
+word_said own profile (word.Put at) fields event e = e
+word_said own profile (word.Hold at) fields event e = e
+word_said own profile (word.Nonce at) fields event e = e
+word_said own profile (word.Local at) fields event e = e
+word_said own profile word.End [] event e = cc
+word_said own profile word.End (field ∷ fields) event e = cc
+
+-- the word of a line, and the fields after it
+by_word : (sends : List (End → ℕ)) (profiles : List (End → Profile)) (pair : ℕ) (own : End → ℕ) (profile : End → Profile) (digits first : List ℕ) (fields : List (List ℕ)) (w : Option PairWord) (event : Event)
+    → number_said 65535 digits ≡ Some pair → numbered pair sends ≡ Some own → numbered pair profiles ≡ Some profile → pair_word_of first ≡ w → pair_said own profile w fields ≡ Ok (line.Step event)
+    → numbered_line sends profiles digits (first ∷ fields) ≡ Ok (said.One pair event)
+by_word sends profiles pair own profile digits first fields (Some word) event number s p e says = rw (e, number, s, p, word_said own profile word fields event says) refl
+by_word sends profiles pair own profile digits first fields None event number s p e says = cc
+
+by_fields : (sends : List (End → ℕ)) (profiles : List (End → Profile)) (pair : ℕ) (own : End → ℕ) (profile : End → Profile) (digits : List ℕ) (fields : List (List ℕ)) (event : Event)
+    → number_said 65535 digits ≡ Some pair → numbered pair sends ≡ Some own → numbered pair profiles ≡ Some profile → pair_said_by own profile fields ≡ Ok (line.Step event)
+    → numbered_line sends profiles digits fields ≡ Ok (said.One pair event)
+by_fields sends profiles pair own profile digits (first ∷ fields) event number s p says = by_word sends profiles pair own profile digits first fields (pair_word_of first) event number s p refl says
+by_fields sends profiles pair own profile digits [] event number s p says = cc
+
+pub numbered_said : (sends : List (End → ℕ)) (profiles : List (End → Profile)) (pair : ℕ) (own : End → ℕ) (profile : End → Profile) (text : List ℕ) (event : Event) → pair < 65536
+    → numbered pair sends ≡ Some own → numbered pair profiles ≡ Some profile → pair_line own profile text ≡ Ok (line.Step event) → pairs_line sends profiles (with_pair pair text) ≡ Ok (said.One pair event)
+numbered_said sends profiles pair own profile text event lt s p says =
+    let wide : pair < 2 ^ 64 = omega (arith, lt) in
+    let digits : is_digits (decimal pair) ≡ true = rw (digits-decimal pair wide) (grind (arith, nat_tests, decimal_nonempty pair wide)) in
+    ap (pairs_said_by sends profiles) (slice_split_at is_space (decimal pair) 32 text (no_space-decimal pair wide) refl)
+    ∙ ap (λ (b : Bool). if b then numbered_line sends profiles (decimal pair) (fields_of text) else common_line (decimal pair) (fields_of text)) digits
+    ∙ by_fields sends profiles pair own profile (decimal pair) (fields_of text) event (number_said-decimal 65535 pair wide (omega (arith, lt))) s p says
+
+-- the line of an event that fits a pair
+by_ends : (sends : List (End → ℕ)) (profiles : List (End → Profile)) (pair : ℕ) (s : Option (End → ℕ)) (p : Option (End → Profile)) (event : Event) → pair < 65536 → IsOfTypes event
+    → numbered pair sends ≡ s → numbered pair profiles ≡ p → FitsEnds s p event → pairs_line sends profiles (with_pair pair (event_text event)) ≡ Ok (said.One pair event)
+by_ends sends profiles pair (Some own) (Some profile) event lt typed e d fits = numbered_said sends profiles pair own profile (event_text event) event lt e d (read_back own profile event typed fits)
+by_ends sends profiles pair None p event lt typed e d fits = absurd fits
+by_ends sends profiles pair (Some own) None event lt typed e d fits = absurd fits
+
+pub pair_read_back : (sends : List (End → ℕ)) (profiles : List (End → Profile)) (pair : ℕ) (event : Event) → pair < 65536 → IsOfTypes event → FitsPair sends profiles pair event
+    → pairs_line sends profiles (with_pair pair (event_text event)) ≡ Ok (said.One pair event)
+pair_read_back sends profiles pair event lt typed fits = by_ends sends profiles pair (numbered pair sends) (numbered pair profiles) event lt typed refl refl fits
