@@ -1,9 +1,8 @@
 -- In a world without another entry outputs are no older than twice the watchdog: one of them passes at most until the end takes what
 -- its peer sent, and one until the outputs are zeros.
-use Rattle.std.proofs.Common.{◌≡◌, ℕ, suc, ◌+◌, ◌-◌, ◌*◌, ◌<◌, ◌≤◌, max, nat_lt, List, [], ◌∷◌, length, Bool, true, false, ◌&&◌, not, Option, Some, None, IfSome, IsSomeAnd, is_some, option_map, if◌then◌else◌, refl, sym, ap, ◌∙◌, subst, arith}
-use Rattle.std.proofs.lemmas.Bool.{ltb-true, and_parts}
+use Rattle.std.proofs.Common.{◌≡◌, ℕ, ◌+◌, ◌-◌, ◌*◌, ◌<◌, ◌≤◌, nat_lt, List, [], ◌∷◌, length, Bool, true, false, ◌&&◌, not, Option, Some, None, IfSome, IsSomeAnd, is_some, option_map, if◌then◌else◌, refl, sym, ap, ◌∙◌, subst, arith}
+use Rattle.std.proofs.lemmas.Bool.{ltb-true}
 use Rattle.fsoe_base.specs.declared.command.End.{End}
-use Rattle.fsoe_base.specs.declared.command.State.{State}
 use Rattle.fsoe_base.specs.declared.command.State.TheVariants as state
 use Rattle.fsoe_base.specs.declared.command.Command.{Command}
 use Rattle.fsoe_base.specs.declared.command.Command.TheVariants as command
@@ -184,6 +183,9 @@ young ms ss which (x ∷ w) n k lens h none is =
     let older : NoneOther x w = none_other x w none in
     young-head ms ss which x w n k (same_end which x.end) refl lens h none (λ n k is. young ms ss which w n k lens h.1 older.before is) is
 
+no-more : (a b : ℕ) → a + 0 ≤ b → a ≤ b
+no-more a b h = omega arith
+
 -- the age of an end's outputs
 abbrev IsBounded : Option Terms → ℕ → Type 0
 IsBounded told n = IsSomeAnd told (λ t. n ≤ 2 * t.watchdog - 2)
@@ -197,9 +199,6 @@ bounded-by ms ss which w (Some k) lens h none is =
     let told : told_terms s (deeds which w) ≡ Some (terms_of ms) = tells s (deeds which w) (terms_of ms) y.in_data (agrees ms ss which w lens h none y.in_data) in
     let most : ticks_since which k w + 0 ≤ 2 * ms.watchdog - 2 = y.most in
     subst (λ (o : Option Terms). IsBounded o (ticks_since which k w)) (sym told) (no-more (ticks_since which k w) (2 * ms.watchdog - 2) most)
-  where
-    no-more : (a b : ℕ) → a + 0 ≤ b → a ≤ b
-    no-more a b h = omega arith
 
 pub age_bounded : (ms : MasterSettings) (ss : SlaveSettings) (which : End) (w : List Entry) → SameLengths ms ss → IsWorld ms ss w → NoOther w
     → IfSome (age_of which w) (λ n. IsSomeAnd (told_terms (setup_of ms ss which) (deeds which w)) (λ t. n ≤ 2 * t.watchdog - 2))
@@ -213,9 +212,6 @@ by-master ms ss which w (Some k) lens h none is =
     let y : Young ms ss which 0 k w = young ms ss which w 0 k lens h none is in
     let most : ticks_since which k w + 0 ≤ 2 * ms.watchdog - 2 = y.most in
     no-more (ticks_since which k w) (2 * ms.watchdog - 2) most
-  where
-    no-more : (a b : ℕ) → a + 0 ≤ b → a ≤ b
-    no-more a b h = omega arith
 
 greater-bounded : (a b : Option ℕ) (most : ℕ) → IfSome a (λ n. n ≤ most) → IfSome b (λ n. n ≤ most) → IfSome (greater a b) (λ n. n ≤ most)
 greater-bounded None b most h k = k

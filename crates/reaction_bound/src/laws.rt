@@ -1,11 +1,14 @@
 //! What holds of ages. The calls do nothing: each law is a contract.
 
-ghost use Rattle.std.specs.Prelude.{◌*◌, ◌-◌, ◌≤◌, List, IfSome, IsSomeAnd};
+ghost use Rattle.std.specs.Prelude.{ℕ, ◌*◌, ◌-◌, ◌≤◌, IsTrue, IsSome, List, IfSome, IsSomeAnd};
 ghost use Rattle.fsoe_base.specs.declared.command.End.{End};
 ghost use Rattle.param_load.specs.declared.entry.Entry.{Entry};
 ghost use Rattle.param_load.specs.declared.master_settings.MasterSettings.{MasterSettings};
 ghost use Rattle.param_load.specs.declared.slave_settings.SlaveSettings.{SlaveSettings};
 ghost use Rattle.end_model.specs.Readiness.{told_terms};
+ghost use Rattle.fsoe_base.specs.Image.{bit_of};
+ghost use Rattle.exchange_model.specs.Ends.{of_end};
+ghost use Rattle.exchange_model.specs.Fair.{received_len, outputs_due};
 ghost use Rattle.exchange_model.specs.World.{setup_of, deeds, SameLengths, IsWorld};
 ghost use Rattle.exchange_model.specs.Other.{NoOther};
 ghost use Rattle.reaction_bound.specs.Age.{age_of, worst_of};
@@ -17,4 +20,10 @@ ghost use Rattle.reaction_bound.specs.Age.{age_of, worst_of};
 pub fn bounded_ages()
     ensures age { (ms : MasterSettings) (ss : SlaveSettings) (which : End) (w : List Entry) → SameLengths ms ss → IsWorld ms ss w → NoOther w → IfSome (age_of which w) (λ n. IsSomeAnd (told_terms (setup_of ms ss which) (deeds which w)) (λ terms. n ≤ 2 * terms.watchdog - 2)) }
     ensures worst { (ms : MasterSettings) (ss : SlaveSettings) (which : End) (w : List Entry) → SameLengths ms ss → IsWorld ms ss w → NoOther w → IfSome (worst_of which w) (λ n. n ≤ 2 * ms.watchdog - 2) }
+{}
+
+/// In the same worlds outputs with a bit as 1 have an age, since they are from an item that the end awaited.
+#[tactic(auto, using(crate::proofs::Aged::has_age))]
+pub fn aged_outputs()
+    ensures { (ms : MasterSettings) (ss : SlaveSettings) (which : End) (bit : ℕ) (w : List Entry) → SameLengths ms ss → IsWorld ms ss w → NoOther w → IsTrue (bit_of (outputs_due (received_len ms.lengths which) (of_end which w)) bit) → IsSome (age_of which w) }
 {}

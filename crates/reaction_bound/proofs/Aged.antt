@@ -1,0 +1,98 @@
+-- In a world without another entry outputs with a bit as 1 have an age: they are from an item.
+use Rattle.std.proofs.Common.{◌≡◌, ℕ, List, [], ◌∷◌, replicate, Bool, true, false, ◌&&◌, not, Option, Some, None, is_some, IsSome, option_map, if◌then◌else◌, refl, sym, ap, ◌∙◌, subst}
+use Rattle.fsoe_base.specs.declared.command.End.{End}
+use Rattle.fsoe_base.specs.declared.command.Command.{Command}
+use Rattle.fsoe_base.specs.declared.command.Command.TheVariants as command
+use Rattle.fsoe_base.specs.declared.did.Took.{Took}
+use Rattle.fsoe_base.specs.Image.{bit_of}
+use Rattle.fsoe_base.specs.Data.{is_data}
+use Rattle.param_load.specs.declared.entry.Entry.{Entry}
+use Rattle.param_load.specs.declared.terms.Terms.{Terms}
+use Rattle.param_load.specs.declared.master_settings.MasterSettings.{MasterSettings}
+use Rattle.param_load.specs.declared.slave_settings.SlaveSettings.{SlaveSettings}
+use Rattle.end_model.specs.Deed.{ticked}
+use Rattle.exchange_model.specs.Ends.{same_end, of_end}
+use Rattle.exchange_model.specs.World.{SameLengths, IsWorld}
+use Rattle.exchange_model.specs.Items.{Item, items, awaited}
+use Rattle.exchange_model.specs.Other.{is_other, NoOther}
+use Rattle.exchange_model.specs.Fair.{received_len, data_taken, IsTakenFrom, TakesAwaited, in_time, outputs_by, outputs_at, outputs_after, outputs_due}
+use Rattle.exchange_model.specs.Monitor.{item_number}
+use Rattle.exchange_model.proofs.Worlds.Projection.{same}
+use Rattle.exchange_model.proofs.Joint.Taking.{NoneOther, none_other}
+use Rattle.exchange_model.proofs.Fairness.Headline.{takes_awaited}
+use Rattle.exchange_model.proofs.Offering.Shown.{none_of_zeros}
+use Rattle.reaction_bound.specs.Age.{ticks_since, source_by, source_at, source_after, source, age_of}
+use Rattle.reaction_bound.specs.Ages.{awaited_by}
+
+-- data are taken from an item that was awaited
+item-awaited : (l : ℕ) (t : Took) (told : Option Terms) (o : Option Item) → IsTakenFrom l (Some t) told o → is_some (item_number o) ≡ true
+item-awaited l t told None h = absurd h
+item-awaited l t told (Some i) h = refl
+
+by-item : (soon other : Bool) (before : Option ℕ) → soon ≡ true → other ≡ false → is_some before ≡ true → is_some (if soon && not other then before else None) ≡ true
+by-item true false before s o h = h
+by-item true true before s o h = cc
+by-item false other before s o h = cc
+
+-- the load of an entry that took a frame
+aged-by : (l n bit : ℕ) (terms : Option Terms) (other soon : Bool) (before : Option ℕ) (t : Took) (c : Command) → other ≡ false → t.command ≡ c → (is_data t.command ≡ true → is_some before ≡ true) → in_time n terms ≡ soon
+    → bit_of (outputs_by (replicate l 0) n terms c t.load) bit ≡ true → is_some (source_by n terms other before c) ≡ true
+aged-by l n bit terms other true before t command.ProcessData o c h s one = by-item (in_time n terms) other before s o (h (ap is_data c))
+aged-by l n bit terms other false before t command.ProcessData o c h s one = absurd (none_of_zeros l bit (simp s at one))
+aged-by l n bit terms other soon before t _ o c h s one = absurd (none_of_zeros l bit one)
+
+aged-at : (l n bit : ℕ) (terms : Option Terms) (other : Bool) (before earlier : Option ℕ) (took : Option Took) (outputs : List ℕ) → other ≡ false
+    → ((t : Took) → took ≡ Some t → is_data t.command ≡ true → is_some before ≡ true) → (bit_of outputs bit ≡ true → is_some earlier ≡ true)
+    → bit_of (outputs_at (replicate l 0) n terms took outputs) bit ≡ true → is_some (source_at n terms other before took earlier) ≡ true
+aged-at l n bit terms other before earlier None outputs o h k one = k one
+aged-at l n bit terms other before earlier (Some t) outputs o h k one = aged-by l n bit terms other (in_time n terms) before t t.command o refl (h t refl) refl one
+
+aged-head : (l bit : ℕ) (mine reset : Bool) (peers earlier : Option ℕ) (theirs own : List ℕ) → (bit_of theirs bit ≡ true → is_some peers ≡ true) → (mine ≡ true → bit_of own bit ≡ true → is_some earlier ≡ true)
+    → bit_of (if mine then (if reset then replicate l 0 else own) else theirs) bit ≡ true → is_some (if not mine then peers else if reset then None else earlier) ≡ true
+aged-head l bit true true peers earlier theirs own h k one = absurd (none_of_zeros l bit one)
+aged-head l bit true false peers earlier theirs own h k one = k refl one
+aged-head l bit false reset peers earlier theirs own h k one = h one
+
+-- the outputs by an end's own entries, with one more entry
+looked-back : (which : End) (l n : ℕ) (x : Entry) (w : List Entry) (mine : Bool)
+    → outputs_after (replicate l 0) n (if mine then x ∷ of_end which w else of_end which w)
+    ≡ (if mine then (if is_some x.did.reset then replicate l 0 else outputs_at (replicate l 0) n x.terms x.did.took (outputs_after (replicate l 0) (ticked x.what n) (of_end which w))) else outputs_after (replicate l 0) n (of_end which w))
+looked-back which l n x w true = refl
+looked-back which l n x w false = refl
+
+data-of : (took : Option Took) (t : Took) → took ≡ Some t → is_data t.command ≡ true → data_taken took ≡ Some t
+data-of took t h k = ap data_taken h ∙ simp k
+
+-- what an entry of the end took is from the item awaited before it
+own-awaits : (ms : MasterSettings) (ss : SlaveSettings) (x : Entry) (w : List Entry) → SameLengths ms ss → IsWorld ms ss (x ∷ w) → NoOther (x ∷ w)
+    → (t : Took) → x.did.took ≡ Some t → is_data t.command ≡ true → is_some (awaited_by x.end w) ≡ true
+own-awaits ms ss x w lens h none t took some =
+    let taken : TakesAwaited ms.lengths (x ∷ w) = takes_awaited ms ss (x ∷ w) lens h none in
+    item-awaited (received_len ms.lengths x.end) t x.terms (awaited (items w) x.end)
+    (subst (λ (took : Option Took). IsTakenFrom (received_len ms.lengths x.end) took x.terms (awaited (items w) x.end)) (data-of x.did.took t took some) taken.0)
+
+awaits-mine : (ms : MasterSettings) (ss : SlaveSettings) (which : End) (x : Entry) (w : List Entry) → SameLengths ms ss → IsWorld ms ss (x ∷ w) → NoOther (x ∷ w) → same_end which x.end ≡ true
+    → (t : Took) → x.did.took ≡ Some t → is_data t.command ≡ true → is_some (awaited_by which w) ≡ true
+awaits-mine ms ss which x w lens h none mine t took some = subst (λ (it : End). is_some (awaited_by it w) ≡ true) (same which x.end mine) (own-awaits ms ss x w lens h none t took some)
+
+aged : (ms : MasterSettings) (ss : SlaveSettings) (which : End) (bit l : ℕ) (w : List Entry) (n : ℕ) → SameLengths ms ss → IsWorld ms ss w → NoOther w
+    → bit_of (outputs_after (replicate l 0) n (of_end which w)) bit ≡ true → is_some (source_after which n w) ≡ true
+aged ms ss which bit l [] n lens h none one = absurd (none_of_zeros l bit one)
+aged ms ss which bit l (x ∷ w) n lens h none one =
+    let older : NoneOther x w = none_other x w none in
+    let zeros : List ℕ = replicate l 0 in
+    let before : List ℕ = outputs_after zeros (ticked x.what n) (of_end which w) in
+    aged-head l bit (same_end which x.end) (is_some x.did.reset) (source_after which n w) (source_at n x.terms (is_other (items w) x) (awaited_by which w) x.did.took (source_after which (ticked x.what n) w))
+    (outputs_after zeros n (of_end which w)) (outputs_at zeros n x.terms x.did.took before)
+    (λ k. aged ms ss which bit l w n lens h.1 older.before k)
+    (λ mine k. aged-at l n bit x.terms (is_other (items w) x) (awaited_by which w) (source_after which (ticked x.what n) w) x.did.took before older.here (awaits-mine ms ss which x w lens h none mine)
+    (λ j. aged ms ss which bit l w (ticked x.what n) lens h.1 older.before j) k)
+    (ap (λ (o : List ℕ). bit_of o bit) (sym (looked-back which l n x w (same_end which x.end))) ∙ one)
+
+mapped : (f : ℕ → ℕ) (o : Option ℕ) → is_some (option_map f o) ≡ is_some o
+mapped f None = refl
+mapped f (Some k) = refl
+
+pub has_age : (ms : MasterSettings) (ss : SlaveSettings) (which : End) (bit : ℕ) (w : List Entry) → SameLengths ms ss → IsWorld ms ss w → NoOther w
+    → bit_of (outputs_due (received_len ms.lengths which) (of_end which w)) bit ≡ true → IsSome (age_of which w)
+has_age ms ss which bit w lens h none one = mapped (λ k. ticks_since which k w) (source which w) ∙ aged ms ss which bit (received_len ms.lengths which) w 0 lens h none one
