@@ -1,5 +1,5 @@
 -- In a world without another entry outputs with a bit as 1 have an age: they are from an item.
-use Rattle.std.proofs.Common.{◌≡◌, ℕ, List, [], ◌∷◌, replicate, Bool, true, false, ◌&&◌, not, Option, Some, None, is_some, IsSome, option_map, if◌then◌else◌, refl, sym, ap, ◌∙◌, subst}
+use Rattle.std.proofs.Common.{◌≡◌, ℕ, List, [], ◌∷◌, replicate, Bool, true, false, ◌&&◌, not, Option, Some, None, is_some, IsSome, option_map, if◌then◌else◌, refl, ap, ◌∙◌, subst}
 use Rattle.fsoe_base.specs.declared.command.End.{End}
 use Rattle.fsoe_base.specs.declared.command.Command.{Command}
 use Rattle.fsoe_base.specs.declared.command.Command.TheVariants as command
@@ -21,7 +21,7 @@ use Rattle.exchange_model.proofs.Worlds.Projection.{same}
 use Rattle.exchange_model.proofs.Joint.Taking.{NoneOther, none_other}
 use Rattle.exchange_model.proofs.Fairness.Headline.{takes_awaited}
 use Rattle.exchange_model.proofs.Offering.Shown.{none_of_zeros}
-use Rattle.reaction_bound.specs.Age.{ticks_since, source_by, source_at, source_after, source, age_of}
+use Rattle.reaction_bound.specs.Age.{ticks_since, source_by, source_at, source_in, source_after, source, age_of}
 use Rattle.reaction_bound.specs.Ages.{awaited_by}
 
 -- data are taken from an item that was awaited
@@ -47,18 +47,22 @@ aged-at : (l n bit : ℕ) (terms : Option Terms) (other : Bool) (before earlier 
 aged-at l n bit terms other before earlier None outputs o h k one = k one
 aged-at l n bit terms other before earlier (Some t) outputs o h k one = aged-by l n bit terms other (in_time n terms) before t t.command o refl (h t refl) refl one
 
-aged-head : (l bit : ℕ) (mine reset : Bool) (peers earlier : Option ℕ) (theirs own : List ℕ) → (bit_of theirs bit ≡ true → is_some peers ≡ true) → (mine ≡ true → bit_of own bit ≡ true → is_some earlier ≡ true)
-    → bit_of (if mine then (if reset then replicate l 0 else own) else theirs) bit ≡ true → is_some (if not mine then peers else if reset then None else earlier) ≡ true
-aged-head l bit true true peers earlier theirs own h k one = absurd (none_of_zeros l bit one)
-aged-head l bit true false peers earlier theirs own h k one = k refl one
-aged-head l bit false reset peers earlier theirs own h k one = h one
+-- an entry of the end, and one of either end
+aged-own : (which : End) (l n bit : ℕ) (x : Entry) (w : List Entry) (reset : Bool) → is_other (items w) x ≡ false → ((t : Took) → x.did.took ≡ Some t → is_data t.command ≡ true → is_some (awaited_by which w) ≡ true)
+    → (bit_of (outputs_after (replicate l 0) (ticked x.what n) (of_end which w)) bit ≡ true → is_some (source_after which (ticked x.what n) w) ≡ true)
+    → bit_of (if reset then replicate l 0 else outputs_at (replicate l 0) n x.terms x.did.took (outputs_after (replicate l 0) (ticked x.what n) (of_end which w))) bit ≡ true
+    → is_some (if reset then None else source_at n x.terms (is_other (items w) x) (awaited_by which w) x.did.took (source_after which (ticked x.what n) w)) ≡ true
+aged-own which l n bit x w true o awaits before one = absurd (none_of_zeros l bit one)
+aged-own which l n bit x w false o awaits before one =
+    aged-at l n bit x.terms (is_other (items w) x) (awaited_by which w) (source_after which (ticked x.what n) w) x.did.took (outputs_after (replicate l 0) (ticked x.what n) (of_end which w)) o awaits before one
 
--- the outputs by an end's own entries, with one more entry
-looked-back : (which : End) (l n : ℕ) (x : Entry) (w : List Entry) (mine : Bool)
-    → outputs_after (replicate l 0) n (if mine then x ∷ of_end which w else of_end which w)
-    ≡ (if mine then (if is_some x.did.reset then replicate l 0 else outputs_at (replicate l 0) n x.terms x.did.took (outputs_after (replicate l 0) (ticked x.what n) (of_end which w))) else outputs_after (replicate l 0) n (of_end which w))
-looked-back which l n x w true = refl
-looked-back which l n x w false = refl
+aged-head : (which : End) (l n bit : ℕ) (x : Entry) (w : List Entry) (mine : Bool) → is_other (items w) x ≡ false
+    → (mine ≡ true → (t : Took) → x.did.took ≡ Some t → is_data t.command ≡ true → is_some (awaited_by which w) ≡ true)
+    → ((m : ℕ) → bit_of (outputs_after (replicate l 0) m (of_end which w)) bit ≡ true → is_some (source_after which m w) ≡ true)
+    → bit_of (outputs_after (replicate l 0) n (if mine then x ∷ of_end which w else of_end which w)) bit ≡ true
+    → is_some (let earlier : Option ℕ = source_after which (if mine then ticked x.what n else n) w in if mine then source_in n x (is_other (items w) x) (awaited_by which w) earlier else earlier) ≡ true
+aged-head which l n bit x w true o awaits before one = aged-own which l n bit x w (is_some x.did.reset) o (awaits refl) (before (ticked x.what n)) one
+aged-head which l n bit x w false o awaits before one = before n one
 
 data-of : (took : Option Took) (t : Took) → took ≡ Some t → is_data t.command ≡ true → data_taken took ≡ Some t
 data-of took t h k = ap data_taken h ∙ simp k
@@ -80,14 +84,7 @@ aged : (ms : MasterSettings) (ss : SlaveSettings) (which : End) (bit l : ℕ) (w
 aged ms ss which bit l [] n lens h none one = absurd (none_of_zeros l bit one)
 aged ms ss which bit l (x ∷ w) n lens h none one =
     let older : NoneOther x w = none_other x w none in
-    let zeros : List ℕ = replicate l 0 in
-    let before : List ℕ = outputs_after zeros (ticked x.what n) (of_end which w) in
-    aged-head l bit (same_end which x.end) (is_some x.did.reset) (source_after which n w) (source_at n x.terms (is_other (items w) x) (awaited_by which w) x.did.took (source_after which (ticked x.what n) w))
-    (outputs_after zeros n (of_end which w)) (outputs_at zeros n x.terms x.did.took before)
-    (λ k. aged ms ss which bit l w n lens h.1 older.before k)
-    (λ mine k. aged-at l n bit x.terms (is_other (items w) x) (awaited_by which w) (source_after which (ticked x.what n) w) x.did.took before older.here (awaits-mine ms ss which x w lens h none mine)
-    (λ j. aged ms ss which bit l w (ticked x.what n) lens h.1 older.before j) k)
-    (ap (λ (o : List ℕ). bit_of o bit) (sym (looked-back which l n x w (same_end which x.end))) ∙ one)
+    aged-head which l n bit x w (same_end which x.end) older.here (λ mine. awaits-mine ms ss which x w lens h none mine) (λ m k. aged ms ss which bit l w m lens h.1 older.before k) one
 
 mapped : (f : ℕ → ℕ) (o : Option ℕ) → is_some (option_map f o) ≡ is_some o
 mapped f None = refl

@@ -16,7 +16,7 @@ use Rattle.exchange_model.specs.Other.{is_other}
 use Rattle.exchange_model.specs.Fair.{in_time}
 use Rattle.exchange_model.specs.Honest.{is_tick}
 use Rattle.reaction_bound.specs.declared.end_age.Standing.{Standing}
-use Rattle.reaction_bound.specs.Age.{ticks_since, source_by, source_at, source_after, source, age_of, greater, worst_of, told, told_age}
+use Rattle.reaction_bound.specs.Age.{ticked_at, ticks_since, source_by, source_at, source_in, source_after, source, age_of, greater, worst_of, told, told_age}
 use Rattle.reaction_bound.specs.Ages.{kept_of, awaited_by, waited, left_by, left_at, left_after, standing_of, watchdog_in, age_in, counted, standing_ticked, standing_counted, standing_from, standing_taken, standing_at, standing_next}
 use Rattle.reaction_bound.proofs.Waiting.{awaited_within, items_grow, since_next, told_since}
 
@@ -38,7 +38,7 @@ by-took : (n : ℕ) (terms : Option Terms) (other : Bool) (before : Option ℕ) 
 by-took n terms other before None earlier k l h e is = e is
 by-took n terms other before (Some t) earlier k l h e is = by-command n terms other before t.command k l h is
 
-by-end : (mine reset : Bool) (peers earlier : Option ℕ) (k l : ℕ) → (peers ≡ Some k → k ≤ l) → (earlier ≡ Some k → k ≤ l) → (if not mine then peers else if reset then None else earlier) ≡ Some k → k ≤ l
+by-end : (mine reset : Bool) (peers earlier : Option ℕ) (k l : ℕ) → (peers ≡ Some k → k ≤ l) → (earlier ≡ Some k → k ≤ l) → (if mine then (if reset then None else earlier) else peers) ≡ Some k → k ≤ l
 by-end true true peers earlier k l h e is = cc
 by-end true false peers earlier k l h e is = e is
 by-end false reset peers earlier k l h e is = h is
@@ -50,8 +50,8 @@ source_within which n (x ∷ w) k is =
     let l : ℕ = length (items_of (peer which) (items w)) in
     let grow : length (items_of (peer which) (items w)) ≤ length (items_of (peer which) (items (x ∷ w))) = items_grow (peer which) x w in
     let within : k ≤ length (items_of (peer which) (items w)) =
-    by-end (same_end which x.end) (is_some x.did.reset) _ _ k l (λ h. source_within which n w k h)
-    (λ h. by-took n x.terms (is_other (items w) x) (awaited_by which w) x.did.took _ k l (λ h. awaited_within which w k h) (λ h. source_within which (ticked x.what n) w k h) h) is in
+    by-end (same_end which x.end) (is_some x.did.reset) _ _ k l (λ h. source_within which (ticked_at which x n) w k h)
+    (λ h. by-took n x.terms (is_other (items w) x) (awaited_by which w) x.did.took _ k l (λ h. awaited_within which w k h) (λ h. source_within which (ticked_at which x n) w k h) h) is in
     omega arith
 
 no-either : (b : Bool) → (let none : Option ℕ = None in none) ≡ (if b then None else None)
@@ -91,7 +91,7 @@ expires-at n terms other before None later earlier left h = h
 expires-at n terms other before (Some t) later earlier left h = expires-in n terms other before t.command
 
 expires-head : (mine reset : Bool) (later earlier peers peers' : Option ℕ) (left left' : ℕ) → peers ≡ (if nat_le left' 1 then None else peers') → later ≡ (if nat_le left 1 then None else earlier)
-    → (if not mine then peers else if reset then None else later) ≡ (if nat_le (if mine then left else left') 1 then None else (if not mine then peers' else if reset then None else earlier))
+    → (if mine then (if reset then None else later) else peers) ≡ (if nat_le (if mine then left else left') 1 then None else (if mine then (if reset then None else earlier) else peers'))
 expires-head true true later earlier peers peers' left left' h k = no-either _
 expires-head true false later earlier peers peers' left left' h k = k
 expires-head false reset later earlier peers peers' left left' h k = h
@@ -104,13 +104,17 @@ ticked-suc (move.Hold failsafe) n = refl
 ticked-suc (move.Nonce id) n = refl
 ticked-suc move.Local n = refl
 
+ticked-at-suc : (mine : Bool) (m : Move) (n : ℕ) → (if mine then ticked m (suc n) else suc n) ≡ suc (if mine then ticked m n else n)
+ticked-at-suc true m n = ticked-suc m n
+ticked-at-suc false m n = refl
+
 -- one tick later the outputs are from the same item, unless the watchdog expired
 expires : (which : End) (n : ℕ) (w : List Entry) → source_after which (suc n) w ≡ (if nat_le (left_after which n w) 1 then None else source_after which n w)
 expires which n [] = no-either (nat_le 0 1)
 expires which n (x ∷ w) =
-    expires-head (same_end which x.end) (is_some x.did.reset) _ _ _ _ _ _ (expires which n w)
-    (expires-at n x.terms (is_other (items w) x) (awaited_by which w) x.did.took _ _ _
-    (ap (λ (n : ℕ). source_after which n w) (ticked-suc x.what n) ∙ expires which (ticked x.what n) w))
+    let before : source_after which (ticked_at which x (suc n)) w ≡ (if nat_le (left_after which (ticked_at which x n) w) 1 then None else source_after which (ticked_at which x n) w) =
+    ap (λ (n : ℕ). source_after which n w) (ticked-at-suc (same_end which x.end) x.what n) ∙ expires which (ticked_at which x n) w in
+    expires-head (same_end which x.end) (is_some x.did.reset) _ _ _ _ _ _ before (expires-at n x.terms (is_other (items w) x) (awaited_by which w) x.did.took _ _ _ before)
 
 left-by : (n : ℕ) (terms : Option Terms) → left_by (suc n) terms ≡ left_by n terms - 1
 left-by n None = refl
@@ -128,9 +132,9 @@ left-head false a b a' b' h k = k
 left-next : (which : End) (n : ℕ) (w : List Entry) → left_after which (suc n) w ≡ left_after which n w - 1
 left-next which n [] = refl
 left-next which n (x ∷ w) =
-    left-head (same_end which x.end) _ _ _ _
-    (left-at n x.terms x.did.took _ _ (ap (λ (n : ℕ). left_after which n w) (ticked-suc x.what n) ∙ left-next which (ticked x.what n) w))
-    (left-next which n w)
+    let before : left_after which (ticked_at which x (suc n)) w ≡ left_after which (ticked_at which x n) w - 1 =
+    ap (λ (n : ℕ). left_after which n w) (ticked-at-suc (same_end which x.end) x.what n) ∙ left-next which (ticked_at which x n) w in
+    left-head (same_end which x.end) _ _ _ _ (left-at n x.terms x.did.took _ _ before) before
 
 same-map : {T : Type 0} (f g : ℕ → T) (o : Option ℕ) → ((k : ℕ) → o ≡ Some k → f k ≡ g k) → option_map f o ≡ option_map g o
 same-map f g None h = refl
@@ -141,18 +145,19 @@ stands left age = record { left = left; age = age }
 
 -- what looking back finds at an entry of the end, and at one of its peer
 abbrev left-in : Bool → End → Entry → List Entry → ℕ
-left-in mine which x w = if mine then left_at 0 x.terms x.did.took (left_after which (ticked x.what 0) w) else left_after which 0 w
+left-in mine which x w =
+    let earlier : ℕ = left_after which (if mine then ticked x.what 0 else 0) w in
+    if mine then left_at 0 x.terms x.did.took earlier else earlier
 
-abbrev source-in : Bool → End → Entry → List Entry → Option ℕ
-source-in mine which x w =
-    if not mine then source_after which 0 w
-    else if is_some x.did.reset then None
-    else source_at 0 x.terms (is_other (items w) x) (awaited_by which w) x.did.took (source_after which (ticked x.what 0) w)
+abbrev source-at : Bool → End → Entry → List Entry → Option ℕ
+source-at mine which x w =
+    let earlier : Option ℕ = source_after which (if mine then ticked x.what 0 else 0) w in
+    if mine then source_in 0 x (is_other (items w) x) (awaited_by which w) earlier else earlier
 
 -- outputs after an entry of the peer
 pub heard_outputs : (which : End) (x : Entry) (w : List Entry) → same_end which x.end ≡ false → standing_of which (x ∷ w) ≡ standing_of which w
 heard_outputs which x w h =
-    ap (λ (b : Bool). option_map (λ k. stands (left-in b which x w) (told (ticks_since which k (x ∷ w)))) (source-in b which x w)) h
+    ap (λ (b : Bool). option_map (λ k. stands (left-in b which x w) (told (ticks_since which k (x ∷ w)))) (source-at b which x w)) h
     ∙ same-map _ _ (source which w) (λ k is. ap (stands (left_after which 0 w)) (told_since which k x w false h (source_within which 0 w k is)))
 
 -- outputs by ProcessData that were taken in an entry, where an item was awaited before or not
@@ -234,7 +239,7 @@ own-by which x w false (Some t) e = taken-in which x w x.terms (is_other (items 
 pub acted_outputs : (which : End) (x : Entry) (w : List Entry) → same_end which x.end ≡ true
     → standing_of which (x ∷ w) ≡ standing_next (is_tick x.what) (is_other (items w) x) x.did (watchdog_in x.terms) (awaited_by which w) (kept_of which w)
 acted_outputs which x w e =
-    ap (λ (b : Bool). option_map (λ k. stands (left-in b which x w) (told (ticks_since which k (x ∷ w)))) (source-in b which x w)) e
+    ap (λ (b : Bool). option_map (λ k. stands (left-in b which x w) (told (ticks_since which k (x ∷ w)))) (source-at b which x w)) e
     ∙ own-by which x w (is_some x.did.reset) x.did.took e
 
 age-in : (left : ℕ) (ages : ℕ → ℕ) (o : Option ℕ) → age_in (option_map (λ k. stands left (told (ages k))) o) ≡ told_age (option_map ages o)
@@ -268,7 +273,7 @@ same-worst which (x ∷ w) = greater-again (age_of which (x ∷ w)) (worst_of wh
 
 heard-age : (which : End) (x : Entry) (w : List Entry) → same_end which x.end ≡ false → age_of which (x ∷ w) ≡ age_of which w
 heard-age which x w h =
-    ap (λ (b : Bool). option_map (λ k. ticks_since which k (x ∷ w)) (source-in b which x w)) h
+    ap (λ (b : Bool). option_map (λ k. ticks_since which k (x ∷ w)) (source-at b which x w)) h
     ∙ same-map _ _ (source which w) (λ k is. since_next which k x w false h (source_within which 0 w k is))
 
 -- the greatest age after an entry of the peer

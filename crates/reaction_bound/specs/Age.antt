@@ -18,13 +18,14 @@ use Rattle.exchange_model.specs.Monitor.{item_number}
 abbrev pub sends_item : End → ℕ → Entry → List Entry → Bool
 sends_item which number x w = same_end which x.end && not (is_empty x.sent) && number == suc (length (items_of which (items w)))
 
+-- one tick more where an entry is a tick of this end
+abbrev pub ticked_at : End → Entry → ℕ → ℕ
+ticked_at which x n = if same_end which x.end then ticked x.what n else n
+
 -- the ticks of an end since its peer sent the item of this number; all of its ticks where the peer sent no such item
 abbrev pub ticks_since : End → ℕ → List Entry → ℕ
 ticks_since which number [] = 0
-ticks_since which number (x ∷ w) =
-    if sends_item (peer which) number x w then 0
-    else if same_end which x.end then ticked x.what (ticks_since which number w)
-    else ticks_since which number w
+ticks_since which number (x ∷ w) = if sends_item (peer which) number x w then 0 else ticked_at which x (ticks_since which number w)
 
 -- the number of the item from which the outputs are by a frame that was taken n ticks ago, under the terms told then: of the item
 -- awaited before, where the frame was of ProcessData, the watchdog didn't expire and the entry wasn't other
@@ -37,13 +38,16 @@ abbrev pub source_at : ℕ → Option Terms → Bool → Option ℕ → Option T
 source_at n told other before None earlier = earlier
 source_at n told other before (Some t) earlier = source_by n told other before t.command
 
+-- the same after an entry of the end, before which the item of a number was awaited: a reset makes zeros of the outputs
+abbrev pub source_in : ℕ → Entry → Bool → Option ℕ → Option ℕ → Option ℕ
+source_in n x other before earlier = if is_some x.did.reset then None else source_at n x.terms other before x.did.took earlier
+
 -- the number of the item from which an end's outputs are, n ticks later; it is found by looking back as the outputs are (outputs_after)
 abbrev pub source_after : End → ℕ → List Entry → Option ℕ
 source_after which n [] = None
 source_after which n (x ∷ w) =
-    if not (same_end which x.end) then source_after which n w
-    else if is_some x.did.reset then None
-    else source_at n x.terms (is_other (items w) x) (item_number (awaited (items w) which)) x.did.took (source_after which (ticked x.what n) w)
+    let earlier : Option ℕ = source_after which (ticked_at which x n) w in
+    if same_end which x.end then source_in n x (is_other (items w) x) (item_number (awaited (items w) which)) earlier else earlier
 
 -- the number of the item from which an end's outputs are
 abbrev pub source : End → List Entry → Option ℕ

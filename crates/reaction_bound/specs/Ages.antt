@@ -8,7 +8,6 @@ use Rattle.fsoe_base.specs.declared.did.Did.{Did}
 use Rattle.fsoe_base.specs.declared.did.Took.{Took}
 use Rattle.param_load.specs.declared.terms.Terms.{Terms}
 use Rattle.param_load.specs.declared.entry.Entry.{Entry}
-use Rattle.end_model.specs.Deed.{ticked}
 use Rattle.exchange_model.specs.Ends.{same_end}
 use Rattle.exchange_model.specs.Items.{items, awaited}
 use Rattle.exchange_model.specs.Honest.{is_tick}
@@ -16,7 +15,7 @@ use Rattle.exchange_model.specs.Monitor as monitor
 use Rattle.exchange_model.specs.Monitor.{MonitorView, item_number, HasParts}
 use Rattle.reaction_bound.specs.declared.end_age.Standing.{Standing}
 use Rattle.reaction_bound.specs.declared.end_age.EndAge.{EndAge}
-use Rattle.reaction_bound.specs.Age.{source, ticks_since, greater, worst_of, told, told_age}
+use Rattle.reaction_bound.specs.Age.{ticked_at, source, ticks_since, greater, worst_of, told, told_age}
 
 -- the number of the item that an end awaits, if it awaits one
 abbrev pub awaited_by : End → List Entry → Option ℕ
@@ -41,7 +40,8 @@ left_at n terms (Some t) earlier = left_by n terms
 abbrev pub left_after : End → ℕ → List Entry → ℕ
 left_after which n [] = 0
 left_after which n (x ∷ w) =
-    if same_end which x.end then left_at n x.terms x.did.took (left_after which (ticked x.what n) w) else left_after which n w
+    let earlier : ℕ = left_after which (ticked_at which x n) w in
+    if same_end which x.end then left_at n x.terms x.did.took earlier else earlier
 
 -- the outputs of an end where they are from an item: how many ticks are left until they are zeros, and their age
 abbrev pub standing_of : End → List Entry → Option Standing

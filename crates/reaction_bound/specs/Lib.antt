@@ -1,3 +1,4 @@
 pub mod Age
 pub mod Ages
 pub mod Reaction
+pub mod WorkedAge

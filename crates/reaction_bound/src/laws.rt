@@ -12,6 +12,7 @@ ghost use Rattle.exchange_model.specs.Fair.{received_len, outputs_due};
 ghost use Rattle.exchange_model.specs.World.{setup_of, deeds, SameLengths, IsWorld};
 ghost use Rattle.exchange_model.specs.Other.{NoOther};
 ghost use Rattle.reaction_bound.specs.Age.{age_of, worst_of};
+ghost use Rattle.reaction_bound.specs.WorkedAge.{SlaveIsOldest, MasterIsOldest, ForgedHaveNone};
 
 /// The law of the age, for both ends' settings with equal lengths and each world in which no entry is other: outputs are at most
 /// twice the watchdog less two ticks old, the watchdog being that in the terms that the end tells then. So is the greatest age, by
@@ -26,4 +27,11 @@ pub fn bounded_ages()
 #[tactic(auto, using(crate::proofs::Aged::has_age))]
 pub fn aged_outputs()
     ensures { (ms : MasterSettings) (ss : SlaveSettings) (which : End) (bit : ℕ) (w : List Entry) → SameLengths ms ss → IsWorld ms ss w → NoOther w → IsTrue (bit_of (outputs_due (received_len ms.lengths which) (of_end which w)) bit) → IsSome (age_of which w) }
+{}
+
+/// Worked runs in which the outputs of each end get as old as the law of the age allows, and no older, and one in which they have no age.
+pub fn worked_ages()
+    ensures slave { SlaveIsOldest }
+    ensures master { MasterIsOldest }
+    ensures forged { ForgedHaveNone }
 {}
