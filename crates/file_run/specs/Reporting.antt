@@ -39,6 +39,11 @@ BeginsReport r input text = (report : List ℕ) × (ended : Ended) × r.reports 
 abbrev pub refused_at : ℕ → Ended
 refused_at number = record { status = status.Line; place = number }
 
+-- how a run ends whose input stops so, where neither a read nor a write failed and the command judges nothing
+abbrev pub ended_at : Stop → Ended
+ended_at AtEnd = record { status = status.Ok; place = 0 }
+ended_at (Refused number why) = refused_at number
+
 -- an input without a whole header
 abbrev pub input_headless : {H E : Type 0} → Stop → InputOf H E
 input_headless stop = record { heading = None; lines = 0; events = []; stop = stop }

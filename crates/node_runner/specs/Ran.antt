@@ -2,25 +2,19 @@
 use Rattle.std.specs.Prelude.{◌≡◌, ℕ, false, List}
 use Rattle.fsoe_base.specs.declared.command.End.{End}
 use Rattle.fsoe_io.specs.declared.status.Ended.{Ended}
-use Rattle.fsoe_io.specs.declared.status.Status.TheVariants as status
 use Rattle.schedule_file.specs.Header.{Heading}
-use Rattle.schedule_file.specs.Input.{Stop, AtEnd, Refused, Input, schedule_format}
+use Rattle.schedule_file.specs.Input.{Input, schedule_format}
 use Rattle.schedule_file.specs.declared.event.Event.{Event}
 use Rattle.schedule_file.specs.declared.event.ScheduleLine.{ScheduleLine}
 use Rattle.schedule_file.specs.declared.header_kind.HeaderKind.TheVariants as kind
 use Rattle.file_run.specs.Outside.{Outside}
 use Rattle.file_run.specs.Ran.{RanOver}
-use Rattle.file_run.specs.Reporting.{Reporting, Never}
+use Rattle.file_run.specs.Reporting.{Reporting, Never, ended_at}
 use Rattle.node_runner.specs.Report.{IsReport}
-
--- how a run ends whose input stops so, where neither a read nor a write failed
-abbrev pub node_ended : Stop → Ended
-node_ended AtEnd = record { status = status.Ok; place = 0 }
-node_ended (Refused number why) = record { status = status.Line; place = number }
 
 -- the whole report of the node at this end, and how a run that writes it ends
 abbrev pub NodeReports : End → Input → Ended → List ℕ → Type 0
-NodeReports end input ended text = IsReport end input text × (ended ≡ node_ended input.stop)
+NodeReports end input ended text = IsReport end input text × (ended ≡ ended_at input.stop)
 
 -- what a node reports; it takes no memory
 abbrev pub node_reporting : End → Reporting Heading ScheduleLine Event

@@ -1,95 +1,66 @@
-//! The ends that a node runs: one event at either, and its line of the report.
-ghost use Rattle.std.specs.Prelude.{◌≡◌, ◌≤◌, false, length};
-ghost use Rattle.fsoe_base.specs.declared.command.End.TheVariants as side;
+//! The end that a node runs: one event at it, and its line of the report.
+ghost use Rattle.std.specs.Prelude.{◌≡◌, ◌≤◌, [], length};
 ghost use Rattle.fsoe_io.specs.declared.status.Status.TheVariants as status;
-ghost use Rattle.schedule_file.specs.Event.{FitsNode};
+ghost use Rattle.schedule_file.specs.declared.header_kind.HeaderKind.TheVariants as kind;
+ghost use Rattle.end_core.specs.Core.{IsAtRest};
+ghost use Rattle.end_core.specs.Standing.{Follows, Answers};
 ghost use Rattle.file_run.specs.Report.{events_line};
 ghost use Rattle.node_runner.specs.Report.{step_line};
 ghost use Rattle.node_runner.specs.Move.{move_of};
-ghost use Rattle.master_core.specs.Now.{is_due};
-ghost use Rattle.master_core.specs.Standing as master_core;
-ghost use Rattle.slave_core.specs.Standing as slave_core;
+ghost use Rattle.node_runner.specs.Node.{FitsCore, NodeStands};
 
+use end_core::Core;
 use entry_text::push_entry;
 use file_run::{Machine, Schedule, Stopped, write_events};
 use fsoe_base::{Did, End, FrameBuf, MOST_DATA, Memory, State};
 use fsoe_io::{Ended, LineText, Status};
-use master_core::Master;
 use schedule_file::{Event, Header, HeaderKind, MAX_EVENTS};
-use slave_core::Slave;
 
-/// The node at a master, with what it did last and the frame that it sent. Both are kept from one event to the next, so that neither
-/// is made anew.
+/// The node at one end, with what it did last and the frame that it sent. Both are kept from one event to the next, so that neither is
+/// made anew.
 #[derive(Drop)]
-pub(crate) struct MasterNode {
-    master: Master,
+pub(crate) struct Node {
+    core: Core,
     did: Did,
     sent: FrameBuf,
 }
 
-/// The node at a slave.
-#[derive(Drop)]
-pub(crate) struct SlaveNode {
-    slave: Slave,
-    did: Did,
-    sent: FrameBuf,
-}
-
-/// One event at a master. What it does is written to `did`, and the frame that it sends to `sent`, which is empty where it sends none.
-#[tactic(auto, using(master_core::proofs::Law::set_answers))]
-fn step_master(master: &mut Master, event: &Event, did: &mut Did, sent: &mut FrameBuf)
-    requires fits { FitsNode side.Master master.old.kit.settings.lengths master.old.kit.settings.profile event.now }
-    requires rest { is_due master.old.state ≡ false }
-    ensures follows { master_core.Follows master.old (move_of event.now) master.new }
-    ensures answers { master_core.Answers master.old (move_of event.now) did.new sent.new }
-    ensures rest { is_due master.new.state ≡ false }
+/// This end, set to what a header says that describes it.
+fn new_core(end: End, header: &Header) -> Core
+    requires { header.now.kind ≡ kind.Node end }
+    ensures { NodeStands end result header.now [] [] }
 {
-    match event {
-        Event::Raw { frame, .. } => master.deliver_into(frame.bytes(), did, sent),
-        Event::Tick { .. } => master.tick_into(did, sent),
-        Event::Local { .. } => *did = master.reset(sent),
-        Event::Put { load, .. } => {
-            master.put(load.bytes());
-            sent.clear();
-            did.clear();
-        }
-        Event::Hold { failsafe, .. } => {
-            master.hold(*failsafe);
-            sent.clear();
-            did.clear();
-        }
-        Event::Nonce { id, .. } => {
-            master.nonce(*id);
-            sent.clear();
-            did.clear();
-        }
-        Event::Deliver { .. } | Event::Altered { .. } => unreachable!(),
+    match end {
+        End::Master => Core::new_master(header.master()),
+        End::Slave => Core::new_slave(header.slave()),
     }
 }
 
-/// The same at a slave.
-#[tactic(auto, using(slave_core::proofs::Law::set_answers))]
-fn step_slave(slave: &mut Slave, event: &Event, did: &mut Did, sent: &mut FrameBuf)
-    requires { FitsNode side.Slave slave.old.kit.settings.lengths slave.old.kit.settings.profile event.now }
-    ensures follows { slave_core.Follows slave.old (move_of event.now) slave.new }
-    ensures answers { slave_core.Answers slave.old (move_of event.now) did.new sent.new }
+/// One event at an end. What it does is written to `did`, and the frame that it sends to `sent`, which is empty where it sends none.
+#[tactic(auto, using(end_core::proofs::Either::set_answers))]
+fn step(core: &mut Core, event: &Event, did: &mut Did, sent: &mut FrameBuf)
+    requires fits { FitsCore core.old event.now }
+    requires rest { IsAtRest core.old }
+    ensures follows { Follows core.old (move_of event.now) core.new }
+    ensures answers { Answers core.old (move_of event.now) did.new sent.new }
+    ensures rest { IsAtRest core.new }
 {
     match event {
-        Event::Raw { frame, .. } => slave.deliver_into(frame.bytes(), did, sent),
-        Event::Tick { .. } => slave.tick_into(did, sent),
-        Event::Local { .. } => *did = slave.reset(sent),
+        Event::Raw { frame, .. } => core.deliver_into(frame.bytes(), did, sent),
+        Event::Tick { .. } => core.tick_into(did, sent),
+        Event::Local { .. } => *did = core.reset(sent),
         Event::Put { load, .. } => {
-            slave.put(load.bytes());
+            core.put(load.bytes());
             sent.clear();
             did.clear();
         }
         Event::Hold { failsafe, .. } => {
-            slave.hold(*failsafe);
+            core.hold(*failsafe);
             sent.clear();
             did.clear();
         }
         Event::Nonce { id, .. } => {
-            slave.nonce(*id);
+            core.nonce(*id);
             sent.clear();
             did.clear();
         }
@@ -128,136 +99,68 @@ fn write_end(events: u64, text: &mut LineText) -> Ended
     }
 }
 
-impl Machine for MasterNode {
-    ghost use Rattle.fsoe_base.specs.declared.command.End.TheVariants as side;
-    ghost use Rattle.node_runner.specs.Node.{MasterStands};
+impl Machine for Node {
+    ghost use Rattle.node_runner.specs.Node.{NodeStands};
     ghost use Rattle.node_runner.specs.Ran.{node_reporting};
     ghost use Rattle.file_run.specs.Reporting.{EndsReport};
     ghost use Rattle.std.specs.Prelude.{[]};
 
     type Format = Schedule;
 
-    type Handed = ();
+    type Handed = End;
 
-    ghost reporting = { λ handed. node_reporting side.Master };
+    ghost reporting = { λ end. node_reporting end };
 
-    ghost stands = { λ first v now. MasterStands v.master };
+    ghost stands = { λ end v now. NodeStands end v.core };
 
     ghost waits = { λ v now. [] };
 
     ghost parts = { λ v now. 0 };
 
-    ghost closes = { λ first now. EndsReport (node_reporting side.Master) };
+    ghost closes = { λ end now. EndsReport (node_reporting end) };
 
     fn laws() {}
 
-    fn open(_: &()) -> Result<Header, Memory> {
-        Ok(Header::new(HeaderKind::Node(End::Master)))
+    fn open(end: &End) -> Result<Header, Memory> {
+        Ok(Header::new(HeaderKind::Node(*end)))
     }
 
-    fn begin(header: &Header, _: &mut ()) -> Result<MasterNode, Memory> {
-        Ok(MasterNode {
-            master: Master::new(header.master()),
+    fn begin(header: &Header, end: &mut End) -> Result<Node, Memory> {
+        Ok(Node {
+            core: new_core(*end, header),
             did: Did::nothing(),
             sent: FrameBuf::new(),
         })
     }
 
-    fn is_full(&self, _: &(), events: u64) -> bool {
+    fn is_full(&self, _: &End, events: u64) -> bool {
         events == MAX_EVENTS
     }
 
     fn report(
         &mut self,
-        _: &mut (),
+        _: &mut End,
         event: &Event,
         number: u64,
         text: &mut LineText,
     ) -> Result<(), Stopped> {
-        step_master(&mut self.master, event, &mut self.did, &mut self.sent);
+        step(&mut self.core, event, &mut self.did, &mut self.sent);
         write_entry(
             number,
             &self.did,
-            self.master.state(),
-            self.master.outputs(),
+            self.core.state(),
+            self.core.outputs(),
             &self.sent,
             text,
         );
         Ok(())
     }
 
-    fn close(&mut self, _: &(), events: u64, text: &mut LineText) -> Ended {
+    fn close(&mut self, _: &End, events: u64, text: &mut LineText) -> Ended {
         write_end(events, text)
     }
 
-    fn more(&mut self, _: &(), text: &mut LineText) {
-        text.clear();
-    }
-}
-
-impl Machine for SlaveNode {
-    ghost use Rattle.fsoe_base.specs.declared.command.End.TheVariants as side;
-    ghost use Rattle.node_runner.specs.Node.{SlaveStands};
-    ghost use Rattle.node_runner.specs.Ran.{node_reporting};
-    ghost use Rattle.file_run.specs.Reporting.{EndsReport};
-    ghost use Rattle.std.specs.Prelude.{[]};
-
-    type Format = Schedule;
-
-    type Handed = ();
-
-    ghost reporting = { λ handed. node_reporting side.Slave };
-
-    ghost stands = { λ first v now. SlaveStands v.slave };
-
-    ghost waits = { λ v now. [] };
-
-    ghost parts = { λ v now. 0 };
-
-    ghost closes = { λ first now. EndsReport (node_reporting side.Slave) };
-
-    fn laws() {}
-
-    fn open(_: &()) -> Result<Header, Memory> {
-        Ok(Header::new(HeaderKind::Node(End::Slave)))
-    }
-
-    fn begin(header: &Header, _: &mut ()) -> Result<SlaveNode, Memory> {
-        Ok(SlaveNode {
-            slave: Slave::new(header.slave()),
-            did: Did::nothing(),
-            sent: FrameBuf::new(),
-        })
-    }
-
-    fn is_full(&self, _: &(), events: u64) -> bool {
-        events == MAX_EVENTS
-    }
-
-    fn report(
-        &mut self,
-        _: &mut (),
-        event: &Event,
-        number: u64,
-        text: &mut LineText,
-    ) -> Result<(), Stopped> {
-        step_slave(&mut self.slave, event, &mut self.did, &mut self.sent);
-        write_entry(
-            number,
-            &self.did,
-            self.slave.state(),
-            self.slave.outputs(),
-            &self.sent,
-            text,
-        );
-        Ok(())
-    }
-
-    fn close(&mut self, _: &(), events: u64, text: &mut LineText) -> Ended {
-        write_end(events, text)
-    }
-
-    fn more(&mut self, _: &(), text: &mut LineText) {
+    fn more(&mut self, _: &End, text: &mut LineText) {
         text.clear();
     }
 }

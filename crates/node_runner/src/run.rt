@@ -1,7 +1,7 @@
 //! The run over a node file.
 ghost use Rattle.node_runner.specs.Ran.{RanNode};
 
-use crate::node::{MasterNode, SlaveNode};
+use crate::node::Node;
 use file_run::run_over;
 use fsoe_base::End;
 use fsoe_io::{Ended, Sink, Source};
@@ -13,14 +13,11 @@ use fsoe_io::{Ended, Sink, Source};
 ///
 /// The status is `Ok` with place 0; `Line` with the number of the refused line; `Read` with the whole lines read,
 /// only where the source failed; or `Write` with the bytes written, only where the sink failed.
-pub fn run_node<S: Source, K: Sink>(end: End, source: &mut S, sink: &mut K) -> Ended
+pub fn run_node<S: Source, K: Sink>(mut end: End, source: &mut S, sink: &mut K) -> Ended
     ensures { RanNode end result (record {
       source = record { before = S.left source.old; after = S.left source.new; faults_before = S.faults source.old; faults_after = S.faults source.new };
       sink = record { before = K.written sink.old; after = K.written sink.new; faults_before = K.faults sink.old; faults_after = K.faults sink.new };
     }) }
 {
-    match end {
-        End::Master => run_over::<MasterNode, S, K>(&mut (), source, sink),
-        End::Slave => run_over::<SlaveNode, S, K>(&mut (), source, sink),
-    }
+    run_over::<Node, S, K>(&mut end, source, sink)
 }
