@@ -9,6 +9,7 @@ use Rattle.end_model.specs.Deed.{Deed, is_empty}
 use Rattle.end_model.specs.Setup.{Setup, OfMaster, OfSlave, sends}
 use Rattle.end_model.specs.Step.{step, run, IsRun}
 use Rattle.end_model.proofs.Runs.{run_append}
+use Rattle.end_core.proofs.Either.{setup_is}
 use Rattle.end_core.specs.Core.{setup_of}
 use Rattle.end_core.specs.Standing.{IsAfter}
 use Rattle.end_core.specs.declared.one_end.Core.{Core}
@@ -25,18 +26,12 @@ use Rattle.process_image.proofs.Giving.{Gives, len_at, steps_give}
 use Rattle.process_image.proofs.SentLength.{next_long}
 use Rattle.process_image.proofs.Seats.{some_frame}
 
--- what an end is after was reached, and its settings are those that it was made with
+-- what an end is after was reached
 pub reached : (s : Setup) (end : Core) (e : List Deed) → IsAfter s end e → IsRun s e
 reached (OfMaster ms) (core.Master m) e h = h.reached
 reached (OfMaster ms) (core.Slave v) e h = absurd h
 reached (OfSlave ss) (core.Master m) e h = absurd h
 reached (OfSlave ss) (core.Slave v) e h = h.reached
-
-pub setup_is : (s : Setup) (end : Core) (e : List Deed) → IsAfter s end e → setup_of end ≡ s
-setup_is (OfMaster ms) (core.Master m) e h = ap (λ v. OfMaster v.kit.settings) h.is
-setup_is (OfMaster ms) (core.Slave v) e h = absurd h
-setup_is (OfSlave ss) (core.Master m) e h = absurd h
-setup_is (OfSlave ss) (core.Slave v) e h = ap (λ v. OfSlave v.kit.settings) h.is
 
 -- the deeds of a slot with one call more
 pub deeds_more : (size : ℕ) (p : Place) (calls : List ImageEvent) (call : ImageEvent) (what : Move) → move_in size p calls call ≡ Some what

@@ -7,6 +7,7 @@ use Rattle.param_load.specs.declared.entry.Move.TheVariants as move
 use Rattle.end_model.specs.Deed.{Deed}
 use Rattle.end_model.specs.Setup.{Setup, sends}
 use Rattle.end_model.proofs.ReadBack.{valid_length}
+use Rattle.end_core.proofs.Either.{setup_is}
 use Rattle.end_core.specs.Core.{setup_of}
 use Rattle.end_core.specs.Standing as end_core
 use Rattle.fsoe_base.specs.Lengths.{frame_len}
@@ -18,7 +19,6 @@ use Rattle.process_image.specs.Standing.{ImagesView, IsSeatOf, ShowsAt, AnswersR
 use Rattle.process_image.specs.SlotLines.{entry_told, told_line}
 use Rattle.process_image.specs.declared.seat.Seat.{Seat}
 use Rattle.process_image.proofs.Beginning.{frame_most}
-use Rattle.process_image.proofs.Following.{setup_is}
 use Rattle.process_image.proofs.Frames.{holds_frames}
 use Rattle.process_image.proofs.Giving.{len_at}
 use Rattle.process_image.proofs.Zips.{all_at, at_place}

@@ -17,15 +17,16 @@ use Rattle.schedule_file.specs.declared.line_cause.LineCause.{LineCause}
 use Rattle.schedule_file.specs.declared.line_cause.LineCause.TheVariants as cause
 use Rattle.file_run.specs.Machine.{IsSaid}
 use Rattle.file_run.specs.Report.{events_line}
-use Rattle.file_run.specs.Reporting.{EndsReport, ReportsSoFar, IsPrefix}
+use Rattle.file_run.specs.Reporting.{EndsReport, ReportsSoFar, IsPrefix, ended_at}
 use Rattle.end_model.specs.Setup.{Setup, OfMaster, OfSlave, sends, profile_of}
+use Rattle.end_core.proofs.Either.{setup_is}
 use Rattle.end_core.specs.Core.{setup_of}
 use Rattle.end_core.specs.Standing.{IsNew}
 use Rattle.process_image.specs.Calls.{deeds}
 use Rattle.process_image.specs.EventLine.{end_at, id_at, image_said, image_said_by, image_line, word_of}
 use Rattle.process_image.specs.Header.{ImageHeading, slots_of}
 use Rattle.process_image.specs.Places.{Place, Plan, places_from, plan_of}
-use Rattle.process_image.specs.Ran.{RunView, RunStands, image_ended, image_format, image_reporting}
+use Rattle.process_image.specs.Ran.{RunView, RunStands, image_format, image_reporting}
 use Rattle.process_image.specs.Report.{IsEndOf, IsMadeOf, IsSlotOf, IsPlanOf, end_terms, event_in, event_lines, lines_of_events, last_lines, report_of}
 use Rattle.process_image.specs.Standing.{ImagesView, IsSeatOf, StandsFor, HasSlot, numbered, setups_of}
 use Rattle.process_image.specs.Telling.{DoesEvent, FitsImages}
@@ -40,7 +41,6 @@ use Rattle.process_image.specs.declared.header.SlotHeader.{SlotHeader}
 use Rattle.process_image.specs.declared.seat.Seat.{Seat}
 use Rattle.process_image.specs.declared.slot.Slot.{Slot}
 use Rattle.process_image.proofs.Beginning.{numbered_so}
-use Rattle.process_image.proofs.Following.{setup_is}
 
 -- the lines of the first events come first
 lines-begin : (plan : Plan) (more calls : List ImageEvent) → IsPrefix (lines_of_events plan calls) (lines_of_events plan (more ++ calls))
@@ -58,7 +58,7 @@ so_far v h log text r = record {
       let more' : lines_of_events plan (reverse all) ≡ lines_of_events plan (reverse more ++ reverse log) = ap (lines_of_events plan) (reverse-append log more) in
       let part = lines-begin plan (reverse more) (reverse log) in (
         report_of plan (reverse all) stop,
-        image_ended stop,
+        ended_at stop,
         ((plan, r.made, refl), refl),
         (
           part.0 ++ last_lines plan (reverse all) stop,

@@ -4,9 +4,9 @@ use Rattle.std.proofs.lemmas.List.{length-set}
 use Rattle.fsoe_base.specs.Did.{nothing}
 use Rattle.fsoe_base.specs.Lengths.{frame_len}
 use Rattle.param_load.specs.declared.entry.Move.{Move}
-use Rattle.param_load.specs.declared.entry.Move.TheVariants as move
 use Rattle.end_model.specs.Deed.{IsSetting}
 use Rattle.end_model.specs.Setup.{Setup, sends, receives}
+use Rattle.end_core.proofs.Either.{set_answers}
 use Rattle.end_core.specs.Core.{setup_of, IsAtRest}
 use Rattle.end_core.specs.Standing as end_core
 use Rattle.end_core.specs.declared.one_end.Core.{Core}
@@ -21,16 +21,8 @@ abbrev pub with_end : Core → Seat → Seat
 with_end end seat = record seat { core = end }
 
 -- a put, a hold and a nonce do nothing else and send nothing
-set-answers : (old : Core) (what : Move) → IsSetting what → end_core.Answers old what nothing []
-set-answers old (move.Put load) k = record { did = λ s e h. refl; sent = λ s e h. refl }
-set-answers old (move.Hold failsafe) k = record { did = λ s e h. refl; sent = λ s e h. refl }
-set-answers old (move.Nonce id) k = record { did = λ s e h. refl; sent = λ s e h. refl }
-set-answers old (move.Deliver bytes) k = absurd k
-set-answers old move.Tick k = absurd k
-set-answers old move.Local k = absurd k
-
 pub set_moved : (what : Move) (seat : Seat) (end : Core) → IsSetting what → end_core.Follows seat.core what end → setup_of end ≡ setup_of seat.core → IsAtRest end → Moved what seat end nothing []
-set_moved what seat end k f setup rest = record { follows = f; answers = set-answers seat.core what k; setup = setup; rest = rest }
+set_moved what seat end k f setup rest = record { follows = f; answers = set_answers seat.core what k; setup = setup; rest = rest }
 
 -- what a slot's end is set to, where it is named
 at-setup : (seats : List Seat) (k : ℕ) (seat : Seat) → slice_get seats k ≡ Some seat → slice_get (map (λ s. setup_of s.core) seats) k ≡ Some (setup_of seat.core)

@@ -7,6 +7,7 @@ use Rattle.fsoe_base.specs.declared.did.Did.{Did}
 use Rattle.param_load.specs.declared.entry.Move.{Move}
 use Rattle.param_load.specs.declared.entry.Move.TheVariants as move
 use Rattle.end_model.specs.Setup.{Setup, receives}
+use Rattle.end_core.proofs.Either.{setup_is}
 use Rattle.end_core.specs.Standing as end_core
 use Rattle.process_image.specs.Calls.{move_in, contents, delivery, deeds, next_deed}
 use Rattle.process_image.specs.Image.{bytes_at, input, sampled}
@@ -19,7 +20,7 @@ use Rattle.process_image.specs.declared.event.ImageEvent.TheVariants as event
 use Rattle.process_image.specs.declared.seat.Seat.{Seat}
 use Rattle.process_image.specs.SlotLines.{TellsEach}
 use Rattle.process_image.specs.Telling.{DoesEvent}
-use Rattle.process_image.proofs.Following.{IsPart, setup_is, stands_more}
+use Rattle.process_image.proofs.Following.{IsPart, stands_more}
 use Rattle.process_image.proofs.Keeping.{does_setups, images_sound}
 use Rattle.process_image.proofs.ToldLines.{lines_are}
 

@@ -1,50 +1,62 @@
 -- A line of bytes that are written, of which the digits are read first.
-use Rattle.std.proofs.Common.{◌≡◌, ℕ, List, [], ◌∷◌, refl, ap, ◌∙◌}
-use Rattle.std.specs.Prelude.{Some, None, Result, Ok, Err}
-use Rattle.schedule_file.proofs.HexAlone.{hex_said, hex_unsaid}
+use Rattle.std.proofs.Common.{◌≡◌, ℕ, ◌+◌, ◌<◌, ◌≤◌, List, [], ◌∷◌, length, refl, ap, ◌∙◌, arith}
+use Rattle.std.proofs.lemmas.Bool.Decides.{nat_tests}
+use Rattle.std.specs.Prelude.{Result, Ok, Err}
+use Rattle.schedule_file.proofs.HexAlone.{said_alone, unsaid_alone}
 use Rattle.schedule_file.specs.Field.{bytes_said, fields_of}
-use Rattle.schedule_file.specs.Fields.{◌>>=◌, value_or, next_field, one_field, number_16, one_hex_field, not_hex}
+use Rattle.schedule_file.specs.Fields.{◌>>=◌, value_or, next_field, number_16, one_hex_field, not_hex}
 use Rattle.schedule_file.specs.declared.line_cause.LineCause.{LineCause}
 use Rattle.schedule_file.specs.declared.line_cause.LineCause.TheVariants as cause
-use Rattle.process_image.specs.EventLine.{write_line, written_at, written_by, not_written, cause_or}
+use Rattle.process_image.specs.EventLine.{write_line, write_behind, written_at, not_written, cause_or}
+use Rattle.process_image.specs.declared.event.ImageEvent.TheVariants as event
 use Rattle.process_image.specs.declared.event.ImageLine.{ImageLine}
+use Rattle.process_image.specs.declared.event.ImageLine.TheVariants as line
 
--- the same, once the fields after the place are read
-abbrev placed : ℕ → List ℕ → List ℕ → Result ImageLine LineCause
-placed size place digits = do
-  at ← number_16 place
-  bytes ← value_or cause.Hex (bytes_said 256 digits)
-  written_at size bytes at
-
-abbrev behind : ℕ → List ℕ → List (List ℕ) → Result ImageLine LineCause
-behind size place fields = do
-  digits ← one_field fields
-  placed size place digits
+-- the fields behind a place
+pub placed : (size : ℕ) (fields behind : List (List ℕ)) (place : List ℕ) → next_field fields ≡ Ok (place, behind) → write_line size fields ≡ write_behind size place behind
+placed size fields behind place e = ap (λ (r : Result (List ℕ × List (List ℕ)) LineCause). r >>= (λ place. write_behind size place.0 place.1)) e
 
 said-at : (size : ℕ) (at : Result ℕ LineCause) (digits bytes : List ℕ) → value_or cause.Hex (bytes_said 256 digits) ≡ Ok bytes
     → (at >>= (λ at. value_or cause.Hex (bytes_said 256 digits) >>= (λ bytes. written_at size bytes at))) ≡ (at >>= written_at size bytes)
 said-at size (Ok at) digits bytes e = ap (λ (r : Result (List ℕ) LineCause). r >>= (λ bytes. written_at size bytes at)) e
 said-at size (Err why) digits bytes e = refl
 
-said-behind : (size : ℕ) (place : List ℕ) (fields : List (List ℕ)) (bytes : List ℕ) → one_hex_field 256 fields ≡ Ok bytes → behind size place fields ≡ written_by size place bytes
+said-behind : (size : ℕ) (place : List ℕ) (fields : List (List ℕ)) (bytes : List ℕ) → one_hex_field 256 fields ≡ Ok bytes → write_behind size place fields ≡ (number_16 place >>= written_at size bytes)
 said-behind size place [] bytes e = absurd (cc e)
 said-behind size place (digits ∷ []) bytes e = said-at size (number_16 place) digits bytes e
 said-behind size place (digits ∷ next ∷ more) bytes e = absurd (cc e)
 
-pub said : (size : ℕ) (fields : List (List ℕ)) (place digits bytes : List ℕ) → next_field fields ≡ Ok (place, fields_of digits) → bytes_said 256 digits ≡ Some bytes → write_line size fields ≡ written_by size place bytes
-said size fields place digits bytes e h =
-    ap (λ (r : Result (List ℕ × List (List ℕ)) LineCause). r >>= (λ place. behind size place.0 place.1)) e ∙ said-behind size place (fields_of digits) bytes (hex_said 256 digits bytes h)
+said : (size : ℕ) (place digits bytes : List ℕ) → value_or cause.Hex (bytes_said 256 digits) ≡ Ok bytes → write_behind size place (fields_of digits) ≡ (number_16 place >>= written_at size bytes)
+said size place digits bytes h = said-behind size place (fields_of digits) bytes (said_alone 256 digits bytes h)
+
+-- bytes from a place on, inside the image or not
+inside : (size at : ℕ) (bytes : List ℕ) → at + length bytes ≤ size → written_at size bytes at ≡ Ok (line.Step (event.Write at bytes))
+inside size at bytes h = grind (arith, nat_tests)
+
+outside : (size at : ℕ) (bytes : List ℕ) → size < at + length bytes → written_at size bytes at ≡ Err cause.Position
+outside size at bytes h = grind (arith, nat_tests)
+
+pub written : (size at : ℕ) (place digits bytes : List ℕ) → value_or cause.Hex (bytes_said 256 digits) ≡ Ok bytes → number_16 place ≡ Ok at → at + length bytes ≤ size
+    → write_behind size place (fields_of digits) ≡ Ok (line.Step (event.Write at bytes))
+written size at place digits bytes h n le = said size place digits bytes h ∙ ap (λ (r : Result ℕ LineCause). r >>= written_at size bytes) n ∙ inside size at bytes le
+
+pub beyond : (size at : ℕ) (place digits bytes : List ℕ) → value_or cause.Hex (bytes_said 256 digits) ≡ Ok bytes → number_16 place ≡ Ok at → size < at + length bytes
+    → write_behind size place (fields_of digits) ≡ Err cause.Position
+beyond size at place digits bytes h n lt = said size place digits bytes h ∙ ap (λ (r : Result ℕ LineCause). r >>= written_at size bytes) n ∙ outside size at bytes lt
+
+pub unplaced : (size : ℕ) (place digits bytes : List ℕ) (why : LineCause) → value_or cause.Hex (bytes_said 256 digits) ≡ Ok bytes → number_16 place ≡ Err why
+    → write_behind size place (fields_of digits) ≡ Err why
+unplaced size place digits bytes why h n = said size place digits bytes h ∙ ap (λ (r : Result ℕ LineCause). r >>= written_at size bytes) n
 
 unsaid-at : (size : ℕ) (at : Result ℕ LineCause) (digits : List ℕ) → value_or cause.Hex (bytes_said 256 digits) ≡ Err cause.Hex
     → (at >>= (λ at. value_or cause.Hex (bytes_said 256 digits) >>= (λ bytes. written_at size bytes at))) ≡ Err (cause_or cause.Hex at)
 unsaid-at size (Ok at) digits e = ap (λ (r : Result (List ℕ) LineCause). r >>= (λ bytes. written_at size bytes at)) e
 unsaid-at size (Err why) digits e = refl
 
-unsaid-behind : (size : ℕ) (place : List ℕ) (fields : List (List ℕ)) → one_hex_field 256 fields ≡ Err (not_hex fields) → behind size place fields ≡ Err (not_written place fields)
+unsaid-behind : (size : ℕ) (place : List ℕ) (fields : List (List ℕ)) → one_hex_field 256 fields ≡ Err (not_hex fields) → write_behind size place fields ≡ Err (not_written place fields)
 unsaid-behind size place [] e = refl
 unsaid-behind size place (digits ∷ []) e = unsaid-at size (number_16 place) digits e
 unsaid-behind size place (digits ∷ next ∷ more) e = refl
 
-pub unsaid : (size : ℕ) (fields : List (List ℕ)) (place digits : List ℕ) → next_field fields ≡ Ok (place, fields_of digits) → bytes_said 256 digits ≡ None → write_line size fields ≡ Err (not_written place (fields_of digits))
-unsaid size fields place digits e h =
-    ap (λ (r : Result (List ℕ × List (List ℕ)) LineCause). r >>= (λ place. behind size place.0 place.1)) e ∙ unsaid-behind size place (fields_of digits) (hex_unsaid 256 digits h)
+pub unsaid : (size : ℕ) (place digits : List ℕ) (why : LineCause) → value_or cause.Hex (bytes_said 256 digits) ≡ Err why → write_behind size place (fields_of digits) ≡ Err (not_written place (fields_of digits))
+unsaid size place digits why h = unsaid-behind size place (fields_of digits) (unsaid_alone 256 digits why h)

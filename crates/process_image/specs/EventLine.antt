@@ -48,18 +48,19 @@ cause_or cause (Err e) = e
 abbrev pub written_at : ℕ → List ℕ → ℕ → Result ImageLine LineCause
 written_at size bytes at = if nat_le (at + length bytes) size then Ok (line.Step (event.Write at bytes)) else Err cause.Position
 
--- bytes from the place on that a field says
-abbrev pub written_by : ℕ → List ℕ → List ℕ → Result ImageLine LineCause
-written_by size place bytes = number_16 place >>= written_at size bytes
+-- a place with these fields behind it, which are one: from 1 to 256 bytes, which lie inside the input image from the place on
+abbrev pub write_behind : ℕ → List ℕ → List (List ℕ) → Result ImageLine LineCause
+write_behind size place fields = do
+  digits ← one_field fields
+  at ← number_16 place
+  bytes ← value_or cause.Hex (bytes_said MOST_WRITTEN digits)
+  written_at size bytes at
 
--- from 1 to 256 bytes, which lie inside the input image from their place on
+-- bytes that are written
 abbrev pub write_line : ℕ → List (List ℕ) → Result ImageLine LineCause
 write_line size fields = do
   place ← next_field fields
-  digits ← one_field place.1
-  at ← number_16 place.0
-  bytes ← value_or cause.Hex (bytes_said MOST_WRITTEN digits)
-  written_at size bytes at
+  write_behind size place.0 place.1
 
 -- why a place says nothing that is written with these fields behind it, of which none is bytes: there isn't one, the place is no number, or
 -- there are no bytes

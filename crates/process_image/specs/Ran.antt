@@ -1,11 +1,10 @@
 -- How a run of images over an input ends, and what it reports.
 use Rattle.std.specs.Prelude.{◌≡◌, ℕ, false, List, length, reverse}
 use Rattle.fsoe_io.specs.declared.status.Ended.{Ended}
-use Rattle.fsoe_io.specs.declared.status.Status.TheVariants as status
-use Rattle.schedule_file.specs.Input.{InputFormat, InputOf, Stop, AtEnd, Refused}
+use Rattle.schedule_file.specs.Input.{InputFormat, InputOf}
 use Rattle.file_run.specs.Outside.{Outside}
 use Rattle.file_run.specs.Ran.{RanOver}
-use Rattle.file_run.specs.Reporting.{Reporting, BeforeEvents}
+use Rattle.file_run.specs.Reporting.{Reporting, BeforeEvents, ended_at}
 use Rattle.process_image.specs.Header.{ImageHeading, image_heading_new, image_heading_after, image_heading_is_whole}
 use Rattle.process_image.specs.Places.{Plan}
 use Rattle.process_image.specs.Report.{IsPlanOf, IsImageReport, event_in, is_full, lines_of_events, said_after}
@@ -29,14 +28,9 @@ image_format = record {
 abbrev pub ImageInput : Type 0
 ImageInput = InputOf ImageHeading ImageEvent
 
--- how a run ends whose input stops so, where neither a read nor a write failed
-abbrev pub image_ended : Stop → Ended
-image_ended AtEnd = record { status = status.Ok; place = 0 }
-image_ended (Refused number why) = record { status = status.Line; place = number }
-
 -- the whole report of an input, and how a run that writes it ends
 abbrev pub ImageReports : ImageInput → Ended → List ℕ → Type 0
-ImageReports input ended text = IsImageReport input.heading input.events input.stop text × (ended ≡ image_ended input.stop)
+ImageReports input ended text = IsImageReport input.heading input.events input.stop text × (ended ≡ ended_at input.stop)
 
 -- what images report; all memory is taken before their first event
 abbrev pub image_reporting : Reporting ImageHeading ImageLine ImageEvent

@@ -1,18 +1,18 @@
 //! Lines of events.
-ghost use Rattle.std.specs.Prelude.{◌≡◌, ◌≤◌, length};
-ghost use Rattle.schedule_file.specs.Field.{fields_after, fields_of};
+ghost use Rattle.std.specs.Prelude.{◌≡◌};
+ghost use Rattle.schedule_file.specs.Field.{fields_after};
 ghost use Rattle.schedule_file.specs.Fields.{Becomes};
-ghost use Rattle.process_image.specs.EventLine.{word_of, end_at, bare_line, write_line, written_by, not_written, put_line, hold_line, nonce_line, reset_line, image_line};
+ghost use Rattle.process_image.specs.EventLine.{word_of, end_at, bare_line, write_line, put_line, hold_line, nonce_line, reset_line, image_line};
 ghost use Rattle.process_image.specs.Standing.{numbered};
 ghost use Rattle.process_image.specs.declared.event.ImageEvent.TheVariants as event;
 ghost use Rattle.process_image.specs.declared.event.ImageLine.TheVariants as said;
 
-use crate::event::{ImageEvent, MOST_WRITTEN};
+use crate::event::ImageEvent;
 use crate::said::Said;
-use fsoe_base::{Image, MOST_DATA};
+use fsoe_base::Image;
 use param_load::Profile;
 use schedule_file::{
-    HexBytes, LineCause, cut, next_field, no_field, number_16, number_32, one_field, read_switch,
+    LineCause, cut, next_field, no_field, number_16, number_32, one_field, read_bytes, read_switch,
 };
 
 /// The word that begins a line of an event, or `end`.
@@ -116,46 +116,14 @@ fn read_end(fields: Option<&[u8]>, says: &mut Said) -> Result<(), LineCause>
 }
 
 /// `<at> <hex>`: from 1 to 256 bytes inside the input image.
-#[tactic(auto, using(crate::proofs::Written::said, crate::proofs::Written::unsaid))]
+#[tactic(auto, using(crate::proofs::Written::placed))]
 fn read_write(size: u16, fields: Option<&[u8]>, says: &mut Said) -> Result<(), LineCause>
     ensures { Becomes result says.new (write_line size (fields_after fields.entry)) }
 {
     let (place, rest) = next_field(fields)?;
-    let Some(digits) = rest else {
-        return Err(LineCause::Fields);
-    };
-    // Digits have no space among them, so one is sought only where they aren't digits.
-    match &HexBytes::read(digits, MOST_WRITTEN) {
-        Some(written) => set_written(size, place, written.bytes(), says),
-        None => Err(not_written(place, digits)),
-    }
-}
-
-/// These bytes from a place on, where they lie inside an input image of this size.
-fn set_written(size: u16, place: &[u8], bytes: &[u8], says: &mut Said) -> Result<(), LineCause>
-    requires { length bytes.now ≤ MOST_WRITTEN }
-    ensures { Becomes result says.new (written_by size place.now bytes.now) }
-{
-    let at = number_16(place)?;
-    if usize::from(at) + bytes.len() > usize::from(size) {
-        return Err(LineCause::Position);
-    }
-    says.set_write(at, bytes);
-    Ok(())
-}
-
-/// Why a place with what stands behind it, which isn't bytes, says nothing that is written.
-#[cold]
-#[inline(never)]
-fn not_written(place: &[u8], rest: &[u8]) -> LineCause
-    ensures { result ≡ not_written place.now (fields_of rest.now) }
-{
-    match one_field(Some(rest)) {
-        Ok(_) => match number_16(place) {
-            Ok(_) => LineCause::Hex,
-            Err(cause) => cause,
-        },
-        Err(cause) => cause,
+    match rest {
+        Some(digits) => says.read_write(size, place, digits),
+        None => Err(LineCause::Fields),
     }
 }
 
@@ -167,12 +135,11 @@ fn read_put(ends: &[SlotEnd], fields: Option<&[u8]>, says: &mut Said) -> Result<
     let digits = one_field(rest)?;
     let slot = number_16(first)?;
     let end = end_at(slot, ends)?;
-    let said = HexBytes::read(digits, MOST_DATA).ok_or(LineCause::Hex)?;
-    if said.bytes().len() != end.sends {
+    let mut load = Image::new();
+    read_bytes(digits, &mut load)?;
+    if load.len() != end.sends {
         return Err(LineCause::Length);
     }
-    let mut load = Image::new();
-    load.set(said.bytes());
     says.set(ImageEvent::Put { slot, load });
     Ok(())
 }

@@ -1,9 +1,12 @@
 //! What a line says, in room that is kept from one line to the next.
-ghost use Rattle.std.specs.Prelude.{◌≡◌, ◌≤◌, MatchOption, None, Some, length};
-ghost use Rattle.process_image.specs.declared.event.TheConstants.{MOST_WRITTEN};
+ghost use Rattle.std.specs.Prelude.{◌≡◌, MatchOption, None, Some};
+ghost use Rattle.schedule_file.specs.Field.{fields_of};
+ghost use Rattle.schedule_file.specs.Fields.{Becomes};
+ghost use Rattle.process_image.specs.EventLine.{write_behind, not_written};
 
 use crate::event::ImageEvent;
 use fsoe_base::ByteList;
+use schedule_file::{LineCause, number_16, one_field, read_bytes};
 use std::marker::Model;
 
 /// Of which kind is what was said last.
@@ -32,6 +35,21 @@ impl Model for Said {
     ghost view = { λ s. said_in s.kind s.write s.other };
 
     ghost invariant = { λ s. IsWrite s.write };
+}
+
+/// Why a place with what stands behind it, which isn't bytes, says nothing that is written.
+#[cold]
+#[inline(never)]
+fn not_written(place: &[u8], rest: &[u8]) -> LineCause
+    ensures { result ≡ not_written place.now (fields_of rest.now) }
+{
+    match one_field(Some(rest)) {
+        Ok(_) => match number_16(place) {
+            Ok(_) => LineCause::Hex,
+            Err(cause) => cause,
+        },
+        Err(cause) => cause,
+    }
 }
 
 impl Said {
@@ -64,17 +82,34 @@ impl Said {
         }
     }
 
-    /// Says that these bytes are written from this place on, at most 256.
-    pub(crate) fn set_write(&mut self, place: u16, from: &[u8])
-        requires { length from.now ≤ MOST_WRITTEN }
-        ensures { self.new ≡ line.Step (event.Write place from.now) }
+    /// Says that the bytes of these digits, from 1 to 256, are written from this place on, where they lie inside an input image of this size.
+    /// They are read where they stay. Digits have no space among them, so one is sought only where they aren't digits. What is said after
+    /// an error is left open.
+    #[tactic(auto, using(crate::proofs::Written::written, crate::proofs::Written::beyond, crate::proofs::Written::unplaced, crate::proofs::Written::unsaid))]
+    pub(crate) fn read_write(
+        &mut self,
+        size: u16,
+        place: &[u8],
+        digits: &[u8],
+    ) -> Result<(), LineCause>
+        ensures { Becomes result self.new (write_behind size place.now (fields_of digits.now)) }
     {
         let ImageEvent::Write { at, bytes } = &mut self.write else {
             unreachable!();
         };
-        *at = place;
-        bytes.set(from);
-        self.kind = Kind::Write;
+        match read_bytes(digits, bytes) {
+            Ok(()) => {}
+            Err(_) => return Err(not_written(place, digits)),
+        }
+        match number_16(place) {
+            Ok(first) if usize::from(first) + bytes.len() <= usize::from(size) => {
+                *at = first;
+                self.kind = Kind::Write;
+                Ok(())
+            }
+            Ok(_) => Err(LineCause::Position),
+            Err(cause) => Err(cause),
+        }
     }
 
     /// Says that the image is sampled.
