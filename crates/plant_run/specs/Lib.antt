@@ -1,4 +1,5 @@
 pub mod Acts
+pub mod Bound
 pub mod Doing
 pub mod FairPairs
 pub mod Given
