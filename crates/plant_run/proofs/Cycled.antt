@@ -25,7 +25,7 @@ use Rattle.plant_run.specs.declared.journal.JournalStep.TheVariants as step
 use Rattle.plant_run.specs.Acts.{Beginning, Event, App, Act, Start, Happen, PullFrom, settings, delivery_call, calls, masters, offer_step, offers_by, journal}
 use Rattle.plant_run.specs.Doing.{place_of, next_of}
 use Rattle.plant_run.specs.Pair.{pair, link_at}
-use Rattle.plant_run.specs.Promises.{tells_hearing, master_hears, Cycles, AllAnswered}
+use Rattle.plant_run.specs.Promises.{tells_hearing, master_hears, Cycles, AllAnswered, AllGuarded}
 use Rattle.plant_run.specs.Standing.{PlantView, PlantStands}
 use Rattle.plant_run.specs.Turns.{Turn, acts}
 use Rattle.plant_run.proofs.Growing.{pair_own, pair_one}
@@ -97,3 +97,6 @@ cycles b (PullFrom (Some parcel)) done = parcel_cycles b done parcel.to.link par
 
 pub answered : (b : Beginning) (v : PlantView) (turns : List Turn) → PlantStands b v turns → AllAnswered b (acts turns)
 answered b v turns h = h.has_done.answered
+
+pub guarded : (b : Beginning) (v : PlantView) (turns : List Turn) → PlantStands b v turns → AllGuarded b (acts turns)
+guarded b v turns h = h.has_done.guarded

@@ -29,7 +29,7 @@ use Rattle.plant_run.specs.Acts.{Beginning, Event, App, Act, Happen, PullFrom, s
 use Rattle.plant_run.specs.Doing.{place_of, sent_uses, next_of, next_uses, one_each, frames_pushed, SlavesTick, HaveParts, MastersNoted, MasterActs, OffersNoted, GoesOn, Delivers}
 use Rattle.plant_run.specs.Link.{LinkView, LinkStands}
 use Rattle.plant_run.specs.Pair.{pair, link_at}
-use Rattle.plant_run.specs.Promises.{OffersAnswer}
+use Rattle.plant_run.specs.Promises.{OffersAnswer, GuardsAnswer}
 use Rattle.plant_run.specs.Standing.{PlantView, LinkIs, LinksAre, pairs_by}
 use Rattle.plant_run.specs.Uses.{Use, Trace}
 use Rattle.plant_run.proofs.Acting.{trace_append}
@@ -61,6 +61,7 @@ pub record TickChange (old new : PlantView) (before after : Told) : Type 0 where
   pub answers : AnswersTick old.master dids frames
   pub masters : MastersNoted dids frames mid late between after
   pub cycles : multi.Offers old.master Tick
+  pub guards : multi.Guards old.master Tick
   pub offers : OffersNoted new.master late new.links (old.journal ++ step.Script event.Tick ∷ []) new.journal
 
 some_same : {X Y : Type 0} (f : X → Y) (xs : List X) (place : ℕ) (x : X) (y : Y) (ys : List Y) → ys ≡ map f xs → slice_get xs place ≡ Some x → slice_get ys place ≡ Some y → y ≡ f x
@@ -128,6 +129,7 @@ tick_goes old new before after c = record {
           links = subst (λ (js : List JournalStep). LinksAre b.links cut (pairs_by js) new.links) (sym c.offers.steps) (c.offers.links b.links cut (steps ++ s ∷ []) both);
           journal_is = journal_is;
           answered = (c.cycles.offers (settings b) b.app (calls b done) h.master, h.answered);
+          guarded = (c.guards.guards (settings b) b.app (calls b done) h.master, h.guarded);
         };
         channel = subst (λ (us : List Use). Trace us before after) (sym uses)
             (trace_append (frames_pushed side.Master (slave_next steps) cut b.links) (frames_pushed side.Slave (master_next steps) cut b.links) before c.between after slaves.channel masters.channel);
@@ -138,6 +140,7 @@ tick_goes old new before after c = record {
 pub record AppChange (old new : PlantView) (app : AppView) : Type 0 where
   pub follows : multi.Follows old.master (ChangeApp app) new.master
   pub cycles : multi.Offers old.master (ChangeApp app)
+  pub guards : multi.Guards old.master (ChangeApp app)
   pub offers : OffersNoted new.master old.links new.links (old.journal ++ step.App ∷ []) new.journal
 
 pub app_goes : (old new : PlantView) (app : AppView) (t : Told) → AppChange old new app → GoesOn old (Happen (App app) ∷ []) new t t
@@ -168,6 +171,7 @@ app_goes old new app t c = record {
           links = subst (λ (js : List JournalStep). LinksAre b.links cut (pairs_by js) new.links) (sym c.offers.steps) (c.offers.links b.links cut (steps ++ s ∷ []) same);
           journal_is = journal_is;
           answered = (c.cycles.offers (settings b) b.app (calls b done) h.master, h.answered);
+          guarded = (c.guards.guards (settings b) b.app (calls b done) h.master, h.guarded);
         };
         channel = subst (λ (us : List Use). Trace us t t) (sym uses) refl;
       };
@@ -186,6 +190,7 @@ pub record FrameChange (old new : PlantView) (n : ℕ) (frame : List ℕ) (befor
   pub follows : multi.Follows old.master (Deliver n frame) new.master
   pub answers : AnswersFrame old.master n frame did sent
   pub cycles : multi.Offers old.master (Deliver n frame)
+  pub guards : multi.Guards old.master (Deliver n frame)
   pub offers : OffersNoted new.master old.links mid old.journal js
   pub at : slice_get mid place ≡ Some was
   pub acts : MasterActs n frame did sent was is before after
@@ -227,6 +232,11 @@ called_answered : (b : Beginning) (act : Act) (done : List Act) (call : Call) �
     → IfSome (cycle_in call (masters b done)) (λ a. map offer_at (meant (settings b) b.app (call ∷ calls b done)).connections ≡ a.outputs) → OffersAnswer b act done
 called_answered b act done call e h =
     subst (λ (o : Option Call). IfSome (option_and_then (λ call. cycle_in call (masters b done)) o) (λ a. map offer_at (meant (settings b) b.app (option_to_list o ++ calls b done)).connections ≡ a.outputs)) (sym e) h
+
+called_guarded : (b : Beginning) (act : Act) (done : List Act) (call : Call) → call_of b act ≡ Some call
+    → IfSome (cycle_in call (masters b done)) (multi.IsGuarded (meant (settings b) b.app (call ∷ calls b done))) → GuardsAnswer b act done
+called_guarded b act done call e h =
+    subst (λ (o : Option Call). IfSome (option_and_then (λ call. cycle_in call (masters b done)) o) (multi.IsGuarded (meant (settings b) b.app (option_to_list o ++ calls b done)))) (sym e) h
 
 -- the entry of the master has the parts that its call told
 frame_parts : (b : Beginning) (done : List Act) (old : MultiView) (n place : ℕ) (frame : List ℕ) (did : Did) (sent : List ℕ) (link : LinkConf) (steps : List JournalStep) → n ≡ suc place → slice_get b.links place ≡ Some link
@@ -292,6 +302,7 @@ frame_goes old new n frame before after c = record {
                 (frame_parts b done old.master n c.place frame c.did c.sent l (steps ++ offers) c.number is calls_it h.master c.answers (sym journal_is ∙ new_is))) c.cut));
             journal_is = journal_is;
             answered = (called_answered b act done call calls_it (c.cycles.offers (settings b) b.app (calls b done) h.master), h.answered);
+            guarded = (called_guarded b act done call calls_it (c.guards.guards (settings b) b.app (calls b done) h.master), h.guarded);
           };
           channel = (before, pulled, subst (λ (us : List Use). Trace us before after) (sym (uses ∙ sent_is)) c.acts.channel);
         };

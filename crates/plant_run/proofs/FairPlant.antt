@@ -67,12 +67,17 @@ is_world : (ms : MasterSettings) (ss : SlaveSettings) (w : List Entry) → AreNe
 is_world ms ss [] h m s = tt
 is_world ms ss (x ∷ w) h m s = let b = before ms ss x.end x w h.0 m s in (b.next, is_world ms ss w h.1 b.master b.slave)
 
-fair_of_runs : (link : LinkConf) (k : ℕ) (steps : List JournalStep) → HasSameLengths link → IsRun (OfMaster link.master) (deeds side.Master (pair link k steps)) → IsRun (OfSlave link.slave) (deeds side.Slave (pair link k steps))
-    → Fair link.master.lengths (before_other (pair link k steps))
-fair_of_runs link k steps e m s =
-    let same : SameLengths link.master link.slave = record { master = ap (λ (z : Lengths). z.master) (sym e); slave = ap (λ (z : Lengths). z.slave) (sym e) } in
-    let world = is_world link.master link.slave (pair link k steps) (are_next link.master link.slave (own_events k steps) [] tt) m s in
-    fair_world link.master link.slave (before_other (pair link k steps)) same (before_is_world link.master link.slave (pair link k steps) world) (before_is_clean (pair link k steps))
+-- the pair of a connection, which is a world of ends with equal lengths
+pub record WorldOf (link : LinkConf) (k : ℕ) (steps : List JournalStep) : Type 0 where
+  pub lengths : SameLengths link.master link.slave
+  pub world : IsWorld link.master link.slave (pair link k steps)
+
+world_of_runs : (link : LinkConf) (k : ℕ) (steps : List JournalStep) → HasSameLengths link → IsRun (OfMaster link.master) (deeds side.Master (pair link k steps)) → IsRun (OfSlave link.slave) (deeds side.Slave (pair link k steps))
+    → WorldOf link k steps
+world_of_runs link k steps e m s = record {
+  lengths = record { master = ap (λ (z : Lengths). z.master) (sym e); slave = ap (λ (z : Lengths). z.slave) (sym e) };
+  world = is_world link.master link.slave (pair link k steps) (are_next link.master link.slave (own_events k steps) [] tt) m s;
+}
 
 -- what stands beside a place of the first list
 zip_at : (cs : List Connection) (ms : List MasterView) (place : ℕ) (c : Connection) → AllZip IsWhere cs ms → slice_get cs place ≡ Some c → (m : MasterView) × IsWhere c m
@@ -87,16 +92,23 @@ has_at [] place link all e = absurd (cc e)
 has_at (l ∷ links) zero link all e = let i : l ≡ link = cc in subst HasSameLengths i (All-head HasSameLengths l links all)
 has_at (l ∷ links) (suc place) link all e = has_at links place link (All-tail HasSameLengths l links all) e
 
-fair_at : (b : Beginning) (v : PlantView) (turns : List Turn) (place : ℕ) (link : LinkConf) → PlantStands b v turns → All HasSameLengths b.links → slice_get b.links place ≡ Some link
-    → Fair link.master.lengths (before_other (pair link (suc place) v.journal))
-fair_at b v turns place link h same e =
+pub world_at : (b : Beginning) (v : PlantView) (turns : List Turn) (place : ℕ) (link : LinkConf) → PlantStands b v turns → All HasSameLengths b.links → slice_get b.links place ≡ Some link
+    → WorldOf link (suc place) v.journal
+world_at b v turns place link h same e =
     let done = h.has_done in
     let kept = kept_at (LinkIs (λ j. is_cut j (acts turns)) (pairs_by v.journal)) 1 b.links v.links place (suc place) link done.links e (omega arith) in
     let m = mastered b (acts turns) place link e in
     let beside = zip_at (masters b (acts turns)).connections v.master.masters place m.there done.master.masters m.is in
     let run : IsRun (OfMaster link.master) m.there.deeds = subst (λ (z : MasterSettings). IsRun (OfMaster z) m.there.deeds) m.settings_are beside.1.reached in
     let own : deeds side.Master (pair link (suc place) v.journal) ≡ m.there.deeds = ap (λ (j : List JournalStep). deeds side.Master (pair link (suc place) j)) done.journal_is ∙ m.deeds_are in
-    fair_of_runs link (suc place) v.journal (has_at b.links place link same e) (subst (λ (z : List Deed). IsRun (OfMaster link.master) z) (sym own) run) kept.holds.stands.slave.reached
+    world_of_runs link (suc place) v.journal (has_at b.links place link same e) (subst (λ (z : List Deed). IsRun (OfMaster link.master) z) (sym own) run) kept.holds.stands.slave.reached
+
+fair_at : (b : Beginning) (v : PlantView) (turns : List Turn) (place : ℕ) (link : LinkConf) → PlantStands b v turns → All HasSameLengths b.links → slice_get b.links place ≡ Some link
+    → Fair link.master.lengths (before_other (pair link (suc place) v.journal))
+fair_at b v turns place link h same e =
+    let w = world_at b v turns place link h same e in
+    let clean : List Entry = before_other (pair link (suc place) v.journal) in
+    fair_world link.master link.slave clean w.lengths (before_is_world link.master link.slave (pair link (suc place) v.journal) w.world) (before_is_clean (pair link (suc place) v.journal))
 
 fair_if : (b : Beginning) (v : PlantView) (turns : List Turn) (k : ℕ) (o : Option LinkConf) → link_at b.links k ≡ o → PlantStands b v turns → All HasSameLengths b.links
     → IfSome o (λ link. Fair link.master.lengths (before_other (pair link k v.journal)))

@@ -4,6 +4,7 @@ mod Cycling
 mod FairPlant
 mod Given
 mod Growing
+mod KeptOff
 mod Lines
 mod Linked
 mod LinkLines
@@ -15,10 +16,15 @@ mod OneDeed
 mod Others
 mod Proper
 mod Pulling
+mod QuietTold
 mod RanPlant
+mod Reacting
 mod Readers
 mod ScriptFits
 mod Scripted
+mod Sends
+mod Since
+mod StillTurns
 mod TakenApps
 mod TicksText
 mod Traces

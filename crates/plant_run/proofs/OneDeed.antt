@@ -29,7 +29,7 @@ use Rattle.plant_run.specs.Acts.{Beginning, Event, Act, Happen, PullFrom, settin
 use Rattle.plant_run.specs.Doing.{place_of, sent_uses, next_of, next_uses, SlaveActs, GoesOn, Delivers}
 use Rattle.plant_run.specs.Link.{LinkView, LinkStands, MasterNoted}
 use Rattle.plant_run.specs.Pair.{pair, link_at, own_part}
-use Rattle.plant_run.specs.Promises.{OffersAnswer}
+use Rattle.plant_run.specs.Promises.{OffersAnswer, GuardsAnswer}
 use Rattle.plant_run.specs.Standing.{PlantView, LinkIs, LinksAre, pairs_by, HasDone}
 use Rattle.plant_run.specs.Uses.{Use, Trace}
 use Rattle.plant_run.proofs.Growing.{IsOne, pair_more, pair_one, pair_own, pair_other, with_frame, sent_in, frames_next, pushes_each, each_none, each_one}
@@ -116,6 +116,10 @@ pub quiet_answered : (b : Beginning) (act : Act) (done : List Act) → call_of b
 quiet_answered b act done none =
     subst (λ (o : Option Call). IfSome (option_and_then (λ call. cycle_in call (masters b done)) o) (λ a. map offer_at (masters b (act ∷ done)).connections ≡ a.outputs)) (sym none) tt
 
+pub quiet_guarded : (b : Beginning) (act : Act) (done : List Act) → call_of b act ≡ None → GuardsAnswer b act done
+quiet_guarded b act done none =
+    subst (λ (o : Option Call). IfSome (option_and_then (λ call. cycle_in call (masters b done)) o) (multi.IsGuarded (masters b (act ∷ done)))) (sym none) tt
+
 -- an act in which this happens to the slave of connection n
 pub record IsAtSlave (b : Beginning) (act : Act) (s : JournalStep) (n : ℕ) (what : Move) : Type 0 where
   pub call : call_of b act ≡ None
@@ -164,6 +168,7 @@ slave_acted b act done old new s n what before after a c h =
             (λ link is stands. (c.acts.acts link (pair link n steps) stands).stands) c.cut));
         journal_is = journal_is;
         answered = (quiet_answered b act done a.call, h.answered);
+        guarded = (quiet_guarded b act done a.call, h.guarded);
       };
       pushed = subst (λ (us : List Use). Trace us before after) (sym uses) (c.acts.acts beside.link (pair beside.link n steps) beside.holds.stands).channel;
     }
@@ -260,6 +265,7 @@ master_nonce old new n id t c = record {
               (λ link is stands. c.noted.stands link.slave (pair link n steps) (next_of side.Master (move.Nonce id) link (pair link n steps)) stands (record { end_is = refl; came_is = refl; did_is = refl; sent_is = refl })) c.cut));
           journal_is = journal_is;
           answered = (tt, h.answered);
+          guarded = (tt, h.guarded);
         };
         channel = subst (λ (us : List Use). Trace us t t) (sym uses) refl;
       };
@@ -315,6 +321,7 @@ cut_event old new n cut t c = record {
               })));
           journal_is = journal_is;
           answered = (tt, h.answered);
+          guarded = (tt, h.guarded);
         };
         channel = subst (λ (us : List Use). Trace us t t) (sym uses) refl;
       };

@@ -29,6 +29,7 @@ use Rattle.plant_run.specs.Uses.{Trace}
 use Rattle.plant_run.specs.declared.event.PlantLine.{PlantLine}
 use Rattle.plant_run.specs.declared.journal.JournalStep.{JournalStep}
 use Rattle.plant_run.proofs.FairPlant.{plants_are_fair}
+use Rattle.plant_run.proofs.Reacting.{reacts}
 
 -- a relation of a header, its events, their text and an end
 abbrev Closing : Type 1
@@ -99,6 +100,8 @@ ran_plant t ended o before after steps unbegun stands closes ran leaves nothing 
               said_are = sym (ap (said t.spare) (sym (append-nil d.log)) ∙ s.runs.says [] ∙ append-nil (said_by_turns s.runs.turns));
               whole = s.runs.whole;
               answered = s.runs.stands.has_done.answered;
+              guarded = s.runs.stands.has_done.guarded;
+              reacts = reacts t.begins s.view s.runs.turns s.runs.stands s.same_lengths;
               text_is = s.runs.text_is ∙ ap (ticks_text t.begins.links) (sym s.steps_are);
               begun = did.begun;
               ends = leaves_as t closes (IsReportOf t steps) closed d ended.status ended o did.ends;

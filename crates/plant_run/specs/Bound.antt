@@ -73,14 +73,14 @@ pub record AreClean (bound : BoundSpec) (estop drive : LinkConf) (journal : List
 abbrev pub is_on : BoundSpec → LinkConf → List JournalStep → Bool
 is_on bound drive journal = bit_of (outputs_at drive side.Slave (pair drive bound.drive.link journal)) bound.drive.bit
 
--- the reaction bound: where a bound is quiet from some of these acts on, and neither pair has an other entry, its drive is off once as many
--- ticks came since as the limit has, less three
+-- the reaction bound: where a bound is quiet from some acts on, its drive is off after each step before which, that step counted, as many ticks
+-- came since as the limit has, less three, as long as neither pair has an other entry
 abbrev pub Reacts : Beginning → List Act → Type 0
 Reacts b done =
-    (bound : BoundSpec) (estop drive : LinkConf) (more later earlier : List Act) → HasLinks b bound estop drive
-    → done ≡ more ++ (later ++ earlier) → Quiet b bound later earlier → AreClean bound estop drive (journal b (later ++ earlier))
-    → ticks (journal b earlier) + limit estop drive ≤ ticks (journal b (later ++ earlier)) + 3
-    → is_on bound drive (journal b (later ++ earlier)) ≡ false
+    (bound : BoundSpec) (estop drive : LinkConf) (more later earlier : List Act) (steps rest : List JournalStep)
+    → HasLinks b bound estop drive → done ≡ more ++ (later ++ earlier) → Quiet b bound later earlier
+    → journal b (later ++ earlier) ≡ steps ++ rest → AreClean bound estop drive steps
+    → ticks (journal b earlier) + limit estop drive ≤ ticks steps + 3 → is_on bound drive steps ≡ false
 
 -- it is told whether a bound is still
 pub record TellsStill (v : PlantView) (bound : BoundSpec) (told : Bool) : Type 0 where

@@ -1,5 +1,5 @@
--- What holds of a plant's journal and acts, whatever its channel gives: by the definitions alone, but that all offers are the answer, which
--- rests on what an application promises. Acts are listed newest first, steps oldest first.
+-- What holds of a plant's journal and acts, whatever its channel gives: by the definitions alone, but that all offers are the answer and that
+-- this keeps what is guarded off, which rest on what an application promises. Acts are listed newest first, steps oldest first.
 use Rattle.std.specs.Prelude.{◌≡◌, ◌-◌, ◌<◌, ℕ, zero, suc, Bool, true, false, List, [], ◌∷◌, map, Option, Some, None, IfSome, IsSomeAnd, is_some, if◌then◌else◌}
 use Rattle.fsoe_base.specs.declared.command.End.{End}
 use Rattle.fsoe_base.specs.declared.command.End.TheVariants as side
@@ -10,6 +10,7 @@ use Rattle.master_core.specs.Calls.{tells_due}
 use Rattle.exchange_model.specs.World.{deeds}
 use Rattle.multi_master.specs.Calls.{connection}
 use Rattle.multi_master.specs.Connection.{offer_at}
+use Rattle.multi_master.specs.Standing.{IsGuarded}
 use Rattle.plant_run.specs.declared.event.PlantEvent.{PlantEvent}
 use Rattle.plant_run.specs.declared.event.PlantEvent.TheVariants as event
 use Rattle.plant_run.specs.declared.journal.JournalStep.{JournalStep}
@@ -59,6 +60,15 @@ OffersAnswer b act acts = IfSome (cycle_of b act acts) (λ a. map offer_at (mast
 abbrev pub AllAnswered : Beginning → List Act → Type 0
 AllAnswered b [] = Unit {0}
 AllAnswered b (act ∷ acts) = OffersAnswer b act acts × AllAnswered b acts
+
+-- after an act that ran a cycle each output bit of the answer is 0 that the application that runs guards by an input bit that is 0
+abbrev pub GuardsAnswer : Beginning → Act → List Act → Type 0
+GuardsAnswer b act acts = IfSome (cycle_of b act acts) (IsGuarded (masters b (act ∷ acts)))
+
+-- so it was after each of these acts
+abbrev pub AllGuarded : Beginning → List Act → Type 0
+AllGuarded b [] = Unit {0}
+AllGuarded b (act ∷ acts) = GuardsAnswer b act acts × AllGuarded b acts
 
 -- between a tick and the next line of the script at most 64 parcels were pulled, `room` of which may still come before these steps; and
 -- none elsewhere

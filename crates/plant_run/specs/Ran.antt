@@ -8,9 +8,10 @@ use Rattle.file_run.specs.Left.{Done, IsBegun, LeavesAs, LeavesUnbegun}
 use Rattle.file_run.specs.Outside.{Outside}
 use Rattle.file_run.specs.Ran.{RanOver}
 use Rattle.plant_run.specs.Acts.{journal, uses}
+use Rattle.plant_run.specs.Bound.{Reacts}
 use Rattle.plant_run.specs.FairPairs.{PairsAreFair}
 use Rattle.plant_run.specs.PlantReport.{report_end, report_text, ticks_text}
-use Rattle.plant_run.specs.Promises.{AllAnswered}
+use Rattle.plant_run.specs.Promises.{AllAnswered, AllGuarded}
 use Rattle.plant_run.specs.Reporting.{Terms, plant_reporting}
 use Rattle.plant_run.specs.Script.{ScriptHeading}
 use Rattle.plant_run.specs.Standing.{IsTurn}
@@ -24,7 +25,7 @@ abbrev pub IsReportOf : Terms → List JournalStep → ScriptHeading → List Pl
 IsReportOf t steps h log text ended = (text ≡ report_text t.begins.links steps AtEnd) × (ended ≡ report_end t.begins.links steps AtEnd)
 
 -- these turns were done, one for each of the first lines after the script's title; what was written is the report of the journal as far as the
--- run came; and after each act that ran a cycle all offers were the answer
+-- run came; after each act that ran a cycle all offers were the answer, in which what is guarded is kept off; and drives react in time
 pub record DidTurns (t : Terms) (turns : List Turn) (steps : List JournalStep) (ended : Ended) (o : Outside) : Type 0 where
   pub turns_are : All (IsTurn t.begins.links) turns
   pub journal_is : steps ≡ journal t.begins (acts turns)
@@ -32,6 +33,8 @@ pub record DidTurns (t : Terms) (turns : List Turn) (steps : List JournalStep) (
   pub said_are : said_by_turns turns ≡ said t.spare done.log
   pub whole : length turns ≡ length done.log
   pub answered : AllAnswered t.begins (acts turns)
+  pub guarded : AllGuarded t.begins (acts turns)
+  pub reacts : Reacts t.begins (acts turns)
   pub text_is : done.text ≡ ticks_text t.begins.links steps
   pub begun : IsBegun (plant_reporting t).format done o.source.before
   pub ends : LeavesAs (plant_reporting t).format (IsReportOf t steps) done ended.status ended o

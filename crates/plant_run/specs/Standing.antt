@@ -16,7 +16,7 @@ use Rattle.plant_run.specs.Acts.{Beginning, Said, Event, App, Act, settings, cal
 use Rattle.plant_run.specs.FairPairs.{EventFits}
 use Rattle.plant_run.specs.Link.{LinkView, LinkStands}
 use Rattle.plant_run.specs.Pair.{pair, link_at, lowest_other}
-use Rattle.plant_run.specs.Promises.{AllAnswered}
+use Rattle.plant_run.specs.Promises.{AllAnswered, AllGuarded}
 use Rattle.plant_run.specs.Turns.{Turn, MayPull, acts, turn_acts}
 use Rattle.plant_run.specs.Uses.{Trace}
 
@@ -88,12 +88,13 @@ pub record IsTurn (links : List LinkConf) (turn : Turn) : Type 0 where
   pub few : MayPull turn.said turn.pulled
 
 -- a plant that began so has done these acts: its master stands for their calls, what it keeps of each connection for its pair in the
--- journal, and the journal is that of the acts; and after each that ran a cycle all offers were the answer
+-- journal, and the journal is that of the acts; and after each that ran a cycle all offers were the answer, in which what is guarded is kept off
 pub record HasDone (b : Beginning) (v : PlantView) (done : List Act) : Type 0 where
   pub master : StandsFor (settings b) b.app v.master (calls b done)
   pub links : LinksAre b.links (λ k. is_cut k done) (pairs_by v.journal) v.links
   pub journal_is : v.journal ≡ journal b done
   pub answered : AllAnswered b done
+  pub guarded : AllGuarded b done
 
 -- a plant that began so stands for these turns
 pub record PlantStands (b : Beginning) (v : PlantView) (turns : List Turn) : Type 0 where

@@ -3,8 +3,9 @@
 ghost use Rattle.std.specs.Prelude.{◌≡◌, List, All, map};
 ghost use Rattle.plant_conf.specs.ConfView.{HasSameLengths};
 ghost use Rattle.plant_run.specs.Acts.{Beginning, Act, journal, uses};
+ghost use Rattle.plant_run.specs.Bound.{Reacts};
 ghost use Rattle.plant_run.specs.FairPairs.{PairsAreFair};
-ghost use Rattle.plant_run.specs.Promises.{MastersAgree, Cycles, AllAnswered, PullsFit, line_step, line_steps, pulled_in, short_ticks};
+ghost use Rattle.plant_run.specs.Promises.{MastersAgree, Cycles, AllAnswered, AllGuarded, PullsFit, line_step, line_steps, pulled_in, short_ticks};
 ghost use Rattle.plant_run.specs.Standing.{PlantView, IsTurn, PlantStands};
 ghost use Rattle.plant_run.specs.Turns.{AppsAreSpare, Named, Turn, acts, said, said_by_turns};
 ghost use Rattle.plant_run.specs.Uses.{gifts, empty_pulls};
@@ -53,6 +54,19 @@ pub fn cycles()
 #[tactic(auto, using(crate::proofs::Cycled::answered))]
 pub fn answers()
     ensures { (b : Beginning) (v : PlantView) (turns : List Turn) → PlantStands b v turns → AllAnswered b (acts turns) }
+{}
+
+/// After each act that ran a cycle each output bit of the answer is 0 that the application that runs guards by an input bit that is 0.
+#[tactic(auto, using(crate::proofs::Cycled::guarded))]
+pub fn guards()
+    ensures { (b : Beginning) (v : PlantView) (turns : List Turn) → PlantStands b v turns → AllGuarded b (acts turns) }
+{}
+
+/// The reaction bound: where an e-stop is off from some acts on, and each cycle since over its bit as 0 kept the drive off, the drive is off
+/// after each step before which twice both watchdogs' ticks came since, less three, whatever the channel gave, as long as neither pair has
+/// an other entry.
+pub fn reacts()
+    ensures { (b : Beginning) (v : PlantView) (turns : List Turn) → PlantStands b v turns → All HasSameLengths b.links → Reacts b (acts turns) }
 {}
 
 /// The parcels that the channel gave are those in the journal, in their order. Its pulls that gave nothing are as many as the ticks after

@@ -341,6 +341,7 @@ impl<A: Application> Ends<A> {
         requires room { vec_len steps.old + vec_len self.old.links ≤ vec_capacity steps.old }
         ensures follows { let seen = multi.seen A.rule A.holds A.guards in multi.Follows (seen self.old.master) (ChangeApp (app_view A.rule A.holds A.guards app)) (seen self.new.master) }
         ensures cycles { multi.Offers (multi.seen A.rule A.holds A.guards self.old.master) (ChangeApp (app_view A.rule A.holds A.guards app)) }
+        ensures guards { multi.Guards (multi.seen A.rule A.holds A.guards self.old.master) (ChangeApp (app_view A.rule A.holds A.guards app)) }
         ensures offers { OffersNoted (multi.seen A.rule A.holds A.guards self.new.master) self.old.links.items self.new.links.items steps.old.items steps.new.items }
         ensures ready { IsPlant self.new.master self.new.links.items self.new.dids.items self.new.outs.items (vec_len steps.new) }
         ensures lengths { lengths_kept self.new.links.items ≡ lengths_kept self.old.links.items }

@@ -1,5 +1,6 @@
 //! What a plant keeps of one connection beside its master.
-ghost use Rattle.std.specs.Prelude.{◌≡◌, ◌+◌, ◌<◌, ◌≤◌, ◌^◌, List, is_some, length};
+ghost use Rattle.std.specs.Prelude.{◌≡◌, ◌+◌, ◌<◌, ◌≤◌, ◌^◌, ◌&&◌, not, List, is_some, length};
+ghost use Rattle.fsoe_base.specs.Image.{bit_of};
 ghost use Rattle.param_load.specs.declared.entry.Move.TheVariants as event;
 ghost use Rattle.end_model.specs.Readiness as model;
 ghost use Rattle.end_model.specs.Outputs as looking_back;
@@ -174,10 +175,27 @@ impl Link {
         self.slave.outputs()
     }
 
+    /// Whether the slave offers this bit as 1 and isn't held. A bit that its offer doesn't have is 0.
+    pub(crate) fn offers(&self, bit: u16) -> bool
+        ensures { Shows self.now.slave result (λ s e. not (model.held e) && bit_of (model.offer s e) bit) }
+    {
+        !self.slave.held() && bit_of(self.slave.offer(), bit)
+    }
+
     /// Whether an entry of the pair is other.
     pub(crate) fn has_other(&self) -> bool
         ensures { (w : List Entry) → self.now.monitor ≡ view_of w → result ≡ is_some (first_other w) }
     {
         self.monitor.other().is_some()
+    }
+}
+
+/// The value of a bit of these bytes: bit `b % 8`, lowest first, of byte `b / 8`; 0 where there is no such byte.
+fn bit_of(bytes: &[u8], b: u16) -> bool
+    ensures { result ≡ bit_of bytes.now b }
+{
+    match bytes.get(usize::from(b / 8)) {
+        Some(byte) => *byte & (1 << (b % 8)) != 0,
+        None => false,
     }
 }

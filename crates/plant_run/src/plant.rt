@@ -22,7 +22,7 @@ use crate::journal::{Journal, take_room};
 use crate::link::Link;
 use crate::making::ends_made;
 use black_channel::Channel;
-use failsafe_io::Application;
+use failsafe_io::{Application, Bit};
 use fb_net::{EntryOf, KindOf, Net};
 use file_run::Stopped;
 use fsoe_base::{Memory, State};
@@ -133,6 +133,7 @@ impl<A: Application> Plant<A> {
     ghost use Rattle.std.specs.Prelude.{OnOk, OnErr};
     ghost use Rattle.multi_master.specs.Standing.{app_view};
     ghost use Rattle.plant_run.specs.Acts.{Event, App};
+    ghost use Rattle.plant_run.specs.Bound.{TellsStill};
     ghost use Rattle.plant_run.specs.ScriptLine.{Fits};
     ghost use Rattle.plant_run.specs.Standing.{seen, lengths_kept, HasLink, Follows, ShowsPair, TellsOther};
 
@@ -228,6 +229,16 @@ impl<A: Application> Plant<A> {
         ensures most { length result.now ≤ MOST_DATA }
     {
         self.ends.master.outputs(link)
+    }
+
+    /// Whether the bound of these bits is still: the slave of the input bit's connection, which there is, offers that bit as 0 or is held, and
+    /// the application that runs guards the output bit by it. An input bit that its offer doesn't have is 0.
+    pub fn quiet(&self, inp: Bit, out: Bit) -> bool
+        requires { HasLink self.now inp.link }
+        ensures { TellsStill (seen A.rule A.holds A.guards self.now) (record { estop = inp; drive = out }) result }
+    {
+        !self.ends.links[usize::from(inp.link) - 1].offers(inp.bit)
+            && self.ends.master.guards(out, inp)
     }
 }
 

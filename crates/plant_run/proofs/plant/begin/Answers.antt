@@ -23,6 +23,7 @@ returns-clause-stands g c =
       follows = c.start.ensures.follows;
       offers = offers;
       cycles = c.start.ensures.cycles;
+      guards = c.start.ensures.guards;
       begins = begins;
     }))
 
@@ -44,6 +45,7 @@ returns-clause-channel g c =
       follows = c.start.ensures.follows;
       offers = offers;
       cycles = c.start.ensures.cycles;
+      guards = c.start.ensures.guards;
       begins = begins;
     }))
 

@@ -33,6 +33,7 @@ returns-clause-delivers g c =
       follows = follows;
       answers = answers;
       cycles = rw c.bytes.ensures.value at c.deliver_into.ensures.offers;
+      guards = rw c.bytes.ensures.value at c.deliver_into.ensures.guarded;
       offers = offers;
       at = p.at;
       acts = acts;

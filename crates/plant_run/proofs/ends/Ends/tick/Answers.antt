@@ -67,6 +67,7 @@ returns-clause-goes g c =
       answers = c.tick.ensures.answers;
       masters = masters;
       cycles = c.tick.ensures.offers;
+      guards = c.tick.ensures.guarded;
       offers = offers;
     }))
 
