@@ -1,0 +1,4 @@
+pub mod Empty
+pub mod Past
+pub mod Replaying
+pub mod Told
