@@ -1,5 +1,5 @@
 -- Images at which the end of one slot was called.
-use Rattle.std.proofs.Common.{◌≡◌, ◌≤◌, ℕ, zero, suc, List, [], ◌∷◌, map, length, slice_get, slice_set, All, Option, Some, IfSome, refl, sym, ap, subst, ◌∙◌}
+use Rattle.std.proofs.Common.{◌≡◌, ◌≤◌, ℕ, zero, suc, List, [], ◌∷◌, map, length, slice_get, slice_set, All, Option, Some, IfSome, sym, ap, subst, ◌∙◌}
 use Rattle.std.proofs.lemmas.List.{length-set}
 use Rattle.fsoe_base.specs.Did.{nothing}
 use Rattle.fsoe_base.specs.Lengths.{frame_len}

@@ -9,7 +9,6 @@ use Rattle.schedule_file.specs.declared.line_cause.LineCause.{LineCause}
 use Rattle.schedule_file.specs.declared.line_cause.LineCause.TheVariants as cause
 use Rattle.process_image.specs.EventLine.{write_line, write_behind, written_at, not_written, cause_or}
 use Rattle.process_image.specs.declared.event.ImageEvent.TheVariants as event
-use Rattle.process_image.specs.declared.event.ImageLine.{ImageLine}
 use Rattle.process_image.specs.declared.event.ImageLine.TheVariants as line
 
 -- the fields behind a place
