@@ -11,7 +11,7 @@ use fsoe_io::{LineReader, Source};
 
 /// Takes the next line, which the reader lends then, or tells why there is none.
 #[inline(always)]
-pub(crate) fn next_line<S: Source>(reader: &mut LineReader, source: &mut S) -> Result<(), Halt>
+pub fn next_line<S: Source>(reader: &mut LineReader, source: &mut S) -> Result<(), Halt>
     requires { reader.old.lines < 2 ^ 64 - 1 }
     ensures finds { FindsLine result reader.new.line
         (prepend_known reader.old.bytes (S.left source.old))

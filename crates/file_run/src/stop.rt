@@ -11,7 +11,7 @@ use crate::report::write_refusal;
 use fsoe_io::{Ended, Failed, LineReader, LineText, Output, Sink, Status, put_all};
 
 /// Sends what waits where the next line needs a read, which may block.
-pub(crate) fn send_before_read<K: Sink>(
+pub fn send_before_read<K: Sink>(
     reader: &LineReader,
     output: &mut Output,
     sink: &mut K,
@@ -31,7 +31,7 @@ pub(crate) fn send_before_read<K: Sink>(
 }
 
 /// How a run ends whose sink failed.
-pub(crate) fn write_failed(output: &Output) -> Ended
+pub fn write_failed(output: &Output) -> Ended
     ensures status { result.status ≡ Status.Write }
     ensures place { result.place ≡ output.now.sent }
 {
@@ -42,7 +42,7 @@ pub(crate) fn write_failed(output: &Output) -> Ended
 }
 
 /// Sends the last piece and all that waits. Where that fails, the run ends so.
-pub(crate) fn close<K: Sink>(output: &mut Output, sink: &mut K, last: &[u8], ended: Ended) -> Ended
+pub fn close<K: Sink>(output: &mut Output, sink: &mut K, last: &[u8], ended: Ended) -> Ended
     requires short { length last.now ≤ 1024 }
     requires count { output.old.sent + length output.old.bytes < 2 ^ 63 }
     ensures writes { Writes output.old.sent (output.old.bytes ++ last.now) ended result (record {
@@ -60,7 +60,7 @@ pub(crate) fn close<K: Sink>(output: &mut Output, sink: &mut K, last: &[u8], end
 }
 
 /// Ends a run whose input goes no further.
-pub(crate) fn halt<K: Sink>(output: &mut Output, sink: &mut K, why: Halt) -> Ended
+pub fn halt<K: Sink>(output: &mut Output, sink: &mut K, why: Halt) -> Ended
     requires { output.old.sent + length output.old.bytes < 2 ^ 63 }
     ensures writes { Writes output.old.sent (output.old.bytes ++ last_of why) (halted_by why) result (record {
       before = K.written sink.old;
