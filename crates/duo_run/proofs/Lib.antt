@@ -13,3 +13,5 @@ pub mod WholeRuns
 pub mod HonestNumber
 pub mod Summarizing
 pub mod Summed
+pub mod Converted
+pub mod Converting

@@ -4,3 +4,5 @@ pub mod Duo
 pub mod Ran
 pub mod Replay
 pub mod Summary
+pub mod Convert
+pub mod Converting

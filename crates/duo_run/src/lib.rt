@@ -1,11 +1,13 @@
 //! Both ends of a connection over a schedule: each event happens at one of them, and a frame that comes is one of those that its peer
 //! sent, as it was or with one byte altered, or is invented. `specs` says what the definitions of a world have to do with it.
-//! `run_replay` does so over a pair file, from bytes to bytes, and `run_bulk` over the schedule of a number.
+//! `run_replay` does so over a pair file, from bytes to bytes, and `run_bulk` over the schedule of a number. `run_convert` writes a pair file
+//! as a file of several pairs.
 #![tactic(auto)]
 
 mod acting;
 mod bulk;
 mod coming;
+mod convert;
 mod duo;
 mod fault;
 pub mod laws;
@@ -13,6 +15,7 @@ mod replay;
 mod summary;
 
 pub use bulk::run_bulk;
+pub use convert::run_convert;
 pub use duo::Duo;
 pub use fault::StepFault;
 pub use replay::run_replay;

@@ -1,0 +1,251 @@
+-- What the lines of a pair file are converted to one by one is what the file is converted to.
+use Rattle.std.proofs.Common.{◌≡◌, ℕ, suc, zero, ◌+◌, ◌-◌, Bool, true, false, List, [], ◌∷◌, ◌++◌, length, take, map, refl, ap, ◌∙◌, sym, subst, append_assoc, add-zero, arith}
+use Rattle.std.specs.Prelude.{Result, Ok, Err, Option, Some, None, MatchResult, codes, slice_get, ◌==◌, if◌then◌else◌}
+use Rattle.std.specs.List.{flat_map}
+use Rattle.std.specs.Str.{bytes_eq}
+use Rattle.fsoe_io.specs.declared.status.Ended.{Ended}
+use Rattle.schedule_file.specs.Header.{Heading, heading_after, heading_is_whole, heading_new}
+use Rattle.schedule_file.specs.Input.{AtEnd, InputCause, InputFormat, Line, NoLine, Refused, Stop, TooMany, WholeHeader, WholeHeaderOf, event_of, header_in, header_of, header_step, input_after, input_by, input_of, is_full, lines_of, said_after, schedule_format, steps, stop_at, stop_by, stop_full, texts, with_room}
+use Rattle.schedule_file.specs.declared.event.Event.{Event}
+use Rattle.schedule_file.specs.declared.event.TheConstants.{MAX_EVENTS}
+use Rattle.schedule_file.specs.declared.event.ScheduleLine.{ScheduleLine}
+use Rattle.schedule_file.specs.declared.event.ScheduleLine.TheVariants as said
+use Rattle.schedule_file.specs.declared.header_kind.HeaderKind.TheVariants as kind
+use Rattle.schedule_file.specs.declared.line_cause.LineCause.{LineCause}
+use Rattle.file_run.specs.Report.{refused_line}
+use Rattle.file_run.specs.Reporting.{refused_at}
+use Rattle.std.proofs.lemmas.Bool.Decides.{nat_tests}
+use Rattle.std.proofs.lemmas.List.{append-nil, length_push}
+use Rattle.duo_run.specs.Convert.{converted, converted_by, ended_at_stop, event_text, events_text, header_text, last_text, line_text, lines_before, title_text}
+use Rattle.duo_run.specs.Converting.{LineTaken, PairRead, end_taken, event_taken, full_taken, header_piece, header_taken, later_taken, line_taken, read_none}
+
+abbrev pub Lines : Type 0
+Lines = List (Result (List ℕ) InputCause)
+
+-- a text that is written, and how the run ends that writes it
+pub record Whole : Type 0 where
+  pub text : List ℕ
+  pub ended : Ended
+
+-- the same after a first part
+abbrev pub after_part : List ℕ → Whole → Whole
+after_part part whole = record whole { text = part ++ whole.text }
+
+-- what is written where the line of this number is refused
+abbrev pub refused_whole : ℕ → InputCause → Whole
+refused_whole number why = record { text = refused_line number why; ended = refused_at number }
+
+abbrev pub ends_or : Bool → List ℕ → Whole → Whole
+ends_or true text later = record { text = text; ended = ended_at_stop AtEnd }
+ends_or false text later = after_part text later
+
+-- what is written of a line that was taken so, and of those after it
+abbrev pub told_by : ℕ → Result LineTaken InputCause → (PairRead → Whole) → Whole
+told_by number (Ok taken) later = ends_or taken.ends taken.text (later taken.next)
+told_by number (Err why) later = refused_whole number why
+
+-- what is written of lines, of which the first has this number, one by one
+abbrev pub told : ℕ → PairRead → Lines → Whole
+told number r [] = refused_whole number NoLine
+told number r (Err why ∷ rest) = refused_whole number why
+told number r (Ok line ∷ rest) = told_by number (line_taken number r line) (λ next. told (number + 1) next rest)
+
+-- what is written after a header, by its events: so many of these lines, and the last
+abbrev later_whole : ℕ → Stop → List (List ℕ) → Whole
+later_whole n stop lines = record { text = flat_map event_text (take n lines) ++ last_text stop; ended = ended_at_stop stop }
+
+-- the events that stand after others in lines, and how these stop the input
+abbrev events_in : Heading → List Event → Lines → List Event
+events_in h log lines = with_room is_full log (steps event_of (map (said_after kind.Pair h) (texts lines)))
+
+abbrev reading : Heading → List Event → PairRead
+reading h log = record { heading = h; events = length log }
+
+-- the same, where these are the events
+abbrev result_of : Heading → ℕ → List Event → Lines → List Event → Whole
+result_of h number log lines es =
+    later_whole (length es) (stop_at (schedule_format kind.Pair) h (number + length es) (is_full (log ++ es)) (slice_get lines (length es))) (texts lines)
+
+-- what is written of the last line alone
+abbrev last_whole : Stop → Whole
+last_whole stop = record { text = last_text stop; ended = ended_at_stop stop }
+
+abbrev stop_line : ℕ → List ℕ → Bool → Result ScheduleLine LineCause → Stop
+stop_line number text full says = if full then stop_full number text else stop_by event_of number says
+
+no_events : (h : Heading) (number : ℕ) (log : List Event) (text : List ℕ) (rest : Lines) → result_of h number log (Ok text ∷ rest) [] ≡ last_whole (stop_line number text (is_full log) (said_after kind.Pair h text))
+no_events h number log text rest =
+    ap (λ (n : ℕ). last_whole (stop_line n text (is_full (log ++ [])) (said_after kind.Pair h text))) (add-zero number)
+    ∙ ap (λ (es : List Event). last_whole (stop_line number text (is_full es) (said_after kind.Pair h text))) (append-nil log)
+
+-- one event more
+one_event : (h : Heading) (number : ℕ) (log : List Event) (text : List ℕ) (rest : Lines) (event : Event) (es : List Event)
+    → after_part (event_text text) (result_of h (number + 1) (log ++ event ∷ []) rest es) ≡ result_of h number log (Ok text ∷ rest) (event ∷ es)
+one_event h number log text rest event es =
+    let stop : ℕ → List Event → Stop = λ n all. stop_at (schedule_format kind.Pair) h n (is_full all) (slice_get rest (length es)) in
+    let lines : List ℕ = flat_map event_text (take (length es) (texts rest)) in
+    let at : number + 1 + length es ≡ number + length (event ∷ es) = omega arith in
+    let all : (log ++ event ∷ []) ++ es ≡ log ++ event ∷ es = append_assoc log (event ∷ []) es in
+    ap (λ (s : Stop). record { text = event_text text ++ (lines ++ last_text s); ended = ended_at_stop s })
+    (ap (λ (n : ℕ). stop n ((log ++ event ∷ []) ++ es)) at ∙ ap (stop (number + length (event ∷ es))) all)
+    ∙ ap (λ (t : List ℕ). record { text = t; ended = ended_at_stop (stop (number + length (event ∷ es)) (log ++ event ∷ es)) })
+    (sym (append_assoc (event_text text) lines (last_text (stop (number + length (event ∷ es)) (log ++ event ∷ es)))))
+
+-- what is written of a line after the header
+abbrev of_line : ℕ → PairRead → List ℕ → Lines → Bool → Result ScheduleLine LineCause → Whole
+of_line number r text rest full says = told_by number (if full then full_taken r text else event_taken r text says) (λ next. told (number + 1) next rest)
+
+full_line : (number : ℕ) (r : PairRead) (text : List ℕ) (later : PairRead → Whole) (is_end : Bool) → told_by number (if is_end then Ok (end_taken r) else Err TooMany) later ≡ last_whole (if is_end then AtEnd else Refused number TooMany)
+full_line number r text later true = refl
+full_line number r text later false = refl
+
+-- the events that stand in these lines, where the first says this
+abbrev events_by : Heading → List Event → Lines → Result ScheduleLine LineCause → List Event
+events_by h log rest says = with_room is_full log (steps event_of (says ∷ map (said_after kind.Pair h) (texts rest)))
+
+none_when_full : (h : Heading) (log : List Event) (rest : Lines) (says : Result ScheduleLine LineCause) → is_full log ≡ true → events_by h log rest says ≡ []
+none_when_full h log rest (Ok (said.Step event)) full =
+    ap (λ (b : Bool). if b then [] else event ∷ with_room is_full (log ++ event ∷ []) (steps event_of (map (said_after kind.Pair h) (texts rest)))) full
+none_when_full h log rest (Ok said.End) full = refl
+none_when_full h log rest (Err cause) full = refl
+
+line_told : (h : Heading) (number : ℕ) (log : List Event) (text : List ℕ) (rest : Lines)
+    → ((event : Event) → told (number + 1) (reading h (log ++ event ∷ [])) rest ≡ result_of h (number + 1) (log ++ event ∷ []) rest (events_in h (log ++ event ∷ []) rest))
+    → (full : Bool) (says : Result ScheduleLine LineCause) → is_full log ≡ full → said_after kind.Pair h text ≡ says
+    → of_line number (reading h log) text rest full says ≡ result_of h number log (Ok text ∷ rest) (events_by h log rest says)
+line_told h number log text rest later true says e d =
+    full_line number (reading h log) text (λ next. told (number + 1) next rest) (bytes_eq text (codes "end"))
+    ∙ ap (λ (b : Bool). last_whole (stop_line number text b (said_after kind.Pair h text))) (sym e) ∙ sym (no_events h number log text rest)
+    ∙ ap (result_of h number log (Ok text ∷ rest)) (sym (none_when_full h log rest says e))
+line_told h number log text rest later false (Ok (said.Step event)) e d =
+    ap (λ (n : ℕ). after_part (event_text text) (told (number + 1) (record { heading = h; events = n }) rest)) (sym (length_push log event))
+    ∙ ap (after_part (event_text text)) (later event) ∙ one_event h number log text rest event (events_in h (log ++ event ∷ []) rest)
+    ∙ ap (λ (b : Bool). result_of h number log (Ok text ∷ rest) (if b then [] else event ∷ events_in h (log ++ event ∷ []) rest)) (sym e)
+line_told h number log text rest later false (Ok said.End) e d =
+    ap (λ (s : Result ScheduleLine LineCause). last_whole (stop_line number text false s)) (sym d)
+    ∙ ap (λ (b : Bool). last_whole (stop_line number text b (said_after kind.Pair h text))) (sym e) ∙ sym (no_events h number log text rest)
+line_told h number log text rest later false (Err cause) e d =
+    ap (λ (s : Result ScheduleLine LineCause). last_whole (stop_line number text false s)) (sym d)
+    ∙ ap (λ (b : Bool). last_whole (stop_line number text b (said_after kind.Pair h text))) (sym e) ∙ sym (no_events h number log text rest)
+
+told_events : (h : Heading) → heading_is_whole h ≡ true → (number : ℕ) (log : List Event) (lines : Lines) → told number (reading h log) lines ≡ result_of h number log lines (events_in h log lines)
+told_events h whole number log [] = ap (λ (n : ℕ). refused_whole n NoLine) (sym (add-zero number))
+told_events h whole number log (Err why ∷ rest) = ap (λ (n : ℕ). refused_whole n why) (sym (add-zero number))
+told_events h whole number log (Ok text ∷ rest) =
+    ap (λ (b : Bool). told_by number (if b then later_taken (reading h log) text else header_taken number (reading h log) text (heading_after h text)) (λ next. told (number + 1) next rest)) whole
+    ∙ line_told h number log text rest (λ event. told_events h whole (number + 1) (log ++ event ∷ []) rest) (is_full log) (said_after kind.Pair h text) refl refl
+
+-- the lines of a header from its first on, or from a later one on
+abbrev pieces : Bool → List (List ℕ) → List ℕ
+pieces true lines = header_text lines
+pieces false lines = flat_map line_text lines
+
+no_pieces : (first : Bool) → pieces first [] ≡ []
+no_pieces true = refl
+no_pieces false = refl
+
+one_piece : (first : Bool) (line : List ℕ) (lines : List (List ℕ)) → (if first then title_text else line_text line) ++ flat_map line_text lines ≡ pieces first (line ∷ lines)
+one_piece true line lines = refl
+one_piece false line lines = refl
+
+no_part : (first : Bool) (lines : List (List ℕ)) (w : Whole) → w ≡ after_part (pieces first (take 0 lines)) w
+no_part true lines w = refl
+no_part false lines w = refl
+
+-- how the lines of a header go on, where so many stand before them: it is done, or a line is refused
+abbrev Heads : ℕ → Lines → Whole → WholeHeader → Type 0
+Heads m lines whole headed =
+    (j : ℕ) × (headed.lines ≡ m + j) × (heading_is_whole headed.heading ≡ true)
+    × (whole ≡ after_part (pieces (m + 1 == 1) (take j (texts lines))) (told (headed.lines + 1) (reading headed.heading []) headed.rest))
+
+abbrev Halts : ℕ → Lines → Whole → Stop → Type 0
+Halts m lines whole stop = (j : ℕ) × (why : InputCause) × (stop ≡ Refused (m + j + 1) why) × (whole ≡ after_part (pieces (m + 1 == 1) (take j (texts lines))) (refused_whole (m + j + 1) why))
+
+halts_here : (m : ℕ) (lines : Lines) (why : InputCause) → Halts m lines (refused_whole (m + 1) why) (Refused (m + 1) why)
+halts_here m lines why =
+    let at : m + 1 ≡ m + 0 + 1 = omega arith in
+    (0, why, ap (λ (n : ℕ). Refused n why) at, ap (λ (n : ℕ). refused_whole n why) at ∙ no_part (m + 1 == 1) (texts lines) (refused_whole (m + 0 + 1) why))
+
+pub two_parts : (p q : List ℕ) (w : Whole) → after_part p (after_part q w) ≡ after_part (p ++ q) w
+two_parts p q w = ap (λ (t : List ℕ). record w { text = t }) (sym (append_assoc p q w.text))
+
+-- a line before those
+later_number : (m : ℕ) → (m + 1 + 1 == 1) ≡ false
+later_number m = grind (arith, nat_tests)
+
+piece_before : (m : ℕ) (line : List ℕ) (rest : Lines) (j : ℕ) (whole w : Whole) → whole ≡ after_part (pieces (m + 1 + 1 == 1) (take j (texts rest))) w
+    → after_part (header_piece (m + 1) line) whole ≡ after_part (pieces (m + 1 == 1) (line ∷ take j (texts rest))) w
+piece_before m line rest j whole w e =
+    ap (after_part (header_piece (m + 1) line)) (e ∙ ap (λ (b : Bool). after_part (pieces b (take j (texts rest))) w) (later_number m))
+    ∙ two_parts (header_piece (m + 1) line) (flat_map line_text (take j (texts rest))) w
+    ∙ ap (λ (p : List ℕ). after_part p w) (one_piece (m + 1 == 1) line (take j (texts rest)))
+
+heads_later : (m : ℕ) (line : List ℕ) (rest : Lines) (whole : Whole) (headed : WholeHeader) → Heads (m + 1) rest whole headed → Heads m (Ok line ∷ rest) (after_part (header_piece (m + 1) line) whole) headed
+heads_later m line rest whole headed h =
+    (suc h.0, h.1 ∙ omega arith, h.2, piece_before m line rest h.0 whole (told (headed.lines + 1) (reading headed.heading []) headed.rest) h.3)
+
+halts_later : (m : ℕ) (line : List ℕ) (rest : Lines) (whole : Whole) (stop : Stop) → Halts (m + 1) rest whole stop → Halts m (Ok line ∷ rest) (after_part (header_piece (m + 1) line) whole) stop
+halts_later m line rest whole stop h =
+    let at : m + 1 + h.0 + 1 ≡ m + suc h.0 + 1 = omega arith in (
+      suc h.0,
+      h.1,
+      h.2 ∙ ap (λ (n : ℕ). Refused n h.1) at,
+      piece_before m line rest h.0 whole (refused_whole (m + 1 + h.0 + 1) h.1) h.3 ∙ ap (λ (n : ℕ). after_part (pieces (m + 1 == 1) (line ∷ take h.0 (texts rest))) (refused_whole n h.1)) at,
+    )
+
+goes_later : (m : ℕ) (line : List ℕ) (rest : Lines) (whole : Whole) (r : Result WholeHeader Stop) → MatchResult r (Heads (m + 1) rest whole) (Halts (m + 1) rest whole)
+    → MatchResult r (Heads m (Ok line ∷ rest) (after_part (header_piece (m + 1) line) whole)) (Halts m (Ok line ∷ rest) (after_part (header_piece (m + 1) line) whole))
+goes_later m line rest whole (Ok headed) h = heads_later m line rest whole headed h
+goes_later m line rest whole (Err stop) h = halts_later m line rest whole stop h
+
+-- what is written of the lines of a header, which is done or goes no further
+abbrev of_heading : ℕ → PairRead → List ℕ → Lines → Result Heading LineCause → Whole
+of_heading m r line rest next = told_by (m + 1) (header_taken (m + 1) r line next) (λ next. told (m + 1 + 1) next rest)
+
+abbrev Goes : ℕ → Lines → Whole → Result WholeHeader Stop → Type 0
+Goes m lines whole r = MatchResult r (Heads m lines whole) (Halts m lines whole)
+
+heading_told : (m : ℕ) (h : Heading) (line : List ℕ) (rest : Lines) → ((next : Heading) → heading_is_whole next ≡ false → Goes (m + 1) rest (told (m + 1 + 1) (reading next []) rest) (header_in (schedule_format kind.Pair) (m + 1 + 1) next rest))
+    → (next : Result Heading LineCause) → Goes m (Ok line ∷ rest) (of_heading m (reading h []) line rest next) (header_step heading_is_whole (m + 1) rest (λ next. header_in (schedule_format kind.Pair) (m + 1 + 1) next rest) next)
+heading_told m h line rest later (Err cause) = halts_here m (Ok line ∷ rest) (Line cause)
+heading_told m h line rest later (Ok next) =
+    let by : (done : Bool) → heading_is_whole next ≡ done
+    → Goes m (Ok line ∷ rest) (after_part (header_piece (m + 1) line) (told (m + 1 + 1) (reading next []) rest)) (if done then Ok (record { heading = next; lines = m + 1; rest = rest }) else header_in (schedule_format kind.Pair) (m + 1 + 1) next rest) =
+    λ done. elim done as (λ d. heading_is_whole next ≡ d → Goes m (Ok line ∷ rest) (after_part (header_piece (m + 1) line) (told (m + 1 + 1) (reading next []) rest)) (if d then Ok (record { heading = next; lines = m + 1; rest = rest }) else header_in (schedule_format kind.Pair) (m + 1 + 1) next rest)) [
+      | true ↦ λ e. (1, refl, e, piece_before m line rest 0 (told (m + 1 + 1) (reading next []) rest) (told (m + 1 + 1) (reading next []) rest) (no_part (m + 1 + 1 == 1) (texts rest) (told (m + 1 + 1) (reading next []) rest)))
+      | false ↦ λ e. goes_later m line rest (told (m + 1 + 1) (reading next []) rest) (header_in (schedule_format kind.Pair) (m + 1 + 1) next rest) (later next e)
+    ]
+    in
+    by (heading_is_whole next) refl
+
+told_header : (m : ℕ) (h : Heading) (lines : Lines) → heading_is_whole h ≡ false → Goes m lines (told (m + 1) (reading h []) lines) (header_in (schedule_format kind.Pair) (m + 1) h lines)
+told_header m h [] open_yet = halts_here m [] NoLine
+told_header m h (Err why ∷ rest) open_yet = halts_here m (Err why ∷ rest) why
+told_header m h (Ok line ∷ rest) open_yet =
+    let at : of_heading m (reading h []) line rest (heading_after h line) ≡ told (m + 1) (reading h []) (Ok line ∷ rest) =
+    ap (λ (b : Bool). told_by (m + 1) (if b then later_taken (reading h []) line else header_taken (m + 1) (reading h []) line (heading_after h line)) (λ next. told (m + 1 + 1) next rest)) (sym open_yet)
+    in
+    subst (λ (w : Whole). Goes m (Ok line ∷ rest) w (header_in (schedule_format kind.Pair) (m + 1) h (Ok line ∷ rest))) at
+    (heading_told m h line rest (λ next e. told_header (m + 1) next rest e) (heading_after h line))
+
+-- what an input is converted to, and how the conversion ends
+abbrev pub converted_whole : List ℕ → Whole
+converted_whole bytes = record { text = converted bytes; ended = ended_at_stop (input_of kind.Pair bytes).stop }
+
+by_header : (lines : Lines) (whole : Whole) (r : Result WholeHeader Stop) → Goes 0 lines whole r → whole ≡ record { text = converted_by r (texts lines); ended = ended_at_stop (input_by (schedule_format kind.Pair) r).stop }
+by_header lines whole (Ok headed) heads =
+    let h : Heading = headed.heading in
+    let es : List Event = events_in h [] headed.rest in
+    let at : headed.lines + 1 + length es ≡ headed.lines + length es + 1 = omega arith in
+    let j : heads.0 ≡ headed.lines = omega (arith, heads.1) in
+    heads.3 ∙ ap (after_part (header_text (take heads.0 (texts lines)))) (told_events h heads.2 (headed.lines + 1) [] headed.rest)
+    ∙ ap (λ (n : ℕ). after_part (header_text (take n (texts lines))) (result_of h (headed.lines + 1) [] headed.rest es)) j
+    ∙ ap (λ (n : ℕ). after_part (header_text (take headed.lines (texts lines))) (later_whole (length es) (stop_at (schedule_format kind.Pair) h n (is_full es) (slice_get headed.rest (length es))) (texts headed.rest))) at
+by_header lines whole (Err stop) halts =
+    let why : InputCause = halts.1 in
+    let before : 0 + halts.0 + 1 - 1 ≡ halts.0 = omega arith in
+    halts.3 ∙ ap (λ (n : ℕ). after_part (header_text (take n (texts lines))) (refused_whole (0 + halts.0 + 1) why)) (sym before)
+    ∙ ap (λ (s : Stop). record { text = header_text (take (lines_before s) (texts lines)) ++ last_text s; ended = ended_at_stop s }) (sym halts.2)
+
+pub told_whole : (bytes : List ℕ) → told 1 read_none (lines_of bytes) ≡ converted_whole bytes
+told_whole bytes = by_header (lines_of bytes) (told 1 read_none (lines_of bytes)) (header_of kind.Pair bytes) (told_header 0 (heading_new kind.Pair) (lines_of bytes) refl)

@@ -1,0 +1,263 @@
+-- A run that converts a pair file: what was read of it and what was written.
+use Rattle.std.proofs.Common.{◌≡◌, ℕ, ◌+◌, ◌*◌, ◌≤◌, ◌<◌, Bool, true, false, List, [], ◌∷◌, ◌++◌, length, refl, ap, ◌∙◌, sym, subst, append_assoc, inl, inr, arith}
+use Rattle.std.specs.Prelude.{Result, Ok, Err, IfSome, Some, None}
+use Rattle.std.specs.declared.option.Option.{Option}
+use Rattle.std.specs.Io.KnownBytes.{Consumes, prepend_known}
+use Rattle.std.proofs.lemmas.List.{append-nil}
+use Rattle.std.proofs.lemmas.Option.{IfSome_then}
+use Rattle.fsoe_io.specs.Faults.{Rose}
+use Rattle.fsoe_io.specs.Line.{IsLine}
+use Rattle.fsoe_io.specs.Output.{OutputView, Passes}
+use Rattle.fsoe_io.specs.Sink.{Grew}
+use Rattle.fsoe_io.specs.declared.status.Ended.{Ended}
+use Rattle.fsoe_io.specs.declared.status.Status.{Status}
+use Rattle.fsoe_io.specs.declared.status.Status.TheVariants as status
+use Rattle.fsoe_base.specs.LengthsOf.{length_of}
+use Rattle.fsoe_base.specs.declared.command.End.{End}
+use Rattle.fsoe_base.specs.declared.lengths.Lengths.{Lengths}
+use Rattle.param_load.specs.declared.profile.Profile.{Profile}
+use Rattle.param_load.specs.declared.profile.Profiles.{Profiles}
+use Rattle.schedule_file.specs.Event.{profile_of}
+use Rattle.schedule_file.specs.Header.{Heading}
+use Rattle.schedule_file.specs.Input.{AtEnd, InputCause, NoLine, heading_profile, input_of, lines_of, own_length, said_after}
+use Rattle.schedule_file.specs.PairEvent.{pair_line}
+use Rattle.schedule_file.proofs.Pairs.{same_ends}
+use Rattle.schedule_file.specs.declared.header_kind.HeaderKind.TheVariants as kind
+use Rattle.file_run.specs.Ending.{AppendedPart, Writes}
+use Rattle.file_run.specs.Halt.{Blames, Goes, Stalls}
+use Rattle.file_run.specs.NextLine.{FindsLine, first_line}
+use Rattle.file_run.specs.Outside.{Outside, Wrote}
+use Rattle.file_run.specs.Refusal.{input_cause}
+use Rattle.file_run.specs.Report.{refused_line}
+use Rattle.file_run.specs.Reporting.{IsPrefix, refused_at}
+use Rattle.file_run.specs.Stop.{halted_by, last_of}
+use Rattle.file_run.specs.WholeLines.{TookLines}
+use Rattle.file_run.specs.declared.halt.Halt.{Halt}
+use Rattle.file_run.specs.declared.halt.Halt.TheVariants as halt
+use Rattle.file_run.proofs.Lines.{by_line, lines_whole}
+use Rattle.file_run.proofs.Sending.{Sent, cut_part, grew_written, piece_part, rose_since, sent_flushed, sent_none, sent_piece, text_part}
+use Rattle.file_run.proofs.Taken.{halts_after, took_line, took_none}
+use Rattle.duo_run.specs.Convert.{ConvertedAs, ConvertRead, ConvertWrite, RanConvert, WroteAll, converted, ended_at_stop}
+use Rattle.duo_run.specs.Converting.{FindsTaken, LineTaken, PairRead, left_to_take, line_taken, read_none, taken_by}
+use Rattle.duo_run.proofs.Converted.{Lines, Whole, after_part, converted_whole, refused_whole, told, told_by, told_whole, two_parts}
+
+-- where the input is told, this was written of it so far, and what is left of it gives the rest
+abbrev pub Tells : Option (List ℕ) → Option (List ℕ) → List ℕ → PairRead → ℕ → Type 0
+Tells None left text r number = Unit {0}
+Tells (Some xs) None text r number = ⊥
+Tells (Some xs) (Some ys) text r number = converted_whole xs ≡ after_part text (told number r (lines_of ys))
+
+-- an input has at most so many lines
+abbrev pub most_lines : ℕ
+most_lines = 201032
+
+-- what holds before each line
+pub record Converting (left0 left w0 w : Option (List ℕ)) (waiting : OutputView) (r : PairRead) (lines : ℕ) : Type 0 where
+  pub text : List ℕ
+  pub sent : Sent w0 w waiting text
+  pub took : TookLines lines left0 left
+  pub tells : Tells left0 left text r (lines + 1)
+  pub size : waiting.sent + length waiting.bytes + 1024 * left_to_take r ≤ 1024 * most_lines
+  pub lined : lines + left_to_take r ≤ most_lines
+
+tells_start : (left : Option (List ℕ)) (held : List ℕ) (lines : ℕ) → held ≡ [] → lines ≡ 0 → Tells left (prepend_known held left) [] read_none (lines + 1)
+tells_start None held lines e z = tt
+tells_start (Some xs) held lines e z =
+    sym (told_whole xs) ∙ ap (λ (n : ℕ). told (n + 1) read_none (lines_of xs)) (sym z) ∙ ap (λ (h : List ℕ). after_part [] (told (lines + 1) read_none (lines_of (h ++ xs)))) (sym e)
+
+pub converting_start : (left w : Option (List ℕ)) (held : List ℕ) (waiting : OutputView) (r : PairRead) (lines : ℕ) → held ≡ [] → lines ≡ 0 → waiting.bytes ≡ [] → waiting.sent ≡ 0 → r ≡ read_none
+    → Converting left (prepend_known held left) w w waiting r lines
+converting_start left w held waiting r lines e z none sent is =
+    let left_first : left_to_take r ≡ left_to_take read_none = ap left_to_take is in
+    let waits : length waiting.bytes ≡ 0 = ap (length {A = ℕ}) none in
+    record {
+      text = [];
+      sent = sent_none w waiting none sent;
+      took = took_none left held lines e z;
+      tells = subst (λ (r : PairRead). Tells left (prepend_known held left) [] r (lines + 1)) (sym is) (tells_start left held lines e z);
+      size = omega (arith, left_first, waits, sent);
+      lined = omega (arith, left_first, z);
+    }
+
+-- what waited was sent
+pub converting_sent : (left0 left w0 w1 w2 : Option (List ℕ)) (waiting now : OutputView) (r : PairRead) (lines : ℕ) → Converting left0 left w0 w1 waiting r lines → Passes waiting now w1 w2 [] now.bytes
+    → now.sent + length now.bytes ≡ waiting.sent + length waiting.bytes → Converting left0 left w0 w2 now r lines
+converting_sent left0 left w0 w1 w2 waiting now r lines k p same = record {
+  text = k.text;
+  sent = sent_flushed w0 w1 w2 waiting now k.text k.sent p;
+  took = k.took;
+  tells = k.tells;
+  size = omega (arith, same, k.size);
+  lined = k.lined;
+}
+
+-- a line was taken
+told_next : (number : ℕ) (r next : PairRead) (line text ys zs : List ℕ) (ends : Bool) → IsLine line → ys ≡ (line ++ 10 ∷ []) ++ zs → line_taken number r line ≡ Ok (record { next = next; text = text; ends = ends })
+    → told number r (lines_of ys) ≡ told_by number (Ok (record { next = next; text = text; ends = ends })) (λ next. told (number + 1) next (lines_of zs))
+told_next number r next line text ys zs ends is goes taken =
+    ap (told number r) (ap lines_of (goes ∙ append_assoc line (10 ∷ []) zs) ∙ lines_whole line zs is)
+    ∙ ap (λ (t : Result LineTaken InputCause). told_by number t (λ next. told (number + 1) next (lines_of zs))) taken
+
+tells_next : (left0 b c : Option (List ℕ)) (before text line : List ℕ) (r next : PairRead) (number : ℕ) → Tells left0 b before r number → IsLine line → Consumes b c (line ++ 10 ∷ []) → line_taken number r line ≡ Ok (record { next = next; text = text; ends = false })
+    → Tells left0 c (before ++ text) next (number + 1)
+tells_next None b c before text line r next number tells is goes taken = tt
+tells_next (Some xs) None c before text line r next number tells is goes taken = absurd tells
+tells_next (Some xs) (Some ys) None before text line r next number tells is goes taken = absurd goes
+tells_next (Some xs) (Some ys) (Some zs) before text line r next number tells is goes taken =
+    tells ∙ ap (after_part before) (told_next number r next line text ys zs false is goes taken) ∙ two_parts before text (told (number + 1) next (lines_of zs))
+
+pub converting_line : (left0 b c w0 w1 w2 : Option (List ℕ)) (waiting now : OutputView) (r next : PairRead) (lines after : ℕ) (text : List ℕ) → Converting left0 b w0 w1 waiting r lines → FindsTaken (lines + 1) r (Ok false) next text b c → after ≡ lines + 1
+    → left_to_take next < left_to_take r → Passes waiting now w1 w2 text now.bytes → now.sent + length now.bytes ≡ waiting.sent + length waiting.bytes + length text → length text ≤ 1024 → Converting left0 c w0 w2 now next after
+converting_line left0 b c w0 w1 w2 waiting now r next lines after text k finds step fewer p size most = record {
+  text = k.text ++ text;
+  sent = sent_piece w0 w1 w2 waiting now k.text text k.sent p;
+  took = took_line lines after left0 b c finds.0 k.took finds.1 finds.2 step;
+  tells = subst (λ (n : ℕ). Tells left0 c (k.text ++ text) next (n + 1)) (sym step) (tells_next left0 b c k.text text finds.0 r next (lines + 1) k.tells finds.1 finds.2 finds.3);
+  size = omega (arith, size, most, fewer, k.size);
+  lined = omega (arith, step, fewer, k.lined);
+}
+
+-- a text is a first part of what the input is converted to
+abbrev Begins : Option (List ℕ) → List ℕ → Type 0
+Begins told text = IfSome told (λ input. IsPrefix text (converted input))
+
+begins : (left0 left : Option (List ℕ)) (text : List ℕ) (r : PairRead) (number : ℕ) → Tells left0 left text r number → Begins left0 text
+begins None left text r number tells = tt
+begins (Some xs) None text r number tells = absurd tells
+begins (Some xs) (Some ys) text r number tells = ((told number r (lines_of ys)).text, ap (λ (w : Whole). w.text) tells)
+
+prefix_then : (part text whole : List ℕ) → IsPrefix part text → IsPrefix text whole → IsPrefix part whole
+prefix_then part text whole p q = (p.0 ++ q.0, q.1 ∙ ap (λ (z : List ℕ). z ++ q.0) p.1 ∙ append_assoc part p.0 q.0)
+
+-- a write failed
+ends_write : (o : Outside) (ended : Ended) (whole : List ℕ) → ended.status ≡ status.Write → AppendedPart o.sink.before o.sink.after ended.place whole → Begins o.source.before whole → Rose o.sink.faults_before o.sink.faults_after
+    → ConvertedAs ended.status ended o
+ends_write o ended whole e p begins rose =
+    let failed : ConvertWrite ended.place o = record {
+      appended = (p.part, p.grew, p.counts);
+      wrote = IfSome_then o.source.before begins (λ input begun. (p.part, p.grew, (p.counts, prefix_then p.part whole (converted input) p.begins begun)));
+      cause = rose;
+    } in
+    rw e failed
+
+-- a run ends as it is to, or a write failed at the end
+ends_written : (o : Outside) (between : Option (List ℕ)) (faults : ℕ) (waiting : OutputView) (text last : List ℕ) (ended result : Ended) → Sent o.sink.before between waiting text
+    → Writes waiting.sent (waiting.bytes ++ last) ended result (record { before = between; after = o.sink.after; faults_before = faults; faults_after = o.sink.faults_after })
+    → o.sink.faults_before ≤ faults → Begins o.source.before (text ++ last) → (Grew o.sink.before o.sink.after (text ++ last) → ConvertedAs ended.status ended o) → ConvertedAs result.status result o
+ends_written o between faults waiting text last ended result s writes later begins ends =
+    elim writes [
+      | inl whole ↦ subst (λ (x : Ended). ConvertedAs x.status x o) (sym whole.0) (ends (grew_written o.sink.before between o.sink.after waiting text last s whole.1))
+      | inr cut ↦
+          ends_write o result (text ++ last) cut.status_is
+          (cut_part o.sink.before between waiting text last result (record { before = between; after = o.sink.after; faults_before = faults; faults_after = o.sink.faults_after }) s cut) begins
+          (rose_since o.sink.faults_before faults o.sink.faults_after later cut.cause)
+    ]
+
+-- a write failed before a line
+pub ends_unsent : (o : Outside) (left w1 : Option (List ℕ)) (waiting now : OutputView) (r : PairRead) (lines : ℕ) (rest : List ℕ) (ended : Ended) → Converting o.source.before left o.sink.before w1 waiting r lines → Passes waiting now w1 o.sink.after [] rest
+    → ended.status ≡ status.Write → ended.place ≡ now.sent → Rose o.sink.faults_before o.sink.faults_after → ConvertedAs ended.status ended o
+ends_unsent o left w1 waiting now r lines rest ended k p e place rose =
+    ends_write o ended k.text e (text_part o.sink.before w1 o.sink.after waiting now k.text rest ended.place k.sent p place) (begins o.source.before left k.text r (lines + 1) k.tells) rose
+
+-- a line could not be written
+pub ends_lost : (o : Outside) (b c w1 : Option (List ℕ)) (waiting now : OutputView) (r next : PairRead) (lines : ℕ) (text rest : List ℕ) (ended : Ended) → Converting o.source.before b o.sink.before w1 waiting r lines → FindsTaken (lines + 1) r (Ok false) next text b c
+    → Passes waiting now w1 o.sink.after text rest → ended.status ≡ status.Write → ended.place ≡ now.sent → Rose o.sink.faults_before o.sink.faults_after → ConvertedAs ended.status ended o
+ends_lost o b c w1 waiting now r next lines text rest ended k finds p e place rose =
+    ends_write o ended (k.text ++ text) e (piece_part o.sink.before w1 o.sink.after waiting now k.text text rest ended.place k.sent p place)
+    (begins o.source.before c (k.text ++ text) next (lines + 1 + 1) (tells_next o.source.before b c k.text text finds.0 r next (lines + 1) k.tells finds.1 finds.2 finds.3)) rose
+
+-- all was converted to this text, and the run ends so
+abbrev IsAll : Option (List ℕ) → List ℕ → Ended → Type 0
+IsAll told text ended = IfSome told (λ input. converted_whole input ≡ record { text = text; ended = ended })
+
+all_begins : (told : Option (List ℕ)) (text : List ℕ) (ended : Ended) → IsAll told text ended → Begins told text
+all_begins told text ended all = IfSome_then told all (λ input e. ([], ap (λ (w : Whole). w.text) e ∙ sym (append-nil text)))
+
+all_wrote : (o : Outside) (text : List ℕ) (ended : Ended) → IsAll o.source.before text ended → Grew o.sink.before o.sink.after text → WroteAll ended o
+all_wrote o text ended all grew = IfSome_then o.source.before all (λ input e. (text, grew, (sym (ap (λ (w : Whole). w.text) e), sym (ap (λ (w : Whole). w.ended) e))))
+
+-- the last line came
+all_ended : (left0 b c : Option (List ℕ)) (before text line : List ℕ) (r next : PairRead) (number : ℕ) → Tells left0 b before r number → IsLine line → Consumes b c (line ++ 10 ∷ []) → line_taken number r line ≡ Ok (record { next = next; text = text; ends = true })
+    → IsAll left0 (before ++ text) (ended_at_stop AtEnd)
+all_ended None b c before text line r next number tells is goes taken = tt
+all_ended (Some xs) None c before text line r next number tells is goes taken = absurd tells
+all_ended (Some xs) (Some ys) None before text line r next number tells is goes taken = absurd goes
+all_ended (Some xs) (Some ys) (Some zs) before text line r next number tells is goes taken =
+    tells ∙ ap (after_part before) (told_next number r next line text ys zs true is goes taken)
+
+pub ends_at_end : (o : Outside) (b c w1 : Option (List ℕ)) (faults : ℕ) (waiting : OutputView) (r next : PairRead) (lines : ℕ) (text : List ℕ) (result : Ended) → Converting o.source.before b o.sink.before w1 waiting r lines → FindsTaken (lines + 1) r (Ok true) next text b c
+    → Writes waiting.sent (waiting.bytes ++ text) (ended_at_stop AtEnd) result (record { before = w1; after = o.sink.after; faults_before = faults; faults_after = o.sink.faults_after }) → o.sink.faults_before ≤ faults → ConvertedAs result.status result o
+ends_at_end o b c w1 faults waiting r next lines text result k finds writes later =
+    let all = all_ended o.source.before b c k.text text finds.0 r next (lines + 1) k.tells finds.1 finds.2 finds.3 in
+    ends_written o w1 faults waiting k.text text (ended_at_stop AtEnd) result k.sent writes later (all_begins o.source.before (k.text ++ text) (ended_at_stop AtEnd) all)
+    (λ grew. record { place_is = refl; wrote = all_wrote o (k.text ++ text) (ended_at_stop AtEnd) all grew })
+
+-- the next line is refused
+refused_told : (number : ℕ) (r : PairRead) (lines : Lines) (why : InputCause) → taken_by number r (first_line lines) ≡ Err why → told number r lines ≡ refused_whole number why
+refused_told number r [] why e =
+    let same : NoLine ≡ why = cc in
+    ap (refused_whole number) same
+refused_told number r (Err other ∷ rest) why e =
+    let same : other ≡ why = cc in
+    ap (refused_whole number) same
+refused_told number r (Ok line ∷ rest) why e = ap (λ (t : Result LineTaken InputCause). told_by number t (λ next. told (number + 1) next rest)) e
+
+all_refused : (left0 b : Option (List ℕ)) (before : List ℕ) (r : PairRead) (number : ℕ) (why : InputCause) → Tells left0 b before r number → IfSome b (λ input. taken_by number r (first_line (lines_of input)) ≡ Err why)
+    → IsAll left0 (before ++ refused_line number why) (refused_at number)
+all_refused None b before r number why tells refused = tt
+all_refused (Some xs) None before r number why tells refused = absurd tells
+all_refused (Some xs) (Some ys) before r number why tells refused = tells ∙ ap (after_part before) (refused_told number r (lines_of ys) why refused)
+
+-- the input goes no further
+pub ends_halted : (o : Outside) (b w1 : Option (List ℕ)) (held : List ℕ) (source faults : ℕ) (waiting : OutputView) (r next : PairRead) (lines after : ℕ) (text : List ℕ) (why : Halt) (result : Ended) → Converting o.source.before b o.sink.before w1 waiting r lines
+    → FindsTaken (lines + 1) r (Err why) next text b (prepend_known held o.source.after) → Goes {T = Bool} (Err why) lines after b (prepend_known held o.source.after) → Stalls {T = Bool} (Err why) held → Blames {T = Bool} (Err why) source o.source.faults_after
+    → o.source.faults_before ≤ source → Writes waiting.sent (waiting.bytes ++ last_of why) (halted_by why) result (record { before = w1; after = o.sink.after; faults_before = faults; faults_after = o.sink.faults_after }) → o.sink.faults_before ≤ faults
+    → ConvertedAs result.status result o
+ends_halted o b w1 held source faults waiting r next lines after text (halt.Read count) result k finds goes stalls blames earlier writes later =
+    let begun = begins o.source.before b k.text r (lines + 1) k.tells in
+    ends_written o w1 faults waiting k.text [] (halted_by (halt.Read count)) result k.sent writes later (subst (Begins o.source.before) (sym (append-nil k.text)) begun)
+    (λ grew.
+    record {
+      read = halts_after o.source.before b o.source.after held lines after (halt.Read count) k.took goes stalls;
+      wrote = IfSome_then o.source.before begun (λ input is. (k.text, subst (Grew o.sink.before o.sink.after) (append-nil k.text) grew, is));
+      cause = rose_since o.source.faults_before source o.source.faults_after earlier blames;
+    })
+ends_halted o b w1 held source faults waiting r next lines after text halt.Memory result k finds goes stalls blames earlier writes later = absurd finds
+ends_halted o b w1 held source faults waiting r next lines after text (halt.Refused number why) result k finds goes stalls blames earlier writes later =
+    let all = subst (λ (n : ℕ). IsAll o.source.before (k.text ++ refused_line n (input_cause why)) (refused_at n)) (sym goes) (all_refused o.source.before b k.text r (lines + 1) (input_cause why) k.tells finds) in
+    ends_written o w1 faults waiting k.text (refused_line number (input_cause why)) (refused_at number) result k.sent writes later
+    (all_begins o.source.before (k.text ++ refused_line number (input_cause why)) (refused_at number) all)
+    (λ grew. record { number = (lines, b, goes, k.took); wrote = all_wrote o (k.text ++ refused_line number (input_cause why)) (refused_at number) all grew })
+
+-- where neither a read nor a write failed, the run ends as the input stops
+stops_so : (s : Status) (ended : Ended) (o : Outside) → ConvertedAs s ended o → (Rose o.source.faults_before o.source.faults_after → ⊥) → (Rose o.sink.faults_before o.sink.faults_after → ⊥)
+    → IfSome o.source.before (λ input. ended ≡ ended_at_stop (input_of kind.Pair input).stop)
+stops_so status.Ok ended o ends read write = IfSome_then o.source.before ends.wrote (λ input wrote. wrote.2.1)
+stops_so status.Line ended o ends read write = IfSome_then o.source.before ends.wrote (λ input wrote. wrote.2.1)
+stops_so status.Read ended o ends read write = absurd (read ends.cause)
+stops_so status.Write ended o ends read write = absurd (write ends.cause)
+stops_so status.Other ended o ends read write = absurd ends
+stops_so status.Usage ended o ends read write = absurd ends
+stops_so status.Config ended o ends read write = absurd ends
+stops_so status.Desk ended o ends read write = absurd ends
+stops_so status.Memory ended o ends read write = absurd ends
+
+pub ran_by : (ended : Ended) (o : Outside) → ConvertedAs ended.status ended o → o.source.faults_before ≤ o.source.faults_after → o.sink.faults_before ≤ o.sink.faults_after → RanConvert ended o
+ran_by ended o ends source sink = record { ends = ends; stops = stops_so ended.status ended o ends; source_later = source; sink_later = sink }
+
+-- why there is no next line, or why it is refused
+pub no_next : (number : ℕ) (r next : PairRead) (why : Halt) (line text : List ℕ) (old new : Option (List ℕ)) → FindsLine (Err why) line old new → FindsTaken number r (Err why) next text old new
+no_next number r next (halt.Read lines) line text old new finds = tt
+no_next number r next halt.Memory line text old new finds = absurd finds
+no_next number r next (halt.Refused at why) line text old new finds = IfSome_then old finds (λ input e. ap (taken_by number r) e)
+
+pub next_refused : (number : ℕ) (r : PairRead) (old new : Option (List ℕ)) (line : List ℕ) (why : InputCause) → IsLine line → Consumes old new (line ++ 10 ∷ []) → line_taken number r line ≡ Err why
+    → IfSome old (λ input. taken_by number r (first_line (lines_of input)) ≡ Err why)
+next_refused number r old new line why is goes e = by_line old new line (λ lines. taken_by number r (first_line lines) ≡ Err why) is goes (λ rest. e)
+
+-- what a line says by the lengths and the profiles of a header
+pub said_as : (lengths : Lengths) (profiles : Profiles) (h : Heading) (text : List ℕ) → lengths.master ≡ h.lengths.master → lengths.slave ≡ h.lengths.slave → profiles.master ≡ h.master.profile → profiles.slave ≡ h.slave.profile
+    → said_after kind.Pair h text ≡ pair_line (length_of lengths) (profile_of profiles) text
+said_as lengths profiles h text lm ls pm ps =
+    ap (λ (sends : End → ℕ). pair_line sends (heading_profile h) text) (same_ends (own_length h) (length_of lengths) (sym lm) (sym ls))
+    ∙ ap (λ (p : End → Profile). pair_line (length_of lengths) p text) (same_ends (heading_profile h) (profile_of profiles) (sym pm) (sym ps))

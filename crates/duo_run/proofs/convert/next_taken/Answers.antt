@@ -1,0 +1,10 @@
+use Rattle.std.proofs.Common.{◌+◌, ◌∙◌}
+use Rattle.file_run.specs.Refusal.{input_cause}
+use Rattle.duo_run.proofs.Converting.{next_refused}
+use Rattle.duo_run.proofs.convert.next_taken.Goals as goal
+
+pub returns-in-Err-take-clause-finds : goal.returns-in-Err-take-clause-finds
+returns-in-Err-take-clause-finds g c =
+    let line = c.in-Ok.ensures.finds in
+    next_refused (c.args.reader.now.lines + 1) c.args.reading.now _ _ c.next_line.new.reader.line (input_cause c.in-Err-take.cause) line.0 line.1
+    (rw (c.line.ensures, c.lines.ensures ∙ c.in-Ok.ensures.goes) at c.in-Err-take.ensures.takes)

@@ -1,0 +1,104 @@
+-- What a pair file is converted to: a file of several pairs, of which it is the only one.
+use Rattle.std.specs.Prelude.{◌≡◌, ℕ, ◌-◌, ◌≤◌, List, [], ◌∷◌, ◌++◌, codes, length, take, Result, Ok, Err, IfSome}
+use Rattle.std.specs.List.{flat_map}
+use Rattle.fsoe_io.specs.Faults.{Rose}
+use Rattle.fsoe_io.specs.declared.status.Ended.{Ended}
+use Rattle.fsoe_io.specs.declared.status.Status.{Status}
+use Rattle.fsoe_io.specs.declared.status.Status.TheVariants as status
+use Rattle.schedule_file.specs.Input.{AtEnd, Input, Refused, Stop, WholeHeader, header_of, input_after, input_of, lines_of, schedule_format, texts}
+use Rattle.schedule_file.specs.declared.header_kind.HeaderKind.TheVariants as kind
+use Rattle.file_run.specs.Ending.{Appended, LinesBefore, ReadLines}
+use Rattle.file_run.specs.Outside.{Outside, Wrote}
+use Rattle.file_run.specs.Report.{refused_line}
+use Rattle.file_run.specs.Reporting.{IsPrefix, refused_at}
+
+-- a line with its newline
+abbrev pub line_text : List ℕ → List ℕ
+line_text line = line ++ 10 ∷ []
+
+-- the lines that the first line gives: that of the header, and that of the only pair
+abbrev pub title_text : List ℕ
+title_text = codes "fsoe 2 pairs\npair 1\n"
+
+-- the lines of a header: the first gives two, and each later one stands as it is
+abbrev pub header_text : List (List ℕ) → List ℕ
+header_text [] = []
+header_text (title ∷ lines) = title_text ++ flat_map line_text lines
+
+-- the line of an event: that of the only pair
+abbrev pub event_text : List ℕ → List ℕ
+event_text line = codes "1 " ++ line_text line
+
+-- the last line: `end` stands, and another is refused
+abbrev pub last_text : Stop → List ℕ
+last_text AtEnd = codes "end\n"
+last_text (Refused number why) = refused_line number why
+
+-- how many lines stand before a refused one
+abbrev pub lines_before : Stop → ℕ
+lines_before AtEnd = 0
+lines_before (Refused number why) = number - 1
+
+-- the lines of the events of an input, of which these stand after its header, and the last one
+abbrev pub events_text : Input → List (List ℕ) → List ℕ
+events_text input lines = flat_map event_text (take (length input.events) lines) ++ last_text input.stop
+
+-- the lines of an input before its stop, by its header, and the last one
+abbrev pub converted_by : Result WholeHeader Stop → List (List ℕ) → List ℕ
+converted_by (Ok headed) lines = header_text (take headed.lines lines) ++ events_text (input_after (schedule_format kind.Pair) headed) (texts headed.rest)
+converted_by (Err stop) lines = header_text (take (lines_before stop) lines) ++ last_text stop
+
+-- what the bytes of a pair file are converted to
+abbrev pub converted : List ℕ → List ℕ
+converted bytes = converted_by (header_of kind.Pair bytes) (texts (lines_of bytes))
+
+-- how a conversion ends, by how its input stops
+abbrev pub ended_at_stop : Stop → Ended
+ended_at_stop AtEnd = record { status = status.Ok; place = 0 }
+ended_at_stop (Refused number why) = refused_at number
+
+-- the whole text was written, and the conversion ended as its input stops
+abbrev pub WroteAll : Ended → Outside → Type 0
+WroteAll ended o = Wrote o (λ input text. (text ≡ converted input) × (ended ≡ ended_at_stop (input_of kind.Pair input).stop))
+
+-- a line is refused, whose number is the place
+pub record ConvertedToRefused (ended : Ended) (o : Outside) : Type 0 where
+  pub number : LinesBefore ended.place o.source.before
+  pub wrote : WroteAll ended o
+
+-- the input came to its `end`
+pub record ConvertedToEnd (ended : Ended) (o : Outside) : Type 0 where
+  pub place_is : ended.place ≡ 0
+  pub wrote : WroteAll ended o
+
+-- a read failed after so many whole lines
+pub record ConvertRead (lines : ℕ) (o : Outside) : Type 0 where
+  pub read : ReadLines lines o.source.before o.source.after
+  pub wrote : Wrote o (λ input text. IsPrefix text (converted input))
+  pub cause : Rose o.source.faults_before o.source.faults_after
+
+-- a write failed after so many bytes
+pub record ConvertWrite (bytes : ℕ) (o : Outside) : Type 0 where
+  pub appended : Appended bytes o.sink.before o.sink.after
+  pub wrote : Wrote o (λ input text. (bytes ≡ length text) × IsPrefix text (converted input))
+  pub cause : Rose o.sink.faults_before o.sink.faults_after
+
+-- what each status says of a conversion, with its place
+abbrev pub ConvertedAs : Status → Ended → Outside → Type 0
+ConvertedAs status.Ok ended o = ConvertedToEnd ended o
+ConvertedAs status.Line ended o = ConvertedToRefused ended o
+ConvertedAs status.Read ended o = ConvertRead ended.place o
+ConvertedAs status.Write ended o = ConvertWrite ended.place o
+ConvertedAs status.Other ended o = ⊥
+ConvertedAs status.Usage ended o = ⊥
+ConvertedAs status.Config ended o = ⊥
+ConvertedAs status.Desk ended o = ⊥
+ConvertedAs status.Memory ended o = ⊥
+
+-- an input was converted: how this ended; where neither count of faults rose, as the input stops; and no count fell
+pub record RanConvert (ended : Ended) (o : Outside) : Type 0 where
+  pub ends : ConvertedAs ended.status ended o
+  pub stops : (Rose o.source.faults_before o.source.faults_after → ⊥) → (Rose o.sink.faults_before o.sink.faults_after → ⊥)
+      → IfSome o.source.before (λ input. ended ≡ ended_at_stop (input_of kind.Pair input).stop)
+  pub source_later : o.source.faults_before ≤ o.source.faults_after
+  pub sink_later : o.sink.faults_before ≤ o.sink.faults_after

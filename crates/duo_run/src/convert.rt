@@ -1,0 +1,215 @@
+//! A pair file written as a file of several pairs, of which it is the only one.
+ghost use Rattle.std.specs.Io.KnownBytes.{prepend_known};
+ghost use Rattle.std.specs.Prelude.{◌≡◌, ◌+◌, ◌-◌, ◌^◌, ◌≤◌, ◌<◌, IfOk, false, length};
+ghost use Rattle.schedule_file.specs.declared.header_kind.HeaderKind.TheVariants as kind;
+ghost use Rattle.schedule_file.specs.declared.line_buf.TheConstants.{MAX_LINE};
+ghost use Rattle.schedule_file.specs.Header.{heading_after};
+ghost use Rattle.schedule_file.specs.Input.{said_after};
+ghost use Rattle.file_run.specs.Halt.{Blames, Goes, Stalls};
+ghost use Rattle.duo_run.specs.Convert.{RanConvert, event_text, line_text};
+ghost use Rattle.duo_run.specs.Converting.{FindsTaken, Takes, event_taken, header_piece, header_taken, later_taken, left_to_take, line_taken, read_none};
+
+use file_run::{Halt, Refusal, close, halt_run, next_line, send_before_read, write_failed};
+use fsoe_io::{Ended, LineReader, LineText, Output, Sink, Source, Status};
+use schedule_file::{Header, HeaderKind, MAX_EVENTS, ScheduleLine, read_event_into};
+use std::marker::Model;
+
+/// What was read of a pair file, line by line.
+#[derive(Drop)]
+struct PairReading {
+    header: Header,
+    events: u64,
+    /// What the last line after the header said.
+    said: ScheduleLine,
+}
+
+impl Model for PairReading {
+    ghost use Rattle.std.specs.Prelude.{◌≡◌, ◌≤◌};
+    ghost use Rattle.schedule_file.specs.declared.event.TheConstants.{MAX_EVENTS};
+    ghost use Rattle.schedule_file.specs.declared.header_kind.HeaderKind.TheVariants as kind;
+    ghost use Rattle.duo_run.specs.Converting.{PairRead};
+
+    ghost Value = { PairRead };
+
+    ghost view = { λ r. record { heading = r.header; events = r.events } };
+
+    ghost invariant = { λ r. (r.events ≤ MAX_EVENTS) × (r.header.kind ≡ kind.Pair) };
+}
+
+/// Writes what a line of a header is converted to, which has this number, from 1.
+fn write_header_line(number: u64, line: &[u8], text: &mut LineText)
+    requires { length line.now ≤ MAX_LINE }
+    ensures { text.new ≡ header_piece number line.now }
+{
+    text.clear();
+    if number == 1 {
+        text.push(b"fsoe 2 pairs\npair 1\n");
+    } else {
+        text.push(line);
+        text.push(b"\n");
+    }
+}
+
+/// Writes what the line of an event is converted to.
+fn write_event_line(line: &[u8], text: &mut LineText)
+    requires { length line.now ≤ MAX_LINE }
+    ensures { text.new ≡ event_text line.now }
+{
+    text.clear();
+    text.push(b"1 ");
+    text.push(line);
+    text.push(b"\n");
+}
+
+impl PairReading {
+    /// Nothing is read.
+    fn new() -> PairReading
+        ensures { result ≡ read_none }
+    {
+        PairReading {
+            header: Header::new(HeaderKind::Pair),
+            events: 0,
+            said: ScheduleLine::End,
+        }
+    }
+
+    /// Takes the line of this number, from 1, and writes what it is converted to: whether it is the last. Or tells why it is refused.
+    fn take(&mut self, number: u64, line: &[u8], text: &mut LineText) -> Result<bool, Refusal>
+        requires { length line.now ≤ MAX_LINE }
+        ensures takes { Takes result self.new text.new (line_taken number self.old line.now) }
+        ensures fewer { IfOk result (λ ends. ends ≡ false → left_to_take self.new < left_to_take self.old) }
+    {
+        if self.header.is_done() {
+            self.take_later(line, text)
+        } else {
+            self.take_header(number, line, text)
+        }
+    }
+
+    /// Takes a line of the header.
+    fn take_header(
+        &mut self,
+        number: u64,
+        line: &[u8],
+        text: &mut LineText,
+    ) -> Result<bool, Refusal>
+        requires { length line.now ≤ MAX_LINE }
+        ensures takes { Takes result self.new text.new (header_taken number self.old line.now (heading_after self.old.heading line.now)) }
+        ensures fewer { IfOk result (λ ends. left_to_take self.new < left_to_take self.old) }
+    {
+        if let Err(cause) = self.header.line(line) {
+            return Err(Refusal::Line(cause));
+        }
+        write_header_line(number, line, text);
+        Ok(false)
+    }
+
+    /// Takes a line after the header.
+    fn take_later(&mut self, line: &[u8], text: &mut LineText) -> Result<bool, Refusal>
+        requires { length line.now ≤ MAX_LINE }
+        ensures takes { Takes result self.new text.new (later_taken self.old line.now) }
+        ensures fewer { IfOk result (λ ends. ends ≡ false → left_to_take self.new < left_to_take self.old) }
+    {
+        if self.events < MAX_EVENTS {
+            return self.take_event(line, text);
+        }
+        if line != b"end".as_slice() {
+            return Err(Refusal::TooMany);
+        }
+        text.clear();
+        text.push(b"end\n");
+        Ok(true)
+    }
+
+    /// Takes an event, or the end.
+    fn take_event(&mut self, line: &[u8], text: &mut LineText) -> Result<bool, Refusal>
+        requires short { length line.now ≤ MAX_LINE }
+        requires few { self.old.events < MAX_EVENTS }
+        ensures takes { Takes result self.new text.new (event_taken self.old line.now (said_after kind.Pair self.old.heading line.now)) }
+        ensures fewer { IfOk result (λ ends. ends ≡ false → left_to_take self.new < left_to_take self.old) }
+    {
+        let lengths = self.header.lengths();
+        let profiles = self.header.profiles();
+        if let Err(cause) = read_event_into(line, &lengths, &profiles, &mut self.said) {
+            return Err(Refusal::Line(cause));
+        }
+        match self.said {
+            ScheduleLine::Step(_) => {
+                self.events += 1;
+                write_event_line(line, text);
+                Ok(false)
+            }
+            ScheduleLine::End => {
+                text.clear();
+                text.push(b"end\n");
+                Ok(true)
+            }
+        }
+    }
+}
+
+/// Takes the next line, and writes what it is converted to: whether it is the last. Or tells why there is none.
+fn next_taken<S: Source>(
+    reader: &mut LineReader,
+    source: &mut S,
+    reading: &mut PairReading,
+    text: &mut LineText,
+) -> Result<bool, Halt>
+    requires { reader.old.lines < 2 ^ 64 - 1 }
+    ensures finds { FindsTaken (reader.old.lines + 1) reading.old result reading.new text.new
+        (prepend_known reader.old.bytes (S.left source.old))
+        (prepend_known reader.new.bytes (S.left source.new)) }
+    ensures goes { Goes result reader.old.lines reader.new.lines
+        (prepend_known reader.old.bytes (S.left source.old))
+        (prepend_known reader.new.bytes (S.left source.new)) }
+    ensures fewer { IfOk result (λ ends. ends ≡ false → left_to_take reading.new < left_to_take reading.old) }
+    ensures stalls { Stalls result reader.new.bytes }
+    ensures later { S.faults source.old ≤ S.faults source.new }
+    ensures cause { Blames result (S.faults source.old) (S.faults source.new) }
+{
+    match next_line(reader, source) {
+        Ok(()) => match reading.take(reader.lines(), reader.line(), text) {
+            Ok(ends) => Ok(ends),
+            Err(cause) => Err(Halt::Refused(reader.lines(), cause)),
+        },
+        Err(why) => Err(why),
+    }
+}
+
+/// Writes a pair file as a file of several pairs, of which it is the only one: its first line gives the lines `fsoe 2 pairs` and
+/// `pair 1`, its header lines from the second on stand as they are, each event line gets `1 ` before it, and `end` stands. Where a line is refused,
+/// as a replay refuses it that looks at no frame that was sent, it writes `refused <line> <cause>` in its place. What waits for output is sent
+/// before a read that may block, and when the run ends. It takes no memory.
+///
+/// The status is `Ok` exactly where the input stops by `end` and neither the source nor the sink failed; `Line` with the number of the refused
+/// line; `Read` with the whole lines read, only where the source failed; or `Write` with the bytes written, only where the sink failed.
+pub fn run_convert<S: Source, K: Sink>(source: &mut S, sink: &mut K) -> Ended
+    ensures { RanConvert result (record {
+      source = record { before = S.left source.old; after = S.left source.new; faults_before = S.faults source.old; faults_after = S.faults source.new };
+      sink = record { before = K.written sink.old; after = K.written sink.new; faults_before = K.faults sink.old; faults_after = K.faults sink.new };
+    }) }
+{
+    let mut reader = LineReader::new();
+    let mut output = Output::new();
+    let mut reading = PairReading::new();
+    let mut text = LineText::new();
+    loop {
+        if let Err(_) = send_before_read(&reader, &mut output, sink) {
+            return write_failed(&output);
+        }
+        let ends = match next_taken(&mut reader, source, &mut reading, &mut text) {
+            Ok(ends) => ends,
+            Err(why) => return halt_run(&mut output, sink, why),
+        };
+        if ends {
+            let ended = Ended {
+                status: Status::Ok,
+                place: 0,
+            };
+            return close(&mut output, sink, text.bytes(), ended);
+        }
+        if let Err(_) = output.put(sink, text.bytes()) {
+            return write_failed(&output);
+        }
+    }
+}
