@@ -1,5 +1,6 @@
 pub mod Acts
 pub mod Bound
+pub mod BoundLines
 pub mod Doing
 pub mod FairPairs
 pub mod Given
