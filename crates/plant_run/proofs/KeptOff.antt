@@ -77,7 +77,7 @@ offers_is s which bit w =
     bit_by s bit (is_held (of_end which w)) (last_put (of_end which w))
     ∙ ap₂ (λ (now : Bool) (load : List ℕ). not now && bit_of load bit) (held_is which w) (sym (offer_is s which w))
 
-and_false : (b : Bool) → (b && false) ≡ false
+pub and_false : (b : Bool) → (b && false) ≡ false
 and_false true = refl
 and_false false = refl
 

@@ -1,4 +1,5 @@
 mod Acting
+mod Broken
 mod Cycled
 mod Cycling
 mod FairPlant

@@ -28,6 +28,7 @@ use Rattle.plant_run.specs.Turns.{Named, acts, said, said_by_turns}
 use Rattle.plant_run.specs.Uses.{Trace}
 use Rattle.plant_run.specs.declared.event.PlantLine.{PlantLine}
 use Rattle.plant_run.specs.declared.journal.JournalStep.{JournalStep}
+use Rattle.plant_run.proofs.Broken.{broken_by_other}
 use Rattle.plant_run.proofs.FairPlant.{plants_are_fair}
 use Rattle.plant_run.proofs.Reacting.{reacts}
 
@@ -102,6 +103,7 @@ ran_plant t ended o before after steps unbegun stands closes ran leaves nothing 
               answered = s.runs.stands.has_done.answered;
               guarded = s.runs.stands.has_done.guarded;
               reacts = reacts t.begins s.view s.runs.turns s.runs.stands s.same_lengths;
+              broken = broken_by_other t.begins s.view s.runs.turns s.runs.stands s.same_lengths;
               text_is = s.runs.text_is ∙ ap (ticks_text t.begins.links) (sym s.steps_are);
               begun = did.begun;
               ends = leaves_as t closes (IsReportOf t steps) closed d ended.status ended o did.ends;

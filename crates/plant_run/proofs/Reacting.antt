@@ -50,7 +50,7 @@ world_before link k before more h =
     let g = grown_any side.Master link k more before in
     older_world link.master link.slave g.new (pair link k before) (subst (IsWorld link.master link.slave) g.is h)
 
-clean_before : (link : LinkConf) (k : ℕ) (before more : List JournalStep) → Clean link k (before ++ more) → Clean link k before
+pub clean_before : (link : LinkConf) (k : ℕ) (before more : List JournalStep) → Clean link k (before ++ more) → Clean link k before
 clean_before link k before more c =
     let g = grown_any side.Master link k more before in
     record {
@@ -247,7 +247,7 @@ steps_off b bound estop drive (act ∷ later) earlier steps rest links q e ce cd
     ]
 
 -- a pair in the first steps of a plant's journal, without another entry in these
-clean_at : (b : Beginning) (v : PlantView) (turns : List Turn) (link : LinkConf) (k : ℕ) (steps rest : List JournalStep) → PlantStands b v turns → All HasSameLengths b.links → link_at b.links k ≡ Some link
+pub clean_at : (b : Beginning) (v : PlantView) (turns : List Turn) (link : LinkConf) (k : ℕ) (steps rest : List JournalStep) → PlantStands b v turns → All HasSameLengths b.links → link_at b.links k ≡ Some link
     → v.journal ≡ steps ++ rest → NoOther (pair link k steps) → Clean link k steps
 clean_at b v turns link k steps rest h same is e none =
     let p = placed b.links k link is in
@@ -260,7 +260,7 @@ clean_at b v turns link k steps rest h same is e none =
     }
 
 -- the journal of the first acts begins that of all
-first_acts : (b : Beginning) (more done : List Act) → (rest : List JournalStep) × (journal b (more ++ done) ≡ journal b done ++ rest)
+pub first_acts : (b : Beginning) (more done : List Act) → (rest : List JournalStep) × (journal b (more ++ done) ≡ journal b done ++ rest)
 first_acts b [] done = ([], sym (append-nil (journal b done)))
 first_acts b (act ∷ more) done =
     let before = first_acts b more done in

@@ -41,7 +41,7 @@ pub guarded_keeps : (b : Beginning) (bound : BoundSpec) (act : Act) (done : List
 guarded_keeps b bound act done g a on = keeps_by (masters b (act ∷ done)).app.guards (inputs_after b (act ∷ done)) (offers_after b (act ∷ done)) bound (cycle_of b act done) g a on
 
 -- what is true of both
-both_first : (x y : Bool) → (x && y) ≡ true → x ≡ true
+pub both_first : (x y : Bool) → (x && y) ≡ true → x ≡ true
 both_first true y h = refl
 both_first false y h = h
 

@@ -1,6 +1,7 @@
 pub mod Acts
 pub mod Bound
 pub mod BoundLines
+pub mod Broken
 pub mod Doing
 pub mod FairPairs
 pub mod Given

@@ -9,6 +9,7 @@ use Rattle.file_run.specs.Outside.{Outside}
 use Rattle.file_run.specs.Ran.{RanOver}
 use Rattle.plant_run.specs.Acts.{journal, uses}
 use Rattle.plant_run.specs.Bound.{Reacts}
+use Rattle.plant_run.specs.Broken.{BrokenByOther}
 use Rattle.plant_run.specs.FairPairs.{PairsAreFair}
 use Rattle.plant_run.specs.PlantReport.{report_end, report_text, ticks_text}
 use Rattle.plant_run.specs.Promises.{AllAnswered, AllGuarded}
@@ -25,7 +26,8 @@ abbrev pub IsReportOf : Terms → List JournalStep → ScriptHeading → List Pl
 IsReportOf t steps h log text ended = (text ≡ report_text t.begins.links steps AtEnd) × (ended ≡ report_end t.begins.links steps AtEnd)
 
 -- these turns were done, one for each of the first lines after the script's title; what was written is the report of the journal as far as the
--- run came; after each act that ran a cycle all offers were the answer, in which what is guarded is kept off; and drives react in time
+-- run came; after each act that ran a cycle all offers were the answer, in which what is guarded is kept off; and drives react in time, so
+-- that a bound is broken only where a pair has an other entry
 pub record DidTurns (t : Terms) (turns : List Turn) (steps : List JournalStep) (ended : Ended) (o : Outside) : Type 0 where
   pub turns_are : All (IsTurn t.begins.links) turns
   pub journal_is : steps ≡ journal t.begins (acts turns)
@@ -35,6 +37,7 @@ pub record DidTurns (t : Terms) (turns : List Turn) (steps : List JournalStep) (
   pub answered : AllAnswered t.begins (acts turns)
   pub guarded : AllGuarded t.begins (acts turns)
   pub reacts : Reacts t.begins (acts turns)
+  pub broken : BrokenByOther t.begins turns
   pub text_is : done.text ≡ ticks_text t.begins.links steps
   pub begun : IsBegun (plant_reporting t).format done o.source.before
   pub ends : LeavesAs (plant_reporting t).format (IsReportOf t steps) done ended.status ended o

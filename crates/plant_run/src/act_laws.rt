@@ -4,6 +4,7 @@ ghost use Rattle.std.specs.Prelude.{◌≡◌, List, All, map};
 ghost use Rattle.plant_conf.specs.ConfView.{HasSameLengths};
 ghost use Rattle.plant_run.specs.Acts.{Beginning, Act, journal, uses};
 ghost use Rattle.plant_run.specs.Bound.{Reacts};
+ghost use Rattle.plant_run.specs.Broken.{BrokenByOther};
 ghost use Rattle.plant_run.specs.FairPairs.{PairsAreFair};
 ghost use Rattle.plant_run.specs.Promises.{MastersAgree, Cycles, AllAnswered, AllGuarded, PullsFit, line_step, line_steps, pulled_in, short_ticks};
 ghost use Rattle.plant_run.specs.Standing.{PlantView, IsTurn, PlantStands};
@@ -67,6 +68,11 @@ pub fn guards()
 /// an other entry.
 pub fn reacts()
     ensures { (b : Beginning) (v : PlantView) (turns : List Turn) → PlantStands b v turns → All HasSameLengths b.links → Reacts b (acts turns) }
+{}
+
+/// A bound is broken only where the pair of one of its bits has an other entry: else no tick is late.
+pub fn broken()
+    ensures { (b : Beginning) (v : PlantView) (turns : List Turn) → PlantStands b v turns → All HasSameLengths b.links → BrokenByOther b turns }
 {}
 
 /// The parcels that the channel gave are those in the journal, in their order. Its pulls that gave nothing are as many as the ticks after
