@@ -1,13 +1,12 @@
 -- What the lines of a pair file are converted to one by one is what the file is converted to.
-use Rattle.std.proofs.Common.{◌≡◌, ℕ, suc, zero, ◌+◌, ◌-◌, Bool, true, false, List, [], ◌∷◌, ◌++◌, length, take, map, refl, ap, ◌∙◌, sym, subst, append_assoc, add-zero, arith}
-use Rattle.std.specs.Prelude.{Result, Ok, Err, Option, Some, None, MatchResult, codes, slice_get, ◌==◌, if◌then◌else◌}
+use Rattle.std.proofs.Common.{◌≡◌, ℕ, suc, ◌+◌, ◌-◌, Bool, true, false, List, [], ◌∷◌, ◌++◌, length, take, map, refl, ap, ◌∙◌, sym, subst, append_assoc, add-zero, arith}
+use Rattle.std.specs.Prelude.{Result, Ok, Err, MatchResult, codes, slice_get, ◌==◌, if◌then◌else◌}
 use Rattle.std.specs.List.{flat_map}
 use Rattle.std.specs.Str.{bytes_eq}
 use Rattle.fsoe_io.specs.declared.status.Ended.{Ended}
 use Rattle.schedule_file.specs.Header.{Heading, heading_after, heading_is_whole, heading_new}
-use Rattle.schedule_file.specs.Input.{AtEnd, InputCause, InputFormat, Line, NoLine, Refused, Stop, TooMany, WholeHeader, WholeHeaderOf, event_of, header_in, header_of, header_step, input_after, input_by, input_of, is_full, lines_of, said_after, schedule_format, steps, stop_at, stop_by, stop_full, texts, with_room}
+use Rattle.schedule_file.specs.Input.{AtEnd, InputCause, Line, NoLine, Refused, Stop, TooMany, WholeHeader, event_of, header_in, header_of, header_step, input_by, input_of, is_full, lines_of, said_after, schedule_format, steps, stop_at, stop_by, stop_full, texts, with_room}
 use Rattle.schedule_file.specs.declared.event.Event.{Event}
-use Rattle.schedule_file.specs.declared.event.TheConstants.{MAX_EVENTS}
 use Rattle.schedule_file.specs.declared.event.ScheduleLine.{ScheduleLine}
 use Rattle.schedule_file.specs.declared.event.ScheduleLine.TheVariants as said
 use Rattle.schedule_file.specs.declared.header_kind.HeaderKind.TheVariants as kind
@@ -16,7 +15,7 @@ use Rattle.file_run.specs.Report.{refused_line}
 use Rattle.file_run.specs.Reporting.{refused_at}
 use Rattle.std.proofs.lemmas.Bool.Decides.{nat_tests}
 use Rattle.std.proofs.lemmas.List.{append-nil, length_push}
-use Rattle.duo_run.specs.Convert.{converted, converted_by, ended_at_stop, event_text, events_text, header_text, last_text, line_text, lines_before, title_text}
+use Rattle.duo_run.specs.Convert.{converted, converted_by, ended_at_stop, event_text, header_text, last_text, line_text, lines_before, title_text}
 use Rattle.duo_run.specs.Converting.{LineTaken, PairRead, end_taken, event_taken, full_taken, header_piece, header_taken, later_taken, line_taken, read_none}
 
 abbrev pub Lines : Type 0

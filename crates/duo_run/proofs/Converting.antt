@@ -26,7 +26,7 @@ use Rattle.schedule_file.specs.declared.header_kind.HeaderKind.TheVariants as ki
 use Rattle.file_run.specs.Ending.{AppendedPart, Writes}
 use Rattle.file_run.specs.Halt.{Blames, Goes, Stalls}
 use Rattle.file_run.specs.NextLine.{FindsLine, first_line}
-use Rattle.file_run.specs.Outside.{Outside, Wrote}
+use Rattle.file_run.specs.Outside.{Outside}
 use Rattle.file_run.specs.Refusal.{input_cause}
 use Rattle.file_run.specs.Report.{refused_line}
 use Rattle.file_run.specs.Reporting.{IsPrefix, refused_at}
@@ -37,7 +37,7 @@ use Rattle.file_run.specs.declared.halt.Halt.TheVariants as halt
 use Rattle.file_run.proofs.Lines.{by_line, lines_whole}
 use Rattle.file_run.proofs.Sending.{Sent, cut_part, grew_written, piece_part, rose_since, sent_flushed, sent_none, sent_piece, text_part}
 use Rattle.file_run.proofs.Taken.{halts_after, took_line, took_none}
-use Rattle.duo_run.specs.Convert.{ConvertedAs, ConvertRead, ConvertWrite, RanConvert, WroteAll, converted, ended_at_stop}
+use Rattle.duo_run.specs.Convert.{ConvertedAs, ConvertWrite, RanConvert, WroteAll, converted, ended_at_stop}
 use Rattle.duo_run.specs.Converting.{FindsTaken, LineTaken, PairRead, left_to_take, line_taken, read_none, taken_by}
 use Rattle.duo_run.proofs.Converted.{Lines, Whole, after_part, converted_whole, refused_whole, told, told_by, told_whole, two_parts}
 

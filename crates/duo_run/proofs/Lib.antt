@@ -15,3 +15,4 @@ pub mod Summarizing
 pub mod Summed
 pub mod Converted
 pub mod Converting
+pub mod SameLines

@@ -5,6 +5,8 @@ use Rattle.fsoe_io.specs.Faults.{Rose}
 use Rattle.fsoe_io.specs.declared.status.Ended.{Ended}
 use Rattle.fsoe_io.specs.declared.status.Status.{Status}
 use Rattle.fsoe_io.specs.declared.status.Status.TheVariants as status
+use Rattle.schedule_file.specs.Header.{Heading}
+use Rattle.schedule_file.specs.PairsHeader.{PairsHeading, stage_after}
 use Rattle.schedule_file.specs.Input.{AtEnd, Input, Refused, Stop, WholeHeader, header_of, input_after, input_of, lines_of, schedule_format, texts}
 use Rattle.schedule_file.specs.declared.header_kind.HeaderKind.TheVariants as kind
 use Rattle.file_run.specs.Ending.{Appended, LinesBefore, ReadLines}
@@ -102,3 +104,7 @@ pub record RanConvert (ended : Ended) (o : Outside) : Type 0 where
       → IfSome o.source.before (λ input. ended ≡ ended_at_stop (input_of kind.Pair input).stop)
   pub source_later : o.source.faults_before ≤ o.source.faults_after
   pub sink_later : o.sink.faults_before ≤ o.sink.faults_after
+
+-- the header of several pairs that has this one alone, after a line of it
+abbrev pub only_pair : Heading → PairsHeading
+only_pair h = record { stage = stage_after h; before = []; last = h }

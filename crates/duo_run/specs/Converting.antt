@@ -5,7 +5,7 @@ use Rattle.std.specs.declared.option.Option.{Option}
 use Rattle.std.specs.Io.KnownBytes.{Consumes}
 use Rattle.fsoe_io.specs.Line.{IsLine}
 use Rattle.schedule_file.specs.Header.{Heading, heading_new, heading_after, heading_is_whole}
-use Rattle.schedule_file.specs.Input.{InputCause, Line, TooMany, lines_of, said_after}
+use Rattle.schedule_file.specs.Input.{AtEnd, InputCause, Line, TooMany, lines_of, said_after}
 use Rattle.schedule_file.specs.LinesLeft.{lines_left}
 use Rattle.schedule_file.specs.declared.event.TheConstants.{MAX_EVENTS}
 use Rattle.schedule_file.specs.declared.event.ScheduleLine.{ScheduleLine}
@@ -17,7 +17,7 @@ use Rattle.file_run.specs.Refusal.{input_cause}
 use Rattle.file_run.specs.declared.halt.Halt.{Halt}
 use Rattle.file_run.specs.declared.halt.Halt.TheVariants as halt
 use Rattle.file_run.specs.declared.refusal.Refusal.{Refusal}
-use Rattle.duo_run.specs.Convert.{event_text, line_text, title_text}
+use Rattle.duo_run.specs.Convert.{event_text, last_text, line_text, title_text}
 
 -- what was read of a pair file: its header, as far as it was read, and the number of its events
 pub record PairRead : Type 0 where
@@ -45,7 +45,7 @@ header_taken number r line (Err cause) = Err (Line cause)
 
 -- the last line
 abbrev pub end_taken : PairRead → LineTaken
-end_taken r = record { next = r; text = codes "end\n"; ends = true }
+end_taken r = record { next = r; text = last_text AtEnd; ends = true }
 
 -- a line after the header, by what it says
 abbrev pub event_taken : PairRead → List ℕ → Result ScheduleLine LineCause → Result LineTaken InputCause

@@ -4,9 +4,9 @@ ghost use Rattle.std.specs.Prelude.{◌≡◌, ◌+◌, ◌-◌, ◌^◌, ◌≤
 ghost use Rattle.schedule_file.specs.declared.header_kind.HeaderKind.TheVariants as kind;
 ghost use Rattle.schedule_file.specs.declared.line_buf.TheConstants.{MAX_LINE};
 ghost use Rattle.schedule_file.specs.Header.{heading_after};
-ghost use Rattle.schedule_file.specs.Input.{said_after};
+ghost use Rattle.schedule_file.specs.Input.{AtEnd, said_after};
 ghost use Rattle.file_run.specs.Halt.{Blames, Goes, Stalls};
-ghost use Rattle.duo_run.specs.Convert.{RanConvert, event_text, line_text};
+ghost use Rattle.duo_run.specs.Convert.{RanConvert, event_text, last_text};
 ghost use Rattle.duo_run.specs.Converting.{FindsTaken, Takes, event_taken, header_piece, header_taken, later_taken, left_to_take, line_taken, read_none};
 
 use file_run::{Halt, Refusal, close, halt_run, next_line, send_before_read, write_failed};
@@ -59,6 +59,14 @@ fn write_event_line(line: &[u8], text: &mut LineText)
     text.push(b"1 ");
     text.push(line);
     text.push(b"\n");
+}
+
+/// Writes the last line.
+fn write_last_line(text: &mut LineText)
+    ensures { text.new ≡ last_text AtEnd }
+{
+    text.clear();
+    text.push(b"end\n");
 }
 
 impl PairReading {
@@ -116,8 +124,7 @@ impl PairReading {
         if line != b"end".as_slice() {
             return Err(Refusal::TooMany);
         }
-        text.clear();
-        text.push(b"end\n");
+        write_last_line(text);
         Ok(true)
     }
 
@@ -140,8 +147,7 @@ impl PairReading {
                 Ok(false)
             }
             ScheduleLine::End => {
-                text.clear();
-                text.push(b"end\n");
+                write_last_line(text);
                 Ok(true)
             }
         }

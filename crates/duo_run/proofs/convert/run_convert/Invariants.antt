@@ -1,4 +1,4 @@
-use Rattle.std.proofs.Common.{◌≤◌, ◌+◌}
+use Rattle.std.proofs.Common.{◌≤◌}
 use Rattle.std.specs.Io.KnownBytes.{prepend_known}
 use Rattle.duo_run.specs.Converting.{left_to_take}
 use Rattle.duo_run.proofs.Converting.{Converting}

@@ -1,0 +1,69 @@
+-- Line by line, what a pair file is converted to says the same of the only pair.
+use Rattle.std.proofs.Common.{◌≡◌, ℕ, Bool, true, false, List, [], ◌∷◌, ◌++◌, map, refl, ap, ◌∙◌, sym, arith}
+use Rattle.std.specs.Prelude.{Result, Ok, codes, ◌&&◌, if◌then◌else◌}
+use Rattle.std.specs.Str.{bytes_eq}
+use Rattle.std.proofs.lemmas.Fmt.{decimal_digit}
+use Rattle.std.proofs.lemmas.Slice.Eq.{bytes_eq-Decides}
+use Rattle.schedule_file.specs.Field.{fields_of}
+use Rattle.schedule_file.specs.Fields.{◌>>=◌}
+use Rattle.schedule_file.specs.Header.{Heading, fields_taken, heading_after, heading_is_whole, title_taken}
+use Rattle.schedule_file.specs.Input.{heading_profile, own_length, said_after}
+use Rattle.schedule_file.specs.NodeHeader.{may_end}
+use Rattle.schedule_file.specs.PairsEvent.{pairs_line, with_pair}
+use Rattle.schedule_file.specs.PairsHeader.{PairsHeading, last_taken, pair_taken, pairs_begun, pairs_fields_taken, pairs_heading_after, pairs_of, stage_after}
+use Rattle.schedule_file.specs.PairsInput.{pairs_said_after}
+use Rattle.schedule_file.specs.Place.{is_start}
+use Rattle.schedule_file.specs.declared.event.Event.{Event}
+use Rattle.schedule_file.specs.declared.event.ScheduleLine.TheVariants as said
+use Rattle.schedule_file.specs.declared.header_kind.HeaderKind.TheVariants as kind
+use Rattle.schedule_file.specs.declared.line_cause.LineCause.{LineCause}
+use Rattle.schedule_file.specs.declared.pairs_header.PairsStage.{PairsStage}
+use Rattle.schedule_file.specs.declared.pairs_header.PairsStage.TheVariants as stage
+use Rattle.schedule_file.specs.declared.pairs_line.PairsLine.TheVariants as pairs_said
+use Rattle.schedule_file.proofs.PairsRead.{numbered_said}
+use Rattle.duo_run.specs.Convert.{only_pair}
+
+-- the only pair, of which a line of its header was read
+abbrev begun : Heading → PairsHeading
+begun h = record { stage = stage.Pairs; before = []; last = h }
+
+-- no line of a header begins with `pair`
+no_pair_line : (h next : Heading) (line first : List ℕ) (fields : List (List ℕ)) (is_pair : Bool) → bytes_eq first (codes "pair") ≡ is_pair → fields_taken h (first ∷ fields) ≡ Ok next
+    → (if is_pair && may_end h then pair_taken (begun h) fields else last_taken (begun h) line) ≡ last_taken (begun h) line
+no_pair_line h next line first fields false e taken = refl
+no_pair_line h next line first fields true e taken =
+    let is : first ≡ codes "pair" = (bytes_eq-Decides first (codes "pair")).0 e in
+    let never : fields_taken h (codes "pair" ∷ fields) ≡ Ok next = ap (λ (f : List ℕ). fields_taken h (f ∷ fields)) (sym is) ∙ taken in
+    cc
+
+by_fields : (h next : Heading) (line : List ℕ) (fields : List (List ℕ)) → fields_taken h fields ≡ Ok next → pairs_fields_taken (begun h) line fields ≡ last_taken (begun h) line
+by_fields h next line [] taken = cc
+by_fields h next line (first ∷ fields) taken = no_pair_line h next line first fields (bytes_eq first (codes "pair")) refl taken
+
+pub header_line_same : (h next : Heading) (line : List ℕ) → is_start h.place ≡ false → heading_is_whole h ≡ false → heading_after h line ≡ Ok next → pairs_heading_after (only_pair h) line ≡ Ok (only_pair next)
+header_line_same h next line started more taken =
+    let fields : fields_taken h (fields_of line) ≡ Ok next = ap (λ (b : Bool). if b then title_taken h line else fields_taken h (fields_of line)) (sym started) ∙ taken in
+    let goes_on : stage_after h ≡ stage.Pairs = ap (λ (b : Bool). if b then stage.Done else stage.Pairs) more in
+    ap (λ (s : PairsStage). pairs_heading_after (record { stage = s; before = []; last = h }) line) goes_on
+    ∙ by_fields h next line (fields_of line) fields
+    ∙ ap (λ (r : Result Heading LineCause). r >>= λ last. Ok (only_pair last)) taken
+
+-- the only pair is the first
+one_pair : (h : Heading) (done : Bool) → pairs_begun (if done then stage.Done else stage.Pairs) [] h ≡ h ∷ []
+one_pair h true = refl
+one_pair h false = refl
+
+only_pairs : (h : Heading) → pairs_of (only_pair h) ≡ h ∷ []
+only_pairs h = one_pair h (heading_is_whole h)
+
+first_number : (line : List ℕ) → codes "1 " ++ line ≡ with_pair 1 line
+first_number line = ap (λ (d : List ℕ). d ++ 32 ∷ line) (sym (decimal_digit 1 (omega arith)))
+
+pub event_line_same : (h : Heading) (line : List ℕ) (event : Event) → said_after kind.Pair h line ≡ Ok (said.Step event) → pairs_said_after (only_pair h) (codes "1 " ++ line) ≡ Ok (pairs_said.One 1 event)
+event_line_same h line event says =
+    ap (λ (hs : List Heading). pairs_line (map own_length hs) (map heading_profile hs) (codes "1 " ++ line)) (only_pairs h)
+    ∙ ap (pairs_line (own_length h ∷ []) (heading_profile h ∷ [])) (first_number line)
+    ∙ numbered_said (own_length h ∷ []) (heading_profile h ∷ []) 1 (own_length h) (heading_profile h) line event (omega arith) refl refl says
+
+pub last_line_same : (h : Heading) → pairs_said_after (only_pair h) (codes "end") ≡ Ok pairs_said.End
+last_line_same h = ap (λ (hs : List Heading). pairs_line (map own_length hs) (map heading_profile hs) (codes "end")) (only_pairs h)
