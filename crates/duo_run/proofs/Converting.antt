@@ -6,7 +6,8 @@ use Rattle.std.specs.Io.KnownBytes.{Consumes, prepend_known}
 use Rattle.std.proofs.lemmas.List.{append-nil}
 use Rattle.std.proofs.lemmas.Option.{IfSome_then}
 use Rattle.fsoe_io.specs.Faults.{Rose}
-use Rattle.fsoe_io.specs.Line.{IsLine}
+use Rattle.fsoe_io.proofs.Taken.{consumes_then}
+use Rattle.fsoe_io.specs.Line.{HasNoNewline, IsLine}
 use Rattle.fsoe_io.specs.Output.{OutputView, Passes}
 use Rattle.fsoe_io.specs.Sink.{Grew}
 use Rattle.fsoe_io.specs.declared.status.Ended.{Ended}
@@ -37,15 +38,15 @@ use Rattle.file_run.specs.declared.halt.Halt.TheVariants as halt
 use Rattle.file_run.proofs.Lines.{by_line, lines_whole}
 use Rattle.file_run.proofs.Sending.{Sent, cut_part, grew_written, piece_part, rose_since, sent_flushed, sent_none, sent_piece, text_part}
 use Rattle.file_run.proofs.Taken.{halts_after, took_line, took_none}
-use Rattle.duo_run.specs.Convert.{ConvertedAs, ConvertWrite, RanConvert, WroteAll, converted, ended_at_stop}
+use Rattle.duo_run.specs.Convert.{ConvertedAs, ConvertsReadLines, ConvertWrite, RanConvert, WroteAll, converted, ended_at_stop}
 use Rattle.duo_run.specs.Converting.{FindsTaken, LineTaken, PairRead, left_to_take, line_taken, read_none, taken_by}
 use Rattle.duo_run.proofs.Converted.{Lines, Whole, after_part, converted_whole, refused_whole, told, told_by, told_whole, two_parts}
 
--- where the input is told, this was written of it so far, and what is left of it gives the rest
-abbrev pub Tells : Option (List ℕ) → Option (List ℕ) → List ℕ → PairRead → ℕ → Type 0
-Tells None left text r number = Unit {0}
-Tells (Some xs) None text r number = ⊥
-Tells (Some xs) (Some ys) text r number = converted_whole xs ≡ after_part text (told number r (lines_of ys))
+-- of these bytes, which were taken of the input, this was written so far, and whatever comes after them gives the rest
+pub record Tells (left0 left : Option (List ℕ)) (text : List ℕ) (r : PairRead) (number : ℕ) : Type 0 where
+  pub taken : List ℕ
+  pub goes : Consumes left0 left taken
+  pub says : (more : List ℕ) → converted_whole (taken ++ more) ≡ after_part text (told number r (lines_of more))
 
 -- an input has at most so many lines
 abbrev pub most_lines : ℕ
@@ -60,10 +61,16 @@ pub record Converting (left0 left w0 w : Option (List ℕ)) (waiting : OutputVie
   pub size : waiting.sent + length waiting.bytes + 1024 * left_to_take r ≤ 1024 * most_lines
   pub lined : lines + left_to_take r ≤ most_lines
 
+none_taken : (left : Option (List ℕ)) (held : List ℕ) → held ≡ [] → Consumes left (prepend_known held left) []
+none_taken None held e = tt
+none_taken (Some xs) held e = ap (λ (h : List ℕ). h ++ xs) (sym e)
+
 tells_start : (left : Option (List ℕ)) (held : List ℕ) (lines : ℕ) → held ≡ [] → lines ≡ 0 → Tells left (prepend_known held left) [] read_none (lines + 1)
-tells_start None held lines e z = tt
-tells_start (Some xs) held lines e z =
-    sym (told_whole xs) ∙ ap (λ (n : ℕ). told (n + 1) read_none (lines_of xs)) (sym z) ∙ ap (λ (h : List ℕ). after_part [] (told (lines + 1) read_none (lines_of (h ++ xs)))) (sym e)
+tells_start left held lines e z = record {
+  taken = [];
+  goes = none_taken left held e;
+  says = λ more. sym (told_whole more) ∙ ap (λ (n : ℕ). told (n + 1) read_none (lines_of more)) (sym z);
+}
 
 pub converting_start : (left w : Option (List ℕ)) (held : List ℕ) (waiting : OutputView) (r : PairRead) (lines : ℕ) → held ≡ [] → lines ≡ 0 → waiting.bytes ≡ [] → waiting.sent ≡ 0 → r ≡ read_none
     → Converting left (prepend_known held left) w w waiting r lines
@@ -100,11 +107,13 @@ told_next number r next line text ys zs ends is goes taken =
 
 tells_next : (left0 b c : Option (List ℕ)) (before text line : List ℕ) (r next : PairRead) (number : ℕ) → Tells left0 b before r number → IsLine line → Consumes b c (line ++ 10 ∷ []) → line_taken number r line ≡ Ok (record { next = next; text = text; ends = false })
     → Tells left0 c (before ++ text) next (number + 1)
-tells_next None b c before text line r next number tells is goes taken = tt
-tells_next (Some xs) None c before text line r next number tells is goes taken = absurd tells
-tells_next (Some xs) (Some ys) None before text line r next number tells is goes taken = absurd goes
-tells_next (Some xs) (Some ys) (Some zs) before text line r next number tells is goes taken =
-    tells ∙ ap (after_part before) (told_next number r next line text ys zs false is goes taken) ∙ two_parts before text (told (number + 1) next (lines_of zs))
+tells_next left0 b c before text line r next number k is goes taken = record {
+  taken = k.taken ++ (line ++ 10 ∷ []);
+  goes = consumes_then left0 b c k.taken (line ++ 10 ∷ []) k.goes goes;
+  says = λ more.
+      ap converted_whole (append_assoc k.taken (line ++ 10 ∷ []) more) ∙ k.says ((line ++ 10 ∷ []) ++ more)
+      ∙ ap (after_part before) (told_next number r next line text ((line ++ 10 ∷ []) ++ more) more false is refl taken) ∙ two_parts before text (told (number + 1) next (lines_of more));
+}
 
 pub converting_line : (left0 b c w0 w1 w2 : Option (List ℕ)) (waiting now : OutputView) (r next : PairRead) (lines after : ℕ) (text : List ℕ) → Converting left0 b w0 w1 waiting r lines → FindsTaken (lines + 1) r (Ok false) next text b c → after ≡ lines + 1
     → left_to_take next < left_to_take r → Passes waiting now w1 w2 text now.bytes → now.sent + length now.bytes ≡ waiting.sent + length waiting.bytes + length text → length text ≤ 1024 → Converting left0 c w0 w2 now next after
@@ -121,10 +130,13 @@ converting_line left0 b c w0 w1 w2 waiting now r next lines after text k finds s
 abbrev Begins : Option (List ℕ) → List ℕ → Type 0
 Begins told text = IfSome told (λ input. IsPrefix text (converted input))
 
+tells_at : (xs ys text : List ℕ) (r : PairRead) (number : ℕ) → Tells (Some xs) (Some ys) text r number → converted_whole xs ≡ after_part text (told number r (lines_of ys))
+tells_at xs ys text r number k = ap converted_whole k.goes ∙ k.says ys
+
 begins : (left0 left : Option (List ℕ)) (text : List ℕ) (r : PairRead) (number : ℕ) → Tells left0 left text r number → Begins left0 text
 begins None left text r number tells = tt
-begins (Some xs) None text r number tells = absurd tells
-begins (Some xs) (Some ys) text r number tells = ((told number r (lines_of ys)).text, ap (λ (w : Whole). w.text) tells)
+begins (Some xs) None text r number tells = absurd tells.goes
+begins (Some xs) (Some ys) text r number tells = ((told number r (lines_of ys)).text, ap (λ (w : Whole). w.text) (tells_at xs ys text r number tells))
 
 prefix_then : (part text whole : List ℕ) → IsPrefix part text → IsPrefix text whole → IsPrefix part whole
 prefix_then part text whole p q = (p.0 ++ q.0, q.1 ∙ ap (λ (z : List ℕ). z ++ q.0) p.1 ∙ append_assoc part p.0 q.0)
@@ -180,10 +192,10 @@ all_wrote o text ended all grew = IfSome_then o.source.before all (λ input e. (
 all_ended : (left0 b c : Option (List ℕ)) (before text line : List ℕ) (r next : PairRead) (number : ℕ) → Tells left0 b before r number → IsLine line → Consumes b c (line ++ 10 ∷ []) → line_taken number r line ≡ Ok (record { next = next; text = text; ends = true })
     → IsAll left0 (before ++ text) (ended_at_stop AtEnd)
 all_ended None b c before text line r next number tells is goes taken = tt
-all_ended (Some xs) None c before text line r next number tells is goes taken = absurd tells
+all_ended (Some xs) None c before text line r next number tells is goes taken = absurd tells.goes
 all_ended (Some xs) (Some ys) None before text line r next number tells is goes taken = absurd goes
 all_ended (Some xs) (Some ys) (Some zs) before text line r next number tells is goes taken =
-    tells ∙ ap (after_part before) (told_next number r next line text ys zs true is goes taken)
+    tells_at xs ys before r number tells ∙ ap (after_part before) (told_next number r next line text ys zs true is goes taken)
 
 pub ends_at_end : (o : Outside) (b c w1 : Option (List ℕ)) (faults : ℕ) (waiting : OutputView) (r next : PairRead) (lines : ℕ) (text : List ℕ) (result : Ended) → Converting o.source.before b o.sink.before w1 waiting r lines → FindsTaken (lines + 1) r (Ok true) next text b c
     → Writes waiting.sent (waiting.bytes ++ text) (ended_at_stop AtEnd) result (record { before = w1; after = o.sink.after; faults_before = faults; faults_after = o.sink.faults_after }) → o.sink.faults_before ≤ faults → ConvertedAs result.status result o
@@ -205,8 +217,29 @@ refused_told number r (Ok line ∷ rest) why e = ap (λ (t : Result LineTaken In
 all_refused : (left0 b : Option (List ℕ)) (before : List ℕ) (r : PairRead) (number : ℕ) (why : InputCause) → Tells left0 b before r number → IfSome b (λ input. taken_by number r (first_line (lines_of input)) ≡ Err why)
     → IsAll left0 (before ++ refused_line number why) (refused_at number)
 all_refused None b before r number why tells refused = tt
-all_refused (Some xs) None before r number why tells refused = absurd tells
-all_refused (Some xs) (Some ys) before r number why tells refused = tells ∙ ap (after_part before) (refused_told number r (lines_of ys) why refused)
+all_refused (Some xs) None before r number why tells refused = absurd tells.goes
+all_refused (Some xs) (Some ys) before r number why tells refused = tells_at xs ys before r number tells ∙ ap (after_part before) (refused_told number r (lines_of ys) why refused)
+
+-- a read failed: the lines that were taken are converted so
+still_taken : (left0 left new : Option (List ℕ)) (taken : List ℕ) → Consumes left0 left taken → Consumes left new [] → Consumes left0 new taken
+still_taken left0 left new taken goes same = subst (Consumes left0 new) (append-nil taken) (consumes_then left0 left new taken [] goes same)
+
+read_told : (told left : Option (List ℕ)) (after : Option (List ℕ)) (held text : List ℕ) (r : PairRead) (lines count : ℕ) → Tells told left text r (lines + 1) → count ≡ lines → Consumes left (prepend_known held after) [] → HasNoNewline held
+    → IfSome told (λ input. ConvertsReadLines count input after text)
+read_told None left after held text r lines count k same goes none = tt
+read_told (Some xs) left after held text r lines count k same goes none =
+    let whole : converted_whole k.taken ≡ record { text = text ++ refused_line (count + 1) NoLine; ended = refused_at (count + 1) } =
+    ap converted_whole (sym (append-nil k.taken)) ∙ k.says [] ∙ ap (λ (n : ℕ). after_part text (refused_whole (n + 1) NoLine)) (sym same)
+    in
+    record {
+      taken = k.taken;
+      held = held;
+      goes = still_taken (Some xs) left (prepend_known held after) k.taken k.goes goes;
+      open_line = none;
+      writes = ap (λ (w : Whole). w.text) whole;
+      ends = ap (λ (w : Whole). w.ended) whole;
+      begins = begins (Some xs) left text r (lines + 1) k;
+    }
 
 -- the input goes no further
 pub ends_halted : (o : Outside) (b w1 : Option (List ℕ)) (held : List ℕ) (source faults : ℕ) (waiting : OutputView) (r next : PairRead) (lines after : ℕ) (text : List ℕ) (why : Halt) (result : Ended) → Converting o.source.before b o.sink.before w1 waiting r lines
@@ -219,7 +252,8 @@ ends_halted o b w1 held source faults waiting r next lines after text (halt.Read
     (λ grew.
     record {
       read = halts_after o.source.before b o.source.after held lines after (halt.Read count) k.took goes stalls;
-      wrote = IfSome_then o.source.before begun (λ input is. (k.text, subst (Grew o.sink.before o.sink.after) (append-nil k.text) grew, is));
+      wrote = IfSome_then o.source.before (read_told o.source.before b o.source.after held k.text r lines count k.tells goes.0 goes.1 stalls)
+          (λ input is. (k.text, subst (Grew o.sink.before o.sink.after) (append-nil k.text) grew, is));
       cause = rose_since o.source.faults_before source o.source.faults_after earlier blames;
     })
 ends_halted o b w1 held source faults waiting r next lines after text halt.Memory result k finds goes stalls blames earlier writes later = absurd finds

@@ -1,13 +1,16 @@
 -- What a pair file is converted to: a file of several pairs, of which it is the only one.
-use Rattle.std.specs.Prelude.{◌≡◌, ℕ, ◌-◌, ◌≤◌, List, [], ◌∷◌, ◌++◌, codes, length, take, Result, Ok, Err, IfSome}
+use Rattle.std.specs.Prelude.{◌≡◌, ℕ, ◌+◌, ◌-◌, ◌≤◌, List, [], ◌∷◌, ◌++◌, codes, length, take, Result, Ok, Err, IfSome, Some}
 use Rattle.std.specs.List.{flat_map}
+use Rattle.std.specs.declared.option.Option.{Option}
+use Rattle.std.specs.Io.KnownBytes.{Consumes, prepend_known}
 use Rattle.fsoe_io.specs.Faults.{Rose}
+use Rattle.fsoe_io.specs.Line.{HasNoNewline}
 use Rattle.fsoe_io.specs.declared.status.Ended.{Ended}
 use Rattle.fsoe_io.specs.declared.status.Status.{Status}
 use Rattle.fsoe_io.specs.declared.status.Status.TheVariants as status
 use Rattle.schedule_file.specs.Header.{Heading}
 use Rattle.schedule_file.specs.PairsHeader.{PairsHeading, stage_after}
-use Rattle.schedule_file.specs.Input.{AtEnd, Input, Refused, Stop, WholeHeader, header_of, input_after, input_of, lines_of, schedule_format, texts}
+use Rattle.schedule_file.specs.Input.{AtEnd, Input, NoLine, Refused, Stop, WholeHeader, header_of, input_after, input_of, lines_of, schedule_format, texts}
 use Rattle.schedule_file.specs.declared.header_kind.HeaderKind.TheVariants as kind
 use Rattle.file_run.specs.Ending.{Appended, LinesBefore, ReadLines}
 use Rattle.file_run.specs.Outside.{Outside, Wrote}
@@ -73,10 +76,20 @@ pub record ConvertedToEnd (ended : Ended) (o : Outside) : Type 0 where
   pub place_is : ended.place ≡ 0
   pub wrote : WroteAll ended o
 
--- a read failed after so many whole lines
+-- a text is what so many whole lines that were taken are converted to, without its last line, which says that no line comes after them
+pub record ConvertsReadLines (lines : ℕ) (input : List ℕ) (left : Option (List ℕ)) (text : List ℕ) : Type 0 where
+  pub taken : List ℕ
+  pub held : List ℕ
+  pub goes : Consumes (Some input) (prepend_known held left) taken
+  pub open_line : HasNoNewline held
+  pub writes : converted taken ≡ text ++ refused_line (lines + 1) NoLine
+  pub ends : ended_at_stop (input_of kind.Pair taken).stop ≡ refused_at (lines + 1)
+  pub begins : IsPrefix text (converted input)
+
+-- a read failed after so many whole lines, and what they are converted to was written
 pub record ConvertRead (lines : ℕ) (o : Outside) : Type 0 where
   pub read : ReadLines lines o.source.before o.source.after
-  pub wrote : Wrote o (λ input text. IsPrefix text (converted input))
+  pub wrote : Wrote o (λ input text. ConvertsReadLines lines input o.source.after text)
   pub cause : Rose o.source.faults_before o.source.faults_after
 
 -- a write failed after so many bytes
