@@ -136,12 +136,19 @@ function kindOf(chart, n) {
   return n === chart.other ? "row other" : "row beyond";
 }
 
+const OTHER = ["◆ first other entry", "passed, and wasn't awaited"];
+
+/** What the first other entry is, on the free side of its row: as much as there is room for. */
+function otherAt(places, x, anchor, y) {
+  if (places.letters < OTHER[1].length) return words("first", x, y + 4, places.letters < OTHER[0].length ? "◆ first other" : OTHER[0], anchor);
+  return words("first", x, y, OTHER[0], anchor) + words("first", x, y + 12, OTHER[1], anchor);
+}
+
 function rowAt(chart, places, n) {
   const entry = chart.entries[n - 1];
   const event = chart.events[n - 1];
   const y = middle(n);
   const [x, anchor] = outside(places, entry.at);
-  const [otherX, otherAnchor] = outside(places, entry.at === "m" ? "s" : "m");
   const changed = chart.changed[n - 1];
   return tag(
     "g",
@@ -150,7 +157,7 @@ function rowAt(chart, places, n) {
       words("number", places.numbers - 6, y + 4, String(n), "end") +
       words(`did ${entry.did.word}`, x, y + (changed ? 1 : 4), short(besideOf(entry, event, places.letters), places.letters), anchor) +
       (changed ? words("outputs", x, y + 13, `= ${short(entry.outputs, places.letters - 2)}`, anchor) : "") +
-      (n === chart.other ? words("first", otherX, y + 4, places.letters < 19 ? "◆ first other" : "◆ first other entry", otherAnchor) : ""),
+      (n === chart.other ? otherAt(places, ...outside(places, entry.at === "m" ? "s" : "m"), y) : ""),
   );
 }
 
