@@ -64,22 +64,18 @@ function laidOut(code, data, last, conn, count) {
 function chainOf(end, entries, cameAt) {
   let last = 0;
   let taken = { number: 0, crc: null };
-  entries.forEach((entry, i) => {
-    if (entry.at !== end) return;
-    const sent = entry.sent ? partsOf(entry.sent) : null;
-    if (sent?.command === "Reset") {
-      last = 0;
-      taken = { number: 0, crc: null };
-      return;
-    }
+  const begins = entries.findLastIndex((entry) => entry.at === end && partsOf(entry.sent)?.command === "Reset") + 1;
+  for (let i = begins; i < entries.length; i++) {
+    const entry = entries[i];
+    if (entry.at !== end) continue;
     if (entry.did.word === "took" && entry.did.command !== "Reset") {
       const came = partsOf(cameAt(i + 1));
-      const group = bytesOf(came.data).slice(0, 2);
+      const group = [...bytesOf(came.data).slice(0, 2)];
       const before = last;
-      taken = { number: steppedNumber(taken, (count) => groupCrc(before, came.conn, count, came.code, 0, [...group])), crc: came.crcs[0] };
+      taken = { number: steppedNumber(taken, (count) => groupCrc(before, came.conn, count, came.code, 0, group)), crc: came.crcs[0] };
     }
-    if (sent) last = sent.crcs[0];
-  });
+    if (entry.sent) last = partsOf(entry.sent).crcs[0];
+  }
   return { last, taken };
 }
 

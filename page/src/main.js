@@ -11,7 +11,7 @@ import { reportView } from "./report_view.js";
 import { runOf } from "./run.js";
 import { savedChart } from "./saved.js";
 import { ALONE, COLOURS, PARTS } from "./style.js";
-import { linesOf } from "./tries.js";
+import { canTry, linesOf } from "./tries.js";
 import { causeWords, endingWords } from "./words.js";
 
 const PATIENCE = 120; // ms without a key before a text is run
@@ -43,7 +43,7 @@ function showEnding() {
 function showEvent() {
   if (!run) return;
   by("event").innerHTML = aboutEvent(run, chosen());
-  for (const button of document.querySelectorAll("[data-try]")) button.disabled = linesOf(button.dataset.try, run, chosen()) === null;
+  for (const button of document.querySelectorAll("[data-try]")) button.disabled = !canTry(button.dataset.try, run, chosen());
 }
 
 function runText() {
@@ -69,8 +69,8 @@ function showText(text, about) {
 
 function tryAt(what) {
   const n = chosen();
-  const lines = run && linesOf(what, run, n);
-  if (!lines) return;
+  if (!run || !canTry(what, run, n)) return;
+  const lines = linesOf(what, run, n);
   editor.replace(run.schedule.events[n - 1].line, 1, lines);
   runText();
   choose(Math.min(n + Math.max(lines.length - 1, 0), run.report.entries.length), "page");

@@ -4,31 +4,51 @@ import { isDelivery, peerOf } from "./schedule.js";
 
 const FORGED = 0xff;
 
-/** The lines that stand in place of the chosen event's, for each thing to try; null where it can't be tried here. */
+/** For each thing to try, whether it can be tried at an event with this entry. */
+const CAN = {
+  lose: (event) => isDelivery(event),
+  repeat: (event) => isDelivery(event) && event.kind !== "invent",
+  alter: (event) => event.kind === "deliver",
+  forge: (_, entry) => entry.state === "Data",
+  misforge: (_, entry) => entry.state === "Data",
+  reset: () => true,
+};
+
+/** A frame with data of ff and zeros, and the CRCs that the end of this event expects after it. */
+function forgedAfter(run, n, end) {
+  const data = new Array(run.schedule.lengths[peerOf(end)]).fill(0);
+  data[0] = FORGED;
+  return forged(end, data, run.schedule.conn, run.report.entries.slice(0, n), (k) => run.arrowOf(k).hex);
+}
+
+/** The frame with a bit of its last CRC turned. */
+function misforgedOf(hex) {
+  const byte = parseInt(hex.slice(-6, -4), 16) ^ 1;
+  return hex.slice(0, -6) + byte.toString(16).padStart(2, "0") + hex.slice(-4);
+}
+
+/** Whether this can be tried at the event of this number. */
+export function canTry(what, run, n) {
+  const event = run.schedule.events[n - 1];
+  const entry = run.report.entries[n - 1];
+  return Boolean(event && entry && CAN[what](event, entry));
+}
+
+/** The lines that then stand in place of the event's. */
 export function linesOf(what, run, n) {
-  const { schedule, report, arrowOf } = run;
-  const event = schedule.events[n - 1];
-  const entry = report.entries[n - 1];
-  if (!event || !entry) return null;
-  const delivered = isDelivery(event);
-  const at = event.at;
+  const { text, at, back } = run.schedule.events[n - 1];
   switch (what) {
     case "lose":
-      return delivered ? [] : null;
+      return [];
     case "repeat":
-      return delivered && event.kind !== "invent" ? [event.text, `d${at} -${event.back}`] : null;
+      return [text, `d${at} -${back}`];
     case "alter":
-      return event.kind === "deliver" ? [`a${at} -${event.back} 1 01`] : null;
+      return [`a${at} -${back} 1 01`];
     case "forge":
-    case "misforge": {
-      if (entry.state !== "Data") return null;
-      const data = new Array(schedule.lengths[peerOf(at)]).fill(0);
-      data[0] = FORGED;
-      const hex = forged(at, data, schedule.conn, report.entries.slice(0, n), (k) => arrowOf(k).hex);
-      const wrong = (parseInt(hex.substr(-6, 2), 16) ^ 1).toString(16).padStart(2, "0");
-      return [event.text, `r${at} ${what === "forge" ? hex : `${hex.slice(0, -6)}${wrong}${hex.slice(-4)}`}`];
-    }
+      return [text, `r${at} ${forgedAfter(run, n, at)}`];
+    case "misforge":
+      return [text, `r${at} ${misforgedOf(forgedAfter(run, n, at))}`];
     default:
-      return [event.text, `z${at}`];
+      return [text, `z${at}`];
   }
 }
