@@ -110,6 +110,13 @@ globalThis.gatepast = {
     const { status, place, report: said, arrows } = runOf(engine, text);
     return { status, place, report: said.text, arrows };
   },
+  /** The lines up to each event at which a frame can be forged so, and the forged frame after them. */
+  forged: (text, what) => {
+    const ran = runOf(engine, text);
+    const lines = text.split("\n");
+    const upTo = (n) => [...lines.slice(0, ran.schedule.events[n - 1].line - 1), ...linesOf(what, ran, n), "end\n"].join("\n");
+    return ran.report.entries.flatMap((_, i) => (canTry(what, ran, i + 1) ? [upTo(i + 1)] : []));
+  },
   saved: (text) => savedChart(runOf(engine, text).chart, ALONE, SAVED_WIDTH),
   show: showText,
   scheduleOf,
