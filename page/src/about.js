@@ -21,8 +21,8 @@ function frameTable(title, hex) {
 }
 
 const FIRST_OTHER = `This is the first <strong>other</strong> entry: a frame passed the test of the CRCs here that isn't the one that the end
-awaits, its peer's answer to its own last frame. It was invented or altered, or is an old one whose CRCs came again. By its CRCs no receiver can tell it
-from the awaited one. The law of the pair holds of all lines before this one, and the report says so by its last line.`;
+awaits, its peer's answer to its own last frame. It was invented or altered, or is an old one whose CRCs came again. By its CRCs no receiver can
+tell it from the awaited one. The law of the pair holds of all lines before this one, and the report says so by its last line.`;
 
 function otherWords(n, other) {
   if (!other || n < other) return "";
