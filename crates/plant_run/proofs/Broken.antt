@@ -1,7 +1,7 @@
 -- A tick is late for a bound only where a pair has another entry: from the first of the still moments that reach it on the bound is quiet. Turns,
 -- acts and what is said are listed newest first.
-use Rattle.std.proofs.Common.{◌≡◌, ◌≤◌, ◌<◌, ◌⊎◌, inl, inr, ℕ, suc, ◌+◌, ◌-◌, ◌*◌, Bool, true, false, ◌&&◌, nat_le, nat_lt, List, [], ◌∷◌, ◌++◌, map, length, Option, Some, None, All, if◌then◌else◌, refl, sym, ap, ap₂, subst, ◌∙◌, append_assoc, arith}
-use Rattle.std.specs.Prelude.{IsTrue, cond}
+use Rattle.std.proofs.Common.{◌≡◌, ◌≤◌, ◌<◌, inl, inr, ℕ, suc, ◌+◌, ◌-◌, Bool, true, false, ◌&&◌, nat_le, nat_lt, List, [], ◌∷◌, ◌++◌, map, length, Option, Some, None, All, if◌then◌else◌, refl, sym, ap, ap₂, subst, ◌∙◌, append_assoc, arith}
+use Rattle.std.specs.Prelude.{cond}
 use Rattle.std.specs.Option.{option_map_or}
 use Rattle.std.proofs.lemmas.Bool.Decides.{leb_tells}
 use Rattle.std.proofs.lemmas.List.{append-nil}
@@ -13,10 +13,10 @@ use Rattle.reaction_bound.specs.Reaction as reaction
 use Rattle.plant_run.specs.declared.event.PlantEvent.TheVariants as event
 use Rattle.plant_run.specs.declared.journal.JournalStep.{JournalStep}
 use Rattle.plant_run.specs.Acts.{Beginning, Said, Event, App, Act, Start, Happen, PullFrom, journal}
-use Rattle.plant_run.specs.Bound.{is_off, is_guarded, is_still, Quiet, HasLinks, limit, AreClean, is_on}
+use Rattle.plant_run.specs.Bound.{is_off, is_guarded, is_still, HasLinks, limit, AreClean, is_on}
 use Rattle.plant_run.specs.BoundLines.{limit_by, limit_of, is_driven, said_of, broken_at}
-use Rattle.plant_run.specs.Pair.{is_tick, link_at, ticks}
-use Rattle.plant_run.specs.Promises.{AllAnswered, AllGuarded, line_step}
+use Rattle.plant_run.specs.Pair.{ticks}
+use Rattle.plant_run.specs.Promises.{AllAnswered, AllGuarded}
 use Rattle.plant_run.specs.Standing.{PlantView, PlantStands}
 use Rattle.plant_run.specs.Turns.{Turn, acts, turn_acts}
 use Rattle.plant_run.proofs.KeptOff.{and_false}

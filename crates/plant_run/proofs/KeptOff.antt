@@ -1,6 +1,6 @@
 -- The bits of a bound at the master of many connections and in the pairs: what the application reads is what the master of a pair has, and what it
 -- answers is what that master offers. Acts and entries are listed newest first.
-use Rattle.std.proofs.Common.{◌≡◌, ℕ, zero, suc, ◌-◌, Bool, true, false, ◌&&◌, not, List, [], ◌∷◌, ◌++◌, map, get_or, replicate, slice_get, slice_set, Option, Some, None, option_map, if◌then◌else◌, refl, sym, ap, ap₂, subst, ◌∙◌, arith}
+use Rattle.std.proofs.Common.{◌≡◌, ℕ, zero, suc, ◌-◌, Bool, true, false, ◌&&◌, not, List, [], ◌∷◌, ◌++◌, map, get_or, replicate, slice_get, slice_set, Option, Some, None, option_map, if◌then◌else◌, refl, sym, ap, ap₂, ◌∙◌, arith}
 use Rattle.std.specs.Prelude.{option_and_then, option_to_list}
 use Rattle.fsoe_base.specs.declared.command.End.{End}
 use Rattle.fsoe_base.specs.declared.command.End.TheVariants as side
@@ -21,18 +21,18 @@ use Rattle.end_model.specs.Readiness.{offer_after, offer, held_after, held}
 use Rattle.end_model.specs.Setup.{Setup, OfMaster, sends}
 use Rattle.exchange_model.specs.Ends.{same_end, of_end}
 use Rattle.exchange_model.specs.Fair.{received_len, outputs_due}
-use Rattle.exchange_model.specs.Items.{FailSafe, Values, Unset, put_after, last_put, is_held, offered_put, next_offered}
+use Rattle.exchange_model.specs.Items.{FailSafe, put_after, last_put, is_held, offered_put, next_offered}
 use Rattle.exchange_model.specs.Offering.{offers_bit}
 use Rattle.exchange_model.specs.World.{setup_of, deed_in, deeds, SameLengths, IsWorld}
 use Rattle.exchange_model.proofs.Fairness.Shown.{due_is_out, receives_is}
 use Rattle.exchange_model.proofs.Worlds.Projection.{told, deeds_are_run}
-use Rattle.multi_master.specs.Calls.{Call, Deliver, Tick, Nonce, ChangeApp, Meant, connection, replaced, answer, event_at, is_heard, cycle_in, with_cycle, after, meant}
+use Rattle.multi_master.specs.Calls.{Call, Deliver, Tick, Nonce, ChangeApp, Meant, connection, replaced, event_at, cycle_in, with_cycle, after, meant}
 use Rattle.multi_master.specs.Connection.{Connection, with_event, outputs_at, offer_at}
 use Rattle.multi_master.proofs.Places.{map_set}
 use Rattle.plant_run.specs.Acts.{Beginning, Act, settings, call_of, calls, masters, cycle_of, journal}
 use Rattle.plant_run.specs.Bound.{inputs_after, offers_after}
 use Rattle.plant_run.specs.Pair.{pair, link_at}
-use Rattle.plant_run.proofs.Masters.{Mastered, mastered}
+use Rattle.plant_run.proofs.Masters.{mastered}
 
 -- whether an end is held, and what it put last, by its entries and by its deeds
 held_if : (which : End) (x : Entry) (w : List Entry) (mine : Bool) → is_held (of_end which w) ≡ held (deeds which w)

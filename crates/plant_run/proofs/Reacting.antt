@@ -1,6 +1,6 @@
 -- Why a drive is off in time. The master of the e-stop has its bit as 0 from some tick on; each cycle from that tick's on answers the drive's bit
 -- as 0, so that its master offers it so; and its slave has it as 0 some ticks later. Acts and entries are listed newest first, steps oldest first.
-use Rattle.std.proofs.Common.{◌≡◌, ◌≤◌, ◌<◌, ◌⊎◌, inl, inr, ℕ, suc, ◌+◌, ◌-◌, ◌*◌, Bool, true, false, not, List, [], ◌∷◌, ◌++◌, Option, Some, None, All, refl, sym, ap, ap₂, subst, ◌∙◌, append_assoc, arith}
+use Rattle.std.proofs.Common.{◌≡◌, ◌≤◌, ◌<◌, ◌⊎◌, inl, inr, ℕ, ◌+◌, ◌-◌, ◌*◌, Bool, true, false, not, List, [], ◌∷◌, ◌++◌, Option, Some, None, All, refl, sym, ap, ap₂, subst, ◌∙◌, append_assoc, arith}
 use Rattle.std.specs.Prelude.{IfSome, IsTrue, cond}
 use Rattle.std.specs.Option.{option_map_or}
 use Rattle.std.proofs.lemmas.Bool.{cases_lt}
@@ -8,13 +8,10 @@ use Rattle.std.proofs.lemmas.List.{append-nil}
 use Rattle.std.proofs.lemmas.List.Sums.{sum_by-append}
 use Rattle.fsoe_base.specs.declared.command.End.{End}
 use Rattle.fsoe_base.specs.declared.command.End.TheVariants as side
-use Rattle.fsoe_base.specs.declared.lengths.Lengths.{Lengths}
 use Rattle.fsoe_base.specs.Image.{bit_of}
 use Rattle.failsafe_io.specs.Application.{Answer}
 use Rattle.failsafe_io.specs.Bits.{bit_at}
 use Rattle.param_load.specs.declared.entry.Entry.{Entry}
-use Rattle.param_load.specs.declared.master_settings.MasterSettings.{MasterSettings}
-use Rattle.param_load.specs.declared.slave_settings.SlaveSettings.{SlaveSettings}
 use Rattle.plant_conf.specs.ConfView.{HasSameLengths}
 use Rattle.plant_conf.specs.declared.conf.BoundSpec.{BoundSpec}
 use Rattle.plant_conf.specs.declared.conf.LinkConf.{LinkConf}
@@ -30,13 +27,13 @@ use Rattle.exchange_model.proofs.Offering.Older.{older_world, older_clean}
 use Rattle.plant_run.specs.declared.event.PlantEvent.TheVariants as event
 use Rattle.plant_run.specs.declared.journal.JournalStep.{JournalStep}
 use Rattle.plant_run.specs.Acts.{Beginning, Event, App, Act, Start, Happen, PullFrom, cycle_of, offers, steps_of, journal}
-use Rattle.plant_run.specs.Bound.{slave_offers, is_off, inputs_after, offers_after, KeepsOff, Quiet, HasLinks, AreClean, is_on, Reacts}
+use Rattle.plant_run.specs.Bound.{slave_offers, is_off, inputs_after, offers_after, Quiet, HasLinks, is_on, Reacts}
 use Rattle.plant_run.specs.Pair.{pair, link_at, is_tick, ticks}
 use Rattle.plant_run.specs.Standing.{PlantView, PlantStands}
 use Rattle.plant_run.specs.Turns.{Turn, acts}
 use Rattle.plant_run.proofs.FairPlant.{world_at}
-use Rattle.plant_run.proofs.KeptOff.{out_due, Placed, placed, input_is, offered_zero, act_keeps}
-use Rattle.plant_run.proofs.Sends.{SentWhile, OffersZero, delivered_zero, ticks_since}
+use Rattle.plant_run.proofs.KeptOff.{out_due, placed, input_is, offered_zero, act_keeps}
+use Rattle.plant_run.proofs.Sends.{OffersZero, delivered_zero, ticks_since}
 use Rattle.plant_run.proofs.Since.{Grown, GoesBack, HoldsAfter, Silent, grown_on, grown_silent, grown_act, grown_acts, grown_any, grown_still, part_silent, is_tick_act, act_ticks, act_ticks_most}
 
 -- a pair that is a world without another entry

@@ -15,7 +15,6 @@ use Rattle.end_model.specs.Phases.{is_data_frame}
 use Rattle.end_model.specs.Readiness.{state_of, reaches_limit}
 use Rattle.end_model.specs.Setup.{Setup, OfMaster, OfSlave}
 use Rattle.fsoe_base.specs.Did.{nothing}
-use Rattle.fsoe_base.specs.declared.did.Did.{Did}
 use Rattle.end_model.specs.Step.{on_expiry, deed_of, step}
 use Rattle.exchange_model.specs.Ends.{same_end, peer, of_end}
 use Rattle.exchange_model.specs.Items.{next_offered}

@@ -1,6 +1,6 @@
 -- How the entries of a pair grow with the acts of a plant: the ticks that came, and what an end offered where it sent data. Acts and entries
 -- are listed newest first, steps oldest first.
-use Rattle.std.proofs.Common.{◌≡◌, ◌≤◌, ℕ, suc, ◌+◌, ◌==◌, Bool, true, false, List, [], ◌∷◌, ◌++◌, map, Option, Some, None, if◌then◌else◌, refl, sym, ap, subst, ◌∙◌, append_assoc, arith}
+use Rattle.std.proofs.Common.{◌≡◌, ◌≤◌, ℕ, ◌+◌, ◌==◌, Bool, true, false, List, [], ◌∷◌, ◌++◌, map, Option, Some, None, if◌then◌else◌, refl, sym, ap, subst, ◌∙◌, append_assoc, arith}
 use Rattle.std.proofs.lemmas.List.{append-nil}
 use Rattle.std.proofs.lemmas.List.Sums.{sum_by-append}
 use Rattle.std.specs.Prelude.{IsTrue, cond}
@@ -25,8 +25,7 @@ use Rattle.plant_run.specs.declared.journal.JournalStep.TheVariants as step
 use Rattle.plant_run.specs.Acts.{Beginning, Event, App, Act, Start, Happen, PullFrom, settings, call_of, calls, offer_step, offers_by, offers, steps_of, journal}
 use Rattle.plant_run.specs.Doing.{next_of}
 use Rattle.plant_run.specs.Pair.{pair, is_tick, ticks}
-use Rattle.plant_run.specs.Standing.{pairs_by}
-use Rattle.plant_run.proofs.Growing.{IsOne, one_more, pair_more, pair_one, pair_own}
+use Rattle.plant_run.proofs.Growing.{IsOne, pair_more, pair_one}
 use Rattle.plant_run.proofs.OneDeed.{no_entry}
 use Rattle.plant_run.proofs.Sends.{BringsNone, SentWhile, no_data, sent_append}
 

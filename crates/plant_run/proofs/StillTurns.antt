@@ -18,17 +18,17 @@ use Rattle.plant_conf.specs.declared.conf.LinkConf.{LinkConf}
 use Rattle.exchange_model.specs.Ends.{of_end}
 use Rattle.exchange_model.specs.Items.{Offered, Unset, next_offered}
 use Rattle.exchange_model.specs.Offering.{offers_bit}
-use Rattle.multi_master.specs.Calls.{AppView, Call, Deliver, Tick, Nonce, ChangeApp, Meant, connection, replaced, event_at, all_tick, cycle_in, with_cycle, after, meant, changed}
+use Rattle.multi_master.specs.Calls.{AppView, Call, Deliver, Tick, Meant, connection, replaced, cycle_in, with_cycle, after, meant, changed}
 use Rattle.multi_master.specs.Connection.{Connection, with_event}
 use Rattle.plant_run.specs.declared.event.PlantEvent.TheVariants as event
 use Rattle.plant_run.specs.declared.journal.JournalStep.{JournalStep}
 use Rattle.plant_run.specs.declared.journal.JournalStep.TheVariants as step
 use Rattle.plant_run.specs.Acts.{Beginning, Event, App, Act, Start, Happen, PullFrom, settings, delivery_call, call_of, calls, masters, cycle_of, offer_step, offers_by, offers, journal}
-use Rattle.plant_run.specs.Bound.{slave_offers, is_off, is_guarded, is_still, inputs_after, offers_after, KeepsOff, Quiet}
+use Rattle.plant_run.specs.Bound.{is_off, is_guarded, is_still, inputs_after, offers_after, KeepsOff, Quiet}
 use Rattle.plant_run.specs.Doing.{next_of}
 use Rattle.plant_run.specs.Pair.{pair, link_at}
 use Rattle.plant_run.specs.Promises.{OffersAnswer, AllAnswered, GuardsAnswer, AllGuarded}
-use Rattle.plant_run.specs.Turns.{pulls, turn_acts}
+use Rattle.plant_run.specs.Turns.{turn_acts}
 use Rattle.plant_run.proofs.Growing.{IsOne, pair_more, pair_one}
 
 -- a cycle keeps off what is guarded
