@@ -38,6 +38,7 @@ use Rattle.file_run.specs.declared.halt.Halt.TheVariants as halt
 use Rattle.file_run.proofs.Lines.{by_line, lines_whole}
 use Rattle.file_run.proofs.Sending.{Sent, cut_part, grew_written, piece_part, rose_since, sent_flushed, sent_none, sent_piece, text_part}
 use Rattle.file_run.proofs.Taken.{halts_after, took_line, took_none}
+use Rattle.file_run.proofs.Unread.{nothing_held}
 use Rattle.duo_run.specs.Convert.{ConvertedAs, ConvertsReadLines, ConvertWrite, RanConvert, WroteAll, converted, ended_at_stop}
 use Rattle.duo_run.specs.Converting.{FindsTaken, LineTaken, PairRead, left_to_take, line_taken, read_none, taken_by}
 use Rattle.duo_run.proofs.Converted.{Lines, Whole, after_part, converted_whole, refused_whole, told, told_by, told_whole, two_parts}
@@ -80,7 +81,7 @@ converting_start left w held waiting r lines e z none sent is =
     record {
       text = [];
       sent = sent_none w waiting none sent;
-      took = took_none left held lines e z;
+      took = subst (λ (n : ℕ). TookLines n left (prepend_known held left)) (sym z) (subst (TookLines 0 left) (sym (nothing_held held left e)) (took_none left));
       tells = subst (λ (r : PairRead). Tells left (prepend_known held left) [] r (lines + 1)) (sym is) (tells_start left held lines e z);
       size = omega (arith, left_first, waits, sent);
       lined = omega (arith, left_first, z);
