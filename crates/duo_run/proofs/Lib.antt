@@ -16,3 +16,4 @@ pub mod Summed
 pub mod Converted
 pub mod Converting
 pub mod SameLines
+pub mod PairsAt

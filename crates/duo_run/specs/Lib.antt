@@ -1,6 +1,7 @@
 pub mod Acts
 pub mod Bulk
 pub mod Duo
+pub mod Pairs
 pub mod Ran
 pub mod Replay
 pub mod Summary

@@ -1,0 +1,53 @@
+-- The pair of a number, and what a step at it leaves of the others.
+use Rattle.std.proofs.Common.{◌≡◌, ◌≢◌, ◌≤◌, ◌<◌, ◌+◌, ◌-◌, ◌^◌, ℕ, zero, suc, List, [], ◌∷◌, length, slice_get, slice_set, refl, arith, ap, sym, subst, ◌∙◌}
+use Rattle.std.specs.Prelude.{IfOk, IfSome, OnOk, Result, Ok, Err, Some, None}
+use Rattle.std.specs.declared.option.Option.{Option}
+use Rattle.param_load.specs.declared.entry.Entry.{Entry}
+use Rattle.schedule_file.specs.PairsEvent.{numbered}
+use Rattle.schedule_file.specs.declared.event.Event.{Event}
+use Rattle.duo_run.specs.Duo.{DuoView, Steps, lengths_of, profiles_of, steps_done}
+use Rattle.duo_run.specs.Pairs.{StepsAt}
+
+pub named : {X : Type 0} (k place : ℕ) (xs : List X) (x : X) → k ≡ place + 1 → slice_get xs place ≡ Some x → numbered k xs ≡ Some x
+named zero place xs x e at = absurd (omega arith)
+named (suc before) place xs x e at = let same : before ≡ place = omega arith in ap (λ (i : ℕ). slice_get xs i) same ∙ at
+
+pub of_named : {X : Type 0} (P : X → Type 0) (k : ℕ) (xs : List X) (x : X) → numbered k xs ≡ Some x → IfSome (numbered k xs) P → P x
+of_named {X} P k xs x at holds = subst (λ (o : Option X). IfSome o P) at holds
+
+pub for_named : {X : Type 0} (P : X → Type 0) (k : ℕ) (xs : List X) (x : X) → numbered k xs ≡ Some x → P x → IfSome (numbered k xs) P
+for_named {X} P k xs x at holds = subst (λ (o : Option X). IfSome o P) (sym at) holds
+
+pub set_beside : {X : Type 0} (xs : List X) (i k : ℕ) (y : X) → (k ≡ i → ⊥) → slice_get (slice_set xs i y) k ≡ slice_get xs k
+set_beside [] i k y h = refl
+set_beside (a ∷ xs) zero zero y h = absurd (h refl)
+set_beside (a ∷ xs) zero (suc k) y h = refl
+set_beside (a ∷ xs) (suc i) zero y h = refl
+set_beside (a ∷ xs) (suc i) (suc k) y h = set_beside xs i k y (λ e. h (ap suc e))
+
+pub set_at : {X : Type 0} (xs : List X) (i : ℕ) (x y : X) → slice_get xs i ≡ Some x → slice_get (slice_set xs i y) i ≡ Some y
+set_at [] i x y at = cc
+set_at (a ∷ xs) zero x y at = refl
+set_at (a ∷ xs) (suc i) x y at = set_at xs i x y at
+
+pub others_stay : {X : Type 0} (k place other : ℕ) (xs new : List X) (y : X) → k ≡ place + 1 → new ≡ slice_set xs place y → (other ≡ k → ⊥) → numbered other new ≡ numbered other xs
+others_stay k place zero xs new y e is apart = refl
+others_stay k place (suc before) xs new y e is apart = ap (λ (n : List _). slice_get n before) is ∙ set_beside xs place before y (λ same. apart (omega (arith, e, same)))
+
+pub steps_at : (k place : ℕ) (old new : List DuoView) (event : Event) (x : Entry) (v after : DuoView) → k ≡ place + 1 → slice_get old place ≡ Some v → new ≡ slice_set old place after → Steps v event x after
+    → steps_done after ≡ steps_done v + 1 → lengths_of after ≡ lengths_of v → profiles_of after ≡ profiles_of v → StepsAt k old event x new
+steps_at k place old new event x v after e at is steps counts lengths profiles = record {
+  before = v;
+  after = after;
+  was = named k place old v e at;
+  is = named k place new after e (ap (λ (n : List DuoView). slice_get n place) is ∙ set_at old place v after at);
+  steps = steps;
+  counts = counts;
+  lengths = lengths;
+  profiles = profiles;
+}
+
+-- what holds of a value and of its being there
+pub with_both : {T E : Type 0} (r : Result T E) (P : T → Type 0) (Q : Type 0) (R : T → Type 0) → IfOk r P → OnOk r Q → ((x : T) → P x → Q → R x) → IfOk r R
+with_both (Ok x) P Q R p q both = both x p q
+with_both (Err e) P Q R p q both = tt

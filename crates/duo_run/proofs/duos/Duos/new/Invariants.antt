@@ -1,0 +1,7 @@
+use Rattle.std.proofs.Common.{[]}
+use Rattle.std.specs.List.{AllZip}
+use Rattle.duo_run.specs.Duo.{DuoStands}
+use Rattle.duo_run.proofs.duos.Duos.new.Given as goal
+
+abbrev pub invariant-loop-master : goal.invariant-loop-master
+invariant-loop-master l = AllZip (λ pair v. DuoStands pair.0 pair.1 v []) l.yielded l.duos.items
