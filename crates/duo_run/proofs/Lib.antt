@@ -16,4 +16,6 @@ pub mod Summed
 pub mod Converted
 pub mod Converting
 pub mod SameLines
+pub mod OnePair
 pub mod PairsAt
+pub mod Short

@@ -1,5 +1,5 @@
 -- What a pair file is converted to: a file of several pairs, of which it is the only one.
-use Rattle.std.specs.Prelude.{◌≡◌, ℕ, ◌+◌, ◌-◌, ◌≤◌, List, [], ◌∷◌, ◌++◌, codes, length, take, Result, Ok, Err, IfSome, Some}
+use Rattle.std.specs.Prelude.{◌≡◌, ℕ, ◌+◌, ◌-◌, ◌≤◌, List, [], ◌∷◌, ◌++◌, codes, length, map, take, Result, Ok, Err, IfSome, Some}
 use Rattle.std.specs.List.{flat_map}
 use Rattle.std.specs.declared.option.Option.{Option}
 use Rattle.std.specs.Io.KnownBytes.{Consumes, prepend_known}
@@ -10,7 +10,10 @@ use Rattle.fsoe_io.specs.declared.status.Status.{Status}
 use Rattle.fsoe_io.specs.declared.status.Status.TheVariants as status
 use Rattle.schedule_file.specs.Header.{Heading}
 use Rattle.schedule_file.specs.PairsHeader.{PairsHeading, stage_after}
-use Rattle.schedule_file.specs.Input.{AtEnd, Input, NoLine, Refused, Stop, WholeHeader, header_of, input_after, input_of, lines_of, schedule_format, texts}
+use Rattle.schedule_file.specs.Input.{AtEnd, Input, InputOf, NoLine, Refused, Stop, WholeHeader, header_of, input_after, input_of, lines_of, schedule_format, texts}
+use Rattle.schedule_file.specs.declared.event.Event.{Event}
+use Rattle.schedule_file.specs.declared.pairs_line.PairsEvent.{PairsEvent}
+use Rattle.schedule_file.specs.declared.pairs_line.PairsEvent.TheVariants as pairs_event
 use Rattle.schedule_file.specs.declared.header_kind.HeaderKind.TheVariants as kind
 use Rattle.file_run.specs.Ending.{Appended, LinesBefore, ReadLines}
 use Rattle.file_run.specs.Outside.{Outside, Wrote}
@@ -121,3 +124,9 @@ pub record RanConvert (ended : Ended) (o : Outside) : Type 0 where
 -- the header of several pairs that has this one alone, after a line of it
 abbrev pub only_pair : Heading → PairsHeading
 only_pair h = record { stage = stage_after h; before = []; last = h }
+
+-- an input of several pairs has this one alone, with these events, and stops by `end`
+pub record IsOnePair (h : Heading) (events : List Event) (input : InputOf PairsHeading PairsEvent) : Type 0 where
+  pub heading_is : input.heading ≡ Some (only_pair h)
+  pub events_are : input.events ≡ map (λ event. pairs_event.One 1 event) events
+  pub ends : input.stop ≡ AtEnd

@@ -1,6 +1,6 @@
 //! What holds of a pair over all its steps, and of the reports of its runs. The calls do nothing: each law is a contract.
 
-ghost use Rattle.std.specs.Prelude.{◌≡◌, ◌++◌, ℕ, List, [], All, codes, false};
+ghost use Rattle.std.specs.Prelude.{◌≡◌, ◌++◌, ℕ, List, [], All, IfSome, codes, false};
 ghost use Rattle.std.specs.declared.result.Result.TheVariants.{Ok};
 ghost use Rattle.fsoe_base.specs.declared.command.End.{End};
 ghost use Rattle.fsoe_io.specs.declared.status.Ended.{Ended};
@@ -8,9 +8,9 @@ ghost use Rattle.param_load.specs.declared.entry.Entry.{Entry};
 ghost use Rattle.param_load.specs.declared.master_settings.MasterSettings.{MasterSettings};
 ghost use Rattle.param_load.specs.declared.slave_settings.SlaveSettings.{SlaveSettings};
 ghost use Rattle.schedule_file.specs.Header.{Heading, heading_after, heading_is_whole, heading_new};
-ghost use Rattle.schedule_file.specs.Input.{Input, Line, input_of, said_after};
+ghost use Rattle.schedule_file.specs.Input.{AtEnd, Input, Line, input_of, said_after};
 ghost use Rattle.schedule_file.specs.PairsHeader.{pair_begun, pairs_heading_after, pairs_heading_new};
-ghost use Rattle.schedule_file.specs.PairsInput.{pairs_said_after};
+ghost use Rattle.schedule_file.specs.PairsInput.{pairs_input, pairs_said_after};
 ghost use Rattle.schedule_file.specs.Place.{is_start};
 ghost use Rattle.schedule_file.specs.declared.event.ScheduleLine.TheVariants as said;
 ghost use Rattle.schedule_file.specs.declared.line_cause.LineCause.TheVariants as cause;
@@ -27,7 +27,7 @@ ghost use Rattle.exchange_model.specs.Honest.{Match, IsHonest};
 ghost use Rattle.exchange_model.specs.Other.{before_other};
 ghost use Rattle.exchange_model.specs.Serving.{Serves};
 ghost use Rattle.exchange_model.specs.World.{setup_of, moves, world, SameLengths, IsProperEvent};
-ghost use Rattle.duo_run.specs.Convert.{converted, only_pair};
+ghost use Rattle.duo_run.specs.Convert.{IsOnePair, converted, only_pair};
 ghost use Rattle.duo_run.specs.Duo.{DuoView, DuoStands};
 ghost use Rattle.duo_run.specs.Ran.{Ran};
 ghost use Rattle.duo_run.specs.Replay.{ReplayReports};
@@ -72,6 +72,11 @@ pub fn converted_lines_say_the_same()
     ensures header { (h next : Heading) (line : List ℕ) → is_start h.place ≡ false → heading_is_whole h ≡ false → heading_after h line ≡ Ok next → pairs_heading_after (only_pair h) line ≡ Ok (only_pair next) }
     ensures event { (h : Heading) (line : List ℕ) (event : Event) → said_after kind.Pair h line ≡ Ok (said.Step event) → pairs_said_after (only_pair h) (codes "1 " ++ line) ≡ Ok (pairs_said.One 1 event) }
     ensures last { (h : Heading) → pairs_said_after (only_pair h) (codes "end") ≡ Ok pairs_said.End }
+{}
+
+/// What a pair file that stops by `end` is converted to is read as a file of one pair, with the same header, the same events and the same stop.
+pub fn conversions_say_the_same()
+    ensures { (bytes : List ℕ) → (input_of kind.Pair bytes).stop ≡ AtEnd → IfSome (input_of kind.Pair bytes).heading (λ h. IsOnePair h (input_of kind.Pair bytes).events (pairs_input (converted bytes))) }
 {}
 
 /// What pair files are converted to: one with an event, which names a frame that wasn't sent, and two that are refused, in the header and
