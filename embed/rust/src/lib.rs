@@ -31,11 +31,15 @@
 
 mod ffi;
 mod master;
+#[cfg(feature = "replay")]
+mod replay;
 mod settings;
 mod slave;
 mod step;
 
 pub use master::{Accepted, Due, Master, MasterMemory};
+#[cfg(feature = "replay")]
+pub use replay::{replay, Ending, Replayed};
 pub use settings::{App, MasterSettings, One, Profile, Rule, SlaveSettings, Two};
 pub use slave::{Slave, SlaveMemory};
 pub use step::{Cause, Code, Command, Dropped, State, Step, Terms, Took};
