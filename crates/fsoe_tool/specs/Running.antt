@@ -5,6 +5,7 @@ use Rattle.fsoe_io.specs.declared.status.Status.TheVariants as status
 use Rattle.file_run.specs.Ending.{Writes}
 use Rattle.file_run.specs.Outside.{Outside, Told}
 use Rattle.duo_run.specs.Bulk.{RanBulk}
+use Rattle.duo_run.specs.Convert.{RanConvert}
 use Rattle.duo_run.specs.Replay.{RanReplay}
 use Rattle.node_runner.specs.Ran.{RanNode}
 use Rattle.process_image.specs.Ran.{RanImage}
@@ -23,6 +24,7 @@ reads_input (Some command.Replay) = true
 reads_input (Some (command.Bulk number events)) = false
 reads_input (Some command.Image) = true
 reads_input (Some command.Diagnose) = true
+reads_input (Some command.Convert) = true
 reads_input (Some command.Plant) = true
 
 -- whether the words name a plant, which alone has to do with the desk, the applications, the channels and the journal
@@ -43,4 +45,5 @@ Runs (Some command.Replay) ended o desk h = RanReplay ended o
 Runs (Some (command.Bulk number events)) ended o desk h = RanBulk number events ended o.sink
 Runs (Some command.Image) ended o desk h = RanImage ended o
 Runs (Some command.Diagnose) ended o desk h = RanDiagnose ended o
+Runs (Some command.Convert) ended o desk h = RanConvert ended o
 Runs (Some command.Plant) ended o desk h = RanFile ended o desk h

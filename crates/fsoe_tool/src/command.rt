@@ -19,6 +19,8 @@ pub enum Command {
     Image,
     /// To judge a recorded trace.
     Diagnose,
+    /// To write a pair file as a file of several pairs.
+    Convert,
     /// To run a plant by its configuration, which lies under the second word.
     Plant,
 }
@@ -33,6 +35,8 @@ fn command_alone(word: &str) -> Option<Command>
         Some(Command::Image)
     } else if word == "diagnose" {
         Some(Command::Diagnose)
+    } else if word == "convert" {
+        Some(Command::Convert)
     } else {
         None
     }
@@ -65,7 +69,7 @@ fn bulk_of(number: &str, events: &str) -> Option<Command>
 }
 
 /// The command that words name, which are those after the program's name: `node master`, `node slave`, `replay`, `image`, `diagnose`,
-/// `plant <file>`, or `bulk <number> <events>` with a number of at most 64 bits and from 1 to 200,000 events.
+/// `convert`, `plant <file>`, or `bulk <number> <events>` with a number of at most 64 bits and from 1 to 200,000 events.
 pub fn command_said(words: &[String]) -> Option<Command>
     ensures { result ≡ command_said (map string_bytes words.now) }
 {

@@ -7,7 +7,7 @@ ghost use Rattle.fsoe_tool.specs.Running.{Runs, reads_input, runs_plant};
 use crate::command::{Command, command_said, file_named};
 use crate::plant::run_file;
 use black_channel::Channel;
-use duo_run::{run_bulk, run_replay};
+use duo_run::{run_bulk, run_convert, run_replay};
 use fb_net::AppEntry;
 use file_run::write_report;
 use fsoe_io::{Desk, Ended, Sink, Source, Status};
@@ -96,6 +96,7 @@ pub fn run<D: Desk, S: Source, K: Sink>(
         }
         Some(Command::Image) => without_journal(alloc, run_image(alloc, source, sink)),
         Some(Command::Diagnose) => without_journal(alloc, run_diagnose(source, sink)),
+        Some(Command::Convert) => without_journal(alloc, run_convert(source, sink)),
         Some(Command::Plant) => {
             let mut journal = Journal::new(alloc);
             let ended = run_file(
