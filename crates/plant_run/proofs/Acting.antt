@@ -16,13 +16,12 @@ use Rattle.param_load.specs.declared.slave_settings.SlaveSettings.{SlaveSettings
 use Rattle.black_channel.specs.Told.{Told, PushesParcel}
 use Rattle.black_channel.specs.declared.channel.Place.{Place}
 use Rattle.plant_conf.specs.declared.conf.LinkConf.{LinkConf}
-use Rattle.exchange_model.specs.Monitor.{HasParts}
 use Rattle.multi_master.specs.Standing as multi
 use Rattle.multi_master.specs.Standing.{MultiValue}
 use Rattle.multi_master.proofs.Places.{map_set, same_length}
 use Rattle.plant_run.specs.Doing.{place_of, sent_uses, SlaveActs, MasterActs, one_each, one_each_to, each_uses, frames_pushed, AllActed, ActedTo, HaveParts}
-use Rattle.plant_run.specs.Standing.{AreNoted, lengths_kept, LinkIs, LinksAre, IsPlant}
-use Rattle.plant_run.specs.Link.{LinkView, LinkStands, SlaveGoesOn, MasterNoted, NotesOne}
+use Rattle.plant_run.specs.Standing.{AreNoted, fixed_in, lengths_kept, LinkIs, LinksAre, IsPlant}
+use Rattle.plant_run.specs.Link.{Fixed, IsMasters, LinkView, LinkStands, SlaveGoesOn, MasterNoted, NotesOne, fixed_of}
 use Rattle.plant_run.specs.ScriptLine.{lengths_at}
 use Rattle.plant_run.specs.Uses.{Use, Trace}
 use Rattle.plant_run.proofs.Linking.{each_at, each_from, each_set, each_count}
@@ -49,7 +48,7 @@ pub slave_acts : (k : ℕ) (what : Move) (old new : LinkView) (did : Did) (sent 
     → Trace (sent_uses (place_of k side.Master) sent new.cut) before after → SlaveActs k what old new before after
 slave_acts k what old new did sent before after goes notes t = record {
   acts = λ link w h.
-      let went = goes.goes link.slave w h in
+      let went = goes.goes link w h in
       record {
         stands = went.stands;
         channel = subst (λ (f : List ℕ). Trace (sent_uses (place_of k side.Master) f old.cut) before after) went.sent_is
@@ -57,16 +56,16 @@ slave_acts k what old new did sent before after goes notes t = record {
       };
 }
 
-pub master_acts : (k : ℕ) (came : List ℕ) (did : Did) (sent : List ℕ) (old new : LinkView) (before after : Told) → MasterNoted old came did sent new → NotesOne old new
-    → Trace (sent_uses (place_of k side.Slave) sent new.cut) before after → MasterActs k came did sent old new before after
-master_acts k came did sent old new before after noted notes t = record {
-  stands = λ link w x h parts. noted.stands link.slave w x h parts;
+pub master_acts : (k : ℕ) (tick : Bool) (came : List ℕ) (did : Did) (sent : List ℕ) (old new : LinkView) (before after : Told) → MasterNoted old tick came did sent new → NotesOne old new
+    → Trace (sent_uses (place_of k side.Slave) sent new.cut) before after → MasterActs k tick came did sent old new before after
+master_acts k tick came did sent old new before after noted notes t = record {
+  stands = λ link w x h parts. noted.stands link w x h parts;
   channel = subst (λ (c : Bool). Trace (sent_uses (place_of k side.Slave) sent c) before after) notes.cut t;
 }
 
 -- one connection more did its part
 pub record OneActed (n : ℕ) (to : End) (link : LinkConf) (done : ℕ → LinkConf → List Entry) (next : ℕ → LinkConf → Entry) (old new : LinkView) (before after : Told) : Type 0 where
-  pub stands : LinkStands link.slave new (next n link ∷ done n link)
+  pub stands : LinkStands link new (next n link ∷ done n link)
   pub channel : Trace (sent_uses (place_of n to) (next n link).sent old.cut) before after
 
 each_take : (uses : ℕ → LinkConf → List Use) (k n i : ℕ) (links : List LinkConf) (link : LinkConf) → slice_get links i ≡ Some link → n ≡ k + i
@@ -86,7 +85,7 @@ acted_none to links cut done next vs t h = record {
   kept = each_from (LinkIs cut done) (LinkIs cut (one_each_to 0 next done)) 1 links vs h
       (λ n link v from below p.
       record {
-        stands = subst (λ (b : Bool). LinkStands link.slave v (if b then done n link else next n link ∷ done n link)) (sym (lt-ltb 0 n (omega arith))) p.stands;
+        stands = subst (λ (b : Bool). LinkStands link v (if b then done n link else next n link ∷ done n link)) (sym (lt-ltb 0 n (omega arith))) p.stands;
         cut = p.cut;
       });
   channel = refl;
@@ -95,13 +94,13 @@ acted_none to links cut done next vs t h = record {
 same_side : (i n m : ℕ) → n ≡ suc i → m ≢ n → nat_lt i m ≡ nat_lt n m
 same_side i n m e h = grind (arith, nat_tests)
 
-acted_here : (i n : ℕ) (done : ℕ → LinkConf → List Entry) (next : ℕ → LinkConf → Entry) (link : LinkConf) (v : LinkView) → nat_lt i n ≡ true → LinkStands link.slave v (one_each_to i next done n link)
-    → LinkStands link.slave v (done n link)
-acted_here i n done next link v e h = subst (λ (b : Bool). LinkStands link.slave v (if b then done n link else next n link ∷ done n link)) e h
+acted_here : (i n : ℕ) (done : ℕ → LinkConf → List Entry) (next : ℕ → LinkConf → Entry) (link : LinkConf) (v : LinkView) → nat_lt i n ≡ true → LinkStands link v (one_each_to i next done n link)
+    → LinkStands link v (done n link)
+acted_here i n done next link v e h = subst (λ (b : Bool). LinkStands link v (if b then done n link else next n link ∷ done n link)) e h
 
 pub acted_more : (i n : ℕ) (to : End) (links : List LinkConf) (cut : ℕ → Bool) (done : ℕ → LinkConf → List Entry) (next : ℕ → LinkConf → Entry) (vs : List LinkView) (old new : LinkView) (first before after : Told)
     → ActedTo i to links cut done next vs first before → slice_get vs i ≡ Some old → n ≡ suc i
-    → ((link : LinkConf) → slice_get links i ≡ Some link → LinkStands link.slave old (done n link) → OneActed n to link done next old new before after) → new.cut ≡ old.cut
+    → ((link : LinkConf) → slice_get links i ≡ Some link → LinkStands link old (done n link) → OneActed n to link done next old new before after) → new.cut ≡ old.cut
     → ActedTo n to links cut done next (slice_set vs i new) first after
 acted_more i n to links cut done next vs old new first before after h at e acts cut_is =
     let beside = each_at (LinkIs cut (one_each_to i next done)) 1 links vs i n old h.kept at (omega arith) in
@@ -111,13 +110,13 @@ acted_more i n to links cut done next vs old new first before after h at e acts 
       kept = each_set (LinkIs cut (one_each_to i next done)) (LinkIs cut (one_each_to n next done)) 1 links vs i n old new h.kept at (omega arith)
           (λ link is p.
           record {
-            stands = subst (λ (b : Bool). LinkStands link.slave new (if b then done n link else next n link ∷ done n link)) (sym (le-ltb n n (omega arith)))
+            stands = subst (λ (b : Bool). LinkStands link new (if b then done n link else next n link ∷ done n link)) (sym (le-ltb n n (omega arith)))
                 (acts link is (acted_here i n done next link old (lt-ltb i n (omega arith)) p.stands)).stands;
             cut = cut_is ∙ p.cut;
           })
           (λ m link v other p.
           record {
-            stands = subst (λ (b : Bool). LinkStands link.slave v (if b then done m link else next m link ∷ done m link)) (same_side i n m e other) p.stands;
+            stands = subst (λ (b : Bool). LinkStands link v (if b then done m link else next m link ∷ done m link)) (same_side i n m e other) p.stands;
             cut = p.cut;
           });
       channel = subst (λ (us : List Use). Trace us first after)
@@ -134,7 +133,7 @@ acted_all i to links cut done next vs first last past h =
       kept = each_from (LinkIs cut (one_each_to i next done)) (LinkIs cut (one_each next done)) 1 links vs h.kept
           (λ n link v from below p.
           record {
-            stands = subst (λ (b : Bool). LinkStands link.slave v (if b then done n link else next n link ∷ done n link)) (le-ltb i n (omega arith)) p.stands;
+            stands = subst (λ (b : Bool). LinkStands link v (if b then done n link else next n link ∷ done n link)) (le-ltb i n (omega arith)) p.stands;
             cut = p.cut;
           });
       channel = subst (λ (ls : List LinkConf). Trace (frames_pushed to next cut ls) first last) (take_all i links (omega arith)) h.channel;
@@ -206,8 +205,8 @@ pub noted_less : (most more : ℕ) (vs : List LinkView) → most ≤ more → Ar
 noted_less most more vs le h =
     at_all (λ (z : LinkView). z.monitor.noted ≤ more) vs (λ k v e. let was = all_at (λ (z : LinkView). z.monitor.noted ≤ most) vs k v h e in omega arith)
 
-pub lengths_set : (vs : List LinkView) (i : ℕ) (old new : LinkView) → slice_get vs i ≡ Some old → new.slave.kit.settings ≡ old.slave.kit.settings → lengths_kept (slice_set vs i new) ≡ lengths_kept vs
-lengths_set vs i old new at e = map_set (λ (z : LinkView). z.slave.kit.settings.lengths) vs i old new at (ap (λ (s : SlaveSettings). s.lengths) e)
+pub fixed_set : (vs : List LinkView) (i : ℕ) (old new : LinkView) → slice_get vs i ≡ Some old → fixed_of new ≡ fixed_of old → fixed_in (slice_set vs i new) ≡ fixed_in vs
+fixed_set vs i old new at e = map_set fixed_of vs i old new at e
 
 -- a connection's place by its number
 pub record Placed (vs : List LinkView) (n place : ℕ) (v : LinkView) : Type 0 where
@@ -223,18 +222,18 @@ kept_fits vs n place v len p h =
     ap (lengths_at (lengths_kept vs)) p.number ∙ slice_get-map (λ (z : LinkView). z.slave.kit.settings.lengths) vs place ∙ ap (option_map (λ (z : LinkView). z.slave.kit.settings.lengths)) p.at in
     subst (λ (o : Option Lengths). IsSomeAnd o (λ ends. len ≡ ends.slave)) found h
 
-pub same_count : (xs ys : List LinkView) → lengths_kept xs ≡ lengths_kept ys → length xs ≡ length ys
-same_count xs ys h = same_length (λ (z : LinkView). z.slave.kit.settings.lengths) (λ (z : LinkView). z.slave.kit.settings.lengths) xs ys h
+pub same_count : (xs ys : List LinkView) → fixed_in xs ≡ fixed_in ys → length xs ≡ length ys
+same_count xs ys h = same_length fixed_of fixed_of xs ys h
 
 -- the entry of a master that was told with its parts
 pub master_one : (i n : ℕ) (links : List LinkConf) (done : ℕ → LinkConf → List Entry) (next : ℕ → LinkConf → Entry) (dids : List Did) (frames : List (List ℕ)) (link : LinkConf) (did : Did) (sent : List ℕ) (old new : LinkView) (before after : Told)
-    → n ≡ suc i → HaveParts links next dids frames → slice_get links i ≡ Some link → slice_get dids i ≡ Some did → slice_get frames i ≡ Some sent → MasterActs n [] did sent old new before after
-    → LinkStands link.slave old (done n link) → OneActed n side.Slave link done next old new before after
+    → n ≡ suc i → HaveParts links next dids frames → slice_get links i ≡ Some link → slice_get dids i ≡ Some did → slice_get frames i ≡ Some sent → MasterActs n true [] did sent old new before after
+    → LinkStands link old (done n link) → OneActed n side.Slave link done next old new before after
 master_one i n links done next dids frames link did sent old new before after e parts is did_at out_at acts h =
-    let own : HasParts (next n link) side.Master [] did sent = subst (λ (k : ℕ). HasParts (next k link) side.Master [] did sent) (sym e) (parts.each i link did sent is did_at out_at) in
+    let own : IsMasters (next n link) true [] did sent = subst (λ (k : ℕ). IsMasters (next k link) true [] did sent) (sym e) (parts.each i link did sent is did_at out_at) in
     record {
       stands = acts.stands link (done n link) (next n link) h own;
-      channel = subst (λ (f : List ℕ). Trace (sent_uses (place_of n side.Slave) f old.cut) before after) (sym own.sent_is) acts.channel;
+      channel = subst (λ (f : List ℕ). Trace (sent_uses (place_of n side.Slave) f old.cut) before after) (sym own.parts.sent_is) acts.channel;
     }
 
 -- the parts of a plant still fit one another

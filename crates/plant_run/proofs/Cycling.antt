@@ -1,5 +1,5 @@
 -- Acts that run a cycle: the offers that it changed are noted with them.
-use Rattle.std.proofs.Common.{◌≡◌, ℕ, suc, Bool, List, [], ◌∷◌, ◌++◌, map, slice_get, slice_set, Option, Some, option_map, if◌then◌else◌, refl, sym, ap, ap₂, subst, ◌∙◌, append_assoc}
+use Rattle.std.proofs.Common.{false, ◌≡◌, ℕ, suc, Bool, List, [], ◌∷◌, ◌++◌, map, slice_get, slice_set, Option, Some, option_map, if◌then◌else◌, refl, sym, ap, ap₂, subst, ◌∙◌, append_assoc}
 use Rattle.std.specs.Option.{option_map_or}
 use Rattle.std.specs.Prelude.{IfSome, option_to_list, option_and_then}
 use Rattle.std.proofs.lemmas.Option.{slice_get-map}
@@ -80,7 +80,7 @@ tick_parts b done m dids frames h answers = record {
       let sent_is : sent ≡ (next_deed move.Tick c).sent = some_same (λ c. (next_deed move.Tick c).sent) (masters b done).connections place c sent frames (answers.sent (settings b) b.app (calls b done) h) own.is sent_at in
       let same : next_step (OfMaster link.master) (deeds side.Master (pair link (suc place) (journal b done))) move.Tick ≡ next_deed move.Tick c =
       ap₂ (λ (s : MasterSettings) (e : List Deed). next_step (OfMaster s) e move.Tick) (sym own.settings_are) own.deeds_are in
-      record { end_is = refl; came_is = refl; did_is = ap (λ (x : Deed). x.did) same ∙ sym did_is; sent_is = ap (λ (x : Deed). x.sent) same ∙ sym sent_is };
+      record { parts = record { end_is = refl; came_is = refl; did_is = ap (λ (x : Deed). x.did) same ∙ sym did_is; sent_is = ap (λ (x : Deed). x.sent) same ∙ sym sent_is }; tick_is = refl };
 }
 
 tick_sends : (link : LinkConf) (k : ℕ) (steps : List JournalStep) (at : End) → frames_of at (pair link k (steps ++ step.Script event.Tick ∷ [])) ≡ frames_of at (master_next steps k link ∷ slave_next steps k link ∷ pair link k steps)
@@ -115,7 +115,7 @@ tick_goes old new before after c = record {
       let masters = c.masters.noted b.links cut (one_each (slave_next steps) (pairs_by steps)) (master_next steps) parts slaves.kept in
       let both : LinksAre b.links cut (pairs_by (steps ++ s ∷ [])) c.late =
       each_map (LinkIs cut (one_each (master_next steps) (one_each (slave_next steps) (pairs_by steps)))) (LinkIs cut (pairs_by (steps ++ s ∷ []))) 1 b.links c.late masters.kept
-      (λ k link v p. record { stands = subst (λ (w : List Entry). LinkStands link.slave v w) (sym (ticked link k steps)) p.stands; cut = p.cut }) in
+      (λ k link v p. record { stands = subst (λ (w : List Entry). LinkStands link v w) (sym (ticked link k steps)) p.stands; cut = p.cut }) in
       let journal_is : new.journal ≡ journal b (act ∷ done) =
       c.offers.steps ∙ append_assoc steps (s ∷ []) offers ∙ ap₂ (λ (js more : List JournalStep). js ++ s ∷ more) h.journal_is offers_is in
       let uses : all_pushes b.links cut (journal b done) (journal b (act ∷ done)) ≡ frames_pushed side.Master (slave_next steps) cut b.links ++ frames_pushed side.Slave (master_next steps) cut b.links =
@@ -156,7 +156,7 @@ app_goes old new app t c = record {
       let offers_is : offers ≡ offers_by b (Some call) (calls b done) = shown_offers b call (calls b done) new.master old.links new.links (steps ++ s ∷ []) new.journal c.offers stands in
       let same : LinksAre b.links cut (pairs_by (steps ++ s ∷ [])) old.links =
       each_map (LinkIs cut (pairs_by steps)) (LinkIs cut (pairs_by (steps ++ s ∷ []))) 1 b.links old.links h.links
-      (λ k link v p. record { stands = subst (λ (w : List Entry). LinkStands link.slave v w) (sym (no_entry link k steps s refl)) p.stands; cut = p.cut }) in
+      (λ k link v p. record { stands = subst (λ (w : List Entry). LinkStands link v w) (sym (no_entry link k steps s refl)) p.stands; cut = p.cut }) in
       let journal_is : new.journal ≡ journal b (act ∷ done) =
       c.offers.steps ∙ append_assoc steps (s ∷ []) offers ∙ ap₂ (λ (js more : List JournalStep). js ++ s ∷ more) h.journal_is offers_is in
       let uses : all_pushes b.links cut (journal b done) (journal b (act ∷ done)) ≡ [] =
@@ -193,7 +193,7 @@ pub record FrameChange (old new : PlantView) (n : ℕ) (frame : List ℕ) (befor
   pub guards : multi.Guards old.master (Deliver n frame)
   pub offers : OffersNoted new.master old.links mid old.journal js
   pub at : slice_get mid place ≡ Some was
-  pub acts : MasterActs n frame did sent was is before after
+  pub acts : MasterActs n false frame did sent was is before after
   pub cut : is.cut ≡ was.cut
   pub links : new.links ≡ slice_set mid place is
   pub journal : new.journal ≡ js ++ step.Pulled (record { to = place_of n side.Master; frame = frame }) ∷ []
@@ -299,7 +299,7 @@ frame_goes old new n frame before after c = record {
                 (one_links b.links cut (steps ++ offers) s n side.Master (move.Deliver frame) c.place c.mid c.was c.is offered c.at c.number one
                 (λ l is held.
                 c.acts.stands l (pair l n (steps ++ offers)) (next_of side.Master (move.Deliver frame) l (pair l n (steps ++ offers))) held
-                (frame_parts b done old.master n c.place frame c.did c.sent l (steps ++ offers) c.number is calls_it h.master c.answers (sym journal_is ∙ new_is))) c.cut));
+                (record { parts = frame_parts b done old.master n c.place frame c.did c.sent l (steps ++ offers) c.number is calls_it h.master c.answers (sym journal_is ∙ new_is); tick_is = refl })) c.cut));
             journal_is = journal_is;
             answered = (called_answered b act done call calls_it (c.cycles.offers (settings b) b.app (calls b done) h.master), h.answered);
             guarded = (called_guarded b act done call calls_it (c.guards.guards (settings b) b.app (calls b done) h.master), h.guarded);

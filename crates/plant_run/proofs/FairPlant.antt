@@ -35,7 +35,7 @@ use Rattle.plant_run.proofs.Masters.{mastered}
 use Rattle.plant_run.proofs.Linking.{kept_at}
 
 -- each entry is the next one of its end after those before it
-abbrev AreNext : MasterSettings → SlaveSettings → List Entry → Type 0
+abbrev pub AreNext : MasterSettings → SlaveSettings → List Entry → Type 0
 AreNext ms ss [] = Unit {0}
 AreNext ms ss (x ∷ w) = (x ≡ next_entry (setup_of ms ss x.end) (deeds x.end w) x.what) × AreNext ms ss w
 
@@ -46,7 +46,7 @@ next_on ms ss events w end None h f = h
 next_on ms ss events w side.Master (Some what) h f = f (next_entry (OfMaster ms) (deeds side.Master w) what) (refl, h)
 next_on ms ss events w side.Slave (Some what) h f = f (next_entry (OfSlave ss) (deeds side.Slave w) what) (refl, h)
 
-are_next : (ms : MasterSettings) (ss : SlaveSettings) (events : List Event) (w : List Entry) → AreNext ms ss w → AreNext ms ss (world_after ms ss events w)
+pub are_next : (ms : MasterSettings) (ss : SlaveSettings) (events : List Event) (w : List Entry) → AreNext ms ss w → AreNext ms ss (world_after ms ss events w)
 are_next ms ss [] w h = h
 are_next ms ss (e ∷ events) w h =
     next_on ms ss events w (end_of_event e) (move_from (frames_of (peer (end_of_event e)) w) e) h (λ x g. are_next ms ss events (x ∷ w) g)
@@ -80,7 +80,7 @@ world_of_runs link k steps e m s = record {
 }
 
 -- what stands beside a place of the first list
-zip_at : (cs : List Connection) (ms : List MasterView) (place : ℕ) (c : Connection) → AllZip IsWhere cs ms → slice_get cs place ≡ Some c → (m : MasterView) × IsWhere c m
+pub zip_at : (cs : List Connection) (ms : List MasterView) (place : ℕ) (c : Connection) → AllZip IsWhere cs ms → slice_get cs place ≡ Some c → (m : MasterView) × IsWhere c m
 zip_at [] [] place c h e = absurd (cc e)
 zip_at [] (m ∷ ms) place c h e = absurd h
 zip_at (a ∷ cs) [] place c h e = absurd h

@@ -1,15 +1,18 @@
 mod Acting
 mod Broken
+mod BoundParts
 mod Cycled
 mod Cycling
 mod FairPlant
 mod Given
 mod Growing
 mod KeptOff
+mod Hearing
 mod Lines
 mod Linked
 mod LinkLines
 mod Linking
+mod Made
 mod Masters
 mod Names
 mod Offering
@@ -30,3 +33,5 @@ mod TakenApps
 mod TicksText
 mod Traces
 mod Turned
+mod Watchdogs
+mod Watched

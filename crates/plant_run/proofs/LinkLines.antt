@@ -1,5 +1,5 @@
 -- The lines of the connections that wait.
-use Rattle.std.proofs.Common.{◌≡◌, ◌<◌, ◌+◌, ℕ, zero, suc, Bool, List, [], ◌∷◌, ◌++◌, drop, slice_get, refl, sym, ap, ap₂, subst, ◌∙◌, arith}
+use Rattle.std.proofs.Common.{◌≡◌, ◌<◌, ◌+◌, ℕ, zero, suc, Bool, List, [], ◌∷◌, ◌++◌, drop, length, slice_get, refl, sym, ap, ap₂, subst, ◌∙◌, arith}
 use Rattle.std.specs.Prelude.{IsSomeAnd, Option, Some, None, codes, decimal}
 use Rattle.hex.specs.Hex.{encode_lower}
 use Rattle.fsoe_base.specs.Command.{state_name}
@@ -10,6 +10,7 @@ use Rattle.black_channel.specs.Told.{Told}
 use Rattle.failsafe_io.specs.declared.bit.Bit.{Bit}
 use Rattle.multi_master.specs.Calls.{Rule}
 use Rattle.plant_conf.specs.declared.conf.LinkConf.{LinkConf}
+use Rattle.reaction_bound.specs.Reaction.{ReactionView}
 use Rattle.plant_run.specs.declared.journal.JournalStep.{JournalStep}
 use Rattle.plant_run.specs.Acts.{Beginning}
 use Rattle.plant_run.specs.Given.{GivenStands, waiting, waiting_in}
@@ -20,6 +21,10 @@ use Rattle.plant_run.specs.Script.{ScriptHeading}
 use Rattle.plant_run.specs.Standing.{PlantStands, PlantValue, PlantView, ShowsPair, seen}
 use Rattle.plant_run.specs.Turns.{Named, Turn}
 use Rattle.plant_run.specs.declared.event.PlantLine.{PlantLine}
+use Rattle.plant_run.specs.Making.{links_made}
+use Rattle.plant_run.proofs.Acting.{same_count}
+use Rattle.plant_run.proofs.Made.{made_count}
+use Rattle.std.proofs.lemmas.Option.{slice_get_past}
 
 -- the text of an end
 abbrev pub end_by : State → List ℕ → List ℕ
@@ -43,10 +48,10 @@ line_shown v k ms ss mo so text a b c d is = record {
       line_by (link_at begins.links k) k (λ l. pair l k v.journal) ms ss mo so text (a.shows begins turns h) (b.shows begins turns h) (c.shows begins turns h) (d.shows begins turns h) is;
 }
 
-some_is : {X : Type 0} (x y : X) → Some x ≡ Some y → x ≡ y
+pub some_is : {X : Type 0} (x y : X) → Some x ≡ Some y → x ≡ y
 some_is x y e = cc
 
-drop_at : {X : Type 0} (xs : List X) (place : ℕ) (x : X) → slice_get xs place ≡ Some x → drop place xs ≡ x ∷ drop (suc place) xs
+pub drop_at : {X : Type 0} (xs : List X) (place : ℕ) (x : X) → slice_get xs place ≡ Some x → drop place xs ≡ x ∷ drop (suc place) xs
 drop_at [] place x e = cc
 drop_at {X = X} (y ∷ xs) zero x e = let same : y ≡ x = cc in ap (λ (z : X). z ∷ xs) same
 drop_at (y ∷ xs) (suc place) x e = drop_at xs place x e
@@ -74,18 +79,28 @@ pub none_after : (links : List LinkConf) (place : ℕ) (steps : List JournalStep
 none_after links place steps e = ap (λ (z : List LinkConf). link_lines (suc place) z steps) (none_dropped links place e)
 
 -- the next part of what waits, where a line more does
-next_part : {A : Type 0} (rule : A → Rule) (holds : A → List ℕ) (guards : A → Bit → Bit → Bool) (t : Terms) (plant : Option (PlantValue A)) (left : List Named) (before after : Told) (count : ℕ) (h : ScriptHeading) (log : List PlantLine) (text shown : List ℕ)
-    (p : PlantValue A) (next : ℕ) → GivenStands rule holds guards t plant left before after count h log text → plant ≡ Some p → 0 < next → ShowsPair (seen rule holds guards p) next shown (λ conf w. link_line conf next w)
+next_part : {A : Type 0} (rule : A → Rule) (holds : A → List ℕ) (guards : A → Bit → Bit → Bool) (t : Terms) (plant : Option (PlantValue A)) (reactions : List ReactionView) (left : List Named) (before after : Told) (count : ℕ) (h : ScriptHeading) (log : List PlantLine) (text shown : List ℕ)
+    (p : PlantValue A) (next : ℕ) → GivenStands rule holds guards t plant reactions left before after count h log text → plant ≡ Some p → 0 < next → ShowsPair (seen rule holds guards p) next shown (λ conf w. link_line conf next w)
     → waiting next t.begins.links p.journal ≡ shown ++ waiting (next + 1) t.begins.links p.journal
-next_part rule holds guards t plant left before after count h log text shown p zero k is above shows = absurd (omega (arith, above))
-next_part rule holds guards t plant left before after count h log text shown p (suc place) k is above shows =
+next_part rule holds guards t plant reactions left before after count h log text shown p zero k is above shows = absurd (omega (arith, above))
+next_part rule holds guards t plant reactions left before after count h log text shown p (suc place) k is above shows =
     let same : k.value ≡ p = some_is k.value p (sym k.plant_is ∙ is) in
     let stands : PlantStands t.begins (seen rule holds guards p) k.runs.turns = subst (λ v. PlantStands t.begins (seen rule holds guards v) k.runs.turns) same k.runs.stands in
     let number : suc (suc place) ≡ suc place + 1 = omega arith in
     part_is t.begins k.runs.turns (seen rule holds guards p) place shown stands shows ∙ ap (λ (n : ℕ). shown ++ waiting n t.begins.links p.journal) number
 
-pub part_shown : {A : Type 0} (rule : A → Rule) (holds : A → List ℕ) (guards : A → Bit → Bit → Bool) (t : Terms) (plant : Option (PlantValue A)) (left : List Named) (before after : Told) (count : ℕ) (h : ScriptHeading) (log : List PlantLine) (text shown : List ℕ)
-    (p : PlantValue A) (next : ℕ) (links : List LinkConf) → GivenStands rule holds guards t plant left before after count h log text → plant ≡ Some p → 0 < next → ShowsPair (seen rule holds guards p) next shown (λ conf w. link_line conf next w) → links ≡ t.begins.links
+pub part_shown : {A : Type 0} (rule : A → Rule) (holds : A → List ℕ) (guards : A → Bit → Bit → Bool) (t : Terms) (plant : Option (PlantValue A)) (reactions : List ReactionView) (left : List Named) (before after : Told) (count : ℕ) (h : ScriptHeading) (log : List PlantLine) (text shown : List ℕ)
+    (p : PlantValue A) (next : ℕ) (links : List LinkConf) → GivenStands rule holds guards t plant reactions left before after count h log text → plant ≡ Some p → 0 < next → ShowsPair (seen rule holds guards p) next shown (λ conf w. link_line conf next w) → links ≡ t.begins.links
     → waiting_in next links plant ≡ shown ++ waiting_in (next + 1) links plant
-part_shown rule holds guards t plant left before after count h log text shown p next links k is above shows same =
-    rw (is, same) (next_part rule holds guards t plant left before after count h log text shown p next k is above shows)
+part_shown rule holds guards t plant reactions left before after count h log text shown p next links k is above shows same =
+    rw (is, same) (next_part rule holds guards t plant reactions left before after count h log text shown p next k is above shows)
+
+-- none waits after the last
+pub links_done : {A : Type 0} (rule : A → Rule) (holds : A → List ℕ) (guards : A → Bit → Bit → Bool) (t : Terms) (plant : Option (PlantValue A)) (reactions : List ReactionView) (left : List Named) (before after : Told) (count : ℕ) (h : ScriptHeading) (log : List PlantLine) (text : List ℕ)
+    (p : PlantValue A) (next most : ℕ) (links : List LinkConf) → GivenStands rule holds guards t plant reactions left before after count h log text → plant ≡ Some p → links ≡ t.begins.links → most ≡ length p.links → most < next → waiting_in next links plant ≡ []
+links_done rule holds guards t plant reactions left before after count h log text p zero most links k is same e past = absurd (omega (arith, past))
+links_done {A = A} rule holds guards t plant reactions left before after count h log text p (suc place) most links k is same e past =
+    let value : k.value ≡ p = some_is k.value p (sym k.plant_is ∙ is) in
+    let kept : length k.value.links ≡ length t.begins.links = same_count k.value.links (links_made 1 t.bounds t.begins.links) k.fixed ∙ made_count 1 t.bounds t.begins.links in
+    let whole : length links ≡ most = ap length same ∙ sym kept ∙ ap (λ (v : PlantValue A). length v.links) value ∙ sym e in
+    ap (waiting_in (suc place) links) is ∙ none_after links place p.journal (slice_get_past links place (omega arith))

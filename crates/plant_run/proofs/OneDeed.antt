@@ -39,12 +39,12 @@ use Rattle.plant_run.proofs.Masters.{not_same}
 -- one entry more at a connection
 pub one_links : (links : List LinkConf) (cut : ℕ → Bool) (steps : List JournalStep) (s : JournalStep) (n : ℕ) (end : End) (what : Move) (place : ℕ) (vs : List LinkView) (old new : LinkView)
     → LinksAre links cut (pairs_by steps) vs → slice_get vs place ≡ Some old → n ≡ suc place → IsOne s n end what
-    → ((link : LinkConf) → slice_get links place ≡ Some link → LinkStands link.slave old (pair link n steps) → LinkStands link.slave new (next_of end what link (pair link n steps) ∷ pair link n steps))
+    → ((link : LinkConf) → slice_get links place ≡ Some link → LinkStands link old (pair link n steps) → LinkStands link new (next_of end what link (pair link n steps) ∷ pair link n steps))
     → new.cut ≡ old.cut → LinksAre links cut (pairs_by (steps ++ s ∷ [])) (slice_set vs place new)
 one_links links cut steps s n end what place vs old new h at e one f c =
     each_set (LinkIs cut (pairs_by steps)) (LinkIs cut (pairs_by (steps ++ s ∷ []))) 1 links vs place n old new h at (omega arith)
-    (λ link is p. record { stands = subst (λ (w : List Entry). LinkStands link.slave new w) (sym (pair_own link steps s n end what one)) (f link is p.stands); cut = c ∙ p.cut })
-    (λ m link v other p. record { stands = subst (λ (w : List Entry). LinkStands link.slave v w) (sym (pair_other link m steps s n end what one other)) p.stands; cut = p.cut })
+    (λ link is p. record { stands = subst (λ (w : List Entry). LinkStands link new w) (sym (pair_own link steps s n end what one)) (f link is p.stands); cut = c ∙ p.cut })
+    (λ m link v other p. record { stands = subst (λ (w : List Entry). LinkStands link v w) (sym (pair_other link m steps s n end what one other)) p.stands; cut = p.cut })
 
 -- the frame that an end sends in an entry of connection n
 abbrev pub frame_in : End → ℕ → End → Move → List JournalStep → ℕ → LinkConf → List ℕ
@@ -205,15 +205,15 @@ slave_delivered old new n frame before after c = record {
 }
 
 -- a setting sends nothing, so that nothing is done with the channel
-pub put_acts : (k : ℕ) (load : List ℕ) (old new : LinkView) (t : Told) → ((link : LinkConf) (w : List Entry) → LinkStands link.slave old w → LinkStands link.slave new (next_of side.Slave (move.Put load) link w ∷ w))
+pub put_acts : (k : ℕ) (load : List ℕ) (old new : LinkView) (t : Told) → ((link : LinkConf) (w : List Entry) → LinkStands link old w → LinkStands link new (next_of side.Slave (move.Put load) link w ∷ w))
     → SlaveActs k (move.Put load) old new t t
 put_acts k load old new t h = record { acts = λ link w s. record { stands = h link w s; channel = refl } }
 
-pub hold_acts : (k : ℕ) (failsafe : Bool) (old new : LinkView) (t : Told) → ((link : LinkConf) (w : List Entry) → LinkStands link.slave old w → LinkStands link.slave new (next_of side.Slave (move.Hold failsafe) link w ∷ w))
+pub hold_acts : (k : ℕ) (failsafe : Bool) (old new : LinkView) (t : Told) → ((link : LinkConf) (w : List Entry) → LinkStands link old w → LinkStands link new (next_of side.Slave (move.Hold failsafe) link w ∷ w))
     → SlaveActs k (move.Hold failsafe) old new t t
 hold_acts k failsafe old new t h = record { acts = λ link w s. record { stands = h link w s; channel = refl } }
 
-pub nonce_acts : (k id : ℕ) (old new : LinkView) (t : Told) → ((link : LinkConf) (w : List Entry) → LinkStands link.slave old w → LinkStands link.slave new (next_of side.Slave (move.Nonce id) link w ∷ w))
+pub nonce_acts : (k id : ℕ) (old new : LinkView) (t : Told) → ((link : LinkConf) (w : List Entry) → LinkStands link old w → LinkStands link new (next_of side.Slave (move.Nonce id) link w ∷ w))
     → SlaveActs k (move.Nonce id) old new t t
 nonce_acts k id old new t h = record { acts = λ link w s. record { stands = h link w s; channel = refl } }
 
@@ -237,7 +237,7 @@ pub record MasterChange (old new : PlantView) (n id : ℕ) : Type 0 where
   pub was : LinkView
   pub is : LinkView
   pub at : slice_get old.links place ≡ Some was
-  pub noted : MasterNoted was [] nothing [] is
+  pub noted : MasterNoted was false [] nothing [] is
   pub cut : is.cut ≡ was.cut
   pub follows : multi.Follows old.master (Nonce n id) new.master
   pub links : new.links ≡ slice_set old.links place is
@@ -262,7 +262,7 @@ master_nonce old new n id t c = record {
           links = subst (λ (vs : List LinkView). LinksAre b.links cut (pairs_by new.journal) vs) (sym c.links)
               (subst (λ (js : List JournalStep). LinksAre b.links cut (pairs_by js) (slice_set old.links c.place c.is)) (sym c.journal)
               (one_links b.links cut steps s n side.Master (move.Nonce id) c.place old.links c.was c.is h.links c.at c.number one
-              (λ link is stands. c.noted.stands link.slave (pair link n steps) (next_of side.Master (move.Nonce id) link (pair link n steps)) stands (record { end_is = refl; came_is = refl; did_is = refl; sent_is = refl })) c.cut));
+              (λ link is stands. c.noted.stands link (pair link n steps) (next_of side.Master (move.Nonce id) link (pair link n steps)) stands (record { parts = record { end_is = refl; came_is = refl; did_is = refl; sent_is = refl }; tick_is = refl })) c.cut));
           journal_is = journal_is;
           answered = (tt, h.answered);
           guarded = (tt, h.guarded);
@@ -278,9 +278,7 @@ pub record CutChange (old new : PlantView) (n : ℕ) (cut : Bool) : Type 0 where
   pub was : LinkView
   pub is : LinkView
   pub at : slice_get old.links place ≡ Some was
-  pub slave : is.slave ≡ was.slave
-  pub monitor : is.monitor ≡ was.monitor
-  pub cut_is : is.cut ≡ cut
+  pub cut_is : is ≡ record was { cut = cut }
   pub master : new.master ≡ old.master
   pub links : new.links ≡ slice_set old.links place is
   pub journal : new.journal ≡ old.journal ++ step.Script (event.Cut n cut) ∷ []
@@ -289,8 +287,9 @@ pub record CutChange (old new : PlantView) (n : ℕ) (cut : Bool) : Type 0 where
 pub no_entry : (link : LinkConf) (k : ℕ) (steps : List JournalStep) (s : JournalStep) → own_part k s ≡ [] → pair link k (steps ++ s ∷ []) ≡ pair link k steps
 no_entry link k steps s h = pair_more link k steps (s ∷ []) ∙ ap (λ (es : List WorldEvent). world_after link.master link.slave (es ++ []) (pair link k steps)) h
 
-same_stands : (link : LinkConf) (w : List Entry) (was is : LinkView) → is.slave ≡ was.slave → is.monitor ≡ was.monitor → LinkStands link.slave was w → LinkStands link.slave is w
-same_stands link w was is slave monitor h = record { slave = rw slave h.slave; monitor = monitor ∙ h.monitor }
+same_stands : (link : LinkConf) (w : List Entry) (was is : LinkView) (cut : Bool) → is ≡ record was { cut = cut } → LinkStands link was w → LinkStands link is w
+same_stands link w was is cut e h =
+    subst (λ (v : LinkView). LinkStands link v w) (sym e) (record { slave = h.slave; monitor = h.monitor; watchdog = h.watchdog; ages = h.ages })
 
 pub cut_event : (old new : PlantView) (n : ℕ) (cut : Bool) (t : Told) → CutChange old new n cut → GoesOn old (Happen (Event (event.Cut n cut)) ∷ []) new t t
 cut_event old new n cut t c = record {
@@ -311,12 +310,12 @@ cut_event old new n cut t c = record {
               (each_set (LinkIs was (pairs_by steps)) (LinkIs now (pairs_by (steps ++ s ∷ []))) 1 b.links old.links c.place n c.was c.is h.links c.at (from_one n c.place c.number)
               (λ link is p.
               record {
-                stands = subst (λ (w : List Entry). LinkStands link.slave c.is w) (sym (no_entry link n steps s refl)) (same_stands link (pair link n steps) c.was c.is c.slave c.monitor p.stands);
-                cut = c.cut_is ∙ ap (λ (z : Bool). if z then cut else is_cut n done) (sym (eq-eqb n n refl));
+                stands = subst (λ (w : List Entry). LinkStands link c.is w) (sym (no_entry link n steps s refl)) (same_stands link (pair link n steps) c.was c.is cut c.cut_is p.stands);
+                cut = ap (λ (v : LinkView). v.cut) c.cut_is ∙ ap (λ (z : Bool). if z then cut else is_cut n done) (sym (eq-eqb n n refl));
               })
               (λ k link v other p.
               record {
-                stands = subst (λ (w : List Entry). LinkStands link.slave v w) (sym (no_entry link k steps s refl)) p.stands;
+                stands = subst (λ (w : List Entry). LinkStands link v w) (sym (no_entry link k steps s refl)) p.stands;
                 cut = p.cut ∙ ap (λ (z : Bool). if z then cut else is_cut k done) (sym (not_same n k (λ e. other (sym e))));
               })));
           journal_is = journal_is;

@@ -31,13 +31,14 @@ use Rattle.plant_run.specs.Doing.{place_of, sent_uses, next_of, each_uses, Offer
 use Rattle.plant_run.specs.Standing.{lengths_kept, PlantView, EachLink, LinkIs, LinksAre, pairs_by, HasDone, IsTurn, PlantStands, Follows, AreNoted, IsPlant}
 use Rattle.plant_run.specs.FairPairs.{lengths_in}
 use Rattle.plant_run.specs.Link.{LinkView, LinkStands}
-use Rattle.plant_run.specs.Making.{link_made, master_in}
+use Rattle.plant_conf.specs.declared.conf.BoundSpec.{BoundSpec}
+use Rattle.plant_run.specs.Making.{links_made, master_in}
 use Rattle.plant_run.specs.Pair.{pair, link_at}
 use Rattle.plant_run.specs.ScriptLine.{Fits}
 use Rattle.plant_run.specs.Turns.{Turn, pulls, acts}
 use Rattle.plant_run.specs.Uses.{Use, Trace}
 use Rattle.plant_run.proofs.Acting.{trace_append}
-use Rattle.plant_run.proofs.Linked.{new_stands}
+use Rattle.plant_run.proofs.Made.{made_stand}
 use Rattle.plant_run.proofs.Growing.{IsOne, pair_other, sent_in, pushes_each}
 use Rattle.plant_run.proofs.Linking.{each_count, each_from}
 use Rattle.plant_run.proofs.Offering.{offers_send}
@@ -134,7 +135,7 @@ nowhere_delivered old new parcel t far same_master same_links written = record {
                 (each_from (LinkIs cut (pairs_by steps)) (LinkIs cut (pairs_by (steps ++ s ∷ []))) 1 b.links old.links h.links
                 (λ k link v from below p.
                 record {
-                  stands = subst (λ (w : List Entry). LinkStands link.slave v w) (sym (pair_other link k steps s n parcel.to.end (move.Deliver parcel.frame) one (not_within b.links n k away from below))) p.stands;
+                  stands = subst (λ (w : List Entry). LinkStands link v w) (sym (pair_other link k steps s n parcel.to.end (move.Deliver parcel.frame) one (not_within b.links n k away from below))) p.stands;
                   cut = p.cut;
                 })));
             journal_is = journal_is;
@@ -221,17 +222,14 @@ follows_app old new app t g = record {
 pub first_app : (settings : List MasterSettings) (other app : AppView) (m : MultiView) → StandsFor settings other m (ChangeApp app ∷ []) → StandsFor settings app m (ChangeApp app ∷ [])
 first_app settings other app m h = record { masters = h.masters; app_is = h.app_is; inputs_are = h.inputs_are; changed_are = h.changed_are }
 
-made_links : (k : ℕ) (links : List LinkConf) → EachLink (LinkIs (λ k. false) (pairs_by [])) k links (map link_made links)
-made_links k [] = tt
-made_links k (link ∷ links) = (record { stands = new_stands link.slave; cut = refl }, made_links (suc k) links)
-
 -- what a new plant is made of, and what its start changes
 pub record StartChange (b : Beginning) (new : PlantView) (before after : Told) : Type 0 where
   pub old : MultiView
   pub other : AppView
   pub stands : StandsFor (map master_in b.links) other old []
   pub follows : multi.Follows old (ChangeApp b.app) new.master
-  pub offers : OffersNoted new.master (map link_made b.links) new.links [] new.journal
+  pub bounds : List BoundSpec
+  pub offers : OffersNoted new.master (links_made 1 bounds b.links) new.links [] new.journal
   pub cycles : multi.Offers old (ChangeApp b.app)
   pub guards : multi.Guards old (ChangeApp b.app)
   pub begins : Begins b.seed before after
@@ -243,7 +241,7 @@ starts b new before after c =
       turns_are = All-nil (IsTurn b.links);
       has_done = record {
         master = stands;
-        links = subst (λ (js : List JournalStep). LinksAre b.links (λ k. false) (pairs_by js) new.links) (sym c.offers.steps) (c.offers.links b.links (λ k. false) [] (made_links 1 b.links));
+        links = subst (λ (js : List JournalStep). LinksAre b.links (λ k. false) (pairs_by js) new.links) (sym c.offers.steps) (c.offers.links b.links (λ k. false) [] (made_stand 1 c.bounds b.links));
         journal_is = c.offers.steps ∙ c.offers.offers_are (settings b) b.app (ChangeApp b.app ∷ []) stands;
         answered = (c.cycles.offers (settings b) c.other [] c.stands, tt);
         guarded = (c.guards.guards (settings b) c.other [] c.stands, tt);
@@ -268,17 +266,3 @@ pull_room counter len later cap roomy n same below room few larger e =
 
 pub pull_count : (counter : ℕ) (parcel : Parcel) (pulled : List Parcel) → length pulled ≡ counter → length (parcel ∷ pulled) ≡ counter + 1
 pull_count counter parcel pulled e = omega arith
-
-made_noted : (confs : List LinkConf) → AreNoted (2 * 0) (map link_made confs)
-made_noted [] = All-nil (λ v. v.monitor.noted ≤ 2 * 0)
-made_noted (conf ∷ confs) = All-cons (λ v. v.monitor.noted ≤ 2 * 0) (link_made conf) (map link_made confs) (omega arith) (made_noted confs)
-
-pub made_ready : {A : Type 0} (master : MultiValue A) (links : List LinkView) (dids : List Did) (outs : List (List ℕ)) (confs : List LinkConf) → links ≡ map link_made confs → length confs ≤ 64 → multi.links master ≡ length confs
-    → length dids ≡ length confs → length outs ≡ length confs → IsPlant master links dids outs 0
-made_ready master links dids outs confs e most masters dids_are outs_are =
-    let count : length links ≡ length confs = ap length e ∙ length-map confs link_made in
-    record { count = count ∙ sym masters; most = omega arith; dids_fit = dids_are ∙ sym count; outs_fit = outs_are ∙ sym count; noted = subst (AreNoted (2 * 0)) (sym e) (made_noted confs) }
-
-pub made_lengths : (confs : List LinkConf) → lengths_kept (map link_made confs) ≡ map lengths_in confs
-made_lengths [] = refl
-made_lengths (conf ∷ confs) = ap (λ (ls : List Lengths). conf.slave.lengths ∷ ls) (made_lengths confs)

@@ -11,11 +11,12 @@ use Rattle.black_channel.specs.Told.{Told}
 use Rattle.exchange_model.specs.Fair.{Fair}
 use Rattle.plant_conf.specs.ConfView.{HasSameLengths}
 use Rattle.plant_conf.specs.declared.conf.LinkConf.{LinkConf}
+use Rattle.reaction_bound.specs.Reaction.{ReactionView}
 use Rattle.schedule_file.specs.Input.{InputFormat}
 use Rattle.file_run.specs.Left.{Done, Leaves, LeavesAs, MayFailIn}
 use Rattle.file_run.specs.Outside.{Outside}
 use Rattle.file_run.specs.Ran.{RanOver}
-use Rattle.plant_run.specs.Acts.{uses}
+use Rattle.plant_run.specs.Acts.{journal, uses}
 use Rattle.plant_run.specs.FairPairs.{PairsAreFair}
 use Rattle.plant_run.specs.Pair.{link_at}
 use Rattle.plant_run.specs.Ran.{IsReportOf, RanPlant}
@@ -24,8 +25,9 @@ use Rattle.plant_run.specs.Reporting.{Terms, plant_reporting}
 use Rattle.plant_run.specs.Running.{RunStands}
 use Rattle.plant_run.specs.Script.{ScriptHeading}
 use Rattle.plant_run.specs.Standing.{PlantView}
-use Rattle.plant_run.specs.Turns.{Named, acts, said, said_by_turns}
+use Rattle.plant_run.specs.Turns.{Named, Turn, acts, said, said_by_turns}
 use Rattle.plant_run.specs.Uses.{Trace}
+use Rattle.plant_run.specs.Watching.{reactions_after}
 use Rattle.plant_run.specs.declared.event.PlantLine.{PlantLine}
 use Rattle.plant_run.specs.declared.journal.JournalStep.{JournalStep}
 use Rattle.plant_run.proofs.Broken.{broken_by_other}
@@ -59,11 +61,12 @@ leaves_as t one two f d status.Usage ended o l = l
 leaves_as t one two f d status.Config ended o l = l
 leaves_as t one two f d status.Desk ended o l = l
 
--- a plant stood for these lines, and its channel was used so
-pub record Stood (t : Terms) (h : ScriptHeading) (log : List PlantLine) (text : List ℕ) (before after : Told) (steps : List JournalStep) : Type 0 where
+-- a plant stood for these lines, its channel was used so, and these are the reactions of its bounds
+pub record Stood (t : Terms) (h : ScriptHeading) (log : List PlantLine) (text : List ℕ) (before after : Told) (steps : List JournalStep) (reactions : List ReactionView) : Type 0 where
   pub view : PlantView
   pub left : List Named
   pub runs : RunStands t view left h log text
+  pub watched : reactions ≡ reactions_after t.begins runs.turns t.bounds
   pub steps_are : steps ≡ view.journal
   pub channel : Trace (uses t.begins (acts runs.turns)) before after
   pub same_lengths : All HasSameLengths t.begins.links
@@ -80,10 +83,10 @@ fair_if_none (Some link) = fair_none link.master.lengths
 none_is_fair : (links : List LinkConf) → PairsAreFair links []
 none_is_fair links = λ k. fair_if_none (link_at links k)
 
-pub ran_plant : (t : Terms) (ended : Ended) (o : Outside) (before after : Told) (steps : List JournalStep) (unbegun : Type 0) (stands : ScriptHeading → List PlantLine → List ℕ → Type 0) (closes : Closing) → RanOver (plant_reporting t) ended o
-    → Leaves unbegun (Unit {0}) (plant_reporting t).format stands closes ended o → (unbegun → (after ≡ before) × (steps ≡ [])) → ((h : ScriptHeading) (log : List PlantLine) (text : List ℕ) → stands h log text → Stood t h log text before after steps)
-    → Closer closes (IsReportOf t steps) → RanPlant t ended o before after steps
-ran_plant t ended o before after steps unbegun stands closes ran leaves nothing stood closed =
+pub ran_plant : (t : Terms) (ended : Ended) (o : Outside) (before after : Told) (steps : List JournalStep) (reactions : List ReactionView) (unbegun : Type 0) (stands : ScriptHeading → List PlantLine → List ℕ → Type 0) (closes : Closing) → RanOver (plant_reporting t) ended o
+    → Leaves unbegun (Unit {0}) (plant_reporting t).format stands closes ended o → (unbegun → (after ≡ before) × (steps ≡ [])) → ((h : ScriptHeading) (log : List PlantLine) (text : List ℕ) → stands h log text → Stood t h log text before after steps reactions)
+    → ((turns : List Turn) → steps ≡ journal t.begins (acts turns) → reactions ≡ reactions_after t.begins turns t.bounds → Closer closes (IsReportOf t turns steps)) → RanPlant t ended o before after steps
+ran_plant t ended o before after steps reactions unbegun stands closes ran leaves nothing stood closed =
     elim leaves [
       | inl none ↦
           let was = nothing none.0 in
@@ -91,12 +94,13 @@ ran_plant t ended o before after steps unbegun stands closes ran leaves nothing 
       | inr did ↦
           let d = did.done in
           let s = stood d.heading d.log d.text did.stood in
+          let journal_is : steps ≡ journal t.begins (acts s.runs.turns) = s.steps_are ∙ s.runs.stands.has_done.journal_is in
           record {
             run = ran;
             turns = Some s.runs.turns;
             did = record {
               turns_are = s.runs.stands.turns_are;
-              journal_is = s.steps_are ∙ s.runs.stands.has_done.journal_is;
+              journal_is = journal_is;
               done = d;
               said_are = sym (ap (said t.spare) (sym (append-nil d.log)) ∙ s.runs.says [] ∙ append-nil (said_by_turns s.runs.turns));
               whole = s.runs.whole;
@@ -106,7 +110,7 @@ ran_plant t ended o before after steps unbegun stands closes ran leaves nothing 
               broken = broken_by_other t.begins s.view s.runs.turns s.runs.stands s.same_lengths;
               text_is = s.runs.text_is ∙ ap (ticks_text t.begins.links) (sym s.steps_are);
               begun = did.begun;
-              ends = leaves_as t closes (IsReportOf t steps) closed d ended.status ended o did.ends;
+              ends = leaves_as t closes (IsReportOf t s.runs.turns steps) (closed s.runs.turns journal_is s.watched) d ended.status ended o did.ends;
             };
             channel = s.channel;
             fair = subst (PairsAreFair t.begins.links) (sym s.steps_are) (plants_are_fair t.begins s.view s.runs.turns s.runs.stands s.same_lengths);

@@ -14,6 +14,7 @@ use Rattle.plant_run.specs.declared.event.PlantLine.{PlantLine}
 use Rattle.plant_run.specs.declared.event.PlantLine.TheVariants as line
 use Rattle.plant_run.specs.declared.journal.JournalStep.{JournalStep}
 use Rattle.plant_run.specs.Acts.{Beginning, Said, Event, App, journal}
+use Rattle.plant_run.specs.BoundLines.{bound_lines}
 use Rattle.plant_run.specs.FairPairs.{lengths_in}
 use Rattle.plant_run.specs.Pair.{is_tick}
 use Rattle.plant_run.specs.PlantReport.{last_lines, report_end, report_text, tick_lines, ticks_text}
@@ -98,7 +99,7 @@ some_report t script =
     let turns : List Turn = quiet (said t.spare script.events) [] in
     let stop : Stop = run_stop (length turns) script in
     let steps : List JournalStep = journal_after t.begins script.heading turns in (
-      report_text t.begins.links steps stop,
+      report_text t.begins.links steps (bound_lines t.begins turns t.bounds) stop,
       report_end t.begins.links steps stop,
       (turns, record { said_are = quiet_said (said t.spare script.events) []; pulled = quiet_pulls (said t.spare script.events) [] (All-nil PullOf) }, refl, refl),
     )
@@ -111,20 +112,21 @@ headless_plant t number why = ([], record { said_are = refl; pulled = All-nil Pu
 
 -- what stands for some lines reports them with this end
 reports_stopped : (t : Terms) (v : PlantView) (left : List Named) (h : ScriptHeading) (log : List PlantLine) (text : List ℕ) (lines : ℕ) (stop : Stop) (k : RunStands t v left h log text)
-    → PlantReports t (input_stopped h lines log stop) (report_end t.begins.links v.journal stop) (text ++ last_lines t.begins.links v.journal stop)
+    → PlantReports t (input_stopped h lines log stop) (report_end t.begins.links v.journal stop) (text ++ last_lines t.begins.links v.journal (bound_lines t.begins k.turns t.bounds) stop)
 reports_stopped t v left h log text lines stop k =
     let links : List LinkConf = t.begins.links in
     let steps : List JournalStep = journal t.begins (acts k.turns) in
     let same : v.journal ≡ steps = k.stands.has_done.journal_is in
+    let lines_of_bounds : List ℕ = bound_lines t.begins k.turns t.bounds in
     let stops : run_stop (length k.turns) (input_stopped h lines log stop) ≡ stop = stops_with (length k.turns) (input_stopped h lines log stop) k.whole in (
       k.turns,
       record {
         said_are = sym (ap (said t.spare) (sym (append-nil log)) ∙ k.says [] ∙ append-nil (said_by_turns k.turns));
         pulled = turns_pull links k.turns k.stands.turns_are;
       },
-      ap (λ (z : List ℕ). z ++ last_lines links v.journal stop) k.text_is
-          ∙ ap (λ (j : List JournalStep). report_text links j stop) same
-          ∙ ap (report_text links steps) (sym stops),
+      ap (λ (z : List ℕ). z ++ last_lines links v.journal lines_of_bounds stop) k.text_is
+          ∙ ap (λ (j : List JournalStep). report_text links j lines_of_bounds stop) same
+          ∙ ap (report_text links steps lines_of_bounds) (sym stops),
       ap (λ (j : List JournalStep). report_end links j stop) same ∙ ap (report_end links steps) (sym stops),
     )
 
@@ -136,9 +138,10 @@ plant_so_far t v left h log text k = record {
       let links : List LinkConf = t.begins.links in
       let turns : List Turn = quiet (said left more) k.turns in
       let steps : List JournalStep = journal t.begins (acts turns) in
-      let last : List ℕ = last_lines links steps (run_stop (length turns) script) in
+      let lines_of_bounds : List ℕ = bound_lines t.begins turns t.bounds in
+      let last : List ℕ = last_lines links steps lines_of_bounds (run_stop (length turns) script) in
       let begun = quiet_begins t.begins (said left more) k.turns in (
-        report_text links steps (run_stop (length turns) script),
+        report_text links steps lines_of_bounds (run_stop (length turns) script),
         report_end links steps (run_stop (length turns) script),
         (
           turns,
@@ -183,7 +186,7 @@ plant_unmet t v left h log text name none k = λ lines more stop.
         pulled = turns_pull links k.turns k.stands.turns_are;
       },
       ap (λ (z : List ℕ). z ++ refused_line (lines + length log + 1) NoApp) (k.text_is ∙ ap (ticks_text links) k.stands.has_done.journal_is)
-          ∙ ap (report_text links steps) (sym stops),
+          ∙ ap (report_text links steps (bound_lines t.begins k.turns t.bounds)) (sym stops),
       ap (report_end links steps) (sym stops),
     )
 

@@ -10,7 +10,9 @@ use Rattle.fb_net.specs.declared.kind_of.KindOf.{KindOf}
 use Rattle.fb_net.specs.declared.kind_of.KindOf.TheVariants as kind
 use Rattle.file_run.specs.Machine.{IsSaid}
 use Rattle.file_run.specs.Ran.{EndsWhole}
-use Rattle.file_run.specs.Report.{ended_with}
+use Rattle.file_run.specs.Report.{ended_with, other_line}
+use Rattle.std.specs.Option.{option_map_or}
+use Rattle.plant_run.specs.declared.machine.Rest.TheVariants as rest
 use Rattle.file_run.specs.Reporting.{EndsStopped}
 use Rattle.file_run.specs.declared.stopped.Stopped.{Stopped}
 use Rattle.file_run.specs.declared.stopped.Stopped.TheVariants as stopped
@@ -21,8 +23,10 @@ use Rattle.fsoe_base.specs.declared.lengths.Lengths.{Lengths}
 use Rattle.multi_master.specs.Calls.{Rule}
 use Rattle.multi_master.specs.Standing.{app_view}
 use Rattle.plant_setup.specs.Names.{IsTaken, place_of}
-use Rattle.plant_conf.specs.ConfView.{HasSameLengths}
+use Rattle.plant_conf.specs.ConfView.{ConfView, HasSameLengths}
+use Rattle.plant_conf.specs.declared.conf.BoundSpec.{BoundSpec}
 use Rattle.plant_conf.specs.declared.conf.LinkConf.{LinkConf}
+use Rattle.reaction_bound.specs.Reaction.{ReactionView}
 use Rattle.plant_run.specs.declared.event.PlantEvent.{PlantEvent}
 use Rattle.plant_run.specs.declared.event.PlantEvent.TheVariants as event
 use Rattle.plant_run.specs.declared.event.PlantLine.{PlantLine}
@@ -31,20 +35,24 @@ use Rattle.plant_run.specs.declared.journal.JournalStep.{JournalStep}
 use Rattle.plant_run.specs.declared.journal.JournalStep.TheVariants as step
 use Rattle.plant_run.specs.Acts.{Beginning, Said, Event, App, Act, Start, call_of, journal, offers, uses, uses_after}
 use Rattle.plant_run.specs.FairPairs.{lengths_in}
-use Rattle.plant_run.specs.Given.{GivenCloses, GivenStands, journal_in, named, waiting_in}
+use Rattle.plant_run.specs.Given.{GivenCloses, GivenStands, journal_in, named, rest_in, waiting_in}
 use Rattle.plant_run.specs.Pair.{has_other, is_tick, lowest_other, ticks}
 use Rattle.plant_run.specs.PlantReport.{last_lines, report_end, report_text, tick_lines, ticks_text}
 use Rattle.plant_run.specs.Promises.{line_step, line_steps}
 use Rattle.plant_run.specs.Ran.{IsReportOf}
 use Rattle.plant_run.specs.Reporting.{Terms, plant_reporting}
+use Rattle.plant_run.specs.BoundLines.{bound_line, bound_lines, said_of}
+use Rattle.plant_run.specs.Making.{links_made}
 use Rattle.plant_run.specs.Running.{RunStands}
 use Rattle.plant_run.specs.Script.{ScriptHeading, happening, script_format}
 use Rattle.plant_run.specs.ScriptLine.{Fits, LineFits, plant_line}
-use Rattle.plant_run.specs.Standing.{Follows, Plays, PlantStands, PlantValue, PlantView, TellsOther, lengths_kept, seen}
+use Rattle.plant_run.specs.Standing.{Follows, Plays, PlantStands, PlantValue, PlantView, TellsOther, fixed_in, lengths_kept, seen}
 use Rattle.plant_run.specs.Turns.{Named, Taken, Turn, acts, said, said_by_turns, said_with, turn_acts}
 use Rattle.plant_run.specs.Uses.{Trace, Use}
+use Rattle.plant_run.specs.Watching.{HearsLine, bounds_waiting, lines_by, reactions_after}
 use Rattle.plant_run.proofs.Acting.{trace_append}
 use Rattle.plant_run.proofs.Lines.{no_lines_by}
+use Rattle.plant_run.proofs.Made.{lengths_made}
 use Rattle.plant_run.proofs.Pulling.{more_uses}
 use Rattle.plant_run.proofs.RanPlant.{Stood}
 use Rattle.plant_run.proofs.ScriptFits.{line_fits}
@@ -119,12 +127,12 @@ written_if : (tick : Bool) (a b piece : List ℕ) → a ≡ b → piece ≡ (if 
 written_if tick a b piece same is = is ∙ ap (λ (z : List ℕ). if tick then z else []) same
 
 -- a plant that runs goes on by a line
-goes_value : {A : Type 0} (rule : A → Rule) (holds : A → List ℕ) (guards : A → Bit → Bit → Bool) (t : Terms) (left next : List Named) (before mid after : Told) (count now : ℕ) (h : ScriptHeading) (log : List PlantLine) (text piece : List ℕ)
-    (event : PlantLine) (one : Said) (old : Option (PlantValue A)) (k : GivenStands rule holds guards t old left before mid count h log text) (new : PlantValue A) → Follows (seen rule holds guards k.value) one (seen rule holds guards new) mid after
-    → lengths_kept new.links ≡ lengths_kept k.value.links → ((more : List PlantLine) → said left (event ∷ more) ≡ one ∷ said next more) → now ≡ count + one_if (is_tick (line_step one)) → piece ≡ written_at one now t.begins.links (Some new)
-    → GivenStands rule holds guards t (Some new) next before after now h (log ++ event ∷ []) (text ++ piece)
+goes_value : {A : Type 0} (rule : A → Rule) (holds : A → List ℕ) (guards : A → Bit → Bit → Bool) (t : Terms) (old_reactions new_reactions : List ReactionView) (left next : List Named) (before mid after : Told) (count now : ℕ) (h : ScriptHeading) (log : List PlantLine) (text piece : List ℕ)
+    (event : PlantLine) (one : Said) (old : Option (PlantValue A)) (k : GivenStands rule holds guards t old old_reactions left before mid count h log text) (new : PlantValue A) → Follows (seen rule holds guards k.value) one (seen rule holds guards new) mid after
+    → fixed_in new.links ≡ fixed_in k.value.links → HearsLine (seen rule holds guards new) t.bounds (is_tick (line_step one)) old_reactions new_reactions → ((more : List PlantLine) → said left (event ∷ more) ≡ one ∷ said next more) → now ≡ count + one_if (is_tick (line_step one)) → piece ≡ written_at one now t.begins.links (Some new)
+    → GivenStands rule holds guards t (Some new) new_reactions next before after now h (log ++ event ∷ []) (text ++ piece)
 unfolding turned
-goes_value rule holds guards t left next before mid after count now h log text piece event one old k new follows same says counts is =
+goes_value rule holds guards t old_reactions new_reactions left next before mid after count now h log text piece event one old k new follows same hears says counts is =
     let p = follows.plays t.begins k.runs.turns k.runs.stands in
     let after_line = played t (seen rule holds guards k.value) (seen rule holds guards new) left h log text one mid after k.runs p in
     let counted : now ≡ ticks new.journal = let more = ticks_after one k.value.journal new.journal after_line in let before = k.counted in omega (arith, more, before, counts) in
@@ -134,27 +142,28 @@ goes_value rule holds guards t left next before mid after count now h log text p
       runs = turned t (seen rule holds guards k.value) (seen rule holds guards new) left next h log text piece event one mid after k.runs p says
           (written_if (is_tick (line_step one)) _ (tick_lines t.begins.links new.journal) piece (ap (λ (n : ℕ). (codes "tick " ++ decimal n ++ codes "\n") ++ waiting_in 1 t.begins.links (Some new)) counted) is);
       channel = used t.begins k.runs.turns one (seen rule holds guards new) before mid after k.channel p;
-      lengths = same ∙ k.lengths;
+      fixed = same ∙ k.fixed;
+      watched = hears.hears t.begins (record { said = one; pulled = p.pulled } ∷ k.runs.turns) (λ bound. said_of t.begins bound k.runs.turns) p.stands k.watched;
       same_lengths = k.same_lengths;
       counted = counted;
       few = let most = k.few in let one_more = one_most (is_tick (line_step one)) in omega (arith, most, counts, one_more, length_push log event);
     }
 
-goes_some : {A : Type 0} (rule : A → Rule) (holds : A → List ℕ) (guards : A → Bit → Bit → Bool) (t : Terms) (left next : List Named) (before mid after : Told) (count now : ℕ) (h : ScriptHeading) (log : List PlantLine) (text piece : List ℕ)
-    (event : PlantLine) (one : Said) (old : Option (PlantValue A)) (k : GivenStands rule holds guards t old left before mid count h log text) (new : Option (PlantValue A))
-    → IsSomeAnd new (λ v. Follows (seen rule holds guards k.value) one (seen rule holds guards v) mid after × (lengths_kept v.links ≡ lengths_kept k.value.links)) → ((more : List PlantLine) → said left (event ∷ more) ≡ one ∷ said next more)
-    → now ≡ count + one_if (is_tick (line_step one)) → piece ≡ written_at one now t.begins.links new → GivenStands rule holds guards t new next before after now h (log ++ event ∷ []) (text ++ piece)
-goes_some rule holds guards t left next before mid after count now h log text piece event one old k None follows says counts is = absurd follows
-goes_some rule holds guards t left next before mid after count now h log text piece event one old k (Some new) follows says counts is =
-    goes_value rule holds guards t left next before mid after count now h log text piece event one old k new follows.0 follows.1 says counts is
+goes_some : {A : Type 0} (rule : A → Rule) (holds : A → List ℕ) (guards : A → Bit → Bit → Bool) (t : Terms) (old_reactions new_reactions : List ReactionView) (left next : List Named) (before mid after : Told) (count now : ℕ) (h : ScriptHeading) (log : List PlantLine) (text piece : List ℕ)
+    (event : PlantLine) (one : Said) (old : Option (PlantValue A)) (k : GivenStands rule holds guards t old old_reactions left before mid count h log text) (new : Option (PlantValue A))
+    → IsSomeAnd new (λ v. Follows (seen rule holds guards k.value) one (seen rule holds guards v) mid after × (fixed_in v.links ≡ fixed_in k.value.links)) → IsSomeAnd new (λ v. HearsLine (seen rule holds guards v) t.bounds (is_tick (line_step one)) old_reactions new_reactions) → ((more : List PlantLine) → said left (event ∷ more) ≡ one ∷ said next more)
+    → now ≡ count + one_if (is_tick (line_step one)) → piece ≡ written_at one now t.begins.links new → GivenStands rule holds guards t new new_reactions next before after now h (log ++ event ∷ []) (text ++ piece)
+goes_some rule holds guards t old_reactions new_reactions left next before mid after count now h log text piece event one old k None follows hears says counts is = absurd follows
+goes_some rule holds guards t old_reactions new_reactions left next before mid after count now h log text piece event one old k (Some new) follows hears says counts is =
+    goes_value rule holds guards t old_reactions new_reactions left next before mid after count now h log text piece event one old k new follows.0 follows.1 hears says counts is
 
-pub goes_on : {A : Type 0} (rule : A → Rule) (holds : A → List ℕ) (guards : A → Bit → Bit → Bool) (t : Terms) (left next : List Named) (before mid after : Told) (count now : ℕ) (h : ScriptHeading) (log : List PlantLine) (text piece : List ℕ)
-    (event : PlantLine) (one : Said) (old new : Option (PlantValue A)) → GivenStands rule holds guards t old left before mid count h log text
-    → IsSomeAnd old (λ o. IsSomeAnd new (λ v. Follows (seen rule holds guards o) one (seen rule holds guards v) mid after × (lengths_kept v.links ≡ lengths_kept o.links))) → ((more : List PlantLine) → said left (event ∷ more) ≡ one ∷ said next more)
-    → now ≡ count + one_if (is_tick (line_step one)) → piece ≡ written_at one now t.begins.links new → GivenStands rule holds guards t new next before after now h (log ++ event ∷ []) (text ++ piece)
-goes_on {A = A} rule holds guards t left next before mid after count now h log text piece event one old new k follows says counts is =
-    goes_some rule holds guards t left next before mid after count now h log text piece event one old k new
-    (subst (λ (o : Option (PlantValue A)). IsSomeAnd o (λ o. IsSomeAnd new (λ v. Follows (seen rule holds guards o) one (seen rule holds guards v) mid after × (lengths_kept v.links ≡ lengths_kept o.links)))) k.plant_is follows)
+pub goes_on : {A : Type 0} (rule : A → Rule) (holds : A → List ℕ) (guards : A → Bit → Bit → Bool) (t : Terms) (old_reactions new_reactions : List ReactionView) (left next : List Named) (before mid after : Told) (count now : ℕ) (h : ScriptHeading) (log : List PlantLine) (text piece : List ℕ)
+    (event : PlantLine) (one : Said) (old new : Option (PlantValue A)) → GivenStands rule holds guards t old old_reactions left before mid count h log text
+    → IsSomeAnd old (λ o. IsSomeAnd new (λ v. Follows (seen rule holds guards o) one (seen rule holds guards v) mid after × (fixed_in v.links ≡ fixed_in o.links))) → IsSomeAnd new (λ v. HearsLine (seen rule holds guards v) t.bounds (is_tick (line_step one)) old_reactions new_reactions) → ((more : List PlantLine) → said left (event ∷ more) ≡ one ∷ said next more)
+    → now ≡ count + one_if (is_tick (line_step one)) → piece ≡ written_at one now t.begins.links new → GivenStands rule holds guards t new new_reactions next before after now h (log ++ event ∷ []) (text ++ piece)
+goes_on {A = A} rule holds guards t old_reactions new_reactions left next before mid after count now h log text piece event one old new k follows hears says counts is =
+    goes_some rule holds guards t old_reactions new_reactions left next before mid after count now h log text piece event one old k new
+    (subst (λ (o : Option (PlantValue A)). IsSomeAnd o (λ o. IsSomeAnd new (λ v. Follows (seen rule holds guards o) one (seen rule holds guards v) mid after × (fixed_in v.links ≡ fixed_in o.links)))) k.plant_is follows) hears
     says counts is
 
 -- a plant that has begun runs
@@ -176,29 +185,30 @@ started t v h stands lengths_are =
           );
     }
 
-begun_all : {A : Type 0} (rule : A → Rule) (holds : A → List ℕ) (guards : A → Bit → Bit → Bool) (t : Terms) (plant : Option (PlantValue A)) (before after : Told) (h : ScriptHeading)
-    → IsSomeAnd plant (λ v. PlantStands t.begins (seen rule holds guards v) [] × (lengths_kept v.links ≡ map lengths_in t.begins.links)) → Trace (uses t.begins (Start ∷ [])) before after → All HasSameLengths t.begins.links → h.lengths ≡ map lengths_in t.begins.links
-    → GivenStands rule holds guards t plant t.spare before after 0 h [] []
+begun_all : {A : Type 0} (rule : A → Rule) (holds : A → List ℕ) (guards : A → Bit → Bit → Bool) (t : Terms) (plant : Option (PlantValue A)) (reactions : List ReactionView) (before after : Told) (h : ScriptHeading)
+    → IsSomeAnd plant (λ v. PlantStands t.begins (seen rule holds guards v) [] × (fixed_in v.links ≡ fixed_in (links_made 1 t.bounds t.begins.links)) × (reactions ≡ reactions_after t.begins [] t.bounds)) → Trace (uses t.begins (Start ∷ [])) before after → All HasSameLengths t.begins.links → h.lengths ≡ map lengths_in t.begins.links
+    → GivenStands rule holds guards t plant reactions t.spare before after 0 h [] []
 unfolding started
-begun_all rule holds guards t None before after h stands channel all lengths_are = absurd stands
-begun_all rule holds guards t (Some v) before after h stands channel all lengths_are =
+begun_all rule holds guards t None reactions before after h stands channel all lengths_are = absurd stands
+begun_all rule holds guards t (Some v) reactions before after h stands channel all lengths_are =
     let none = no_lines_by t.begins (call_of t.begins Start) [] in
     record {
       value = v;
       plant_is = refl;
       runs = started t (seen rule holds guards v) h stands.0 lengths_are;
       channel = channel;
-      lengths = stands.1;
+      fixed = stands.1;
+      watched = stands.2;
       same_lengths = all;
       counted = sym (ap ticks stands.0.has_done.journal_is ∙ ticks_quiet (offers t.begins Start []) none);
       few = omega arith;
     }
 
-pub begun : {A : Type 0} (rule : A → Rule) (holds : A → List ℕ) (guards : A → Bit → Bit → Bool) (t : Terms) (plant : Option (PlantValue A)) (left : List Named) (before after : Told) (h : ScriptHeading)
-    → IsSomeAnd plant (λ v. PlantStands t.begins (seen rule holds guards v) [] × (lengths_kept v.links ≡ map lengths_in t.begins.links)) → Trace (uses t.begins (Start ∷ [])) before after → All HasSameLengths t.begins.links → h.lengths ≡ map lengths_in t.begins.links → left ≡ t.spare
-    → GivenStands rule holds guards t plant left before after 0 h [] []
-begun rule holds guards t plant left before after h stands channel all lengths_are same =
-    subst (λ (z : List Named). GivenStands rule holds guards t plant z before after 0 h [] []) (sym same) (begun_all rule holds guards t plant before after h stands channel all lengths_are)
+pub begun : {A : Type 0} (rule : A → Rule) (holds : A → List ℕ) (guards : A → Bit → Bit → Bool) (t : Terms) (plant : Option (PlantValue A)) (reactions : List ReactionView) (left : List Named) (before after : Told) (h : ScriptHeading)
+    → IsSomeAnd plant (λ v. PlantStands t.begins (seen rule holds guards v) [] × (fixed_in v.links ≡ fixed_in (links_made 1 t.bounds t.begins.links)) × (reactions ≡ reactions_after t.begins [] t.bounds)) → Trace (uses t.begins (Start ∷ [])) before after → All HasSameLengths t.begins.links → h.lengths ≡ map lengths_in t.begins.links → left ≡ t.spare
+    → GivenStands rule holds guards t plant reactions left before after 0 h [] []
+begun rule holds guards t plant reactions left before after h stands channel all lengths_are same =
+    subst (λ (z : List Named). GivenStands rule holds guards t plant reactions z before after 0 h [] []) (sym same) (begun_all rule holds guards t plant reactions before after h stands channel all lengths_are)
 
 -- an event of the script that is no tick
 pub no_tick : (e : PlantEvent) → (e ≡ event.Tick → ⊥) → is_tick (step.Script e) ≡ false
@@ -213,17 +223,13 @@ no_tick (event.Cut link cut) other = refl
 pub same_count : (e : PlantEvent) (count : ℕ) → (e ≡ event.Tick → ⊥) → count ≡ count + one_if (is_tick (step.Script e))
 same_count e count other = let none = ap one_if (no_tick e other) in omega (arith, none)
 
--- where no connection's line comes next, none waits
-none_waits : {A : Type 0} (links : List LinkConf) (plant : Option (PlantValue A)) → waiting_in 0 links plant ≡ []
-none_waits links None = refl
-none_waits links (Some p) = refl
+-- where no line comes next, none waits
+pub nothing_written : (text : List ℕ) → text ≡ [] → text ++ [] ≡ []
+nothing_written text is = ap (λ (z : List ℕ). z ++ []) is
 
-pub nothing_written : {A : Type 0} (links : List LinkConf) (plant : Option (PlantValue A)) (text : List ℕ) → text ≡ [] → text ++ waiting_in 0 links plant ≡ []
-nothing_written links plant text is = rw (is, none_waits links plant) refl
-
-pub nothing_at : {A : Type 0} (e : PlantEvent) (count : ℕ) (links all : List LinkConf) (plant : Option (PlantValue A)) (text : List ℕ) → (e ≡ event.Tick → ⊥) → text ≡ [] → text ++ waiting_in 0 links plant ≡ written_at (Event e) count all plant
-nothing_at e count links all plant text other is =
-    nothing_written links plant text is
+pub nothing_at : {A : Type 0} (e : PlantEvent) (count : ℕ) (all : List LinkConf) (plant : Option (PlantValue A)) (text : List ℕ) → (e ≡ event.Tick → ⊥) → text ≡ [] → text ++ [] ≡ written_at (Event e) count all plant
+nothing_at e count all plant text other is =
+    nothing_written text is
     ∙ sym (ap (λ (tick : Bool). if tick then (codes "tick" ++ codes " " ++ decimal count ++ codes "\n") ++ waiting_in 1 all plant else []) (no_tick e other))
 
 -- the line of an event
@@ -237,42 +243,43 @@ fits_value lengths h text said e same reads is =
     subst (λ (all : List Lengths). Fits all e) same (subst (LineFits h.lengths) (says_step said e is) (line_fits h.lengths text said reads))
 
 -- it fits the connections of the plant
-pub step_fits : {A : Type 0} (rule : A → Rule) (holds : A → List ℕ) (guards : A → Bit → Bit → Bool) (t : Terms) (plant : Option (PlantValue A)) (left : List Named) (before after : Told) (count : ℕ) (h : ScriptHeading) (log : List PlantLine) (text : List ℕ)
-    (e : PlantEvent) → GivenStands rule holds guards t plant left before after count h log text → IsSaid (script_format (map lengths_in t.begins.links)) h (line.Step e) → IsSomeAnd plant (λ p. Fits (lengths_kept p.links) e)
-step_fits {A = A} rule holds guards t plant left before after count h log text e k said =
+pub step_fits : {A : Type 0} (rule : A → Rule) (holds : A → List ℕ) (guards : A → Bit → Bit → Bool) (t : Terms) (plant : Option (PlantValue A)) (reactions : List ReactionView) (left : List Named) (before after : Told) (count : ℕ) (h : ScriptHeading) (log : List PlantLine) (text : List ℕ)
+    (e : PlantEvent) → GivenStands rule holds guards t plant reactions left before after count h log text → IsSaid (script_format (map lengths_in t.begins.links)) h (line.Step e) → IsSomeAnd plant (λ p. Fits (lengths_kept p.links) e)
+step_fits {A = A} rule holds guards t plant reactions left before after count h log text e k said =
     subst (λ (o : Option (PlantValue A)). IsSomeAnd o (λ p. Fits (lengths_kept p.links) e)) (sym k.plant_is)
-    (fits_value (lengths_kept k.value.links) h said.0 said.1 e (k.runs.lengths_are ∙ sym k.lengths) said.2 said.3)
+    (fits_value (lengths_kept k.value.links) h said.0 said.1 e (k.runs.lengths_are ∙ sym (lengths_made t.bounds t.begins.links k.value.links k.fixed)) said.2 said.3)
 
 -- what follows by a change of the application, whatever the channel tells
 at_told : {A : Type 0} (rule : A → Rule) (holds : A → List ℕ) (guards : A → Bit → Bit → Bool) (one : Said) (old new : Option (PlantValue A)) (t : Told)
-    → IsSomeAnd old (λ o. IsSomeAnd new (λ v. ((told : Told) → Follows (seen rule holds guards o) one (seen rule holds guards v) told told) × (lengths_kept v.links ≡ lengths_kept o.links)))
-    → IsSomeAnd old (λ o. IsSomeAnd new (λ v. Follows (seen rule holds guards o) one (seen rule holds guards v) t t × (lengths_kept v.links ≡ lengths_kept o.links)))
+    → IsSomeAnd old (λ o. IsSomeAnd new (λ v. ((told : Told) → Follows (seen rule holds guards o) one (seen rule holds guards v) told told) × (fixed_in v.links ≡ fixed_in o.links)))
+    → IsSomeAnd old (λ o. IsSomeAnd new (λ v. Follows (seen rule holds guards o) one (seen rule holds guards v) t t × (fixed_in v.links ≡ fixed_in o.links)))
 at_told rule holds guards one None new t h = h
 at_told rule holds guards one (Some o) None t h = h
 at_told rule holds guards one (Some o) (Some v) t h = (h.0 t, h.1)
 
 -- a plant that runs goes on with an application that its script takes
-pub takes_app : {H : Type 0} (rule : KindOf H → Rule) (holds : KindOf H → List ℕ) (guards : KindOf H → Bit → Bit → Bool) (t : Terms) (all left : List (EntryOf H)) (before mid : Told) (count : ℕ) (h : ScriptHeading) (log : List PlantLine) (text piece name : List ℕ)
-    (event : PlantLine) (entry : EntryOf H) (old new : Option (PlantValue (KindOf H))) → event ≡ line.App name → GivenStands rule holds guards t old (map (named (app_view rule holds guards)) all) before mid count h log text
+pub takes_app : {H : Type 0} (rule : KindOf H → Rule) (holds : KindOf H → List ℕ) (guards : KindOf H → Bit → Bit → Bool) (t : Terms) (old_reactions new_reactions : List ReactionView) (all left : List (EntryOf H)) (before mid : Told) (count : ℕ) (h : ScriptHeading) (log : List PlantLine) (text piece name : List ℕ)
+    (event : PlantLine) (entry : EntryOf H) (old new : Option (PlantValue (KindOf H))) → event ≡ line.App name → GivenStands rule holds guards t old old_reactions (map (named (app_view rule holds guards)) all) before mid count h log text
     → IsTaken (λ e. string_bytes e.name) name all entry left
-    → IsSomeAnd old (λ o. IsSomeAnd new (λ v. ((told : Told) → Follows (seen rule holds guards o) (App (app_view rule holds guards (kind.Handed entry.app))) (seen rule holds guards v) told told) × (lengths_kept v.links ≡ lengths_kept o.links)))
-    → piece ≡ [] → GivenStands rule holds guards t new (map (named (app_view rule holds guards)) left) before mid count h (log ++ event ∷ []) (text ++ piece)
-takes_app rule holds guards t all left before mid count h log text piece name event entry old new is k taken follows nothing =
+    → IsSomeAnd old (λ o. IsSomeAnd new (λ v. ((told : Told) → Follows (seen rule holds guards o) (App (app_view rule holds guards (kind.Handed entry.app))) (seen rule holds guards v) told told) × (fixed_in v.links ≡ fixed_in o.links)))
+    → IsSomeAnd new (λ v. HearsLine (seen rule holds guards v) t.bounds false old_reactions new_reactions) → piece ≡ [] → GivenStands rule holds guards t new new_reactions (map (named (app_view rule holds guards)) left) before mid count h (log ++ event ∷ []) (text ++ piece)
+takes_app rule holds guards t old_reactions new_reactions all left before mid count h log text piece name event entry old new is k taken follows hears nothing =
     let one : Said = App (app_view rule holds guards (kind.Handed entry.app)) in
     let says : (more : List PlantLine) → said (map (named (app_view rule holds guards)) all) (event ∷ more) ≡ one ∷ said (map (named (app_view rule holds guards)) left) more =
     λ more.
     ap (λ (first : PlantLine). said (map (named (app_view rule holds guards)) all) (first ∷ more)) is
     ∙ ap (λ (o : Option Taken). said_with o (λ rest. said rest more)) (app_taken (app_view rule holds guards) name all left entry taken) in
-    goes_on rule holds guards t (map (named (app_view rule holds guards)) all) (map (named (app_view rule holds guards)) left) before mid mid count count h log text piece event one old new k (at_told rule holds guards one old new mid follows) says
+    goes_on rule holds guards t old_reactions new_reactions (map (named (app_view rule holds guards)) all) (map (named (app_view rule holds guards)) left) before mid mid count count h log text piece event one old new k (at_told rule holds guards one old new mid follows) hears says
     (omega arith) nothing
 
 -- a plant that runs goes on by an event
-pub goes_step : {A : Type 0} (rule : A → Rule) (holds : A → List ℕ) (guards : A → Bit → Bit → Bool) (t : Terms) (left : List Named) (before mid after : Told) (count now : ℕ) (h : ScriptHeading) (log : List PlantLine) (text piece : List ℕ)
-    (event : PlantLine) (e : PlantEvent) (old new : Option (PlantValue A)) → event ≡ line.Step e → GivenStands rule holds guards t old left before mid count h log text
-    → IsSomeAnd old (λ o. IsSomeAnd new (λ v. Follows (seen rule holds guards o) (Event e) (seen rule holds guards v) mid after × (lengths_kept v.links ≡ lengths_kept o.links)))
-    → now ≡ count + one_if (is_tick (step.Script e)) → piece ≡ written_at (Event e) now t.begins.links new → GivenStands rule holds guards t new left before after now h (log ++ event ∷ []) (text ++ piece)
-goes_step rule holds guards t left before mid after count now h log text piece event e old new is k follows counts written =
-    goes_on rule holds guards t left left before mid after count now h log text piece event (Event e) old new k follows (λ more. ap (λ (first : PlantLine). said left (first ∷ more)) is) counts written
+pub goes_step : {A : Type 0} (rule : A → Rule) (holds : A → List ℕ) (guards : A → Bit → Bit → Bool) (t : Terms) (old_reactions new_reactions : List ReactionView) (left : List Named) (before mid after : Told) (count now : ℕ) (h : ScriptHeading) (log : List PlantLine) (text piece : List ℕ)
+    (event : PlantLine) (e : PlantEvent) (old new : Option (PlantValue A)) → event ≡ line.Step e → GivenStands rule holds guards t old old_reactions left before mid count h log text
+    → IsSomeAnd old (λ o. IsSomeAnd new (λ v. Follows (seen rule holds guards o) (Event e) (seen rule holds guards v) mid after × (fixed_in v.links ≡ fixed_in o.links)))
+    → IsSomeAnd new (λ v. HearsLine (seen rule holds guards v) t.bounds (is_tick (step.Script e)) old_reactions new_reactions)
+    → now ≡ count + one_if (is_tick (step.Script e)) → piece ≡ written_at (Event e) now t.begins.links new → GivenStands rule holds guards t new new_reactions left before after now h (log ++ event ∷ []) (text ++ piece)
+goes_step rule holds guards t old_reactions new_reactions left before mid after count now h log text piece event e old new is k follows hears counts written =
+    goes_on rule holds guards t old_reactions new_reactions left left before mid after count now h log text piece event (Event e) old new k follows hears (λ more. ap (λ (first : PlantLine). said left (first ∷ more)) is) counts written
 
 -- the lowest connection with an other entry is none before the first
 lowest_one : (k n : ℕ) → Some k ≡ Some n → k ≤ n
@@ -286,17 +293,17 @@ lowest_from : (k : ℕ) (links : List LinkConf) (steps : List JournalStep) (n : 
 lowest_from k [] steps n is = cc
 lowest_from k (link ∷ links) steps n is = lowest_by (has_other link k steps) k (lowest_other (suc k) links steps) n (λ e. lowest_from (suc k) links steps n e) is
 
-pub other_ends : {A : Type 0} (rule : A → Rule) (holds : A → List ℕ) (guards : A → Bit → Bit → Bool) (t : Terms) (plant : Option (PlantValue A)) (left : List Named) (before after : Told) (count : ℕ) (h : ScriptHeading) (log : List PlantLine) (text : List ℕ)
-    (other : Option ℕ) → GivenStands rule holds guards t plant left before after count h log text → IfSome plant (λ p. TellsOther (seen rule holds guards p) other) → EndsWhole true (ended_with other).status (ended_with other).place
-other_ends {A = A} rule holds guards t plant left before after count h log text other k tells =
+pub other_ends : {A : Type 0} (rule : A → Rule) (holds : A → List ℕ) (guards : A → Bit → Bit → Bool) (t : Terms) (plant : Option (PlantValue A)) (reactions : List ReactionView) (left : List Named) (before after : Told) (count : ℕ) (h : ScriptHeading) (log : List PlantLine) (text : List ℕ)
+    (other : Option ℕ) → GivenStands rule holds guards t plant reactions left before after count h log text → IfSome plant (λ p. TellsOther (seen rule holds guards p) other) → EndsWhole true (ended_with other).status (ended_with other).place
+other_ends {A = A} rule holds guards t plant reactions left before after count h log text other k tells =
     let told : TellsOther (seen rule holds guards k.value) other = subst (λ (o : Option (PlantValue A)). IfSome o (λ p. TellsOther (seen rule holds guards p) other)) k.plant_is tells in
     ended_whole other (λ n is. lowest_from 1 t.begins.links k.value.journal n (sym (told.tells t.begins k.runs.turns k.runs.stands) ∙ is))
 
 -- an application isn't taken: there is none of its name, or no memory
-pub app_stopped : {H : Type 0} (rule : KindOf H → Rule) (holds : KindOf H → List ℕ) (guards : KindOf H → Bit → Bit → Bool) (t : Terms) (all : List (EntryOf H)) (before after : Told) (count : ℕ) (h : ScriptHeading) (log : List PlantLine) (text name : List ℕ)
-    (event : PlantLine) (plant : Option (PlantValue (KindOf H))) (why : Stopped) → event ≡ line.App name → GivenStands rule holds guards t plant (map (named (app_view rule holds guards)) all) before after count h log text
+pub app_stopped : {H : Type 0} (rule : KindOf H → Rule) (holds : KindOf H → List ℕ) (guards : KindOf H → Bit → Bit → Bool) (t : Terms) (reactions : List ReactionView) (all : List (EntryOf H)) (before after : Told) (count : ℕ) (h : ScriptHeading) (log : List PlantLine) (text name : List ℕ)
+    (event : PlantLine) (plant : Option (PlantValue (KindOf H))) (why : Stopped) → event ≡ line.App name → GivenStands rule holds guards t plant reactions (map (named (app_view rule holds guards)) all) before after count h log text
     → (why ≡ stopped.Memory) ⊎ ((why ≡ stopped.NoApp) × (place_of name (map (λ e. string_bytes e.name) all) ≡ None)) → EndsStopped (plant_reporting t) h log text event why
-app_stopped rule holds guards t all before after count h log text name event plant why is k cause =
+app_stopped rule holds guards t reactions all before after count h log text name event plant why is k cause =
     elim cause [
       | inl memory ↦ rw memory refl
       | inr none ↦ rw (none.0, is)
@@ -304,24 +311,66 @@ app_stopped rule holds guards t all before after count h log text name event pla
     ]
 
 -- what a run has stood for
-pub stood : {A : Type 0} (rule : A → Rule) (holds : A → List ℕ) (guards : A → Bit → Bit → Bool) (t : Terms) (plant : Option (PlantValue A)) (left : List Named) (before after : Told) (count : ℕ) (h : ScriptHeading) (log : List PlantLine) (text : List ℕ)
-    → GivenStands rule holds guards t plant left before after count h log text → Stood t h log text before after (journal_in plant)
-stood rule holds guards t plant left before after count h log text k = record {
+pub stood : {A : Type 0} (rule : A → Rule) (holds : A → List ℕ) (guards : A → Bit → Bit → Bool) (t : Terms) (plant : Option (PlantValue A)) (reactions : List ReactionView) (left : List Named) (before after : Told) (count : ℕ) (h : ScriptHeading) (log : List PlantLine) (text : List ℕ)
+    → GivenStands rule holds guards t plant reactions left before after count h log text → Stood t h log text before after (journal_in plant) reactions
+stood rule holds guards t plant reactions left before after count h log text k = record {
   view = seen rule holds guards k.value;
   left = left;
   runs = k.runs;
+  watched = k.watched;
   steps_are = ap journal_in k.plant_is;
   channel = k.channel;
   same_lengths = k.same_lengths;
 }
 
--- what it has closed with is the report of its journal
-pub reported : {A : Type 0} (rule : A → Rule) (holds : A → List ℕ) (guards : A → Bit → Bit → Bool) (t : Terms) (plant : Option (PlantValue A)) (left : List Named) (h : ScriptHeading) (log : List PlantLine) (text : List ℕ) (ended : Ended)
-    → GivenCloses rule holds guards t plant left h log text ended → IsReportOf t (journal_in plant) h log text ended
-reported rule holds guards t plant left h log text ended k =
-    let steps : journal_in plant ≡ k.value.journal = ap journal_in k.plant_is in (
+-- the lines of bounds are those by their reactions
+lines_are : (b : Beginning) (turns : List Turn) (bounds : List BoundSpec) → lines_by b.links (journal b (acts turns)) bounds (reactions_after b turns bounds) ≡ bound_lines b turns bounds
+lines_are b turns [] = refl
+lines_are b turns (bound ∷ bounds) = ap (λ (z : List ℕ). bound_line b turns bound ++ z) (lines_are b turns bounds)
+
+-- so they are the same over any turns by which there is one journal, and over which there are the same reactions
+same_lines : (b : Beginning) (these those : List Turn) (bounds : List BoundSpec) (reactions : List ReactionView) → reactions ≡ reactions_after b these bounds → reactions ≡ reactions_after b those bounds → journal b (acts these) ≡ journal b (acts those)
+    → bound_lines b these bounds ≡ bound_lines b those bounds
+same_lines b these those bounds reactions e f same =
+    sym (lines_are b these bounds)
+    ∙ ap₂ (λ (j : List JournalStep) (r : List ReactionView). lines_by b.links j bounds r) same (sym e ∙ f)
+    ∙ lines_are b those bounds
+
+-- a plant that has run closes with the lines of its bounds, which wait
+pub closed : {A : Type 0} (rule : A → Rule) (holds : A → List ℕ) (guards : A → Bit → Bit → Bool) (t : Terms) (plant : Option (PlantValue A)) (reactions : List ReactionView) (left : List Named) (before after : Told) (count : ℕ) (h : ScriptHeading) (log : List PlantLine) (text : List ℕ)
+    (other : Option ℕ) (piece : List ℕ) (conf : ConfView) (ended : Ended) → GivenStands rule holds guards t plant reactions left before after count h log text → IfSome plant (λ p. TellsOther (seen rule holds guards p) other)
+    → piece ≡ (codes "ticks" ++ codes " " ++ decimal count ++ codes "\n") ++ other_line other → conf.links ≡ t.begins.links → conf.bounds ≡ t.bounds → ended ≡ ended_with other
+    → GivenCloses rule holds guards t plant reactions left h log (text ++ (piece ++ rest_in (rest.Bounds 0) conf plant reactions)) ended
+closed {A = A} rule holds guards t plant reactions left before after count h log text other piece conf ended k tells is links bounds ended_is =
+    let told : TellsOther (seen rule holds guards k.value) other = subst (λ (o : Option (PlantValue A)). IfSome o (λ p. TellsOther (seen rule holds guards p) other)) k.plant_is tells in
+    let lowest : other ≡ lowest_other 1 t.begins.links k.value.journal = told.tells t.begins k.runs.turns k.runs.stands in
+    let waits : rest_in (rest.Bounds 0) conf plant reactions ≡ bound_lines t.begins k.runs.turns t.bounds =
+    ap (λ (o : Option (PlantValue A)). option_map_or (λ p. bounds_waiting 0 conf.links conf.bounds reactions p.journal) o []) k.plant_is
+    ∙ ap₂ (λ (ls : List LinkConf) (bs : List BoundSpec). lines_by ls k.value.journal bs reactions) links bounds
+    ∙ ap₂ (λ (j : List JournalStep) (rs : List ReactionView). lines_by t.begins.links j t.bounds rs) k.runs.stands.has_done.journal_is k.watched
+    ∙ lines_are t.begins k.runs.turns t.bounds in
+    let first = is ∙ ap₂ (λ (n : ℕ) (o : Option ℕ). (codes "ticks " ++ decimal n ++ codes "\n") ++ other_line o) k.counted lowest in
+    record {
+      value = k.value;
+      plant_is = k.plant_is;
+      closes = record {
+        ticks = text;
+        stands = k.runs;
+        text_is = ap (λ (z : List ℕ). text ++ z) (ap₂ (λ (x y : List ℕ). x ++ y) first waits);
+        ended_is = ended_is ∙ ap ended_with lowest;
+      };
+      watched = k.watched;
+    }
+
+-- what it has closed with is the report of its journal, and of any turns with the same reactions
+pub reported : {A : Type 0} (rule : A → Rule) (holds : A → List ℕ) (guards : A → Bit → Bit → Bool) (t : Terms) (plant : Option (PlantValue A)) (reactions : List ReactionView) (left : List Named) (h : ScriptHeading) (log : List PlantLine) (text : List ℕ) (ended : Ended) (turns : List Turn)
+    → journal_in plant ≡ journal t.begins (acts turns) → reactions ≡ reactions_after t.begins turns t.bounds → GivenCloses rule holds guards t plant reactions left h log text ended → IsReportOf t turns (journal_in plant) h log text ended
+reported rule holds guards t plant reactions left h log text ended turns journal_is watched k =
+    let steps : journal_in plant ≡ k.value.journal = ap journal_in k.plant_is in
+    let own : k.value.journal ≡ journal t.begins (acts k.closes.stands.turns) = k.closes.stands.stands.has_done.journal_is in
+    let lines = same_lines t.begins k.closes.stands.turns turns t.bounds reactions k.watched watched (sym own ∙ sym steps ∙ journal_is) in (
       k.closes.text_is
-          ∙ ap (λ (ticks : List ℕ). ticks ++ last_lines t.begins.links k.value.journal AtEnd) k.closes.stands.text_is
-          ∙ ap (λ (journal : List JournalStep). report_text t.begins.links journal AtEnd) (sym steps),
+          ∙ ap (λ (ticks : List ℕ). ticks ++ last_lines t.begins.links k.value.journal (bound_lines t.begins k.closes.stands.turns t.bounds) AtEnd) k.closes.stands.text_is
+          ∙ ap₂ (λ (journal : List JournalStep) (lines : List ℕ). report_text t.begins.links journal lines AtEnd) (sym steps) lines,
       k.closes.ended_is ∙ ap (λ (journal : List JournalStep). report_end t.begins.links journal AtEnd) (sym steps),
     )

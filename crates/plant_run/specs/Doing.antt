@@ -1,6 +1,6 @@
 -- How the parts of a plant do an act, step by step. Contracts of private functions alone rest on these words. Entries and acts are listed
 -- newest first, steps oldest first.
-use Rattle.std.specs.Prelude.{◌≡◌, ◌≤◌, ◌+◌, ◌*◌, nat_lt, ℕ, suc, Bool, List, [], ◌∷◌, ◌++◌, map, take, length, slice_get, Some, if◌then◌else◌}
+use Rattle.std.specs.Prelude.{◌≡◌, ◌≤◌, ◌+◌, ◌*◌, nat_lt, ℕ, suc, Bool, true, List, [], ◌∷◌, ◌++◌, map, take, length, slice_get, Some, if◌then◌else◌}
 use Rattle.fsoe_base.specs.declared.command.End.{End}
 use Rattle.fsoe_base.specs.declared.command.End.TheVariants as side
 use Rattle.fsoe_base.specs.declared.did.Did.{Did}
@@ -13,7 +13,6 @@ use Rattle.param_load.specs.declared.entry.Move.TheVariants as move
 use Rattle.plant_conf.specs.declared.conf.LinkConf.{LinkConf}
 use Rattle.end_model.specs.Deed.{is_empty}
 use Rattle.exchange_model.specs.Ends.{peer}
-use Rattle.exchange_model.specs.Monitor.{HasParts}
 use Rattle.exchange_model.specs.World.{setup_of, deeds, next_entry}
 use Rattle.multi_master.specs.Calls.{AppView, Rule, Call, meant, changed}
 use Rattle.multi_master.specs.Standing.{MultiValue, MultiView, StandsFor}
@@ -23,7 +22,7 @@ use Rattle.plant_run.specs.declared.event.PlantEvent.{PlantEvent}
 use Rattle.plant_run.specs.declared.event.PlantEvent.TheVariants as event
 use Rattle.plant_run.specs.declared.journal.JournalStep.{JournalStep}
 use Rattle.plant_run.specs.Acts.{Beginning, Said, Act, PullFrom, offer_step, uses_after}
-use Rattle.plant_run.specs.Link.{LinkView, LinkStands}
+use Rattle.plant_run.specs.Link.{IsMasters, LinkView, LinkStands}
 use Rattle.plant_run.specs.Standing.{PlantView, HasDone, LinksAre, pairs_by}
 use Rattle.plant_run.specs.Turns.{MayPull, pulls, turn_acts}
 use Rattle.plant_run.specs.Uses.{Use, Push, Trace}
@@ -47,12 +46,12 @@ next_uses k end what link w cut = sent_uses (place_of k (peer end)) (next_of end
 
 -- a slave did its next deed at this event, and its frame was pushed
 pub record SlaveActed (k : ℕ) (what : Move) (link : LinkConf) (w : List Entry) (cut : Bool) (new : LinkView) (before after : Told) : Type 0 where
-  pub stands : LinkStands link.slave new (next_of side.Slave what link w ∷ w)
+  pub stands : LinkStands link new (next_of side.Slave what link w ∷ w)
   pub channel : Trace (next_uses k side.Slave what link w cut) before after
 
 -- so the slave of connection k does
 pub record SlaveActs (k : ℕ) (what : Move) (old new : LinkView) (before after : Told) : Type 0 where
-  pub acts : (link : LinkConf) (w : List Entry) → LinkStands link.slave old w → SlaveActed k what link w old.cut new before after
+  pub acts : (link : LinkConf) (w : List Entry) → LinkStands link old w → SlaveActed k what link w old.cut new before after
 
 -- one entry more with each connection, that of the world after those
 abbrev pub one_each : (ℕ → LinkConf → Entry) → (ℕ → LinkConf → List Entry) → ℕ → LinkConf → List Entry
@@ -86,10 +85,10 @@ pub record SlavesTick (old new : List LinkView) (before after : Told) : Type 0 w
   pub tick : (links : List LinkConf) (cut : ℕ → Bool) (done : ℕ → LinkConf → List Entry) → LinksAre links cut done old
       → AllActed side.Master links cut done (λ k link. next_of side.Slave move.Tick link (done k link)) new before after
 
--- these entries of masters have these parts, connection by connection
+-- these entries of masters are of a tick and have these parts, connection by connection
 pub record HaveParts (links : List LinkConf) (next : ℕ → LinkConf → Entry) (dids : List Did) (frames : List (List ℕ)) : Type 0 where
   pub each : (place : ℕ) (link : LinkConf) (did : Did) (sent : List ℕ) → slice_get links place ≡ Some link → slice_get dids place ≡ Some did → slice_get frames place ≡ Some sent
-      → HasParts (next (suc place) link) side.Master [] did sent
+      → IsMasters (next (suc place) link) true [] did sent
 
 -- what the masters of all connections did in a tick is noted, and their frames are pushed
 pub record MastersNoted (dids : List Did) (frames : List (List ℕ)) (old new : List LinkView) (before after : Told) : Type 0 where
@@ -97,8 +96,8 @@ pub record MastersNoted (dids : List Did) (frames : List (List ℕ)) (old new : 
       → AllActed side.Slave links cut done next new before after
 
 -- an entry of a master with these parts is noted, and its frame is pushed
-pub record MasterActs (k : ℕ) (came : List ℕ) (did : Did) (sent : List ℕ) (old new : LinkView) (before after : Told) : Type 0 where
-  pub stands : (link : LinkConf) (w : List Entry) (x : Entry) → LinkStands link.slave old w → HasParts x side.Master came did sent → LinkStands link.slave new (x ∷ w)
+pub record MasterActs (k : ℕ) (tick : Bool) (came : List ℕ) (did : Did) (sent : List ℕ) (old new : LinkView) (before after : Told) : Type 0 where
+  pub stands : (link : LinkConf) (w : List Entry) (x : Entry) → LinkStands link old w → IsMasters x tick came did sent → LinkStands link new (x ∷ w)
   pub channel : Trace (sent_uses (place_of k side.Slave) sent old.cut) before after
 
 -- the offers that the last call of the master changed are noted in the journal, and with each connection

@@ -10,18 +10,22 @@ use Rattle.plant_conf.specs.declared.conf.LinkConf.{LinkConf}
 use Rattle.failsafe_io.specs.declared.bit.Bit.{Bit}
 use Rattle.multi_master.specs.Calls.{AppView, Rule}
 use Rattle.plant_run.specs.Acts.{uses}
-use Rattle.plant_run.specs.FairPairs.{lengths_in}
+use Rattle.plant_run.specs.Making.{links_made}
 use Rattle.plant_run.specs.Pair.{ticks}
 use Rattle.plant_run.specs.PlantReport.{link_lines}
 use Rattle.plant_run.specs.Reporting.{Terms}
 use Rattle.fsoe_io.specs.declared.status.Ended.{Ended}
 use Rattle.plant_run.specs.Running.{RunCloses, RunStands}
 use Rattle.plant_run.specs.Script.{ScriptHeading}
-use Rattle.plant_run.specs.Standing.{PlantValue, lengths_kept, seen}
+use Rattle.plant_run.specs.Standing.{PlantValue, fixed_in, seen}
 use Rattle.plant_run.specs.Turns.{Named, acts}
 use Rattle.plant_run.specs.Uses.{Trace}
+use Rattle.plant_run.specs.Watching.{bounds_waiting, reactions_after}
 use Rattle.plant_run.specs.declared.event.PlantLine.{PlantLine}
 use Rattle.plant_run.specs.declared.journal.JournalStep.{JournalStep}
+use Rattle.plant_run.specs.declared.machine.Rest.{Rest}
+use Rattle.plant_run.specs.declared.machine.Rest.TheVariants as rest
+use Rattle.reaction_bound.specs.Reaction.{ReactionView}
 
 -- an application that was handed in, under its name, by what is seen of one
 abbrev pub named : {H : Type 0} → (KindOf H → AppView) → EntryOf H → Named
@@ -31,6 +35,7 @@ named view entry = record { name = string_bytes entry.name; app = view (kind.Han
 abbrev pub terms_of : {H : Type 0} → (KindOf H → AppView) → ConfView → KindOf H → List (EntryOf H) → Terms
 terms_of view conf app spare = record {
   begins = record { links = conf.links; app = view app; seed = conf.seed };
+  bounds = conf.bounds;
   spare = map (named view) spare;
 }
 
@@ -38,7 +43,7 @@ terms_of view conf app spare = record {
 abbrev pub journal_in : {A : Type 0} → Option (PlantValue A) → List JournalStep
 journal_in plant = option_map_or (λ p. p.journal) plant []
 
--- the lines that wait: those of the connections from this number on, where it isn't 0
+-- the lines of connections that wait: those from this number on, where it isn't 0
 abbrev pub waiting : ℕ → List LinkConf → List JournalStep → List ℕ
 waiting zero links journal = []
 waiting (suc place) links journal = link_lines (suc place) (drop place links) journal
@@ -47,25 +52,39 @@ waiting (suc place) links journal = link_lines (suc place) (drop place links) jo
 abbrev pub waiting_in : {A : Type 0} → ℕ → List LinkConf → Option (PlantValue A) → List ℕ
 waiting_in next links plant = option_map_or (λ p. waiting next links p.journal) plant []
 
+-- all lines that wait, by the configuration, the plant and the reactions of its bounds
+abbrev pub rest_in : {A : Type 0} → Rest → ConfView → Option (PlantValue A) → List ReactionView → List ℕ
+rest_in rest.Nothing conf plant reactions = []
+rest_in (rest.Links next) conf plant reactions = waiting_in next conf.links plant
+rest_in (rest.Bounds next) conf plant reactions =
+    option_map_or (λ p. bounds_waiting next conf.links conf.bounds reactions p.journal) plant []
+
 -- and how many these are at most
 abbrev pub lines_left : ℕ → ℕ
 lines_left zero = 0
 lines_left (suc place) = 64 - place
 
+abbrev pub rest_left : Rest → ℕ
+rest_left rest.Nothing = 0
+rest_left (rest.Links next) = lines_left next
+rest_left (rest.Bounds next) = 16 - next
+
 -- a plant that is run with these terms runs, seen by what is seen of its application: it stands for these lines, these applications are left,
--- its channel was used as that says, and it had so many ticks
-pub record GivenStands {A : Type 0} (rule : A → Rule) (holds : A → List ℕ) (guards : A → Bit → Bit → Bool) (t : Terms) (plant : Option (PlantValue A)) (left : List Named) (before after : Told) (count : ℕ) (h : ScriptHeading) (log : List PlantLine) (text : List ℕ) : Type 0 where
+-- its channel was used as that says, it had so many ticks, and these are the reactions of its bounds
+pub record GivenStands {A : Type 0} (rule : A → Rule) (holds : A → List ℕ) (guards : A → Bit → Bit → Bool) (t : Terms) (plant : Option (PlantValue A)) (reactions : List ReactionView) (left : List Named) (before after : Told) (count : ℕ) (h : ScriptHeading) (log : List PlantLine) (text : List ℕ) : Type 0 where
   pub value : PlantValue A
   pub plant_is : plant ≡ Some value
   pub runs : RunStands t (seen rule holds guards value) left h log text
   pub channel : Trace (uses t.begins (acts runs.turns)) before after
-  pub lengths : lengths_kept value.links ≡ map lengths_in t.begins.links
+  pub fixed : fixed_in value.links ≡ fixed_in (links_made 1 t.bounds t.begins.links)
+  pub watched : reactions ≡ reactions_after t.begins runs.turns t.bounds
   pub same_lengths : All HasSameLengths t.begins.links
   pub counted : count ≡ ticks value.journal
   pub few : count ≤ length log
 
 -- it did all lines of a script, of whose report this is the text, and the run ends so
-pub record GivenCloses {A : Type 0} (rule : A → Rule) (holds : A → List ℕ) (guards : A → Bit → Bit → Bool) (t : Terms) (plant : Option (PlantValue A)) (left : List Named) (h : ScriptHeading) (log : List PlantLine) (text : List ℕ) (ended : Ended) : Type 0 where
+pub record GivenCloses {A : Type 0} (rule : A → Rule) (holds : A → List ℕ) (guards : A → Bit → Bit → Bool) (t : Terms) (plant : Option (PlantValue A)) (reactions : List ReactionView) (left : List Named) (h : ScriptHeading) (log : List PlantLine) (text : List ℕ) (ended : Ended) : Type 0 where
   pub value : PlantValue A
   pub plant_is : plant ≡ Some value
   pub closes : RunCloses t (seen rule holds guards value) left h log text ended
+  pub watched : reactions ≡ reactions_after t.begins closes.stands.turns t.bounds

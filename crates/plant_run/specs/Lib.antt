@@ -18,6 +18,7 @@ pub mod ScriptLine
 pub mod Standing
 pub mod Turns
 pub mod Uses
+pub mod Watching
 pub mod WorkedActs
 pub mod WorkedPlant
 pub mod WorkedScripts

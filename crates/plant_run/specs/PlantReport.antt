@@ -58,14 +58,14 @@ lines_from links before (step ∷ steps) =
 abbrev pub ticks_text : List LinkConf → List JournalStep → List ℕ
 ticks_text links journal = lines_from links [] journal
 
--- the last lines of a plant with this journal, whose script stops so
-abbrev pub last_lines : List LinkConf → List JournalStep → Stop → List ℕ
-last_lines links journal AtEnd = codes "ticks " ++ decimal (ticks journal) ++ codes "\n" ++ other_line (lowest_other 1 links journal)
-last_lines links journal (Refused number why) = refused_line number why
+-- the last lines of a plant with this journal, whose script stops so; these are the lines of its bounds
+abbrev pub last_lines : List LinkConf → List JournalStep → List ℕ → Stop → List ℕ
+last_lines links journal bounds AtEnd = codes "ticks " ++ decimal (ticks journal) ++ codes "\n" ++ other_line (lowest_other 1 links journal) ++ bounds
+last_lines links journal bounds (Refused number why) = refused_line number why
 
--- the report of a plant with this journal, whose script stops so
-abbrev pub report_text : List LinkConf → List JournalStep → Stop → List ℕ
-report_text links journal stop = ticks_text links journal ++ last_lines links journal stop
+-- the report of a plant with this journal, whose script stops so; these are the lines of its bounds
+abbrev pub report_text : List LinkConf → List JournalStep → List ℕ → Stop → List ℕ
+report_text links journal bounds stop = ticks_text links journal ++ last_lines links journal bounds stop
 
 -- how a run ends that writes it
 abbrev pub report_end : List LinkConf → List JournalStep → Stop → Ended

@@ -10,6 +10,7 @@ use Rattle.file_run.specs.Ran.{RanOver}
 use Rattle.plant_run.specs.Acts.{journal, uses}
 use Rattle.plant_run.specs.Bound.{Reacts}
 use Rattle.plant_run.specs.Broken.{BrokenByOther}
+use Rattle.plant_run.specs.BoundLines.{bound_lines}
 use Rattle.plant_run.specs.FairPairs.{PairsAreFair}
 use Rattle.plant_run.specs.PlantReport.{report_end, report_text, ticks_text}
 use Rattle.plant_run.specs.Promises.{AllAnswered, AllGuarded}
@@ -21,9 +22,10 @@ use Rattle.plant_run.specs.Uses.{Trace}
 use Rattle.plant_run.specs.declared.event.PlantLine.{PlantLine}
 use Rattle.plant_run.specs.declared.journal.JournalStep.{JournalStep}
 
--- this is the whole report of a plant with this journal, and a run that writes it ends so
-abbrev pub IsReportOf : Terms → List JournalStep → ScriptHeading → List PlantLine → List ℕ → Ended → Type 0
-IsReportOf t steps h log text ended = (text ≡ report_text t.begins.links steps AtEnd) × (ended ≡ report_end t.begins.links steps AtEnd)
+-- this is the whole report of a plant with these turns and this journal, and a run that writes it ends so
+abbrev pub IsReportOf : Terms → List Turn → List JournalStep → ScriptHeading → List PlantLine → List ℕ → Ended → Type 0
+IsReportOf t turns steps h log text ended =
+    (text ≡ report_text t.begins.links steps (bound_lines t.begins turns t.bounds) AtEnd) × (ended ≡ report_end t.begins.links steps AtEnd)
 
 -- these turns were done, one for each of the first lines after the script's title; what was written is the report of the journal as far as the
 -- run came; after each act that ran a cycle all offers were the answer, in which what is guarded is kept off; and drives react in time, so
@@ -40,7 +42,7 @@ pub record DidTurns (t : Terms) (turns : List Turn) (steps : List JournalStep) (
   pub broken : BrokenByOther t.begins turns
   pub text_is : done.text ≡ ticks_text t.begins.links steps
   pub begun : IsBegun (plant_reporting t).format done o.source.before
-  pub ends : LeavesAs (plant_reporting t).format (IsReportOf t steps) done ended.status ended o
+  pub ends : LeavesAs (plant_reporting t).format (IsReportOf t turns steps) done ended.status ended o
 
 -- no plant began: the script's first line didn't come or is refused, or there was no memory to begin with. No more was to be written than the
 -- line of that refusal

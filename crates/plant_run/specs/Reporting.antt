@@ -3,7 +3,9 @@ use Rattle.std.specs.Prelude.{◌≡◌, ℕ, ◌+◌, ◌==◌, true, List, [],
 use Rattle.fsoe_io.specs.declared.status.Ended.{Ended}
 use Rattle.schedule_file.specs.Input.{NoApp, Stop, Refused}
 use Rattle.file_run.specs.Reporting.{Always, Reporting}
+use Rattle.plant_conf.specs.declared.conf.BoundSpec.{BoundSpec}
 use Rattle.plant_run.specs.Acts.{Beginning, Said, journal}
+use Rattle.plant_run.specs.BoundLines.{bound_lines}
 use Rattle.plant_run.specs.FairPairs.{lengths_in}
 use Rattle.plant_run.specs.PlantReport.{report_end, report_text}
 use Rattle.plant_run.specs.Script.{Script, ScriptHeading, script_format}
@@ -11,9 +13,10 @@ use Rattle.plant_run.specs.Turns.{MayPull, Named, Turn, acts, said, said_by_turn
 use Rattle.plant_run.specs.declared.event.PlantLine.{PlantLine}
 use Rattle.plant_run.specs.declared.journal.JournalStep.{JournalStep}
 
--- what a plant is run with: what it begins with, and the applications that its script may take
+-- what a plant is run with: what it begins with, the bounds that it watches, and the applications that its script may take
 pub record Terms : Type 0 where
   pub begins : Beginning
+  pub bounds : List BoundSpec
   pub spare : List Named
 
 -- in these turns this was said, and as much was pulled as may be
@@ -34,7 +37,7 @@ run_stop happened script = if happened == length script.events then script.stop 
 abbrev pub PlantReports : Terms → Script → Ended → List ℕ → Type 0
 PlantReports t script ended text =
     (turns : List Turn) × AreTurns (said t.spare script.events) turns
-    × (text ≡ report_text t.begins.links (journal_after t.begins script.heading turns) (run_stop (length turns) script))
+    × (text ≡ report_text t.begins.links (journal_after t.begins script.heading turns) (bound_lines t.begins turns t.bounds) (run_stop (length turns) script))
     × (ended ≡ report_end t.begins.links (journal_after t.begins script.heading turns) (run_stop (length turns) script))
 
 -- what a plant reports; it takes memory for its events too

@@ -3,6 +3,7 @@ use Rattle.std.specs.Prelude.{◌≡◌, ℕ, List, ◌++◌, length, map}
 use Rattle.plant_run.specs.FairPairs.{lengths_in}
 use Rattle.fsoe_io.specs.declared.status.Ended.{Ended}
 use Rattle.schedule_file.specs.Input.{AtEnd}
+use Rattle.plant_run.specs.BoundLines.{bound_lines}
 use Rattle.plant_run.specs.PlantReport.{last_lines, report_end, ticks_text}
 use Rattle.plant_run.specs.Reporting.{Terms}
 use Rattle.plant_run.specs.Script.{ScriptHeading}
@@ -24,5 +25,5 @@ pub record RunStands (t : Terms) (v : PlantView) (left : List Named) (h : Script
 pub record RunCloses (t : Terms) (v : PlantView) (left : List Named) (h : ScriptHeading) (log : List PlantLine) (text : List ℕ) (ended : Ended) : Type 0 where
   pub ticks : List ℕ
   pub stands : RunStands t v left h log ticks
-  pub text_is : text ≡ ticks ++ last_lines t.begins.links v.journal AtEnd
+  pub text_is : text ≡ ticks ++ last_lines t.begins.links v.journal (bound_lines t.begins stands.turns t.bounds) AtEnd
   pub ended_is : ended ≡ report_end t.begins.links v.journal AtEnd

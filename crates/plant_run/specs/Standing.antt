@@ -1,5 +1,5 @@
 -- What it means that a plant does what its acts say. Turns are listed newest first.
-use Rattle.std.specs.Prelude.{◌≡◌, ◌≤◌, ◌*◌, ℕ, suc, Bool, List, [], ◌∷◌, All, IsSomeAnd, Option, length, map}
+use Rattle.std.specs.Prelude.{◌≡◌, ◌≤◌, ◌*◌, ℕ, zero, suc, Bool, List, [], ◌∷◌, All, IsSomeAnd, Option, None, length, map, slice_get}
 use Rattle.fsoe_base.specs.declared.did.Did.{Did}
 use Rattle.fsoe_base.specs.declared.lengths.Lengths.{Lengths}
 use Rattle.black_channel.specs.Told.{Told}
@@ -14,7 +14,7 @@ use Rattle.multi_master.specs.Standing as multi
 use Rattle.plant_run.specs.declared.journal.JournalStep.{JournalStep}
 use Rattle.plant_run.specs.Acts.{Beginning, Said, Event, App, Act, settings, calls, journal, is_cut, uses_after}
 use Rattle.plant_run.specs.FairPairs.{EventFits}
-use Rattle.plant_run.specs.Link.{LinkView, LinkStands}
+use Rattle.plant_run.specs.Link.{Fixed, LinkView, LinkStands, fixed_of}
 use Rattle.plant_run.specs.Pair.{pair, link_at, lowest_other}
 use Rattle.plant_run.specs.Promises.{AllAnswered, AllGuarded}
 use Rattle.plant_run.specs.Turns.{Turn, MayPull, acts, turn_acts}
@@ -58,6 +58,15 @@ pub record HasLink {A : Type 0} (v : PlantValue A) (link : ℕ) : Type 0 where
 abbrev pub lengths_kept : List LinkView → List Lengths
 lengths_kept vs = map (λ v. v.slave.kit.settings.lengths) vs
 
+-- what never changes of each of them
+abbrev pub fixed_in : List LinkView → List Fixed
+fixed_in vs = map fixed_of vs
+
+-- what is kept of the connection with this number, if there is one
+abbrev pub kept_at : List LinkView → ℕ → Option LinkView
+kept_at vs zero = None
+kept_at vs (suc place) = slice_get vs place
+
 -- that holds of each connection, the first of which has number k, and of what is kept of it beside its master
 abbrev pub EachLink : (ℕ → LinkConf → LinkView → Type 0) → ℕ → List LinkConf → List LinkView → Type 0
 EachLink P k [] [] = Unit {0}
@@ -66,7 +75,7 @@ EachLink P k _ _ = ⊥
 
 -- what is kept of connection k, whose pair did this and which may be cut: it stands for the entries, and tells whether the connection is cut
 pub record LinkIs (cuts : ℕ → Bool) (done : ℕ → LinkConf → List Entry) (k : ℕ) (link : LinkConf) (v : LinkView) : Type 0 where
-  pub stands : LinkStands link.slave v (done k link)
+  pub stands : LinkStands link v (done k link)
   pub cut : v.cut ≡ cuts k
 
 -- so it is of each of these connections, from number 1 on

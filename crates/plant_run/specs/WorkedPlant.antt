@@ -180,7 +180,7 @@ stop_lines =
 -- the report over these steps, and how a run ends that writes it
 unfoldable pub SevenTicks : Type 0
 SevenTicks =
-    (report_text both_links seven_ticks AtEnd ≡ seven_ticks_report)
+    (report_text both_links seven_ticks [] AtEnd ≡ seven_ticks_report)
     × (report_end both_links seven_ticks AtEnd ≡ record { status = status.Ok; place = 0 })
 
 -- the lines of the first connection after those of the first tick

@@ -50,7 +50,7 @@ impl<A: Application> Ends<A> {
     ghost use Rattle.multi_master.specs.Standing.{app_view};
     ghost use Rattle.plant_run.specs.Acts.{Event, App, Happen};
     ghost use Rattle.plant_run.specs.Doing.{GoesOn, Delivers, OffersNoted, PullsAll, Turns, sees};
-    ghost use Rattle.plant_run.specs.Standing.{IsPlant, lengths_kept};
+    ghost use Rattle.plant_run.specs.Standing.{IsPlant, fixed_in, lengths_kept};
     ghost use Rattle.std.specs.Prelude.{IsSomeAnd};
     ghost use Rattle.black_channel.specs.Told.{Told};
     ghost use Rattle.plant_run.specs.ScriptLine.{Fits, lengths_at};
@@ -62,7 +62,7 @@ impl<A: Application> Ends<A> {
         requires room { vec_len steps.old + 1 + vec_len self.old.links ≤ vec_capacity steps.old }
         ensures goes { let seen = sees A.rule A.holds A.guards in GoesOn (seen self.old.master self.old.links.items steps.old.items) (Happen (Event event.Tick) ∷ []) (seen self.new.master self.new.links.items steps.new.items) (C.told channel.old) (C.told channel.new) }
         ensures ready { IsPlant self.new.master self.new.links.items self.new.dids.items self.new.outs.items (vec_len steps.new) }
-        ensures lengths { lengths_kept self.new.links.items ≡ lengths_kept self.old.links.items }
+        ensures fixed { fixed_in self.new.links.items ≡ fixed_in self.old.links.items }
         ensures few { vec_len steps.new ≤ vec_len steps.old + 1 + vec_len self.old.links }
         ensures capacity { vec_capacity steps.old ≤ vec_capacity steps.new }
     {
@@ -94,7 +94,7 @@ impl<A: Application> Ends<A> {
         requires room { vec_len steps.old + 1 + vec_len self.old.links ≤ vec_capacity steps.old }
         ensures delivers { let seen = sees A.rule A.holds A.guards in Delivers (seen self.old.master self.old.links.items steps.old.items) (record { to = record { link = link; end = side.Master }; frame = frame.now }) (seen self.new.master self.new.links.items steps.new.items) (C.told channel.old) (C.told channel.new) }
         ensures ready { IsPlant self.new.master self.new.links.items self.new.dids.items self.new.outs.items (vec_len steps.new) }
-        ensures lengths { lengths_kept self.new.links.items ≡ lengths_kept self.old.links.items }
+        ensures fixed { fixed_in self.new.links.items ≡ fixed_in self.old.links.items }
         ensures few { vec_len steps.new ≤ vec_len steps.old + 1 + vec_len self.old.links }
         ensures capacity { vec_capacity steps.old ≤ vec_capacity steps.new }
     {
@@ -107,7 +107,15 @@ impl<A: Application> Ends<A> {
         };
         note_pulled(to, frame, steps);
         let kept = &mut self.links[usize::from(link) - 1];
-        master_acted(link, kept, frame.bytes(), &self.heard, &self.sent, channel);
+        master_acted(
+            link,
+            kept,
+            false,
+            frame.bytes(),
+            &self.heard,
+            &self.sent,
+            channel,
+        );
     }
 
     /// A frame that was pulled comes to the slave of this connection, and its answer is pushed.
@@ -124,7 +132,7 @@ impl<A: Application> Ends<A> {
         requires room { vec_len steps.old + 1 + vec_len self.old.links ≤ vec_capacity steps.old }
         ensures delivers { let seen = sees A.rule A.holds A.guards in Delivers (seen self.old.master self.old.links.items steps.old.items) (record { to = record { link = link; end = side.Slave }; frame = frame.now }) (seen self.new.master self.new.links.items steps.new.items) (C.told channel.old) (C.told channel.new) }
         ensures ready { IsPlant self.new.master self.new.links.items self.new.dids.items self.new.outs.items (vec_len steps.new) }
-        ensures lengths { lengths_kept self.new.links.items ≡ lengths_kept self.old.links.items }
+        ensures fixed { fixed_in self.new.links.items ≡ fixed_in self.old.links.items }
         ensures few { vec_len steps.new ≤ vec_len steps.old + 1 + vec_len self.old.links }
         ensures capacity { vec_capacity steps.old ≤ vec_capacity steps.new }
     {
@@ -156,7 +164,7 @@ impl<A: Application> Ends<A> {
         requires room { vec_len steps.old + 1 + vec_len self.old.links ≤ vec_capacity steps.old }
         ensures delivers { let seen = sees A.rule A.holds A.guards in Delivers (seen self.old.master self.old.links.items steps.old.items) (record { to = to; frame = frame.now }) (seen self.new.master self.new.links.items steps.new.items) (C.told channel.old) (C.told channel.new) }
         ensures ready { IsPlant self.new.master self.new.links.items self.new.dids.items self.new.outs.items (vec_len steps.new) }
-        ensures lengths { lengths_kept self.new.links.items ≡ lengths_kept self.old.links.items }
+        ensures fixed { fixed_in self.new.links.items ≡ fixed_in self.old.links.items }
         ensures few { vec_len steps.new ≤ vec_len steps.old + 1 + vec_len self.old.links }
         ensures capacity { vec_capacity steps.old ≤ vec_capacity steps.new }
     {
@@ -176,7 +184,7 @@ impl<A: Application> Ends<A> {
         requires room { vec_len steps.old + 64 * (vec_len self.old.links + 1) ≤ vec_capacity steps.old }
         ensures pulls { let seen = sees A.rule A.holds A.guards in PullsAll (seen self.old.master self.old.links.items steps.old.items) (seen self.new.master self.new.links.items steps.new.items) (C.told channel.old) (C.told channel.new) }
         ensures ready { IsPlant self.new.master self.new.links.items self.new.dids.items self.new.outs.items (vec_len steps.new) }
-        ensures lengths { lengths_kept self.new.links.items ≡ lengths_kept self.old.links.items }
+        ensures fixed { fixed_in self.new.links.items ≡ fixed_in self.old.links.items }
     {
         let mut frame = FrameBuf::new();
         for _ in 0..MOST_PULLS {
@@ -193,7 +201,7 @@ impl<A: Application> Ends<A> {
         requires room { vec_len steps.old + 65 * (vec_len self.old.links + 1) ≤ vec_capacity steps.old }
         ensures turns { let seen = sees A.rule A.holds A.guards in Turns (seen self.old.master self.old.links.items steps.old.items) (Event event.Tick) (seen self.new.master self.new.links.items steps.new.items) (C.told channel.old) (C.told channel.new) }
         ensures ready { IsPlant self.new.master self.new.links.items self.new.dids.items self.new.outs.items (vec_len steps.new) }
-        ensures lengths { lengths_kept self.new.links.items ≡ lengths_kept self.old.links.items }
+        ensures fixed { fixed_in self.new.links.items ≡ fixed_in self.old.links.items }
     {
         self.tick(steps, channel);
         self.pull_all(steps, channel);
@@ -208,7 +216,7 @@ impl<A: Application> Ends<A> {
         requires room { vec_len steps.old + 1 ≤ vec_capacity steps.old }
         ensures goes { let seen = sees A.rule A.holds A.guards in (told : Told) → GoesOn (seen self.old.master self.old.links.items steps.old.items) (Happen (Event (event.Put link load.now)) ∷ []) (seen self.new.master self.new.links.items steps.new.items) told told }
         ensures ready { IsPlant self.new.master self.new.links.items self.new.dids.items self.new.outs.items (vec_len steps.new) }
-        ensures lengths { lengths_kept self.new.links.items ≡ lengths_kept self.old.links.items }
+        ensures fixed { fixed_in self.new.links.items ≡ fixed_in self.old.links.items }
     {
         let event = PlantEvent::Put {
             link,
@@ -226,7 +234,7 @@ impl<A: Application> Ends<A> {
         requires room { vec_len steps.old + 1 ≤ vec_capacity steps.old }
         ensures goes { let seen = sees A.rule A.holds A.guards in (told : Told) → GoesOn (seen self.old.master self.old.links.items steps.old.items) (Happen (Event (event.Hold link failsafe)) ∷ []) (seen self.new.master self.new.links.items steps.new.items) told told }
         ensures ready { IsPlant self.new.master self.new.links.items self.new.dids.items self.new.outs.items (vec_len steps.new) }
-        ensures lengths { lengths_kept self.new.links.items ≡ lengths_kept self.old.links.items }
+        ensures fixed { fixed_in self.new.links.items ≡ fixed_in self.old.links.items }
     {
         note(
             steps,
@@ -243,7 +251,7 @@ impl<A: Application> Ends<A> {
         requires room { vec_len steps.old + 1 ≤ vec_capacity steps.old }
         ensures goes { let seen = sees A.rule A.holds A.guards in GoesOn (seen self.old.master self.old.links.items steps.old.items) (Happen (Event (event.Local link)) ∷ []) (seen self.new.master self.new.links.items steps.new.items) (C.told channel.old) (C.told channel.new) }
         ensures ready { IsPlant self.new.master self.new.links.items self.new.dids.items self.new.outs.items (vec_len steps.new) }
-        ensures lengths { lengths_kept self.new.links.items ≡ lengths_kept self.old.links.items }
+        ensures fixed { fixed_in self.new.links.items ≡ fixed_in self.old.links.items }
     {
         note(steps, JournalStep::Script(PlantEvent::Local { link }));
         reset_slave(link, &mut self.links[usize::from(link) - 1], channel);
@@ -257,7 +265,7 @@ impl<A: Application> Ends<A> {
         requires room { vec_len steps.old + 1 ≤ vec_capacity steps.old }
         ensures goes { let seen = sees A.rule A.holds A.guards in (told : Told) → GoesOn (seen self.old.master self.old.links.items steps.old.items) (Happen (Event (event.Nonce link side.Slave id)) ∷ []) (seen self.new.master self.new.links.items steps.new.items) told told }
         ensures ready { IsPlant self.new.master self.new.links.items self.new.dids.items self.new.outs.items (vec_len steps.new) }
-        ensures lengths { lengths_kept self.new.links.items ≡ lengths_kept self.old.links.items }
+        ensures fixed { fixed_in self.new.links.items ≡ fixed_in self.old.links.items }
     {
         let event = PlantEvent::Nonce {
             link,
@@ -276,7 +284,7 @@ impl<A: Application> Ends<A> {
         requires room { vec_len steps.old + 1 ≤ vec_capacity steps.old }
         ensures goes { let seen = sees A.rule A.holds A.guards in (told : Told) → GoesOn (seen self.old.master self.old.links.items steps.old.items) (Happen (Event (event.Nonce link side.Master id)) ∷ []) (seen self.new.master self.new.links.items steps.new.items) told told }
         ensures ready { IsPlant self.new.master self.new.links.items self.new.dids.items self.new.outs.items (vec_len steps.new) }
-        ensures lengths { lengths_kept self.new.links.items ≡ lengths_kept self.old.links.items }
+        ensures fixed { fixed_in self.new.links.items ≡ fixed_in self.old.links.items }
     {
         let event = PlantEvent::Nonce {
             link,
@@ -285,7 +293,12 @@ impl<A: Application> Ends<A> {
         };
         note(steps, JournalStep::Script(event));
         self.master.nonce(link, id);
-        self.links[usize::from(link) - 1].note_master(&[], &Did::nothing(), &FrameBuf::new());
+        self.links[usize::from(link) - 1].note_master(
+            false,
+            &[],
+            &Did::nothing(),
+            &FrameBuf::new(),
+        );
     }
 
     /// The connection is cut, or joined again.
@@ -296,7 +309,7 @@ impl<A: Application> Ends<A> {
         requires room { vec_len steps.old + 1 ≤ vec_capacity steps.old }
         ensures goes { let seen = sees A.rule A.holds A.guards in (told : Told) → GoesOn (seen self.old.master self.old.links.items steps.old.items) (Happen (Event (event.Cut link cut)) ∷ []) (seen self.new.master self.new.links.items steps.new.items) told told }
         ensures ready { IsPlant self.new.master self.new.links.items self.new.dids.items self.new.outs.items (vec_len steps.new) }
-        ensures lengths { lengths_kept self.new.links.items ≡ lengths_kept self.old.links.items }
+        ensures fixed { fixed_in self.new.links.items ≡ fixed_in self.old.links.items }
     {
         note(steps, JournalStep::Script(PlantEvent::Cut { link, cut }));
         self.links[usize::from(link) - 1].set_cut(cut);
@@ -314,7 +327,7 @@ impl<A: Application> Ends<A> {
         requires room { vec_len steps.old + room_for event.now (vec_len self.old.links) ≤ vec_capacity steps.old }
         ensures turns { let seen = sees A.rule A.holds A.guards in Turns (seen self.old.master self.old.links.items steps.old.items) (Event event.now) (seen self.new.master self.new.links.items steps.new.items) (C.told channel.old) (C.told channel.new) }
         ensures ready { IsPlant self.new.master self.new.links.items self.new.dids.items self.new.outs.items (vec_len steps.new) }
-        ensures lengths { lengths_kept self.new.links.items ≡ lengths_kept self.old.links.items }
+        ensures fixed { fixed_in self.new.links.items ≡ fixed_in self.old.links.items }
     {
         match event {
             PlantEvent::Tick => self.tick_and_pull(steps, channel),
@@ -344,7 +357,7 @@ impl<A: Application> Ends<A> {
         ensures guards { multi.Guards (multi.seen A.rule A.holds A.guards self.old.master) (ChangeApp (app_view A.rule A.holds A.guards app)) }
         ensures offers { OffersNoted (multi.seen A.rule A.holds A.guards self.new.master) self.old.links.items self.new.links.items steps.old.items steps.new.items }
         ensures ready { IsPlant self.new.master self.new.links.items self.new.dids.items self.new.outs.items (vec_len steps.new) }
-        ensures lengths { lengths_kept self.new.links.items ≡ lengths_kept self.old.links.items }
+        ensures fixed { fixed_in self.new.links.items ≡ fixed_in self.old.links.items }
     {
         self.master.change_app(app);
         note_offers(&self.master, self.links.as_mut_slice(), steps);
@@ -356,7 +369,7 @@ impl<A: Application> Ends<A> {
         requires room { vec_len steps.old + 1 + vec_len self.old.links ≤ vec_capacity steps.old }
         ensures goes { let seen = sees A.rule A.holds A.guards in (told : Told) → GoesOn (seen self.old.master self.old.links.items steps.old.items) (Happen (App (app_view A.rule A.holds A.guards app)) ∷ []) (seen self.new.master self.new.links.items steps.new.items) told told }
         ensures ready { IsPlant self.new.master self.new.links.items self.new.dids.items self.new.outs.items (vec_len steps.new) }
-        ensures lengths { lengths_kept self.new.links.items ≡ lengths_kept self.old.links.items }
+        ensures fixed { fixed_in self.new.links.items ≡ fixed_in self.old.links.items }
     {
         note(steps, JournalStep::App);
         self.start(app, steps);

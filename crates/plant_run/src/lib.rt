@@ -15,6 +15,8 @@ mod pushing;
 mod run;
 mod script;
 mod script_line;
+mod watch;
+mod watching;
 
 pub use event::{MAX_SCRIPT, PlantEvent, PlantLine};
 pub use journal::{Journal, JournalStep};

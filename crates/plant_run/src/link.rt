@@ -1,55 +1,85 @@
 //! What a plant keeps of one connection beside its master.
-ghost use Rattle.std.specs.Prelude.{◌≡◌, ◌+◌, ◌<◌, ◌≤◌, ◌^◌, ◌&&◌, not, List, is_some, length};
+ghost use Rattle.std.specs.Prelude.{◌≡◌, ◌+◌, ◌<◌, ◌≤◌, ◌^◌, ◌&&◌, not, List, [], IfSome, IsSome, false, is_some, length};
 ghost use Rattle.fsoe_base.specs.Image.{bit_of};
 ghost use Rattle.param_load.specs.declared.entry.Move.TheVariants as event;
 ghost use Rattle.end_model.specs.Readiness as model;
 ghost use Rattle.end_model.specs.Outputs as looking_back;
 ghost use Rattle.param_load.specs.declared.entry.Entry.{Entry};
-ghost use Rattle.exchange_model.specs.Monitor.{view_of};
+ghost use Rattle.exchange_model.specs.Monitor.{view_of, NotesParts};
 ghost use Rattle.exchange_model.specs.Other.{first_other};
+ghost use Rattle.fsoe_base.specs.Did.{nothing};
+ghost use Rattle.fsoe_base.specs.declared.command.End.TheVariants as side;
 ghost use Rattle.fsoe_base.specs.declared.lengths.TheConstants.{MOST_DATA};
+ghost use Rattle.plant_run.specs.Link.{NotesSlave, ages_in, monitor_in};
+ghost use Rattle.reaction_bound.specs.Age.{told_age, worst_of};
+ghost use Rattle.reaction_bound.specs.Ages as ages;
 ghost use Rattle.slave_core.specs.Standing.{Shows};
 
-use exchange_model::Monitor;
+use crate::watch::Watch;
 use fsoe_base::{Did, End, FrameBuf, State};
-use param_load::SlaveSettings;
+use plant_conf::LinkConf;
 use slave_core::Slave;
 use std::marker::Model;
 
-/// The slave of a connection, the monitor of its pair, and whether the connection is cut. Each call that has the slave do something notes
-/// what it did; of the master it is told.
+/// The slave of a connection, what notes the entries of its pair, the watchdog that its master is set to, and whether the connection is
+/// cut. Each call that has the slave do something notes what it did; of the master it is told.
 #[derive(Drop)]
 pub(crate) struct Link {
     slave: Slave,
-    monitor: Monitor,
+    watch: Watch,
+    watchdog: u16,
     cut: bool,
 }
 
 impl Model for Link {
-    ghost use Rattle.plant_run.specs.Link.{LinkView};
+    ghost use Rattle.plant_run.specs.Link.{LinkView, ages_in, monitor_in};
 
     ghost Value = { LinkView };
 
-    ghost view = { λ l. record { slave = l.slave; monitor = l.monitor; cut = l.cut } };
+    ghost view = { λ l. record { slave = l.slave; monitor = monitor_in l.watch; ages = ages_in l.watch; watchdog = l.watchdog; cut = l.cut } };
+}
+
+/// Notes an entry of a slave, by whether it is a tick, the bytes that came, what the slave did and the frame that it sent.
+fn note_slave(slave: &Slave, watch: &mut Watch, tick: bool, came: &[u8], did: &Did, sent: &FrameBuf)
+    requires few { (monitor_in watch.old).noted + 1 < 2 ^ 64 }
+    ensures noted { NotesParts (monitor_in watch.old) side.Slave came.now did.now sent.now (monitor_in watch.new) }
+    ensures ages { NotesSlave slave.now (ages_in watch.old) tick came.now did.now sent.now (ages_in watch.new) }
+    ensures count { (monitor_in watch.new).noted ≡ (monitor_in watch.old).noted + 1 }
+    ensures aged { is_some (ages_in watch.new) ≡ is_some (ages_in watch.old) }
+{
+    let watchdog = match slave.terms() {
+        Some(terms) => Some(terms.watchdog),
+        None => None,
+    };
+    watch.note_parts(End::Slave, tick, came, did, sent, watchdog);
+}
+
+/// Notes an entry of a slave in which something was set, and nothing done.
+fn note_setting(slave: &Slave, watch: &mut Watch)
+    requires few { (monitor_in watch.old).noted + 1 < 2 ^ 64 }
+    ensures noted { NotesParts (monitor_in watch.old) side.Slave [] nothing [] (monitor_in watch.new) }
+    ensures ages { NotesSlave slave.now (ages_in watch.old) false [] nothing [] (ages_in watch.new) }
+    ensures count { (monitor_in watch.new).noted ≡ (monitor_in watch.old).noted + 1 }
+    ensures aged { is_some (ages_in watch.new) ≡ is_some (ages_in watch.old) }
+{
+    note_slave(slave, watch, false, &[], &Did::nothing(), &FrameBuf::new());
 }
 
 impl Link {
     ghost use Rattle.plant_run.specs.Link.{new_link, SlaveGoesOn, MasterNoted, NotesOne};
-    ghost use Rattle.std.specs.Prelude.{[], length, IsTrue};
-    ghost use Rattle.fsoe_base.specs.Did.{nothing};
-    ghost use Rattle.fsoe_base.specs.declared.command.End.TheVariants as side;
+    ghost use Rattle.std.specs.Prelude.{IsTrue};
     ghost use Rattle.param_load.specs.Profile.{allows_id};
     ghost use Rattle.end_model.specs.Setup.{OfSlave, sends};
-    ghost use Rattle.exchange_model.specs.Monitor.{NotesParts};
 
-    /// A new slave with these settings, in a connection that isn't cut.
+    /// A new slave of this connection, which isn't cut. The ages of the outputs are told or not.
     #[tactic(auto, using(crate::proofs::Linked::is_new))]
-    pub(crate) fn new(settings: SlaveSettings) -> Link
-        ensures { result ≡ new_link settings }
+    pub(crate) fn new(conf: &LinkConf, aged: bool) -> Link
+        ensures { result ≡ new_link aged conf.now }
     {
         Link {
-            slave: Slave::new(settings),
-            monitor: Monitor::new(),
+            slave: Slave::new(conf.slave.copy()),
+            watch: Watch::new(aged),
+            watchdog: conf.master.watchdog(),
             cut: false,
         }
     }
@@ -62,7 +92,7 @@ impl Link {
         ensures notes { NotesOne self.old self.new }
     {
         self.slave.tick_into(did, out);
-        self.monitor.note_parts(End::Slave, &[], did, out);
+        note_slave(&self.slave, &mut self.watch, true, &[], did, out);
     }
 
     /// A frame comes to the slave: writes what it did and the frame that it sent.
@@ -73,7 +103,7 @@ impl Link {
         ensures notes { NotesOne self.old self.new }
     {
         self.slave.deliver_into(frame, did, out);
-        self.monitor.note_parts(End::Slave, frame, did, out);
+        note_slave(&self.slave, &mut self.watch, false, frame, did, out);
     }
 
     /// The slave is reset: writes what it did and the frame that it sent.
@@ -84,7 +114,7 @@ impl Link {
         ensures notes { NotesOne self.old self.new }
     {
         *did = self.slave.reset(out);
-        self.monitor.note_parts(End::Slave, &[], did, out);
+        note_slave(&self.slave, &mut self.watch, false, &[], did, out);
     }
 
     /// The slave sends these safe data from now on, exactly as many bytes as it sends.
@@ -96,7 +126,7 @@ impl Link {
         ensures notes { NotesOne self.old self.new }
     {
         self.slave.put(load);
-        self.note_setting();
+        note_setting(&self.slave, &mut self.watch);
     }
 
     /// The slave sends fail-safe data from now on, or no longer.
@@ -107,7 +137,7 @@ impl Link {
         ensures notes { NotesOne self.old self.new }
     {
         self.slave.hold(failsafe);
-        self.note_setting();
+        note_setting(&self.slave, &mut self.watch);
     }
 
     /// The session id of the slave's sessions that begin from now on, one that its profile allows.
@@ -119,36 +149,24 @@ impl Link {
         ensures notes { NotesOne self.old self.new }
     {
         self.slave.nonce(id);
-        self.note_setting();
+        note_setting(&self.slave, &mut self.watch);
     }
 
-    /// Notes an entry of the slave in which something was set, and nothing done.
-    fn note_setting(&mut self)
-        requires few { self.old.monitor.noted + 1 < 2 ^ 64 }
-        ensures noted { NotesParts self.old.monitor side.Slave [] nothing [] self.new.monitor }
-        ensures count { self.new.monitor.noted ≡ self.old.monitor.noted + 1 }
-        ensures slave { self.new.slave ≡ self.old.slave }
-        ensures cut { self.new.cut ≡ self.old.cut }
-    {
-        self.monitor
-            .note_parts(End::Slave, &[], &Did::nothing(), &FrameBuf::new());
-    }
-
-    /// Notes an entry of the master, by the bytes that came, what it did and the frame that it sent.
+    /// Notes an entry of the master, by whether it is a tick, the bytes that came, what it did and the frame that it sent.
     #[tactic(auto, using(crate::proofs::Linked::master_noted, crate::proofs::Linked::notes_one))]
-    pub(crate) fn note_master(&mut self, came: &[u8], did: &Did, sent: &FrameBuf)
+    pub(crate) fn note_master(&mut self, tick: bool, came: &[u8], did: &Did, sent: &FrameBuf)
         requires few { self.old.monitor.noted + 1 < 2 ^ 64 }
-        ensures stands { MasterNoted self.old came.now did.now sent.now self.new }
+        ensures stands { MasterNoted self.old tick came.now did.now sent.now self.new }
         ensures notes { NotesOne self.old self.new }
     {
-        self.monitor.note_parts(End::Master, came, did, sent);
+        let watchdog = Some(self.watchdog);
+        self.watch
+            .note_parts(End::Master, tick, came, did, sent, watchdog);
     }
 
     /// Cuts the connection, or joins it again.
     pub(crate) fn set_cut(&mut self, cut: bool)
-        ensures slave { self.new.slave ≡ self.old.slave }
-        ensures monitor { self.new.monitor ≡ self.old.monitor }
-        ensures cut { self.new.cut ≡ cut }
+        ensures { self.new ≡ record self.old { cut = cut } }
     {
         self.cut = cut;
     }
@@ -186,12 +204,20 @@ impl Link {
     pub(crate) fn has_other(&self) -> bool
         ensures { (w : List Entry) → self.now.monitor ≡ view_of w → result ≡ is_some (first_other w) }
     {
-        self.monitor.other().is_some()
+        self.watch.has_other()
+    }
+
+    /// The greatest age of an end's outputs, where ages are told.
+    pub(crate) fn worst(&self, at: End) -> Option<u32>
+        requires { IsSome self.now.ages }
+        ensures { (w : List Entry) → IfSome self.now.ages (λ a. a ≡ ages.view_of w) → result ≡ told_age (worst_of at w) }
+    {
+        self.watch.worst(at)
     }
 }
 
 /// The value of a bit of these bytes: bit `b % 8`, lowest first, of byte `b / 8`; 0 where there is no such byte.
-fn bit_of(bytes: &[u8], b: u16) -> bool
+pub(crate) fn bit_of(bytes: &[u8], b: u16) -> bool
     ensures { result ≡ bit_of bytes.now b }
 {
     match bytes.get(usize::from(b / 8)) {

@@ -1,5 +1,5 @@
 //! A plant that runs over its script.
-ghost use Rattle.std.specs.Prelude.{◌≡◌, ◌≤◌, ◌+◌, ◌*◌, ◌++◌, [], ◌∷◌, ◌⊎◌, All, length, map, codes, decimal, string_bytes, IfErr, IfOk, IfSome, IsSome, IsSomeAnd, OnErr, OnOk, None, Some};
+ghost use Rattle.std.specs.Prelude.{false, ◌≡◌, ◌≤◌, ◌+◌, ◌*◌, ◌++◌, [], ◌∷◌, ◌⊎◌, All, length, map, codes, decimal, string_bytes, IfErr, IfOk, IfSome, IsSome, IsSomeAnd, OnErr, OnOk, None, Some};
 ghost use Rattle.hex.specs.Hex.{encode_lower};
 ghost use Rattle.fsoe_base.specs.Command.{state_name};
 ghost use Rattle.fsoe_base.specs.declared.lengths.TheConstants.{MOST_DATA};
@@ -11,34 +11,40 @@ ghost use Rattle.multi_master.specs.Standing.{app_view};
 ghost use Rattle.plant_conf.specs.ConfView.{HasSameLengths};
 ghost use Rattle.plant_setup.specs.Names.{IsTaken, place_of};
 ghost use Rattle.plant_run.specs.Acts.{App, Event, Start, uses};
-ghost use Rattle.plant_run.specs.FairPairs.{lengths_in};
-ghost use Rattle.plant_run.specs.Given.{GivenCloses, GivenStands, lines_left, named, terms_of, waiting_in};
+ghost use Rattle.plant_run.specs.Making.{links_made};
+ghost use Rattle.plant_run.specs.Pair.{is_tick};
+ghost use Rattle.plant_run.specs.Given.{GivenCloses, GivenStands, named, rest_in, rest_left, terms_of};
 ghost use Rattle.plant_run.specs.PlantReport.{link_line};
 ghost use Rattle.plant_run.specs.Reporting.{plant_reporting};
 ghost use Rattle.plant_run.specs.ScriptLine.{Fits};
-ghost use Rattle.plant_run.specs.Standing.{Follows, HasLink, PlantStands, PlantValue, ShowsPair, TellsOther, lengths_kept, seen};
+ghost use Rattle.plant_run.specs.Standing.{Follows, HasLink, PlantStands, PlantValue, ShowsPair, TellsOther, fixed_in, lengths_kept, seen};
 ghost use Rattle.plant_run.specs.Uses.{Trace};
+ghost use Rattle.plant_run.specs.Watching.{CanHear, HearsLine, reactions_after};
+ghost use Rattle.plant_run.specs.declared.journal.JournalStep.TheVariants as step;
 
 use crate::event::{MAX_SCRIPT, PlantEvent, PlantLine};
 use crate::plant::Plant;
 use crate::script::{ScriptFormat, ScriptHeader};
+use crate::watching::{hear, limit_of, reactions_made, write_bound};
 use black_channel::Channel;
 use failsafe_io::Application;
 use fb_net::{EntryOf, KindOf};
 use file_run::{Machine, Stopped, ended_with, push_other};
 use fsoe_base::{Memory, State};
 use fsoe_io::{Ended, LineText};
-use plant_conf::PlantConf;
+use plant_conf::{BoundSpec, PlantConf};
+use reaction_bound::Reaction;
 use std::alloc::Global;
 use std::marker::PhantomData;
 
-/// What the run of a plant owns: the application that runs first, until the plant begins; those that its script may take, in their order; and
-/// the plant, once it has begun.
+/// What the run of a plant owns: the application that runs first, until the plant begins; those that its script may take, in their order; and,
+/// once it has begun, the plant, and a reaction for each bound of its configuration.
 #[derive(Drop)]
 pub(crate) struct Owned<H: Application> {
     pub app: KindOf<H>,
     pub spare: Vec<EntryOf<H>>,
     pub plant: Option<Plant<KindOf<H>>>,
+    pub reactions: Vec<Reaction>,
 }
 
 /// What a plant is run with. What a run owns is lent for a time of its own.
@@ -50,13 +56,22 @@ pub(crate) struct PlantRun<'a, 'o, H: Application, C> {
     pub owned: &'o mut Owned<H>,
 }
 
+/// The lines of a report that come next.
+#[derive(Clone, Copy)]
+enum Rest {
+    Nothing,
+    /// Those of the connections, from this number on.
+    Links(u16),
+    /// Those of the bounds, from this place on.
+    Bounds(usize),
+}
+
 /// How far the report of a plant is written.
 #[derive(Drop)]
 pub(crate) struct Telling<'a, 'o, H: Application, C> {
     /// The ticks so far.
     ticks: u64,
-    /// The number of the connection whose line comes next, or 0 where none waits.
-    next: u16,
+    rest: Rest,
     of: PhantomData<PlantRun<'a, 'o, H, C>>,
 }
 
@@ -85,6 +100,13 @@ fn write_link<A: Application>(plant: &Plant<A>, link: u16, text: &mut LineText)
     text.push_str("\n");
 }
 
+/// Whether an event of the script is a tick.
+fn is_tick(event: &PlantEvent) -> bool
+    ensures { result ≡ is_tick (step.Script event.now) }
+{
+    matches!(event, PlantEvent::Tick)
+}
+
 /// Writes a word and a number as a line.
 fn write_count(word: &str, n: u64, text: &mut LineText)
     requires { length word.now ≤ 8 }
@@ -99,7 +121,7 @@ fn write_count(word: &str, n: u64, text: &mut LineText)
 }
 
 impl<H: Application> Owned<H> {
-    /// Begins the plant. After `Memory` nothing is changed.
+    /// Begins the plant, whose start is the first moment of its bounds. After `Memory` nothing is changed.
     fn begin<C: Channel>(
         &mut self,
         alloc: Global,
@@ -107,50 +129,77 @@ impl<H: Application> Owned<H> {
         channel: &mut C,
     ) -> Result<(), Memory>
         ensures stands { let K = ⟦<KindOf<H> as Application>⟧ in OnOk result (IsSomeAnd self.new.plant (λ plant. PlantStands (record { links = conf.now.links; app = app_view K.rule K.holds K.guards self.old.app; seed = conf.now.seed }) (seen K.rule K.holds K.guards plant) []
-            × (lengths_kept plant.links ≡ map lengths_in conf.now.links))) }
+            × (fixed_in plant.links ≡ fixed_in (links_made 1 conf.now.bounds conf.now.links))
+            × (self.new.reactions.items ≡ reactions_after (record { links = conf.now.links; app = app_view K.rule K.holds K.guards self.old.app; seed = conf.now.seed }) [] conf.now.bounds))) }
         ensures same_lengths { OnOk result (All HasSameLengths conf.now.links) }
         ensures channel { let K = ⟦<KindOf<H> as Application>⟧ in OnOk result (Trace (uses (record { links = conf.now.links; app = app_view K.rule K.holds K.guards self.old.app; seed = conf.now.seed }) (Start ∷ [])) (C.told channel.old) (C.told channel.new)) }
         ensures spare { self.new.spare ≡ self.old.spare }
         ensures kept { OnErr result (self.new ≡ self.old) }
         ensures unused { OnErr result (channel.new ≡ channel.old) }
     {
-        match Plant::begun(alloc, conf, &mut self.app, channel) {
-            Ok(plant) => {
-                self.plant = Some(plant);
-                Ok(())
-            }
-            Err(_) => Err(Memory),
-        }
+        let mut reactions = reactions_made(alloc, conf.links(), conf.bounds())?;
+        let plant = Plant::begun(alloc, conf, &mut self.app, channel)?;
+        hear(&plant, conf.bounds(), false, &mut reactions);
+        self.plant = Some(plant);
+        self.reactions = reactions;
+        Ok(())
     }
 
-    /// What an event of the script says happens in the plant. After `Memory` nothing is changed.
-    fn step<C: Channel>(&mut self, event: &PlantEvent, channel: &mut C) -> Result<(), Memory>
-        requires { IsSomeAnd self.old.plant (λ plant. Fits (lengths_kept plant.links) event.now) }
+    /// What an event of the script says happens in the plant, and the reactions of these bounds are told. After `Memory` nothing is changed.
+    fn step<C: Channel>(
+        &mut self,
+        event: &PlantEvent,
+        bounds: &[BoundSpec],
+        channel: &mut C,
+    ) -> Result<(), Memory>
+        requires fits { IsSomeAnd self.old.plant (λ plant. Fits (lengths_kept plant.links) event.now) }
+        requires watches { CanHear self.old.plant self.old.reactions.items bounds.now }
         ensures follows { let K = ⟦<KindOf<H> as Application>⟧ in OnOk result (IsSomeAnd self.old.plant (λ old. IsSomeAnd self.new.plant (λ new. Follows (seen K.rule K.holds K.guards old) (Event event.now) (seen K.rule K.holds K.guards new) (C.told channel.old) (C.told channel.new)
-            × (lengths_kept new.links ≡ lengths_kept old.links)))) }
+            × (fixed_in new.links ≡ fixed_in old.links)))) }
+        ensures hears { let K = ⟦<KindOf<H> as Application>⟧ in OnOk result (IsSomeAnd self.new.plant (λ new. HearsLine (seen K.rule K.holds K.guards new) bounds.now (is_tick (step.Script event.now)) self.old.reactions.items self.new.reactions.items)) }
         ensures spare { self.new.spare ≡ self.old.spare }
         ensures kept { OnErr result (self.new ≡ self.old) }
         ensures unused { OnErr result (channel.new ≡ channel.old) }
     {
-        match &mut self.plant {
-            Some(plant) => plant.step(event, channel),
-            None => Err(Memory),
-        }
+        let Owned {
+            plant,
+            reactions,
+            ..
+        } = self;
+        let Some(plant) = plant else {
+            return Err(Memory);
+        };
+        plant.step(event, channel)?;
+        hear(plant, bounds, is_tick(event), reactions);
+        Ok(())
     }
 
-    /// Has the first spare application of this name run in the plant. After an error nothing is changed.
-    fn take(&mut self, name: &[u8]) -> Result<(), Stopped>
-        requires { IsSome self.old.plant }
+    /// Has the first spare application of this name run in the plant, and the reactions of these bounds are told. After an error nothing is
+    /// changed.
+    fn take(&mut self, name: &[u8], bounds: &[BoundSpec]) -> Result<(), Stopped>
+        requires { CanHear self.old.plant self.old.reactions.items bounds.now }
         ensures follows { let K = ⟦<KindOf<H> as Application>⟧ in OnOk result ((entry : EntryOf H) × IsTaken (λ e. string_bytes e.name) name.now self.old.spare.items entry self.new.spare.items
             × IsSomeAnd self.old.plant (λ old. IsSomeAnd self.new.plant (λ new. ((told : Told) → Follows (seen K.rule K.holds K.guards old) (App (app_view K.rule K.holds K.guards (kind.Handed entry.app))) (seen K.rule K.holds K.guards new) told told)
-            × (lengths_kept new.links ≡ lengths_kept old.links)))) }
+            × (fixed_in new.links ≡ fixed_in old.links)))
+            × IsSomeAnd self.new.plant (λ new. HearsLine (seen K.rule K.holds K.guards new) bounds.now false self.old.reactions.items self.new.reactions.items)) }
         ensures none { IfErr result (λ why. (why ≡ stopped.Memory) ⊎ ((why ≡ stopped.NoApp) × (place_of name.now (map (λ e. string_bytes e.name) self.old.spare.items) ≡ None))) }
-        ensures kept { OnErr result ((self.new.plant ≡ self.old.plant) × (self.new.spare.items ≡ self.old.spare.items)) }
+        ensures kept { OnErr result ((self.new.plant ≡ self.old.plant) × (self.new.spare.items ≡ self.old.spare.items) × (self.new.reactions ≡ self.old.reactions)) }
     {
-        let Owned { spare, plant, .. } = self;
-        match plant {
-            Some(plant) => plant.take_spare(name, spare),
-            None => Err(Stopped::Memory),
+        let Owned {
+            spare,
+            plant,
+            reactions,
+            ..
+        } = self;
+        let Some(plant) = plant else {
+            return Err(Stopped::Memory);
+        };
+        match plant.take_spare(name, spare) {
+            Ok(()) => {
+                hear(plant, bounds, false, reactions);
+                Ok(())
+            }
+            Err(why) => Err(why),
         }
     }
 
@@ -177,14 +226,14 @@ impl<'a, 'o, H: Application, C: Channel> Machine for Telling<'a, 'o, H, C> {
 
     ghost stands = { λ first v now h log text. let K = ⟦<KindOf<H> as Application>⟧ in let view = app_view K.rule K.holds K.guards in
         (now.channel.ghost_name ≡ first.channel.ghost_name) × (now.owned.ghost_name ≡ first.owned.ghost_name) × (now.conf ≡ first.conf)
-        × GivenStands K.rule K.holds K.guards (terms_of view first.conf.now first.owned.now.app first.owned.now.spare.items) now.owned.now.plant (map (named view) now.owned.now.spare.items) (C.told first.channel.now) (C.told now.channel.now) v.ticks h log text };
+        × GivenStands K.rule K.holds K.guards (terms_of view first.conf.now first.owned.now.app first.owned.now.spare.items) now.owned.now.plant now.owned.now.reactions.items (map (named view) now.owned.now.spare.items) (C.told first.channel.now) (C.told now.channel.now) v.ticks h log text };
 
-    ghost waits = { λ v now. waiting_in v.next now.conf.now.links now.owned.now.plant };
+    ghost waits = { λ v now. rest_in v.rest now.conf.now now.owned.now.plant now.owned.now.reactions.items };
 
-    ghost parts = { λ v now. lines_left v.next };
+    ghost parts = { λ v now. rest_left v.rest };
 
     ghost closes = { λ first now h log text ended. let K = ⟦<KindOf<H> as Application>⟧ in let view = app_view K.rule K.holds K.guards in
-        GivenCloses K.rule K.holds K.guards (terms_of view first.conf.now first.owned.now.app first.owned.now.spare.items) now.owned.now.plant (map (named view) now.owned.now.spare.items) h log text ended };
+        GivenCloses K.rule K.holds K.guards (terms_of view first.conf.now first.owned.now.app first.owned.now.spare.items) now.owned.now.plant now.owned.now.reactions.items (map (named view) now.owned.now.spare.items) h log text ended };
 
     fn laws() {}
 
@@ -199,7 +248,7 @@ impl<'a, 'o, H: Application, C: Channel> Machine for Telling<'a, 'o, H, C> {
         match given.owned.begin(given.alloc, given.conf, given.channel) {
             Ok(()) => Ok(Telling {
                 ticks: 0,
-                next: 0,
+                rest: Rest::Nothing,
                 of: PhantomData,
             }),
             Err(_) => Err(Memory),
@@ -218,26 +267,27 @@ impl<'a, 'o, H: Application, C: Channel> Machine for Telling<'a, 'o, H, C> {
         text: &mut LineText,
     ) -> Result<(), Stopped> {
         text.clear();
-        self.next = 0;
+        self.rest = Rest::Nothing;
+        let bounds = given.conf.bounds();
         match event {
-            PlantLine::Step(event) => match given.owned.step(event, given.channel) {
+            PlantLine::Step(event) => match given.owned.step(event, bounds, given.channel) {
                 Ok(()) => {
                     if let PlantEvent::Tick = event {
                         self.ticks += 1;
-                        self.next = 1;
+                        self.rest = Rest::Links(1);
                         write_count("tick", self.ticks, text);
                     }
                     Ok(())
                 }
                 Err(_) => Err(Stopped::Memory),
             },
-            PlantLine::App(name) => given.owned.take(name.bytes()),
+            PlantLine::App(name) => given.owned.take(name.bytes(), bounds),
             PlantLine::End => unreachable!(),
         }
     }
 
     fn close(&mut self, given: &PlantRun<'a, 'o, H, C>, _: u64, text: &mut LineText) -> Ended {
-        self.next = 0;
+        self.rest = Rest::Bounds(0);
         let other = given.owned.other();
         write_count("ticks", self.ticks, text);
         push_other(other, text);
@@ -249,9 +299,19 @@ impl<'a, 'o, H: Application, C: Channel> Machine for Telling<'a, 'o, H, C> {
         let Some(plant) = &given.owned.plant else {
             return;
         };
-        if self.next > 0 && self.next <= plant.links() {
-            write_link(plant, self.next, text);
-            self.next += 1;
+        match self.rest {
+            Rest::Links(link) if link > 0 && link <= plant.links() => {
+                write_link(plant, link, text);
+                self.rest = Rest::Links(link + 1);
+            }
+            Rest::Bounds(place) if place < given.conf.bounds().len() => {
+                let bound = given.conf.bounds()[place];
+                let limit = limit_of(given.conf.links(), bound);
+                let broken = given.owned.reactions[place].broken();
+                write_bound(plant, bound, limit, broken, text);
+                self.rest = Rest::Bounds(place + 1);
+            }
+            _ => {}
         }
     }
 }

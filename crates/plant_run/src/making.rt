@@ -2,7 +2,7 @@
 ghost use Rattle.std.specs.Prelude.{◌≡◌, ◌≤◌, [], map, length, vec_len, IfOk};
 ghost use Rattle.multi_master.specs.Standing as multi;
 ghost use Rattle.multi_master.specs.Standing.{app_view};
-ghost use Rattle.plant_run.specs.Making.{master_in, link_made};
+ghost use Rattle.plant_run.specs.Making.{is_named, links_made, master_in};
 ghost use Rattle.plant_run.specs.Standing.{IsPlant};
 
 use crate::ends::Ends;
@@ -11,7 +11,7 @@ use failsafe_io::Application;
 use fsoe_base::{Did, FrameBuf, Memory};
 use multi_master::MultiMaster;
 use param_load::MasterSettings;
-use plant_conf::LinkConf;
+use plant_conf::{BoundSpec, LinkConf};
 use std::alloc::Global;
 
 /// What the masters of these connections are set to, in their order.
@@ -30,16 +30,31 @@ fn masters_set(alloc: Global, confs: &[LinkConf]) -> Result<Vec<MasterSettings>,
     Ok(settings)
 }
 
-/// What is kept of these connections beside their masters, in their order, before anything happened.
-fn links_made(alloc: Global, confs: &[LinkConf]) -> Result<Vec<Link>, Memory>
-    ensures { IfOk result (λ links. links.items ≡ map link_made confs.now) }
+/// Whether one of these bounds names this connection.
+fn is_named(bounds: &[BoundSpec], link: u16) -> bool
+    ensures { result ≡ is_named bounds.now link }
+{
+    for bound in bounds {
+        if bound.estop.link == link || bound.drive.link == link {
+            return true;
+        }
+    }
+    false
+}
+
+/// What is kept of these connections beside their masters, in their order, before anything happened. Ages are told of those that a bound
+/// names.
+fn links_made(alloc: Global, confs: &[LinkConf], bounds: &[BoundSpec]) -> Result<Vec<Link>, Memory>
+    requires { length confs.now ≤ 64 }
+    ensures { IfOk result (λ links. links.items ≡ links_made 1 bounds.now confs.now) }
 {
     let mut links = match Vec::with_capacity(alloc, confs.len()) {
         Ok(links) => links,
         Err(_) => return Err(Memory),
     };
     for i in 0..confs.len() {
-        if links.push(Link::new(confs[i].slave.copy())).is_err() {
+        let aged = is_named(bounds, i as u16 + 1);
+        if links.push(Link::new(&confs[i], aged)).is_err() {
             return Err(Memory);
         }
     }
@@ -82,11 +97,12 @@ fn outs_made(alloc: Global, count: usize) -> Result<Vec<FrameBuf>, Memory>
 pub(crate) fn ends_made<A: Application>(
     alloc: Global,
     confs: &[LinkConf],
+    bounds: &[BoundSpec],
     app: A,
 ) -> Result<Ends<A>, Memory>
     requires { length confs.now ≤ 64 }
     ensures stands { IfOk result (λ ends. multi.StandsFor (map master_in confs.now) (app_view A.rule A.holds A.guards app) (multi.seen A.rule A.holds A.guards ends.master) []) }
-    ensures links { IfOk result (λ ends. ends.links.items ≡ map link_made confs.now) }
+    ensures links { IfOk result (λ ends. ends.links.items ≡ links_made 1 bounds.now confs.now) }
     ensures ready { IfOk result (λ ends. IsPlant ends.master ends.links.items ends.dids.items ends.outs.items 0) }
 {
     let settings = masters_set(alloc, confs)?;
@@ -95,7 +111,7 @@ pub(crate) fn ends_made<A: Application>(
     };
     Ok(Ends {
         master,
-        links: links_made(alloc, confs)?,
+        links: links_made(alloc, confs, bounds)?,
         dids: dids_made(alloc, confs.len())?,
         outs: outs_made(alloc, confs.len())?,
         heard: Did::nothing(),

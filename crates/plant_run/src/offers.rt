@@ -1,10 +1,10 @@
 //! The offers that a cycle changed are noted.
-ghost use Rattle.std.specs.Prelude.{◌≡◌, ◌≤◌, ◌<◌, ◌+◌, ◌*◌, ◌^◌, [], ◌∷◌, ◌++◌, length, vec_len, vec_capacity};
+ghost use Rattle.std.specs.Prelude.{false, ◌≡◌, ◌≤◌, ◌<◌, ◌+◌, ◌*◌, ◌^◌, [], ◌∷◌, ◌++◌, length, vec_len, vec_capacity};
 ghost use Rattle.fsoe_base.specs.Did.{nothing};
 ghost use Rattle.multi_master.specs.Standing as multi;
 ghost use Rattle.plant_run.specs.declared.journal.JournalStep.TheVariants as step;
 ghost use Rattle.plant_run.specs.Doing.{OffersNoted};
-ghost use Rattle.plant_run.specs.Standing.{AreNoted, lengths_kept};
+ghost use Rattle.plant_run.specs.Standing.{AreNoted, fixed_in};
 ghost use Rattle.plant_run.specs.Link.{MasterNoted, NotesOne};
 
 use crate::journal::{JournalStep, note};
@@ -21,7 +21,7 @@ fn note_offer(number: u16, load: &[u8], link: &mut Link, steps: &mut Vec<Journal
     ensures steps { steps.new.items ≡ steps.old.items ++ step.Offer number load.now ∷ [] }
     ensures count { vec_len steps.new ≡ vec_len steps.old + 1 }
     ensures capacity { vec_capacity steps.old ≤ vec_capacity steps.new }
-    ensures noted { MasterNoted link.old [] nothing [] link.new }
+    ensures noted { MasterNoted link.old false [] nothing [] link.new }
     ensures notes { NotesOne link.old link.new }
 {
     let mut offer = Image::new();
@@ -33,7 +33,7 @@ fn note_offer(number: u16, load: &[u8], link: &mut Link, steps: &mut Vec<Journal
             load: offer,
         },
     );
-    link.note_master(&[], &Did::nothing(), &FrameBuf::new());
+    link.note_master(false, &[], &Did::nothing(), &FrameBuf::new());
 }
 
 /// Notes the offers that the last call of the master changed, in the order of the connections.
@@ -47,7 +47,7 @@ pub(crate) fn note_offers<A: Application>(
     requires noted { AreNoted (2 * vec_len steps.old) links.old }
     ensures offers { OffersNoted (multi.seen A.rule A.holds A.guards master.now) links.old links.new steps.old.items steps.new.items }
     ensures noted { AreNoted (2 * vec_len steps.new) links.new }
-    ensures lengths { lengths_kept links.new ≡ lengths_kept links.old }
+    ensures fixed { fixed_in links.new ≡ fixed_in links.old }
     ensures room { vec_len steps.new ≤ vec_len steps.old + length links.old }
     ensures capacity { vec_capacity steps.old ≤ vec_capacity steps.new }
 {

@@ -12,21 +12,22 @@ ghost use Rattle.black_channel.specs.Told.{Told};
 ghost use Rattle.multi_master.specs.Standing.{app_view};
 ghost use Rattle.plant_run.specs.Acts.{Start, uses};
 ghost use Rattle.plant_run.specs.FairPairs.{lengths_in};
-ghost use Rattle.plant_run.specs.Standing.{AllNoted, PlantStands, seen, lengths_kept};
+ghost use Rattle.plant_run.specs.Making.{links_made};
+ghost use Rattle.plant_run.specs.Standing.{AllNoted, PlantStands, seen, fixed_in, lengths_kept};
 ghost use Rattle.plant_run.specs.Uses.{Trace};
 ghost use Rattle.plant_run.specs.declared.journal.JournalStep.{JournalStep};
 
 use crate::ends::{Ends, room_for};
 use crate::event::PlantEvent;
 use crate::journal::{Journal, take_room};
-use crate::link::Link;
+use crate::link::{Link, bit_of};
 use crate::making::ends_made;
 use black_channel::Channel;
 use failsafe_io::{Application, Bit};
 use fb_net::{EntryOf, KindOf, Net};
 use file_run::Stopped;
-use fsoe_base::{Memory, State};
-use plant_conf::PlantConf;
+use fsoe_base::{End, Memory, State};
+use plant_conf::{BoundSpec, PlantConf};
 use plant_setup::take_app;
 use std::alloc::Global;
 use std::marker::Model;
@@ -56,11 +57,14 @@ impl<H: Application> Plant<KindOf<H>> {
     ghost use Rattle.multi_master.specs.Standing.{app_view};
     ghost use Rattle.plant_run.specs.Acts.{Start, uses};
     ghost use Rattle.plant_run.specs.FairPairs.{lengths_in};
-    ghost use Rattle.plant_run.specs.Standing.{seen, lengths_kept, PlantStands};
+    ghost use Rattle.plant_run.specs.Making.{links_made};
+    ghost use Rattle.plant_run.specs.Standing.{seen, fixed_in, lengths_kept, PlantStands};
     ghost use Rattle.plant_run.specs.Uses.{Trace};
 
     /// A plant of this configuration's connections with this application, which has its first cycle, not ticked. All memory is taken
-    /// first, and then the channel begins with the seed. After `Memory` the channel is unchanged, and the application is dropped.
+    /// first, and then the channel begins with the seed. The greatest ages of the outputs are kept of the connections that a bound names.
+    /// After `Memory` the channel is unchanged, and the application is dropped.
+    #[tactic(auto, using(crate::proofs::Made::lengths_made))]
     pub fn new<C: Channel>(
         alloc: Global,
         conf: &PlantConf,
@@ -70,6 +74,7 @@ impl<H: Application> Plant<KindOf<H>> {
         ensures stands { let K = ⟦<KindOf<H> as Application>⟧ in IfOk result (λ plant. PlantStands (record { links = conf.now.links; app = app_view K.rule K.holds K.guards app; seed = conf.now.seed }) (seen K.rule K.holds K.guards plant) []) }
         ensures channel { let K = ⟦<KindOf<H> as Application>⟧ in OnOk result (Trace (uses (record { links = conf.now.links; app = app_view K.rule K.holds K.guards app; seed = conf.now.seed }) (Start ∷ [])) (C.told channel.old) (C.told channel.new)) }
         ensures lengths { IfOk result (λ plant. lengths_kept plant.links ≡ map lengths_in conf.now.links) }
+        ensures aged { IfOk result (λ plant. fixed_in plant.links ≡ fixed_in (links_made 1 conf.now.bounds conf.now.links)) }
         ensures kept { OnErr result (channel.new ≡ channel.old) }
     {
         let mut app = app;
@@ -85,7 +90,7 @@ impl<H: Application> Plant<KindOf<H>> {
     ) -> Result<Plant<KindOf<H>>, Memory>
         ensures stands { let K = ⟦<KindOf<H> as Application>⟧ in IfOk result (λ plant. PlantStands (record { links = conf.now.links; app = app_view K.rule K.holds K.guards app.old; seed = conf.now.seed }) (seen K.rule K.holds K.guards plant) []) }
         ensures channel { let K = ⟦<KindOf<H> as Application>⟧ in OnOk result (Trace (uses (record { links = conf.now.links; app = app_view K.rule K.holds K.guards app.old; seed = conf.now.seed }) (Start ∷ [])) (C.told channel.old) (C.told channel.new)) }
-        ensures lengths { IfOk result (λ plant. lengths_kept plant.links ≡ map lengths_in conf.now.links) }
+        ensures fixed { IfOk result (λ plant. fixed_in plant.links ≡ fixed_in (links_made 1 conf.now.bounds conf.now.links)) }
         ensures same_lengths { OnOk result (All HasSameLengths conf.now.links) }
         ensures kept { OnErr result (channel.new ≡ channel.old) }
         ensures unused { OnErr result (app.new ≡ app.old) }
@@ -116,12 +121,12 @@ fn begin<A: Application, C: Channel>(
 ) -> Result<Plant<A>, Memory>
     ensures stands { IfOk result (λ plant. PlantStands (record { links = conf.now.links; app = app_view A.rule A.holds A.guards app.old; seed = conf.now.seed }) (seen A.rule A.holds A.guards plant) []) }
     ensures channel { OnOk result (Trace (uses (record { links = conf.now.links; app = app_view A.rule A.holds A.guards app.old; seed = conf.now.seed }) (Start ∷ [])) (C.told channel.old) (C.told channel.new)) }
-    ensures lengths { IfOk result (λ plant. lengths_kept plant.links ≡ map lengths_in conf.now.links) }
+    ensures fixed { IfOk result (λ plant. fixed_in plant.links ≡ fixed_in (links_made 1 conf.now.bounds conf.now.links)) }
     ensures same_lengths { OnOk result (All HasSameLengths conf.now.links) }
     ensures kept { OnErr result (channel.new ≡ channel.old) }
     ensures unused { OnErr result (app.new ≡ app.old) }
 {
-    let mut ends = ends_made(alloc, conf.links(), before)?;
+    let mut ends = ends_made(alloc, conf.links(), conf.bounds(), before)?;
     let mut journal = Journal::new(alloc);
     take_room(&mut journal.steps, ends.links.len())?;
     channel.begin(conf.seed());
@@ -130,12 +135,13 @@ fn begin<A: Application, C: Channel>(
 }
 
 impl<A: Application> Plant<A> {
-    ghost use Rattle.std.specs.Prelude.{OnOk, OnErr};
+    ghost use Rattle.std.specs.Prelude.{OnOk, OnErr, option_copied};
     ghost use Rattle.multi_master.specs.Standing.{app_view};
     ghost use Rattle.plant_run.specs.Acts.{Event, App};
     ghost use Rattle.plant_run.specs.Bound.{TellsStill};
     ghost use Rattle.plant_run.specs.ScriptLine.{Fits};
-    ghost use Rattle.plant_run.specs.Standing.{seen, lengths_kept, HasLink, Follows, ShowsPair, TellsOther};
+    ghost use Rattle.plant_run.specs.Standing.{seen, fixed_in, kept_at, lengths_kept, HasLink, Follows, ShowsPair, TellsOther};
+    ghost use Rattle.plant_run.specs.Watching.{IsAged, ShowsOn, ShowsWorst};
 
     /// What an event of the script says happens, one that fits the connections. In a tick the channel brings what it does: at most 64
     /// parcels are pulled, until none comes. All room in the journal is taken first; after `Memory` the plant and the channel are
@@ -143,7 +149,7 @@ impl<A: Application> Plant<A> {
     pub fn step<C: Channel>(&mut self, event: &PlantEvent, channel: &mut C) -> Result<(), Memory>
         requires fits { Fits (lengths_kept self.old.links) event.now }
         ensures follows { let seen = seen A.rule A.holds A.guards in OnOk result (Follows (seen self.old) (Event event.now) (seen self.new) (C.told channel.old) (C.told channel.new)) }
-        ensures lengths { lengths_kept self.new.links ≡ lengths_kept self.old.links }
+        ensures fixed { fixed_in self.new.links ≡ fixed_in self.old.links }
         ensures kept { OnErr result (self.new ≡ self.old) }
         ensures unused { OnErr result (channel.new ≡ channel.old) }
     {
@@ -157,7 +163,7 @@ impl<A: Application> Plant<A> {
     /// dropped, and nothing is changed.
     pub fn change_app(&mut self, app: A) -> Result<(), Memory>
         ensures follows { let seen = seen A.rule A.holds A.guards in OnOk result ((told : Told) → Follows (seen self.old) (App (app_view A.rule A.holds A.guards app)) (seen self.new) told told) }
-        ensures lengths { lengths_kept self.new.links ≡ lengths_kept self.old.links }
+        ensures fixed { fixed_in self.new.links ≡ fixed_in self.old.links }
         ensures kept { OnErr result (self.new ≡ self.old) }
     {
         take_room(&mut self.journal.steps, 1 + self.ends.links.len())?;
@@ -193,6 +199,52 @@ impl<A: Application> Plant<A> {
         ensures { TellsOther (seen A.rule A.holds A.guards self.now) result }
     {
         lowest_other(self.ends.links.as_slice())
+    }
+
+    /// The greatest age of the outputs of an end of this connection, in ticks of that end, after anything that it did: how long before its
+    /// peer sent the data from which the outputs were. A bound of the configuration names the connection, if there is one. None exactly where
+    /// no age was ever told; 2^32 - 1 where it was above that.
+    #[tactic(auto, using(crate::proofs::Watchdogs::worst_shown, crate::proofs::Watchdogs::no_worst))]
+    pub fn worst(&self, link: u16, end: End) -> Option<u32>
+        requires { IsAged self.now.links link }
+        ensures { ShowsWorst (seen A.rule A.holds A.guards self.now) link end result }
+    {
+        match self.link(link) {
+            Some(link) => link.worst(end),
+            None => None,
+        }
+    }
+
+    /// Whether the output bit is 1 at the slave of its connection; it isn't where there is no such connection or no such bit.
+    #[tactic(auto, using(crate::proofs::Watchdogs::on_shown, crate::proofs::Watchdogs::not_on))]
+    pub(crate) fn is_on(&self, out: Bit) -> bool
+        ensures { ShowsOn (seen A.rule A.holds A.guards self.now) out result }
+    {
+        match self.link(out.link) {
+            Some(link) => bit_of(link.outputs(), out.bit),
+            None => false,
+        }
+    }
+
+    /// Whether this bound is still, as `quiet` says; the e-stop of a connection that there isn't is off.
+    pub(crate) fn is_still(&self, bound: BoundSpec) -> bool
+        ensures { TellsStill (seen A.rule A.holds A.guards self.now) bound result }
+    {
+        if bound.estop.link > 0 && bound.estop.link <= self.links() {
+            self.quiet(bound.estop, bound.drive)
+        } else {
+            self.ends.master.guards(bound.drive, bound.estop)
+        }
+    }
+
+    /// What is kept of the connection with this number, if there is one.
+    fn link(&self, link: u16) -> Option<&Link>
+        ensures { option_copied result ≡ kept_at self.now.links link }
+    {
+        if link == 0 {
+            return None;
+        }
+        self.ends.links.get(usize::from(link) - 1)
     }
 
     /// The state of the slave of this connection.
@@ -250,7 +302,7 @@ impl<H: Application> Plant<KindOf<H>> {
     ghost use Rattle.file_run.specs.declared.stopped.Stopped.TheVariants as stopped;
     ghost use Rattle.plant_setup.specs.Names.{place_of, IsTaken};
     ghost use Rattle.plant_run.specs.Acts.{App};
-    ghost use Rattle.plant_run.specs.Standing.{seen, lengths_kept, Follows};
+    ghost use Rattle.plant_run.specs.Standing.{seen, fixed_in, Follows};
 
     /// Has the first spare application of this name run in the place of the one that runs, as `change_app` does. All room is taken first;
     /// after an error nothing is changed: `NoApp` where there is none of this name, or `Memory`.
@@ -262,7 +314,7 @@ impl<H: Application> Plant<KindOf<H>> {
         ensures follows { let K = ⟦<KindOf<H> as Application>⟧ in let seen = seen K.rule K.holds K.guards in
             OnOk result ((entry : EntryOf H) × IsTaken (λ e. string_bytes e.name) name.now spare.old.items entry spare.new.items
             × ((told : Told) → Follows (seen self.old) (App (app_view K.rule K.holds K.guards (kind.Handed entry.app))) (seen self.new) told told)) }
-        ensures lengths { lengths_kept self.new.links ≡ lengths_kept self.old.links }
+        ensures fixed { fixed_in self.new.links ≡ fixed_in self.old.links }
         ensures none { IfErr result (λ why. (why ≡ stopped.Memory) ⊎ ((why ≡ stopped.NoApp) × (place_of name.now (map (λ e. string_bytes e.name) spare.old.items) ≡ None))) }
         ensures kept { OnErr result (self.new ≡ self.old) }
         ensures unused { OnErr result (spare.new.items ≡ spare.old.items) }

@@ -2,7 +2,7 @@
 ghost use Rattle.std.specs.Prelude.{◌≡◌, ◌≤◌, ◌<◌, ◌+◌, ◌-◌, ◌^◌, ℕ, [], length};
 ghost use Rattle.param_load.specs.declared.entry.Move.TheVariants as event;
 ghost use Rattle.plant_run.specs.Doing.{place_of, sent_uses, SlaveActs, MasterActs, SlavesTick, MastersNoted};
-ghost use Rattle.plant_run.specs.Standing.{AreNoted, lengths_kept};
+ghost use Rattle.plant_run.specs.Standing.{AreNoted, fixed_in};
 ghost use Rattle.plant_run.specs.Link.{NotesOne};
 ghost use Rattle.plant_run.specs.Uses.{Trace};
 
@@ -77,21 +77,22 @@ pub(crate) fn reset_slave<C: Channel>(number: u16, link: &mut Link, channel: &mu
     push_sent(channel, number, End::Master, &out, link.is_cut());
 }
 
-/// Notes what the master of this connection did, by the bytes that came, and pushes its frame.
+/// Notes what the master of this connection did, by whether it was in a tick and by the bytes that came, and pushes its frame.
 #[tactic(auto, using(crate::proofs::Acting::master_acts))]
 pub(crate) fn master_acted<C: Channel>(
     number: u16,
     link: &mut Link,
+    tick: bool,
     came: &[u8],
     did: &Did,
     sent: &FrameBuf,
     channel: &mut C,
 )
     requires few { link.old.monitor.noted + 1 < 2 ^ 64 }
-    ensures acts { MasterActs number came.now did.now sent.now link.old link.new (C.told channel.old) (C.told channel.new) }
+    ensures acts { MasterActs number tick came.now did.now sent.now link.old link.new (C.told channel.old) (C.told channel.new) }
     ensures notes { NotesOne link.old link.new }
 {
-    link.note_master(came, did, sent);
+    link.note_master(tick, came, did, sent);
     push_sent(channel, number, End::Slave, sent, link.is_cut());
 }
 
@@ -101,7 +102,7 @@ pub(crate) fn tick_slaves<C: Channel>(links: &mut [Link], channel: &mut C)
     requires few { AreNoted (2 ^ 64 - 2) links.old }
     ensures tick { SlavesTick links.old links.new (C.told channel.old) (C.told channel.new) }
     ensures noted { (most : ℕ) → AreNoted most links.old → AreNoted (most + 1) links.new }
-    ensures lengths { lengths_kept links.new ≡ lengths_kept links.old }
+    ensures fixed { fixed_in links.new ≡ fixed_in links.old }
 {
     let mut did = Did::nothing();
     let mut out = FrameBuf::new();
@@ -123,12 +124,13 @@ pub(crate) fn masters_ticked<C: Channel>(
     requires outs { length outs.now ≡ length links.old }
     ensures noted_are { MastersNoted dids.now outs.now links.old links.new (C.told channel.old) (C.told channel.new) }
     ensures noted { (most : ℕ) → AreNoted most links.old → AreNoted (most + 1) links.new }
-    ensures lengths { lengths_kept links.new ≡ lengths_kept links.old }
+    ensures fixed { fixed_in links.new ≡ fixed_in links.old }
 {
     for i in 0..links.len() {
         master_acted(
             i as u16 + 1,
             &mut links[i],
+            true,
             &[],
             &dids[i],
             &outs[i],

@@ -57,9 +57,15 @@ fn run_owned<H: Application, C: Channel, S: Source, K: Sink>(
 
 /// Runs a plant of this configuration's connections over its script: reads its first line, begins the plant, and then does an event a line up
 /// to `end`, at most 2,000. After each tick it writes `tick <n>` and a line `<k> <state> <outputs> <state> <outputs>` for each connection, its
-/// master first, and at the end `ticks <n>` and `other none`, or `other <k>` with the lowest connection that has an other entry. Where a line
-/// is refused, it writes `refused <line> <cause>`: with `NoApp` where no spare application of the name that it takes is left. What waits for
-/// output is sent before a read that may block, and when the run ends.
+/// master first, and at the end `ticks <n>` and `other none`, or `other <k>` with the lowest connection that has an other entry, and a line for
+/// each bound of the configuration: `bound <estop> <drive> <limit> worst <master> <slave> kept`, or `broken <tick>` in place of `kept`. Where a
+/// line is refused, it writes `refused <line> <cause>`: with `NoApp` where no spare application of the name that it takes is left. What waits
+/// for output is sent before a read that may block, and when the run ends.
+///
+/// The line of a bound has its limit in ticks, twice the watchdogs of both its connections; the greatest age of the outputs of the e-stop's
+/// master and that of the drive's slave, `-` where there was none; and the first tick after which the drive was on though at least the limit
+/// of ticks, itself counted, came since the bound was still, without a break. A
+/// bound of a connection that there isn't has the limit 0, and is never broken by a drive that there isn't.
 ///
 /// The status is `Ok` with place 0; `Other` with the lowest connection that has an other entry; `Line` with the number of the refused line;
 /// `Read` with the whole lines read, only where the source failed; `Write` with the bytes written, only where the sink failed; or `Memory`
@@ -85,6 +91,7 @@ pub fn run_plant<H: Application, C: Channel, S: Source, K: Sink>(
         app,
         spare,
         plant: None,
+        reactions: Vec::new(alloc),
     };
     let ended = run_owned(alloc, conf, channel, &mut owned, source, sink);
     let Owned { plant, .. } = owned;

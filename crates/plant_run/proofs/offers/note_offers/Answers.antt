@@ -2,7 +2,7 @@ use Rattle.std.proofs.Common.{◌≡◌, ◌≤◌, ◌+◌, ◌-◌, ◌*◌, �
 use Rattle.std.proofs.lemmas.Option.{slice_get-get_or}
 use Rattle.plant_run.specs.Link.{LinkView}
 use Rattle.multi_master.specs.Standing.{IsNumber}
-use Rattle.plant_run.proofs.Acting.{all_at, noted_set, noted_less, lengths_set}
+use Rattle.plant_run.proofs.Acting.{all_at, noted_set, noted_less, fixed_set}
 use Rattle.plant_run.proofs.Offering.{offers_next}
 use Rattle.plant_run.proofs.offers.note_offers.Goals as goal
 
@@ -26,7 +26,7 @@ loop-i-preserved g c =
       noted = noted_set (2 * vec_len c.note_offer.new.steps) place c.loop-i.links new
           (noted_less (2 * vec_len c.loop-i.steps) (2 * vec_len c.note_offer.new.steps) c.loop-i.links (omega (arith, c.note_offer.ensures.count)) c.loop-i.invariant.noted)
           (omega (arith, c.note_offer.ensures.count, c.note_offer.ensures.notes.noted));
-      lengths = lengths_set c.loop-i.links place v new at c.note_offer.ensures.notes.settings ∙ c.loop-i.invariant.lengths;
+      fixed = fixed_set c.loop-i.links place v new at c.note_offer.ensures.notes.fixed ∙ c.loop-i.invariant.fixed;
       len = omega (arith, c.note_offer.ensures.count, c.loop-i.invariant.len);
       capacity = omega (arith, c.note_offer.ensures.capacity, c.loop-i.invariant.capacity);
     }

@@ -1,16 +1,15 @@
-use Rattle.std.proofs.Common.{map, ap, ◌∙◌}
-use Rattle.plant_run.specs.FairPairs.{lengths_in}
-use Rattle.plant_run.specs.Making.{link_made}
+use Rattle.std.proofs.Common.{map, ap, ap₂, ◌∙◌}
+use Rattle.plant_run.specs.Making.{links_made}
 use Rattle.multi_master.specs.Standing as multi
 use Rattle.multi_master.specs.Standing.{app_view}
-use Rattle.plant_run.specs.Standing.{lengths_kept}
-use Rattle.plant_run.proofs.Pulling.{starts, start_uses, made_lengths}
+use Rattle.plant_run.specs.Standing.{fixed_in}
+use Rattle.plant_run.proofs.Pulling.{starts, start_uses}
 use Rattle.plant_run.proofs.plant.begin.Goals as goal
 
 pub returns-clause-stands : goal.returns-clause-stands
 returns-clause-stands g c =
     let A = g.A.Application in
-    let links = c.in_ok-ends.ensures.links ∙ ap (map link_made) c.links.ensures.value in
+    let links = c.in_ok-ends.ensures.links ∙ ap₂ (links_made 1) c.bounds.ensures.value c.links.ensures.value in
     let stands = rw c.links.ensures.value at c.in_ok-ends.ensures.stands in
     let steps = c.in_ok-take_room.ensures.steps ∙ c.journal.view_is ∙ c.new-journal.ensures in
     let offers = rw (links, steps) at c.start.ensures.offers in
@@ -20,6 +19,7 @@ returns-clause-stands g c =
       old = multi.seen A.rule A.holds A.guards c.in_ok-ends.ends.master;
       other = app_view A.rule A.holds A.guards c.args.before;
       stands = stands;
+      bounds = c.args.conf.now.bounds;
       follows = c.start.ensures.follows;
       offers = offers;
       cycles = c.start.ensures.cycles;
@@ -30,7 +30,7 @@ returns-clause-stands g c =
 pub returns-clause-channel : goal.returns-clause-channel
 returns-clause-channel g c =
     let A = g.A.Application in
-    let links = c.in_ok-ends.ensures.links ∙ ap (map link_made) c.links.ensures.value in
+    let links = c.in_ok-ends.ensures.links ∙ ap₂ (links_made 1) c.bounds.ensures.value c.links.ensures.value in
     let stands = rw c.links.ensures.value at c.in_ok-ends.ensures.stands in
     let steps = c.in_ok-take_room.ensures.steps ∙ c.journal.view_is ∙ c.new-journal.ensures in
     let offers = rw (links, steps) at c.start.ensures.offers in
@@ -42,6 +42,7 @@ returns-clause-channel g c =
       old = multi.seen A.rule A.holds A.guards c.in_ok-ends.ends.master;
       other = app_view A.rule A.holds A.guards c.args.before;
       stands = stands;
+      bounds = c.args.conf.now.bounds;
       follows = c.start.ensures.follows;
       offers = offers;
       cycles = c.start.ensures.cycles;
@@ -49,6 +50,6 @@ returns-clause-channel g c =
       begins = begins;
     }))
 
-pub returns-clause-lengths : goal.returns-clause-lengths
-returns-clause-lengths g c =
-    c.start.ensures.lengths ∙ ap lengths_kept c.in_ok-ends.ensures.links ∙ made_lengths c.links.result.now ∙ ap (map lengths_in) c.links.ensures.value
+pub returns-clause-fixed : goal.returns-clause-fixed
+returns-clause-fixed g c =
+    c.start.ensures.fixed ∙ ap fixed_in (c.in_ok-ends.ensures.links ∙ ap₂ (links_made 1) c.bounds.ensures.value c.links.ensures.value)

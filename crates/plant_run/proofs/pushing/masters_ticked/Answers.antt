@@ -2,14 +2,14 @@ use Rattle.std.proofs.Common.{◌≡◌, ◌+◌, ◌-◌, ◌^◌, ℕ, suc, So
 use Rattle.std.proofs.lemmas.Option.{slice_get_read, slice_get-get_or}
 use Rattle.fsoe_base.specs.declared.command.End.TheVariants as side
 use Rattle.plant_run.specs.Link.{LinkView}
-use Rattle.plant_run.proofs.Acting.{master_one, acted_none, acted_more, acted_all, noted_none, noted_more, noted_all, lengths_set}
+use Rattle.plant_run.proofs.Acting.{master_one, acted_none, acted_more, acted_all, noted_none, noted_more, noted_all, fixed_set}
 use Rattle.plant_run.proofs.pushing.masters_ticked.Goals as goal
 
 pub loop-i-init : goal.loop-i-init
 loop-i-init g c = record {
   acted = λ links cut done next parts h. acted_none side.Slave links cut done next c.args.links.now _ h;
   noted = λ most h. noted_none most c.args.links.now h;
-  lengths = refl;
+  fixed = refl;
 }
 
 pub master_acted-requires : goal.master_acted-requires
@@ -34,7 +34,7 @@ loop-i-preserved g c =
           acted_more i (i + 1) side.Slave links cut done next c.loop-i.links v new _ _ _ (c.loop-i.invariant.acted links cut done next parts h) at one
           (λ link is stands. master_one i (i + 1) links done next c.args.dids.now c.args.outs.now link _ _ v new _ _ one parts is did_at out_at c.master_acted.ensures.acts stands) c.master_acted.ensures.notes.cut;
       noted = λ most h. noted_more i (i + 1) most c.loop-i.links v new (c.loop-i.invariant.noted most h) at refl c.master_acted.ensures.notes.noted;
-      lengths = lengths_set c.loop-i.links i v new at c.master_acted.ensures.notes.settings ∙ c.loop-i.invariant.lengths;
+      fixed = fixed_set c.loop-i.links i v new at c.master_acted.ensures.notes.fixed ∙ c.loop-i.invariant.fixed;
     }
 
 pub returns-clause-noted_are : goal.returns-clause-noted_are

@@ -4,14 +4,14 @@ use Rattle.fsoe_base.specs.declared.command.End.TheVariants as side
 use Rattle.param_load.specs.declared.entry.Move.TheVariants as move
 use Rattle.plant_run.specs.Link.{LinkView}
 use Rattle.plant_run.specs.Doing.{next_of}
-use Rattle.plant_run.proofs.Acting.{acted_none, acted_more, acted_all, noted_none, noted_more, noted_all, lengths_set}
+use Rattle.plant_run.proofs.Acting.{acted_none, acted_more, acted_all, noted_none, noted_more, noted_all, fixed_set}
 use Rattle.plant_run.proofs.pushing.tick_slaves.Goals as goal
 
 pub loop-i-init : goal.loop-i-init
 loop-i-init g c = record {
   acted = λ links cut done h. acted_none side.Master links cut done (λ k link. next_of side.Slave move.Tick link (done k link)) c.args.links.now _ h;
   noted = λ most h. noted_none most c.args.links.now h;
-  lengths = refl;
+  fixed = refl;
 }
 
 pub tick_slave-requires : goal.tick_slave-requires
@@ -34,7 +34,7 @@ loop-i-preserved g c =
           acted_more i (i + 1) side.Master links cut done (λ k link. next_of side.Slave move.Tick link (done k link)) c.loop-i.links v new _ _ _ (c.loop-i.invariant.acted links cut done h) at one
           (λ link is stands. let a = c.tick_slave.ensures.acts.acts link (done (i + 1) link) stands in record { stands = a.stands; channel = a.channel }) c.tick_slave.ensures.notes.cut;
       noted = λ most h. noted_more i (i + 1) most c.loop-i.links v new (c.loop-i.invariant.noted most h) at refl c.tick_slave.ensures.notes.noted;
-      lengths = lengths_set c.loop-i.links i v new at c.tick_slave.ensures.notes.settings ∙ c.loop-i.invariant.lengths;
+      fixed = fixed_set c.loop-i.links i v new at c.tick_slave.ensures.notes.fixed ∙ c.loop-i.invariant.fixed;
     }
 
 pub returns-clause-tick : goal.returns-clause-tick

@@ -4,7 +4,7 @@ use Rattle.param_load.specs.declared.entry.Entry.{Entry}
 use Rattle.param_load.specs.declared.entry.Move.TheVariants as move
 use Rattle.plant_conf.specs.declared.conf.LinkConf.{LinkConf}
 use Rattle.plant_run.specs.Doing.{next_of, ActedTo}
-use Rattle.plant_run.specs.Standing.{AreNoted, LinksAre, lengths_kept}
+use Rattle.plant_run.specs.Standing.{AreNoted, LinksAre, fixed_in}
 use Rattle.plant_run.proofs.Acting.{NotedTo}
 use Rattle.plant_run.proofs.pushing.tick_slaves.Given as goal
 
@@ -13,5 +13,5 @@ invariant-loop-i g l = record {
   acted : (links : List LinkConf) (cut : ℕ → Bool) (done : ℕ → LinkConf → List Entry) → LinksAre links cut done l.initial.links
       → ActedTo l.i side.Master links cut done (λ k link. next_of side.Slave move.Tick link (done k link)) l.links (g.C.Channel.told l.initial.channel) (g.C.Channel.told l.channel);
   noted : (most : ℕ) → AreNoted most l.initial.links → NotedTo l.i most l.links;
-  lengths : lengths_kept l.links ≡ lengths_kept l.initial.links;
+  fixed : fixed_in l.links ≡ fixed_in l.initial.links;
 }

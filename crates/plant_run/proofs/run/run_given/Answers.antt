@@ -12,6 +12,6 @@ returns-clause-owned_stays g c = left_so _ _ _ _ _ _ _ c.run_over.ensures.leaves
 
 pub returns-clause-ran : goal.returns-clause-ran
 returns-clause-ran g c =
-    ran_plant _ c.run_over.result _ _ _ _ _ _ _ c.run_over.ensures.ran c.run_over.ensures.leaves
-    (λ same. (ap (λ given. g.C.Channel.told given.channel.now) same, ap (λ given. journal_in given.owned.now.plant) same ∙ ap journal_in c.requires.fresh)) (λ h log text stands. stood _ _ _ _ _ _ _ _ _ h log text stands.1.3)
-    (λ h log text ended closes. reported _ _ _ _ _ _ h log text ended closes)
+    ran_plant _ c.run_over.result _ _ _ _ _ _ _ _ c.run_over.ensures.ran c.run_over.ensures.leaves
+    (λ same. (ap (λ given. g.C.Channel.told given.channel.now) same, ap (λ given. journal_in given.owned.now.plant) same ∙ ap journal_in c.requires.fresh)) (λ h log text stands. stood _ _ _ _ _ _ _ _ _ _ h log text stands.1.3)
+    (λ turns journal_is watched h log text ended closes. reported _ _ _ _ _ _ _ h log text ended turns journal_is watched closes)

@@ -1,6 +1,6 @@
 use Rattle.std.proofs.Common.{◌-◌, refl, ap}
-use Rattle.slave_core.specs.SlaveView.{SlaveView}
-use Rattle.plant_run.proofs.Acting.{placed, lengths_set}
+use Rattle.plant_run.specs.Link.{fixed_of}
+use Rattle.plant_run.proofs.Acting.{placed, fixed_set}
 use Rattle.plant_run.proofs.OneDeed.{cut_event}
 use Rattle.plant_run.proofs.ends.Ends.cut.Goals as goal
 
@@ -14,16 +14,14 @@ returns-clause-goes g c =
       was = c.index_mut.result.now;
       is = c.set_cut.new.self;
       at = p.at;
-      slave = c.set_cut.ensures.slave;
-      monitor = c.set_cut.ensures.monitor;
-      cut_is = c.set_cut.ensures.cut;
+      cut_is = c.set_cut.ensures;
       master = refl;
       links = refl;
       journal = c.note.ensures.noted;
     })
 
-pub returns-clause-lengths : goal.returns-clause-lengths
-returns-clause-lengths g c =
+pub returns-clause-fixed : goal.returns-clause-fixed
+returns-clause-fixed g c =
     let links = c.args.self.now.links in
     let p = placed links.items links.len c.args.link c.from.result c.index_mut.result.now links.ok.0 c.from.ensures c.requires.first c.requires.last c.index_mut.ensures.value in
-    lengths_set links.items (c.from.result - 1) c.index_mut.result.now c.set_cut.new.self p.at (ap (λ (s : SlaveView). s.kit.settings) c.set_cut.ensures.slave)
+    fixed_set links.items (c.from.result - 1) c.index_mut.result.now c.set_cut.new.self p.at (ap fixed_of c.set_cut.ensures)

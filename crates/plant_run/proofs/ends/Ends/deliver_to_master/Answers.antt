@@ -1,8 +1,8 @@
 use Rattle.std.proofs.Common.{◌≡◌, ◌≤◌, ◌-◌, ◌*◌, ℕ, List, length, vec_len, slice_set, refl, sym, ap, ◌∙◌, arith}
 use Rattle.plant_run.specs.Link.{LinkView}
-use Rattle.plant_run.specs.Standing.{lengths_kept}
+use Rattle.plant_run.specs.Standing.{fixed_in}
 use Rattle.multi_master.proofs.Keeping.{written_back}
-use Rattle.plant_run.proofs.Acting.{all_at, placed, same_count, still_plant, noted_set, noted_less, lengths_set}
+use Rattle.plant_run.proofs.Acting.{all_at, placed, same_count, still_plant, noted_set, noted_less, fixed_set}
 use Rattle.plant_run.proofs.Cycling.{frame_goes}
 use Rattle.plant_run.proofs.ends.Ends.deliver_to_master.Goals as goal
 
@@ -13,7 +13,7 @@ returns-clause-delivers g c =
     let place : ℕ = c.from.result - 1 in
     let was : LinkView = c.index_mut-kept.result.now in
     let is : LinkView = c.master_acted.new.link in
-    let lengths = c.note_offers.ensures.lengths ∙ ap lengths_kept c.as_mut_slice.ensures.value in
+    let lengths = c.note_offers.ensures.fixed ∙ ap fixed_in c.as_mut_slice.ensures.value in
     let count : length some ≡ length links.items = same_count some links.items lengths in
     let back = written_back some links.items links.len links.ok.0 count in
     let p = placed some links.len c.args.link c.from.result was (links.ok.0 ∙ sym count) c.from.ensures c.requires.first c.requires.last (rw back at c.index_mut-kept.ensures.value) in
@@ -49,7 +49,7 @@ returns-clause-ready g c =
     let place : ℕ = c.from.result - 1 in
     let was : LinkView = c.index_mut-kept.result.now in
     let is : LinkView = c.master_acted.new.link in
-    let lengths = c.note_offers.ensures.lengths ∙ ap lengths_kept c.as_mut_slice.ensures.value in
+    let lengths = c.note_offers.ensures.fixed ∙ ap fixed_in c.as_mut_slice.ensures.value in
     let count : length some ≡ length links.items = same_count some links.items lengths in
     let back = written_back some links.items links.len links.ok.0 count in
     let p = placed some links.len c.args.link c.from.result was (links.ok.0 ∙ sym count) c.from.ensures c.requires.first c.requires.last (rw back at c.index_mut-kept.ensures.value) in
@@ -58,20 +58,20 @@ returns-clause-ready g c =
     let counted = c.note_pulled.ensures.count in
     let had = all_at (λ (z : LinkView). z.monitor.noted ≤ 2 * before) some place was c.note_offers.ensures.noted p.at in
     let one = c.master_acted.ensures.notes.noted in
-    let same = same_count (slice_set some place is) links.items (lengths_set some place was is p.at c.master_acted.ensures.notes.settings ∙ lengths) in
+    let same = same_count (slice_set some place is) links.items (fixed_set some place was is p.at c.master_acted.ensures.notes.fixed ∙ lengths) in
     rw back (still_plant c.args.self.now.master c.deliver_into.new.self links.items (slice_set some place is) c.args.self.now.dids.items c.args.self.now.dids.items c.args.self.now.outs.items c.args.self.now.outs.items
     (vec_len c.args.steps.now) after c.requires.ready c.deliver_into.ensures.links same refl refl
     (noted_set (2 * after) place some is (noted_less (2 * before) (2 * after) some (omega arith) c.note_offers.ensures.noted) (omega arith)))
 
-pub returns-clause-lengths : goal.returns-clause-lengths
-returns-clause-lengths g c =
+pub returns-clause-fixed : goal.returns-clause-fixed
+returns-clause-fixed g c =
     let links = c.args.self.now.links in
     let some : List LinkView = c.note_offers.new.links in
     let place : ℕ = c.from.result - 1 in
     let was : LinkView = c.index_mut-kept.result.now in
     let is : LinkView = c.master_acted.new.link in
-    let lengths = c.note_offers.ensures.lengths ∙ ap lengths_kept c.as_mut_slice.ensures.value in
+    let lengths = c.note_offers.ensures.fixed ∙ ap fixed_in c.as_mut_slice.ensures.value in
     let count : length some ≡ length links.items = same_count some links.items lengths in
     let back = written_back some links.items links.len links.ok.0 count in
     let p = placed some links.len c.args.link c.from.result was (links.ok.0 ∙ sym count) c.from.ensures c.requires.first c.requires.last (rw back at c.index_mut-kept.ensures.value) in
-    rw back (lengths_set some place was is p.at c.master_acted.ensures.notes.settings ∙ lengths)
+    rw back (fixed_set some place was is p.at c.master_acted.ensures.notes.fixed ∙ lengths)

@@ -1,5 +1,5 @@
 use Rattle.std.proofs.Common.{◌-◌, refl}
-use Rattle.plant_run.proofs.Acting.{placed, lengths_set}
+use Rattle.plant_run.proofs.Acting.{placed, fixed_set}
 use Rattle.plant_run.proofs.OneDeed.{slave_delivered}
 use Rattle.plant_run.proofs.ends.Ends.deliver_to_slave.Goals as goal
 
@@ -21,8 +21,8 @@ returns-clause-delivers g c =
       journal = c.note_pulled.ensures.noted;
     })
 
-pub returns-clause-lengths : goal.returns-clause-lengths
-returns-clause-lengths g c =
+pub returns-clause-fixed : goal.returns-clause-fixed
+returns-clause-fixed g c =
     let links = c.args.self.now.links in
     let p = placed links.items links.len c.args.link c.from.result c.index_mut-kept.result.now links.ok.0 c.from.ensures c.requires.first c.requires.last c.index_mut-kept.ensures.value in
-    lengths_set links.items (c.from.result - 1) c.index_mut-kept.result.now c.deliver_to_slave.new.link p.at c.deliver_to_slave.ensures.notes.settings
+    fixed_set links.items (c.from.result - 1) c.index_mut-kept.result.now c.deliver_to_slave.new.link p.at c.deliver_to_slave.ensures.notes.fixed

@@ -1,7 +1,7 @@
 use Rattle.std.proofs.Common.{◌-◌, refl}
 use Rattle.param_load.specs.declared.entry.Move.TheVariants as move
 use Rattle.plant_run.specs.declared.event.PlantEvent.TheVariants as event
-use Rattle.plant_run.proofs.Acting.{placed, lengths_set}
+use Rattle.plant_run.proofs.Acting.{placed, fixed_set}
 use Rattle.plant_run.proofs.OneDeed.{slave_event, hold_acts}
 use Rattle.plant_run.proofs.ends.Ends.hold.Goals as goal
 
@@ -15,15 +15,15 @@ returns-clause-goes g c =
       was = c.index_mut.result.now;
       is = c.hold.new.self;
       at = p.at;
-      acts = hold_acts c.args.link c.args.failsafe _ _ told (λ link w h. (c.hold.ensures.goes.goes link.slave w h).stands);
+      acts = hold_acts c.args.link c.args.failsafe _ _ told (λ link w h. (c.hold.ensures.goes.goes link w h).stands);
       cut = c.hold.ensures.notes.cut;
       master = refl;
       links = refl;
       journal = c.note.ensures.noted;
     })
 
-pub returns-clause-lengths : goal.returns-clause-lengths
-returns-clause-lengths g c =
+pub returns-clause-fixed : goal.returns-clause-fixed
+returns-clause-fixed g c =
     let links = c.args.self.now.links in
     let p = placed links.items links.len c.args.link c.from.result c.index_mut.result.now links.ok.0 c.from.ensures c.requires.first c.requires.last c.index_mut.ensures.value in
-    lengths_set links.items (c.from.result - 1) c.index_mut.result.now c.hold.new.self p.at c.hold.ensures.notes.settings
+    fixed_set links.items (c.from.result - 1) c.index_mut.result.now c.hold.new.self p.at c.hold.ensures.notes.fixed

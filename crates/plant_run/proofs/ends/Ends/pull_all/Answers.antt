@@ -5,7 +5,7 @@ use Rattle.plant_run.proofs.Pulling.{none_gone, one_pulled, pulled_until, pull_r
 use Rattle.plant_run.proofs.ends.Ends.pull_all.Goals as goal
 
 pub loop-init : goal.loop-init
-loop-init g c = record { ready = c.requires.ready; lengths = refl; room = c.requires.room; gone = ([], refl, none_gone _ _) }
+loop-init g c = record { ready = c.requires.ready; fixed = refl; room = c.requires.room; gone = ([], refl, none_gone _ _) }
 
 pub returns-in_default-clause-pulls : goal.returns-in_default-clause-pulls
 returns-in_default-clause-pulls g c =
@@ -20,11 +20,11 @@ loop-preserved g c =
     let parcel : Parcel = record { to = c.in-Some.to; frame = c.pull.new.out } in
     let old = c.loop.self.links in
     let new = c.deliver.new.self.links in
-    let count : length new.items ≡ length old.items = same_count new.items old.items c.deliver.ensures.lengths in
+    let count : length new.items ≡ length old.items = same_count new.items old.items c.deliver.ensures.fixed in
     let same : vec_len new ≡ vec_len old = new.ok.0 ∙ count ∙ sym old.ok.0 in
     record {
       ready = c.deliver.ensures.ready;
-      lengths = c.deliver.ensures.lengths ∙ c.loop.invariant.lengths;
+      fixed = c.deliver.ensures.fixed ∙ c.loop.invariant.fixed;
       room = pull_room c.loop.counter (vec_len c.loop.steps) (vec_len c.deliver.new.steps) (vec_capacity c.loop.steps) (vec_capacity c.deliver.new.steps) (vec_len old) (vec_len new) c.loop-test.true c.loop.invariant.room c.deliver.ensures.few c.deliver.ensures.capacity same;
       gone = (parcel ∷ gone.0, pull_count c.loop.counter parcel gone.0 gone.1, one_pulled _ _ _ gone.0 parcel _ _ _ _ gone.2 pulls c.deliver.ensures.delivers);
     }

@@ -1,7 +1,7 @@
 use Rattle.std.proofs.Common.{◌≡◌, ◌≤◌, ◌+◌, ◌-◌, ◌*◌, List, length, vec_len, vec_capacity}
 use Rattle.black_channel.specs.declared.channel.Parcel.{Parcel}
 use Rattle.plant_run.specs.Doing.{GoesOn, sees}
-use Rattle.plant_run.specs.Standing.{IsPlant, lengths_kept}
+use Rattle.plant_run.specs.Standing.{IsPlant, fixed_in}
 use Rattle.plant_run.proofs.Pulling.{gave}
 use Rattle.plant_run.proofs.ends.Ends.pull_all.Given as goal
 
@@ -10,7 +10,7 @@ invariant-loop g l =
     let seen = sees g.A.Application.rule g.A.Application.holds g.A.Application.guards in
     record {
       ready : IsPlant l.self.master l.self.links.items l.self.dids.items l.self.outs.items (vec_len l.steps);
-      lengths : lengths_kept l.self.links.items ≡ lengths_kept l.initial.self.links.items;
+      fixed : fixed_in l.self.links.items ≡ fixed_in l.initial.self.links.items;
       room : vec_len l.steps + (64 - l.counter) * (vec_len l.self.links + 1) ≤ vec_capacity l.steps;
       gone : (pulled : List Parcel) × (length pulled ≡ l.counter)
           × GoesOn (seen l.initial.self.master l.initial.self.links.items l.initial.steps.items) (gave pulled) (seen l.self.master l.self.links.items l.steps.items) (g.C.Channel.told l.initial.channel) (g.C.Channel.told l.channel);

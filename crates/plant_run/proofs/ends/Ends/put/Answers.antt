@@ -2,7 +2,7 @@ use Rattle.std.proofs.Common.{◌-◌, [], ◌∷◌, ◌++◌, ℕ, List, lengt
 use Rattle.param_load.specs.declared.entry.Move.TheVariants as move
 use Rattle.plant_run.specs.declared.event.PlantEvent.TheVariants as event
 use Rattle.plant_run.specs.declared.journal.JournalStep.TheVariants as step
-use Rattle.plant_run.proofs.Acting.{placed, kept_fits, lengths_set}
+use Rattle.plant_run.proofs.Acting.{placed, kept_fits, fixed_set}
 use Rattle.plant_run.proofs.OneDeed.{slave_event, put_acts}
 use Rattle.plant_run.proofs.ends.Ends.put.Goals as goal
 
@@ -17,18 +17,18 @@ returns-clause-goes g c =
       was = c.index_mut.result.now;
       is = c.put.new.self;
       at = p.at;
-      acts = put_acts c.args.link c.args.load.now _ _ told (λ link w h. (goes.goes link.slave w h).stands);
+      acts = put_acts c.args.link c.args.load.now _ _ told (λ link w h. (goes.goes link w h).stands);
       cut = c.put.ensures.notes.cut;
       master = refl;
       links = refl;
       journal = c.note.ensures.noted ∙ ap (λ (l : List ℕ). c.args.steps.now.items ++ step.Script (event.Put c.args.link l) ∷ []) c.copy.ensures;
     })
 
-pub returns-clause-lengths : goal.returns-clause-lengths
-returns-clause-lengths g c =
+pub returns-clause-fixed : goal.returns-clause-fixed
+returns-clause-fixed g c =
     let links = c.args.self.now.links in
     let p = placed links.items links.len c.args.link c.from.result c.index_mut.result.now links.ok.0 c.from.ensures c.requires.first c.requires.last c.index_mut.ensures.value in
-    lengths_set links.items (c.from.result - 1) c.index_mut.result.now c.put.new.self p.at c.put.ensures.notes.settings
+    fixed_set links.items (c.from.result - 1) c.index_mut.result.now c.put.new.self p.at c.put.ensures.notes.fixed
 
 pub put-requires-clause-fits : goal.put-requires-clause-fits
 put-requires-clause-fits g c =

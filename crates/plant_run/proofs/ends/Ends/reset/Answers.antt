@@ -1,7 +1,7 @@
 use Rattle.std.proofs.Common.{◌-◌, refl}
 use Rattle.param_load.specs.declared.entry.Move.TheVariants as move
 use Rattle.plant_run.specs.declared.event.PlantEvent.TheVariants as event
-use Rattle.plant_run.proofs.Acting.{placed, lengths_set}
+use Rattle.plant_run.proofs.Acting.{placed, fixed_set}
 use Rattle.plant_run.proofs.OneDeed.{slave_event}
 use Rattle.plant_run.proofs.ends.Ends.reset.Goals as goal
 
@@ -22,8 +22,8 @@ returns-clause-goes g c =
       journal = c.note.ensures.noted;
     })
 
-pub returns-clause-lengths : goal.returns-clause-lengths
-returns-clause-lengths g c =
+pub returns-clause-fixed : goal.returns-clause-fixed
+returns-clause-fixed g c =
     let links = c.args.self.now.links in
     let p = placed links.items links.len c.args.link c.from.result c.index_mut.result.now links.ok.0 c.from.ensures c.requires.first c.requires.last c.index_mut.ensures.value in
-    lengths_set links.items (c.from.result - 1) c.index_mut.result.now c.reset_slave.new.link p.at c.reset_slave.ensures.notes.settings
+    fixed_set links.items (c.from.result - 1) c.index_mut.result.now c.reset_slave.new.link p.at c.reset_slave.ensures.notes.fixed

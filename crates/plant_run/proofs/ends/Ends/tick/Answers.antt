@@ -1,6 +1,6 @@
 use Rattle.std.proofs.Common.{◌≡◌, ◌+◌, ◌-◌, ◌*◌, ◌^◌, ℕ, List, length, vec_len, sym, ap, subst, ◌∙◌, arith}
 use Rattle.plant_run.specs.Link.{LinkView}
-use Rattle.plant_run.specs.Standing.{AreNoted, lengths_kept}
+use Rattle.plant_run.specs.Standing.{AreNoted, fixed_in}
 use Rattle.multi_master.proofs.Keeping.{written_back}
 use Rattle.plant_run.proofs.Acting.{same_count, noted_less, still_plant}
 use Rattle.plant_run.proofs.Cycling.{tick_goes}
@@ -11,7 +11,7 @@ masters_ticked-requires-clause-few g c =
     let links = c.args.self.now.links in
     let mid : List LinkView = c.tick_slaves.new.links in
     let len : ℕ = vec_len c.args.steps.now in
-    let count : length mid ≡ length links.items = same_count mid links.items (c.tick_slaves.ensures.lengths ∙ ap lengths_kept c.as_mut_slice.ensures.value) in
+    let count : length mid ≡ length links.items = same_count mid links.items (c.tick_slaves.ensures.fixed ∙ ap fixed_in c.as_mut_slice.ensures.value) in
     let second : c.as_mut_slice-4.result.now ≡ mid = c.as_mut_slice-4.ensures.value ∙ written_back mid links.items links.len links.ok.0 count in
     let noted = c.tick_slaves.ensures.noted (2 * len) (subst (AreNoted (2 * len)) (sym c.as_mut_slice.ensures.value) c.requires.ready.noted) in
     let small = c.note.new.steps.small in
@@ -25,10 +25,10 @@ note_offers-requires-clause-noted g c =
     let mid : List LinkView = c.tick_slaves.new.links in
     let late : List LinkView = c.masters_ticked.new.links in
     let len : ℕ = vec_len c.args.steps.now in
-    let count : length mid ≡ length links.items = same_count mid links.items (c.tick_slaves.ensures.lengths ∙ ap lengths_kept c.as_mut_slice.ensures.value) in
+    let count : length mid ≡ length links.items = same_count mid links.items (c.tick_slaves.ensures.fixed ∙ ap fixed_in c.as_mut_slice.ensures.value) in
     let first = written_back mid links.items links.len links.ok.0 count in
     let second : c.as_mut_slice-4.result.now ≡ mid = c.as_mut_slice-4.ensures.value ∙ first in
-    let later : length late ≡ length mid = same_count late mid (c.masters_ticked.ensures.lengths ∙ ap lengths_kept second) in
+    let later : length late ≡ length mid = same_count late mid (c.masters_ticked.ensures.fixed ∙ ap fixed_in second) in
     let third : c.as_mut_slice-5.result.now ≡ late = (rw first at c.as_mut_slice-5.ensures.value) ∙ written_back late mid links.len (links.ok.0 ∙ sym count) later in
     let noted = c.tick_slaves.ensures.noted (2 * len) (subst (AreNoted (2 * len)) (sym c.as_mut_slice.ensures.value) c.requires.ready.noted) in
     let noted2 = c.masters_ticked.ensures.noted (2 * len + 1) (subst (AreNoted (2 * len + 1)) (sym second) noted) in
@@ -43,13 +43,13 @@ returns-clause-goes g c =
     let mid : List LinkView = c.tick_slaves.new.links in
     let late : List LinkView = c.masters_ticked.new.links in
     let last : List LinkView = c.note_offers.new.links in
-    let count : length mid ≡ length links.items = same_count mid links.items (c.tick_slaves.ensures.lengths ∙ ap lengths_kept c.as_mut_slice.ensures.value) in
+    let count : length mid ≡ length links.items = same_count mid links.items (c.tick_slaves.ensures.fixed ∙ ap fixed_in c.as_mut_slice.ensures.value) in
     let first = written_back mid links.items links.len links.ok.0 count in
     let second : c.as_mut_slice-4.result.now ≡ mid = c.as_mut_slice-4.ensures.value ∙ first in
-    let later : length late ≡ length mid = same_count late mid (c.masters_ticked.ensures.lengths ∙ ap lengths_kept second) in
+    let later : length late ≡ length mid = same_count late mid (c.masters_ticked.ensures.fixed ∙ ap fixed_in second) in
     let back = written_back late mid links.len (links.ok.0 ∙ sym count) later in
     let third : c.as_mut_slice-5.result.now ≡ late = (rw first at c.as_mut_slice-5.ensures.value) ∙ back in
-    let latest : length last ≡ length late = same_count last late (c.note_offers.ensures.lengths ∙ ap lengths_kept third) in
+    let latest : length last ≡ length late = same_count last late (c.note_offers.ensures.fixed ∙ ap fixed_in third) in
     let written = written_back last late links.len (links.ok.0 ∙ sym count ∙ sym later) latest in
     let dids_are : c.as_slice.result.now ≡ c.tick.new.dids = c.as_slice.ensures.value ∙ written_back c.tick.new.dids dids.items dids.len dids.ok.0 (cc) in
     let outs_are : c.as_slice-2.result.now ≡ c.tick.new.outs = c.as_slice-2.ensures.value ∙ written_back c.tick.new.outs outs.items outs.len outs.ok.0 (cc) in
@@ -79,13 +79,13 @@ returns-clause-ready g c =
     let mid : List LinkView = c.tick_slaves.new.links in
     let late : List LinkView = c.masters_ticked.new.links in
     let last : List LinkView = c.note_offers.new.links in
-    let count : length mid ≡ length links.items = same_count mid links.items (c.tick_slaves.ensures.lengths ∙ ap lengths_kept c.as_mut_slice.ensures.value) in
+    let count : length mid ≡ length links.items = same_count mid links.items (c.tick_slaves.ensures.fixed ∙ ap fixed_in c.as_mut_slice.ensures.value) in
     let first = written_back mid links.items links.len links.ok.0 count in
     let second : c.as_mut_slice-4.result.now ≡ mid = c.as_mut_slice-4.ensures.value ∙ first in
-    let later : length late ≡ length mid = same_count late mid (c.masters_ticked.ensures.lengths ∙ ap lengths_kept second) in
+    let later : length late ≡ length mid = same_count late mid (c.masters_ticked.ensures.fixed ∙ ap fixed_in second) in
     let back = written_back late mid links.len (links.ok.0 ∙ sym count) later in
     let third : c.as_mut_slice-5.result.now ≡ late = (rw first at c.as_mut_slice-5.ensures.value) ∙ back in
-    let latest : length last ≡ length late = same_count last late (c.note_offers.ensures.lengths ∙ ap lengths_kept third) in
+    let latest : length last ≡ length late = same_count last late (c.note_offers.ensures.fixed ∙ ap fixed_in third) in
     let written = written_back last late links.len (links.ok.0 ∙ sym count ∙ sym later) latest in
     let dids_same : length c.tick.new.dids ≡ length dids.items = cc in
     let outs_same : length c.tick.new.outs ≡ length outs.items = cc in

@@ -7,5 +7,5 @@ returns-in-Ok-clause-stands g c = (
   refl,
   refl,
   refl,
-  rw c.in-Ok.ensures.spare (begun _ _ _ _ _ _ _ _ c.args.arg1.now c.in-Ok.ensures.stands c.in-Ok.ensures.channel c.in-Ok.ensures.same_lengths c.requires.kind refl),
+  rw c.in-Ok.ensures.spare (begun _ _ _ _ _ _ _ _ _ c.args.arg1.now c.in-Ok.ensures.stands c.in-Ok.ensures.channel c.in-Ok.ensures.same_lengths c.requires.kind refl),
 )

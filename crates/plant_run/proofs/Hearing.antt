@@ -1,0 +1,149 @@
+-- A plant that runs can tell the reactions of its bounds of a line more, and tells the ages of their connections.
+use Rattle.std.proofs.Common.{◌≡◌, ◌≤◌, ◌<◌, ◌+◌, ◌^◌, ◌==◌, ◌||◌, ℕ, zero, suc, Bool, true, false, List, [], ◌∷◌, All, length, slice_get, Option, Some, None, if◌then◌else◌, refl, sym, ap, subst, ◌∙◌, arith}
+use Rattle.std.specs.Prelude.{IfSome, IsSome, IsSomeAnd, option_map}
+use Rattle.std.proofs.lemmas.Bool.{eq-eqb}
+use Rattle.std.proofs.lemmas.List.{length-map}
+use Rattle.std.proofs.lemmas.List.Elements.{All-cons, All-nil}
+use Rattle.std.proofs.lemmas.Option.{slice_get-map}
+use Rattle.black_channel.specs.Told.{Told}
+use Rattle.failsafe_io.specs.declared.bit.Bit.{Bit}
+use Rattle.plant_conf.specs.declared.conf.BoundSpec.{BoundSpec}
+use Rattle.plant_conf.specs.declared.conf.LinkConf.{LinkConf}
+use Rattle.multi_master.specs.Calls.{Rule}
+use Rattle.reaction_bound.specs.Reaction.{ReactionView, view_of}
+use Rattle.reaction_bound.specs.Reaction as reaction
+use Rattle.plant_run.specs.Acts.{Act, Beginning}
+use Rattle.plant_run.specs.BoundLines.{is_driven, limit_of, said_of}
+use Rattle.plant_run.specs.Given.{GivenStands}
+use Rattle.plant_run.specs.Link.{Fixed, LinkView, fixed_of, new_link}
+use Rattle.plant_run.specs.Making.{is_named, links_made}
+use Rattle.plant_run.specs.Pair.{is_tick}
+use Rattle.plant_run.specs.Promises.{line_step}
+use Rattle.plant_run.specs.Reporting.{Terms}
+use Rattle.plant_run.specs.Script.{ScriptHeading}
+use Rattle.plant_run.specs.Standing.{PlantStands, PlantValue, PlantView, fixed_in, seen}
+use Rattle.plant_run.specs.Turns.{Named, Turn, acts}
+use Rattle.plant_run.specs.Watching.{AreAged, CanHear, HasRoom, HearsLine, IsAged, reactions_after, reactions_by}
+use Rattle.plant_run.specs.declared.event.PlantLine.{PlantLine}
+use Rattle.plant_run.proofs.LinkLines.{some_is}
+
+if_ticks : (tick on : Bool) (before : List reaction.Said) → reaction.ticks (if tick then reaction.Tick on ∷ before else before) ≤ suc (reaction.ticks before)
+if_ticks true on before = omega arith
+if_ticks false on before = omega arith
+
+-- no more ticks are said than there are turns
+said_ticks : (b : Beginning) (bound : BoundSpec) (turns : List Turn) → reaction.ticks (said_of b bound turns) ≤ length turns
+said_ticks b bound [] = omega arith
+said_ticks b bound (turn ∷ turns) =
+    let rest = said_ticks b bound turns in
+    let done : List Act = acts (turn ∷ turns) in
+    let one = if_ticks (is_tick (line_step turn.said)) (is_driven b bound done) (said_of b bound turns) in
+    omega (arith, rest, one)
+
+pub rooms : (b : Beginning) (turns : List Turn) (bounds : List BoundSpec) → length turns + 1 < 2 ^ 64 → All HasRoom (reactions_after b turns bounds)
+rooms b turns [] h = All-nil HasRoom
+rooms b turns (bound ∷ bounds) h =
+    let few = said_ticks b bound turns in
+    All-cons HasRoom (view_of (limit_of b.links bound) (said_of b bound turns)) (reactions_after b turns bounds) (omega (arith, few, h)) (rooms b turns bounds h)
+
+-- a plant that runs can tell its reactions of a line more
+pub can_hear : {A : Type 0} (rule : A → Rule) (holds : A → List ℕ) (guards : A → Bit → Bit → Bool) (t : Terms) (plant : Option (PlantValue A)) (reactions : List ReactionView) (left : List Named) (before after : Told) (count : ℕ) (h : ScriptHeading) (log : List PlantLine) (text : List ℕ)
+    (bounds : List BoundSpec) → GivenStands rule holds guards t plant reactions left before after count h log text → length log + 1 < 2 ^ 64 → t.bounds ≡ bounds → CanHear plant reactions bounds
+can_hear {A = A} rule holds guards t plant reactions left before after count h log text bounds k few same =
+    subst (λ (z : List BoundSpec). CanHear plant reactions z) same
+    (record {
+      begun = subst (λ (o : Option (PlantValue A)). IsSome o) (sym k.plant_is) refl;
+      count = ap length k.watched ∙ length-map t.bounds (λ bound. view_of (limit_of t.begins.links bound) (said_of t.begins bound k.runs.turns));
+      room = subst (λ (z : List ReactionView). All HasRoom z) (sym k.watched) (rooms t.begins k.runs.turns t.bounds (let whole = k.runs.whole in omega (arith, whole, few)));
+    })
+
+-- a bound names its connections
+either : (a b c : Bool) → a ≡ true → (a || b || c) ≡ true
+either true true c e = refl
+either true false c e = refl
+either false b c e = absurd (cc e)
+
+other : (a b c : Bool) → b ≡ true → (a || b || c) ≡ true
+other true true c e = refl
+other false true c e = refl
+other a false c e = absurd (cc e)
+
+later : (a b c : Bool) → c ≡ true → (a || b || c) ≡ true
+later true b true e = refl
+later false true true e = refl
+later false false true e = refl
+later a b false e = absurd (cc e)
+
+estop_named : (bounds : List BoundSpec) (place : ℕ) (bound : BoundSpec) → slice_get bounds place ≡ Some bound → is_named bounds bound.estop.link ≡ true
+estop_named [] place bound e = absurd (cc e)
+estop_named (first ∷ bounds) zero bound e =
+    let same : first ≡ bound = cc in
+    either (first.estop.link == bound.estop.link) (first.drive.link == bound.estop.link) (is_named bounds bound.estop.link) (eq-eqb first.estop.link bound.estop.link (ap (λ (z : BoundSpec). z.estop.link) same))
+estop_named (first ∷ bounds) (suc place) bound e =
+    later (first.estop.link == bound.estop.link) (first.drive.link == bound.estop.link) (is_named bounds bound.estop.link) (estop_named bounds place bound e)
+
+drive_named : (bounds : List BoundSpec) (place : ℕ) (bound : BoundSpec) → slice_get bounds place ≡ Some bound → is_named bounds bound.drive.link ≡ true
+drive_named [] place bound e = absurd (cc e)
+drive_named (first ∷ bounds) zero bound e =
+    let same : first ≡ bound = cc in
+    other (first.estop.link == bound.drive.link) (first.drive.link == bound.drive.link) (is_named bounds bound.drive.link) (eq-eqb first.drive.link bound.drive.link (ap (λ (z : BoundSpec). z.drive.link) same))
+drive_named (first ∷ bounds) (suc place) bound e =
+    later (first.estop.link == bound.drive.link) (first.drive.link == bound.drive.link) (is_named bounds bound.drive.link) (drive_named bounds place bound e)
+
+-- the ages of a connection are told that a bound names
+aged_new : (aged : Bool) (link : LinkConf) → aged ≡ true → (fixed_of (new_link aged link)).aged ≡ true
+aged_new true link e = refl
+aged_new false link e = absurd (cc e)
+
+aged_made : (k place : ℕ) (bounds : List BoundSpec) (links : List LinkConf) → is_named bounds (k + place) ≡ true → IfSome (slice_get (fixed_in (links_made k bounds links)) place) (λ f. f.aged ≡ true)
+aged_made k place bounds [] h = tt
+aged_made k zero bounds (link ∷ links) h =
+    let number : k + 0 ≡ k = omega arith in
+    aged_new (is_named bounds k) link (ap (is_named bounds) (sym number) ∙ h)
+aged_made k (suc place) bounds (link ∷ links) h =
+    let number : suc k + place ≡ k + suc place = omega arith in
+    aged_made (suc k) place bounds links (ap (is_named bounds) number ∙ h)
+
+some_aged : (o : Option LinkView) → IfSome (option_map fixed_of o) (λ f. f.aged ≡ true) → IfSome o (λ v. IsSome v.ages)
+some_aged None h = tt
+some_aged (Some v) h = h
+
+aged_at : (bounds : List BoundSpec) (links : List LinkConf) (vs : List LinkView) (k : ℕ) → fixed_in vs ≡ fixed_in (links_made 1 bounds links) → is_named bounds k ≡ true → IsAged vs k
+aged_at bounds links vs zero e named = tt
+aged_at bounds links vs (suc place) e named =
+    let number : suc place ≡ 1 + place = omega arith in
+    some_aged (slice_get vs place)
+    (subst (λ (o : Option Fixed). IfSome o (λ f. f.aged ≡ true)) (ap (λ (fs : List Fixed). slice_get fs place) (sym e) ∙ slice_get-map fixed_of vs place)
+    (aged_made 1 place bounds links (ap (is_named bounds) (sym number) ∙ named)))
+
+pub are_aged : (bounds : List BoundSpec) (links : List LinkConf) (vs : List LinkView) (place : ℕ) (bound : BoundSpec) → fixed_in vs ≡ fixed_in (links_made 1 bounds links) → slice_get bounds place ≡ Some bound → AreAged vs bound
+are_aged bounds links vs place bound e at = record {
+  estop = aged_at bounds links vs bound.estop.link e (estop_named bounds place bound at);
+  drive = aged_at bounds links vs bound.drive.link e (drive_named bounds place bound at);
+}
+
+-- so it is of a plant that runs
+pub given_aged : {A : Type 0} (rule : A → Rule) (holds : A → List ℕ) (guards : A → Bit → Bit → Bool) (t : Terms) (plant : Option (PlantValue A)) (reactions : List ReactionView) (left : List Named) (before after : Told) (count : ℕ) (h : ScriptHeading) (log : List PlantLine) (text : List ℕ)
+    (p : PlantValue A) (bounds : List BoundSpec) (place : ℕ) (bound : BoundSpec) → GivenStands rule holds guards t plant reactions left before after count h log text → plant ≡ Some p → bounds ≡ t.bounds → slice_get bounds place ≡ Some bound → AreAged p.links bound
+given_aged {A = A} rule holds guards t plant reactions left before after count h log text p bounds place bound k is same at =
+    let value : k.value ≡ p = some_is k.value p (sym k.plant_is ∙ is) in
+    subst (λ (v : PlantValue A). AreAged v.links bound) value
+    (are_aged t.bounds t.begins.links k.value.links place bound k.fixed (ap (λ (z : List BoundSpec). slice_get z place) (sym same) ∙ at))
+
+-- what is heard of bounds is heard of the same ones
+pub heard_same : {A : Type 0} (rule : A → Rule) (holds : A → List ℕ) (guards : A → Bit → Bit → Bool) (plant : Option (PlantValue A)) (these those : List BoundSpec) (tick : Bool) (old new : List ReactionView) → these ≡ those
+    → IsSomeAnd plant (λ p. HearsLine (seen rule holds guards p) these tick old new) → IsSomeAnd plant (λ p. HearsLine (seen rule holds guards p) those tick old new)
+heard_same rule holds guards plant these those tick old new e h = subst (λ (z : List BoundSpec). IsSomeAnd plant (λ p. HearsLine (seen rule holds guards p) z tick old new)) e h
+
+-- reactions to which nothing was said have room
+pub fresh_rooms : (links : List LinkConf) (bounds : List BoundSpec) (rs : List ReactionView) → rs ≡ reactions_by links (λ bound. []) bounds → All HasRoom rs
+fresh_rooms links [] rs e = subst (λ (z : List ReactionView). All HasRoom z) (sym e) (All-nil HasRoom)
+fresh_rooms links (bound ∷ bounds) rs e =
+    subst (λ (z : List ReactionView). All HasRoom z) (sym e)
+    (All-cons HasRoom (view_of (limit_of links bound) []) (reactions_by links (λ bound. []) bounds) (omega arith) (fresh_rooms links bounds (reactions_by links (λ bound. []) bounds) refl))
+
+-- the start of a plant is heard first
+pub first_heard : (b : Beginning) (v : PlantView) (these bounds : List BoundSpec) (links : List LinkConf) (old new : List ReactionView) → PlantStands b v [] → HearsLine v these false old new → these ≡ bounds → links ≡ b.links
+    → old ≡ reactions_by links (λ bound. []) these → new ≡ reactions_after b [] bounds
+first_heard b v these bounds links old new h heard same e is =
+    heard.hears b [] (λ bound. []) h (is ∙ ap (λ (z : List LinkConf). reactions_by z (λ bound. []) these) e) ∙ ap (λ (z : List BoundSpec). reactions_after b [] z) same

@@ -1,0 +1,18 @@
+use Rattle.std.proofs.Common.{◌≡◌, All, List, length, ap, sym, subst, ◌∙◌}
+use Rattle.multi_master.proofs.Keeping.{written_back}
+use Rattle.reaction_bound.specs.Reaction.{ReactionView}
+use Rattle.plant_run.specs.Watching.{HasRoom}
+use Rattle.plant_run.proofs.watching.hear.Goals as goal
+
+pub hear_each-requires : goal.hear_each-requires
+hear_each-requires g c = record {
+  count = ap length c.as_mut_slice.ensures.value ∙ c.requires.count;
+  room = subst (λ (rs : List ReactionView). All HasRoom rs) (sym c.as_mut_slice.ensures.value) c.requires.room;
+}
+
+pub returns : goal.returns
+returns g c =
+    let reactions = c.args.reactions.now in
+    let count : length c.hear_each.new.reactions ≡ length reactions.items = c.hear_each.ensures.count ∙ ap length c.as_mut_slice.ensures.value in
+    let back = written_back c.hear_each.new.reactions reactions.items reactions.len reactions.ok.0 count in
+    rw back (rw c.as_mut_slice.ensures.value at c.hear_each.ensures.hears)

@@ -1,0 +1,77 @@
+-- How a plant's run watches bounds: what a reaction of each bound was told, and the lines that wait to be written.
+use Rattle.std.specs.Prelude.{◌≡◌, ◌+◌, ◌<◌, ◌^◌, ℕ, Bool, false, List, [], ◌∷◌, ◌++◌, drop, length, map, All, Option, IfSome, IsSome}
+use Rattle.std.specs.Option.{option_map_or}
+use Rattle.fsoe_base.specs.Image.{bit_of}
+use Rattle.fsoe_base.specs.declared.command.End.{End}
+use Rattle.fsoe_base.specs.declared.command.End.TheVariants as side
+use Rattle.failsafe_io.specs.declared.bit.Bit.{Bit}
+use Rattle.plant_conf.specs.declared.conf.BoundSpec.{BoundSpec}
+use Rattle.plant_conf.specs.declared.conf.LinkConf.{LinkConf}
+use Rattle.reaction_bound.specs.Reaction.{ReactionView, view_of}
+use Rattle.reaction_bound.specs.Reaction as reaction
+use Rattle.plant_run.specs.Acts.{Beginning}
+use Rattle.plant_run.specs.BoundLines.{heard, limit_of, line_by, said_of, worst_at}
+use Rattle.plant_run.specs.Link.{LinkView}
+use Rattle.plant_run.specs.Pair.{link_at, outputs_at, pair}
+use Rattle.plant_run.specs.Standing.{PlantStands, PlantValue, PlantView, kept_at}
+use Rattle.plant_run.specs.Turns.{Turn, acts}
+use Rattle.plant_run.specs.declared.journal.JournalStep.{JournalStep}
+
+-- a reaction can be told of a tick more
+abbrev pub HasRoom : ReactionView → Type 0
+HasRoom r = r.ticks + 1 < 2 ^ 64
+
+-- the reactions of these bounds, to each of which this was said
+abbrev pub reactions_by : List LinkConf → (BoundSpec → List reaction.Said) → List BoundSpec → List ReactionView
+reactions_by links said bounds = map (λ bound. view_of (limit_of links bound) (said bound)) bounds
+
+-- the reactions of these bounds over these turns
+abbrev pub reactions_after : Beginning → List Turn → List BoundSpec → List ReactionView
+reactions_after b turns bounds = reactions_by b.links (λ bound. said_of b bound turns) bounds
+
+-- a reaction of this bound is told of a line of the script, which may be a tick, by a plant that stands for the turns with it
+pub record HearsOne (v : PlantView) (bound : BoundSpec) (tick : Bool) (old new : ReactionView) : Type 0 where
+  pub hears : (b : Beginning) (turns : List Turn) (said : List reaction.Said) → PlantStands b v turns → old ≡ view_of (limit_of b.links bound) said
+      → new ≡ view_of (limit_of b.links bound) (heard b bound tick (acts turns) said)
+
+-- the reactions of these bounds are told of a line of the script, which may be a tick, by a plant that stands for the turns with it
+pub record HearsLine (v : PlantView) (bounds : List BoundSpec) (tick : Bool) (old new : List ReactionView) : Type 0 where
+  pub hears : (b : Beginning) (turns : List Turn) (said : BoundSpec → List reaction.Said) → PlantStands b v turns → old ≡ reactions_by b.links said bounds
+      → new ≡ reactions_by b.links (λ bound. heard b bound tick (acts turns) (said bound)) bounds
+
+-- the lines of these bounds by a journal and by their reactions
+abbrev pub lines_by : List LinkConf → List JournalStep → List BoundSpec → List ReactionView → List ℕ
+lines_by links steps (bound ∷ bounds) (r ∷ reactions) = line_by links steps bound r.broken ++ lines_by links steps bounds reactions
+lines_by links steps _ _ = []
+
+-- the lines that wait: those of the bounds from this place on
+abbrev pub bounds_waiting : ℕ → List LinkConf → List BoundSpec → List ReactionView → List JournalStep → List ℕ
+bounds_waiting place links bounds reactions steps = lines_by links steps (drop place bounds) (drop place reactions)
+
+-- the ages of the outputs of connection k are told, if there is one
+abbrev pub IsAged : List LinkView → ℕ → Type 0
+IsAged vs k = IfSome (kept_at vs k) (λ v. IsSome v.ages)
+
+-- so are those of both connections of a bound
+pub record AreAged (vs : List LinkView) (bound : BoundSpec) : Type 0 where
+  pub estop : IsAged vs bound.estop.link
+  pub drive : IsAged vs bound.drive.link
+
+-- what is shown of an end at connection k is the greatest age of its outputs
+pub record ShowsWorst (v : PlantView) (k : ℕ) (end : End) (shown : Option ℕ) : Type 0 where
+  pub shows : (b : Beginning) (turns : List Turn) → PlantStands b v turns → shown ≡ worst_at b.links v.journal k end
+
+-- what is shown of a bit of an image is its value at the slave
+pub record ShowsOn (v : PlantView) (bit : Bit) (shown : Bool) : Type 0 where
+  pub shows : (b : Beginning) (turns : List Turn) → PlantStands b v turns
+      → shown ≡ option_map_or (λ link. bit_of (outputs_at link side.Slave (pair link bit.link v.journal)) bit.bit) (link_at b.links bit.link) false
+
+-- the line of a bound with this limit is shown by a plant
+pub record ShowsBound (v : PlantView) (bound : BoundSpec) (most : ℕ) (broken : Option ℕ) (text : List ℕ) : Type 0 where
+  pub shows : (b : Beginning) (turns : List Turn) → PlantStands b v turns → most ≡ limit_of b.links bound → text ≡ line_by b.links v.journal bound broken
+
+-- the reactions of these bounds can be told of a line by a plant that has begun: there is a reaction with room for a tick more for each
+pub record CanHear {A : Type 0} (plant : Option (PlantValue A)) (reactions : List ReactionView) (bounds : List BoundSpec) : Type 0 where
+  pub begun : IsSome plant
+  pub count : length reactions ≡ length bounds
+  pub room : All HasRoom reactions

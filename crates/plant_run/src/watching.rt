@@ -1,0 +1,179 @@
+//! The bounds that a plant's run watches.
+ghost use Rattle.std.specs.Prelude.{◌≡◌, ◌≤◌, ◌+◌, ◌++◌, [], All, IfOk, length, option_map};
+ghost use Rattle.plant_run.specs.BoundLines.{age_text, bit_text, broken_text, limit_of};
+ghost use Rattle.plant_run.specs.Pair.{link_at};
+ghost use Rattle.plant_run.specs.Standing.{seen};
+ghost use Rattle.plant_run.specs.Watching.{AreAged, HasRoom, HearsLine, HearsOne, ShowsBound, reactions_by};
+
+use crate::plant::Plant;
+use failsafe_io::{Application, Bit};
+use fsoe_base::{End, Memory};
+use fsoe_io::LineText;
+use plant_conf::{BoundSpec, LinkConf};
+use reaction_bound::Reaction;
+use std::alloc::Global;
+
+/// The watchdog of the master of this connection, if there is one.
+fn watchdog_at(links: &[LinkConf], link: u16) -> Option<u16>
+    ensures { result ≡ option_map (λ l. l.master.watchdog) (link_at links.now link) }
+{
+    if link == 0 {
+        return None;
+    }
+    match links.get(usize::from(link) - 1) {
+        Some(link) => Some(link.master.watchdog()),
+        None => None,
+    }
+}
+
+/// The limit of a bound in ticks: twice the watchdogs of the masters of both its connections; 0 where there isn't one of them.
+#[tactic(auto, using(crate::proofs::Watched::limit_both, crate::proofs::Watched::limit_none, crate::proofs::Watched::limit_less))]
+pub(crate) fn limit_of(links: &[LinkConf], bound: BoundSpec) -> u32
+    ensures { result ≡ limit_of links.now bound }
+{
+    let estop = watchdog_at(links, bound.estop.link);
+    let drive = watchdog_at(links, bound.drive.link);
+    match (estop, drive) {
+        (Some(estop), Some(drive)) => 2 * u32::from(estop) + 2 * u32::from(drive),
+        _ => 0,
+    }
+}
+
+/// A reaction for each of these bounds, to which nothing was said.
+pub(crate) fn reactions_made(
+    alloc: Global,
+    links: &[LinkConf],
+    bounds: &[BoundSpec],
+) -> Result<Vec<Reaction>, Memory>
+    ensures { IfOk result (λ made. made.items ≡ reactions_by links.now (λ bound. []) bounds.now) }
+{
+    let mut made = match Vec::with_capacity(alloc, bounds.len()) {
+        Ok(made) => made,
+        Err(_) => return Err(Memory),
+    };
+    for i in 0..bounds.len() {
+        if made
+            .push(Reaction::new(limit_of(links, bounds[i])))
+            .is_err()
+        {
+            return Err(Memory);
+        }
+    }
+    Ok(made)
+}
+
+/// Tells a reaction of a line of the script: if it was a tick, whether the drive is on after it; and whether the bound is still then.
+#[tactic(auto, using(crate::proofs::Watched::tick_heard, crate::proofs::Watched::other_heard))]
+fn hear_one<A: Application>(
+    plant: &Plant<A>,
+    bound: &BoundSpec,
+    tick: bool,
+    reaction: &mut Reaction,
+)
+    requires { HasRoom reaction.old }
+    ensures { HearsOne (seen A.rule A.holds A.guards plant.now) bound.now tick reaction.old reaction.new }
+{
+    let still = plant.is_still(*bound);
+    if tick {
+        reaction.tick(plant.is_on(bound.drive));
+        reaction.quiet(still);
+    } else {
+        reaction.quiet(still);
+    }
+}
+
+/// Tells each reaction of these bounds of a line of the script.
+fn hear_each<A: Application>(
+    plant: &Plant<A>,
+    bounds: &[BoundSpec],
+    tick: bool,
+    reactions: &mut [Reaction],
+)
+    requires count { length reactions.old ≡ length bounds.now }
+    requires room { All HasRoom reactions.old }
+    ensures hears { HearsLine (seen A.rule A.holds A.guards plant.now) bounds.now tick reactions.old reactions.new }
+    ensures count { length reactions.new ≡ length reactions.old }
+{
+    for i in 0..bounds.len() {
+        hear_one(plant, &bounds[i], tick, &mut reactions[i]);
+    }
+}
+
+/// Tells the reactions of these bounds of a line of the script, which may be a tick. The plant did it.
+pub(crate) fn hear<A: Application>(
+    plant: &Plant<A>,
+    bounds: &[BoundSpec],
+    tick: bool,
+    reactions: &mut Vec<Reaction>,
+)
+    requires count { length reactions.old.items ≡ length bounds.now }
+    requires room { All HasRoom reactions.old.items }
+    ensures { HearsLine (seen A.rule A.holds A.guards plant.now) bounds.now tick reactions.old.items reactions.new.items }
+{
+    hear_each(plant, bounds, tick, reactions.as_mut_slice());
+}
+
+/// Appends the connection of a bit, and its number there.
+fn push_bit(bit: Bit, text: &mut LineText)
+    requires { length text.old ≤ 200 }
+    ensures text { text.new ≡ text.old ++ bit_text bit }
+    ensures most { length text.new ≤ length text.old + 41 }
+{
+    text.push_decimal(u64::from(bit.link));
+    text.push_str(".");
+    text.push_decimal(u64::from(bit.bit));
+}
+
+/// Appends an age, or that there was none.
+fn push_age(age: Option<u32>, text: &mut LineText)
+    requires { length text.old ≤ 200 }
+    ensures text { text.new ≡ text.old ++ age_text age }
+    ensures most { length text.new ≤ length text.old + 20 }
+{
+    match age {
+        Some(age) => text.push_decimal(u64::from(age)),
+        None => text.push_str("-"),
+    }
+}
+
+/// Appends whether a bound was kept, or its first late tick.
+fn push_broken(broken: Option<u64>, text: &mut LineText)
+    requires { length text.old ≤ 400 }
+    ensures text { text.new ≡ text.old ++ broken_text broken }
+    ensures most { length text.new ≤ length text.old + 27 }
+{
+    match broken {
+        Some(tick) => {
+            text.push_str("broken ");
+            text.push_decimal(tick);
+        }
+        None => text.push_str("kept"),
+    }
+}
+
+/// Writes the line of a bound with this limit and this first late tick.
+pub(crate) fn write_bound<A: Application>(
+    plant: &Plant<A>,
+    bound: BoundSpec,
+    limit: u32,
+    broken: Option<u64>,
+    text: &mut LineText,
+)
+    requires { AreAged plant.now.links bound }
+    ensures { ShowsBound (seen A.rule A.holds A.guards plant.now) bound limit broken text.new }
+{
+    text.clear();
+    text.push_str("bound i");
+    push_bit(bound.estop, text);
+    text.push_str(" o");
+    push_bit(bound.drive, text);
+    text.push_str(" ");
+    text.push_decimal(u64::from(limit));
+    text.push_str(" worst ");
+    push_age(plant.worst(bound.estop.link, End::Master), text);
+    text.push_str(" ");
+    push_age(plant.worst(bound.drive.link, End::Slave), text);
+    text.push_str(" ");
+    push_broken(broken, text);
+    text.push_str("\n");
+}
