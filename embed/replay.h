@@ -49,7 +49,7 @@ enum gp_replay_status {
     GP_REPLAY_OK = 0,    /* the text was read up to its line `end`, and no entry is other */
     GP_REPLAY_OTHER = 1, /* the same, and an entry is other */
     GP_REPLAY_LINE = 4,  /* a line is refused, or doesn't come; also one that names a frame that wasn't sent */
-    GP_REPLAY_CUT = 7    /* the report doesn't fit */
+    GP_REPLAY_CUT = 7    /* the memory is full: call again with more */
 };
 
 /* How a replay ended. */
@@ -61,7 +61,7 @@ typedef struct gp_ended {
 
 /* Runs both ends over the text, writes their report to the front of `report`, and answers the status. With GP_REPLAY_CUT a
    first part of the report fills that memory; with every other status the first ended->len bytes are the whole report.
-   Bytes behind them are not written. */
+   Bytes behind them are not written. That a report that fits exactly is not cut is tried, but not proved. */
 GP_CHECKED uint8_t gp_replay(const uint8_t *text, size_t text_len, uint8_t *report, size_t report_len, gp_ended *ended);
 
 #ifdef __cplusplus

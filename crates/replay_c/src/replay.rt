@@ -10,7 +10,7 @@ use crate::text::Text;
 use duo_run::run_replay;
 use fsoe_io::{Ended, Status};
 
-/// The status of a replay whose report doesn't fit. The statuses are those of the program; `embed/replay.h` names them.
+/// The status of a replay that found the memory full. The statuses are those of the program; `embed/replay.h` names them.
 pub const CUT: u8 = 7;
 
 /// How a replay ended.
@@ -39,8 +39,8 @@ fn replay_into(text: &[u8], room: &mut Room<'_>) -> Ended
 }
 
 /// Runs both ends over the text of a pair file, as `replay` does, and writes their report to the front of `report`. Answers the status:
-/// 0, or 1 where an entry is other, or 4 where a line is refused, and then the whole report was written; or `CUT` where it doesn't fit,
-/// and then a first part of it fills the memory. `ended` says where, and how many bytes are the report's. Bytes behind them stay.
+/// 0, or 1 where an entry is other, or 4 where a line is refused, and then the whole report was written; or `CUT`, and then a first part
+/// of it fills the memory. `ended` says where, and how many bytes are the report's. Bytes behind them stay.
 #[unsafe(no_mangle)]
 pub extern "C" fn gp_replay(text: &[u8], report: &mut [u8], ended: &mut GpEnded) -> u8
     ensures ended { EndedAs text.now result ended.new.place (take ended.new.len report.new) }
