@@ -25,10 +25,10 @@ use Rattle.fsoe_tool.proofs.Picked.{chosen_seen, map_twice, within}
 -- the net was taken out of the configuration, at which a plant doesn't look
 ran_whole : (conf taken : ConfView) (app : AppView) (spare : List Named) (ended : Ended) (o : Outside) (before after : Told) (steps : List JournalStep)
     → taken ≡ record conf { blocks = []; drives = [] }
-    → RanPlant (record { begins = record { links = taken.links; app = app; seed = taken.seed }; spare = spare }) ended o before after steps
-    → RanPlant (record { begins = record { links = conf.links; app = app; seed = conf.seed }; spare = spare }) ended o before after steps
+    → RanPlant (record { begins = record { links = taken.links; app = app; seed = taken.seed }; spare = spare; bounds = taken.bounds }) ended o before after steps
+    → RanPlant (record { begins = record { links = conf.links; app = app; seed = conf.seed }; spare = spare; bounds = conf.bounds }) ended o before after steps
 ran_whole conf taken app spare ended o before after steps rest ran =
-    subst (λ (c : ConfView). RanPlant (record { begins = record { links = c.links; app = app; seed = c.seed }; spare = spare }) ended o before after steps) rest ran
+    subst (λ (c : ConfView). RanPlant (record { begins = record { links = c.links; app = app; seed = c.seed }; spare = spare; bounds = c.bounds }) ended o before after steps) rest ran
 
 -- a fault of the names that were handed in is that of those that are seen
 ran_unless : {X C : Type 0} (f : X → Named) (apps : List X) (conf : ConfView) (names : List (List ℕ)) (found : Option SetupFault) (ended : Ended) (o : Outside) (h : Handed C)
@@ -72,7 +72,7 @@ set_up_refused app_of name_of tells conf apps channels why ended o steps fault w
 -- a plant that was set up and ran is what its configuration comes to
 pub set_up_ran : {H C : Type 0} (app_of : H → AppView) (name_of : C → List ℕ) (tells : C → Told) (conf taken : ConfView) (apps spare : List (EntryOf H)) (app : KindOf H) (seen : AppView) (channels : List C)
     (place : ℕ) (before after : C) (ended : Ended) (o : Outside) (steps : List JournalStep)
-    → RanPlant (record { begins = record { links = taken.links; app = seen; seed = taken.seed }; spare = map (entry_seen app_of) spare }) ended o (tells before) (tells after) steps
+    → RanPlant (record { begins = record { links = taken.links; app = seen; seed = taken.seed }; spare = map (entry_seen app_of) spare; bounds = taken.bounds }) ended o (tells before) (tells after) steps
     → taken ≡ record conf { blocks = []; drives = [] }
     → (app ≡ kind.Net (net_of conf) → seen ≡ net_view conf) → ((x : H) → app ≡ kind.Handed x → seen ≡ app_of x)
     → None ≡ setup_fault conf (map (λ entry. string_bytes entry.name) apps) (map name_of channels)

@@ -61,7 +61,7 @@ pub record RanSetUp {C : Type 0} (conf : ConfView) (ended : Ended) (o : Outside)
   pub before_is : slice_get h.channels_before place ≡ Some before
   pub after : C
   pub channels : h.channels_after ≡ slice_set h.channels_before place after
-  pub ran : RanPlant (record { begins = record { links = conf.links; app = app; seed = conf.seed }; spare = spare }) ended o (h.tells before) (h.tells after) h.journal
+  pub ran : RanPlant (record { begins = record { links = conf.links; app = app; seed = conf.seed }; spare = spare; bounds = conf.bounds }) ended o (h.tells before) (h.tells after) h.journal
 
 -- what comes of a configuration that has this first fault, or none
 abbrev pub RanUnless : {C : Type 0} → Option SetupFault → ConfView → Ended → Outside → Handed C → Type 0
