@@ -5,6 +5,7 @@ pub mod HeaderSeen
 pub mod Seen
 pub mod Sending
 pub mod Taking
+pub mod HandedOut
 pub mod Putting
 pub mod OnePart
 pub mod EndedWith

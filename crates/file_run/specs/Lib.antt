@@ -15,4 +15,5 @@ pub mod Report
 pub mod Reporting
 pub mod Schedule
 pub mod Stop
+pub mod Waiting
 pub mod WholeLines

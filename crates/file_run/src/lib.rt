@@ -19,6 +19,7 @@ mod run;
 mod schedule;
 mod stop;
 mod stopped;
+mod waiting;
 
 pub use either::run_either;
 pub use format::Format;
@@ -31,3 +32,4 @@ pub use run::run_over;
 pub use schedule::{Grammar, Schedule};
 pub use stop::{close, halt as halt_run, send_before_read, write_failed, write_report};
 pub use stopped::{Stopped, Untaken};
+pub use waiting::{MOST_TEXT, Waiting};

@@ -13,7 +13,6 @@ pub mod Keeping
 pub mod Looping
 pub mod Numbers
 pub mod One
-pub mod Parts
 pub mod Planned
 pub mod Reading
 pub mod Seats

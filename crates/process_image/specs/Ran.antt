@@ -9,7 +9,7 @@ use Rattle.process_image.specs.Header.{ImageHeading, image_heading_new, image_he
 use Rattle.process_image.specs.Places.{Plan}
 use Rattle.process_image.specs.Report.{IsPlanOf, IsImageReport, event_in, is_full, lines_of_events, said_after}
 use Rattle.process_image.specs.Standing.{ImagesView, StandsFor}
-use Rattle.process_image.specs.Telling.{WaitingText}
+use Rattle.file_run.specs.Waiting.{WaitingText}
 use Rattle.process_image.specs.declared.event.ImageEvent.{ImageEvent}
 use Rattle.process_image.specs.declared.event.ImageLine.{ImageLine}
 

@@ -1,5 +1,5 @@
 -- The text of an event of images: a line for each slot of which the event is a move.
-use Rattle.std.specs.Prelude.{◌≡◌, ◌≤◌, ℕ, ◌+◌, List, length, drop, IfSome, IsTrue}
+use Rattle.std.specs.Prelude.{◌≡◌, ◌≤◌, ℕ, ◌+◌, List, length, IfSome, IsTrue}
 use Rattle.param_load.specs.Profile.{allows_id}
 use Rattle.end_model.specs.Setup.{profile_of, sends}
 use Rattle.process_image.specs.Places.{Plan}
@@ -7,15 +7,6 @@ use Rattle.process_image.specs.Report.{event_lines}
 use Rattle.process_image.specs.Standing.{ImagesView, StandsFor, Follows, HasSlot, numbered, setups_of}
 use Rattle.process_image.specs.declared.event.ImageEvent.{ImageEvent}
 use Rattle.process_image.specs.declared.event.ImageEvent.TheVariants as event
-
--- a text, of which so many bytes were handed out
-pub record WaitingText : Type 0 where
-  pub text : List ℕ
-  pub given : ℕ
-
--- what wasn't
-abbrev pub waits : WaitingText → List ℕ
-waits w = drop w.given w.text
 
 -- an event may come to images: bytes lie inside the input image, a slot exists, and its end may be put or given this
 abbrev pub FitsImages : ImagesView → ImageEvent → Type 0

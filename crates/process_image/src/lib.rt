@@ -39,7 +39,6 @@ mod seat;
 mod slot;
 mod spans;
 mod told_lines;
-mod waiting;
 
 pub use end_core::Core;
 pub use event::{ImageEvent, ImageLine, MOST_WRITTEN};

@@ -4,7 +4,7 @@ ghost use Rattle.hex.specs.Hex.{encode_lower};
 ghost use Rattle.process_image.specs.Ran.{RanImage};
 ghost use Rattle.process_image.specs.Telling.{DoesEvent, FitsImages};
 ghost use Rattle.process_image.specs.declared.header.TheConstants.{MOST_SIZE};
-ghost use Rattle.process_image.specs.declared.waiting.TheConstants.{MOST_TEXT};
+ghost use Rattle.file_run.specs.declared.waiting.TheConstants.{MOST_TEXT};
 
 use crate::event::{ImageEvent, MOST_EVENTS};
 use crate::event_line::{SlotEnd, read_image_line};
@@ -15,9 +15,8 @@ use crate::images::Images;
 use crate::said::Said;
 use crate::spans::MOST_SLOTS;
 use crate::told_lines::Telling;
-use crate::waiting::Waiting;
 use arrayvec::ArrayVec;
-use file_run::{Format, Machine, Stopped, Untaken, run_over, write_events};
+use file_run::{Format, Machine, Stopped, Untaken, Waiting, run_over, write_events};
 use fsoe_base::Memory;
 use fsoe_io::{Ended, LineText, Sink, Source, Status};
 use schedule_file::LineCause;
@@ -171,7 +170,7 @@ impl ImageRun {
 impl Machine for ImageRun {
     ghost use Rattle.file_run.specs.Reporting.{EndsReport};
     ghost use Rattle.process_image.specs.Ran.{RunStands, image_reporting};
-    ghost use Rattle.process_image.specs.Telling.{waits};
+    ghost use Rattle.file_run.specs.Waiting.{waits};
 
     type Format = ImageFormat;
 

@@ -7,9 +7,9 @@ ghost use Rattle.process_image.specs.Steps.{IsSampleStep, IsTickStep, seat_conte
 ghost use Rattle.process_image.specs.SlotLines.{AddsLine, Tells, TellsEach, entry_told};
 
 use crate::seat::Seat;
-use crate::waiting::{MOST_TEXT, Waiting};
 use end_core::Core;
 use entry_text::push_entry;
+use file_run::{MOST_TEXT, Waiting};
 use fsoe_base::{Did, FrameBuf, MOST_FRAME, Memory};
 use fsoe_io::LineText;
 use std::alloc::Global;

@@ -1,8 +1,7 @@
-//! What waits of the text of an event, or of the end, and how much of it was handed out.
-ghost use Rattle.std.specs.Prelude.{◌≡◌, ◌≤◌, ◌+◌, ◌++◌, [], IfOk, length};
-ghost use Rattle.process_image.specs.Telling.{waits};
+//! What waits of the text of an event, or of the end, and how much of it was handed out: for a machine whose events have many lines.
+ghost use Rattle.std.specs.Prelude.{◌≡◌, ◌≤◌, ◌+◌, ◌++◌, [], IfOk, length, take, drop};
+ghost use Rattle.file_run.specs.Waiting.{waits};
 
-use crate::seat::overwrite;
 use fsoe_base::Memory;
 use fsoe_io::LineText;
 use std::alloc::Global;
@@ -11,9 +10,17 @@ use std::marker::Model;
 /// The most bytes of such a text: 64 lines of at most 1,024 bytes each.
 pub const MOST_TEXT: usize = 65_536;
 
+/// Writes these bytes over those from a place on.
+fn overwrite(room: &mut [u8], at: usize, bytes: &[u8])
+    requires { at + length bytes.now ≤ length room.old }
+    ensures { room.new ≡ take at room.old ++ bytes.now ++ drop (at + length bytes.now) room.old }
+{
+    room[at..at + bytes.len()].copy_from_slice(bytes);
+}
+
 /// A text of at most `MOST_TEXT` bytes, of which so many were handed out.
 #[derive(Drop)]
-pub(crate) struct Waiting {
+pub struct Waiting {
     bytes: Vec<u8>,
     len: usize,
     given: usize,
@@ -21,8 +28,8 @@ pub(crate) struct Waiting {
 
 impl Model for Waiting {
     ghost use Rattle.std.specs.Prelude.{◌≡◌, ◌≤◌, length, take};
-    ghost use Rattle.process_image.specs.Telling.{WaitingText};
-    ghost use Rattle.process_image.specs.declared.waiting.TheConstants.{MOST_TEXT};
+    ghost use Rattle.file_run.specs.Waiting.{WaitingText};
+    ghost use Rattle.file_run.specs.declared.waiting.TheConstants.{MOST_TEXT};
 
     ghost Value = { WaitingText };
 
@@ -33,7 +40,7 @@ impl Model for Waiting {
 
 impl Waiting {
     /// No text, with room for all of it.
-    pub(crate) fn new(alloc: Global) -> Result<Waiting, Memory>
+    pub fn new(alloc: Global) -> Result<Waiting, Memory>
         ensures { IfOk result (λ w. w ≡ record { text = []; given = 0 }) }
     {
         match vec![in alloc; 0; MOST_TEXT] {
@@ -47,7 +54,7 @@ impl Waiting {
     }
 
     /// Forgets the text.
-    pub(crate) fn clear(&mut self)
+    pub fn clear(&mut self)
         ensures { self.new ≡ record { text = []; given = 0 } }
     {
         self.len = 0;
@@ -55,7 +62,7 @@ impl Waiting {
     }
 
     /// Begins to hand the text out.
-    pub(crate) fn start(&mut self)
+    pub fn start(&mut self)
         ensures text { self.new ≡ record { text = self.old.text; given = 0 } }
         ensures most { length self.new.text ≤ MOST_TEXT }
     {
@@ -63,7 +70,7 @@ impl Waiting {
     }
 
     /// Appends a piece.
-    pub(crate) fn push(&mut self, piece: &[u8])
+    pub fn push(&mut self, piece: &[u8])
         requires { length self.old.text + length piece.now ≤ MOST_TEXT }
         ensures { self.new ≡ record { text = self.old.text ++ piece.now; given = self.old.given } }
     {
@@ -72,7 +79,7 @@ impl Waiting {
     }
 
     /// Writes over `part` the next 1,024 bytes that weren't handed out, or those that are left.
-    pub(crate) fn give(&mut self, part: &mut LineText)
+    pub fn give(&mut self, part: &mut LineText)
         ensures part { waits self.old ≡ part.new ++ waits self.new }
         ensures some { part.new ≡ [] → waits self.old ≡ [] }
         ensures most { length (waits self.new) ≤ MOST_TEXT }

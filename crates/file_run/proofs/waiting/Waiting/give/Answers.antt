@@ -1,8 +1,8 @@
 use Rattle.std.proofs.Common.{◌≤◌, ◌+◌, ◌-◌, ◌++◌, ℕ, List, take, drop, sym, ap, ◌∙◌, arith}
 use Rattle.std.proofs.lemmas.Grind.{common_steps}
-use Rattle.process_image.specs.Telling.{waits}
-use Rattle.process_image.proofs.Parts.{part_is}
-use Rattle.process_image.proofs.waiting.Waiting.give.Goals as goal
+use Rattle.file_run.specs.Waiting.{waits}
+use Rattle.file_run.proofs.HandedOut.{part_is}
+use Rattle.file_run.proofs.waiting.Waiting.give.Goals as goal
 
 pub returns-clause-part : goal.returns-clause-part
 returns-clause-part c =
