@@ -15,13 +15,12 @@ use Rattle.schedule_file.specs.EventLine.{not_zero, reference_of, switch_of, del
 use Rattle.schedule_file.specs.Field.{fields_of, is_number, number_said, bytes_said}
 use Rattle.schedule_file.specs.Fields.{◌>>=◌, value_or, next_field, no_field, one_field, number_16, number_32, one_hex_field}
 use Rattle.schedule_file.specs.Header.{Heading}
-use Rattle.schedule_file.specs.Input.{Stop, WholeHeader, header_of, own_length, heading_profile, said_after, event_of, is_full, steps, texts, input_by, input_of, schedule_format}
+use Rattle.schedule_file.specs.Input.{InputFormat, Stop, WholeHeaderOf, header_of, own_length, heading_profile, said_after, before_more, event_of, steps, texts, input_by, input_of, schedule_format}
 use Rattle.schedule_file.specs.NodeEvent.{word_of, node_said, node_said_by}
 use Rattle.schedule_file.specs.PairEvent.{pair_word_of, pair_said, pair_said_by}
 use Rattle.schedule_file.specs.declared.event.Event.{Event}
 use Rattle.schedule_file.specs.declared.event.ScheduleLine.{ScheduleLine}
 use Rattle.schedule_file.specs.declared.event.ScheduleLine.TheVariants as line
-use Rattle.schedule_file.specs.declared.header_kind.HeaderKind.{HeaderKind}
 use Rattle.schedule_file.specs.declared.header_kind.HeaderKind.TheVariants.{Pair, Node}
 use Rattle.schedule_file.specs.declared.line_cause.LineCause.{LineCause}
 use Rattle.schedule_file.specs.declared.line_cause.LineCause.TheVariants as cause
@@ -127,27 +126,33 @@ node_event_fits end h text said event says e =
     (IfOk-at_ok (OnStep (FitsEnd end (own_length h end) (heading_profile h end))) says (node_line_fits end (own_length h end) (heading_profile h end) (fields_of text)))
 
 -- the events of lines are such where each line's is
-first_is : (P : Event → Type 0) (r : Result ScheduleLine LineCause) (said : List (Result ScheduleLine LineCause)) → IfOk r (OnStep P) → All P (steps event_of said) → All P (steps event_of (r ∷ said))
-first_is P (Ok (line.Step event)) said is later = All-cons P event (steps event_of said) is later
-first_is P (Ok line.End) said is later = All-nil P
-first_is P (Err cause) said is later = All-nil P
+more_are : {E : Type 0} (P : E → Type 0) (said : Option E) (more : List E) → ((event : E) → said ≡ Some event → P event) → All P more → All P (before_more said more)
+more_are P None more is later = All-nil P
+more_are P (Some event) more is later = All-cons P event more (is event refl) later
 
-steps_are : (P : Event → Type 0) (says : List ℕ → Result ScheduleLine LineCause) → ((text : List ℕ) → IfOk (says text) (OnStep P)) → (lines : List (List ℕ)) → All P (steps event_of (map says lines))
-steps_are P says are [] = All-nil P
-steps_are P says are (text ∷ lines) = first_is P (says text) (map says lines) (are text) (steps_are P says are lines)
+first_is : {L E : Type 0} (event_of : L → Option E) (P : E → Type 0) (r : Result L LineCause) (said : List (Result L LineCause)) → ((line : L) (event : E) → r ≡ Ok line → event_of line ≡ Some event → P event)
+    → All P (steps event_of said) → All P (steps event_of (r ∷ said))
+first_is event_of P (Ok line) said is later = more_are P (event_of line) (steps event_of said) (λ event e. is line event refl e) later
+first_is event_of P (Err cause) said is later = All-nil P
 
-input_is : (kind : HeaderKind) (P : Heading → Event → Type 0) → ((h : Heading) (text : List ℕ) → IfOk (said_after kind h text) (OnStep (P h)))
-    → (r : Result WholeHeader Stop) → IfSome (input_by (schedule_format kind) r).heading (λ h. All (P h) (input_by (schedule_format kind) r).events)
-input_is kind P are (Ok whole) =
-    let h = whole.heading in
-    let said : List Event = steps event_of (map (said_after kind h) (texts whole.rest)) in
-    let first = room_is_first is_full [] said in
-    subst (All (P h)) (sym first.1) (All-take (P h) first.0 said (steps_are (P h) (said_after kind h) (are h) (texts whole.rest)))
-input_is kind P are (Err stop) = tt
+steps_are : {L E : Type 0} (event_of : L → Option E) (P : E → Type 0) (says : List ℕ → Result L LineCause) → ((text : List ℕ) (line : L) (event : E) → says text ≡ Ok line → event_of line ≡ Some event → P event)
+    → (lines : List (List ℕ)) → All P (steps event_of (map says lines))
+steps_are event_of P says are [] = All-nil P
+steps_are event_of P says are (text ∷ lines) = first_is event_of P (says text) (map says lines) (are text) (steps_are event_of P says are lines)
+
+-- so are the events of any input, where each line's is
+pub input_is : {H L E : Type 0} (f : InputFormat H L E) (P : H → E → Type 0) → ((h : H) (text : List ℕ) (line : L) (event : E) → f.line h text ≡ Ok line → f.event line ≡ Some event → P h event)
+    → (r : Result (WholeHeaderOf H) Stop) → IfSome (input_by f r).heading (λ h. All (P h) (input_by f r).events)
+input_is {H} {L} {E} f P are (Ok whole) =
+    let h : H = whole.heading in
+    let said : List E = steps f.event (map (f.line h) (texts whole.rest)) in
+    let first = room_is_first (f.is_full h) [] said in
+    subst (All (P h)) (sym first.1) (All-take (P h) first.0 said (steps_are f.event (P h) (f.line h) (are h) (texts whole.rest)))
+input_is f P are (Err stop) = tt
 
 pub events_fit : (bytes : List ℕ) → IfSome (input_of Pair bytes).heading (λ h. All (Fits (own_length h) (heading_profile h)) (input_of Pair bytes).events)
-events_fit bytes = input_is Pair (λ h. Fits (own_length h) (heading_profile h)) (λ h text. pair_line_fits (own_length h) (heading_profile h) (fields_of text)) (header_of Pair bytes)
+events_fit bytes = input_is (schedule_format Pair) (λ h. Fits (own_length h) (heading_profile h)) pair_event_fits (header_of Pair bytes)
 
 pub node_events_fit : (end : End) (bytes : List ℕ) → IfSome (input_of (Node end) bytes).heading (λ h. All (FitsEnd end (own_length h end) (heading_profile h end)) (input_of (Node end) bytes).events)
 node_events_fit end bytes =
-    input_is (Node end) (λ h. FitsEnd end (own_length h end) (heading_profile h end)) (λ h text. node_line_fits end (own_length h end) (heading_profile h end) (fields_of text)) (header_of (Node end) bytes)
+    input_is (schedule_format (Node end)) (λ h. FitsEnd end (own_length h end) (heading_profile h end)) (node_event_fits end) (header_of (Node end) bytes)

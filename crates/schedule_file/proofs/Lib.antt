@@ -17,3 +17,4 @@ pub mod DigitLanes
 pub mod DigitParts
 pub mod Pairs
 pub mod PairsRead
+pub mod PairsFitting

@@ -95,7 +95,7 @@ number_fits : (sends : List (End → ℕ)) (profiles : List (End → Profile)) (
 number_fits sends profiles None word fields = tt
 number_fits sends profiles (Some pair) word fields = to_fits sends profiles pair (numbered pair sends) (numbered pair profiles) word fields refl refl
 
-numbered_fits : (sends : List (End → ℕ)) (profiles : List (End → Profile)) (digits : List ℕ) (fields : List (List ℕ)) → IfOk (numbered_line sends profiles digits fields) (PairsLineFits sends profiles)
+pub numbered_fits : (sends : List (End → ℕ)) (profiles : List (End → Profile)) (digits : List ℕ) (fields : List (List ℕ)) → IfOk (numbered_line sends profiles digits fields) (PairsLineFits sends profiles)
 numbered_fits sends profiles digits fields =
     each (next_field fields) _ _ (λ second. each (value_or cause.Word (pair_word_of second.0)) _ _ (λ word. number_fits sends profiles (number_said 65535 digits) word second.1))
 

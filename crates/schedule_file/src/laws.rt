@@ -1,5 +1,5 @@
 //! What is written is read again, and what inputs say.
-ghost use Rattle.std.specs.Prelude.{◌≡◌, ◌<◌, ◌≤◌, ℕ, Some, All, List, [], ◌∷◌, ◌++◌, None, IfSome, codes, length, true};
+ghost use Rattle.std.specs.Prelude.{◌≡◌, ◌<◌, ◌≤◌, ℕ, Some, All, List, [], ◌∷◌, ◌++◌, None, IfSome, codes, length, map, true};
 ghost use Rattle.std.specs.declared.result.Result.TheVariants.{Err, Ok};
 ghost use Rattle.fsoe_base.specs.declared.command.End.{End};
 ghost use Rattle.param_load.specs.declared.master_settings.MasterSettings.{MasterSettings};
@@ -19,8 +19,10 @@ ghost use Rattle.schedule_file.specs.declared.header_kind.HeaderKind.TheVariants
 ghost use Rattle.schedule_file.specs.declared.line_cause.LineCause.TheVariants as cause;
 ghost use Rattle.fsoe_base.specs.declared.command.End.TheVariants as side;
 ghost use Rattle.schedule_file.specs.PairEvent.{pair_line};
-ghost use Rattle.schedule_file.specs.PairsEvent.{FitsPair, numbered, pairs_line, with_pair};
+ghost use Rattle.schedule_file.specs.PairsEvent.{FitsPair, PairsLineFits, numbered, pairs_line, with_pair};
+ghost use Rattle.schedule_file.specs.PairsHeader.{pairs_of};
 ghost use Rattle.schedule_file.specs.PairsInput.{pairs_input};
+ghost use Rattle.schedule_file.specs.PairsLine.{line_of_event};
 ghost use Rattle.schedule_file.specs.WorkedPairs.{pairs_with, says_to_two};
 ghost use Rattle.schedule_file.specs.declared.pairs_line.PairsEvent.TheVariants as pairs_event;
 ghost use Rattle.schedule_file.specs.declared.pairs_line.PairsLine.TheVariants.{One};
@@ -62,10 +64,12 @@ pub fn whole_headers_give_settings()
     ensures slave { (kind : HeaderKind) (bytes : List ℕ) → IfSome (input_of kind bytes).heading (λ h. (settings : SlaveSettings) × IsSlaveOf h settings) }
 {}
 
-/// The events of an input, where its header is whole, fit the ends that this describes: both of a pair, or that of a node.
+/// The events of an input, where its header is whole, fit the ends that this describes: both of a pair, that of a node, or those of the
+/// pair that an event of several pairs names.
 pub fn events_fit()
     ensures pair { (bytes : List ℕ) → IfSome (input_of Pair bytes).heading (λ h. All (Fits (own_length h) (heading_profile h)) (input_of Pair bytes).events) }
     ensures node { (end : End) (bytes : List ℕ) → IfSome (input_of (Node end) bytes).heading (λ h. All (FitsEnd end (own_length h end) (heading_profile h end)) (input_of (Node end) bytes).events) }
+    ensures pairs { (bytes : List ℕ) → IfSome (pairs_input bytes).heading (λ h. All (λ event. PairsLineFits (map own_length (pairs_of h)) (map heading_profile (pairs_of h)) (line_of_event event)) (pairs_input bytes).events) }
 {}
 
 /// What comes after the line `end` changes nothing of what an input says.

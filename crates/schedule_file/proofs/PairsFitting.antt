@@ -1,0 +1,55 @@
+-- What a line of several pairs says to one of them fits it, and so do the events of an input of several pairs.
+use Rattle.std.proofs.Common.{◌≡◌, ℕ, Bool, true, false, List, [], ◌∷◌, All, map, subst}
+use Rattle.std.specs.Prelude.{IfOk, IfSome, Result, Ok, Some, codes, if◌then◌else◌}
+use Rattle.std.specs.Str.{bytes_eq}
+use Rattle.std.proofs.lemmas.Result.{IfOk-at_ok}
+use Rattle.fsoe_base.specs.declared.command.End.{End}
+use Rattle.param_load.specs.declared.profile.Profile.{Profile}
+use Rattle.schedule_file.specs.Field.{fields_of}
+use Rattle.schedule_file.specs.Fields.{no_field}
+use Rattle.schedule_file.specs.Input.{header_read, heading_profile, own_length}
+use Rattle.schedule_file.specs.PairsEvent.{PairsLineFits, common_line, is_digits, numbered_line, pairs_said_by}
+use Rattle.schedule_file.specs.PairsHeader.{PairsHeading, pairs_of}
+use Rattle.schedule_file.specs.PairsInput.{pairs_format, pairs_input, pairs_said_after}
+use Rattle.schedule_file.specs.PairsLine.{line_of_event, pairs_event_of}
+use Rattle.schedule_file.specs.declared.line_cause.LineCause.{LineCause}
+use Rattle.schedule_file.specs.declared.pairs_line.PairsEvent.{PairsEvent}
+use Rattle.schedule_file.specs.declared.pairs_line.PairsEvent.TheVariants as event
+use Rattle.schedule_file.specs.declared.pairs_line.PairsLine.{PairsLine}
+use Rattle.schedule_file.specs.declared.pairs_line.PairsLine.TheVariants as said
+use Rattle.schedule_file.proofs.Fitting.{input_is}
+use Rattle.schedule_file.proofs.Pairs.{numbered_fits}
+use Rattle.schedule_file.proofs.Sound.{IfOk-every, IfOk-map}
+
+line_by : (b : Bool) (r t : Result PairsLine LineCause) (P : PairsLine → Type 0) → IfOk r P → IfOk t P → IfOk (if b then r else t) P
+line_by true r t P h i = h
+line_by false r t P h i = i
+
+common_fits : (sends : List (End → ℕ)) (profiles : List (End → Profile)) (first : List ℕ) (fields : List (List ℕ)) → IfOk (common_line first fields) (PairsLineFits sends profiles)
+common_fits sends profiles first fields =
+    line_by (bytes_eq first (codes "t")) _ _ (PairsLineFits sends profiles) (IfOk-map (no_field fields) _ _ (IfOk-every (no_field fields) _ (λ none. tt)))
+    (line_by (bytes_eq first (codes "end")) _ _ (PairsLineFits sends profiles) (IfOk-map (no_field fields) _ _ (IfOk-every (no_field fields) _ (λ none. tt))) tt)
+
+line_fits : (sends : List (End → ℕ)) (profiles : List (End → Profile)) (fields : List (List ℕ)) → IfOk (pairs_said_by sends profiles fields) (PairsLineFits sends profiles)
+line_fits sends profiles [] = tt
+line_fits sends profiles (first ∷ fields) =
+    line_by (is_digits first) (numbered_line sends profiles first fields) (common_line first fields) (PairsLineFits sends profiles) (numbered_fits sends profiles first fields) (common_fits sends profiles first fields)
+
+-- the event of a line is its line again
+in_line : (P : PairsLine → Type 0) (line : PairsLine) (x : PairsEvent) → pairs_event_of line ≡ Some x → P line → P (line_of_event x)
+in_line P said.Tick x e is =
+    let same : event.Tick ≡ x = cc in
+    subst (λ (x : PairsEvent). P (line_of_event x)) same is
+in_line P (said.One pair own) x e is =
+    let same : event.One pair own ≡ x = cc in
+    subst (λ (x : PairsEvent). P (line_of_event x)) same is
+in_line P said.End x e is = cc
+
+pub pairs_event_fits : (h : PairsHeading) (text : List ℕ) (line : PairsLine) (event : PairsEvent) → pairs_said_after h text ≡ Ok line → pairs_event_of line ≡ Some event
+    → PairsLineFits (map own_length (pairs_of h)) (map heading_profile (pairs_of h)) (line_of_event event)
+pairs_event_fits h text line event says e =
+    let Fits : PairsLine → Type 0 = PairsLineFits (map own_length (pairs_of h)) (map heading_profile (pairs_of h)) in
+    in_line Fits line event e (IfOk-at_ok Fits says (line_fits (map own_length (pairs_of h)) (map heading_profile (pairs_of h)) (fields_of text)))
+
+pub pairs_events_fit : (bytes : List ℕ) → IfSome (pairs_input bytes).heading (λ h. All (λ event. PairsLineFits (map own_length (pairs_of h)) (map heading_profile (pairs_of h)) (line_of_event event)) (pairs_input bytes).events)
+pairs_events_fit bytes = input_is pairs_format (λ h event. PairsLineFits (map own_length (pairs_of h)) (map heading_profile (pairs_of h)) (line_of_event event)) pairs_event_fits (header_read pairs_format bytes)
