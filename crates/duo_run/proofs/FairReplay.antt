@@ -25,7 +25,8 @@ use Rattle.duo_run.specs.Replay.{AreSetTo, RunsFairly, ServesIfHonest}
 pub same_lengths : (h : Heading) (ms : MasterSettings) (ss : SlaveSettings) → AreSetTo h ms ss → SameLengths ms ss
 same_lengths h ms ss set = record { master = set.0.0 ∙ sym set.1.0; slave = set.0.1 ∙ sym set.1.1 }
 
-proper : (h : Heading) (ms : MasterSettings) (ss : SlaveSettings) → AreSetTo h ms ss → (event : Event) → Fits (own_length h) (heading_profile h) event → IsProperEvent ms ss event
+-- an event that fits a header is proper at ends that are set to it
+pub proper : (h : Heading) (ms : MasterSettings) (ss : SlaveSettings) → AreSetTo h ms ss → (event : Event) → Fits (own_length h) (heading_profile h) event → IsProperEvent ms ss event
 proper h ms ss set (event.Put end_name.Master load) fits = fits.1 ∙ sym set.0.0
 proper h ms ss set (event.Put end_name.Slave load) fits = fits.1 ∙ sym set.1.1
 proper h ms ss set (event.Nonce end_name.Master id) fits = subst (λ (p : Profile). IsTrue (allows_id p id)) (sym set.0.2.profile_is) fits.1

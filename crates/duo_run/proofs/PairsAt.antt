@@ -1,12 +1,12 @@
 -- The pair of a number, and what a step at it leaves of the others.
-use Rattle.std.proofs.Common.{◌≡◌, ◌≢◌, ◌≤◌, ◌<◌, ◌+◌, ◌-◌, ◌^◌, ℕ, zero, suc, List, [], ◌∷◌, length, slice_get, slice_set, refl, arith, ap, sym, subst, ◌∙◌}
-use Rattle.std.specs.Prelude.{IfOk, IfSome, OnOk, Result, Ok, Err, Some, None}
+use Rattle.std.proofs.Common.{◌≡◌, ◌+◌, ℕ, zero, suc, List, [], ◌∷◌, slice_get, slice_set, refl, arith, ap, sym, subst, ◌∙◌}
+use Rattle.std.specs.Prelude.{IfOk, IfSome, OnOk, Result, Ok, Err, Some}
 use Rattle.std.specs.declared.option.Option.{Option}
 use Rattle.param_load.specs.declared.entry.Entry.{Entry}
 use Rattle.schedule_file.specs.PairsEvent.{numbered}
 use Rattle.schedule_file.specs.declared.event.Event.{Event}
 use Rattle.duo_run.specs.Duo.{DuoView, Steps, lengths_of, profiles_of, steps_done}
-use Rattle.duo_run.specs.Pairs.{StepsAt}
+use Rattle.duo_run.specs.PairsStanding.{StepsAt}
 
 pub named : {X : Type 0} (k place : ℕ) (xs : List X) (x : X) → k ≡ place + 1 → slice_get xs place ≡ Some x → numbered k xs ≡ Some x
 named zero place xs x e at = absurd (omega arith)

@@ -43,10 +43,10 @@ stood_profiles v h log text k end_name.Master = ap (λ v. v.kit.settings.profile
 stood_profiles v h log text k end_name.Slave = ap (λ v. v.kit.settings.profile) k.stands.slave.is ∙ k.set.1.2.profile_is
 
 -- an event that may come fits the pair
-same_word : {X : Type 0} (f g : End → X) → ((end : End) → f end ≡ g end) → f ≡ g
+pub same_word : {X : Type 0} (f g : End → X) → ((end : End) → f end ≡ g end) → f ≡ g
 same_word f g same = λ i. λ end. same end i
 
-fits_ends : (f g : End → ℕ) (p q : End → Profile) (event : Event) → f ≡ g → p ≡ q → Fits f p event → Fits g q event
+pub fits_ends : (f g : End → ℕ) (p q : End → Profile) (event : Event) → f ≡ g → p ≡ q → Fits f p event → Fits g q event
 fits_ends f g p q event e d fits = subst (λ (q : End → Profile). Fits g q event) d (subst (λ (g : End → ℕ). Fits g p event) e fits)
 
 pub pair_fits : (v : DuoView) (event : Event) (number : ℕ) → MayCome (ReplayStands v) (schedule_format kind.Pair) event number → Fits (length_of (lengths_of v)) (profile_of (profiles_of v)) event

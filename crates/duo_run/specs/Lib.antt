@@ -2,8 +2,11 @@ pub mod Acts
 pub mod Bulk
 pub mod Duo
 pub mod Pairs
+pub mod PairsReport
+pub mod PairsStanding
 pub mod Ran
 pub mod Replay
 pub mod Summary
 pub mod Convert
 pub mod Converting
+pub mod Version

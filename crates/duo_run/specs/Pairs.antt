@@ -1,6 +1,6 @@
 -- Several pairs over a schedule with common ticks: what an event of all is to each pair, and what each does. Pairs are numbered from 1 in
 -- their order. Events of all pairs are listed newest first, those of one pair oldest first, and entries newest first.
-use Rattle.std.specs.Prelude.{◌≡◌, ℕ, suc, ◌+◌, ◌==◌, min, List, [], ◌∷◌, ◌++◌, length, Bool, true, false, Option, Some, None, is_some, if◌then◌else◌}
+use Rattle.std.specs.Prelude.{ℕ, suc, ◌==◌, min, List, [], ◌∷◌, ◌++◌, length, Bool, true, false, Option, Some, None, is_some, if◌then◌else◌}
 use Rattle.fsoe_base.specs.declared.command.End.TheVariants as end_name
 use Rattle.param_load.specs.declared.entry.Entry.{Entry}
 use Rattle.param_load.specs.declared.master_settings.MasterSettings.{MasterSettings}
@@ -12,7 +12,6 @@ use Rattle.schedule_file.specs.declared.pairs_line.PairsEvent.{PairsEvent}
 use Rattle.schedule_file.specs.declared.pairs_line.PairsEvent.TheVariants as common
 use Rattle.exchange_model.specs.Other.{first_of_both, first_other}
 use Rattle.exchange_model.specs.World.{entry_at, world}
-use Rattle.duo_run.specs.Duo.{DuoView, DuoStands, Steps, lengths_of, profiles_of, steps_done}
 
 -- what both ends of a pair are set to
 pub record Pair : Type 0 where
@@ -56,7 +55,7 @@ abbrev pub done_after : List Pair → List PairsEvent → List PairsEvent → Li
 done_after pairs [] past = past
 done_after pairs (event ∷ events) past = if is_met pairs past event then done_after pairs events (event ∷ past) else past
 
--- the events that are done of these, oldest first
+-- of these events, which come oldest first, those that are done, newest first
 abbrev pub events_done : List Pair → List PairsEvent → List PairsEvent
 events_done pairs events = done_after pairs events []
 
@@ -80,24 +79,3 @@ less_of (Some n) (Some other) = Some (min n other)
 abbrev pub least : List (Option ℕ) → Option ℕ
 least [] = None
 least (n ∷ others) = less_of n (least others)
-
--- a pair stands for these events of its own, each of which has its entry
-pub record StandsOver (p : Pair) (own : List Event) (v : DuoView) : Type 0 where
-  pub stands : DuoStands p.master p.slave v (entries_over p own)
-  pub whole : length (entries_over p own) ≡ length own
-
--- each pair does so, where this is what happened to the pair of a number
-pub record AllStandOver (pairs : List Pair) (own : ℕ → List Event) (duos : List DuoView) : Type 0 where
-  pub many : length duos ≡ length pairs
-  pub each : (k : ℕ) (p : Pair) (v : DuoView) → numbered k pairs ≡ Some p → numbered k duos ≡ Some v → StandsOver p (own k) v
-
--- at this event the pair of a number does the next entry of its world, which is this one, and its steps are counted
-pub record StepsAt (k : ℕ) (old : List DuoView) (event : Event) (x : Entry) (new : List DuoView) : Type 0 where
-  pub before : DuoView
-  pub after : DuoView
-  pub was : numbered k old ≡ Some before
-  pub is : numbered k new ≡ Some after
-  pub steps : Steps before event x after
-  pub counts : steps_done after ≡ steps_done before + 1
-  pub lengths : lengths_of after ≡ lengths_of before
-  pub profiles : profiles_of after ≡ profiles_of before

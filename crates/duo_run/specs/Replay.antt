@@ -12,7 +12,7 @@ use Rattle.param_load.specs.declared.slave_settings.SlaveSettings.{SlaveSettings
 use Rattle.entry_text.specs.EntryText.{entry_text}
 use Rattle.schedule_file.specs.EventText.{end_letter}
 use Rattle.schedule_file.specs.Header.{Heading, IsMasterOf, IsSlaveOf}
-use Rattle.schedule_file.specs.Input.{Input, NoFrame, Stop, AtEnd, Refused, input_of, schedule_format}
+use Rattle.schedule_file.specs.Input.{Input, InputOf, NoFrame, Stop, AtEnd, Refused, input_of, schedule_format}
 use Rattle.schedule_file.specs.declared.header_kind.HeaderKind.TheVariants as kind
 use Rattle.schedule_file.specs.declared.event.Event.{Event}
 use Rattle.schedule_file.specs.declared.event.ScheduleLine.{ScheduleLine}
@@ -27,9 +27,13 @@ use Rattle.exchange_model.specs.Serving.{Serves}
 use Rattle.exchange_model.specs.World.{world}
 use Rattle.duo_run.specs.Duo.{DuoView, DuoStands}
 
--- the line of an entry with these parts: its number from 1, the letter of its end, and what every report writes of an entry
+-- the end of the line of an entry with these parts: the letter of its end, and what every report writes of an entry
+abbrev pub told_line : End → Did → State → List ℕ → List ℕ → List ℕ
+told_line at did state outputs sent = end_letter at ++ codes " " ++ entry_text did state outputs sent ++ codes "\n"
+
+-- the line of an entry with these parts, with its number from 1
 abbrev pub line_of : ℕ → End → Did → State → List ℕ → List ℕ → List ℕ
-line_of n at did state outputs sent = decimal n ++ codes " " ++ end_letter at ++ codes " " ++ entry_text did state outputs sent ++ codes "\n"
+line_of n at did state outputs sent = decimal n ++ codes " " ++ told_line at did state outputs sent
 
 -- the line of an entry
 abbrev pub entry_line : ℕ → Entry → List ℕ
@@ -50,10 +54,14 @@ abbrev pub ended_at : List Entry → Stop → Ended
 ended_at w AtEnd = ended_with (first_other w)
 ended_at w (Refused number why) = record { status = status.Line; place = number }
 
--- how a run over an input stops that has these entries: as the input does where each event has its entry, else at the line of the
--- first event without one, which names a frame that wasn't sent
+-- how a run over an input stops that did so many of its events: as the input does where that is all, else at the line of the next event,
+-- which names a frame that wasn't sent
+abbrev pub stop_after : {H E : Type 0} → InputOf H E → ℕ → Stop
+stop_after input done = if done == length input.events then input.stop else Refused (input.lines + done + 1) NoFrame
+
+-- the same of a pair with these entries, one for each event
 abbrev pub run_stop : Input → List Entry → Stop
-run_stop input w = if length w == length input.events then input.stop else Refused (input.lines + length w + 1) NoFrame
+run_stop input w = stop_after input (length w)
 
 -- both ends are set to what a header says
 abbrev pub AreSetTo : Heading → MasterSettings → SlaveSettings → Type 0
@@ -84,7 +92,7 @@ abbrev pub ServesIfHonest : Input → Type 0
 ServesIfHonest input = IfSome input.heading (λ h. (ms : MasterSettings) (ss : SlaveSettings) → AreSetTo h ms ss → Match ms ss → IsHonest ms ss input.events → Serves ms input.events (world ms ss input.events))
 
 -- both ends ran over an input; and, where its bytes are told, the law of the pair holds of their entries
-pub record RanReplay (ended : Ended) (o : Outside) : Type 0 where
+pub record RanPair (ended : Ended) (o : Outside) : Type 0 where
   pub run : RanOver replay_reporting ended o
   pub fair : IfSome o.source.before (λ input. RunsFairly (input_of kind.Pair input))
   pub serves : IfSome o.source.before (λ input. ServesIfHonest (input_of kind.Pair input))

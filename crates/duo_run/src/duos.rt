@@ -12,7 +12,7 @@ use std::marker::Model;
 /// From 1 to 16 pairs, numbered from 1 in their order, each with its own channel and its own monitor. No call but `new` takes memory.
 #[derive(Drop)]
 pub struct Duos {
-    pairs: Vec<Duo>,
+    pub(crate) pairs: Vec<Duo>,
 }
 
 impl Model for Duos {
@@ -35,7 +35,7 @@ impl Duos {
     ghost use Rattle.exchange_model.specs.Other.{first_other};
     ghost use Rattle.exchange_model.specs.World.{SameLengths};
     ghost use Rattle.duo_run.specs.Duo.{DuoStands, Misses, lengths_of, profiles_of, steps_done};
-    ghost use Rattle.duo_run.specs.Pairs.{StepsAt};
+    ghost use Rattle.duo_run.specs.PairsStanding.{StepsAt};
 
     /// Pairs of new ends with these settings, in this order: the ends of each have the same lengths.
     pub fn new(pairs: Vec<(MasterSettings, SlaveSettings)>) -> Result<Duos, Memory>

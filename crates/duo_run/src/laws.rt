@@ -1,6 +1,6 @@
 //! What holds of a pair over all its steps, and of the reports of its runs. The calls do nothing: each law is a contract.
 
-ghost use Rattle.std.specs.Prelude.{◌≡◌, ◌++◌, ℕ, List, [], All, IfSome, codes, false};
+ghost use Rattle.std.specs.Prelude.{◌≡◌, ◌++◌, ◌∷◌, ℕ, List, [], All, IfSome, codes, false, map};
 ghost use Rattle.std.specs.declared.result.Result.TheVariants.{Ok};
 ghost use Rattle.fsoe_base.specs.declared.command.End.{End};
 ghost use Rattle.fsoe_io.specs.declared.status.Ended.{Ended};
@@ -15,6 +15,7 @@ ghost use Rattle.schedule_file.specs.Place.{is_start};
 ghost use Rattle.schedule_file.specs.declared.event.ScheduleLine.TheVariants as said;
 ghost use Rattle.schedule_file.specs.declared.line_cause.LineCause.TheVariants as cause;
 ghost use Rattle.schedule_file.specs.declared.pairs_header.PairsStage.TheVariants as stage;
+ghost use Rattle.schedule_file.specs.declared.pairs_line.PairsEvent.TheVariants as pairs_event;
 ghost use Rattle.schedule_file.specs.declared.pairs_line.PairsLine.TheVariants as pairs_said;
 ghost use Rattle.schedule_file.specs.declared.event.Event.{Event};
 ghost use Rattle.schedule_file.specs.declared.header_kind.HeaderKind.TheVariants as kind;
@@ -29,6 +30,8 @@ ghost use Rattle.exchange_model.specs.Serving.{Serves};
 ghost use Rattle.exchange_model.specs.World.{setup_of, moves, world, SameLengths, IsProperEvent};
 ghost use Rattle.duo_run.specs.Convert.{IsOnePair, converted, only_pair};
 ghost use Rattle.duo_run.specs.Duo.{DuoView, DuoStands};
+ghost use Rattle.duo_run.specs.Pairs.{Pair, events_done, world_of};
+ghost use Rattle.duo_run.specs.PairsReport.{PairsInput, PairsReports};
 ghost use Rattle.duo_run.specs.Ran.{Ran};
 ghost use Rattle.duo_run.specs.Replay.{ReplayReports};
 
@@ -63,6 +66,13 @@ pub fn one_replay()
     ensures one_ending { (input : Input) (a b : Ended) (x y : List ℕ) → ReplayReports input a x → ReplayReports input b y → a ≡ b }
 {}
 
+/// An input has one report of several pairs, and a run that writes it ends in one way.
+pub fn one_replay_of_pairs()
+    ensures some { (bytes : List ℕ) → (report : List ℕ) × (ended : Ended) × PairsReports (pairs_input bytes) ended report }
+    ensures one_text { (input : PairsInput) (a b : Ended) (x y : List ℕ) → PairsReports input a x → PairsReports input b y → x ≡ y }
+    ensures one_ending { (input : PairsInput) (a b : Ended) (x y : List ℕ) → PairsReports input a x → PairsReports input b y → a ≡ b }
+{}
+
 /// Line by line, what a pair file is converted to says the same of the only pair: the lines that its first line gives, each later line of its
 /// header, each event line, and the last line.
 pub fn converted_lines_say_the_same()
@@ -74,9 +84,11 @@ pub fn converted_lines_say_the_same()
     ensures last { (h : Heading) → pairs_said_after (only_pair h) (codes "end") ≡ Ok pairs_said.End }
 {}
 
-/// What a pair file that stops by `end` is converted to is read as a file of one pair, with the same header, the same events and the same stop.
+/// What a pair file that stops by `end` is converted to is read as a file of one pair, with the same header, the same events and the same stop;
+/// and this pair's entries over these events, as they are done among those of all, are those of the pair by itself.
 pub fn conversions_say_the_same()
-    ensures { (bytes : List ℕ) → (input_of kind.Pair bytes).stop ≡ AtEnd → IfSome (input_of kind.Pair bytes).heading (λ h. IsOnePair h (input_of kind.Pair bytes).events (pairs_input (converted bytes))) }
+    ensures world { (p : Pair) (events : List Event) → world_of 1 p (events_done (p ∷ []) (map (λ event. pairs_event.One 1 event) events)) ≡ world p.master p.slave events }
+    ensures input { (bytes : List ℕ) → (input_of kind.Pair bytes).stop ≡ AtEnd → IfSome (input_of kind.Pair bytes).heading (λ h. IsOnePair h (input_of kind.Pair bytes).events (pairs_input (converted bytes))) }
 {}
 
 /// What pair files are converted to: one with an event, which names a frame that wasn't sent, and two that are refused, in the header and

@@ -1,5 +1,5 @@
 //! The run of both ends over a pair file.
-ghost use Rattle.std.specs.Prelude.{◌≡◌, ◌≤◌, ℕ, ◌++◌, List, length, IfErr, OnErr, OnOk};
+ghost use Rattle.std.specs.Prelude.{◌≡◌, ◌≤◌, ◌+◌, ℕ, ◌++◌, List, length, IfErr, OnErr, OnOk};
 ghost use Rattle.schedule_file.specs.Header.{Heading};
 ghost use Rattle.schedule_file.specs.Input.{schedule_format};
 ghost use Rattle.schedule_file.specs.declared.event.Event.{Event};
@@ -7,7 +7,7 @@ ghost use Rattle.schedule_file.specs.declared.header_kind.HeaderKind.TheVariants
 ghost use Rattle.file_run.specs.Machine.{TakesEvent, MayCome};
 ghost use Rattle.file_run.specs.Report.{events_line, other_line};
 ghost use Rattle.file_run.specs.Reporting.{EndsStopped};
-ghost use Rattle.duo_run.specs.Replay.{line_of, ReplayStands, replay_reporting, RanReplay};
+ghost use Rattle.duo_run.specs.Replay.{line_of, told_line, ReplayStands, replay_reporting, RanPair};
 
 use crate::acting::Answer;
 use crate::coming::end_of;
@@ -18,6 +18,19 @@ use file_run::{Machine, Schedule, Stopped, ended_with, push_other, run_over, wri
 use fsoe_base::{End, MOST_DATA, Memory, State};
 use fsoe_io::{Ended, LineText, Sink, Source};
 use schedule_file::{Event, Header, HeaderKind, MAX_EVENTS, end_letter};
+
+/// Appends what the line of an entry tells after its numbers, of an end with this state and these outputs.
+pub(crate) fn push_told(at: End, state: State, outputs: &[u8], answer: &Answer, text: &mut LineText)
+    requires outputs { length outputs.now ≤ MOST_DATA }
+    requires room { length text.old ≤ 60 }
+    ensures text { text.new ≡ text.old ++ told_line at answer.now.did state outputs.now answer.now.sent }
+    ensures most { length text.new ≤ length text.old + 920 }
+{
+    text.push(end_letter(at));
+    text.push(b" ");
+    push_entry(&answer.did, state, outputs, answer.sent.bytes(), text);
+    text.push(b"\n");
+}
 
 /// Writes the line of the entry of this number, from 1, of an end with this state and these outputs.
 fn write_entry(
@@ -34,10 +47,7 @@ fn write_entry(
     text.clear();
     text.push_decimal(number);
     text.push(b" ");
-    text.push(end_letter(at));
-    text.push(b" ");
-    push_entry(&answer.did, state, outputs, answer.sent.bytes(), text);
-    text.push(b"\n");
+    push_told(at, state, outputs, answer, text);
 }
 
 /// Writes the last lines of a run of so many entries, of which the first other one has this number.
@@ -50,7 +60,7 @@ fn write_closing(events: u64, other: Option<u64>, text: &mut LineText)
 
 /// Both ends over the lines of a source.
 #[derive(Drop)]
-struct PairRun {
+pub(crate) struct PairRun {
     duo: Duo,
     /// What an end did last.
     answer: Answer,
@@ -145,8 +155,8 @@ impl Machine for PairRun {
 /// The status is `Ok` with place 0 where no entry is other; `Other` with the number of the first other entry; `Line` with the
 /// number of the refused line; `Read` with the whole lines read, only where the source failed; or `Write` with the bytes written,
 /// only where the sink failed.
-pub fn run_replay<S: Source, K: Sink>(source: &mut S, sink: &mut K) -> Ended
-    ensures { RanReplay result (record {
+pub fn run_pair<S: Source, K: Sink>(source: &mut S, sink: &mut K) -> Ended
+    ensures { RanPair result (record {
       source = record { before = S.left source.old; after = S.left source.new; faults_before = S.faults source.old; faults_after = S.faults source.new };
       sink = record { before = K.written sink.old; after = K.written sink.new; faults_before = K.faults sink.old; faults_after = K.faults sink.new };
     }) }

@@ -47,8 +47,8 @@ fn without_journal(alloc: Global, ended: Ended) -> Outcome
 /// Runs the command that the words after the program's name are, over what the source gives, and writes its
 /// report to the sink.
 ///
-/// `node master` and `node slave` run this end over a node file, `replay` runs both ends over a schedule, `image` runs ends on fixed places of a
-/// cyclic image, and `diagnose` judges a recorded trace. `bulk <number> <events>` runs both ends over the first events of the schedule of that
+/// `node master` and `node slave` run this end over a node file, `replay` runs both ends of a pair over a schedule, or of several pairs with
+/// common ticks, as the first line of its input says, `image` runs ends on fixed places of a cyclic image, and `diagnose` judges a recorded trace. `bulk <number> <events>` runs both ends over the first events of the schedule of that
 /// number. It doesn't read the source, nor do words that name no command: these write the usage line, with status `Usage`.
 ///
 /// `plant <file>` runs a plant over a script, by the configuration that the desk has under the name of the file, of at most 262,144 bytes.
@@ -57,7 +57,7 @@ fn without_journal(alloc: Global, ended: Ended) -> Outcome
 /// names `net`, or else the first of `apps` that has the name; the script takes others, and those that are left are dropped. The channel is the
 /// first of `channels` that has the name; all others are unchanged. What the plant did stands in the journal.
 ///
-/// Only `image` and `plant` take memory, and so have the status `Memory`.
+/// Only `image`, `plant`, and `replay` of several pairs take memory, and so have the status `Memory`.
 pub fn run<D: Desk, S: Source, K: Sink>(
     alloc: Global,
     words: &[String],
@@ -90,7 +90,7 @@ pub fn run<D: Desk, S: Source, K: Sink>(
 {
     match command_said(words) {
         Some(Command::Node(end)) => without_journal(alloc, run_node(end, source, sink)),
-        Some(Command::Replay) => without_journal(alloc, run_replay(source, sink)),
+        Some(Command::Replay) => without_journal(alloc, run_replay(alloc, source, sink)),
         Some(Command::Bulk { number, events }) => {
             without_journal(alloc, run_bulk(number, events, sink))
         }

@@ -9,7 +9,7 @@ use Rattle.schedule_file.specs.Input.{input_of}
 use Rattle.schedule_file.specs.declared.header_kind.HeaderKind.TheVariants as kind
 use Rattle.file_run.specs.Outside.{Outside}
 use Rattle.file_run.specs.Ran.{EndsAs}
-use Rattle.duo_run.specs.Replay.{RanReplay, replay_reporting}
+use Rattle.duo_run.specs.Replay.{RanPair, replay_reporting}
 use Rattle.replay_c.specs.Replayed.{Replayed, WrittenWith}
 use Rattle.replay_c.specs.Told.{told}
 use Rattle.replay_c.proofs.Told.{TellsMore, told_more}
@@ -46,7 +46,7 @@ pub record LeavesMemory (text : List ℕ) (ended : Ended) (name : ℕ) (before :
   pub replayed : Replayed text ended written
 
 pub leaves_memory : (text : List ℕ) (ended : Ended) (left : Option (List ℕ)) (name : ℕ) (before none : List ℕ) (name' : ℕ) (before' written : List ℕ) (refusals refusals' : ℕ) → none ≡ []
-    → RanReplay ended (outside text left (told name before none) (told name' before' written) refusals refusals') → LeavesMemory text ended name before name' before' written
+    → RanPair ended (outside text left (told name before none) (told name' before' written) refusals refusals') → LeavesMemory text ended name before name' before' written
 leaves_memory text ended left name before none name' before' written refusals refusals' empty ran =
     let w : Written ended.status ended text (told name before none) (told name' before' written) = written_by ended.status ended text left (told name before none) (told name' before' written) refusals refusals' ran.run.ends in
     let more : TellsMore name before none name' before' written w.piece = told_more name before none name' before' written w.piece w.grew in

@@ -7,7 +7,7 @@ ghost use Rattle.replay_c.specs.Replayed.{EndedAs, Replayed};
 
 use crate::room::Room;
 use crate::text::Text;
-use duo_run::run_replay;
+use duo_run::run_pair;
 use fsoe_io::{Ended, Status};
 
 /// The status of a replay that found the memory full. The statuses are those of the program; `embed/replay.h` names them.
@@ -35,7 +35,7 @@ fn replay_into(text: &[u8], room: &mut Room<'_>) -> Ended
     ensures fair { RunsFairly (input_of kind.Pair text.now) }
     ensures serves { ServesIfHonest (input_of kind.Pair text.now) }
 {
-    run_replay(&mut Text::new(text), room)
+    run_pair(&mut Text::new(text), room)
 }
 
 /// Runs both ends over the text of a pair file, as `replay` does, and writes their report to the front of `report`. Answers the status:

@@ -1,5 +1,5 @@
 //! Runs of commands over an input of few events, at which the outside fails.
-use duo_run::{run_bulk, run_replay};
+use duo_run::{run_bulk, run_convert, run_replay};
 use fsoe_base::End;
 use fsoe_io::{Ended, MemSink, MemSource, Status};
 use node_runner::run_node;
@@ -14,6 +14,7 @@ use trace_diag::run_diagnose;
 enum Run {
     Node(End),
     Replay,
+    Convert,
     Diagnose,
     Image,
 }
@@ -34,98 +35,163 @@ fn run_over(
     let mut sink = MemSink::new(alloc, 100_000, most, vec![in alloc; write_fails].ok()?).ok()?;
     let ended = match run {
         Run::Node(end) => run_node(end, &mut source, &mut sink),
-        Run::Replay => run_replay(&mut source, &mut sink),
+        Run::Replay => run_replay(alloc, &mut source, &mut sink),
+        Run::Convert => run_convert(&mut source, &mut sink),
         Run::Diagnose => run_diagnose(&mut source, &mut sink),
         Run::Image => run_image(alloc, &mut source, &mut sink),
     };
     Some((ended, sink))
 }
 
-/// What runs, an input of few events, the lines of its header, what is written of none and of the first events, and its whole report.
-type Short = (Run, &'static str, u64, [&'static str; 4], &'static str);
+/// What runs, and the lines of a short input, each with what is written once it is read.
+type Short = (Run, &'static [(&'static str, &'static str)]);
 
-const SHORTS: [Short; 5] = [
+const SHORTS: [Short; 7] = [
     (
         Run::Node(End::Slave),
-        "fsoe 1 node slave\nlengths 2 2\nslave 2 200 1000 2\nrule any 0\ngo\nt\nh 1\nend\n",
-        5,
-        [
-            "",
-            "1 quiet Reset 0000\n",
-            "1 quiet Reset 0000\n2 quiet Reset 0000\n",
-            "",
+        &[
+            ("fsoe 1 node slave\n", ""),
+            ("lengths 2 2\n", ""),
+            ("slave 2 200 1000 2\n", ""),
+            ("rule any 0\n", ""),
+            ("go\n", ""),
+            ("t\n", "1 quiet Reset 0000\n"),
+            ("h 1\n", "2 quiet Reset 0000\n"),
+            ("end\n", "events 2\n"),
         ],
-        "1 quiet Reset 0000\n2 quiet Reset 0000\nevents 2\n",
     ),
     (
         Run::Node(End::Master),
-        "fsoe 1 node master\nlengths 2 2\nmaster 1 2 100 1\ngo\nt\nh 1\nend\n",
-        4,
-        [
-            "",
-            "1 again Reset 0000 > 2a0000c42d0000\n",
-            "1 again Reset 0000 > 2a0000c42d0000\n2 quiet Reset 0000\n",
-            "",
+        &[
+            ("fsoe 1 node master\n", ""),
+            ("lengths 2 2\n", ""),
+            ("master 1 2 100 1\n", ""),
+            ("go\n", ""),
+            ("t\n", "1 again Reset 0000 > 2a0000c42d0000\n"),
+            ("h 1\n", "2 quiet Reset 0000\n"),
+            ("end\n", "events 2\n"),
         ],
-        "1 again Reset 0000 > 2a0000c42d0000\n2 quiet Reset 0000\nevents 2\n",
     ),
     (
         Run::Replay,
-        "fsoe 1 pair\nlengths 2 2\nmaster 1 2 100 1\nslave 2 200 1000 2\nrule any 0\ngo\npm 0100\nps 8000\ntm\nend\n",
-        6,
-        [
-            "",
-            "1 m quiet Reset 0000\n",
-            "1 m quiet Reset 0000\n2 s quiet Reset 0000\n",
-            "1 m quiet Reset 0000\n2 s quiet Reset 0000\n3 m again Reset 0000 > 2a0000c42d0000\n",
+        &[
+            ("fsoe 1 pair\n", ""),
+            ("lengths 2 2\n", ""),
+            ("master 1 2 100 1\n", ""),
+            ("slave 2 200 1000 2\n", ""),
+            ("rule any 0\n", ""),
+            ("go\n", ""),
+            ("pm 0100\n", "1 m quiet Reset 0000\n"),
+            ("ps 8000\n", "2 s quiet Reset 0000\n"),
+            ("tm\n", "3 m again Reset 0000 > 2a0000c42d0000\n"),
+            ("end\n", "events 3\nother none\n"),
         ],
-        "1 m quiet Reset 0000\n2 s quiet Reset 0000\n3 m again Reset 0000 > 2a0000c42d0000\nevents 3\nother none\n",
+    ),
+    (
+        Run::Replay,
+        &[
+            ("fsoe 2 pairs\n", ""),
+            ("pair 1\n", ""),
+            ("lengths 2 2\n", ""),
+            ("master 1 2 100 1\n", ""),
+            ("slave 2 200 1000 2\n", ""),
+            ("rule any 0\n", ""),
+            ("pair 2\n", ""),
+            ("lengths 2 2\n", ""),
+            ("master 1 2 100 1\n", ""),
+            ("slave 2 200 1000 2\n", ""),
+            ("rule any 0\n", ""),
+            ("go\n", ""),
+            (
+                "t\n",
+                "1 1 s quiet Reset 0000\n1 2 s quiet Reset 0000\n1 1 m again Reset 0000 > 2a0000c42d0000\n1 2 m again Reset 0000 > 2a0000c42d0000\n",
+            ),
+            (
+                "1 ds -1\n",
+                "2 1 s took Reset Reset 0000 > 2a0000c42d0000\n",
+            ),
+            ("end\n", "events 2\npair 1 other none\npair 2 other none\n"),
+        ],
+    ),
+    (
+        Run::Convert,
+        &[
+            ("fsoe 1 pair\n", "fsoe 2 pairs\npair 1\n"),
+            ("lengths 2 2\n", "lengths 2 2\n"),
+            ("master 1 2 100 1\n", "master 1 2 100 1\n"),
+            ("slave 2 200 1000 2\n", "slave 2 200 1000 2\n"),
+            ("rule any 0\n", "rule any 0\n"),
+            ("go\n", "go\n"),
+            ("dm -1\n", "1 dm -1\n"),
+            ("end\n", "end\n"),
+        ],
     ),
     (
         Run::Diagnose,
-        "fsoe 1 trace\nlengths 2 2\ngo\nm 2a0000c42d0000\ns 2a0000c42d0000\nend\n",
-        3,
-        ["", "", "", ""],
-        "frames 2\nread - - - -\nconforms\n",
+        &[
+            ("fsoe 1 trace\n", ""),
+            ("lengths 2 2\n", ""),
+            ("go\n", ""),
+            ("m 2a0000c42d0000\n", ""),
+            ("s 2a0000c42d0000\n", ""),
+            ("end\n", "frames 2\nread - - - -\nconforms\n"),
+        ],
     ),
     (
         Run::Image,
-        "fsoe 1 image\nsize 7 7\nslot 1 0 0\nlengths 2 2\nslave 2 200 1000 2\nrule any 0\ngo\nw 0 2a0000c42d0000\ns\ns\nend\n",
-        7,
-        [
-            "",
-            "",
-            "2 1 took Reset Reset 0000 > 2a0000c42d0000\n",
-            "2 1 took Reset Reset 0000 > 2a0000c42d0000\n",
+        &[
+            ("fsoe 1 image\n", ""),
+            ("size 7 7\n", ""),
+            ("slot 1 0 0\n", ""),
+            ("lengths 2 2\n", ""),
+            ("slave 2 200 1000 2\n", ""),
+            ("rule any 0\n", ""),
+            ("go\n", ""),
+            ("w 0 2a0000c42d0000\n", ""),
+            ("s\n", "2 1 took Reset Reset 0000 > 2a0000c42d0000\n"),
+            ("s\n", ""),
+            ("end\n", "events 3\nout 2a0000c42d0000\n"),
         ],
-        "2 1 took Reset Reset 0000 > 2a0000c42d0000\nevents 3\nout 2a0000c42d0000\n",
     ),
 ];
 
 /// The whole lines of these bytes.
-fn whole_lines(bytes: &[u8]) -> u64 {
-    let mut lines = 0u64;
-    for byte in bytes {
-        if *byte == b'\n' {
-            lines = lines.saturating_add(1);
-        }
+fn whole_lines(bytes: &[u8]) -> usize {
+    bytes.iter().filter(|byte| **byte == b'\n').count()
+}
+
+/// The lines of a short input.
+fn input_of(alloc: Global, lines: &[(&str, &str)]) -> Result<Vec<u8>, Fail> {
+    let mut input = Vec::new(alloc);
+    for (line, _) in lines {
+        input.extend_from_slice(line.as_bytes())?;
     }
-    lines
+    Ok(input)
+}
+
+/// What is written once the first so many lines are read.
+fn report_of(alloc: Global, lines: &[(&str, &str)], count: usize) -> Result<Vec<u8>, Fail> {
+    let mut report = Vec::new(alloc);
+    for (_, written) in lines.iter().take(count) {
+        report.extend_from_slice(written.as_bytes())?;
+    }
+    Ok(report)
 }
 
 #[test]
 fn each_read_that_fails_ends_a_run_after_the_whole_lines(rt: HostRuntime) -> Result<(), Fail> {
-    for (run, input, header, reports, _) in SHORTS {
+    for (run, lines) in SHORTS {
+        let input = input_of(rt.alloc(), lines)?;
         for read in 0..input.len() {
             let fails = read as u64 + 1;
-            let (ended, sink) = run_over(rt.alloc(), run, input.as_bytes(), 1, fails, 0).ok_or(
+            let (ended, sink) = run_over(rt.alloc(), run, input.as_slice(), 1, fails, 0).ok_or(
                 "not run",
             )?;
-            let place = whole_lines(&input.as_bytes()[..read]);
-            let status = Status::Read;
+            let count = whole_lines(&input[..read]);
+            let (status, place) = (Status::Read, count as u64);
             assert_eq!(rt; ended, Ended { status, place });
-            let events = place.saturating_sub(header).min(3) as usize;
-            assert_eq!(rt; sink.bytes(), reports[events].as_bytes());
+            let report = report_of(rt.alloc(), lines, count)?;
+            assert_eq!(rt; sink.bytes(), report.as_slice());
         }
     }
     Ok(())
@@ -133,11 +199,12 @@ fn each_read_that_fails_ends_a_run_after_the_whole_lines(rt: HostRuntime) -> Res
 
 #[test]
 fn each_write_that_fails_ends_a_run_after_the_bytes_written(rt: HostRuntime) -> Result<(), Fail> {
-    for (run, input, _, _, report) in SHORTS {
-        let report = report.as_bytes();
+    for (run, lines) in SHORTS {
+        let input = input_of(rt.alloc(), lines)?;
+        let report = report_of(rt.alloc(), lines, lines.len())?;
         for written in 0..report.len() {
             let fails = written as u64 + 1;
-            let (ended, sink) = run_over(rt.alloc(), run, input.as_bytes(), 1, 0, fails).ok_or(
+            let (ended, sink) = run_over(rt.alloc(), run, input.as_slice(), 1, 0, fails).ok_or(
                 "not run",
             )?;
             let (status, place) = (Status::Write, written as u64);
@@ -179,5 +246,34 @@ fn a_replay_of_the_events_of_a_number_ends_alike(rt: HostRuntime) -> Result<(), 
     let ended = run_bulk(3, 500, &mut sink);
     assert_eq!(rt; ended, Ended { status, place });
     assert!(rt; sink.bytes().ends_with(b"\nother 154\n"));
+    Ok(())
+}
+
+#[test]
+fn a_replay_of_pairs_ends_at_the_first_event_with_another_entry(
+    rt: HostRuntime,
+) -> Result<(), Fail> {
+    let mut input = Vec::new(rt.alloc());
+    input.extend_from_slice(b"fsoe 2 pairs\n")?;
+    for pair in ["pair 1\n", "pair 2\n"] {
+        input.extend_from_slice(pair.as_bytes())?;
+        input.extend_from_slice(
+            b"lengths 2 2\nmaster 1 2 100 1\nslave 2 200 1000 2\nrule any 0\n",
+        )?;
+    }
+    input.extend_from_slice(b"go\n1 pm 0100\n2 pm 0100\n1 ps 8000\n2 ps 8000\nt\n")?;
+    for _ in 0..8 {
+        input.extend_from_slice(b"1 ds -1\n1 dm -1\n2 ds -1\n2 dm -1\n")?;
+    }
+    input.extend_from_slice(b"2 rs 36ff004ee90100\n1 rs 36ff004ee90100\nend\n")?;
+    let (status, place) = (Status::Other, 38);
+    let (ended, sink) = run_over(rt.alloc(), Run::Replay, input.as_slice(), 1000, 0, 0).ok_or(
+        "not run",
+    )?;
+    assert_eq!(rt; ended, Ended { status, place });
+    assert!(rt;
+        sink.bytes()
+            .ends_with(b"\nevents 39\npair 1 other 39\npair 2 other 38\n")
+    );
     Ok(())
 }

@@ -1,5 +1,5 @@
 use Rattle.duo_run.proofs.FairReplay.{told_fairly, told_serve}
-use Rattle.duo_run.proofs.replay.run_replay.Goals as goal
+use Rattle.duo_run.proofs.pair_run.run_pair.Goals as goal
 
 pub returns : goal.returns
 returns g c =

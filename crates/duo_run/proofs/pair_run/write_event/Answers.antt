@@ -1,5 +1,5 @@
 use Rattle.duo_run.proofs.Replaying.{pair_fits, pair_goes_on, pair_unsent}
-use Rattle.duo_run.proofs.replay.write_event.Goals as goal
+use Rattle.duo_run.proofs.pair_run.write_event.Goals as goal
 
 pub advance-requires-clause-fits : goal.advance-requires-clause-fits
 advance-requires-clause-fits c = pair_fits c.args.duo.now c.args.event.now c.args.number c.requires

@@ -1,7 +1,6 @@
-use Rattle.std.proofs.Common.{◌≡◌, ◌≤◌, ◌-◌, ℕ, length, slice_get, refl, sym, ap, subst, arith}
+use Rattle.std.proofs.Common.{◌≡◌, ◌≤◌, ◌-◌, ℕ, length, slice_get, refl, sym, subst, arith}
 use Rattle.std.specs.Prelude.{Some}
 use Rattle.std.proofs.lemmas.Option.{slice_get_read}
-use Rattle.duo_run.specs.Duo.{DuoView}
 use Rattle.duo_run.proofs.PairsAt.{for_named, named}
 use Rattle.duo_run.proofs.duos.Duos.other.Goals as goal
 

@@ -1,7 +1,7 @@
 use Rattle.file_run.proofs.OnePart.{ends_one}
 use Rattle.duo_run.specs.Replay.{replay_reporting}
 use Rattle.duo_run.proofs.Replaying.{pair_ends, pair_ends_whole}
-use Rattle.duo_run.proofs.replay.PairRunMachine.close.Goals as goal
+use Rattle.duo_run.proofs.pair_run.PairRunMachine.close.Goals as goal
 
 pub returns-clause-closes : goal.returns-clause-closes
 returns-clause-closes c = λ first h log lines count k.

@@ -1,6 +1,6 @@
 use Rattle.duo_run.proofs.OneReplay.{some_replay}
 use Rattle.duo_run.proofs.Replaying.{pair_so_far}
-use Rattle.duo_run.proofs.replay.PairRunMachine.laws.Goals as goal
+use Rattle.duo_run.proofs.pair_run.PairRunMachine.laws.Goals as goal
 
 pub returns-clause-some : goal.returns-clause-some
 returns-clause-some c = λ handed. some_replay

@@ -1,0 +1,47 @@
+-- An input has one report of several pairs: its header says all that the ends of each are set to.
+use Rattle.std.proofs.Common.{◌≡◌, ℕ, List, [], ◌∷◌, ◌++◌, refl, ap, sym, ◌∙◌}
+use Rattle.std.specs.Prelude.{Some, None}
+use Rattle.std.specs.List.{AllZip}
+use Rattle.std.specs.declared.option.Option.{Option}
+use Rattle.fsoe_io.specs.declared.status.Ended.{Ended}
+use Rattle.param_load.specs.declared.master_settings.MasterSettings.{MasterSettings}
+use Rattle.param_load.specs.declared.slave_settings.SlaveSettings.{SlaveSettings}
+use Rattle.schedule_file.specs.Header.{Heading}
+use Rattle.schedule_file.specs.PairsHeader.{PairsHeading, pairs_of}
+use Rattle.schedule_file.specs.declared.pairs_line.PairsEvent.{PairsEvent}
+use Rattle.schedule_file.proofs.OneSetting.{one_master, one_slave}
+use Rattle.duo_run.specs.Pairs.{Pair, events_done}
+use Rattle.duo_run.specs.PairsReport.{ArePairs, IsPairOf, PairsInput, PairsReports, lines_of_events, pairs_ended, pairs_last_lines, pairs_stop}
+
+one_pair : (h : Heading) (p q : Pair) → IsPairOf h p → IsPairOf h q → p ≡ q
+one_pair h p q x y =
+    ap (λ (ms : MasterSettings). record { master = ms; slave = p.slave }) (one_master h p.master q.master x.0 y.0)
+    ∙ ap (λ (ss : SlaveSettings). record { master = q.master; slave = ss }) (one_slave h p.slave q.slave x.1 y.1)
+
+same_pairs : (hs : List Heading) (a b : List Pair) → AllZip IsPairOf hs a → AllZip IsPairOf hs b → a ≡ b
+same_pairs [] [] [] x y = refl
+same_pairs [] [] (q ∷ b) x y = absurd y
+same_pairs [] (p ∷ a) b x y = absurd x
+same_pairs (h ∷ hs) [] b x y = absurd x
+same_pairs (h ∷ hs) (p ∷ a) [] x y = absurd y
+same_pairs (h ∷ hs) (p ∷ a) (q ∷ b) x y = ap (λ (p : Pair). p ∷ a) (one_pair h p q x.0 y.0) ∙ ap (λ (rest : List Pair). q ∷ rest) (same_pairs hs a b x.1 y.1)
+
+one_list : (heading : Option PairsHeading) (a b : List Pair) → ArePairs heading a → ArePairs heading b → a ≡ b
+one_list None a b x y = x ∙ sym y
+one_list (Some h) a b x y = same_pairs (pairs_of h) a b x y
+
+abbrev whole_text : PairsInput → List Pair → List ℕ
+whole_text input pairs =
+    let past : List PairsEvent = events_done pairs input.events in
+    lines_of_events pairs past ++ pairs_last_lines pairs past (pairs_stop input past)
+
+abbrev whole_ending : PairsInput → List Pair → Ended
+whole_ending input pairs =
+    let past : List PairsEvent = events_done pairs input.events in
+    pairs_ended pairs past (pairs_stop input past)
+
+pub one_text : (input : PairsInput) (a b : Ended) (x y : List ℕ) → PairsReports input a x → PairsReports input b y → x ≡ y
+one_text input a b x y r s = r.2 ∙ ap (whole_text input) (one_list input.heading r.0 s.0 r.1 s.1) ∙ sym s.2
+
+pub one_ending : (input : PairsInput) (a b : Ended) (x y : List ℕ) → PairsReports input a x → PairsReports input b y → a ≡ b
+one_ending input a b x y r s = r.3 ∙ ap (whole_ending input) (one_list input.heading r.0 s.0 r.1 s.1) ∙ sym s.3

@@ -1,0 +1,118 @@
+-- Several new pairs are set to what a header says.
+use Rattle.std.proofs.Common.{◌≡◌, ◌≤◌, ◌<◌, ◌+◌, ℕ, zero, suc, List, [], ◌∷◌, ◌++◌, All, IsTrue, length, map, take, slice_get, replicate, refl, arith, ap, sym, subst, ◌∙◌, add-one}
+use Rattle.std.specs.Prelude.{Some, None}
+use Rattle.std.specs.List.{AllZip}
+use Rattle.std.specs.declared.option.Option.{Option}
+use Rattle.std.proofs.lemmas.List.{length_push, length-map}
+use Rattle.std.proofs.lemmas.List.Elements.{All-cons, All-nil}
+use Rattle.std.proofs.lemmas.Slice.Zip.{AllZip-long, all_zipped_more}
+use Rattle.param_load.specs.declared.master_settings.MasterSettings.{MasterSettings}
+use Rattle.param_load.specs.declared.slave_settings.SlaveSettings.{SlaveSettings}
+use Rattle.schedule_file.specs.Header.{Heading}
+use Rattle.schedule_file.specs.PairsEvent.{numbered}
+use Rattle.schedule_file.specs.PairsHeader.{PairsHeading, is_done, pairs_begun, pairs_heading_is_whole, pairs_of}
+use Rattle.schedule_file.specs.declared.pairs_header.PairsStage.{PairsStage}
+use Rattle.schedule_file.specs.declared.pairs_header.PairsStage.TheVariants as stage
+use Rattle.exchange_model.specs.World.{SameLengths}
+use Rattle.duo_run.specs.Duo.{DuoStands, DuoView}
+use Rattle.duo_run.specs.Pairs.{Pair, other_events}
+use Rattle.duo_run.specs.PairsReport.{IsPairOf}
+use Rattle.duo_run.specs.PairsStanding.{PairsStand, StandsOver}
+use Rattle.duo_run.specs.Replay.{AreSetTo}
+use Rattle.duo_run.proofs.FairReplay.{same_lengths}
+use Rattle.duo_run.proofs.PairsAt.{named}
+use Rattle.duo_run.proofs.PairsTicking.{found_at, some_same, taken}
+
+-- the header of the pair after so many
+pub heading_at : (hs : List Heading) (place : ℕ) → place < length hs → (h : Heading) × (numbered (place + 1) hs ≡ Some h) × (slice_get hs place ≡ Some h)
+heading_at hs place below =
+    let found = found_at hs place below in
+    (found.0, named (place + 1) place hs found.0 refl found.1, found.1)
+
+-- the settings of so many pairs, and those of the next one
+abbrev pub AreSettings : List Heading → List (MasterSettings × SlaveSettings) → Type 0
+AreSettings hs settings = AllZip (λ h own. AreSetTo h own.0 own.1) hs settings
+
+pub settings_more : (hs : List Heading) (settings : List (MasterSettings × SlaveSettings)) (place : ℕ) (h : Heading) (own : MasterSettings × SlaveSettings) → slice_get hs place ≡ Some h → AreSettings (take place hs) settings → AreSetTo h own.0 own.1
+    → AreSettings (take (place + 1) hs) (settings ++ own ∷ [])
+settings_more hs settings place h own at are is =
+    subst (λ (hs : List Heading). AreSettings hs (settings ++ own ∷ [])) (sym (ap (λ (n : ℕ). take n hs) (add-one place) ∙ taken hs place h at))
+    (all_zipped_more (λ h own. AreSetTo h own.0 own.1) (take place hs) settings h own are is)
+
+-- the ends of each pair have the same lengths
+pub all_same_lengths : (hs : List Heading) (settings : List (MasterSettings × SlaveSettings)) → AreSettings hs settings → All (λ own. SameLengths own.0 own.1) settings
+all_same_lengths [] [] are = All-nil (λ own. SameLengths own.0 own.1)
+all_same_lengths [] (own ∷ settings) are = absurd are
+all_same_lengths (h ∷ hs) [] are = absurd are
+all_same_lengths (h ∷ hs) (own ∷ settings) are =
+    All-cons (λ own. SameLengths own.0 own.1) own settings (same_lengths h own.0 own.1 are.0) (all_same_lengths hs settings are.1)
+
+-- what both lists of pairs have at a place
+zip_both : {A B : Type 0} (R : A → B → Type 0) (xs : List A) (ys : List B) (j : ℕ) (x : A) (y : B) → AllZip R xs ys → slice_get xs j ≡ Some x → slice_get ys j ≡ Some y → R x y
+zip_both R [] ys j x y zip x-at y-at = cc
+zip_both R (a ∷ xs) [] j x y zip x-at y-at = absurd zip
+zip_both R (a ∷ xs) (b ∷ ys) zero x y zip x-at y-at =
+    let x-same : a ≡ x = some_same x-at in
+    let y-same : b ≡ y = some_same y-at in
+    subst (λ y. R x y) y-same (subst (λ x. R x b) x-same zip.0)
+zip_both R (a ∷ xs) (b ∷ ys) (suc j) x y zip x-at y-at = zip_both R xs ys j x y zip.1 x-at y-at
+
+-- the pairs that have these settings
+abbrev pair_of : MasterSettings × SlaveSettings → Pair
+pair_of own = record { master = own.0; slave = own.1 }
+
+set_to : (hs : List Heading) (settings : List (MasterSettings × SlaveSettings)) → AreSettings hs settings → AllZip IsPairOf hs (map pair_of settings)
+set_to [] [] are = tt
+set_to [] (own ∷ settings) are = absurd are
+set_to (h ∷ hs) [] are = absurd are
+set_to (h ∷ hs) (own ∷ settings) are = (are.0, set_to hs settings are.1)
+
+new_stand : (settings : List (MasterSettings × SlaveSettings)) (duos : List DuoView) → AllZip (λ own v. DuoStands own.0 own.1 v []) settings duos → AllZip (λ p v. StandsOver p [] v) (map pair_of settings) duos
+new_stand [] [] new = tt
+new_stand [] (v ∷ duos) new = absurd new
+new_stand (own ∷ settings) [] new = absurd new
+new_stand (own ∷ settings) (v ∷ duos) new = (record { stands = new.0; whole = refl }, new_stand settings duos new.1)
+
+stand_each : (pairs : List Pair) (duos : List DuoView) → AllZip (λ p v. StandsOver p [] v) pairs duos → (k : ℕ) (p : Pair) (v : DuoView) → numbered k pairs ≡ Some p → numbered k duos ≡ Some v → StandsOver p [] v
+stand_each pairs duos new zero p v p-at v-at = cc
+stand_each pairs duos new (suc j) p v p-at v-at = zip_both (λ p v. StandsOver p [] v) pairs duos j p v new p-at v-at
+
+none_other : (k : ℕ) (pairs : List Pair) → replicate (length pairs) None ≡ other_events k pairs []
+none_other k [] = refl
+none_other k (p ∷ pairs) = ap (λ (others : List (Option ℕ)). None ∷ others) (none_other (suc k) pairs)
+
+-- a header that is done has a pair
+has_pair : (s : PairsStage) (before : List Heading) (last : Heading) → IsTrue (is_done s) → 0 < length (pairs_begun s before last)
+has_pair stage.Done before last done = let e = length_push before last in omega (arith, e)
+has_pair stage.Start before last done = cc
+has_pair stage.Title before last done = cc
+has_pair stage.Pairs before last done = cc
+has_pair stage.Refused before last done = cc
+
+pub some_settings : (h : PairsHeading) (settings : List (MasterSettings × SlaveSettings)) → IsTrue (pairs_heading_is_whole h) → AreSettings (pairs_of h) settings → 1 ≤ length settings
+some_settings h settings done are =
+    let some = has_pair h.stage h.before h.last done in
+    let many = AllZip-long (λ h own. AreSetTo h own.0 own.1) (pairs_of h) settings are in
+    omega (arith, some, many)
+
+pub pairs_begin : (h : PairsHeading) (settings : List (MasterSettings × SlaveSettings)) (duos : List DuoView) (others : List (Option ℕ)) → IsTrue (pairs_heading_is_whole h) → AreSettings (pairs_of h) settings → length settings ≤ 16
+    → AllZip (λ own v. DuoStands own.0 own.1 v []) settings duos → others ≡ replicate (length settings) None → PairsStand duos others 0 h [] []
+pairs_begin h settings duos others done are few new none =
+    let pairs : List Pair = map pair_of settings in
+    let set : AllZip IsPairOf (pairs_of h) pairs = set_to (pairs_of h) settings are in
+    let stand = new_stand settings duos new in
+    let many : length settings ≡ length (pairs_of h) = AllZip-long (λ h own. AreSetTo h own.0 own.1) (pairs_of h) settings are in
+    let same : length pairs ≡ length settings = length-map settings pair_of in
+    record {
+      pairs = pairs;
+      past = [];
+      set = set;
+      done = refl;
+      whole = refl;
+      stand = record { many = AllZip-long (λ p v. StandsOver p [] v) pairs duos stand; each = stand_each pairs duos stand };
+      some = has_pair h.stage h.before h.last done;
+      few = omega (arith, many, few);
+      made_is = refl;
+      others_are = none ∙ ap (λ (n : ℕ). replicate n None) (sym same) ∙ none_other 1 pairs;
+      lines = refl;
+    }

@@ -1,0 +1,94 @@
+-- The events of several pairs are proper at the ends of each pair, so that the law of the pair holds of the entries of each.
+use Rattle.std.proofs.Common.{◌≡◌, ℕ, zero, suc, List, [], ◌∷◌, Bool, true, false, All, map, refl, sym, subst, ◌∙◌}
+use Rattle.std.specs.Prelude.{IfSome, Some, None, ◌==◌, slice_get, if◌then◌else◌}
+use Rattle.std.specs.List.{AllZip}
+use Rattle.std.specs.declared.option.Option.{Option}
+use Rattle.std.proofs.lemmas.Bool.{eqb-true}
+use Rattle.std.proofs.lemmas.List.Elements.{All-append, All-cons, All-head, All-nil, All-tail}
+use Rattle.std.proofs.lemmas.Option.{IfSome_then}
+use Rattle.fsoe_base.specs.declared.command.End.TheVariants as end_name
+use Rattle.schedule_file.specs.Header.{Heading}
+use Rattle.schedule_file.specs.Input.{heading_profile, own_length}
+use Rattle.schedule_file.specs.PairsEvent.{PairsLineFits, numbered}
+use Rattle.schedule_file.specs.PairsHeader.{PairsHeading, pairs_of}
+use Rattle.schedule_file.specs.PairsInput.{pairs_input}
+use Rattle.schedule_file.specs.PairsLine.{line_of_event}
+use Rattle.schedule_file.specs.declared.event.Event.{Event}
+use Rattle.schedule_file.specs.declared.event.Event.TheVariants as event
+use Rattle.schedule_file.specs.declared.pairs_line.PairsEvent.{PairsEvent}
+use Rattle.schedule_file.specs.declared.pairs_line.PairsEvent.TheVariants as common
+use Rattle.schedule_file.proofs.PairsFitting.{pairs_events_fit}
+use Rattle.exchange_model.specs.Fair.{Fair}
+use Rattle.exchange_model.specs.Other.{before_other}
+use Rattle.exchange_model.specs.World.{IsProperEvent}
+use Rattle.exchange_model.proofs.Fairness.Headline.{fair_before}
+use Rattle.duo_run.specs.Pairs.{Pair, done_after, events_by, events_done, events_to, is_met, world_of}
+use Rattle.duo_run.specs.PairsReport.{IsPairOf, PairsRunFairly}
+use Rattle.duo_run.proofs.FairReplay.{proper, same_lengths}
+use Rattle.duo_run.proofs.PairsFit.{FitsHeading, fits_heading}
+use Rattle.duo_run.proofs.PairsTicking.{some_same}
+
+-- an event of all fits the pairs of a header
+abbrev FitsAll : PairsHeading → PairsEvent → Type 0
+FitsAll h event = PairsLineFits (map own_length (pairs_of h)) (map heading_profile (pairs_of h)) (line_of_event event)
+
+-- the events that are done are some of those that come
+done_if : (P : PairsEvent → Type 0) (met : Bool) (later past : List PairsEvent) → All P later → All P past → All P (if met then later else past)
+done_if P true later past more all = more
+done_if P false later past more all = all
+
+done_all : (P : PairsEvent → Type 0) (pairs : List Pair) (events past : List PairsEvent) → All P events → All P past → All P (done_after pairs events past)
+done_all P pairs [] past more all = all
+done_all P pairs (event ∷ events) past more all =
+    done_if P (is_met pairs past event) (done_after pairs events (event ∷ past)) past
+    (done_all P pairs events (event ∷ past) (All-tail P event events more) (All-cons P event past (All-head P event events more) all)) all
+
+-- those of one pair
+own_all : (P : PairsEvent → Type 0) (Q : Event → Type 0) (k : ℕ) → ((event : PairsEvent) → P event → All Q (events_by k event)) → (past : List PairsEvent) → All P past → All Q (events_to k past)
+own_all P Q k each [] all = All-nil Q
+own_all P Q k each (event ∷ past) all = All-append Q (events_to k past) (events_by k event) (own_all P Q k each past (All-tail P event past all)) (each event (All-head P event past all))
+
+one_proper : (p : Pair) (hs : List Heading) (h : Heading) (k : ℕ) (event : Event) → numbered k hs ≡ Some h → IsPairOf h p → FitsHeading hs k event → IsProperEvent p.master p.slave event
+one_proper p hs h k event at set f =
+    let same : f.heading ≡ h = some_same (sym f.at ∙ at) in
+    proper f.heading p.master p.slave (subst (λ (h : Heading). IsPairOf h p) (sym same) set) event f.fits
+
+if_named : (Q : Event → Type 0) (named : Bool) (event : Event) → (named ≡ true → Q event) → All Q (if named then event ∷ [] else [])
+if_named Q true event is = All-cons Q event [] (is refl) (All-nil Q)
+if_named Q false event is = All-nil Q
+
+by_proper : (h : PairsHeading) (k : ℕ) (own : Heading) (p : Pair) → numbered k (pairs_of h) ≡ Some own → IsPairOf own p → (event : PairsEvent) → FitsAll h event → All (IsProperEvent p.master p.slave) (events_by k event)
+by_proper h k own p at set common.Tick fits =
+    let Q : Event → Type 0 = IsProperEvent p.master p.slave in
+    let slave : Event = event.Tick end_name.Slave in
+    let master : Event = event.Tick end_name.Master in
+    All-cons Q slave (master ∷ []) tt (All-cons Q master [] tt (All-nil Q))
+by_proper h k own p at set (common.One pair event) fits =
+    if_named (IsProperEvent p.master p.slave) (pair == k) event (λ named.
+    one_proper p (pairs_of h) own k event at set
+    (subst (λ (k : ℕ). FitsHeading (pairs_of h) k event) (eqb-true pair k named) (fits_heading (pairs_of h) pair event fits)))
+
+-- each pair is set to the header of its number
+zip_back : {A B : Type 0} (R : A → B → Type 0) (xs : List A) (ys : List B) (j : ℕ) (y : B) → AllZip R xs ys → slice_get ys j ≡ Some y → (x : A) × (slice_get xs j ≡ Some x) × R x y
+zip_back R xs [] j y zip at = cc
+zip_back R [] (b ∷ ys) j y zip at = absurd zip
+zip_back R (a ∷ xs) (b ∷ ys) zero y zip at = let same : b ≡ y = some_same at in (a, refl, subst (λ y. R a y) same zip.0)
+zip_back R (a ∷ xs) (b ∷ ys) (suc j) y zip at = zip_back R xs ys j y zip.1 at
+
+pair_fair : (h : PairsHeading) (events : List PairsEvent) (pairs : List Pair) (k : ℕ) (p : Pair) → All (FitsAll h) events → AllZip IsPairOf (pairs_of h) pairs → numbered k pairs ≡ Some p
+    → Fair p.master.lengths (before_other (world_of k p (events_done pairs events)))
+pair_fair h events pairs zero p fits set at = cc
+pair_fair h events pairs (suc j) p fits set at =
+    let own = zip_back IsPairOf (pairs_of h) pairs j p set at in
+    let done : All (FitsAll h) (events_done pairs events) = done_all (FitsAll h) pairs events [] fits (All-nil (FitsAll h)) in
+    fair_before p.master p.slave (events_to (suc j) (events_done pairs events)) (same_lengths own.0 p.master p.slave own.2)
+    (own_all (FitsAll h) (IsProperEvent p.master p.slave) (suc j) (by_proper h (suc j) own.0 p own.1 own.2) (events_done pairs events) done)
+
+pairs_run_fairly : (bytes : List ℕ) → PairsRunFairly (pairs_input bytes)
+pairs_run_fairly bytes =
+    IfSome_then (pairs_input bytes).heading (pairs_events_fit bytes) (λ h fits pairs k p set at. pair_fair h (pairs_input bytes).events pairs k p fits set at)
+
+-- so do the bytes that are told
+pub told_pairs_fairly : (told : Option (List ℕ)) → IfSome told (λ bytes. PairsRunFairly (pairs_input bytes))
+told_pairs_fairly None = tt
+told_pairs_fairly (Some bytes) = pairs_run_fairly bytes

@@ -1,0 +1,83 @@
+-- An event that a line says to a pair fits this pair.
+use Rattle.std.proofs.Common.{◌≡◌, ◌≤◌, ◌+◌, ℕ, zero, suc, List, [], ◌∷◌, length, map, slice_get, refl, arith, ap, sym, subst, ◌∙◌}
+use Rattle.std.specs.Prelude.{Some, None, option_map}
+use Rattle.std.specs.List.{AllZip}
+use Rattle.std.specs.declared.option.Option.{Option}
+use Rattle.fsoe_base.specs.LengthsOf.{length_of}
+use Rattle.fsoe_base.specs.declared.command.End.{End}
+use Rattle.fsoe_base.specs.declared.command.End.TheVariants as end_name
+use Rattle.param_load.specs.declared.profile.Profile.{Profile}
+use Rattle.schedule_file.specs.Event.{Fits, profile_of}
+use Rattle.schedule_file.specs.Header.{Heading}
+use Rattle.schedule_file.specs.Input.{heading_profile, own_length}
+use Rattle.schedule_file.specs.PairsEvent.{FitsEnds, FitsPair, numbered}
+use Rattle.schedule_file.specs.PairsHeader.{PairsHeading, pairs_of}
+use Rattle.schedule_file.specs.PairsInput.{pairs_format}
+use Rattle.schedule_file.specs.declared.event.Event.{Event}
+use Rattle.schedule_file.specs.declared.pairs_line.PairsEvent.{PairsEvent}
+use Rattle.schedule_file.specs.declared.pairs_line.PairsEvent.TheVariants as common
+use Rattle.schedule_file.proofs.Pairs.{numbered_map}
+use Rattle.schedule_file.proofs.PairsFitting.{pairs_event_fits}
+use Rattle.file_run.specs.Machine.{IsSaid}
+use Rattle.duo_run.specs.Duo.{DuoView, lengths_of, profiles_of}
+use Rattle.duo_run.specs.Pairs.{Pair}
+use Rattle.duo_run.specs.PairsReport.{IsPairOf}
+use Rattle.duo_run.specs.PairsStanding.{PairsStand, StandsOver}
+use Rattle.duo_run.proofs.PairsTicking.{found_below, some_same}
+use Rattle.duo_run.proofs.Replaying.{fits_ends, same_word}
+
+-- there is a header of this number, whose ends the event fits
+pub record FitsHeading (hs : List Heading) (k : ℕ) (event : Event) : Type 0 where
+  pub heading : Heading
+  pub at : numbered k hs ≡ Some heading
+  pub fits : Fits (own_length heading) (heading_profile heading) event
+
+heading_by : (hs : List Heading) (k : ℕ) (event : Event) (found : Option Heading) → numbered k hs ≡ found → FitsEnds (option_map own_length found) (option_map heading_profile found) event → FitsHeading hs k event
+heading_by hs k event None at fits = absurd fits
+heading_by hs k event (Some h) at fits = record { heading = h; at = at; fits = fits }
+
+pub fits_heading : (hs : List Heading) (k : ℕ) (event : Event) → FitsPair (map own_length hs) (map heading_profile hs) k event → FitsHeading hs k event
+fits_heading hs k event fits =
+    heading_by hs k event (numbered k hs) refl
+    (subst (λ (p : Option (End → Profile)). FitsEnds (option_map own_length (numbered k hs)) p event) (numbered_map heading_profile hs k)
+    (subst (λ (s : Option (End → ℕ)). FitsEnds s (numbered k (map heading_profile hs)) event) (numbered_map own_length hs k) fits))
+
+zip_at : {A B : Type 0} (R : A → B → Type 0) (xs : List A) (ys : List B) (j : ℕ) (x : A) → AllZip R xs ys → slice_get xs j ≡ Some x → (y : B) × (slice_get ys j ≡ Some y) × R x y
+zip_at R [] ys j x zip at = cc
+zip_at R (a ∷ xs) [] j x zip at = absurd zip
+zip_at R (a ∷ xs) (b ∷ ys) zero x zip at = let same : a ≡ x = some_same at in (b, refl, subst (λ x. R x b) same zip.0)
+zip_at R (a ∷ xs) (b ∷ ys) (suc j) x zip at = zip_at R xs ys j x zip.1 at
+
+stood_lengths : (h : Heading) (p : Pair) (v : DuoView) (own : List Event) → IsPairOf h p → StandsOver p own v → (end : End) → own_length h end ≡ length_of (lengths_of v) end
+stood_lengths h p v own set s end_name.Master = sym (ap (λ v. v.kit.settings.lengths.master) s.stands.master.is ∙ set.0.0)
+stood_lengths h p v own set s end_name.Slave = sym (ap (λ v. v.kit.settings.lengths.slave) s.stands.master.is ∙ set.0.1)
+
+stood_profiles : (h : Heading) (p : Pair) (v : DuoView) (own : List Event) → IsPairOf h p → StandsOver p own v → (end : End) → heading_profile h end ≡ profile_of (profiles_of v) end
+stood_profiles h p v own set s end_name.Master = sym (ap (λ v. v.kit.settings.profile) s.stands.master.is ∙ set.0.2.profile_is)
+stood_profiles h p v own set s end_name.Slave = sym (ap (λ v. v.kit.settings.profile) s.stands.slave.is ∙ set.1.2.profile_is)
+
+-- there is a pair of this number, which the event fits, and one step more of it can be counted
+pub record FitsOne (duos : List DuoView) (k : ℕ) (event : Event) : Type 0 where
+  pub first : 1 ≤ k
+  pub last : k ≤ length duos
+  pub each : (place : ℕ) (v : DuoView) → k ≡ place + 1 → slice_get duos place ≡ Some v → Fits (length_of (lengths_of v)) (profile_of (profiles_of v)) event
+
+one_by : (duos : List DuoView) (others : List (Option ℕ)) (made : ℕ) (h : PairsHeading) (log : List PairsEvent) (text : List ℕ) (k : ℕ) (event : Event) → PairsStand duos others made h log text → FitsHeading (pairs_of h) k event → FitsOne duos k event
+one_by duos others made h log text zero event s f = cc
+one_by duos others made h log text (suc j) event s f =
+    let found = zip_at IsPairOf (pairs_of h) s.pairs j f.heading s.set f.at in
+    let below = found_below s.pairs j found.0 found.1 in
+    record {
+      first = omega arith;
+      last = omega (arith, below, s.stand.many);
+      each = λ place v e v-at.
+          let same : place ≡ j = omega (arith, e) in
+          let stood = s.stand.each (suc j) found.0 v found.1 (ap (slice_get duos) (sym same) ∙ v-at) in
+          fits_ends (own_length f.heading) (length_of (lengths_of v)) (heading_profile f.heading) (profile_of (profiles_of v)) event
+          (same_word (own_length f.heading) (length_of (lengths_of v)) (stood_lengths f.heading found.0 v _ found.2 stood))
+          (same_word (heading_profile f.heading) (profile_of (profiles_of v)) (stood_profiles f.heading found.0 v _ found.2 stood)) f.fits;
+    }
+
+pub one_fits : (duos : List DuoView) (others : List (Option ℕ)) (made : ℕ) (h : PairsHeading) (log : List PairsEvent) (text : List ℕ) (k : ℕ) (event : Event) → PairsStand duos others made h log text → IsSaid pairs_format h (common.One k event) → FitsOne duos k event
+one_fits duos others made h log text k event s said =
+    one_by duos others made h log text k event s (fits_heading (pairs_of h) k event (pairs_event_fits h said.0 said.1 (common.One k event) said.2 said.3))

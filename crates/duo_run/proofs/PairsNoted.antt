@@ -1,0 +1,91 @@
+-- The events with the first other entries of pairs are noted, one pair after another.
+use Rattle.std.proofs.Common.{◌≡◌, ◌≤◌, ◌<◌, ◌+◌, ℕ, zero, suc, List, [], ◌∷◌, length, slice_get, slice_set, refl, arith, ap, sym, subst, ◌∙◌, below_more}
+use Rattle.std.specs.Prelude.{Some, is_some}
+use Rattle.std.specs.declared.option.Option.{Option}
+use Rattle.std.proofs.lemmas.List.{length-set}
+use Rattle.param_load.specs.declared.entry.Entry.{Entry}
+use Rattle.param_load.specs.declared.master_settings.MasterSettings.{MasterSettings}
+use Rattle.param_load.specs.declared.slave_settings.SlaveSettings.{SlaveSettings}
+use Rattle.schedule_file.specs.declared.pairs_line.PairsEvent.{PairsEvent}
+use Rattle.exchange_model.specs.Other.{first_of_both, first_other}
+use Rattle.duo_run.specs.Duo.{DuoStands, DuoView}
+use Rattle.duo_run.specs.Pairs.{Pair, events_to, other_event, other_events, world_of}
+use Rattle.duo_run.specs.PairsStanding.{AllStandOver, NotesOthers}
+use Rattle.duo_run.proofs.PairsAt.{set_at, set_beside}
+use Rattle.duo_run.proofs.PairsTicking.{found_at, found_below, some_same}
+
+-- so many were noted
+pub record NotedTo (number i : ℕ) (duos : List DuoView) (old now : List (Option ℕ)) : Type 0 where
+  pub many : length now ≡ length old
+  pub done : (j : ℕ) → j < i → (v : DuoView) (noted : Option ℕ) (ms : MasterSettings) (ss : SlaveSettings) (w : List Entry) → slice_get duos j ≡ Some v → slice_get old j ≡ Some noted → DuoStands ms ss v w
+      → slice_get now j ≡ Some (first_of_both noted (is_some (first_other w)) number)
+  pub rest : (j : ℕ) → i ≤ j → slice_get now j ≡ slice_get old j
+
+pub noted_none : (number : ℕ) (duos : List DuoView) (old : List (Option ℕ)) → NotedTo number 0 duos old old
+noted_none number duos old = record { many = refl; done = λ j below v noted ms ss w v-at at stands. absurd (omega arith); rest = λ j late. refl }
+
+pub noted_more : (number i : ℕ) (duos : List DuoView) (old now : List (Option ℕ)) (v : DuoView) (before other is : Option ℕ) → NotedTo number i duos old now → slice_get duos i ≡ Some v → slice_get now i ≡ Some before
+    → is ≡ first_of_both before (is_some other) number → ((ms : MasterSettings) (ss : SlaveSettings) (w : List Entry) → DuoStands ms ss v w → other ≡ first_other w) → NotedTo number (i + 1) duos old (slice_set now i is)
+noted_more number i duos old now v before other is t v-at at e tells =
+    let many : length (slice_set now i is) ≡ length now = length-set now i is in
+    record {
+      many = many ∙ t.many;
+      done = below_more _ _
+          (λ j early u noted ms ss w u-at o-at stands. set_beside now i j is (λ same. let x : i < i = subst (λ (m : ℕ). m < i) same early in omega arith) ∙ t.done j early u noted ms ss w u-at o-at stands)
+          (λ u noted ms ss w u-at o-at stands.
+          let v-same : v ≡ u = some_same (sym v-at ∙ u-at) in
+          let o-same : before ≡ noted = some_same (sym at ∙ t.rest i (omega arith) ∙ o-at) in
+          let told : other ≡ first_other w = tells ms ss w (subst (λ (u : DuoView). DuoStands ms ss u w) (sym v-same) stands) in
+          set_at now i before is at
+          ∙ ap (λ (o : Option ℕ). Some o) (e ∙ ap (λ (o : Option ℕ). first_of_both before (is_some o) number) told ∙ ap (λ (b : Option ℕ). first_of_both b (is_some (first_other w)) number) o-same));
+      rest = λ j late. set_beside now i j is (λ same. omega (arith, same, late)) ∙ t.rest j (omega (arith, late));
+    }
+
+pub noted_all : (number i : ℕ) (duos : List DuoView) (old now : List (Option ℕ)) → i ≡ length duos → NotedTo number i duos old now → NotesOthers number duos old now
+noted_all number i duos old now all t = record {
+  many = t.many;
+  each = λ j v noted ms ss w v-at at stands. t.done j (let h = found_below duos j v v-at in omega (arith, h, all)) v noted ms ss w v-at at stands;
+}
+
+-- the number of each pair's event stands in its place
+others_at : (k j : ℕ) (pairs : List Pair) (past : List PairsEvent) (p : Pair) → slice_get pairs j ≡ Some p → slice_get (other_events k pairs past) j ≡ Some (other_event (k + j) p past)
+others_at k j [] past p at = cc
+others_at k zero (q ∷ pairs) past p at =
+    let same : q ≡ p = some_same at in
+    let n : k ≡ k + 0 = omega arith in
+    ap (λ (q : Pair). Some (other_event k q past)) same ∙ ap (λ (n : ℕ). Some (other_event n p past)) n
+others_at k (suc j) (q ∷ pairs) past p at =
+    let n : suc k + j ≡ k + suc j = omega arith in
+    others_at (suc k) j pairs past p at ∙ ap (λ (n : ℕ). Some (other_event n p past)) n
+
+others_are : (k : ℕ) (pairs : List Pair) (past : List PairsEvent) (others : List (Option ℕ)) → length others ≡ length pairs → ((j : ℕ) (p : Pair) → slice_get pairs j ≡ Some p → slice_get others j ≡ Some (other_event (k + j) p past))
+    → others ≡ other_events k pairs past
+others_are k [] past [] e each = refl
+others_are k [] past (o ∷ others) e each = absurd (omega (arith, e))
+others_are k (p ∷ pairs) past [] e each = absurd (omega (arith, e))
+others_are k (p ∷ pairs) past (o ∷ others) e each =
+    let n : k + 0 ≡ k = omega arith in
+    let first : o ≡ other_event k p past = some_same (each 0 p refl) ∙ ap (λ (n : ℕ). other_event n p past) n in
+    ap (λ (o : Option ℕ). o ∷ others) first
+    ∙ ap (λ (rest : List (Option ℕ)). other_event k p past ∷ rest)
+    (others_are (suc k) pairs past others (omega (arith, e)) (λ j q at. each (suc j) q at ∙ (let m : k + suc j ≡ suc k + j = omega arith in ap (λ (n : ℕ). Some (other_event n q past)) m)))
+
+pub others-length : (k : ℕ) (pairs : List Pair) (past : List PairsEvent) → length (other_events k pairs past) ≡ length pairs
+others-length k [] past = refl
+others-length k (p ∷ pairs) past = ap suc (others-length (suc k) pairs past)
+
+-- after an event of all, by the worlds after it
+pub others_after : (pairs : List Pair) (past : List PairsEvent) (event : PairsEvent) (duos : List DuoView) (number : ℕ) (old new : List (Option ℕ)) → number ≡ suc (length past) → old ≡ other_events 1 pairs past
+    → AllStandOver pairs (λ k. events_to k (event ∷ past)) duos → NotesOthers number duos old new → new ≡ other_events 1 pairs (event ∷ past)
+others_after pairs past event duos number old new e was stand notes =
+    let long : length old ≡ length pairs = ap (length {A = Option ℕ}) was ∙ others-length 1 pairs past in
+    others_are 1 pairs (event ∷ past) new (notes.many ∙ long)
+    (λ j p at.
+    let v = found_at duos j (let h = found_below pairs j p at in omega (arith, h, stand.many)) in
+    let n : 1 + j ≡ suc j = omega arith in
+    let s = stand.each (suc j) p v.0 at v.1 in
+    let before : slice_get old j ≡ Some (other_event (suc j) p past) =
+    ap (λ (o : List (Option ℕ)). slice_get o j) was ∙ others_at 1 j pairs past p at ∙ ap (λ (n : ℕ). Some (other_event n p past)) n in
+    notes.each j v.0 (other_event (suc j) p past) p.master p.slave (world_of (suc j) p (event ∷ past)) v.1 before s.stands
+    ∙ ap (λ (m : ℕ). Some (first_of_both (other_event (suc j) p past) (is_some (first_other (world_of (suc j) p (event ∷ past)))) m)) e
+    ∙ ap (λ (n : ℕ). Some (other_event n p (event ∷ past))) (sym n))

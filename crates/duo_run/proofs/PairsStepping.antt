@@ -1,0 +1,196 @@
+-- Several pairs go on with the next event of all.
+use Rattle.std.proofs.Common.{◌≡◌, ◌≤◌, ◌<◌, ◌+◌, ◌*◌, ◌^◌, ℕ, suc, Bool, true, false, List, [], ◌∷◌, ◌++◌, length, slice_get, slice_set, refl, arith, ap, sym, subst, ◌∙◌, append_assoc}
+use Rattle.std.specs.Prelude.{Some, None, is_some, if◌then◌else◌, ◌==◌}
+use Rattle.std.specs.declared.option.Option.{Option}
+use Rattle.std.proofs.lemmas.Bool.{eqb-false, eqb-true}
+use Rattle.std.proofs.lemmas.Slice.Zip.{AllZip-long}
+use Rattle.std.proofs.lemmas.List.{append-nil, length_push, length-append, length-set}
+use Rattle.fsoe_base.specs.declared.command.End.TheVariants as end_name
+use Rattle.param_load.specs.declared.entry.Entry.{Entry}
+use Rattle.schedule_file.specs.Input.{NoFrame}
+use Rattle.schedule_file.specs.PairsEvent.{numbered}
+use Rattle.schedule_file.specs.PairsHeader.{PairsHeading, pairs_of}
+use Rattle.schedule_file.specs.PairsInput.{entries_by, entries_of}
+use Rattle.schedule_file.specs.declared.event.Event.{Event}
+use Rattle.schedule_file.specs.declared.event.Event.TheVariants as event
+use Rattle.schedule_file.specs.declared.pairs_line.PairsEvent.{PairsEvent}
+use Rattle.schedule_file.specs.declared.pairs_line.PairsEvent.TheVariants as common
+use Rattle.file_run.specs.Reporting.{EndsUnmet}
+use Rattle.duo_run.specs.Duo.{DuoView, Misses, steps_done}
+use Rattle.duo_run.specs.Pairs.{Pair, entries_over, entry_after, events_by, events_to, is_met, is_met_by}
+use Rattle.duo_run.specs.PairsReport.{IsPairOf, event_lines, line_if, one_line, lines_of_events, pair_line, pairs_reporting, tick_lines, with_tick}
+use Rattle.duo_run.specs.PairsStanding.{AllStandOver, CanStep, NotesOthers, PairsStand, StandsOver, TellsNext, Ticks}
+use Rattle.duo_run.proofs.PairsAt.{others_stay, named, set_at}
+use Rattle.duo_run.proofs.PairsNoted.{others-length, others_after}
+use Rattle.duo_run.proofs.PairsRunning.{done_next, pairs_unsent}
+use Rattle.duo_run.proofs.PairsTicking.{counted_over, found_at, found_below, goes_over, some_same}
+
+-- the entries that one event more makes
+entries-push : (n : ℕ) (log : List PairsEvent) (event : PairsEvent) → entries_of n (log ++ event ∷ []) ≡ entries_of n log + entries_by n event
+entries-push n [] event = omega arith
+entries-push n (e ∷ log) event = let rest = entries-push n log event in omega (arith, rest)
+
+-- events of all are at most two of each pair
+if_few : (b : Bool) (own : Event) → length {A = Event} (if b then own ∷ [] else []) ≤ 2
+if_few true own = omega arith
+if_few false own = omega arith
+
+by_few : (k : ℕ) (event : PairsEvent) → length (events_by k event) ≤ 2
+by_few k common.Tick = omega arith
+by_few k (common.One pair own) = if_few (pair == k) own
+
+pub events_few : (k : ℕ) (past : List PairsEvent) → length (events_to k past) ≤ 2 * length past
+events_few k [] = omega arith
+events_few k (event ∷ past) = let a = events_few k past in let b = by_few k event in omega (arith, a, b, length-append (events_to k past) (events_by k event))
+
+-- so each pair can go on
+pub can_step : (duos : List DuoView) (others : List (Option ℕ)) (made : ℕ) (h : PairsHeading) (log : List PairsEvent) (text : List ℕ) (number : ℕ) → PairsStand duos others made h log text → number ≡ length log + 1 → number ≤ 200000 → CanStep duos
+can_step duos others made h log text number k e few = record {
+  pairs = k.pairs;
+  own = λ j. events_to j k.past;
+  stand = k.stand;
+  few = λ j. let a = events_few j k.past in omega (arith, a, k.whole, e, few);
+}
+
+-- so it can when one end has ticked
+pub can_step_on : (duos new : List DuoView) (others : List (Option ℕ)) (made : ℕ) (h : PairsHeading) (log : List PairsEvent) (text before after : List ℕ) (number : ℕ) → PairsStand duos others made h log text → number ≡ length log + 1 → number ≤ 200000
+    → Ticks end_name.Slave number duos before new after → CanStep new
+can_step_on duos new others made h log text before after number k e few t =
+    let ticked = t.ticks k.pairs (λ j. events_to j k.past) k.stand in
+    record {
+      pairs = k.pairs;
+      own = with_tick end_name.Slave (λ j. events_to j k.past);
+      stand = ticked.stand;
+      few = λ j. let a = events_few j k.past in omega (arith, a, k.whole, e, few, length_push (events_to j k.past) (event.Tick end_name.Slave));
+    }
+
+two : (own : List Event) (a b : Event) → (own ++ a ∷ []) ++ b ∷ [] ≡ own ++ a ∷ b ∷ []
+two own a b = append_assoc own (a ∷ []) (b ∷ [])
+
+stand_same : (pairs : List Pair) (f g : ℕ → List Event) (duos : List DuoView) → ((k : ℕ) → f k ≡ g k) → AllStandOver pairs f duos → AllStandOver pairs g duos
+stand_same pairs f g duos same stand = record { many = stand.many; each = λ k p v p-at v-at. subst (λ (own : List Event). StandsOver p own v) (same k) (stand.each k p v p-at v-at) }
+
+-- a tick of all: all slaves ticked, and then all masters
+pub tick_goes : (old mid new : List DuoView) (others noted : List (Option ℕ)) (made now : ℕ) (number : ℕ) (first second : List ℕ) (h : PairsHeading) (log : List PairsEvent) (text : List ℕ) → Ticks end_name.Slave number old [] mid first → Ticks end_name.Master number mid first new second
+    → NotesOthers number new others noted → now ≡ made + 2 * length old → number ≡ length log + 1 → PairsStand old others made h log text → PairsStand new noted now h (log ++ common.Tick ∷ []) (text ++ second)
+tick_goes old mid new others noted made now number first second h log text slaves masters notes count e k =
+    let a = slaves.ticks k.pairs (λ j. events_to j k.past) k.stand in
+    let b = masters.ticks k.pairs (with_tick end_name.Slave (λ j. events_to j k.past)) a.stand in
+    let stand : AllStandOver k.pairs (λ j. events_to j (common.Tick ∷ k.past)) new =
+    stand_same k.pairs (with_tick end_name.Master (with_tick end_name.Slave (λ j. events_to j k.past))) (λ j. events_to j (common.Tick ∷ k.past)) new
+    (λ j. two (events_to j k.past) (event.Tick end_name.Slave) (event.Tick end_name.Master)) b.stand in
+    let n : number ≡ length k.past + 1 = omega (arith, e, k.whole) in
+    let m : number ≡ suc (length k.past) = omega (arith, n) in
+    let piece : second ≡ tick_lines number (λ j. events_to j k.past) end_name.Slave 1 k.pairs ++ tick_lines number (with_tick end_name.Slave (λ j. events_to j k.past)) end_name.Master 1 k.pairs =
+    b.lines ∙ ap (λ (z : List ℕ). z ++ tick_lines number (with_tick end_name.Slave (λ j. events_to j k.past)) end_name.Master 1 k.pairs) a.lines in
+    record {
+      pairs = k.pairs;
+      past = common.Tick ∷ k.past;
+      set = k.set;
+      done = done_next k.pairs log common.Tick k.past k.done k.whole refl;
+      whole = omega (arith, k.whole, length_push log (common.Tick));
+      stand = stand;
+      some = k.some;
+      few = k.few;
+      made_is = let p = entries-push (length (pairs_of h)) log common.Tick in let q = AllZip-long IsPairOf (pairs_of h) k.pairs k.set in omega (arith, p, q, k.made_is, count, k.stand.many);
+      others_are = others_after k.pairs k.past common.Tick new number others noted m k.others_are stand notes;
+      lines = ap (λ (z : List ℕ). z ++ second) k.lines
+          ∙ ap (λ (z : List ℕ). lines_of_events k.pairs k.past ++ z)
+          (piece ∙ ap (λ (n : ℕ). tick_lines n (λ j. events_to j k.past) end_name.Slave 1 k.pairs ++ tick_lines n (with_tick end_name.Slave (λ j. events_to j k.past)) end_name.Master 1 k.pairs) n);
+    }
+
+-- the event of one pair, which has its entry
+stand_one : (pairs : List Pair) (past : List PairsEvent) (old new : List DuoView) (pair place : ℕ) (own : Event) (p : Pair) (after : DuoView) → pair ≡ place + 1 → numbered pair pairs ≡ Some p → new ≡ slice_set old place after → numbered pair new ≡ Some after
+    → AllStandOver pairs (λ k. events_to k past) old → StandsOver p (events_to pair past ++ own ∷ []) after → (k : ℕ) (q : Pair) (v : DuoView) → numbered k pairs ≡ Some q → numbered k new ≡ Some v → (same : Bool) → (pair == k) ≡ same
+    → StandsOver q (events_to k past ++ (if pair == k then own ∷ [] else [])) v
+stand_one pairs past old new pair place own p after e p-at is new-at stand goes k q v q-at v-at true test =
+    let here : pair ≡ k = eqb-true pair k test in
+    let p-same : p ≡ q = some_same (sym p-at ∙ ap (λ (j : ℕ). numbered j pairs) here ∙ q-at) in
+    let v-same : after ≡ v = some_same (sym new-at ∙ ap (λ (j : ℕ). numbered j new) here ∙ v-at) in
+    subst (λ (b : Bool). StandsOver q (events_to k past ++ (if b then own ∷ [] else [])) v) (sym test)
+    (subst (λ (j : ℕ). StandsOver q (events_to j past ++ own ∷ []) v) here
+    (subst (λ (v : DuoView). StandsOver q (events_to pair past ++ own ∷ []) v) v-same (subst (λ (q : Pair). StandsOver q (events_to pair past ++ own ∷ []) after) p-same goes)))
+stand_one pairs past old new pair place own p after e p-at is new-at stand goes k q v q-at v-at false test =
+    let apart : k ≡ pair → ⊥ = λ same. eqb-false pair k test (sym same) in
+    let v-old : numbered k old ≡ Some v = sym (others_stay pair place k old new after e is apart) ∙ v-at in
+    subst (λ (b : Bool). StandsOver q (events_to k past ++ (if b then own ∷ [] else [])) v) (sym test)
+    (subst (λ (own : List Event). StandsOver q own v) (sym (append-nil (events_to k past))) (stand.each k q v q-at v-old))
+
+-- its line is that of the event
+one_lines : (pairs : List Pair) (past : List PairsEvent) (n k : ℕ) (own : Event) (p : Pair) (x : Entry) → numbered k pairs ≡ Some p → entry_after p (events_to k past) own ≡ Some x → event_lines n pairs past (common.One k own) ≡ pair_line n k x
+one_lines pairs past n k own p x at next = ap (one_line n k past own) at ∙ ap (line_if n k) next
+
+one_met : (pairs : List Pair) (past : List PairsEvent) (k : ℕ) (own : Event) (p : Pair) (next : Option Entry) → numbered k pairs ≡ Some p → entry_after p (events_to k past) own ≡ next → is_met pairs past (common.One k own) ≡ is_some next
+one_met pairs past k own p next at is = ap (is_met_by k past own) at ∙ ap (λ (o : Option Entry). is_some o) is
+
+pub one_goes : (old new : List DuoView) (others noted : List (Option ℕ)) (made now number pair place : ℕ) (own : Event) (v after : DuoView) (piece : List ℕ) (h : PairsHeading) (log : List PairsEvent) (text : List ℕ) → pair ≡ place + 1 → slice_get old place ≡ Some v
+    → TellsNext v own number pair after piece → new ≡ slice_set old place after → NotesOthers number new others noted → now ≡ made + 1 → number ≡ length log + 1 → PairsStand old others made h log text
+    → PairsStand new noted now h (log ++ common.One pair own ∷ []) (text ++ piece)
+one_goes old new others noted made now number pair place own v after piece h log text e v-at tells is notes count f k =
+    let below : place < length old = found_below old place v v-at in
+    let found = found_at k.pairs place (omega (arith, below, k.stand.many)) in
+    let p : Pair = found.0 in
+    let p-at : numbered pair k.pairs ≡ Some p = named pair place k.pairs p e found.1 in
+    let stood : StandsOver p (events_to pair k.past) v = k.stand.each pair p v p-at (named pair place old v e v-at) in
+    let told = tells.tells p.master p.slave (entries_over p (events_to pair k.past)) stood.stands in
+    let goes : StandsOver p (events_to pair k.past ++ own ∷ []) after = goes_over p (events_to pair k.past) own told.entry after stood.whole told.next told.stands in
+    let new-at : numbered pair new ≡ Some after = named pair place new after e (ap (λ (n : List DuoView). slice_get n place) is ∙ set_at old place v after v-at) in
+    let many : length new ≡ length old = ap (length {A = DuoView}) is ∙ length-set old place after in
+    let stand : AllStandOver k.pairs (λ j. events_to j (common.One pair own ∷ k.past)) new = record {
+      many = many ∙ k.stand.many;
+      each = λ j q w q-at w-at. stand_one k.pairs k.past old new pair place own p after e p-at is new-at k.stand goes j q w q-at w-at (pair == j) refl;
+    } in
+    let m : number ≡ suc (length k.past) = omega (arith, f, k.whole) in
+    let n : number ≡ length k.past + 1 = omega (arith, f, k.whole) in
+    record {
+      pairs = k.pairs;
+      past = common.One pair own ∷ k.past;
+      set = k.set;
+      done = done_next k.pairs log (common.One pair own) k.past k.done k.whole (one_met k.pairs k.past pair own p (Some told.entry) p-at told.next);
+      whole = omega (arith, k.whole, length_push log (common.One pair own));
+      stand = stand;
+      some = k.some;
+      few = k.few;
+      made_is = let q = entries-push (length (pairs_of h)) log (common.One pair own) in omega (arith, q, k.made_is, count);
+      others_are = others_after k.pairs k.past (common.One pair own) new number others noted m k.others_are stand notes;
+      lines = ap (λ (z : List ℕ). z ++ piece) k.lines
+          ∙ ap (λ (z : List ℕ). lines_of_events k.pairs k.past ++ z)
+          (told.line_is ∙ ap (λ (n : ℕ). pair_line n pair told.entry) n ∙ sym (one_lines k.pairs k.past (length k.past + 1) pair own p told.entry p-at told.next));
+    }
+
+pub one_unsent : (old : List DuoView) (others : List (Option ℕ)) (made pair place : ℕ) (own : Event) (v : DuoView) (h : PairsHeading) (log : List PairsEvent) (text : List ℕ) → pair ≡ place + 1 → slice_get old place ≡ Some v → Misses v own
+    → PairsStand old others made h log text → EndsUnmet pairs_reporting h log text (common.One pair own) NoFrame
+one_unsent old others made pair place own v h log text e v-at misses k =
+    let below : place < length old = found_below old place v v-at in
+    let found = found_at k.pairs place (omega (arith, below, k.stand.many)) in
+    let p : Pair = found.0 in
+    let p-at : numbered pair k.pairs ≡ Some p = named pair place k.pairs p e found.1 in
+    let stood : StandsOver p (events_to pair k.past) v = k.stand.each pair p v p-at (named pair place old v e v-at) in
+    pairs_unsent old others made h log text (common.One pair own) k (one_met k.pairs k.past pair own p None p-at (misses.misses p.master p.slave (entries_over p (events_to pair k.past)) stood.stands))
+
+-- what an event of all needs: there are at most 16 pairs, each noted, and the entries so far are few
+by_most : (n : ℕ) (event : PairsEvent) → n ≤ 16 → entries_by n event ≤ 33
+by_most n common.Tick few = omega arith
+by_most n (common.One pair own) few = omega arith
+
+entries_most : (n : ℕ) (log : List PairsEvent) → n ≤ 16 → entries_of n log ≤ 33 * length log
+entries_most n [] few = omega arith
+entries_most n (event ∷ log) few = let a = entries_most n log few in let b = by_most n event few in omega (arith, a, b)
+
+pub few_duos : (duos : List DuoView) (others : List (Option ℕ)) (made : ℕ) (h : PairsHeading) (log : List PairsEvent) (text : List ℕ) → PairsStand duos others made h log text → length duos ≤ 16
+few_duos duos others made h log text k = let q = AllZip-long IsPairOf (pairs_of h) k.pairs k.set in omega (arith, q, k.stand.many, k.few)
+
+pub few_entries : (duos : List DuoView) (others : List (Option ℕ)) (made : ℕ) (h : PairsHeading) (log : List PairsEvent) (text : List ℕ) (number : ℕ) → PairsStand duos others made h log text → number ≡ length log + 1 → number ≤ 200000 → made ≤ 6600000
+few_entries duos others made h log text number k e few = let m = entries_most (length (pairs_of h)) log k.few in omega (arith, m, e, few, k.made_is)
+
+pub noted_each : (duos : List DuoView) (others : List (Option ℕ)) (made : ℕ) (h : PairsHeading) (log : List PairsEvent) (text : List ℕ) → PairsStand duos others made h log text → length others ≡ length duos
+noted_each duos others made h log text k = ap (length {A = Option ℕ}) k.others_are ∙ others-length 1 k.pairs k.past ∙ sym k.stand.many
+
+pub one_counted : (duos : List DuoView) (others : List (Option ℕ)) (made : ℕ) (h : PairsHeading) (log : List PairsEvent) (text : List ℕ) (number place : ℕ) (v : DuoView) → PairsStand duos others made h log text → number ≡ length log + 1 → number ≤ 200000
+    → slice_get duos place ≡ Some v → steps_done v + 1 < 2 ^ 64
+one_counted duos others made h log text number place v k e few v-at =
+    let below : place < length duos = found_below duos place v v-at in
+    let found = found_at k.pairs place (omega (arith, below, k.stand.many)) in
+    let counted = counted_over found.0 (events_to (suc place) k.past) v (k.stand.each (suc place) found.0 v found.1 v-at) in
+    let a = events_few (suc place) k.past in
+    omega (arith, counted, a, k.whole, e, few)

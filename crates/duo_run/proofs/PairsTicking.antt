@@ -1,0 +1,168 @@
+-- One end of each pair ticks, one pair after another.
+use Rattle.std.proofs.Common.{◌≡◌, ◌≤◌, ◌<◌, ◌+◌, ◌^◌, ℕ, zero, suc, List, [], ◌∷◌, ◌++◌, length, take, slice_get, slice_set, refl, arith, ap, sym, subst, ◌∙◌, append_assoc, below_more}
+use Rattle.std.specs.Prelude.{Some, None}
+use Rattle.std.proofs.lemmas.List.{append-nil, length_push, length-set}
+use Rattle.fsoe_base.specs.declared.command.End.{End}
+use Rattle.param_load.specs.declared.entry.Entry.{Entry}
+use Rattle.schedule_file.specs.PairsEvent.{numbered}
+use Rattle.schedule_file.specs.declared.event.Event.{Event}
+use Rattle.schedule_file.specs.declared.event.Event.TheVariants as event
+use Rattle.exchange_model.specs.World.{entry_at}
+use Rattle.exchange_model.proofs.Worlds.Longer.{world_next}
+use Rattle.duo_run.specs.Duo.{DuoStands, DuoView, Misses, steps_done}
+use Rattle.duo_run.specs.Pairs.{Pair, entries_over, entry_after}
+use Rattle.duo_run.proofs.PairsAt.{set_at, set_beside}
+use Rattle.duo_run.specs.PairsReport.{line_if, pair_line, tick_lines, with_tick}
+use Rattle.duo_run.specs.PairsStanding.{AllStandOver, CanStep, StandsOver, TellsNext, Ticks, ToldNext}
+
+pub some_same : {X : Type 0} {a b : X} → Some a ≡ Some b → a ≡ b
+some_same e = cc
+
+-- a pair goes on with an event that has its entry
+pub goes_over : (p : Pair) (own : List Event) (event : Event) (x : Entry) (new : DuoView) → length (entries_over p own) ≡ length own → entry_after p own event ≡ Some x → DuoStands p.master p.slave new (x ∷ entries_over p own)
+    → StandsOver p (own ++ event ∷ []) new
+goes_over p own event x new whole next stands =
+    let longer : entries_over p (own ++ event ∷ []) ≡ x ∷ entries_over p own = world_next p.master p.slave own event x whole next in
+    record {
+      stands = subst (DuoStands p.master p.slave new) (sym longer) stands;
+      whole = ap (length {A = Entry}) longer ∙ (let e : suc (length (entries_over p own)) ≡ length (own ++ event ∷ []) = omega (arith, whole, length_push own event) in e);
+    }
+
+-- the steps of a pair are counted
+pub counted_over : (p : Pair) (own : List Event) (v : DuoView) → StandsOver p own v → steps_done v ≡ length own
+counted_over p own v s = ap (λ m. m.noted) s.stands.monitor ∙ s.whole
+
+-- a tick always has its entry
+pub tick_met : (p : Pair) (own : List Event) (v : DuoView) (at : End) → StandsOver p own v → Misses v (event.Tick at) → ⊥
+tick_met p own v at s misses =
+    let none : entry_at p.master p.slave (entries_over p own) (event.Tick at) ≡ None = misses.misses p.master p.slave (entries_over p own) s.stands in
+    cc
+
+-- the pairs before the next one, and it
+pub taken : {X : Type 0} (xs : List X) (i : ℕ) (x : X) → slice_get xs i ≡ Some x → take (suc i) xs ≡ take i xs ++ x ∷ []
+taken [] i x at = cc
+taken (a ∷ xs) zero x at = let same : a ≡ x = cc in ap (λ z. z ∷ []) same
+taken (a ∷ xs) (suc i) x at = ap (λ (rest : List _). a ∷ rest) (taken xs i x at)
+
+pub found_at : {X : Type 0} (xs : List X) (i : ℕ) → i < length xs → (x : X) × (slice_get xs i ≡ Some x)
+found_at [] i h = absurd (omega arith)
+found_at (a ∷ xs) zero h = (a, refl)
+found_at (a ∷ xs) (suc i) h = found_at xs i (omega arith)
+
+pub found_below : {X : Type 0} (xs : List X) (i : ℕ) (x : X) → slice_get xs i ≡ Some x → i < length xs
+found_below [] i x at = cc
+found_below (a ∷ xs) zero x at = omega arith
+found_below (a ∷ xs) (suc i) x at = let h = found_below xs i x at in omega (arith, h)
+
+pub taken_length : {X : Type 0} (xs : List X) (i : ℕ) → i ≤ length xs → length (take i xs) ≡ i
+taken_length xs zero h = refl
+taken_length [] (suc i) h = absurd (omega arith)
+taken_length (x ∷ xs) (suc i) h = let e = taken_length xs i (omega arith) in omega (arith, e)
+
+pub taken_all : {X : Type 0} (xs : List X) (i : ℕ) → i ≡ length xs → take i xs ≡ xs
+taken_all [] zero e = refl
+taken_all [] (suc i) e = absurd (omega arith)
+taken_all (x ∷ xs) zero e = absurd (omega arith)
+taken_all (x ∷ xs) (suc i) e = ap (λ (rest : List _). x ∷ rest) (taken_all xs i (omega arith))
+
+-- the line of one pair more
+lines-push : (n : ℕ) (own : ℕ → List Event) (at : End) (k m : ℕ) (pairs : List Pair) (p : Pair) → m ≡ k + length pairs
+    → tick_lines n own at k (pairs ++ p ∷ []) ≡ tick_lines n own at k pairs ++ line_if n m (entry_after p (own m) (event.Tick at))
+lines-push n own at k m [] p e =
+    let same : k ≡ m = omega (arith, e) in
+    append-nil (line_if n k (entry_after p (own k) (event.Tick at))) ∙ ap (λ (m : ℕ). line_if n m (entry_after p (own m) (event.Tick at))) same
+lines-push n own at k m (q ∷ pairs) p e =
+    let line : List ℕ = line_if n k (entry_after q (own k) (event.Tick at)) in
+    ap (λ (rest : List ℕ). line ++ rest) (lines-push n own at (suc k) m pairs p (omega (arith, e)))
+    ∙ sym (append_assoc line (tick_lines n own at (suc k) pairs) (line_if n m (entry_after p (own m) (event.Tick at))))
+
+-- so many of the pairs have ticked
+pub record TickedSome (at : End) (n i : ℕ) (pairs : List Pair) (own : ℕ → List Event) (before : List ℕ) (now : List DuoView) (after : List ℕ) : Type 0 where
+  pub many : length now ≡ length pairs
+  pub done : (j : ℕ) → j < i → (p : Pair) (v : DuoView) → slice_get pairs j ≡ Some p → slice_get now j ≡ Some v → StandsOver p (with_tick at own (suc j)) v
+  pub rest : (j : ℕ) (p : Pair) (v : DuoView) → i ≤ j → slice_get pairs j ≡ Some p → slice_get now j ≡ Some v → StandsOver p (own (suc j)) v
+  pub lines : after ≡ before ++ tick_lines n own at 1 (take i pairs)
+
+pub record TickedTo (at : End) (n i : ℕ) (old : List DuoView) (before : List ℕ) (now : List DuoView) (after : List ℕ) : Type 0 where
+  pub so_far : (pairs : List Pair) (own : ℕ → List Event) → AllStandOver pairs own old → TickedSome at n i pairs own before now after
+
+pub ticked_none : (at : End) (n : ℕ) (old : List DuoView) (before : List ℕ) → TickedTo at n 0 old before old before
+ticked_none at n old before = record {
+  so_far = λ pairs own h. record {
+    many = h.many;
+    done = λ j below p v p-at v-at. absurd (omega arith);
+    rest = λ j p v late p-at v-at. h.each (suc j) p v p-at v-at;
+    lines = sym (append-nil before);
+  };
+}
+
+ticked_one : (at : End) (n i k : ℕ) (pairs : List Pair) (own : ℕ → List Event) (before : List ℕ) (now : List DuoView) (after line : List ℕ) (v new : DuoView) → k ≡ i + 1 → TickedSome at n i pairs own before now after
+    → slice_get now i ≡ Some v → TellsNext v (event.Tick at) n k new line → TickedSome at n (i + 1) pairs own before (slice_set now i new) (after ++ line)
+ticked_one at n i k pairs own before now after line v new e s v-at tells =
+    let below : i < length now = found_below now i v v-at in
+    let p-found = found_at pairs i (omega (arith, below, s.many)) in
+    let p : Pair = p-found.0 in
+    let stood : StandsOver p (own (suc i)) v = s.rest i p v (omega arith) p-found.1 v-at in
+    let told : ToldNext p.master p.slave (entries_over p (own (suc i))) (event.Tick at) n k new line = tells.tells p.master p.slave (entries_over p (own (suc i))) stood.stands in
+    let goes : StandsOver p (with_tick at own (suc i)) new = goes_over p (own (suc i)) (event.Tick at) told.entry new stood.whole told.next told.stands in
+    let number : k ≡ suc i = omega (arith, e) in
+    let is : line ≡ line_if n (suc i) (entry_after p (own (suc i)) (event.Tick at)) =
+    told.line_is ∙ ap (λ (k : ℕ). pair_line n k told.entry) number ∙ sym (ap (line_if n (suc i)) told.next) in
+    let many : length (slice_set now i new) ≡ length now = length-set now i new in
+    record {
+      many = many ∙ s.many;
+      done = below_more _ _
+          (λ j early q w q-at w-at. s.done j early q w q-at (sym (set_beside now i j new (λ same. let x : i < i = subst (λ (m : ℕ). m < i) same early in omega arith)) ∙ w-at))
+          (λ q w q-at w-at.
+          let p-same : p ≡ q = some_same (sym p-found.1 ∙ q-at) in
+          let v-same : new ≡ w = some_same (sym (set_at now i v new v-at) ∙ w-at) in
+          subst (λ (q : Pair). StandsOver q (with_tick at own (suc i)) w) p-same (subst (λ (w : DuoView). StandsOver p (with_tick at own (suc i)) w) v-same goes));
+      rest = λ j q w late q-at w-at. s.rest j q w (omega (arith, late)) q-at (sym (set_beside now i j new (λ same. omega (arith, same, late))) ∙ w-at);
+      lines = ap (λ (z : List ℕ). z ++ line) s.lines
+          ∙ append_assoc before (tick_lines n own at 1 (take i pairs)) line
+          ∙ ap (λ (z : List ℕ). before ++ z)
+          (ap (λ (z : List ℕ). tick_lines n own at 1 (take i pairs) ++ z) is
+          ∙ sym (lines-push n own at 1 (suc i) (take i pairs) p (let len = taken_length pairs i (omega (arith, below, s.many)) in omega (arith, len)))
+          ∙ ap (tick_lines n own at 1) (sym (taken pairs i p p-found.1) ∙ ap (λ (m : ℕ). take m pairs) (let m : suc i ≡ i + 1 = omega arith in m)));
+    }
+
+pub ticked_more : (at : End) (n i k : ℕ) (old : List DuoView) (before : List ℕ) (now later : List DuoView) (after longer line : List ℕ) (v new : DuoView) → k ≡ i + 1 → TickedTo at n i old before now after → slice_get now i ≡ Some v
+    → TellsNext v (event.Tick at) n k new line → later ≡ slice_set now i new → longer ≡ after ++ line → TickedTo at n (i + 1) old before later longer
+ticked_more at n i k old before now later after longer line v new e t v-at tells is more = record {
+  so_far = λ pairs own h.
+      subst (λ (now : List DuoView). TickedSome at n (i + 1) pairs own before now longer) (sym is)
+      (subst (λ (after : List ℕ). TickedSome at n (i + 1) pairs own before (slice_set now i new) after) (sym more) (ticked_one at n i k pairs own before now after line v new e (t.so_far pairs own h) v-at tells));
+}
+
+ticked_at : (at : End) (n : ℕ) (pairs : List Pair) (own : ℕ → List Event) (before : List ℕ) (now : List DuoView) (after : List ℕ) (i : ℕ) → i ≡ length pairs → TickedSome at n i pairs own before now after → (k : ℕ) (p : Pair) (v : DuoView)
+    → numbered k pairs ≡ Some p → numbered k now ≡ Some v → StandsOver p (with_tick at own k) v
+ticked_at at n pairs own before now after i all s zero p v p-at v-at = cc
+ticked_at at n pairs own before now after i all s (suc j) p v p-at v-at = s.done j (let h = found_below pairs j p p-at in omega (arith, h, all)) p v p-at v-at
+
+pub ticked_all : (at : End) (n i : ℕ) (old : List DuoView) (before : List ℕ) (now : List DuoView) (after : List ℕ) → i ≡ length old → TickedTo at n i old before now after → Ticks at n old before now after
+ticked_all at n i old before now after all t = record {
+  ticks = λ pairs own h.
+      let s = t.so_far pairs own h in
+      let end : i ≡ length pairs = all ∙ h.many in
+      record {
+        stand = record { many = s.many; each = ticked_at at n pairs own before now after i end s };
+        lines = s.lines ∙ ap (λ (pairs : List Pair). before ++ tick_lines n own at 1 pairs) (taken_all pairs i end);
+      };
+}
+
+-- the next pair may tick
+pub next_counted : (at : End) (n i : ℕ) (old : List DuoView) (before : List ℕ) (now : List DuoView) (after : List ℕ) (v : DuoView) → CanStep old → TickedTo at n i old before now after → slice_get now i ≡ Some v → steps_done v + 1 < 2 ^ 64
+next_counted at n i old before now after v can t v-at =
+    let s = t.so_far can.pairs can.own can.stand in
+    let below = found_below now i v v-at in
+    let p = found_at can.pairs i (omega (arith, below, s.many)) in
+    let counted = counted_over p.0 (can.own (suc i)) v (s.rest i p.0 v (omega arith) p.1 v-at) in
+    let few = can.few (suc i) in
+    omega (arith, counted, few)
+
+pub next_ticks : (at : End) (n i : ℕ) (old : List DuoView) (before : List ℕ) (now : List DuoView) (after : List ℕ) (v : DuoView) → CanStep old → TickedTo at n i old before now after → slice_get now i ≡ Some v → Misses v (event.Tick at) → ⊥
+next_ticks at n i old before now after v can t v-at misses =
+    let s = t.so_far can.pairs can.own can.stand in
+    let below = found_below now i v v-at in
+    let p = found_at can.pairs i (omega (arith, below, s.many)) in
+    tick_met p.0 (can.own (suc i)) v at (s.rest i p.0 v (omega arith) p.1 v-at) misses

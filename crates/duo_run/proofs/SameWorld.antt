@@ -1,0 +1,35 @@
+-- The only pair of a converted file does what the pair of that file did.
+use Rattle.std.proofs.Common.{◌≡◌, List, [], ◌∷◌, ◌++◌, length, map, refl, arith, ap, sym, ◌∙◌, append_assoc}
+use Rattle.std.specs.Prelude.{Some, None, is_some, if◌then◌else◌}
+use Rattle.std.specs.declared.option.Option.{Option}
+use Rattle.std.proofs.lemmas.List.{append-nil, length_push}
+use Rattle.param_load.specs.declared.entry.Entry.{Entry}
+use Rattle.schedule_file.specs.declared.event.Event.{Event}
+use Rattle.schedule_file.specs.declared.pairs_line.PairsEvent.{PairsEvent}
+use Rattle.schedule_file.specs.declared.pairs_line.PairsEvent.TheVariants as common
+use Rattle.exchange_model.proofs.Worlds.Longer.{world_next, world_missed}
+use Rattle.duo_run.specs.Pairs.{Pair, done_after, entries_over, entry_after, events_done, events_to, world_of}
+
+abbrev of_one : Event → PairsEvent
+of_one event = common.One 1 event
+
+-- these events of the only pair are done, each of which has its entry; then those that come are done up to the first without one
+abbrev GoesOn : Pair → List Event → List PairsEvent → Type 0
+GoesOn p events past = length (entries_over p (events_to 1 past)) ≡ length (events_to 1 past) → world_of 1 p (done_after (p ∷ []) (map of_one events) past) ≡ entries_over p (events_to 1 past ++ events)
+
+by_entry : (p : Pair) (event : Event) (events : List Event) (past : List PairsEvent) (next : Option Entry) → entry_after p (events_to 1 past) event ≡ next → GoesOn p events (of_one event ∷ past)
+    → length (entries_over p (events_to 1 past)) ≡ length (events_to 1 past)
+    → world_of 1 p (if is_some next then done_after (p ∷ []) (map of_one events) (of_one event ∷ past) else past) ≡ entries_over p (events_to 1 past ++ event ∷ events)
+by_entry p event events past (Some x) is later whole =
+    let own : List Event = events_to 1 past in
+    let longer : entries_over p (own ++ event ∷ []) ≡ x ∷ entries_over p own = world_next p.master p.slave own event x whole is in
+    let counted : length (entries_over p (own ++ event ∷ [])) ≡ length (own ++ event ∷ []) = ap (length {A = Entry}) longer ∙ omega (arith, whole, length_push own event) in
+    later counted ∙ ap (entries_over p) (append_assoc own (event ∷ []) events)
+by_entry p event events past None is later whole = sym (world_missed p.master p.slave (events_to 1 past) events event whole is)
+
+goes_on : (p : Pair) (events : List Event) (past : List PairsEvent) → GoesOn p events past
+goes_on p [] past whole = ap (entries_over p) (sym (append-nil (events_to 1 past)))
+goes_on p (event ∷ events) past whole = by_entry p event events past (entry_after p (events_to 1 past) event) refl (goes_on p events (of_one event ∷ past)) whole
+
+pub same_world : (p : Pair) (events : List Event) → world_of 1 p (events_done (p ∷ []) (map of_one events)) ≡ entries_over p events
+same_world p events = goes_on p events [] refl

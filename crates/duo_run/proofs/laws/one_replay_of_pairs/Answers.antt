@@ -1,0 +1,12 @@
+use Rattle.duo_run.proofs.OneReplayOfPairs.{one_text, one_ending}
+use Rattle.duo_run.proofs.PairsRunning.{some_report}
+use Rattle.duo_run.proofs.laws.one_replay_of_pairs.Goals as goal
+
+pub returns-clause-some : goal.returns-clause-some
+returns-clause-some c = some_report
+
+pub returns-clause-one_text : goal.returns-clause-one_text
+returns-clause-one_text c = one_text
+
+pub returns-clause-one_ending : goal.returns-clause-one_ending
+returns-clause-one_ending c = one_ending

@@ -1,0 +1,8 @@
+use Rattle.std.proofs.Common.{arith, length}
+use Rattle.schedule_file.specs.PairsHeader.{pairs_of}
+use Rattle.duo_run.proofs.PairsLeast.{room_for_one}
+use Rattle.duo_run.proofs.pairs_run.PairsRunMachine.is_full.Goals as goal
+
+pub returns-else-self-ge-MAX_EVENTS-clause-full : goal.returns-else-self-ge-MAX_EVENTS-clause-full
+returns-else-self-ge-MAX_EVENTS-clause-full c = λ alloc h log text count k.
+    room_for_one (length (pairs_of h)) c.args.self.now.entries c.args.events log k.some k.made_is count (omega (arith, c.if-self-ge-MAX_EVENTS.false))

@@ -1,0 +1,24 @@
+use Rattle.std.proofs.Common.{◌≡◌, ◌+◌, ◌++◌, ℕ, List, length, slice_index_or, refl, sym, ap, ◌∙◌, arith}
+use Rattle.std.specs.Prelude.{None}
+use Rattle.std.specs.declared.option.Option.{Option}
+use Rattle.std.proofs.lemmas.List.{length-append}
+use Rattle.std.proofs.lemmas.Option.{slice_get-get_or}
+use Rattle.file_run.specs.Waiting.{WaitingText}
+use Rattle.duo_run.specs.PairsReport.{closing_line}
+use Rattle.duo_run.proofs.PairsClosing.{closing_more}
+use Rattle.duo_run.proofs.pairs_run.push_closing.Goals as goal
+
+pub loop-i-preserved : goal.loop-i-preserved
+loop-i-preserved c =
+    let i : ℕ = c.loop-i.i in
+    let other : Option ℕ = slice_index_or c.args.others.now i None in
+    let line : c.bytes.result.now ≡ closing_line (i + 1) other =
+    rw (c.bytes.ensures.value, c.push_other.ensures.text, c.push-in-loop-i.ensures, c.push_decimal.ensures.text, c.push.ensures, c.clear.ensures) refl in
+    let longer : c.push-in-loop-i-2.new.self.text ≡ c.loop-i.waiting.text ++ c.bytes.result.now = ap (λ (w : WaitingText). w.text) c.push-in-loop-i-2.ensures in
+    record {
+      lines = longer ∙ ap (λ (z : List ℕ). c.loop-i.waiting.text ++ z) line ∙ ap (λ (z : List ℕ). z ++ closing_line (i + 1) other) c.loop-i.invariant.lines
+          ∙ sym (closing_more c.args.others.now i other (slice_get-get_or c.args.others.now i None (omega arith)));
+      room =
+          let grown = ap (length {A = ℕ}) longer in
+          omega (arith, grown, length-append c.loop-i.waiting.text c.bytes.result.now, c.bytes.ensures.most, c.loop-i.invariant.room);
+    }

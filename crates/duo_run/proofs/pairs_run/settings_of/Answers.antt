@@ -1,0 +1,23 @@
+use Rattle.std.proofs.Common.{◌≡◌, ◌<◌, ◌+◌, [], ◌∷◌, ◌++◌, length, take, sym, subst, arith}
+use Rattle.std.proofs.lemmas.Grind.{common_steps}
+use Rattle.param_load.specs.declared.master_settings.MasterSettings.{MasterSettings}
+use Rattle.param_load.specs.declared.slave_settings.SlaveSettings.{SlaveSettings}
+use Rattle.schedule_file.specs.Header.{IsMasterOf, IsSlaveOf}
+use Rattle.schedule_file.specs.PairsHeader.{pairs_of}
+use Rattle.duo_run.specs.Replay.{AreSetTo}
+use Rattle.duo_run.proofs.PairsAt.{of_named}
+use Rattle.duo_run.proofs.PairsBegun.{AreSettings, heading_at, settings_more}
+use Rattle.duo_run.proofs.pairs_run.settings_of.Goals as goal
+
+pub loop-before-preserved : goal.loop-before-preserved
+loop-before-preserved c =
+    let hs = pairs_of c.args.header.now in
+    let below : c.loop-before.before < length hs = omega (arith, c.count-count.ensures.value) in
+    let found = heading_at hs c.loop-before.before below in
+    let own : MasterSettings × SlaveSettings = (c.master.result, c.slave.result) in
+    let set : AreSetTo found.0 own.0 own.1 = (of_named (λ h. IsMasterOf h c.master.result) _ hs found.0 found.1 c.master.ensures, of_named (λ h. IsSlaveOf h c.slave.result) _ hs found.0 found.1 c.slave.ensures) in
+    let pushed : c.push.new.self.items ≡ c.loop-before.settings.items ++ own ∷ [] = grind (arith, common_steps) in
+    record {
+      set = subst (AreSettings (take (c.loop-before.before + 1) hs)) (sym pushed) (settings_more hs c.loop-before.settings.items c.loop-before.before found.0 own found.2 c.loop-before.invariant.set set);
+      many = grind (arith, common_steps);
+    }

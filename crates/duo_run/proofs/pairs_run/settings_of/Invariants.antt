@@ -1,0 +1,10 @@
+use Rattle.std.proofs.Common.{◌≡◌, take, vec_len}
+use Rattle.schedule_file.specs.PairsHeader.{pairs_of}
+use Rattle.duo_run.proofs.PairsBegun.{AreSettings}
+use Rattle.duo_run.proofs.pairs_run.settings_of.Given as goal
+
+abbrev pub invariant-loop-before : goal.invariant-loop-before
+invariant-loop-before l = record {
+  set : AreSettings (take l.before (pairs_of l.header)) l.settings.items;
+  many : vec_len l.settings ≡ l.before;
+}

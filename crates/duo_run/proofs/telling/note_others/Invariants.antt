@@ -1,0 +1,5 @@
+use Rattle.duo_run.proofs.PairsNoted.{NotedTo}
+use Rattle.duo_run.proofs.telling.note_others.Given as goal
+
+abbrev pub invariant-loop-i : goal.invariant-loop-i
+invariant-loop-i l = NotedTo l.number l.i l.duos l.initial.others l.others
