@@ -65,7 +65,7 @@ pub(crate) fn tell(
             line.clear();
             line.push_decimal(number);
             line.push(b" ");
-            line.push_decimal(u64::from(pair));
+            line.push_small(pair);
             line.push(b" ");
             push_told(at, duo.state_of(at), duo.outputs_of(at), answer, line);
             Ok(())

@@ -8,3 +8,4 @@ pub mod Raised
 pub mod Shelves
 pub mod Loading
 pub mod HexText
+pub mod Numbers

@@ -82,6 +82,23 @@ impl LineText {
         self.len += count;
     }
 
+    /// Appends a number in decimal digits that is mostly small, as that of a slot or a pair. The numeral is left to the numbers of
+    /// events, of which the next one mostly costs little.
+    #[tactic(auto, using(std::proofs::lemmas::Fmt::decimal_digit, crate::proofs::Numbers::two_digits))]
+    pub fn push_small(&mut self, n: u16)
+        requires { length self.old + 20 ≤ 1024 }
+        ensures text { self.new ≡ self.old ++ decimal n }
+        ensures most { length self.new ≤ length self.old + 20 }
+    {
+        if n < 10 {
+            self.push(&[b'0' + n as u8]);
+        } else if n < 100 {
+            self.push(&[b'0' + (n / 10) as u8, b'0' + (n % 10) as u8]);
+        } else {
+            self.push_decimal(u64::from(n));
+        }
+    }
+
     /// Appends bytes as lower-case hexadecimal digits, two a byte.
     pub fn push_hex(&mut self, bytes: &[u8])
         requires { length self.old + 2 * length bytes.now ≤ 1024 }

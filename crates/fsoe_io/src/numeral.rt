@@ -4,7 +4,7 @@ ghost use Rattle.std.specs.Prelude.{◌≡◌, ◌≤◌, take, decimal};
 use itoa::Buffer;
 use std::marker::Model;
 
-/// A number with its decimal digits, which cost little where the next number is one more. It is seen as the number.
+/// A number with its decimal digits, which cost little where the next number is the same, or one more. It is seen as the number.
 #[derive(Drop)]
 pub(crate) struct Numeral {
     value: u64,
@@ -43,7 +43,7 @@ impl Numeral {
         if n != 0 && n - 1 == self.value && last < b'9' {
             self.digits[self.count - 1] = last + 1;
             self.value = n;
-        } else {
+        } else if n != self.value {
             self.write(n);
         }
     }

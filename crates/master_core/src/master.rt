@@ -186,17 +186,18 @@ impl Master {
         ensures unsent { did.new.sent ≡ false }
     {
         let repeats = self.phase.is_repeat(frame);
-        let unread = match open(frame, self.kit.settings().peer_len(), repeats) {
+        // The frame is read where it was opened, and its data where they are told, so that neither is moved.
+        let opened = open(frame, self.kit.settings().peer_len(), repeats);
+        let unread = match &opened {
             Opened::Drop(why) => {
                 did.clear();
-                did.dropped = Some(why);
+                did.dropped = Some(*why);
                 return;
             }
-            Opened::Refuse(code) => return self.refuse(code, did),
-            Opened::ResetFrame(code, view) => return self.acknowledge(code, &view, did),
+            Opened::Refuse(code) => return self.refuse(*code, did),
+            Opened::ResetFrame(code, view) => return self.acknowledge(*code, view, did),
             Opened::OfSession(unread) => unread,
         };
-        // The data are read where they are told, so that they aren't moved.
         unread.took_into(did);
         let Some(took) = &did.took else {
             unreachable!();

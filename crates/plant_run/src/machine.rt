@@ -94,7 +94,7 @@ fn write_link<A: Application>(plant: &Plant<A>, link: u16, text: &mut LineText)
     ensures { ShowsPair (seen A.rule A.holds A.guards plant.now) link text.new (λ conf w. link_line conf link w) }
 {
     text.clear();
-    text.push_decimal(u64::from(link));
+    text.push_small(link);
     push_end(plant.master_state(link), plant.master_outputs(link), text);
     push_end(plant.slave_state(link), plant.slave_outputs(link), text);
     text.push_str("\n");

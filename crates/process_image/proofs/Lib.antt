@@ -11,7 +11,6 @@ pub mod Headers
 pub mod ImageText
 pub mod Keeping
 pub mod Looping
-pub mod Numbers
 pub mod One
 pub mod Planned
 pub mod Reading

@@ -39,24 +39,6 @@ impl Telling {
     }
 }
 
-/// Appends the number of a slot. The numeral of the text is left to the numbers of events, of which the next one mostly costs little.
-#[tactic(auto, using(std::proofs::lemmas::Fmt::decimal_digit, crate::proofs::Numbers::two_digits))]
-fn push_slot(slot: u16, text: &mut LineText)
-    requires { length text.old + 20 ≤ 1024 }
-    ensures text { text.new ≡ text.old ++ decimal slot }
-    ensures most { length text.new ≤ length text.old + 20 }
-{
-    if slot < 10 {
-        text.push(&[b'0' + slot as u8]);
-        return;
-    }
-    if slot < 100 {
-        text.push(&[b'0' + (slot / 10) as u8, b'0' + (slot % 10) as u8]);
-        return;
-    }
-    text.push_decimal(u64::from(slot));
-}
-
 /// Writes over `text` what the end of this slot did at the event of this number, with its state and its outputs after it, and the frame
 /// that it sent.
 pub(crate) fn write_line(
@@ -75,7 +57,7 @@ pub(crate) fn write_line(
     text.clear();
     text.push_decimal(number);
     text.push(b" ");
-    push_slot(slot, text);
+    text.push_small(slot);
     text.push(b" ");
     push_entry(did, core.state(), core.outputs(), sent, text);
     text.push(b"\n");

@@ -104,13 +104,29 @@ fn read_over(
 {
     match says {
         ScheduleLine::Step(event) => read_step(word, fields, end, lengths, profile, event),
-        ScheduleLine::End => {
-            let mut event = Event::Tick { at: end };
-            read_step(word, fields, end, lengths, profile, &mut event)?;
-            *says = ScheduleLine::Step(event);
-            Ok(())
-        }
+        ScheduleLine::End => read_first(word, fields, end, lengths, profile, says),
     }
+}
+
+/// The same where no event was said before. A function clears the room of all its locals, so that this one, which makes an event, stands
+/// by itself.
+#[inline(never)]
+fn read_first(
+    word: Word,
+    fields: Option<&[u8]>,
+    end: End,
+    lengths: &Lengths,
+    profile: Profile,
+    says: &mut ScheduleLine,
+) -> Result<(), LineCause>
+    ensures value { Becomes result says.new (node_event_said end (length_of lengths.now end) profile word (fields_after fields.entry)) }
+    ensures fits { OnOk result (LineFits end lengths.now profile says.new) }
+    ensures unwritten { OnErr result (says.new ≡ says.old) }
+{
+    let mut event = Event::Tick { at: end };
+    read_step(word, fields, end, lengths, profile, &mut event)?;
+    *says = ScheduleLine::Step(event);
+    Ok(())
 }
 
 /// The same, written over `event`, which is as it was after an error. The word `end` is that of no event: `Word`.

@@ -136,13 +136,28 @@ fn read_over(
 {
     match says {
         ScheduleLine::Step(event) => read_step(word, fields, lengths, profiles, event),
-        ScheduleLine::End => {
-            let mut event = Event::Tick { at: End::Slave };
-            read_step(word, fields, lengths, profiles, &mut event)?;
-            *says = ScheduleLine::Step(event);
-            Ok(())
-        }
+        ScheduleLine::End => read_first(word, fields, lengths, profiles, says),
     }
+}
+
+/// The same where no event was said before. A function clears the room of all its locals, so that this one, which makes an event, stands
+/// by itself.
+#[inline(never)]
+fn read_first(
+    word: PairWord,
+    fields: Option<&[u8]>,
+    lengths: &Lengths,
+    profiles: &Profiles,
+    says: &mut ScheduleLine,
+) -> Result<(), LineCause>
+    ensures value { Becomes result says.new (event_said (length_of lengths.now) (profile_of profiles.now) word (fields_after fields.entry)) }
+    ensures fits { OnOk result (PairLineFits (length_of lengths.now) (profile_of profiles.now) says.new) }
+    ensures unwritten { OnErr result (says.new ≡ says.old) }
+{
+    let mut event = Event::Tick { at: End::Slave };
+    read_step(word, fields, lengths, profiles, &mut event)?;
+    *says = ScheduleLine::Step(event);
+    Ok(())
 }
 
 /// The same, written over `event`, which is as it was after an error. The word `end` is that of no event: `Word`.

@@ -43,6 +43,14 @@ impl<'a> UnreadFrame<'a> {
         self.command
     }
 
+    /// The frame, which has the byte of its command.
+    fn view(&self) -> &FrameView<'a>
+        ensures value { result.now ≡ self.now.frame }
+        ensures byte { self.now.frame.cmd ≡ command_byte self.now.command }
+    {
+        &self.view
+    }
+
     /// Copies the safe data into `out`, in place of what it held. They are as many as a frame can have, and there is a
     /// CRC for each group of them.
     pub fn load_into(&self, out: &mut Image)
@@ -75,11 +83,11 @@ impl<'a> UnreadFrame<'a> {
 }
 
 /// A delivered frame of a session: its command is known, and its safe data are at hand. Contracts see the command
-/// and the frame.
+/// and the frame, which is read where it was opened, so that it isn't moved.
 #[derive(Drop)]
 pub struct SessionFrame<'a> {
     command: Command,
-    view: FrameView<'a>,
+    view: &'a FrameView<'a>,
     load: &'a [u8],
 }
 
@@ -88,9 +96,9 @@ impl<'a> Model for SessionFrame<'a> {
 
     ghost Value = { SessionFrameView };
 
-    ghost view = { λ s. record { command = s.command; frame = s.view } };
+    ghost view = { λ s. record { command = s.command; frame = s.view.now } };
 
-    ghost invariant = { λ s. IsSessionFrame (record { command = s.command; frame = s.view }) s.load.now };
+    ghost invariant = { λ s. IsSessionFrame (record { command = s.command; frame = s.view.now }) s.load.now };
 }
 
 impl<'a> SessionFrame<'a> {
@@ -99,16 +107,15 @@ impl<'a> SessionFrame<'a> {
     ghost use Rattle.fsoe_frame.specs.Parts.{bytes_of};
 
     /// This frame, with its safe data as `load_into` gives them.
-    pub fn new(frame: UnreadFrame<'a>, load: &'a Image) -> SessionFrame<'a>
-        requires load { load.now ≡ frame.frame.load }
+    pub fn new(frame: &'a UnreadFrame<'a>, load: &'a Image) -> SessionFrame<'a>
+        requires load { load.now ≡ frame.now.frame.load }
         requires valid { IsTrue (is_length (length load.now)) }
-        requires groups { length frame.frame.crcs ≡ group_count (length load.now) }
-        ensures { result ≡ frame.entry }
+        requires groups { length frame.now.frame.crcs ≡ group_count (length load.now) }
+        ensures { result ≡ frame.now }
     {
-        let UnreadFrame { command, view } = frame;
         SessionFrame {
-            command,
-            view,
+            command: frame.command(),
+            view: frame.view(),
             load: load.bytes(),
         }
     }
@@ -124,7 +131,7 @@ impl<'a> SessionFrame<'a> {
     pub fn view(&self) -> &FrameView<'a>
         ensures { result.now ≡ self.now.frame }
     {
-        &self.view
+        self.view
     }
 
     /// The connection id of the frame.

@@ -156,18 +156,19 @@ impl Slave {
         ensures kit { self.new.kit ≡ self.old.kit }
     {
         let repeats = self.state.is_repeat(frame);
-        let unread = match open(frame, self.kit.settings().peer_len(), repeats) {
+        // The frame is read where it was opened, and its data where they are told, so that neither is moved.
+        let opened = open(frame, self.kit.settings().peer_len(), repeats);
+        let unread = match &opened {
             Opened::Drop(why) => {
                 out.clear();
                 did.clear();
-                did.dropped = Some(why);
+                did.dropped = Some(*why);
                 return;
             }
-            Opened::Refuse(code) => return self.refuse(false, code, did, out),
-            Opened::ResetFrame(code, view) => return self.acknowledge(code, &view, did, out),
+            Opened::Refuse(code) => return self.refuse(false, *code, did, out),
+            Opened::ResetFrame(code, view) => return self.acknowledge(*code, view, did, out),
             Opened::OfSession(unread) => unread,
         };
-        // The data are read where they are told, so that they aren't moved.
         unread.took_into(did);
         let Some(took) = &did.took else {
             unreachable!();
