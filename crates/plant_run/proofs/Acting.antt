@@ -12,7 +12,6 @@ use Rattle.fsoe_base.specs.declared.did.Did.{Did}
 use Rattle.fsoe_base.specs.declared.lengths.Lengths.{Lengths}
 use Rattle.param_load.specs.declared.entry.Entry.{Entry}
 use Rattle.param_load.specs.declared.entry.Move.{Move}
-use Rattle.param_load.specs.declared.slave_settings.SlaveSettings.{SlaveSettings}
 use Rattle.black_channel.specs.Told.{Told, PushesParcel}
 use Rattle.black_channel.specs.declared.channel.Place.{Place}
 use Rattle.plant_conf.specs.declared.conf.LinkConf.{LinkConf}
@@ -21,7 +20,7 @@ use Rattle.multi_master.specs.Standing.{MultiValue}
 use Rattle.multi_master.proofs.Places.{map_set, same_length}
 use Rattle.plant_run.specs.Doing.{place_of, sent_uses, SlaveActs, MasterActs, one_each, one_each_to, each_uses, frames_pushed, AllActed, ActedTo, HaveParts}
 use Rattle.plant_run.specs.Standing.{AreNoted, fixed_in, lengths_kept, LinkIs, LinksAre, IsPlant}
-use Rattle.plant_run.specs.Link.{Fixed, IsMasters, LinkView, LinkStands, SlaveGoesOn, MasterNoted, NotesOne, fixed_of}
+use Rattle.plant_run.specs.Link.{IsMasters, LinkView, LinkStands, SlaveGoesOn, MasterNoted, NotesOne, fixed_of}
 use Rattle.plant_run.specs.ScriptLine.{lengths_at}
 use Rattle.plant_run.specs.Uses.{Use, Trace}
 use Rattle.plant_run.proofs.Linking.{each_at, each_from, each_set, each_count}

@@ -1,5 +1,5 @@
 -- The lines of the bounds that wait.
-use Rattle.std.proofs.Common.{◌≡◌, ◌+◌, ℕ, suc, Bool, List, [], ◌∷◌, ◌++◌, drop, map, slice_get, Option, Some, None, option_map, refl, sym, ap, ap₂, subst, ◌∙◌, arith}
+use Rattle.std.proofs.Common.{◌≡◌, ℕ, suc, Bool, List, ◌++◌, slice_get, Option, Some, option_map, sym, ap, ap₂, subst, ◌∙◌}
 use Rattle.std.specs.Prelude.{codes, decimal}
 use Rattle.std.proofs.lemmas.Option.{slice_get-map}
 use Rattle.fsoe_base.specs.declared.command.End.TheVariants as side
@@ -12,7 +12,6 @@ use Rattle.plant_conf.specs.declared.conf.LinkConf.{LinkConf}
 use Rattle.reaction_bound.specs.Reaction.{ReactionView, broken_of, view_of}
 use Rattle.reaction_bound.specs.Reaction as reaction
 use Rattle.plant_run.specs.declared.event.PlantLine.{PlantLine}
-use Rattle.plant_run.specs.declared.journal.JournalStep.{JournalStep}
 use Rattle.plant_run.specs.declared.machine.Rest.TheVariants as rest
 use Rattle.plant_run.specs.Acts.{Beginning}
 use Rattle.plant_run.specs.BoundLines.{age_text, bit_text, broken_text, limit_of, line_by, said_of}

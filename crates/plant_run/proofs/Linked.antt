@@ -25,7 +25,7 @@ use Rattle.slave_core.specs.SlaveView.{SlaveView}
 use Rattle.slave_core.specs.ViewOf.{view_of}
 use Rattle.slave_core.specs.Standing as slave_core
 use Rattle.slave_core.specs.Standing.{SlaveIsAfter}
-use Rattle.plant_run.specs.Link.{AgesNote, Fixed, IsMasters, LinkView, NotesSlave, new_ages, new_link, LinkStands, SlaveGoesOn, MasterNoted, NotesOne}
+use Rattle.plant_run.specs.Link.{AgesNote, Fixed, LinkView, NotesSlave, new_ages, new_link, LinkStands, SlaveGoesOn, MasterNoted, NotesOne}
 
 pub is_new : (link : LinkConf) (aged : Bool) (new : LinkView) → SlaveIsAfter link.slave new.slave [] → new.monitor ≡ monitor.view_of [] → new.ages ≡ new_ages aged → new.watchdog ≡ link.master.watchdog → new.cut ≡ false → new ≡ new_link aged link
 is_new link aged new slave noted ages_are watchdog cut = ap (λ (z : SlaveView). record new { slave = z }) slave.is

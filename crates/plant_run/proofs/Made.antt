@@ -1,5 +1,5 @@
 -- What a plant keeps of its connections before anything happened.
-use Rattle.std.proofs.Common.{◌≡◌, ◌≤◌, ◌<◌, ◌+◌, ◌*◌, ℕ, zero, suc, Bool, false, List, [], ◌∷◌, ◌++◌, All, get_or, length, map, take, slice_get, Some, refl, sym, ap, ap₂, subst, ◌∙◌, arith}
+use Rattle.std.proofs.Common.{◌≡◌, ◌≤◌, ◌<◌, ◌+◌, ◌*◌, ℕ, zero, suc, Bool, false, List, [], ◌∷◌, ◌++◌, get_or, length, map, take, slice_get, Some, refl, sym, ap, ap₂, subst, ◌∙◌, arith}
 use Rattle.std.proofs.lemmas.List.Elements.{All-cons, All-nil}
 use Rattle.std.specs.Prelude.{Err, Ok, Result, if◌then◌else◌, is_err, is_ok}
 use Rattle.std.proofs.lemmas.Option.{slice_get_read}
@@ -10,7 +10,7 @@ use Rattle.plant_conf.specs.declared.conf.LinkConf.{LinkConf}
 use Rattle.multi_master.specs.Standing as multi
 use Rattle.multi_master.specs.Standing.{MultiValue}
 use Rattle.plant_run.specs.FairPairs.{lengths_in}
-use Rattle.plant_run.specs.Link.{Fixed, LinkView, fixed_of, new_link}
+use Rattle.plant_run.specs.Link.{Fixed, LinkView, new_link}
 use Rattle.plant_run.specs.Making.{is_named, links_made}
 use Rattle.plant_run.specs.Standing.{AreNoted, EachLink, IsPlant, LinkIs, fixed_in, lengths_kept, pairs_by}
 use Rattle.plant_run.proofs.Linked.{new_stands}

@@ -2,12 +2,11 @@
 use Rattle.std.proofs.Common.{◌≡◌, ◌≢◌, ◌≤◌, ◌<◌, ◌⊎◌, inl, inr, ℕ, zero, suc, ◌+◌, ◌-◌, ◌*◌, Bool, false, List, [], ◌∷◌, ◌++◌, map, length, Option, Some, None, if◌then◌else◌, refl, sym, ap, ap₂, subst, ◌∙◌, append_assoc, arith}
 use Rattle.std.proofs.Math.Nat.{suc-mul}
 use Rattle.std.proofs.lemmas.Bool.{lt-ltb, le-ltb}
-use Rattle.std.proofs.lemmas.List.{append-nil, length-map}
+use Rattle.std.proofs.lemmas.List.{append-nil}
 use Rattle.std.proofs.lemmas.List.Elements.{All-cons, All-nil}
 use Rattle.std.proofs.lemmas.Option.{slice_get_past}
 use Rattle.fsoe_base.specs.declared.command.End.{End}
 use Rattle.fsoe_base.specs.declared.command.End.TheVariants as side
-use Rattle.fsoe_base.specs.declared.did.Did.{Did}
 use Rattle.fsoe_base.specs.declared.lengths.Lengths.{Lengths}
 use Rattle.param_load.specs.declared.entry.Entry.{Entry}
 use Rattle.param_load.specs.declared.entry.Move.{Move}
@@ -28,7 +27,7 @@ use Rattle.plant_run.specs.declared.journal.JournalStep.{JournalStep}
 use Rattle.plant_run.specs.declared.journal.JournalStep.TheVariants as step
 use Rattle.plant_run.specs.Acts.{Beginning, Event, App, Act, Start, Happen, PullFrom, settings, delivery_call, call_of, calls, offers_by, journal, is_cut, pushes_of, all_pushes, uses_of, uses_after, uses}
 use Rattle.plant_run.specs.Doing.{place_of, sent_uses, next_of, each_uses, OffersNoted, GoesOn, Delivers, PullsAll, Turns}
-use Rattle.plant_run.specs.Standing.{lengths_kept, PlantView, EachLink, LinkIs, LinksAre, pairs_by, HasDone, IsTurn, PlantStands, Follows, AreNoted, IsPlant}
+use Rattle.plant_run.specs.Standing.{lengths_kept, PlantView, EachLink, LinkIs, LinksAre, pairs_by, HasDone, IsTurn, PlantStands, Follows}
 use Rattle.plant_run.specs.FairPairs.{lengths_in}
 use Rattle.plant_run.specs.Link.{LinkView, LinkStands}
 use Rattle.plant_conf.specs.declared.conf.BoundSpec.{BoundSpec}

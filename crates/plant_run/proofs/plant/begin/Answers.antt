@@ -1,4 +1,4 @@
-use Rattle.std.proofs.Common.{map, ap, ap₂, ◌∙◌}
+use Rattle.std.proofs.Common.{ap, ap₂, ◌∙◌}
 use Rattle.plant_run.specs.Making.{links_made}
 use Rattle.multi_master.specs.Standing as multi
 use Rattle.multi_master.specs.Standing.{app_view}
