@@ -1,6 +1,6 @@
 /*
  * replay.h - runs both ends of a Gatepast connection over the text of a pair file, as the program's `replay` does, for C11
- * and C++11 on. docs/formats.md says what such a text and its report are.
+ * and C++11 on. docs/formats.md says what such a text and its report are. A text of several pairs is refused at its first line.
  *
  *     gp_ended ended;
  *     uint8_t status = gp_replay(text, text_len, report, sizeof report, &ended);
