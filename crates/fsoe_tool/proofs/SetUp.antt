@@ -16,8 +16,8 @@ use Rattle.plant_setup.specs.Setup.{IsChosen, net_of, setup_fault}
 use Rattle.plant_setup.specs.declared.fault.SetupFault.{SetupFault}
 use Rattle.plant_run.specs.Ran.{RanPlant}
 use Rattle.multi_master.specs.Calls.{AppView}
-use Rattle.plant_run.specs.Turns.{Named}
-use Rattle.plant_run.specs.declared.journal.JournalStep.{JournalStep}
+use Rattle.plant_model.specs.Turns.{Named}
+use Rattle.plant_model.specs.declared.journal.JournalStep.{JournalStep}
 use Rattle.fsoe_tool.specs.Handed.{Handed, entry_seen}
 use Rattle.fsoe_tool.specs.Plant.{RanSaid, RanUnless, WroteLine, net_view}
 use Rattle.fsoe_tool.proofs.Picked.{chosen_seen, map_twice, within}

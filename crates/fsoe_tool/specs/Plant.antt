@@ -21,7 +21,7 @@ use Rattle.plant_setup.specs.declared.fault.SetupFault.{SetupFault}
 use Rattle.plant_setup.specs.declared.fault.SetupFault.TheVariants as setup
 use Rattle.plant_run.specs.Ran.{RanPlant}
 use Rattle.multi_master.specs.Calls.{AppView}
-use Rattle.plant_run.specs.Turns.{Named}
+use Rattle.plant_model.specs.Turns.{Named}
 use Rattle.fsoe_tool.specs.Handed.{DeskTold, Handed}
 use Rattle.fsoe_tool.specs.declared.plant.TheConstants.{MAX_CONFIG}
 

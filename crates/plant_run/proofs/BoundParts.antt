@@ -11,16 +11,16 @@ use Rattle.plant_conf.specs.declared.conf.BoundSpec.{BoundSpec}
 use Rattle.plant_conf.specs.declared.conf.LinkConf.{LinkConf}
 use Rattle.reaction_bound.specs.Reaction.{ReactionView, broken_of, view_of}
 use Rattle.reaction_bound.specs.Reaction as reaction
-use Rattle.plant_run.specs.declared.event.PlantLine.{PlantLine}
+use Rattle.plant_model.specs.declared.event.PlantLine.{PlantLine}
 use Rattle.plant_run.specs.declared.machine.Rest.TheVariants as rest
-use Rattle.plant_run.specs.Acts.{Beginning}
-use Rattle.plant_run.specs.BoundLines.{age_text, bit_text, broken_text, limit_of, line_by, said_of}
+use Rattle.plant_model.specs.Acts.{Beginning}
+use Rattle.plant_model.specs.BoundLines.{age_text, bit_text, broken_text, limit_of, line_by, said_of}
 use Rattle.plant_run.specs.Given.{GivenStands, rest_in}
 use Rattle.plant_run.specs.Reporting.{Terms}
 use Rattle.plant_run.specs.Script.{ScriptHeading}
-use Rattle.plant_run.specs.Standing.{PlantStands, PlantValue, PlantView, seen}
-use Rattle.plant_run.specs.Turns.{Named, Turn}
-use Rattle.plant_run.specs.Watching.{ShowsBound, ShowsWorst, bounds_waiting, lines_by, reactions_after}
+use Rattle.plant_core.specs.Standing.{PlantStands, PlantValue, PlantView, seen, ShowsWorst}
+use Rattle.plant_model.specs.Turns.{Named, Turn}
+use Rattle.plant_run.specs.Watching.{ShowsBound, bounds_waiting, lines_by, reactions_after}
 use Rattle.plant_run.proofs.LinkLines.{drop_at, some_is}
 
 -- the line of a bound with these numbers

@@ -12,19 +12,19 @@ use Rattle.plant_conf.specs.declared.conf.LinkConf.{LinkConf}
 use Rattle.multi_master.specs.Calls.{Rule}
 use Rattle.reaction_bound.specs.Reaction.{ReactionView, view_of}
 use Rattle.reaction_bound.specs.Reaction as reaction
-use Rattle.plant_run.specs.Acts.{Act, Beginning}
-use Rattle.plant_run.specs.BoundLines.{is_driven, limit_of, said_of}
+use Rattle.plant_model.specs.Acts.{Act, Beginning}
+use Rattle.plant_model.specs.BoundLines.{is_driven, limit_of, said_of}
 use Rattle.plant_run.specs.Given.{GivenStands}
-use Rattle.plant_run.specs.Link.{Fixed, LinkView, fixed_of, new_link}
-use Rattle.plant_run.specs.Making.{is_named, links_made}
-use Rattle.plant_run.specs.Pair.{is_tick}
-use Rattle.plant_run.specs.Promises.{line_step}
+use Rattle.plant_core.specs.Link.{Fixed, LinkView, fixed_of, new_link}
+use Rattle.plant_core.specs.Making.{is_named, links_made}
+use Rattle.plant_model.specs.Pair.{is_tick}
+use Rattle.plant_model.specs.Promises.{line_step}
 use Rattle.plant_run.specs.Reporting.{Terms}
 use Rattle.plant_run.specs.Script.{ScriptHeading}
-use Rattle.plant_run.specs.Standing.{PlantStands, PlantValue, PlantView, fixed_in, seen}
-use Rattle.plant_run.specs.Turns.{Named, Turn, acts}
-use Rattle.plant_run.specs.Watching.{AreAged, CanHear, HasRoom, HearsLine, IsAged, reactions_after, reactions_by}
-use Rattle.plant_run.specs.declared.event.PlantLine.{PlantLine}
+use Rattle.plant_core.specs.Standing.{PlantStands, PlantValue, PlantView, fixed_in, seen, IsAged}
+use Rattle.plant_model.specs.Turns.{Named, Turn, acts}
+use Rattle.plant_run.specs.Watching.{AreAged, CanHear, HasRoom, HearsLine, reactions_after, reactions_by}
+use Rattle.plant_model.specs.declared.event.PlantLine.{PlantLine}
 use Rattle.plant_run.proofs.LinkLines.{some_is}
 
 if_ticks : (tick on : Bool) (before : List reaction.Said) → reaction.ticks (if tick then reaction.Tick on ∷ before else before) ≤ suc (reaction.ticks before)

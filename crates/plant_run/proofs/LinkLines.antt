@@ -11,19 +11,19 @@ use Rattle.failsafe_io.specs.declared.bit.Bit.{Bit}
 use Rattle.multi_master.specs.Calls.{Rule}
 use Rattle.plant_conf.specs.declared.conf.LinkConf.{LinkConf}
 use Rattle.reaction_bound.specs.Reaction.{ReactionView}
-use Rattle.plant_run.specs.declared.journal.JournalStep.{JournalStep}
-use Rattle.plant_run.specs.Acts.{Beginning}
+use Rattle.plant_model.specs.declared.journal.JournalStep.{JournalStep}
+use Rattle.plant_model.specs.Acts.{Beginning}
 use Rattle.plant_run.specs.Given.{GivenStands, waiting, waiting_in}
-use Rattle.plant_run.specs.Pair.{link_at, outputs_at, pair, state_at}
-use Rattle.plant_run.specs.PlantReport.{link_line, link_lines}
+use Rattle.plant_model.specs.Pair.{link_at, outputs_at, pair, state_at}
+use Rattle.plant_model.specs.PlantReport.{link_line, link_lines}
 use Rattle.plant_run.specs.Reporting.{Terms}
 use Rattle.plant_run.specs.Script.{ScriptHeading}
-use Rattle.plant_run.specs.Standing.{PlantStands, PlantValue, PlantView, ShowsPair, seen}
-use Rattle.plant_run.specs.Turns.{Named, Turn}
-use Rattle.plant_run.specs.declared.event.PlantLine.{PlantLine}
-use Rattle.plant_run.specs.Making.{links_made}
-use Rattle.plant_run.proofs.Acting.{same_count}
-use Rattle.plant_run.proofs.Made.{made_count}
+use Rattle.plant_core.specs.Standing.{PlantStands, PlantValue, PlantView, ShowsPair, seen}
+use Rattle.plant_model.specs.Turns.{Named, Turn}
+use Rattle.plant_model.specs.declared.event.PlantLine.{PlantLine}
+use Rattle.plant_core.specs.Making.{links_made}
+use Rattle.plant_core.proofs.Acting.{same_count}
+use Rattle.plant_core.proofs.Made.{made_count}
 use Rattle.std.proofs.lemmas.Option.{slice_get_past}
 
 -- the text of an end

@@ -16,23 +16,23 @@ use Rattle.schedule_file.specs.Input.{InputFormat}
 use Rattle.file_run.specs.Left.{Done, Leaves, LeavesAs, MayFailIn}
 use Rattle.file_run.specs.Outside.{Outside}
 use Rattle.file_run.specs.Ran.{RanOver}
-use Rattle.plant_run.specs.Acts.{journal, uses}
-use Rattle.plant_run.specs.FairPairs.{PairsAreFair}
-use Rattle.plant_run.specs.Pair.{link_at}
+use Rattle.plant_model.specs.Acts.{journal, uses}
+use Rattle.plant_model.specs.FairPairs.{PairsAreFair}
+use Rattle.plant_model.specs.Pair.{link_at}
 use Rattle.plant_run.specs.Ran.{IsReportOf, RanPlant}
-use Rattle.plant_run.specs.PlantReport.{ticks_text}
+use Rattle.plant_model.specs.PlantReport.{ticks_text}
 use Rattle.plant_run.specs.Reporting.{Terms, plant_reporting}
 use Rattle.plant_run.specs.Running.{RunStands}
 use Rattle.plant_run.specs.Script.{ScriptHeading}
-use Rattle.plant_run.specs.Standing.{PlantView}
-use Rattle.plant_run.specs.Turns.{Named, Turn, acts, said, said_by_turns}
-use Rattle.plant_run.specs.Uses.{Trace}
+use Rattle.plant_core.specs.Standing.{PlantView}
+use Rattle.plant_model.specs.Turns.{Named, Turn, acts, said, said_by_turns}
+use Rattle.plant_model.specs.Uses.{Trace}
 use Rattle.plant_run.specs.Watching.{reactions_after}
-use Rattle.plant_run.specs.declared.event.PlantLine.{PlantLine}
-use Rattle.plant_run.specs.declared.journal.JournalStep.{JournalStep}
-use Rattle.plant_run.proofs.Broken.{broken_by_other}
-use Rattle.plant_run.proofs.FairPlant.{plants_are_fair}
-use Rattle.plant_run.proofs.Reacting.{reacts}
+use Rattle.plant_model.specs.declared.event.PlantLine.{PlantLine}
+use Rattle.plant_model.specs.declared.journal.JournalStep.{JournalStep}
+use Rattle.plant_core.proofs.Worlds.{broken_by_other}
+use Rattle.plant_core.proofs.Worlds.{plants_are_fair}
+use Rattle.plant_core.proofs.Worlds.{reacts}
 
 -- a relation of a header, its events, their text and an end
 abbrev Closing : Type 1

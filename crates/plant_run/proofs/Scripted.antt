@@ -9,21 +9,21 @@ use Rattle.schedule_file.specs.Input.{InputCause, NoApp, Stop, AtEnd, Refused, i
 use Rattle.file_run.specs.Report.{refused_line}
 use Rattle.file_run.specs.Reporting.{EndsReport, EndsUnmet, IsPrefix, ReportsSoFar, input_headless, input_stopped, refused_at}
 use Rattle.plant_conf.specs.declared.conf.LinkConf.{LinkConf}
-use Rattle.plant_run.specs.declared.event.PlantEvent.TheVariants as event
-use Rattle.plant_run.specs.declared.event.PlantLine.{PlantLine}
-use Rattle.plant_run.specs.declared.event.PlantLine.TheVariants as line
-use Rattle.plant_run.specs.declared.journal.JournalStep.{JournalStep}
-use Rattle.plant_run.specs.Acts.{Beginning, Said, Event, App, journal}
-use Rattle.plant_run.specs.BoundLines.{bound_lines}
-use Rattle.plant_run.specs.FairPairs.{lengths_in}
-use Rattle.plant_run.specs.Pair.{is_tick}
-use Rattle.plant_run.specs.PlantReport.{last_lines, report_end, report_text, tick_lines, ticks_text}
-use Rattle.plant_run.specs.Promises.{line_step}
+use Rattle.plant_model.specs.declared.event.PlantEvent.TheVariants as event
+use Rattle.plant_model.specs.declared.event.PlantLine.{PlantLine}
+use Rattle.plant_model.specs.declared.event.PlantLine.TheVariants as line
+use Rattle.plant_model.specs.declared.journal.JournalStep.{JournalStep}
+use Rattle.plant_model.specs.Acts.{Beginning, Said, Event, App, journal}
+use Rattle.plant_model.specs.BoundLines.{bound_lines}
+use Rattle.plant_model.specs.FairPairs.{lengths_in}
+use Rattle.plant_model.specs.Pair.{is_tick}
+use Rattle.plant_model.specs.PlantReport.{last_lines, report_end, report_text, tick_lines, ticks_text}
+use Rattle.plant_model.specs.Promises.{line_step}
 use Rattle.plant_run.specs.Reporting.{PlantReports, Terms, journal_after, plant_reporting, run_stop}
 use Rattle.plant_run.specs.Running.{RunCloses, RunStands}
 use Rattle.plant_run.specs.Script.{Script, ScriptHeading, script_format}
-use Rattle.plant_run.specs.Standing.{IsTurn, PlantView}
-use Rattle.plant_run.specs.Turns.{MayPull, Named, Turn, acts, said, said_by_turns, take_app}
+use Rattle.plant_model.specs.Turns.{IsTurn, MayPull, Named, Turn, acts, said, said_by_turns, take_app}
+use Rattle.plant_core.specs.Standing.{PlantView}
 use Rattle.plant_run.proofs.TicksText.{after_turn, text_after}
 
 -- turns in which nothing was pulled

@@ -1,5 +1,5 @@
 -- The application that is taken by its name is the first of it that is left.
-use Rattle.std.proofs.Common.{◌≡◌, ℕ, zero, suc, ◌+◌, ◌≤◌, Bool, true, false, List, [], ◌∷◌, ◌++◌, map, cond, slice_get, if◌then◌else◌, refl, arith, sym, ap, subst, ◌∙◌}
+use Rattle.std.proofs.Common.{◌≡◌, ℕ, zero, suc, ◌+◌, ◌≤◌, Bool, true, false, List, [], ◌∷◌, map, cond, slice_get, if◌then◌else◌, refl, arith, sym, ap, ◌∙◌}
 use Rattle.std.specs.Prelude.{Option, Some, None, string_bytes}
 use Rattle.std.specs.List.{position_from, remove}
 use Rattle.std.specs.Str.{bytes_eq}
@@ -9,9 +9,7 @@ use Rattle.fb_net.specs.declared.kind_of.KindOf.TheVariants as kind
 use Rattle.multi_master.specs.Calls.{AppView}
 use Rattle.plant_setup.specs.Names.{IsTaken, place_of}
 use Rattle.plant_run.specs.Given.{named}
-use Rattle.plant_run.specs.Turns.{AppsAreSpare, Named, Taken, passed, said, said_with, take_app}
-use Rattle.plant_run.specs.declared.event.PlantLine.{PlantLine}
-use Rattle.plant_run.specs.declared.event.PlantLine.TheVariants as line
+use Rattle.plant_model.specs.Turns.{Taken, passed, take_app}
 
 -- what is left of these, of which one was taken
 abbrev taken_of : {H : Type 0} → (KindOf H → AppView) → List (EntryOf H) → EntryOf H → Option Taken
@@ -64,49 +62,3 @@ app_taken view name all left one t =
 
 pub app_missing : {H : Type 0} (view : KindOf H → AppView) (name : List ℕ) (all : List (EntryOf H)) → place_of name (names all) ≡ None → take_app name (map (named view) all) ≡ None
 app_missing view name all none = none_from view name 0 all none
-
--- an application that is taken is one of those, and the others are left
-record IsOneOf (spare : List Named) (taken : Taken) : Type 0 where
-  before : List Named
-  one : Named
-  after : List Named
-  whole : spare ≡ before ++ one ∷ after
-  app_is : one.app ≡ taken.app
-  left_is : taken.left ≡ before ++ after
-
-passed_one : (first : Named) (others : List Named) (o : Option Taken) (taken : Taken) → ((t : Taken) → o ≡ Some t → IsOneOf others t) → passed first o ≡ Some taken → IsOneOf (first ∷ others) taken
-passed_one first others None taken one e = cc
-passed_one first others (Some t) taken one e =
-    let found = one t refl in
-    let same : record t { left = first ∷ t.left } ≡ taken = cc in
-    record {
-      before = first ∷ found.before;
-      one = found.one;
-      after = found.after;
-      whole = ap (λ (z : List Named). first ∷ z) found.whole;
-      app_is = found.app_is ∙ ap (λ (z : Taken). z.app) same;
-      left_is = sym (ap (λ (z : Taken). z.left) same) ∙ ap (λ (z : List Named). first ∷ z) found.left_is;
-    }
-
-taken_or : (b : Bool) (first : Named) (others : List Named) (o : Option Taken) (taken : Taken) → ((t : Taken) → o ≡ Some t → IsOneOf others t) → (if b then Some (record { app = first.app; left = others }) else passed first o) ≡ Some taken
-    → IsOneOf (first ∷ others) taken
-taken_or true first others o taken one e =
-    let same : record { app = first.app; left = others } ≡ taken = cc in
-    record { before = []; one = first; after = others; whole = refl; app_is = ap (λ (z : Taken). z.app) same; left_is = sym (ap (λ (z : Taken). z.left) same) }
-taken_or false first others o taken one e = passed_one first others o taken one e
-
-takes_one : (name : List ℕ) (spare : List Named) (taken : Taken) → take_app name spare ≡ Some taken → IsOneOf spare taken
-takes_one name [] taken e = cc
-takes_one name (first ∷ others) taken e = taken_or (bytes_eq first.name name) first others (take_app name others) taken (λ t f. takes_one name others t f) e
-
-spare_with : (o : Option Taken) (spare : List Named) (lines : List PlantLine) → ((t : Taken) → o ≡ Some t → IsOneOf spare t) → ((left : List Named) → AppsAreSpare left (said left lines)) → AppsAreSpare spare (said_with o (λ left. said left lines))
-spare_with None spare lines one later = tt
-spare_with (Some taken) spare lines one later =
-    let found = one taken refl in
-    (found.before, found.one, found.after, found.whole, found.app_is, subst (λ (z : List Named). AppsAreSpare z (said taken.left lines)) found.left_is (later taken.left))
-
-pub apps_are_spare : (spare : List Named) (lines : List PlantLine) → AppsAreSpare spare (said spare lines)
-apps_are_spare spare [] = tt
-apps_are_spare spare (line.Step event ∷ lines) = apps_are_spare spare lines
-apps_are_spare spare (line.App name ∷ lines) = spare_with (take_app name spare) spare lines (λ t e. takes_one name spare t e) (λ left. apps_are_spare left lines)
-apps_are_spare spare (line.End ∷ lines) = tt

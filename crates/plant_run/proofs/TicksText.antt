@@ -3,15 +3,15 @@ use Rattle.std.proofs.Common.{◌≡◌, ℕ, Bool, true, false, List, [], ◌�
 use Rattle.std.proofs.lemmas.List.{append-nil}
 use Rattle.black_channel.specs.declared.channel.Parcel.{Parcel}
 use Rattle.plant_conf.specs.declared.conf.LinkConf.{LinkConf}
-use Rattle.plant_run.specs.declared.event.PlantEvent.TheVariants as event
-use Rattle.plant_run.specs.declared.journal.JournalStep.{JournalStep}
-use Rattle.plant_run.specs.declared.journal.JournalStep.TheVariants as step
-use Rattle.plant_run.specs.Acts.{Beginning, Said, Event, App, Act, Happen, PullFrom, call_of, calls, offers, journal}
-use Rattle.plant_run.specs.Pair.{is_tick}
-use Rattle.plant_run.specs.PlantReport.{in_tick, is_line, lines_due, lines_from, tick_lines, ticks_text}
-use Rattle.plant_run.specs.Promises.{line_step, line_steps}
-use Rattle.plant_run.specs.Turns.{pulls_at, turn_acts}
-use Rattle.plant_run.proofs.Lines.{lines_append, no_lines_by, one_more}
+use Rattle.plant_model.specs.declared.event.PlantEvent.TheVariants as event
+use Rattle.plant_model.specs.declared.journal.JournalStep.{JournalStep}
+use Rattle.plant_model.specs.declared.journal.JournalStep.TheVariants as step
+use Rattle.plant_model.specs.Acts.{Beginning, Said, Event, App, Act, Happen, PullFrom, call_of, calls, offers, journal}
+use Rattle.plant_model.specs.Pair.{is_tick}
+use Rattle.plant_model.specs.PlantReport.{in_tick, is_line, lines_due, lines_from, tick_lines, ticks_text}
+use Rattle.plant_model.specs.Promises.{line_step, line_steps}
+use Rattle.plant_model.specs.Turns.{pulls_at, turn_acts}
+use Rattle.plant_model.proofs.Lines.{lines_append, no_lines_by, one_more}
 
 -- the lines go on after a line of the script
 lines_split : (links : List LinkConf) (before a b : List JournalStep) (one : JournalStep) → is_line one ≡ true

@@ -27,33 +27,33 @@ use Rattle.plant_conf.specs.ConfView.{ConfView, HasSameLengths}
 use Rattle.plant_conf.specs.declared.conf.BoundSpec.{BoundSpec}
 use Rattle.plant_conf.specs.declared.conf.LinkConf.{LinkConf}
 use Rattle.reaction_bound.specs.Reaction.{ReactionView}
-use Rattle.plant_run.specs.declared.event.PlantEvent.{PlantEvent}
-use Rattle.plant_run.specs.declared.event.PlantEvent.TheVariants as event
-use Rattle.plant_run.specs.declared.event.PlantLine.{PlantLine}
-use Rattle.plant_run.specs.declared.event.PlantLine.TheVariants as line
-use Rattle.plant_run.specs.declared.journal.JournalStep.{JournalStep}
-use Rattle.plant_run.specs.declared.journal.JournalStep.TheVariants as step
-use Rattle.plant_run.specs.Acts.{Beginning, Said, Event, App, Act, Start, call_of, journal, offers, uses, uses_after}
-use Rattle.plant_run.specs.FairPairs.{lengths_in}
+use Rattle.plant_model.specs.declared.event.PlantEvent.{PlantEvent}
+use Rattle.plant_model.specs.declared.event.PlantEvent.TheVariants as event
+use Rattle.plant_model.specs.declared.event.PlantLine.{PlantLine}
+use Rattle.plant_model.specs.declared.event.PlantLine.TheVariants as line
+use Rattle.plant_model.specs.declared.journal.JournalStep.{JournalStep}
+use Rattle.plant_model.specs.declared.journal.JournalStep.TheVariants as step
+use Rattle.plant_model.specs.Acts.{Beginning, Said, Event, App, Act, Start, call_of, journal, offers, uses, uses_after}
+use Rattle.plant_model.specs.FairPairs.{lengths_in, Fits}
 use Rattle.plant_run.specs.Given.{GivenCloses, GivenStands, journal_in, named, rest_in, waiting_in}
-use Rattle.plant_run.specs.Pair.{has_other, is_tick, lowest_other, ticks}
-use Rattle.plant_run.specs.PlantReport.{last_lines, report_end, report_text, tick_lines, ticks_text}
-use Rattle.plant_run.specs.Promises.{line_step, line_steps}
+use Rattle.plant_model.specs.Pair.{has_other, is_tick, lowest_other, ticks}
+use Rattle.plant_model.specs.PlantReport.{last_lines, report_end, report_text, tick_lines, ticks_text}
+use Rattle.plant_model.specs.Promises.{line_step, line_steps}
 use Rattle.plant_run.specs.Ran.{IsReportOf}
 use Rattle.plant_run.specs.Reporting.{Terms, plant_reporting}
-use Rattle.plant_run.specs.BoundLines.{bound_line, bound_lines, said_of}
-use Rattle.plant_run.specs.Making.{links_made}
+use Rattle.plant_model.specs.BoundLines.{bound_line, bound_lines, said_of}
+use Rattle.plant_core.specs.Making.{links_made}
 use Rattle.plant_run.specs.Running.{RunStands}
 use Rattle.plant_run.specs.Script.{ScriptHeading, happening, script_format}
-use Rattle.plant_run.specs.ScriptLine.{Fits, LineFits, plant_line}
-use Rattle.plant_run.specs.Standing.{Follows, Plays, PlantStands, PlantValue, PlantView, TellsOther, fixed_in, lengths_kept, seen}
-use Rattle.plant_run.specs.Turns.{Named, Taken, Turn, acts, said, said_by_turns, said_with, turn_acts}
-use Rattle.plant_run.specs.Uses.{Trace, Use}
+use Rattle.plant_run.specs.ScriptLine.{LineFits, plant_line}
+use Rattle.plant_core.specs.Standing.{Follows, Plays, PlantStands, PlantValue, PlantView, TellsOther, fixed_in, lengths_kept, seen}
+use Rattle.plant_model.specs.Turns.{Named, Taken, Turn, acts, said, said_by_turns, said_with, turn_acts}
+use Rattle.plant_model.specs.Uses.{Trace, Use}
 use Rattle.plant_run.specs.Watching.{HearsLine, bounds_waiting, lines_by, reactions_after}
-use Rattle.plant_run.proofs.Acting.{trace_append}
-use Rattle.plant_run.proofs.Lines.{no_lines_by}
-use Rattle.plant_run.proofs.Made.{lengths_made}
-use Rattle.plant_run.proofs.Pulling.{more_uses}
+use Rattle.plant_core.proofs.Acting.{trace_append}
+use Rattle.plant_model.proofs.Lines.{no_lines_by}
+use Rattle.plant_core.proofs.Made.{lengths_made}
+use Rattle.plant_core.proofs.Pulling.{more_uses}
 use Rattle.plant_run.proofs.RanPlant.{Stood}
 use Rattle.plant_run.proofs.ScriptFits.{line_fits}
 use Rattle.plant_run.proofs.Scripted.{plant_unmet}

@@ -6,14 +6,14 @@ use Rattle.plant_conf.specs.declared.conf.BoundSpec.{BoundSpec}
 use Rattle.plant_conf.specs.declared.conf.LinkConf.{LinkConf}
 use Rattle.reaction_bound.specs.Reaction.{Hears, Quiet, ReactionView, Tick, view_of}
 use Rattle.reaction_bound.specs.Reaction as reaction
-use Rattle.plant_run.specs.declared.journal.JournalStep.{JournalStep}
-use Rattle.plant_run.specs.Acts.{Act, Beginning}
-use Rattle.plant_run.specs.Bound.{TellsStill, is_on}
-use Rattle.plant_run.specs.BoundLines.{heard, is_driven, limit_by, limit_of}
-use Rattle.plant_run.specs.Pair.{link_at}
-use Rattle.plant_run.specs.Standing.{PlantStands, PlantView}
-use Rattle.plant_run.specs.Turns.{Turn, acts}
-use Rattle.plant_run.specs.Watching.{HasRoom, HearsLine, HearsOne, ShowsOn, reactions_by}
+use Rattle.plant_model.specs.declared.journal.JournalStep.{JournalStep}
+use Rattle.plant_model.specs.Acts.{Act, Beginning}
+use Rattle.plant_core.specs.Standing.{TellsStill, PlantStands, PlantView, ShowsOn}
+use Rattle.plant_model.specs.Bound.{is_on}
+use Rattle.plant_model.specs.BoundLines.{heard, is_driven, limit_by, limit_of}
+use Rattle.plant_model.specs.Pair.{link_at}
+use Rattle.plant_model.specs.Turns.{Turn, acts}
+use Rattle.plant_run.specs.Watching.{HasRoom, HearsLine, HearsOne, reactions_by}
 
 limit_cases : (o p : Option LinkConf) (a b : Option ℕ) → a ≡ option_map (λ (l : LinkConf). l.master.watchdog) o → b ≡ option_map (λ (l : LinkConf). l.master.watchdog) p → (m n : ℕ) → a ≡ Some m → b ≡ Some n → 2 * m + 2 * n ≡ limit_by o p
 limit_cases None p a b e f m n g h = absurd (cc (e, g))

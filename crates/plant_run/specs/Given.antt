@@ -9,20 +9,20 @@ use Rattle.plant_conf.specs.ConfView.{ConfView, HasSameLengths}
 use Rattle.plant_conf.specs.declared.conf.LinkConf.{LinkConf}
 use Rattle.failsafe_io.specs.declared.bit.Bit.{Bit}
 use Rattle.multi_master.specs.Calls.{AppView, Rule}
-use Rattle.plant_run.specs.Acts.{uses}
-use Rattle.plant_run.specs.Making.{links_made}
-use Rattle.plant_run.specs.Pair.{ticks}
-use Rattle.plant_run.specs.PlantReport.{link_lines}
+use Rattle.plant_model.specs.Acts.{uses}
+use Rattle.plant_core.specs.Making.{links_made}
+use Rattle.plant_model.specs.Pair.{ticks}
+use Rattle.plant_model.specs.PlantReport.{link_lines}
 use Rattle.plant_run.specs.Reporting.{Terms}
 use Rattle.fsoe_io.specs.declared.status.Ended.{Ended}
 use Rattle.plant_run.specs.Running.{RunCloses, RunStands}
 use Rattle.plant_run.specs.Script.{ScriptHeading}
-use Rattle.plant_run.specs.Standing.{PlantValue, fixed_in, seen}
-use Rattle.plant_run.specs.Turns.{Named, acts}
-use Rattle.plant_run.specs.Uses.{Trace}
+use Rattle.plant_core.specs.Standing.{PlantValue, fixed_in, seen}
+use Rattle.plant_model.specs.Turns.{Named, acts}
+use Rattle.plant_model.specs.Uses.{Trace}
 use Rattle.plant_run.specs.Watching.{bounds_waiting, reactions_after}
-use Rattle.plant_run.specs.declared.event.PlantLine.{PlantLine}
-use Rattle.plant_run.specs.declared.journal.JournalStep.{JournalStep}
+use Rattle.plant_model.specs.declared.event.PlantLine.{PlantLine}
+use Rattle.plant_model.specs.declared.journal.JournalStep.{JournalStep}
 use Rattle.plant_run.specs.declared.machine.Rest.{Rest}
 use Rattle.plant_run.specs.declared.machine.Rest.TheVariants as rest
 use Rattle.reaction_bound.specs.Reaction.{ReactionView}

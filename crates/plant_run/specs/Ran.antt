@@ -7,20 +7,19 @@ use Rattle.schedule_file.specs.Input.{AtEnd}
 use Rattle.file_run.specs.Left.{Done, IsBegun, LeavesAs, LeavesUnbegun}
 use Rattle.file_run.specs.Outside.{Outside}
 use Rattle.file_run.specs.Ran.{RanOver}
-use Rattle.plant_run.specs.Acts.{journal, uses}
-use Rattle.plant_run.specs.Bound.{Reacts}
-use Rattle.plant_run.specs.Broken.{BrokenByOther}
-use Rattle.plant_run.specs.BoundLines.{bound_lines}
-use Rattle.plant_run.specs.FairPairs.{PairsAreFair}
-use Rattle.plant_run.specs.PlantReport.{report_end, report_text, ticks_text}
-use Rattle.plant_run.specs.Promises.{AllAnswered, AllGuarded}
+use Rattle.plant_model.specs.Acts.{journal, uses}
+use Rattle.plant_model.specs.Bound.{Reacts}
+use Rattle.plant_model.specs.Broken.{BrokenByOther}
+use Rattle.plant_model.specs.BoundLines.{bound_lines}
+use Rattle.plant_model.specs.FairPairs.{PairsAreFair}
+use Rattle.plant_model.specs.PlantReport.{report_end, report_text, ticks_text}
+use Rattle.plant_model.specs.Promises.{AllAnswered, AllGuarded}
 use Rattle.plant_run.specs.Reporting.{Terms, plant_reporting}
 use Rattle.plant_run.specs.Script.{ScriptHeading}
-use Rattle.plant_run.specs.Standing.{IsTurn}
-use Rattle.plant_run.specs.Turns.{Turn, acts, said, said_by_turns}
-use Rattle.plant_run.specs.Uses.{Trace}
-use Rattle.plant_run.specs.declared.event.PlantLine.{PlantLine}
-use Rattle.plant_run.specs.declared.journal.JournalStep.{JournalStep}
+use Rattle.plant_model.specs.Turns.{IsTurn, Turn, acts, said, said_by_turns}
+use Rattle.plant_model.specs.Uses.{Trace}
+use Rattle.plant_model.specs.declared.event.PlantLine.{PlantLine}
+use Rattle.plant_model.specs.declared.journal.JournalStep.{JournalStep}
 
 -- this is the whole report of a plant with these turns and this journal, and a run that writes it ends so
 abbrev pub IsReportOf : Terms → List Turn → List JournalStep → ScriptHeading → List PlantLine → List ℕ → Ended → Type 0

@@ -4,14 +4,14 @@ use Rattle.fsoe_io.specs.declared.status.Ended.{Ended}
 use Rattle.schedule_file.specs.Input.{NoApp, Stop, Refused}
 use Rattle.file_run.specs.Reporting.{Always, Reporting}
 use Rattle.plant_conf.specs.declared.conf.BoundSpec.{BoundSpec}
-use Rattle.plant_run.specs.Acts.{Beginning, Said, journal}
-use Rattle.plant_run.specs.BoundLines.{bound_lines}
-use Rattle.plant_run.specs.FairPairs.{lengths_in}
-use Rattle.plant_run.specs.PlantReport.{report_end, report_text}
+use Rattle.plant_model.specs.Acts.{Beginning, Said, journal}
+use Rattle.plant_model.specs.BoundLines.{bound_lines}
+use Rattle.plant_model.specs.FairPairs.{lengths_in}
+use Rattle.plant_model.specs.PlantReport.{report_end, report_text}
 use Rattle.plant_run.specs.Script.{Script, ScriptHeading, script_format}
-use Rattle.plant_run.specs.Turns.{MayPull, Named, Turn, acts, said, said_by_turns}
-use Rattle.plant_run.specs.declared.event.PlantLine.{PlantLine}
-use Rattle.plant_run.specs.declared.journal.JournalStep.{JournalStep}
+use Rattle.plant_model.specs.Turns.{MayPull, Named, Turn, acts, said, said_by_turns}
+use Rattle.plant_model.specs.declared.event.PlantLine.{PlantLine}
+use Rattle.plant_model.specs.declared.journal.JournalStep.{JournalStep}
 
 -- what a plant is run with: what it begins with, the bounds that it watches, and the applications that its script may take
 pub record Terms : Type 0 where

@@ -1,15 +1,15 @@
 -- What it means that a plant runs over a script. Turns are listed newest first, the lines of a script oldest first.
 use Rattle.std.specs.Prelude.{◌≡◌, ℕ, List, ◌++◌, length, map}
-use Rattle.plant_run.specs.FairPairs.{lengths_in}
+use Rattle.plant_model.specs.FairPairs.{lengths_in}
 use Rattle.fsoe_io.specs.declared.status.Ended.{Ended}
 use Rattle.schedule_file.specs.Input.{AtEnd}
-use Rattle.plant_run.specs.BoundLines.{bound_lines}
-use Rattle.plant_run.specs.PlantReport.{last_lines, report_end, ticks_text}
+use Rattle.plant_model.specs.BoundLines.{bound_lines}
+use Rattle.plant_model.specs.PlantReport.{last_lines, report_end, ticks_text}
 use Rattle.plant_run.specs.Reporting.{Terms}
 use Rattle.plant_run.specs.Script.{ScriptHeading}
-use Rattle.plant_run.specs.Standing.{PlantStands, PlantView}
-use Rattle.plant_run.specs.Turns.{Named, Turn, said, said_by_turns}
-use Rattle.plant_run.specs.declared.event.PlantLine.{PlantLine}
+use Rattle.plant_core.specs.Standing.{PlantStands, PlantView}
+use Rattle.plant_model.specs.Turns.{Named, Turn, said, said_by_turns}
+use Rattle.plant_model.specs.declared.event.PlantLine.{PlantLine}
 
 -- a plant that is run with these terms stands for a turn for each of these lines, of which this text has the lines of all ticks; and what
 -- further lines say goes by these applications, which are left

@@ -7,9 +7,9 @@ use Rattle.schedule_file.specs.Input.{InputFormat, InputOf}
 use Rattle.schedule_file.specs.declared.line_cause.LineCause.{LineCause}
 use Rattle.schedule_file.specs.declared.line_cause.LineCause.TheVariants as cause
 use Rattle.plant_run.specs.ScriptLine.{plant_line}
-use Rattle.plant_run.specs.declared.event.PlantLine.{PlantLine}
-use Rattle.plant_run.specs.declared.event.PlantLine.TheVariants as line
-use Rattle.plant_run.specs.declared.event.TheConstants.{MAX_SCRIPT}
+use Rattle.plant_model.specs.declared.event.PlantLine.{PlantLine}
+use Rattle.plant_model.specs.declared.event.PlantLine.TheVariants as line
+use Rattle.plant_model.specs.declared.event.TheConstants.{MAX_SCRIPT}
 
 -- the header of a script: the lengths of the connections, which are known before, and whether its one line was read
 pub record ScriptHeading : Type 0 where

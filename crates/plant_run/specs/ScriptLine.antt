@@ -1,6 +1,6 @@
 -- What a line of a plant's script says that stands after its first line. The causes come in their order: the word, the number of
 -- fields, a number, the connection, the hexadecimal bytes, a length.
-use Rattle.std.specs.Prelude.{◌≡◌, ◌≤◌, ℕ, zero, suc, ◌==◌, length, Bool, List, [], ◌∷◌, codes, All, Option, Some, None, IsSome, IsSomeAnd, Result, Ok, Err, MatchResult, slice_get, if◌then◌else◌}
+use Rattle.std.specs.Prelude.{◌≡◌, ◌≤◌, ℕ, ◌==◌, length, Bool, List, [], ◌∷◌, codes, All, Option, Some, None, Result, Ok, Err, MatchResult, if◌then◌else◌}
 use Rattle.std.specs.Str.{bytes_eq}
 use Rattle.fsoe_base.specs.LengthsOf.{length_of}
 use Rattle.fsoe_base.specs.declared.command.End.{End}
@@ -13,13 +13,13 @@ use Rattle.schedule_file.specs.Fields.{◌>>=◌, map_ok, value_or, next_field, 
 use Rattle.schedule_file.specs.declared.line_buf.TheConstants.{MAX_LINE}
 use Rattle.schedule_file.specs.declared.line_cause.LineCause.{LineCause}
 use Rattle.schedule_file.specs.declared.line_cause.LineCause.TheVariants as cause
-use Rattle.plant_run.specs.declared.event.PlantEvent.{PlantEvent}
-use Rattle.plant_run.specs.declared.event.PlantEvent.TheVariants as event
-use Rattle.plant_run.specs.declared.event.PlantLine.{PlantLine}
-use Rattle.plant_run.specs.declared.event.PlantLine.TheVariants as line
+use Rattle.plant_model.specs.declared.event.PlantEvent.TheVariants as event
+use Rattle.plant_model.specs.declared.event.PlantLine.{PlantLine}
+use Rattle.plant_model.specs.declared.event.PlantLine.TheVariants as line
 use Rattle.plant_run.specs.declared.script_line.PlantWord.{PlantWord}
 use Rattle.plant_run.specs.declared.script_line.PlantWord.TheVariants as word
 use denote.Ref.{Bor}
+use Rattle.plant_model.specs.FairPairs.{Fits, lengths_at}
 
 -- the word of an event or of an application, or `end`
 abbrev pub plant_word_of : List ℕ → Option PlantWord
@@ -40,11 +40,6 @@ end_of_letter text =
     if bytes_eq text (codes "m") then Some side.Master
     else if bytes_eq text (codes "s") then Some side.Slave
     else None
-
--- the lengths of the connection with this number, from 1, if there is one
-abbrev pub lengths_at : List Lengths → ℕ → Option Lengths
-lengths_at lengths zero = None
-lengths_at lengths (suc place) = slice_get lengths place
 
 -- the lengths of a connection that exists
 abbrev pub existing : List Lengths → ℕ → Result Lengths LineCause
@@ -130,16 +125,6 @@ plant_said_by lengths (first ∷ fields) = plant_said lengths (plant_word_of fir
 -- what a line says in the script of a plant whose connections have these lengths
 abbrev pub plant_line : List Lengths → List ℕ → Result PlantLine LineCause
 plant_line lengths text = plant_said_by lengths (fields_of text)
-
--- an event that connections with these lengths may have: its connection exists, a put has exactly as many bytes as the slave sends, and a
--- session id has 16 bits
-abbrev pub Fits : List Lengths → PlantEvent → Type 0
-Fits lengths event.Tick = Unit {0}
-Fits lengths (event.Put link load) = IsSomeAnd (lengths_at lengths link) (λ ends. length load ≡ length_of ends side.Slave)
-Fits lengths (event.Hold link failsafe) = IsSome (lengths_at lengths link)
-Fits lengths (event.Local link) = IsSome (lengths_at lengths link)
-Fits lengths (event.Nonce link end id) = IsSome (lengths_at lengths link) × (id ≤ 65535)
-Fits lengths (event.Cut link cut) = IsSome (lengths_at lengths link)
 
 -- the event of a line, where it has one, fits
 abbrev pub LineFits : List Lengths → PlantLine → Type 0

@@ -1,21 +1,15 @@
 -- How a plant's run watches bounds: what a reaction of each bound was told, and the lines that wait to be written.
-use Rattle.std.specs.Prelude.{◌≡◌, ◌+◌, ◌<◌, ◌^◌, ℕ, Bool, false, List, [], ◌∷◌, ◌++◌, drop, length, map, All, Option, IfSome, IsSome}
-use Rattle.std.specs.Option.{option_map_or}
-use Rattle.fsoe_base.specs.Image.{bit_of}
-use Rattle.fsoe_base.specs.declared.command.End.{End}
-use Rattle.fsoe_base.specs.declared.command.End.TheVariants as side
-use Rattle.failsafe_io.specs.declared.bit.Bit.{Bit}
+use Rattle.std.specs.Prelude.{◌≡◌, ◌+◌, ◌<◌, ◌^◌, ℕ, Bool, List, [], ◌∷◌, ◌++◌, drop, length, map, All, Option, IsSome}
 use Rattle.plant_conf.specs.declared.conf.BoundSpec.{BoundSpec}
 use Rattle.plant_conf.specs.declared.conf.LinkConf.{LinkConf}
 use Rattle.reaction_bound.specs.Reaction.{ReactionView, view_of}
 use Rattle.reaction_bound.specs.Reaction as reaction
-use Rattle.plant_run.specs.Acts.{Beginning}
-use Rattle.plant_run.specs.BoundLines.{heard, limit_of, line_by, said_of, worst_at}
-use Rattle.plant_run.specs.Link.{LinkView}
-use Rattle.plant_run.specs.Pair.{link_at, outputs_at, pair}
-use Rattle.plant_run.specs.Standing.{PlantStands, PlantValue, PlantView, kept_at}
-use Rattle.plant_run.specs.Turns.{Turn, acts}
-use Rattle.plant_run.specs.declared.journal.JournalStep.{JournalStep}
+use Rattle.plant_model.specs.Acts.{Beginning}
+use Rattle.plant_model.specs.BoundLines.{heard, limit_of, line_by, said_of}
+use Rattle.plant_core.specs.Link.{LinkView}
+use Rattle.plant_core.specs.Standing.{PlantStands, PlantValue, PlantView, IsAged}
+use Rattle.plant_model.specs.Turns.{Turn, acts}
+use Rattle.plant_model.specs.declared.journal.JournalStep.{JournalStep}
 
 -- a reaction can be told of a tick more
 abbrev pub HasRoom : ReactionView → Type 0
@@ -48,23 +42,10 @@ lines_by links steps _ _ = []
 abbrev pub bounds_waiting : ℕ → List LinkConf → List BoundSpec → List ReactionView → List JournalStep → List ℕ
 bounds_waiting place links bounds reactions steps = lines_by links steps (drop place bounds) (drop place reactions)
 
--- the ages of the outputs of connection k are told, if there is one
-abbrev pub IsAged : List LinkView → ℕ → Type 0
-IsAged vs k = IfSome (kept_at vs k) (λ v. IsSome v.ages)
-
 -- so are those of both connections of a bound
 pub record AreAged (vs : List LinkView) (bound : BoundSpec) : Type 0 where
   pub estop : IsAged vs bound.estop.link
   pub drive : IsAged vs bound.drive.link
-
--- what is shown of an end at connection k is the greatest age of its outputs
-pub record ShowsWorst (v : PlantView) (k : ℕ) (end : End) (shown : Option ℕ) : Type 0 where
-  pub shows : (b : Beginning) (turns : List Turn) → PlantStands b v turns → shown ≡ worst_at b.links v.journal k end
-
--- what is shown of a bit of an image is its value at the slave
-pub record ShowsOn (v : PlantView) (bit : Bit) (shown : Bool) : Type 0 where
-  pub shows : (b : Beginning) (turns : List Turn) → PlantStands b v turns
-      → shown ≡ option_map_or (λ link. bit_of (outputs_at link side.Slave (pair link bit.link v.journal)) bit.bit) (link_at b.links bit.link) false
 
 -- the line of a bound with this limit is shown by a plant
 pub record ShowsBound (v : PlantView) (bound : BoundSpec) (most : ℕ) (broken : Option ℕ) (text : List ℕ) : Type 0 where

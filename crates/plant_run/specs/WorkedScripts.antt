@@ -2,15 +2,15 @@
 use Rattle.std.specs.Prelude.{◌≡◌, ℕ, true, List, [], ◌∷◌, ◌++◌, codes, length, map, Some}
 use Rattle.schedule_file.specs.Input.{AtEnd, Line, NoApp, NoLine, NoNewline, Refused, Stop, input_read}
 use Rattle.schedule_file.specs.declared.line_cause.LineCause.TheVariants as cause
-use Rattle.plant_run.specs.FairPairs.{lengths_in}
+use Rattle.plant_model.specs.FairPairs.{lengths_in}
 use Rattle.plant_run.specs.Reporting.{run_stop}
 use Rattle.plant_run.specs.Script.{Script, script_format}
-use Rattle.plant_run.specs.Turns.{Named, said}
-use Rattle.plant_run.specs.WorkedActs.{driving}
-use Rattle.plant_run.specs.WorkedPlant.{both_links}
-use Rattle.plant_run.specs.declared.event.PlantEvent.TheVariants as event
-use Rattle.plant_run.specs.declared.event.PlantLine.{PlantLine}
-use Rattle.plant_run.specs.declared.event.PlantLine.TheVariants as line
+use Rattle.plant_model.specs.Turns.{Named, said}
+use Rattle.plant_model.specs.WorkedActs.{driving}
+use Rattle.plant_model.specs.WorkedPlant.{both_links}
+use Rattle.plant_model.specs.declared.event.PlantEvent.TheVariants as event
+use Rattle.plant_model.specs.declared.event.PlantLine.{PlantLine}
+use Rattle.plant_model.specs.declared.event.PlantLine.TheVariants as line
 
 -- what bytes say to the worked plant
 abbrev pub script_of : List ℕ → Script

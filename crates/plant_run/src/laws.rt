@@ -1,36 +1,6 @@
-//! What holds of the definitions. The calls do nothing: each law is a contract.
+//! What holds of worked scripts. The call does nothing: the law is its contract.
 
-ghost use Rattle.std.specs.Prelude.{List, All};
-ghost use Rattle.black_channel.specs.Told.{Told};
-ghost use Rattle.plant_conf.specs.ConfView.{HasSameLengths};
-ghost use Rattle.plant_conf.specs.declared.conf.LinkConf.{LinkConf};
-ghost use Rattle.plant_run.specs.declared.journal.JournalStep.{JournalStep};
-ghost use Rattle.plant_run.specs.FairPairs.{StepFits, PairsAreFair};
-ghost use Rattle.plant_run.specs.Uses.{Use, Trace, ToldLists, ToldHolds, EmptiesRose};
-ghost use Rattle.plant_run.specs.WorkedPlant.{SevenTicks, StopLines};
 ghost use Rattle.plant_run.specs.WorkedScripts.{SevenTicksScript, Stops, NoTitles};
-
-/// What a channel tells goes by its uses, whatever channel it is: of the parcels that were pushed and given, where it tells them; of what
-/// it holds and gives, where it tells that; and its count of pulls that gave nothing.
-#[tactic(auto, using(crate::proofs::Traces::told_lists, crate::proofs::Traces::told_holds, crate::proofs::Traces::empties_rose))]
-pub fn traces()
-    ensures lists { (uses : List Use) (old new : Told) → Trace uses old new → ToldLists uses old new }
-    ensures holds { (uses : List Use) (old new : Told) → Trace uses old new → ToldHolds uses old new }
-    ensures empties { (uses : List Use) (old new : Told) → Trace uses old new → EmptiesRose uses old new }
-{}
-
-/// The law of the pair holds of each connection of a plant: whatever parcels its channel gave, the entries of its pair before the first
-/// other one, all where there is none, are fair.
-#[tactic(auto, using(crate::proofs::Proper::pairs_are_fair))]
-pub fn pairs()
-    ensures fair { (links : List LinkConf) (journal : List JournalStep) → All HasSameLengths links → All (StepFits links) journal → PairsAreFair links journal }
-{}
-
-/// A worked plant: an emergency stop at one connection drives a bit of another, and its connection is cut.
-pub fn worked_plant()
-    ensures seven_ticks { SevenTicks }
-    ensures stop_lines { StopLines }
-{}
 
 /// Worked scripts: what they say, and how they stop.
 pub fn worked_scripts()

@@ -1,25 +1,15 @@
-//! Many connections and an application over a channel that nobody trusts.
+//! The run of a plant over its script. `run_plant` reads the lines of a source, has a plant do what each says, and writes its
+//! report to a sink. It watches the bounds of the configuration, and writes a line for each.
 #![tactic(auto)]
 
-pub mod act_laws;
-mod ends;
-mod event;
-mod journal;
 pub mod laws;
-mod link;
 mod machine;
-mod making;
-mod offers;
-mod plant;
-mod pushing;
 mod run;
 mod script;
 mod script_line;
-mod watch;
 mod watching;
 
-pub use event::{MAX_SCRIPT, PlantEvent, PlantLine};
-pub use journal::{Journal, JournalStep};
-pub use plant::Plant;
+pub use plant_core::{Journal, Plant};
+pub use plant_model::{JournalStep, MAX_SCRIPT, PlantEvent, PlantLine};
 pub use run::run_plant;
 pub use script_line::read_plant_event;

@@ -4,7 +4,6 @@ ghost use Rattle.multi_master.specs.Standing.{app_view};
 ghost use Rattle.plant_run.specs.Given.{journal_in, terms_of};
 ghost use Rattle.plant_run.specs.Ran.{RanPlant};
 
-use crate::journal::Journal;
 use crate::machine::{Owned, PlantRun, Telling};
 use black_channel::Channel;
 use failsafe_io::Application;
@@ -12,6 +11,7 @@ use fb_net::{EntryOf, KindOf};
 use file_run::run_over;
 use fsoe_io::{Ended, Sink, Source};
 use plant_conf::PlantConf;
+use plant_core::Journal;
 use std::alloc::Global;
 
 /// Runs a plant that hasn't begun. The channel and what the run owns are the same ones after it.

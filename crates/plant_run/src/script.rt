@@ -2,16 +2,16 @@
 ghost use Rattle.std.specs.Prelude.{◌≡◌, ◌≤◌, ◌<◌, [], ◌∷◌, ◌++◌, map, length};
 ghost use Rattle.file_run.specs.Event.{what_says};
 ghost use Rattle.plant_conf.specs.declared.conf.LinkConf.{LinkConf};
-ghost use Rattle.plant_run.specs.FairPairs.{lengths_in};
+ghost use Rattle.plant_model.specs.FairPairs.{lengths_in};
 ghost use Rattle.plant_run.specs.Script.{untitled};
 ghost use Rattle.plant_run.specs.ScriptLine.{plant_line};
 ghost use Rattle.schedule_file.specs.declared.line_buf.TheConstants.{MAX_LINE};
 
-use crate::event::PlantLine;
 use crate::script_line::read_plant_event;
 use file_run::{Format, Untaken};
 use fsoe_base::Lengths;
 use plant_conf::LinkConf;
+use plant_model::PlantLine;
 use schedule_file::LineCause;
 use std::marker::Model;
 

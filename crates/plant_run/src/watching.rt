@@ -1,15 +1,15 @@
 //! The bounds that a plant's run watches.
 ghost use Rattle.std.specs.Prelude.{◌≡◌, ◌≤◌, ◌+◌, ◌++◌, [], All, IfOk, length, option_map};
-ghost use Rattle.plant_run.specs.BoundLines.{age_text, bit_text, broken_text, limit_of};
-ghost use Rattle.plant_run.specs.Pair.{link_at};
-ghost use Rattle.plant_run.specs.Standing.{seen};
+ghost use Rattle.plant_model.specs.BoundLines.{age_text, bit_text, broken_text, limit_of};
+ghost use Rattle.plant_model.specs.Pair.{link_at};
+ghost use Rattle.plant_core.specs.Standing.{seen};
 ghost use Rattle.plant_run.specs.Watching.{AreAged, HasRoom, HearsLine, HearsOne, ShowsBound, reactions_by};
 
-use crate::plant::Plant;
 use failsafe_io::{Application, Bit};
 use fsoe_base::{End, Memory};
 use fsoe_io::LineText;
 use plant_conf::{BoundSpec, LinkConf};
+use plant_core::Plant;
 use reaction_bound::Reaction;
 use std::alloc::Global;
 

@@ -1,8 +1,8 @@
 use Rattle.std.proofs.Common.{◌++◌, ap, ap₂, arith, refl, sym, ◌∙◌}
 use Rattle.plant_run.specs.Given.{waiting_in}
 use Rattle.std.proofs.lemmas.Result.{IfErr-weaker, on_ok_weaker}
-use Rattle.plant_run.specs.declared.event.PlantLine.TheVariants as line
-use Rattle.plant_run.specs.declared.event.PlantEvent.TheVariants as event
+use Rattle.plant_model.specs.declared.event.PlantLine.TheVariants as line
+use Rattle.plant_model.specs.declared.event.PlantEvent.TheVariants as event
 use Rattle.plant_run.proofs.Hearing.{can_hear, heard_same}
 use Rattle.plant_run.proofs.Turned.{app_stopped, goes_step, nothing_at, nothing_written, same_count, step_fits, takes_app}
 use Rattle.plant_run.proofs.machine.TellingMachine.report.Goals as goal

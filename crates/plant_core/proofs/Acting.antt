@@ -1,0 +1,246 @@
+-- What the slave or the master of a connection does and what is pushed, and what those of all connections do in a tick.
+use Rattle.std.proofs.Common.{◌≡◌, ◌≢◌, ◌≤◌, ◌<◌, ◌⊎◌, inl, inr, ℕ, zero, suc, ◌+◌, ◌*◌, ◌==◌, nat_lt, Bool, true, false, List, [], ◌∷◌, ◌++◌, take, length, slice_get, slice_set, slice_index_or, ◌-◌, Option, Some, option_map, All, if◌then◌else◌, refl, sym, ap, ap₂, subst, ◌∙◌, append_assoc, arith}
+use Rattle.std.proofs.lemmas.Bool.{eqb-true, lt-ltb, le-ltb}
+use Rattle.std.proofs.lemmas.Bool.Decides.{nat_tests}
+use Rattle.std.specs.Prelude.{IsSomeAnd}
+use Rattle.std.proofs.lemmas.Option.{slice_get_within, slice_get_read, slice_get-map}
+use Rattle.std.proofs.lemmas.List.{append-nil, take_all}
+use Rattle.std.proofs.lemmas.List.Elements.{All-nil, All-cons, All-head, All-tail}
+use Rattle.fsoe_base.specs.declared.command.End.{End}
+use Rattle.fsoe_base.specs.declared.command.End.TheVariants as side
+use Rattle.fsoe_base.specs.declared.did.Did.{Did}
+use Rattle.fsoe_base.specs.declared.lengths.Lengths.{Lengths}
+use Rattle.param_load.specs.declared.entry.Entry.{Entry}
+use Rattle.param_load.specs.declared.entry.Move.{Move}
+use Rattle.black_channel.specs.Told.{Told, PushesParcel}
+use Rattle.black_channel.specs.declared.channel.Place.{Place}
+use Rattle.plant_conf.specs.declared.conf.LinkConf.{LinkConf}
+use Rattle.multi_master.specs.Standing as multi
+use Rattle.multi_master.specs.Standing.{MultiValue}
+use Rattle.multi_master.proofs.Places.{map_set, same_length}
+use Rattle.plant_model.specs.Uses.{place_of, sent_uses, each_uses, Use, Trace}
+use Rattle.plant_core.specs.Doing.{SlaveActs, MasterActs, one_each, one_each_to, frames_pushed, AllActed, ActedTo, HaveParts}
+use Rattle.plant_core.specs.Standing.{AreNoted, fixed_in, lengths_kept, LinkIs, LinksAre, IsPlant}
+use Rattle.plant_core.specs.Link.{IsMasters, LinkView, LinkStands, SlaveGoesOn, MasterNoted, NotesOne, fixed_of}
+use Rattle.plant_model.specs.FairPairs.{lengths_at}
+use Rattle.plant_core.proofs.Linking.{each_at, each_from, each_set, each_count}
+
+-- one trace after another
+pub trace_append : (xs ys : List Use) (a b c : Told) → Trace xs a b → Trace ys b c → Trace (xs ++ ys) a c
+trace_append [] ys a b c t u = subst (λ (z : Told). Trace ys z c) (sym t) u
+trace_append (x ∷ xs) ys a b c t u = (t.0, t.1, trace_append xs ys t.0 b c t.2 u)
+
+pub cut_uses : (to : Place) (frame : List ℕ) (t : Told) (cut : Bool) → cut ≡ true → Trace (sent_uses to frame cut) t t
+cut_uses to [] t cut e = refl
+cut_uses to (x ∷ frame) t cut e = subst (λ (b : Bool). Trace (sent_uses to (x ∷ frame) b) t t) (sym e) refl
+
+pub none_uses : (to : Place) (frame : List ℕ) (t : Told) (cut : Bool) → (length frame == 0) ≡ true → Trace (sent_uses to frame cut) t t
+none_uses to [] t cut e = refl
+none_uses to (x ∷ frame) t cut e = let none : suc (length frame) ≡ 0 = eqb-true (suc (length frame)) 0 e in absurd (omega arith)
+
+pub one_use : (to : Place) (frame : List ℕ) (before after : Told) (cut : Bool) → cut ≡ false → (length frame == 0) ≡ false → PushesParcel (record { to = to; frame = frame }) before after
+    → Trace (sent_uses to frame cut) before after
+one_use to [] before after cut c e p = absurd (cc e)
+one_use to (x ∷ frame) before after cut c e p = subst (λ (b : Bool). Trace (sent_uses to (x ∷ frame) b) before after) (sym c) (after, p, refl)
+
+pub slave_acts : (k : ℕ) (what : Move) (old new : LinkView) (did : Did) (sent : List ℕ) (before after : Told) → SlaveGoesOn old what did sent new → NotesOne old new
+    → Trace (sent_uses (place_of k side.Master) sent new.cut) before after → SlaveActs k what old new before after
+slave_acts k what old new did sent before after goes notes t = record {
+  acts = λ link w h.
+      let went = goes.goes link w h in
+      record {
+        stands = went.stands;
+        channel = subst (λ (f : List ℕ). Trace (sent_uses (place_of k side.Master) f old.cut) before after) went.sent_is
+            (subst (λ (c : Bool). Trace (sent_uses (place_of k side.Master) sent c) before after) notes.cut t);
+      };
+}
+
+pub master_acts : (k : ℕ) (tick : Bool) (came : List ℕ) (did : Did) (sent : List ℕ) (old new : LinkView) (before after : Told) → MasterNoted old tick came did sent new → NotesOne old new
+    → Trace (sent_uses (place_of k side.Slave) sent new.cut) before after → MasterActs k tick came did sent old new before after
+master_acts k tick came did sent old new before after noted notes t = record {
+  stands = λ link w x h parts. noted.stands link w x h parts;
+  channel = subst (λ (c : Bool). Trace (sent_uses (place_of k side.Slave) sent c) before after) notes.cut t;
+}
+
+-- one connection more did its part
+pub record OneActed (n : ℕ) (to : End) (link : LinkConf) (done : ℕ → LinkConf → List Entry) (next : ℕ → LinkConf → Entry) (old new : LinkView) (before after : Told) : Type 0 where
+  pub stands : LinkStands link new (next n link ∷ done n link)
+  pub channel : Trace (sent_uses (place_of n to) (next n link).sent old.cut) before after
+
+each_take : (uses : ℕ → LinkConf → List Use) (k n i : ℕ) (links : List LinkConf) (link : LinkConf) → slice_get links i ≡ Some link → n ≡ k + i
+    → each_uses uses k (take (suc i) links) ≡ each_uses uses k (take i links) ++ uses n link
+each_take uses k n i [] link e h = absurd (cc e)
+each_take uses k n zero (l ∷ links) link e h =
+    let same : l ≡ link = cc in
+    let number : k ≡ n = omega arith in
+    append-nil (uses k l) ∙ ap₂ uses number same
+each_take uses k n (suc i) (l ∷ links) link e h =
+    ap (λ (us : List Use). uses k l ++ us) (each_take uses (suc k) n i links link e (omega arith))
+    ∙ sym (append_assoc (uses k l) (each_uses uses (suc k) (take i links)) (uses n link))
+
+pub acted_none : (to : End) (links : List LinkConf) (cut : ℕ → Bool) (done : ℕ → LinkConf → List Entry) (next : ℕ → LinkConf → Entry) (vs : List LinkView) (t : Told) → LinksAre links cut done vs
+    → ActedTo 0 to links cut done next vs t t
+acted_none to links cut done next vs t h = record {
+  kept = each_from (LinkIs cut done) (LinkIs cut (one_each_to 0 next done)) 1 links vs h
+      (λ n link v from below p.
+      record {
+        stands = subst (λ (b : Bool). LinkStands link v (if b then done n link else next n link ∷ done n link)) (sym (lt-ltb 0 n (omega arith))) p.stands;
+        cut = p.cut;
+      });
+  channel = refl;
+}
+
+same_side : (i n m : ℕ) → n ≡ suc i → m ≢ n → nat_lt i m ≡ nat_lt n m
+same_side i n m e h = grind (arith, nat_tests)
+
+acted_here : (i n : ℕ) (done : ℕ → LinkConf → List Entry) (next : ℕ → LinkConf → Entry) (link : LinkConf) (v : LinkView) → nat_lt i n ≡ true → LinkStands link v (one_each_to i next done n link)
+    → LinkStands link v (done n link)
+acted_here i n done next link v e h = subst (λ (b : Bool). LinkStands link v (if b then done n link else next n link ∷ done n link)) e h
+
+pub acted_more : (i n : ℕ) (to : End) (links : List LinkConf) (cut : ℕ → Bool) (done : ℕ → LinkConf → List Entry) (next : ℕ → LinkConf → Entry) (vs : List LinkView) (old new : LinkView) (first before after : Told)
+    → ActedTo i to links cut done next vs first before → slice_get vs i ≡ Some old → n ≡ suc i
+    → ((link : LinkConf) → slice_get links i ≡ Some link → LinkStands link old (done n link) → OneActed n to link done next old new before after) → new.cut ≡ old.cut
+    → ActedTo n to links cut done next (slice_set vs i new) first after
+acted_more i n to links cut done next vs old new first before after h at e acts cut_is =
+    let beside = each_at (LinkIs cut (one_each_to i next done)) 1 links vs i n old h.kept at (omega arith) in
+    let here = acted_here i n done next beside.link old (lt-ltb i n (omega arith)) beside.holds.stands in
+    let acted = acts beside.link beside.is here in
+    record {
+      kept = each_set (LinkIs cut (one_each_to i next done)) (LinkIs cut (one_each_to n next done)) 1 links vs i n old new h.kept at (omega arith)
+          (λ link is p.
+          record {
+            stands = subst (λ (b : Bool). LinkStands link new (if b then done n link else next n link ∷ done n link)) (sym (le-ltb n n (omega arith)))
+                (acts link is (acted_here i n done next link old (lt-ltb i n (omega arith)) p.stands)).stands;
+            cut = cut_is ∙ p.cut;
+          })
+          (λ m link v other p.
+          record {
+            stands = subst (λ (b : Bool). LinkStands link v (if b then done m link else next m link ∷ done m link)) (same_side i n m e other) p.stands;
+            cut = p.cut;
+          });
+      channel = subst (λ (us : List Use). Trace us first after)
+          (sym (ap (λ (j : ℕ). frames_pushed to next cut (take j links)) e ∙ each_take (λ k link. sent_uses (place_of k to) (next k link).sent (cut k)) 1 n i links beside.link beside.is (omega arith)))
+          (trace_append (frames_pushed to next cut (take i links)) (sent_uses (place_of n to) (next n beside.link).sent (cut n)) first before after h.channel
+          (subst (λ (c : Bool). Trace (sent_uses (place_of n to) (next n beside.link).sent c) before after) beside.holds.cut acted.channel));
+    }
+
+pub acted_all : (i : ℕ) (to : End) (links : List LinkConf) (cut : ℕ → Bool) (done : ℕ → LinkConf → List Entry) (next : ℕ → LinkConf → Entry) (vs : List LinkView) (first last : Told) → length vs ≤ i
+    → ActedTo i to links cut done next vs first last → AllActed to links cut done next vs first last
+acted_all i to links cut done next vs first last past h =
+    let count = each_count (LinkIs cut (one_each_to i next done)) 1 links vs h.kept in
+    record {
+      kept = each_from (LinkIs cut (one_each_to i next done)) (LinkIs cut (one_each next done)) 1 links vs h.kept
+          (λ n link v from below p.
+          record {
+            stands = subst (λ (b : Bool). LinkStands link v (if b then done n link else next n link ∷ done n link)) (le-ltb i n (omega arith)) p.stands;
+            cut = p.cut;
+          });
+      channel = subst (λ (ls : List LinkConf). Trace (frames_pushed to next cut ls) first last) (take_all i links (omega arith)) h.channel;
+    }
+
+set_later : {P Q : Type 0} (i k : ℕ) → ((k ≡ i) × P) ⊎ ((k ≢ i) × Q) → ((suc k ≡ suc i) × P) ⊎ ((suc k ≢ suc i) × Q)
+set_later i k (inl p) = inl (ap suc p.0, p.1)
+set_later i k (inr p) = inr ((λ e. p.0 (omega arith)), p.1)
+
+below_by : (k i : ℕ) → k ≢ i → k < i + 1 → k < i
+below_by k i h lt = grind arith
+
+-- what stands at each place of a list that is written to at one
+pub get_set : {X : Type 0} (xs : List X) (i k : ℕ) (y v : X) → slice_get (slice_set xs i y) k ≡ Some v → ((k ≡ i) × (v ≡ y)) ⊎ ((k ≢ i) × (slice_get xs k ≡ Some v))
+get_set [] i k y v h = absurd (cc h)
+get_set (x ∷ xs) zero zero y v h = let same : y ≡ v = cc in inl (refl, sym same)
+get_set (x ∷ xs) zero (suc k) y v h = inr ((λ e. absurd (omega arith)), h)
+get_set (x ∷ xs) (suc i) zero y v h = inr ((λ e. absurd (omega arith)), h)
+get_set (x ∷ xs) (suc i) (suc k) y v h = set_later i k (get_set xs i k y v h)
+
+pub all_at : {X : Type 0} (P : X → Type 0) (xs : List X) (k : ℕ) (x : X) → All P xs → slice_get xs k ≡ Some x → P x
+all_at P [] k x h e = absurd (cc e)
+all_at P (y ∷ xs) zero x h e = let same : y ≡ x = cc in subst P same (All-head P y xs h)
+all_at P (y ∷ xs) (suc k) x h e = all_at P xs k x (All-tail P y xs h) e
+
+pub at_all : {X : Type 0} (P : X → Type 0) (xs : List X) → ((k : ℕ) (x : X) → slice_get xs k ≡ Some x → P x) → All P xs
+at_all P [] f = All-nil P
+at_all P (y ∷ xs) f = All-cons P y xs (f 0 y refl) (at_all P xs (λ k x e. f (suc k) x e))
+
+-- one entry more was noted with each connection up to a place
+pub record NotedTo (i most : ℕ) (vs : List LinkView) : Type 0 where
+  pub done : (k : ℕ) (v : LinkView) → k < i → slice_get vs k ≡ Some v → v.monitor.noted ≤ most + 1
+  pub rest : (k : ℕ) (v : LinkView) → i ≤ k → slice_get vs k ≡ Some v → v.monitor.noted ≤ most
+
+pub noted_none : (most : ℕ) (vs : List LinkView) → AreNoted most vs → NotedTo 0 most vs
+noted_none most vs h = record { done = λ k v lt e. absurd (omega arith); rest = λ k v le e. all_at (λ (z : LinkView). z.monitor.noted ≤ most) vs k v h e }
+
+done_by : (i n most k : ℕ) (vs : List LinkView) (old new v : LinkView) → NotedTo i most vs → slice_get vs i ≡ Some old → n ≡ i + 1 → new.monitor.noted ≡ old.monitor.noted + 1 → k < n
+    → ((k ≡ i) × (v ≡ new)) ⊎ ((k ≢ i) × (slice_get vs k ≡ Some v)) → v.monitor.noted ≤ most + 1
+done_by i n most k vs old new v h at e one lt (inl p) =
+    let was = h.rest i old (omega arith) at in
+    let same : v.monitor.noted ≡ new.monitor.noted = ap (λ (z : LinkView). z.monitor.noted) p.1 in
+    omega arith
+done_by i n most k vs old new v h at e one lt (inr p) = h.done k v (below_by k i (p.0) (omega arith)) p.1
+
+rest_by : (i n most k : ℕ) (vs : List LinkView) (new v : LinkView) → NotedTo i most vs → n ≡ i + 1 → n ≤ k → ((k ≡ i) × (v ≡ new)) ⊎ ((k ≢ i) × (slice_get vs k ≡ Some v)) → v.monitor.noted ≤ most
+rest_by i n most k vs new v h e le (inl p) = let same = p.0 in absurd (omega arith)
+rest_by i n most k vs new v h e le (inr p) = h.rest k v (omega arith) p.1
+
+pub noted_more : (i n most : ℕ) (vs : List LinkView) (old new : LinkView) → NotedTo i most vs → slice_get vs i ≡ Some old → n ≡ i + 1 → new.monitor.noted ≡ old.monitor.noted + 1 → NotedTo n most (slice_set vs i new)
+noted_more i n most vs old new h at e one = record {
+  done = λ k v lt is. done_by i n most k vs old new v h at e one lt (get_set vs i k new v is);
+  rest = λ k v le is. rest_by i n most k vs new v h e le (get_set vs i k new v is);
+}
+
+pub noted_all : (i most : ℕ) (vs : List LinkView) → length vs ≤ i → NotedTo i most vs → AreNoted (most + 1) vs
+noted_all i most vs past h =
+    at_all (λ (z : LinkView). z.monitor.noted ≤ most + 1) vs (λ k v e. let within = slice_get_within vs k v e in h.done k v (omega arith) e)
+
+-- the same at one place of which more is known
+set_by : (most k i : ℕ) (vs : List LinkView) (new v : LinkView) → AreNoted most vs → new.monitor.noted ≤ most → ((k ≡ i) × (v ≡ new)) ⊎ ((k ≢ i) × (slice_get vs k ≡ Some v)) → v.monitor.noted ≤ most
+set_by most k i vs new v h le (inl p) = subst (λ (z : LinkView). z.monitor.noted ≤ most) (sym p.1) le
+set_by most k i vs new v h le (inr p) = all_at (λ (z : LinkView). z.monitor.noted ≤ most) vs k v h p.1
+
+pub noted_set : (most i : ℕ) (vs : List LinkView) (new : LinkView) → AreNoted most vs → new.monitor.noted ≤ most → AreNoted most (slice_set vs i new)
+noted_set most i vs new h le = at_all (λ (z : LinkView). z.monitor.noted ≤ most) (slice_set vs i new) (λ k v e. set_by most k i vs new v h le (get_set vs i k new v e))
+
+pub noted_less : (most more : ℕ) (vs : List LinkView) → most ≤ more → AreNoted most vs → AreNoted more vs
+noted_less most more vs le h =
+    at_all (λ (z : LinkView). z.monitor.noted ≤ more) vs (λ k v e. let was = all_at (λ (z : LinkView). z.monitor.noted ≤ most) vs k v h e in omega arith)
+
+pub fixed_set : (vs : List LinkView) (i : ℕ) (old new : LinkView) → slice_get vs i ≡ Some old → fixed_of new ≡ fixed_of old → fixed_in (slice_set vs i new) ≡ fixed_in vs
+fixed_set vs i old new at e = map_set fixed_of vs i old new at e
+
+-- a connection's place by its number
+pub record Placed (vs : List LinkView) (n place : ℕ) (v : LinkView) : Type 0 where
+  pub number : n ≡ suc place
+  pub at : slice_get vs place ≡ Some v
+
+pub placed : (vs : List LinkView) (len n from : ℕ) (v : LinkView) → len ≡ length vs → from ≡ n → 1 ≤ n → n ≤ len → v ≡ slice_index_or vs (from - 1) v → Placed vs n (from - 1) v
+placed vs len n from v count same first last e = record { number = omega arith; at = slice_get_read vs len (from - 1) v count (omega arith) e }
+
+pub kept_fits : (vs : List LinkView) (n place : ℕ) (v : LinkView) (len : ℕ) → Placed vs n place v → IsSomeAnd (lengths_at (lengths_kept vs) n) (λ ends. len ≡ ends.slave) → len ≡ v.slave.kit.settings.lengths.slave
+kept_fits vs n place v len p h =
+    let found : lengths_at (lengths_kept vs) n ≡ Some v.slave.kit.settings.lengths =
+    ap (lengths_at (lengths_kept vs)) p.number ∙ slice_get-map (λ (z : LinkView). z.slave.kit.settings.lengths) vs place ∙ ap (option_map (λ (z : LinkView). z.slave.kit.settings.lengths)) p.at in
+    subst (λ (o : Option Lengths). IsSomeAnd o (λ ends. len ≡ ends.slave)) found h
+
+pub same_count : (xs ys : List LinkView) → fixed_in xs ≡ fixed_in ys → length xs ≡ length ys
+same_count xs ys h = same_length fixed_of fixed_of xs ys h
+
+-- the entry of a master that was told with its parts
+pub master_one : (i n : ℕ) (links : List LinkConf) (done : ℕ → LinkConf → List Entry) (next : ℕ → LinkConf → Entry) (dids : List Did) (frames : List (List ℕ)) (link : LinkConf) (did : Did) (sent : List ℕ) (old new : LinkView) (before after : Told)
+    → n ≡ suc i → HaveParts links next dids frames → slice_get links i ≡ Some link → slice_get dids i ≡ Some did → slice_get frames i ≡ Some sent → MasterActs n true [] did sent old new before after
+    → LinkStands link old (done n link) → OneActed n side.Slave link done next old new before after
+master_one i n links done next dids frames link did sent old new before after e parts is did_at out_at acts h =
+    let own : IsMasters (next n link) true [] did sent = subst (λ (k : ℕ). IsMasters (next k link) true [] did sent) (sym e) (parts.each i link did sent is did_at out_at) in
+    record {
+      stands = acts.stands link (done n link) (next n link) h own;
+      channel = subst (λ (f : List ℕ). Trace (sent_uses (place_of n side.Slave) f old.cut) before after) (sym own.parts.sent_is) acts.channel;
+    }
+
+-- the parts of a plant still fit one another
+pub still_plant : {A : Type 0} (master new : MultiValue A) (links vs : List LinkView) (dids dids_new : List Did) (outs outs_new : List (List ℕ)) (len len_new : ℕ) → IsPlant master links dids outs len → multi.links new ≡ multi.links master
+    → length vs ≡ length links → length dids_new ≡ length dids → length outs_new ≡ length outs → AreNoted (2 * len_new) vs → IsPlant new vs dids_new outs_new len_new
+still_plant master new links vs dids dids_new outs outs_new len len_new is same count dids_same outs_same noted =
+    let count_is = is.count in
+    let most = is.most in
+    let dids_fit = is.dids_fit in
+    let outs_fit = is.outs_fit in
+    record { count = omega arith; most = omega arith; dids_fit = omega arith; outs_fit = omega arith; noted = noted }

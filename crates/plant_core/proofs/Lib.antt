@@ -1,0 +1,13 @@
+pub mod Acting
+mod Cycling
+mod Linked
+pub mod Linking
+pub mod Made
+mod Offering
+mod OneDeed
+mod Others
+pub mod Pulling
+mod QuietTold
+mod Readers
+mod Watchdogs
+pub mod Worlds

@@ -1,0 +1,113 @@
+-- The slave of a connection and what notes its pair, after a deed of either end.
+use Rattle.std.proofs.Common.{◌≡◌, ℕ, ◌+◌, List, [], ◌∷◌, Bool, true, false, ap, ap₂, ◌∙◌, refl, sym, subst, Option, Some, None, if◌then◌else◌}
+use Rattle.std.specs.Prelude.{IfSome, is_some}
+use Rattle.fsoe_base.specs.declared.command.Command.TheVariants as command
+use Rattle.fsoe_base.specs.declared.command.End.{End}
+use Rattle.fsoe_base.specs.declared.command.End.TheVariants as side
+use Rattle.fsoe_base.specs.declared.did.Did.{Did}
+use Rattle.fsoe_base.specs.declared.did.Took.{Took}
+use Rattle.fsoe_base.specs.declared.lengths.Lengths.{Lengths}
+use Rattle.param_load.specs.declared.entry.Entry.{Entry}
+use Rattle.param_load.specs.declared.entry.Move.{Move}
+use Rattle.param_load.specs.declared.slave_settings.SlaveSettings.{SlaveSettings}
+use Rattle.plant_conf.specs.declared.conf.LinkConf.{LinkConf}
+use Rattle.end_model.specs.Setup.{OfSlave}
+use Rattle.end_model.specs.Deed.{Deed, delivered}
+use Rattle.end_model.specs.Step.{step}
+use Rattle.exchange_model.specs.Honest.{is_tick}
+use Rattle.exchange_model.specs.Monitor.{MonitorView, NotesParts}
+use Rattle.exchange_model.specs.Monitor as monitor
+use Rattle.exchange_model.specs.World.{deeds, deed_in, next_entry}
+use Rattle.exchange_model.specs.Ends.{same_end}
+use Rattle.reaction_bound.specs.Ages.{AgesView, HasAgeParts, HasWatchdog, watchdog_in}
+use Rattle.reaction_bound.specs.Ages as ages
+use Rattle.slave_core.specs.SlaveView.{SlaveView}
+use Rattle.slave_core.specs.ViewOf.{view_of}
+use Rattle.slave_core.specs.Standing as slave_core
+use Rattle.slave_core.specs.Standing.{SlaveIsAfter}
+use Rattle.plant_core.specs.Link.{AgesNote, Fixed, LinkView, NotesSlave, new_ages, new_link, LinkStands, SlaveGoesOn, MasterNoted, NotesOne}
+
+pub is_new : (link : LinkConf) (aged : Bool) (new : LinkView) → SlaveIsAfter link.slave new.slave [] → new.monitor ≡ monitor.view_of [] → new.ages ≡ new_ages aged → new.watchdog ≡ link.master.watchdog → new.cut ≡ false → new ≡ new_link aged link
+is_new link aged new slave noted ages_are watchdog cut = ap (λ (z : SlaveView). record new { slave = z }) slave.is
+    ∙ ap (λ (z : MonitorView). record new { slave = view_of link.slave []; monitor = z }) noted
+    ∙ ap (λ (z : Option AgesView). record new { slave = view_of link.slave []; monitor = monitor.view_of []; ages = z }) ages_are
+    ∙ ap (λ (z : ℕ). record { slave = view_of link.slave []; monitor = monitor.view_of []; ages = new_ages aged; watchdog = z; cut = new.cut }) watchdog
+    ∙ ap (λ (z : Bool). record { slave = view_of link.slave []; monitor = monitor.view_of []; ages = new_ages aged; watchdog = link.master.watchdog; cut = z }) cut
+
+none_noted : (aged : Bool) → IfSome (new_ages aged) (λ a. a ≡ ages.view_of [])
+none_noted true = refl
+none_noted false = tt
+
+-- what is new stands for no entries
+pub new_stands : (aged : Bool) (link : LinkConf) → LinkStands link (new_link aged link) []
+new_stands aged link = record { slave = record { is = refl; reached = tt }; monitor = refl; watchdog = refl; ages = λ tells. none_noted aged }
+
+-- ages that had noted some entries have noted one more
+ages_noted : (old new : Option AgesView) (at : End) (tick : Bool) (came : List ℕ) (did : Did) (sent : List ℕ) (watchdog : Option ℕ) (x : Entry) (w : List Entry) → AgesNote old at tick came did sent watchdog new
+    → HasAgeParts x at tick came did sent watchdog → IfSome old (λ a. a ≡ ages.view_of w) → IfSome new (λ a. a ≡ ages.view_of (x ∷ w))
+ages_noted None new at tick came did sent watchdog x w noted parts h = subst (λ (z : Option AgesView). IfSome z (λ a. a ≡ ages.view_of (x ∷ w))) (sym noted) tt
+ages_noted (Some old) None at tick came did sent watchdog x w noted parts h = absurd noted
+ages_noted (Some old) (Some new) at tick came did sent watchdog x w noted parts h = (noted.notes x parts).notes w h
+
+-- what is told whatever was taken
+whatever : (took : Option Took) (watchdog told : Option ℕ) → watchdog ≡ told → IfSome took (λ t. t.command ≡ command.ProcessData → watchdog ≡ told)
+whatever None watchdog told e = tt
+whatever (Some t) watchdog told e = λ process. e
+
+pub slave_goes : (old new : LinkView) (what : Move) (did : Did) (sent : List ℕ) → slave_core.Follows old.slave what new.slave → slave_core.Answers old.slave what did sent
+    → NotesParts old.monitor side.Slave (delivered what) did sent new.monitor → NotesSlave new.slave old.ages (is_tick what) (delivered what) did sent new.ages → new.watchdog ≡ old.watchdog → SlaveGoesOn old what did sent new
+slave_goes old new what did sent follows answers noted aged watchdog = record {
+  goes = λ link w h.
+      let e : List Deed = deeds side.Slave w in
+      let x : Entry = next_entry (OfSlave link.slave) e what in
+      let d : did ≡ (step (OfSlave link.slave) e what).did = answers.did link.slave e h.slave in
+      let s : sent ≡ (step (OfSlave link.slave) e what).sent = answers.sent link.slave e h.slave in
+      let after = follows.is_after link.slave e h.slave in
+      let told : aged.watchdog ≡ watchdog_in x.terms = (aged.shown.shows link.slave (step (OfSlave link.slave) e what ∷ e) after) in
+      record {
+        stands = record {
+          slave = after;
+          monitor = (noted.notes x (record { end_is = refl; came_is = refl; did_is = sym d; sent_is = sym s })).notes w h.monitor;
+          watchdog = watchdog ∙ h.watchdog;
+          ages = λ tells.
+              ages_noted old.ages new.ages side.Slave (is_tick what) (delivered what) did sent aged.watchdog x w aged.noted
+              (record { parts = record { end_is = refl; came_is = refl; did_is = sym d; sent_is = sym s }; tick_is = refl; watchdog_is = whatever x.did.took aged.watchdog (watchdog_in x.terms) told }) (h.ages tells.1);
+        };
+        did_is = d;
+        sent_is = s;
+      };
+}
+
+-- an entry of the master is none of the slave's deeds
+masters_own : (end : End) (x : Entry) (w : List Entry) → end ≡ side.Master → (if same_end side.Slave end then deed_in x ∷ deeds side.Slave w else deeds side.Slave w) ≡ deeds side.Slave w
+masters_own side.Master x w e = refl
+masters_own side.Slave x w e = absurd (cc e)
+
+pub master_noted : (old new : LinkView) (tick : Bool) (came : List ℕ) (did : Did) (sent : List ℕ) → NotesParts old.monitor side.Master came did sent new.monitor → AgesNote old.ages side.Master tick came did sent (Some old.watchdog) new.ages
+    → new.slave ≡ old.slave → new.watchdog ≡ old.watchdog → MasterNoted old tick came did sent new
+master_noted old new tick came did sent noted aged same watchdog = record {
+  stands = λ link w x h is.
+      let own = sym (masters_own x.end x w is.parts.end_is) in
+      record {
+        slave = subst (λ (z : SlaveView). SlaveIsAfter link.slave z (deeds side.Slave (x ∷ w))) (sym same) (subst (λ (z : List Deed). SlaveIsAfter link.slave old.slave z) own h.slave);
+        monitor = (noted.notes x is.parts).notes w h.monitor;
+        watchdog = watchdog ∙ h.watchdog;
+        ages = λ tells.
+            ages_noted old.ages new.ages side.Master tick came did sent (Some old.watchdog) x w aged
+            (record {
+              parts = is.parts;
+              tick_is = is.tick_is;
+              watchdog_is = subst (λ (n : ℕ). HasWatchdog x (Some n)) (sym h.watchdog) (tells.0 is.parts.end_is);
+            }) (h.ages tells.1);
+      };
+}
+
+abbrev fixed_by : Lengths → Bool → Fixed
+fixed_by lengths aged = record { lengths = lengths; aged = aged }
+
+pub notes_one : (old new : LinkView) → new.monitor.noted ≡ old.monitor.noted + 1 → new.slave.kit.settings ≡ old.slave.kit.settings → is_some new.ages ≡ is_some old.ages → new.cut ≡ old.cut → NotesOne old new
+notes_one old new noted settings aged cut = record {
+  noted = noted;
+  fixed = ap₂ fixed_by (ap (λ (s : SlaveSettings). s.lengths) settings) aged;
+  cut = cut;
+}

@@ -1,0 +1,322 @@
+-- Acts in which one end of one connection does something, and no cycle is run.
+use Rattle.std.proofs.Common.{◌≡◌, ◌≢◌, ℕ, zero, suc, ◌-◌, ◌==◌, Bool, true, false, List, [], ◌∷◌, ◌++◌, map, slice_get, slice_set, Option, Some, None, option_map, if◌then◌else◌, refl, sym, ap, ap₂, subst, ◌∙◌, arith}
+use Rattle.std.specs.Prelude.{IfSome, option_to_list, option_and_then}
+use Rattle.std.proofs.lemmas.Bool.{eq-eqb}
+use Rattle.std.proofs.lemmas.List.{append-nil}
+use Rattle.fsoe_base.specs.Did.{nothing}
+use Rattle.fsoe_base.specs.declared.command.End.{End}
+use Rattle.fsoe_base.specs.declared.command.End.TheVariants as side
+use Rattle.param_load.specs.declared.entry.Entry.{Entry}
+use Rattle.param_load.specs.declared.entry.Move.{Move}
+use Rattle.param_load.specs.declared.entry.Move.TheVariants as move
+use Rattle.black_channel.specs.Told.{Told}
+use Rattle.black_channel.specs.declared.channel.Parcel.{Parcel}
+use Rattle.plant_conf.specs.declared.conf.LinkConf.{LinkConf}
+use Rattle.exchange_model.specs.Ends.{peer, same_end}
+use Rattle.exchange_model.specs.World.{frames_of}
+use Rattle.multi_master.specs.Calls.{Call, Nonce, Meant, connection, replaced, event_at, cycle_in, meant}
+use Rattle.multi_master.specs.Connection.{Connection, with_event, offer_at}
+use Rattle.multi_master.specs.Standing as multi
+use Rattle.multi_master.specs.Standing.{MultiView, StandsFor}
+use Rattle.multi_master.proofs.Places.{map_set}
+use Rattle.multi_master.proofs.Quiet.{none_told}
+use Rattle.plant_model.specs.declared.event.PlantEvent.{PlantEvent}
+use Rattle.plant_model.specs.declared.event.PlantEvent.TheVariants as event
+use Rattle.plant_model.specs.declared.journal.JournalStep.{JournalStep}
+use Rattle.plant_model.specs.declared.journal.JournalStep.TheVariants as step
+use Rattle.plant_model.specs.Acts.{Beginning, Event, Act, Happen, PullFrom, settings, event_call, delivery_call, call_of, calls, offer_step, offers_by, steps_of, journal, cut_after, is_cut, pushes_of, all_pushes, masters}
+use Rattle.plant_model.specs.Uses.{place_of, sent_uses, Use, Trace}
+use Rattle.plant_model.specs.Pair.{next_of, pair, link_at, pairs_by}
+use Rattle.plant_core.specs.Doing.{next_uses, SlaveActs, GoesOn, Delivers}
+use Rattle.plant_core.specs.Link.{LinkView, LinkStands, MasterNoted}
+use Rattle.plant_model.specs.Promises.{OffersAnswer, GuardsAnswer}
+use Rattle.plant_core.specs.Standing.{PlantView, LinkIs, LinksAre, HasDone}
+use Rattle.plant_model.proofs.Growing.{no_entry, IsOne, pair_one, pair_own, pair_other, with_frame, sent_in, frames_next, pushes_each, each_none, each_one}
+use Rattle.plant_core.proofs.Linking.{from_one, each_at, each_map, each_set}
+use Rattle.plant_model.proofs.Masters.{not_same}
+
+-- one entry more at a connection
+pub one_links : (links : List LinkConf) (cut : ℕ → Bool) (steps : List JournalStep) (s : JournalStep) (n : ℕ) (end : End) (what : Move) (place : ℕ) (vs : List LinkView) (old new : LinkView)
+    → LinksAre links cut (pairs_by steps) vs → slice_get vs place ≡ Some old → n ≡ suc place → IsOne s n end what
+    → ((link : LinkConf) → slice_get links place ≡ Some link → LinkStands link old (pair link n steps) → LinkStands link new (next_of end what link (pair link n steps) ∷ pair link n steps))
+    → new.cut ≡ old.cut → LinksAre links cut (pairs_by (steps ++ s ∷ [])) (slice_set vs place new)
+one_links links cut steps s n end what place vs old new h at e one f c =
+    each_set (LinkIs cut (pairs_by steps)) (LinkIs cut (pairs_by (steps ++ s ∷ []))) 1 links vs place n old new h at (omega arith)
+    (λ link is p. record { stands = subst (λ (w : List Entry). LinkStands link new w) (sym (pair_own link steps s n end what one)) (f link is p.stands); cut = c ∙ p.cut })
+    (λ m link v other p. record { stands = subst (λ (w : List Entry). LinkStands link v w) (sym (pair_other link m steps s n end what one other)) p.stands; cut = p.cut })
+
+-- the frame that an end sends in an entry of connection n
+abbrev pub frame_in : End → ℕ → End → Move → List JournalStep → ℕ → LinkConf → List ℕ
+frame_in at n end what steps k link = if n == k then sent_in at end (next_of end what link (pair link k steps)) else []
+
+frames_if : (at end : End) (what : Move) (link : LinkConf) (w : List Entry) (b : Bool)
+    → frames_of at (if b then next_of end what link w ∷ w else w) ≡ with_frame (if b then sent_in at end (next_of end what link w) else []) (frames_of at w)
+frames_if at end what link w true = frames_next at end what link w
+frames_if at end what link w false = refl
+
+pub one_frames : (at : End) (link : LinkConf) (k : ℕ) (steps : List JournalStep) (s : JournalStep) (n : ℕ) (end : End) (what : Move) → IsOne s n end what
+    → frames_of at (pair link k (steps ++ s ∷ [])) ≡ with_frame (frame_in at n end what steps k link) (frames_of at (pair link k steps))
+one_frames at link k steps s n end what one = ap (frames_of at) (pair_one link k steps s n end what one) ∙ frames_if at end what link (pair link k steps) (n == k)
+
+-- no frames are new
+pub quiet_pushes : (links : List LinkConf) (cut : ℕ → Bool) (before now : List JournalStep)
+    → ((at : End) (k : ℕ) (link : LinkConf) → frames_of at (pair link k now) ≡ frames_of at (pair link k before)) → all_pushes links cut before now ≡ []
+quiet_pushes links cut before now h =
+    ap₂ (λ (xs ys : List Use). xs ++ ys)
+    (pushes_each side.Slave 1 links cut before now (λ k link. []) (h side.Slave) ∙ each_none (λ k link. sent_uses (place_of k side.Master) [] (cut k)) 1 links (λ k link. refl))
+    (pushes_each side.Master 1 links cut before now (λ k link. []) (h side.Master) ∙ each_none (λ k link. sent_uses (place_of k side.Slave) [] (cut k)) 1 links (λ k link. refl))
+
+-- the other end sends nothing
+silent : (at end : End) (x : Entry) (b c : Bool) (k : ℕ) → same_end at end ≡ false → sent_uses (place_of k (peer at)) (if b then sent_in at end x else []) c ≡ []
+silent at end x false c k h = refl
+silent at end x true c k h = ap (λ (same : Bool). sent_uses (place_of k (peer at)) (if same then x.sent else []) c) h
+
+-- other connections send nothing
+pub apart : (n k : ℕ) (at : End) (f : List ℕ) (c : Bool) → k ≢ n → sent_uses (place_of k (peer at)) (if n == k then f else []) c ≡ []
+apart n k at f c h = ap (λ (b : Bool). sent_uses (place_of k (peer at)) (if b then f else []) c) (not_same n k (λ e. h (sym e)))
+
+here : (n : ℕ) (end : End) (x : Entry) (c : Bool) → sent_uses (place_of n (peer end)) (if n == n then sent_in end end x else []) c ≡ sent_uses (place_of n (peer end)) x.sent c
+here n side.Master x c = ap (λ (b : Bool). sent_uses (place_of n side.Slave) (if b then x.sent else []) c) (eq-eqb n n refl)
+here n side.Slave x c = ap (λ (b : Bool). sent_uses (place_of n side.Master) (if b then x.sent else []) c) (eq-eqb n n refl)
+
+own_pushes : (links : List LinkConf) (cut : ℕ → Bool) (steps : List JournalStep) (s : JournalStep) (n : ℕ) (end : End) (what : Move) (place : ℕ) (link : LinkConf) → IsOne s n end what → slice_get links place ≡ Some link → n ≡ suc place
+    → pushes_of end 1 links cut steps (steps ++ s ∷ []) ≡ next_uses n end what link (pair link n steps) (cut n)
+own_pushes links cut steps s n end what place link one is e =
+    pushes_each end 1 links cut steps (steps ++ s ∷ []) (frame_in end n end what steps) (λ k l. one_frames end l k steps s n end what one)
+    ∙ each_one (λ k l. sent_uses (place_of k (peer end)) (frame_in end n end what steps k l) (cut k)) 1 n place links link
+    (λ k l other. apart n k end (sent_in end end (next_of end what l (pair l k steps))) (cut k) other) is (omega arith)
+    ∙ here n end (next_of end what link (pair link n steps)) (cut n)
+
+other_pushes : (links : List LinkConf) (cut : ℕ → Bool) (steps : List JournalStep) (s : JournalStep) (n : ℕ) (at end : End) (what : Move) → IsOne s n end what → same_end at end ≡ false
+    → pushes_of at 1 links cut steps (steps ++ s ∷ []) ≡ []
+other_pushes links cut steps s n at end what one h =
+    pushes_each at 1 links cut steps (steps ++ s ∷ []) (frame_in at n end what steps) (λ k l. one_frames at l k steps s n end what one)
+    ∙ each_none (λ k l. sent_uses (place_of k (peer at)) (frame_in at n end what steps k l) (cut k)) 1 links
+    (λ k l. silent at end (next_of end what l (pair l k steps)) (n == k) (cut k) k h)
+
+-- the frame of the one entry is pushed
+pub one_pushes : (links : List LinkConf) (cut : ℕ → Bool) (steps : List JournalStep) (s : JournalStep) (n : ℕ) (end : End) (what : Move) (place : ℕ) (link : LinkConf) → IsOne s n end what → slice_get links place ≡ Some link → n ≡ suc place
+    → all_pushes links cut steps (steps ++ s ∷ []) ≡ next_uses n end what link (pair link n steps) (cut n)
+one_pushes links cut steps s n side.Slave what place link one is e =
+    ap₂ (λ (xs ys : List Use). xs ++ ys) (own_pushes links cut steps s n side.Slave what place link one is e) (other_pushes links cut steps s n side.Master side.Slave what one refl)
+    ∙ append-nil (next_uses n side.Slave what link (pair link n steps) (cut n))
+one_pushes links cut steps s n side.Master what place link one is e =
+    ap₂ (λ (xs ys : List Use). xs ++ ys) (other_pushes links cut steps s n side.Slave side.Master what one refl) (own_pushes links cut steps s n side.Master what place link one is e)
+
+-- an act that makes no call
+pub quiet_calls : (b : Beginning) (act : Act) (done : List Act) (m : MultiView) → call_of b act ≡ None → StandsFor (settings b) b.app m (calls b done) → StandsFor (settings b) b.app m (calls b (act ∷ done))
+quiet_calls b act done m none h = subst (λ (o : Option Call). StandsFor (settings b) b.app m (option_to_list o ++ calls b done)) (sym none) h
+
+pub quiet_journal : (b : Beginning) (act : Act) (done : List Act) → call_of b act ≡ None → journal b (act ∷ done) ≡ journal b done ++ steps_of act []
+quiet_journal b act done none = ap (λ (o : Option Call). journal b done ++ steps_of act (offers_by b o (calls b done))) none
+
+-- an act that makes no call runs no cycle
+pub quiet_answered : (b : Beginning) (act : Act) (done : List Act) → call_of b act ≡ None → OffersAnswer b act done
+quiet_answered b act done none =
+    subst (λ (o : Option Call). IfSome (option_and_then (λ call. cycle_in call (masters b done)) o) (λ a. map offer_at (masters b (act ∷ done)).connections ≡ a.outputs)) (sym none) tt
+
+pub quiet_guarded : (b : Beginning) (act : Act) (done : List Act) → call_of b act ≡ None → GuardsAnswer b act done
+quiet_guarded b act done none =
+    subst (λ (o : Option Call). IfSome (option_and_then (λ call. cycle_in call (masters b done)) o) (multi.IsGuarded (masters b (act ∷ done)))) (sym none) tt
+
+-- an act in which this happens to the slave of connection n
+pub record IsAtSlave (b : Beginning) (act : Act) (s : JournalStep) (n : ℕ) (what : Move) : Type 0 where
+  pub call : call_of b act ≡ None
+  pub steps : steps_of act [] ≡ s ∷ []
+  pub one : IsOne s n side.Slave what
+  pub cuts : (k : ℕ) (done : List Act) → is_cut k (act ∷ done) ≡ is_cut k done
+
+-- what such an act changes
+pub record SlaveChange (old new : PlantView) (s : JournalStep) (n : ℕ) (what : Move) (before after : Told) : Type 0 where
+  pub place : ℕ
+  pub number : n ≡ suc place
+  pub was : LinkView
+  pub is : LinkView
+  pub at : slice_get old.links place ≡ Some was
+  pub acts : SlaveActs n what was is before after
+  pub cut : is.cut ≡ was.cut
+  pub master : new.master ≡ old.master
+  pub links : new.links ≡ slice_set old.links place is
+  pub journal : new.journal ≡ old.journal ++ s ∷ []
+
+-- the acts and the pushes
+pub record Acted (b : Beginning) (act : Act) (done : List Act) (new : PlantView) (before after : Told) : Type 0 where
+  pub has_done : HasDone b new (act ∷ done)
+  pub pushed : Trace (all_pushes b.links (λ k. is_cut k (act ∷ done)) (journal b done) (journal b (act ∷ done))) before after
+
+pub slave_acted : (b : Beginning) (act : Act) (done : List Act) (old new : PlantView) (s : JournalStep) (n : ℕ) (what : Move) (before after : Told) → IsAtSlave b act s n what → SlaveChange old new s n what before after
+    → HasDone b old done → Acted b act done new before after
+slave_acted b act done old new s n what before after a c h =
+    let cut : ℕ → Bool = λ k. is_cut k (act ∷ done) in
+    let steps : List JournalStep = old.journal in
+    let beside = each_at (LinkIs (λ k. is_cut k done) (pairs_by steps)) 1 b.links old.links c.place n c.was h.links c.at (from_one n c.place c.number) in
+    let links : LinksAre b.links cut (pairs_by steps) old.links =
+    each_map (LinkIs (λ k. is_cut k done) (pairs_by steps)) (LinkIs cut (pairs_by steps)) 1 b.links old.links h.links (λ k link v p. record { stands = p.stands; cut = p.cut ∙ sym (a.cuts k done) }) in
+    let journal_is : new.journal ≡ journal b (act ∷ done) =
+    c.journal ∙ ap₂ (λ (xs ys : List JournalStep). xs ++ ys) h.journal_is (sym a.steps) ∙ sym (quiet_journal b act done a.call) in
+    let uses : all_pushes b.links cut (journal b done) (journal b (act ∷ done)) ≡ next_uses n side.Slave what beside.link (pair beside.link n steps) c.was.cut =
+    ap₂ (all_pushes b.links cut) (sym h.journal_is) (sym journal_is ∙ c.journal)
+    ∙ one_pushes b.links cut steps s n side.Slave what c.place beside.link a.one beside.is c.number
+    ∙ ap (next_uses n side.Slave what beside.link (pair beside.link n steps)) (a.cuts n done ∙ sym beside.holds.cut) in
+    record {
+      has_done = record {
+        master = quiet_calls b act done new.master a.call (subst (λ (m : MultiView). StandsFor (settings b) b.app m (calls b done)) (sym c.master) h.master);
+        links = subst (λ (vs : List LinkView). LinksAre b.links cut (pairs_by new.journal) vs) (sym c.links)
+            (subst (λ (js : List JournalStep). LinksAre b.links cut (pairs_by js) (slice_set old.links c.place c.is)) (sym c.journal)
+            (one_links b.links cut steps s n side.Slave what c.place old.links c.was c.is links c.at c.number a.one
+            (λ link is stands. (c.acts.acts link (pair link n steps) stands).stands) c.cut));
+        journal_is = journal_is;
+        answered = (quiet_answered b act done a.call, h.answered);
+        guarded = (quiet_guarded b act done a.call, h.guarded);
+      };
+      pushed = subst (λ (us : List Use). Trace us before after) (sym uses) (c.acts.acts beside.link (pair beside.link n steps) beside.holds.stands).channel;
+    }
+
+-- an event of the script at a slave
+pub record SlaveEvent (e : PlantEvent) (n : ℕ) (what : Move) : Type 0 where
+  pub call : event_call e ≡ None
+  pub one : IsOne (step.Script e) n side.Slave what
+  pub cuts : (k : ℕ) (before : Bool) → cut_after k e before ≡ before
+
+pub slave_event : (old new : PlantView) (e : PlantEvent) (n : ℕ) (what : Move) (before after : Told) → SlaveEvent e n what → SlaveChange old new (step.Script e) n what before after
+    → GoesOn old (Happen (Event e) ∷ []) new before after
+slave_event old new e n what before after s c = record {
+  goes = λ b done h.
+      let acted = slave_acted b (Happen (Event e)) done old new (step.Script e) n what before after (record { call = s.call; steps = refl; one = s.one; cuts = λ k done. s.cuts k (is_cut k done) }) c h in
+      record { has_done = acted.has_done; channel = acted.pushed };
+}
+
+-- a parcel for a slave
+delivery_to_slave : (o : Option LinkConf) (n : ℕ) (frame : List ℕ) → delivery_call o side.Slave n frame ≡ None
+delivery_to_slave None n frame = refl
+delivery_to_slave (Some link) n frame = refl
+
+pub slave_delivered : (old new : PlantView) (n : ℕ) (frame : List ℕ) (before after : Told) → SlaveChange old new (step.Pulled (record { to = place_of n side.Slave; frame = frame })) n (move.Deliver frame) before after
+    → Delivers old (record { to = place_of n side.Slave; frame = frame }) new before after
+slave_delivered old new n frame before after c = record {
+  delivers = λ first pulled. record {
+    goes = λ b done h.
+        let parcel : Parcel = record { to = place_of n side.Slave; frame = frame } in
+        let acted = slave_acted b (PullFrom (Some parcel)) done old new (step.Pulled parcel) n (move.Deliver frame) before after
+        (record { call = delivery_to_slave (link_at b.links n) n frame; steps = refl; one = record { part = λ k. refl }; cuts = λ k done. refl }) c h in
+        record { has_done = acted.has_done; channel = (before, pulled, acted.pushed) };
+  };
+}
+
+-- a setting sends nothing, so that nothing is done with the channel
+pub put_acts : (k : ℕ) (load : List ℕ) (old new : LinkView) (t : Told) → ((link : LinkConf) (w : List Entry) → LinkStands link old w → LinkStands link new (next_of side.Slave (move.Put load) link w ∷ w))
+    → SlaveActs k (move.Put load) old new t t
+put_acts k load old new t h = record { acts = λ link w s. record { stands = h link w s; channel = refl } }
+
+pub hold_acts : (k : ℕ) (failsafe : Bool) (old new : LinkView) (t : Told) → ((link : LinkConf) (w : List Entry) → LinkStands link old w → LinkStands link new (next_of side.Slave (move.Hold failsafe) link w ∷ w))
+    → SlaveActs k (move.Hold failsafe) old new t t
+hold_acts k failsafe old new t h = record { acts = λ link w s. record { stands = h link w s; channel = refl } }
+
+pub nonce_acts : (k id : ℕ) (old new : LinkView) (t : Told) → ((link : LinkConf) (w : List Entry) → LinkStands link old w → LinkStands link new (next_of side.Slave (move.Nonce id) link w ∷ w))
+    → SlaveActs k (move.Nonce id) old new t t
+nonce_acts k id old new t h = record { acts = λ link w s. record { stands = h link w s; channel = refl } }
+
+-- a session id changes no offer
+same_offers : (m : Meant) (link id : ℕ) (o : Option Connection) → connection link m ≡ o → map offer_at (replaced link (option_map (with_event (move.Nonce id)) o) m).connections ≡ map offer_at m.connections
+same_offers m link id None e = refl
+same_offers m zero id (Some c) e = absurd (cc e)
+same_offers m (suc place) id (Some c) e =
+    let same : suc place - 1 ≡ place = omega arith in
+    ap (λ (k : ℕ). map offer_at (slice_set m.connections k (with_event (move.Nonce id) c))) same ∙ map_set offer_at m.connections place c (with_event (move.Nonce id) c) e refl
+
+no_offers : (b : Beginning) (n id : ℕ) (before : List Call) → offers_by b (Some (Nonce n id)) before ≡ []
+no_offers b n id before =
+    let m : Meant = meant (settings b) b.app before in
+    ap (λ (ks : List ℕ). map (offer_step (meant (settings b) b.app (Nonce n id ∷ before))) ks) (none_told 1 m.connections (event_at n (move.Nonce id) m).connections (same_offers m n id (connection n m) refl))
+
+-- what the session id of a master changes
+pub record MasterChange (old new : PlantView) (n id : ℕ) : Type 0 where
+  pub place : ℕ
+  pub number : n ≡ suc place
+  pub was : LinkView
+  pub is : LinkView
+  pub at : slice_get old.links place ≡ Some was
+  pub noted : MasterNoted was false [] nothing [] is
+  pub cut : is.cut ≡ was.cut
+  pub follows : multi.Follows old.master (Nonce n id) new.master
+  pub links : new.links ≡ slice_set old.links place is
+  pub journal : new.journal ≡ old.journal ++ step.Script (event.Nonce n side.Master id) ∷ []
+
+pub master_nonce : (old new : PlantView) (n id : ℕ) (t : Told) → MasterChange old new n id → GoesOn old (Happen (Event (event.Nonce n side.Master id)) ∷ []) new t t
+master_nonce old new n id t c = record {
+  goes = λ b done h.
+      let act : Act = Happen (Event (event.Nonce n side.Master id)) in
+      let s : JournalStep = step.Script (event.Nonce n side.Master id) in
+      let cut : ℕ → Bool = λ k. is_cut k done in
+      let steps : List JournalStep = old.journal in
+      let one : IsOne s n side.Master (move.Nonce id) = record { part = λ k. refl } in
+      let beside = each_at (LinkIs cut (pairs_by steps)) 1 b.links old.links c.place n c.was h.links c.at (from_one n c.place c.number) in
+      let journal_is : new.journal ≡ journal b (act ∷ done) =
+      c.journal ∙ ap₂ (λ (js more : List JournalStep). js ++ s ∷ more) h.journal_is (sym (no_offers b n id (calls b done))) in
+      let uses : all_pushes b.links cut (journal b done) (journal b (act ∷ done)) ≡ [] =
+      ap₂ (all_pushes b.links cut) (sym h.journal_is) (sym journal_is ∙ c.journal) ∙ one_pushes b.links cut steps s n side.Master (move.Nonce id) c.place beside.link one beside.is c.number in
+      record {
+        has_done = record {
+          master = c.follows.stands (settings b) b.app (calls b done) h.master;
+          links = subst (λ (vs : List LinkView). LinksAre b.links cut (pairs_by new.journal) vs) (sym c.links)
+              (subst (λ (js : List JournalStep). LinksAre b.links cut (pairs_by js) (slice_set old.links c.place c.is)) (sym c.journal)
+              (one_links b.links cut steps s n side.Master (move.Nonce id) c.place old.links c.was c.is h.links c.at c.number one
+              (λ link is stands. c.noted.stands link (pair link n steps) (next_of side.Master (move.Nonce id) link (pair link n steps)) stands (record { parts = record { end_is = refl; came_is = refl; did_is = refl; sent_is = refl }; tick_is = refl })) c.cut));
+          journal_is = journal_is;
+          answered = (tt, h.answered);
+          guarded = (tt, h.guarded);
+        };
+        channel = subst (λ (us : List Use). Trace us t t) (sym uses) refl;
+      };
+}
+
+-- what a cut changes
+pub record CutChange (old new : PlantView) (n : ℕ) (cut : Bool) : Type 0 where
+  pub place : ℕ
+  pub number : n ≡ suc place
+  pub was : LinkView
+  pub is : LinkView
+  pub at : slice_get old.links place ≡ Some was
+  pub cut_is : is ≡ record was { cut = cut }
+  pub master : new.master ≡ old.master
+  pub links : new.links ≡ slice_set old.links place is
+  pub journal : new.journal ≡ old.journal ++ step.Script (event.Cut n cut) ∷ []
+
+same_stands : (link : LinkConf) (w : List Entry) (was is : LinkView) (cut : Bool) → is ≡ record was { cut = cut } → LinkStands link was w → LinkStands link is w
+same_stands link w was is cut e h =
+    subst (λ (v : LinkView). LinkStands link v w) (sym e) (record { slave = h.slave; monitor = h.monitor; watchdog = h.watchdog; ages = h.ages })
+
+pub cut_event : (old new : PlantView) (n : ℕ) (cut : Bool) (t : Told) → CutChange old new n cut → GoesOn old (Happen (Event (event.Cut n cut)) ∷ []) new t t
+cut_event old new n cut t c = record {
+  goes = λ b done h.
+      let act : Act = Happen (Event (event.Cut n cut)) in
+      let s : JournalStep = step.Script (event.Cut n cut) in
+      let was : ℕ → Bool = λ k. is_cut k done in
+      let now : ℕ → Bool = λ k. is_cut k (act ∷ done) in
+      let steps : List JournalStep = old.journal in
+      let journal_is : new.journal ≡ journal b (act ∷ done) = c.journal ∙ ap (λ (js : List JournalStep). js ++ s ∷ []) h.journal_is in
+      let uses : all_pushes b.links now (journal b done) (journal b (act ∷ done)) ≡ [] =
+      quiet_pushes b.links now (journal b done) (journal b (act ∷ done)) (λ at k link. ap (frames_of at) (no_entry link k (journal b done) s refl)) in
+      record {
+        has_done = record {
+          master = subst (λ (m : MultiView). StandsFor (settings b) b.app m (calls b done)) (sym c.master) h.master;
+          links = subst (λ (vs : List LinkView). LinksAre b.links now (pairs_by new.journal) vs) (sym c.links)
+              (subst (λ (js : List JournalStep). LinksAre b.links now (pairs_by js) (slice_set old.links c.place c.is)) (sym c.journal)
+              (each_set (LinkIs was (pairs_by steps)) (LinkIs now (pairs_by (steps ++ s ∷ []))) 1 b.links old.links c.place n c.was c.is h.links c.at (from_one n c.place c.number)
+              (λ link is p.
+              record {
+                stands = subst (λ (w : List Entry). LinkStands link c.is w) (sym (no_entry link n steps s refl)) (same_stands link (pair link n steps) c.was c.is cut c.cut_is p.stands);
+                cut = ap (λ (v : LinkView). v.cut) c.cut_is ∙ ap (λ (z : Bool). if z then cut else is_cut n done) (sym (eq-eqb n n refl));
+              })
+              (λ k link v other p.
+              record {
+                stands = subst (λ (w : List Entry). LinkStands link v w) (sym (no_entry link k steps s refl)) p.stands;
+                cut = p.cut ∙ ap (λ (z : Bool). if z then cut else is_cut k done) (sym (not_same n k (λ e. other (sym e))));
+              })));
+          journal_is = journal_is;
+          answered = (tt, h.answered);
+          guarded = (tt, h.guarded);
+        };
+        channel = subst (λ (us : List Use). Trace us t t) (sym uses) refl;
+      };
+}

@@ -1,0 +1,266 @@
+-- The pulls of a tick, a plant's start, and what both make of its turns.
+use Rattle.std.proofs.Common.{◌≡◌, ◌≢◌, ◌≤◌, ◌<◌, ◌⊎◌, inl, inr, ℕ, zero, suc, ◌+◌, ◌-◌, ◌*◌, Bool, false, List, [], ◌∷◌, ◌++◌, map, length, Option, Some, None, if◌then◌else◌, refl, sym, ap, ap₂, subst, ◌∙◌, append_assoc, arith}
+use Rattle.std.proofs.Math.Nat.{suc-mul}
+use Rattle.std.proofs.lemmas.Bool.{lt-ltb, le-ltb}
+use Rattle.std.proofs.lemmas.List.{append-nil}
+use Rattle.std.proofs.lemmas.List.Elements.{All-cons, All-nil}
+use Rattle.std.proofs.lemmas.Option.{slice_get_past}
+use Rattle.fsoe_base.specs.declared.command.End.{End}
+use Rattle.fsoe_base.specs.declared.command.End.TheVariants as side
+use Rattle.fsoe_base.specs.declared.lengths.Lengths.{Lengths}
+use Rattle.param_load.specs.declared.entry.Entry.{Entry}
+use Rattle.param_load.specs.declared.entry.Move.{Move}
+use Rattle.param_load.specs.declared.entry.Move.TheVariants as move
+use Rattle.param_load.specs.declared.master_settings.MasterSettings.{MasterSettings}
+use Rattle.slave_core.specs.SlaveView.{SlaveView}
+use Rattle.black_channel.specs.Told.{Told, Begins, PullsParcel}
+use Rattle.black_channel.specs.declared.channel.Parcel.{Parcel}
+use Rattle.plant_conf.specs.declared.conf.LinkConf.{LinkConf}
+use Rattle.exchange_model.specs.Ends.{peer}
+use Rattle.exchange_model.specs.World.{frames_of}
+use Rattle.multi_master.specs.Calls.{AppView, Call, ChangeApp, meant, changed}
+use Rattle.multi_master.specs.Standing as multi
+use Rattle.multi_master.specs.Standing.{MultiValue, MultiView, StandsFor}
+use Rattle.plant_model.specs.declared.event.PlantEvent.{PlantEvent}
+use Rattle.plant_model.specs.declared.event.PlantEvent.TheVariants as event
+use Rattle.plant_model.specs.declared.journal.JournalStep.{JournalStep}
+use Rattle.plant_model.specs.declared.journal.JournalStep.TheVariants as step
+use Rattle.plant_model.specs.Acts.{Beginning, Event, App, Act, Start, Happen, PullFrom, settings, delivery_call, call_of, calls, offers_by, journal, is_cut, pushes_of, all_pushes, uses_of, uses_after, uses}
+use Rattle.plant_model.specs.Uses.{place_of, sent_uses, each_uses, Use, Trace}
+use Rattle.plant_model.specs.Pair.{next_of, pairs_by, pair, link_at}
+use Rattle.plant_core.specs.Doing.{OffersNoted, GoesOn, Delivers, PullsAll, Turns}
+use Rattle.plant_core.specs.Standing.{lengths_kept, PlantView, EachLink, LinkIs, LinksAre, HasDone, PlantStands, Follows}
+use Rattle.plant_model.specs.Turns.{IsTurn, Turn, pulls, acts}
+use Rattle.plant_model.specs.FairPairs.{lengths_in, Fits}
+use Rattle.plant_core.specs.Link.{LinkView, LinkStands}
+use Rattle.plant_conf.specs.declared.conf.BoundSpec.{BoundSpec}
+use Rattle.plant_core.specs.Making.{links_made, master_in}
+use Rattle.plant_core.proofs.Acting.{trace_append}
+use Rattle.plant_core.proofs.Made.{made_stand}
+use Rattle.plant_model.proofs.Growing.{IsOne, pair_other, sent_in, pushes_each}
+use Rattle.plant_core.proofs.Linking.{each_count, each_from}
+use Rattle.plant_core.proofs.Offering.{offers_send}
+use Rattle.plant_core.proofs.OneDeed.{frame_in, one_frames, apart, quiet_answered, quiet_guarded, quiet_calls, quiet_journal, quiet_pushes}
+
+-- acts after others
+more_acts : (more some done : List Act) → (more ++ some) ++ done ≡ more ++ (some ++ done)
+more_acts more some done = append_assoc more some done
+
+pub more_uses : (b : Beginning) (more some done : List Act) → uses_after b (more ++ some) done ≡ uses_after b some done ++ uses_after b more (some ++ done)
+more_uses b [] some done = sym (append-nil (uses_after b some done))
+more_uses b (act ∷ more) some done =
+    let own : List Act → List Use = λ z. uses_of b.seed act (all_pushes b.links (λ k. is_cut k (act ∷ z)) (journal b z) (journal b (act ∷ z))) in
+    ap₂ (λ (us : List Use) (z : List Act). us ++ own z) (more_uses b more some done) (more_acts more some done)
+    ∙ append_assoc (uses_after b some done) (uses_after b more (some ++ done)) (own (more ++ (some ++ done)))
+
+pub goes_on : (old mid new : PlantView) (some more : List Act) (first between last : Told) → GoesOn old some mid first between → GoesOn mid more new between last → GoesOn old (more ++ some) new first last
+goes_on old mid new some more first between last g h = record {
+  goes = λ b done s.
+      let one = g.goes b done s in
+      let two = h.goes b (some ++ done) one.has_done in
+      record {
+        has_done = subst (λ (z : List Act). HasDone b new z) (sym (more_acts more some done)) two.has_done;
+        channel = subst (λ (us : List Use). Trace us first last) (sym (more_uses b more some done))
+            (trace_append (uses_after b some done) (uses_after b more (some ++ done)) first between last one.channel two.channel);
+      };
+}
+
+-- a pull that gives nothing
+pub none_pulled : (v : PlantView) (before after : Told) → PullsParcel None before after → GoesOn v (PullFrom None ∷ []) v before after
+none_pulled v before after p = record {
+  goes = λ b done h.
+      let act : Act = PullFrom None in
+      let journal_is : journal b (act ∷ done) ≡ journal b done = append-nil (journal b done) in
+      let uses : all_pushes b.links (λ k. is_cut k done) (journal b done) (journal b (act ∷ done)) ≡ [] =
+      quiet_pushes b.links (λ k. is_cut k done) (journal b done) (journal b (act ∷ done)) (λ at k link. ap (λ (js : List JournalStep). frames_of at (pair link k js)) journal_is) in
+      record {
+        has_done = record { master = h.master; links = h.links; journal_is = h.journal_is ∙ sym journal_is; answered = (tt, h.answered); guarded = (tt, h.guarded) };
+        channel = (after, p, subst (λ (us : List Use). Trace us after after) (sym uses) refl);
+      };
+}
+
+-- a connection that doesn't exist
+pub nowhere : (links : List LinkConf) (n : ℕ) → (n ≡ 0) ⊎ (length links < n) → link_at links n ≡ None
+nowhere links zero h = refl
+nowhere links (suc k) (inl e) = absurd (omega arith)
+nowhere links (suc k) (inr lt) = slice_get_past links k (omega arith)
+
+each_absent : (uses : ℕ → LinkConf → List Use) (k n : ℕ) (links : List LinkConf) → ((j : ℕ) (link : LinkConf) → j ≢ n → uses j link ≡ []) → (n < k) ⊎ (k + length links ≤ n) → each_uses uses k links ≡ []
+each_absent uses k n [] h e = refl
+each_absent uses k n (link ∷ links) h (inl lt) = ap₂ (λ (xs ys : List Use). xs ++ ys) (h k link (λ z. absurd (omega arith))) (each_absent uses (suc k) n links h (inl (omega arith)))
+each_absent uses k n (link ∷ links) h (inr le) = ap₂ (λ (xs ys : List Use). xs ++ ys) (h k link (λ z. absurd (omega arith))) (each_absent uses (suc k) n links h (inr (omega arith)))
+
+absent_of : (links : List LinkConf) (cut : ℕ → Bool) (steps : List JournalStep) (s : JournalStep) (n : ℕ) (at end : End) (what : Move) → IsOne s n end what → (n < 1) ⊎ (1 + length links ≤ n) → pushes_of at 1 links cut steps (steps ++ s ∷ []) ≡ []
+absent_of links cut steps s n at end what one h =
+    pushes_each at 1 links cut steps (steps ++ s ∷ []) (frame_in at n end what steps) (λ k l. one_frames at l k steps s n end what one)
+    ∙ each_absent (λ k l. sent_uses (place_of k (peer at)) (frame_in at n end what steps k l) (cut k)) 1 n links
+    (λ k l other. apart n k at (sent_in at end (next_of end what l (pair l k steps))) (cut k) other) h
+
+ends_of : (links : List LinkConf) (n : ℕ) → (n ≡ 0) ⊎ (length links < n) → (n < 1) ⊎ (1 + length links ≤ n)
+ends_of links n (inl e) = inl (omega arith)
+ends_of links n (inr lt) = inr (omega arith)
+
+not_within : (links : List LinkConf) (n k : ℕ) → (n ≡ 0) ⊎ (length links < n) → 1 ≤ k → k < 1 + length links → k ≢ n
+not_within links n k (inl e) le lt = λ z. absurd (omega arith)
+not_within links n k (inr more) le lt = λ z. absurd (omega arith)
+
+-- a parcel for a connection that doesn't exist is noted
+pub nowhere_delivered : (old new : PlantView) (parcel : Parcel) (t : Told) → (parcel.to.link ≡ 0) ⊎ (length old.links < parcel.to.link) → new.master ≡ old.master → new.links ≡ old.links
+    → new.journal ≡ old.journal ++ step.Pulled parcel ∷ [] → Delivers old parcel new t t
+nowhere_delivered old new parcel t far same_master same_links written = record {
+  delivers = λ first pulled. record {
+    goes = λ b done h.
+        let act : Act = PullFrom (Some parcel) in
+        let s : JournalStep = step.Pulled parcel in
+        let n : ℕ = parcel.to.link in
+        let cut : ℕ → Bool = λ k. is_cut k done in
+        let steps : List JournalStep = old.journal in
+        let count = each_count (LinkIs cut (pairs_by steps)) 1 b.links old.links h.links in
+        let away : (n ≡ 0) ⊎ (length b.links < n) = subst (λ (m : ℕ). (n ≡ 0) ⊎ (m < n)) count far in
+        let none : call_of b act ≡ None = ap (λ (o : Option LinkConf). delivery_call o parcel.to.end n parcel.frame) (nowhere b.links n away) in
+        let one : IsOne s n parcel.to.end (move.Deliver parcel.frame) = record { part = λ k. refl } in
+        let journal_is : new.journal ≡ journal b (act ∷ done) = written ∙ ap (λ (js : List JournalStep). js ++ s ∷ []) h.journal_is ∙ sym (quiet_journal b act done none) in
+        let uses : all_pushes b.links cut (journal b done) (journal b (act ∷ done)) ≡ [] =
+        ap₂ (all_pushes b.links cut) (sym h.journal_is) (sym journal_is ∙ written)
+        ∙ ap₂ (λ (xs ys : List Use). xs ++ ys)
+        (absent_of b.links cut steps s n side.Slave parcel.to.end (move.Deliver parcel.frame) one (ends_of b.links n away))
+        (absent_of b.links cut steps s n side.Master parcel.to.end (move.Deliver parcel.frame) one (ends_of b.links n away)) in
+        record {
+          has_done = record {
+            master = quiet_calls b act done new.master none (subst (λ (m : MultiView). StandsFor (settings b) b.app m (calls b done)) (sym same_master) h.master);
+            links = subst (λ (vs : List LinkView). LinksAre b.links cut (pairs_by new.journal) vs) (sym same_links)
+                (subst (λ (js : List JournalStep). LinksAre b.links cut (pairs_by js) old.links) (sym written)
+                (each_from (LinkIs cut (pairs_by steps)) (LinkIs cut (pairs_by (steps ++ s ∷ []))) 1 b.links old.links h.links
+                (λ k link v from below p.
+                record {
+                  stands = subst (λ (w : List Entry). LinkStands link v w) (sym (pair_other link k steps s n parcel.to.end (move.Deliver parcel.frame) one (not_within b.links n k away from below))) p.stands;
+                  cut = p.cut;
+                })));
+            journal_is = journal_is;
+            answered = (quiet_answered b act done none, h.answered);
+            guarded = (quiet_guarded b act done none, h.guarded);
+          };
+          channel = (t, pulled, subst (λ (us : List Use). Trace us t t) (sym uses) refl);
+        };
+  };
+}
+
+-- the pulls that gave a parcel
+abbrev pub gave : List Parcel → List Act
+gave pulled = map (λ parcel. PullFrom (Some parcel)) pulled
+
+pub none_gone : (v : PlantView) (t : Told) → GoesOn v (gave []) v t t
+none_gone v t = record { goes = λ b done h. record { has_done = h; channel = refl } }
+
+pub one_pulled : (old mid new : PlantView) (pulled : List Parcel) (parcel : Parcel) (first before between after : Told) → GoesOn old (gave pulled) mid first before → PullsParcel (Some parcel) before between
+    → Delivers mid parcel new between after → GoesOn old (gave (parcel ∷ pulled)) new first after
+one_pulled old mid new pulled parcel first before between after g p d = goes_on old mid new (gave pulled) (PullFrom (Some parcel) ∷ []) first before after g (d.delivers before p)
+
+pub pulled_all : (old new : PlantView) (pulled : List Parcel) (first last : Told) → length pulled ≡ 64 → GoesOn old (gave pulled) new first last → PullsAll old new first last
+pulled_all old new pulled first last count g = record {
+  pulled = pulled;
+  few = omega arith;
+  goes = subst (λ (b : Bool). GoesOn old ((if b then PullFrom None ∷ [] else []) ++ gave pulled) new first last) (sym (le-ltb (length pulled) 64 (omega arith))) g;
+}
+
+pub pulled_until : (old new : PlantView) (pulled : List Parcel) (first before last : Told) → length pulled < 64 → GoesOn old (gave pulled) new first before → PullsParcel None before last → PullsAll old new first last
+pulled_until old new pulled first before last count g p = record {
+  pulled = pulled;
+  few = omega arith;
+  goes = subst (λ (b : Bool). GoesOn old ((if b then PullFrom None ∷ [] else []) ++ gave pulled) new first last) (sym (lt-ltb (length pulled) 64 count))
+      (goes_on old new new (gave pulled) (PullFrom None ∷ []) first before last g (none_pulled new before last p));
+}
+
+-- a tick, and then its pulls
+pub tick_turn : (old mid new : PlantView) (first between last : Told) → GoesOn old (Happen (Event event.Tick) ∷ []) mid first between → PullsAll mid new between last → Turns old (Event event.Tick) new first last
+tick_turn old mid new first between last g p = record {
+  pulled = p.pulled;
+  may = p.few;
+  goes = goes_on old mid new (Happen (Event event.Tick) ∷ []) (pulls p.pulled) first between last g p.goes;
+}
+
+-- the lengths of the connections
+pub lengths_are : (cut : ℕ → Bool) (done : ℕ → LinkConf → List Entry) (k : ℕ) (links : List LinkConf) (vs : List LinkView) → EachLink (LinkIs cut done) k links vs → map lengths_in links ≡ lengths_kept vs
+lengths_are cut done k [] [] h = refl
+lengths_are cut done k [] (v ∷ vs) h = absurd h
+lengths_are cut done k (link ∷ links) [] h = absurd h
+lengths_are cut done k (link ∷ links) (v ∷ vs) h =
+    ap₂ (λ (l : Lengths) (ls : List Lengths). l ∷ ls) (sym (ap (λ (s : SlaveView). s.kit.settings.lengths) h.0.stands.slave.is)) (lengths_are cut done (suc k) links vs h.1)
+
+-- a plant plays its turns
+pub follows_event : (old new : PlantView) (e : PlantEvent) (before after : Told) → Fits (lengths_kept old.links) e → Turns old (Event e) new before after → Follows old (Event e) new before after
+follows_event old new e before after fits t = record {
+  plays = λ b turns s.
+      let turn : Turn = record { said = Event e; pulled = t.pulled } in
+      let d = t.goes.goes b (acts turns) s.has_done in
+      let same = lengths_are (λ k. is_cut k (acts turns)) (pairs_by old.journal) 1 b.links old.links s.has_done.links in
+      record {
+        pulled = t.pulled;
+        stands = record {
+          turns_are = All-cons (IsTurn b.links) turn turns (record { fits = subst (λ (ls : List Lengths). Fits ls e) (sym same) fits; few = t.may }) s.turns_are;
+          has_done = d.has_done;
+        };
+        channel = d.channel;
+      };
+}
+
+pub follows_app : (old new : PlantView) (app : AppView) (t : Told) → GoesOn old (Happen (App app) ∷ []) new t t → Follows old (App app) new t t
+follows_app old new app t g = record {
+  plays = λ b turns s.
+      let turn : Turn = record { said = App app; pulled = [] } in
+      let d = g.goes b (acts turns) s.has_done in
+      record {
+        pulled = [];
+        stands = record { turns_are = All-cons (IsTurn b.links) turn turns (record { fits = tt; few = refl }) s.turns_are; has_done = d.has_done };
+        channel = d.channel;
+      };
+}
+
+-- the first application runs
+pub first_app : (settings : List MasterSettings) (other app : AppView) (m : MultiView) → StandsFor settings other m (ChangeApp app ∷ []) → StandsFor settings app m (ChangeApp app ∷ [])
+first_app settings other app m h = record { masters = h.masters; app_is = h.app_is; inputs_are = h.inputs_are; changed_are = h.changed_are }
+
+-- what a new plant is made of, and what its start changes
+pub record StartChange (b : Beginning) (new : PlantView) (before after : Told) : Type 0 where
+  pub old : MultiView
+  pub other : AppView
+  pub stands : StandsFor (map master_in b.links) other old []
+  pub follows : multi.Follows old (ChangeApp b.app) new.master
+  pub bounds : List BoundSpec
+  pub offers : OffersNoted new.master (links_made 1 bounds b.links) new.links [] new.journal
+  pub cycles : multi.Offers old (ChangeApp b.app)
+  pub guards : multi.Guards old (ChangeApp b.app)
+  pub begins : Begins b.seed before after
+
+pub starts : (b : Beginning) (new : PlantView) (before after : Told) → StartChange b new before after → PlantStands b new []
+starts b new before after c =
+    let stands = first_app (settings b) c.other b.app new.master (c.follows.stands (settings b) c.other [] c.stands) in
+    record {
+      turns_are = All-nil (IsTurn b.links);
+      has_done = record {
+        master = stands;
+        links = subst (λ (js : List JournalStep). LinksAre b.links (λ k. false) (pairs_by js) new.links) (sym c.offers.steps) (c.offers.links b.links (λ k. false) [] (made_stand 1 c.bounds b.links));
+        journal_is = c.offers.steps ∙ c.offers.offers_are (settings b) b.app (ChangeApp b.app ∷ []) stands;
+        answered = (c.cycles.offers (settings b) c.other [] c.stands, tt);
+        guarded = (c.guards.guards (settings b) c.other [] c.stands, tt);
+      };
+    }
+
+pub start_uses : (b : Beginning) (new : PlantView) (before after : Told) → StartChange b new before after → Trace (uses b (Start ∷ [])) before after
+start_uses b new before after c =
+    let calls : List Call = ChangeApp b.app ∷ [] in
+    let none : all_pushes b.links (λ k. false) [] (offers_by b (Some (ChangeApp b.app)) []) ≡ [] =
+    quiet_pushes b.links (λ k. false) [] (offers_by b (Some (ChangeApp b.app)) []) (λ at k link. offers_send (meant (settings b) b.app calls) (changed (settings b) b.app calls) at link k []) in
+    (after, c.begins, subst (λ (us : List Use). Trace us after after) (sym none) refl)
+
+-- room for the rest of the pulls
+pub pull_room : (counter len later cap roomy n same : ℕ) → counter < 64 → len + (64 - counter) * (n + 1) ≤ cap → later ≤ len + 1 + n → cap ≤ roomy → same ≡ n → later + (64 - (counter + 1)) * (same + 1) ≤ roomy
+pull_room counter len later cap roomy n same below room few larger e =
+    let left : ℕ = 64 - (counter + 1) in
+    let one : 64 - counter ≡ suc left = omega arith in
+    let next : suc left * (n + 1) ≡ left * (n + 1) + (n + 1) = suc-mul left (n + 1) in
+    let whole = rw (one, next) at room in
+    rw e (omega arith)
+
+pub pull_count : (counter : ℕ) (parcel : Parcel) (pulled : List Parcel) → length pulled ≡ counter → length (parcel ∷ pulled) ≡ counter + 1
+pull_count counter parcel pulled e = omega arith

@@ -1,0 +1,72 @@
+-- The pairs of a plant are worlds of proper events, since both ends of each are where their deeds leave them; so what holds of worlds holds of them.
+use Rattle.std.proofs.Common.{◌≡◌, ℕ, zero, suc, List, [], ◌∷◌, slice_get, Some, All, sym, ap, subst, ◌∙◌, arith}
+use Rattle.std.specs.List.{AllZip}
+use Rattle.std.proofs.lemmas.List.Elements.{All-head, All-tail}
+use Rattle.fsoe_base.specs.declared.command.End.TheVariants as side
+use Rattle.param_load.specs.declared.master_settings.MasterSettings.{MasterSettings}
+use Rattle.plant_conf.specs.ConfView.{HasSameLengths}
+use Rattle.plant_conf.specs.declared.conf.LinkConf.{LinkConf}
+use Rattle.end_model.specs.Deed.{Deed}
+use Rattle.end_model.specs.Setup.{OfMaster}
+use Rattle.end_model.specs.Step.{IsRun}
+use Rattle.exchange_model.specs.World.{deeds}
+use Rattle.master_core.specs.MasterView.{MasterView}
+use Rattle.multi_master.specs.Connection.{Connection}
+use Rattle.multi_master.specs.Standing.{IsWhere}
+use Rattle.plant_model.specs.declared.journal.JournalStep.{JournalStep}
+use Rattle.plant_model.specs.Acts.{Beginning, masters, is_cut, journal}
+use Rattle.plant_model.specs.FairPairs.{PairsAreFair}
+use Rattle.plant_model.specs.Pair.{pair, pairs_by}
+use Rattle.plant_core.specs.Standing.{PlantView, LinkIs, PlantStands}
+use Rattle.plant_model.specs.Turns.{Turn, acts}
+use Rattle.plant_model.proofs.Masters.{mastered}
+use Rattle.plant_core.proofs.Linking.{kept_at}
+use Rattle.plant_model.proofs.FairPlant.{AreWorlds, world_of_runs, worlds_are_fair}
+use Rattle.plant_model.proofs.Reacting.{worlds_react}
+use Rattle.plant_model.proofs.Broken.{worlds_broken}
+use Rattle.plant_model.specs.Bound.{Reacts}
+use Rattle.plant_model.specs.Broken.{BrokenByOther}
+use Rattle.plant_model.specs.Promises.{AllAnswered, AllGuarded}
+use Rattle.plant_model.specs.Acts.{journal}
+
+-- what stands beside a place of the first list
+pub zip_at : (cs : List Connection) (ms : List MasterView) (place : ℕ) (c : Connection) → AllZip IsWhere cs ms → slice_get cs place ≡ Some c → (m : MasterView) × IsWhere c m
+zip_at [] [] place c h e = absurd (cc e)
+zip_at [] (m ∷ ms) place c h e = absurd h
+zip_at (a ∷ cs) [] place c h e = absurd h
+zip_at (a ∷ cs) (m ∷ ms) zero c h e = let i : a ≡ c = cc in (m, subst (λ (z : Connection). IsWhere z m) i h.0)
+zip_at (a ∷ cs) (m ∷ ms) (suc place) c h e = zip_at cs ms place c h.1 e
+
+has_at : (links : List LinkConf) (place : ℕ) (link : LinkConf) → All HasSameLengths links → slice_get links place ≡ Some link → HasSameLengths link
+has_at [] place link all e = absurd (cc e)
+has_at (l ∷ links) zero link all e = let i : l ≡ link = cc in subst HasSameLengths i (All-head HasSameLengths l links all)
+has_at (l ∷ links) (suc place) link all e = has_at links place link (All-tail HasSameLengths l links all) e
+
+pub worlds : (b : Beginning) (v : PlantView) (turns : List Turn) → PlantStands b v turns → All HasSameLengths b.links → AreWorlds b.links v.journal
+worlds b v turns h same = λ place link e.
+    let done = h.has_done in
+    let kept = kept_at (LinkIs (λ j. is_cut j (acts turns)) (pairs_by v.journal)) 1 b.links v.links place (suc place) link done.links e (omega arith) in
+    let m = mastered b (acts turns) place link e in
+    let beside = zip_at (masters b (acts turns)).connections v.master.masters place m.there done.master.masters m.is in
+    let run : IsRun (OfMaster link.master) m.there.deeds = subst (λ (z : MasterSettings). IsRun (OfMaster z) m.there.deeds) m.settings_are beside.1.reached in
+    let own : deeds side.Master (pair link (suc place) v.journal) ≡ m.there.deeds = ap (λ (j : List JournalStep). deeds side.Master (pair link (suc place) j)) done.journal_is ∙ m.deeds_are in
+    world_of_runs link (suc place) v.journal (has_at b.links place link same e) (subst (λ (z : List Deed). IsRun (OfMaster link.master) z) (sym own) run) kept.holds.stands.slave.reached
+
+-- by the journal of its acts
+by_acts : (b : Beginning) (v : PlantView) (turns : List Turn) → PlantStands b v turns → All HasSameLengths b.links → AreWorlds b.links (journal b (acts turns))
+by_acts b v turns h same = subst (λ (steps : List JournalStep). AreWorlds b.links steps) h.has_done.journal_is (worlds b v turns h same)
+
+pub plants_are_fair : (b : Beginning) (v : PlantView) (turns : List Turn) → PlantStands b v turns → All HasSameLengths b.links → PairsAreFair b.links v.journal
+plants_are_fair b v turns h same = worlds_are_fair b.links v.journal (worlds b v turns h same)
+
+pub answered : (b : Beginning) (v : PlantView) (turns : List Turn) → PlantStands b v turns → AllAnswered b (acts turns)
+answered b v turns h = h.has_done.answered
+
+pub guarded : (b : Beginning) (v : PlantView) (turns : List Turn) → PlantStands b v turns → AllGuarded b (acts turns)
+guarded b v turns h = h.has_done.guarded
+
+pub reacts : (b : Beginning) (v : PlantView) (turns : List Turn) → PlantStands b v turns → All HasSameLengths b.links → Reacts b (acts turns)
+reacts b v turns h same = worlds_react b (acts turns) (by_acts b v turns h same)
+
+pub broken_by_other : (b : Beginning) (v : PlantView) (turns : List Turn) → PlantStands b v turns → All HasSameLengths b.links → BrokenByOther b turns
+broken_by_other b v turns h same = worlds_broken b turns (by_acts b v turns h same) h.has_done.guarded h.has_done.answered

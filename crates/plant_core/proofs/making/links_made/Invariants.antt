@@ -1,0 +1,6 @@
+use Rattle.std.proofs.Common.{◌≡◌, take}
+use Rattle.plant_core.specs.Making.{links_made}
+use Rattle.plant_core.proofs.making.links_made.Given as goal
+
+abbrev pub invariant-loop-i : goal.invariant-loop-i
+invariant-loop-i l = l.links.items ≡ links_made 1 l.bounds (take l.i l.confs)

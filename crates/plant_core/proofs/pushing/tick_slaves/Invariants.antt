@@ -1,0 +1,18 @@
+use Rattle.std.proofs.Common.{◌≡◌, ℕ, List, Bool}
+use Rattle.fsoe_base.specs.declared.command.End.TheVariants as side
+use Rattle.param_load.specs.declared.entry.Entry.{Entry}
+use Rattle.param_load.specs.declared.entry.Move.TheVariants as move
+use Rattle.plant_conf.specs.declared.conf.LinkConf.{LinkConf}
+use Rattle.plant_model.specs.Pair.{next_of}
+use Rattle.plant_core.specs.Doing.{ActedTo}
+use Rattle.plant_core.specs.Standing.{AreNoted, LinksAre, fixed_in}
+use Rattle.plant_core.proofs.Acting.{NotedTo}
+use Rattle.plant_core.proofs.pushing.tick_slaves.Given as goal
+
+abbrev pub invariant-loop-i : goal.invariant-loop-i
+invariant-loop-i g l = record {
+  acted : (links : List LinkConf) (cut : ℕ → Bool) (done : ℕ → LinkConf → List Entry) → LinksAre links cut done l.initial.links
+      → ActedTo l.i side.Master links cut done (λ k link. next_of side.Slave move.Tick link (done k link)) l.links (g.C.Channel.told l.initial.channel) (g.C.Channel.told l.channel);
+  noted : (most : ℕ) → AreNoted most l.initial.links → NotedTo l.i most l.links;
+  fixed : fixed_in l.links ≡ fixed_in l.initial.links;
+}

@@ -1,0 +1,124 @@
+-- How the parts of a plant do an act, step by step. Contracts of private functions alone rest on these words. Entries and acts are listed
+-- newest first, steps oldest first.
+use Rattle.std.specs.Prelude.{◌≡◌, ◌≤◌, ◌+◌, ◌*◌, nat_lt, ℕ, suc, Bool, true, List, [], ◌∷◌, ◌++◌, map, take, length, slice_get, Some, if◌then◌else◌}
+use Rattle.fsoe_base.specs.declared.command.End.{End}
+use Rattle.fsoe_base.specs.declared.command.End.TheVariants as side
+use Rattle.fsoe_base.specs.declared.did.Did.{Did}
+use Rattle.black_channel.specs.Told.{Told, PullsParcel}
+use Rattle.failsafe_io.specs.declared.bit.Bit.{Bit}
+use Rattle.param_load.specs.declared.entry.Entry.{Entry}
+use Rattle.param_load.specs.declared.entry.Move.{Move}
+use Rattle.param_load.specs.declared.entry.Move.TheVariants as move
+use Rattle.plant_conf.specs.declared.conf.LinkConf.{LinkConf}
+use Rattle.exchange_model.specs.Ends.{peer}
+use Rattle.multi_master.specs.Calls.{AppView, Rule, Call, meant, changed}
+use Rattle.multi_master.specs.Standing.{MultiValue, MultiView, StandsFor}
+use Rattle.multi_master.specs.Standing as multi
+use Rattle.param_load.specs.declared.master_settings.MasterSettings.{MasterSettings}
+use Rattle.plant_model.specs.declared.event.PlantEvent.{PlantEvent}
+use Rattle.plant_model.specs.declared.event.PlantEvent.TheVariants as event
+use Rattle.plant_model.specs.declared.journal.JournalStep.{JournalStep}
+use Rattle.plant_model.specs.Acts.{Beginning, Said, Act, PullFrom, offer_step, uses_after}
+use Rattle.plant_core.specs.Link.{IsMasters, LinkView, LinkStands}
+use Rattle.plant_core.specs.Standing.{PlantView, HasDone, LinksAre}
+use Rattle.plant_model.specs.Pair.{pairs_by, next_of}
+use Rattle.plant_model.specs.Turns.{MayPull, pulls, turn_acts}
+use Rattle.plant_model.specs.Uses.{Use, Trace, place_of, sent_uses, each_uses}
+use Rattle.black_channel.specs.declared.channel.Parcel.{Parcel}
+
+-- the frame of the next entry of an end, for its peer, is pushed
+abbrev pub next_uses : ℕ → End → Move → LinkConf → List Entry → Bool → List Use
+next_uses k end what link w cut = sent_uses (place_of k (peer end)) (next_of end what link w).sent cut
+
+-- a slave did its next deed at this event, and its frame was pushed
+pub record SlaveActed (k : ℕ) (what : Move) (link : LinkConf) (w : List Entry) (cut : Bool) (new : LinkView) (before after : Told) : Type 0 where
+  pub stands : LinkStands link new (next_of side.Slave what link w ∷ w)
+  pub channel : Trace (next_uses k side.Slave what link w cut) before after
+
+-- so the slave of connection k does
+pub record SlaveActs (k : ℕ) (what : Move) (old new : LinkView) (before after : Told) : Type 0 where
+  pub acts : (link : LinkConf) (w : List Entry) → LinkStands link old w → SlaveActed k what link w old.cut new before after
+
+-- one entry more with each connection, that of the world after those
+abbrev pub one_each : (ℕ → LinkConf → Entry) → (ℕ → LinkConf → List Entry) → ℕ → LinkConf → List Entry
+one_each next done k link = next k link ∷ done k link
+
+-- so it is up to connection n
+abbrev pub one_each_to : ℕ → (ℕ → LinkConf → Entry) → (ℕ → LinkConf → List Entry) → ℕ → LinkConf → List Entry
+one_each_to n next done k link = if nat_lt n k then done k link else next k link ∷ done k link
+
+-- the frames of these entries are pushed to this end of each connection
+abbrev pub frames_pushed : End → (ℕ → LinkConf → Entry) → (ℕ → Bool) → List LinkConf → List Use
+frames_pushed to next cut links = each_uses (λ k link. sent_uses (place_of k to) (next k link).sent (cut k)) 1 links
+
+-- one entry more was noted with each connection, and its frame pushed to this end
+pub record AllActed (to : End) (links : List LinkConf) (cut : ℕ → Bool) (done : ℕ → LinkConf → List Entry) (next : ℕ → LinkConf → Entry) (new : List LinkView) (before after : Told) : Type 0 where
+  pub kept : LinksAre links cut (one_each next done) new
+  pub channel : Trace (frames_pushed to next cut links) before after
+
+-- so up to connection n
+pub record ActedTo (n : ℕ) (to : End) (links : List LinkConf) (cut : ℕ → Bool) (done : ℕ → LinkConf → List Entry) (next : ℕ → LinkConf → Entry) (new : List LinkView) (before after : Told) : Type 0 where
+  pub kept : LinksAre links cut (one_each_to n next done) new
+  pub channel : Trace (frames_pushed to next cut (take n links)) before after
+
+-- the slaves of all connections tick
+pub record SlavesTick (old new : List LinkView) (before after : Told) : Type 0 where
+  pub tick : (links : List LinkConf) (cut : ℕ → Bool) (done : ℕ → LinkConf → List Entry) → LinksAre links cut done old
+      → AllActed side.Master links cut done (λ k link. next_of side.Slave move.Tick link (done k link)) new before after
+
+-- these entries of masters are of a tick and have these parts, connection by connection
+pub record HaveParts (links : List LinkConf) (next : ℕ → LinkConf → Entry) (dids : List Did) (frames : List (List ℕ)) : Type 0 where
+  pub each : (place : ℕ) (link : LinkConf) (did : Did) (sent : List ℕ) → slice_get links place ≡ Some link → slice_get dids place ≡ Some did → slice_get frames place ≡ Some sent
+      → IsMasters (next (suc place) link) true [] did sent
+
+-- what the masters of all connections did in a tick is noted, and their frames are pushed
+pub record MastersNoted (dids : List Did) (frames : List (List ℕ)) (old new : List LinkView) (before after : Told) : Type 0 where
+  pub noted : (links : List LinkConf) (cut : ℕ → Bool) (done : ℕ → LinkConf → List Entry) (next : ℕ → LinkConf → Entry) → HaveParts links next dids frames → LinksAre links cut done old
+      → AllActed side.Slave links cut done next new before after
+
+-- an entry of a master with these parts is noted, and its frame is pushed
+pub record MasterActs (k : ℕ) (tick : Bool) (came : List ℕ) (did : Did) (sent : List ℕ) (old new : LinkView) (before after : Told) : Type 0 where
+  pub stands : (link : LinkConf) (w : List Entry) (x : Entry) → LinkStands link old w → IsMasters x tick came did sent → LinkStands link new (x ∷ w)
+  pub channel : Trace (sent_uses (place_of k side.Slave) sent old.cut) before after
+
+-- the offers that the last call of the master changed are noted in the journal, and with each connection
+pub record OffersNoted (master : MultiView) (old new : List LinkView) (before after : List JournalStep) : Type 0 where
+  pub offers : List JournalStep
+  pub steps : after ≡ before ++ offers
+  pub offers_are : (settings : List MasterSettings) (app : AppView) (calls : List Call) → StandsFor settings app master calls → offers ≡ map (offer_step (meant settings app calls)) (changed settings app calls)
+  pub links : (links : List LinkConf) (cut : ℕ → Bool) (steps : List JournalStep) → LinksAre links cut (pairs_by steps) old → LinksAre links cut (pairs_by (steps ++ offers)) new
+
+-- what contracts see of these parts of a plant
+abbrev pub sees : {A : Type 0} → (A → Rule) → (A → List ℕ) → (A → Bit → Bit → Bool) → MultiValue A → List LinkView → List JournalStep → PlantView
+sees rule holds guards master links journal = record { master = multi.seen rule holds guards master; links = links; journal = journal }
+
+-- the most steps that an event may note, where there are so many connections: at a tick its own and those of the offers of its cycle, and
+-- as many again for each of 64 parcels
+abbrev pub room_for : PlantEvent → ℕ → ℕ
+room_for event.Tick links = 65 * (links + 1)
+room_for _ links = 1
+
+-- a plant that had done some acts has done these too, and its channel was used so
+pub record Done (b : Beginning) (done more : List Act) (new : PlantView) (before after : Told) : Type 0 where
+  pub has_done : HasDone b new (more ++ done)
+  pub channel : Trace (uses_after b more done) before after
+
+-- so a plant goes on by these acts
+pub record GoesOn (old : PlantView) (more : List Act) (new : PlantView) (before after : Told) : Type 0 where
+  pub goes : (b : Beginning) (done : List Act) → HasDone b old done → Done b done more new before after
+
+-- so it does where this parcel was pulled just before
+pub record Delivers (old : PlantView) (parcel : Parcel) (new : PlantView) (before after : Told) : Type 0 where
+  pub delivers : (first : Told) → PullsParcel (Some parcel) first before → GoesOn old (PullFrom (Some parcel) ∷ []) new first after
+
+-- the pulls of a tick
+pub record PullsAll (old new : PlantView) (before after : Told) : Type 0 where
+  pub pulled : List Parcel
+  pub few : length pulled ≤ 64
+  pub goes : GoesOn old (pulls pulled) new before after
+
+-- a plant goes on by what is said at a line of the script, and by the pulls then
+pub record Turns (old : PlantView) (said : Said) (new : PlantView) (before after : Told) : Type 0 where
+  pub pulled : List Parcel
+  pub may : MayPull said pulled
+  pub goes : GoesOn old (turn_acts said pulled) new before after

@@ -1,0 +1,4 @@
+pub mod Doing
+pub mod Link
+pub mod Making
+pub mod Standing

@@ -1,0 +1,120 @@
+-- What a plant keeps of one connection beside its master: its slave, what notes the entries of its pair, and whether it is cut. Entries are
+-- listed newest first.
+use Rattle.std.specs.Prelude.{◌≡◌, ℕ, ◌+◌, Bool, true, false, List, [], ◌∷◌, Option, Some, None, IfSome, is_some}
+use Rattle.fsoe_base.specs.declared.command.End.{End}
+use Rattle.fsoe_base.specs.declared.command.End.TheVariants as side
+use Rattle.fsoe_base.specs.declared.did.Did.{Did}
+use Rattle.fsoe_base.specs.declared.lengths.Lengths.{Lengths}
+use Rattle.param_load.specs.declared.entry.Entry.{Entry}
+use Rattle.param_load.specs.declared.entry.Move.{Move}
+use Rattle.plant_conf.specs.declared.conf.LinkConf.{LinkConf}
+use Rattle.end_model.specs.Readiness.{told_terms}
+use Rattle.end_model.specs.Setup.{OfSlave}
+use Rattle.end_model.specs.Step.{step}
+use Rattle.exchange_model.specs.Honest.{is_tick}
+use Rattle.exchange_model.specs.Monitor.{MonitorView, HasParts}
+use Rattle.exchange_model.specs.Monitor as monitor
+use Rattle.exchange_model.specs.World.{deeds, next_entry}
+use Rattle.reaction_bound.specs.Ages.{AgesView, HasWatchdog, watchdog_in}
+use Rattle.reaction_bound.specs.Ages as ages
+use Rattle.slave_core.specs.SlaveView.{SlaveView}
+use Rattle.slave_core.specs.Standing.{Shows, SlaveIsAfter}
+use Rattle.slave_core.specs.ViewOf.{view_of}
+use Rattle.plant_core.specs.declared.watch.Watch.{Watch}
+use Rattle.plant_core.specs.declared.watch.Watch.TheVariants as watch
+
+-- the monitor that notes the entries of a pair: by itself, or as a part of what tells the ages of the outputs
+abbrev pub monitor_in : Watch → MonitorView
+monitor_in (watch.Plain items) = items
+monitor_in (watch.Aged ages) = ages.monitor
+
+-- what tells the ages of the outputs, where they are told
+abbrev pub ages_in : Watch → Option AgesView
+ages_in (watch.Plain items) = None
+ages_in (watch.Aged ages) = Some ages
+
+-- ages noted an entry with these parts, where they are told
+abbrev pub AgesNote : Option AgesView → End → Bool → List ℕ → Did → List ℕ → Option ℕ → Option AgesView → Type 0
+AgesNote None at tick came did sent watchdog new = new ≡ None
+AgesNote (Some old) at tick came did sent watchdog None = ⊥
+AgesNote (Some old) at tick came did sent watchdog (Some new) = ages.NotesParts old at tick came did sent watchdog new
+
+-- ages noted an entry of a slave with these parts, where they are told: with the watchdog in the terms that the slave tells after it
+pub record NotesSlave (slave : SlaveView) (old : Option AgesView) (tick : Bool) (came : List ℕ) (did : Did) (sent : List ℕ) (new : Option AgesView) : Type 0 where
+  pub watchdog : Option ℕ
+  pub shown : Shows slave watchdog (λ s e. watchdog_in (told_terms s e))
+  pub noted : AgesNote old side.Slave tick came did sent watchdog new
+
+-- what is kept beside the master of a connection, with the watchdog that the master is set to
+pub record LinkView : Type 0 where
+  pub slave : SlaveView
+  pub monitor : MonitorView
+  pub ages : Option AgesView
+  pub watchdog : ℕ
+  pub cut : Bool
+
+-- ages that noted nothing yet, where they are to be told
+abbrev pub new_ages : Bool → Option AgesView
+new_ages true = Some (ages.view_of [])
+new_ages false = None
+
+-- a new slave of a connection that isn't cut, whose ages are told or not
+abbrev pub new_link : Bool → LinkConf → LinkView
+new_link aged link = record {
+  slave = view_of link.slave [];
+  monitor = monitor.view_of [];
+  ages = new_ages aged;
+  watchdog = link.master.watchdog;
+  cut = false;
+}
+
+-- where an entry of a master took ProcessData, the watchdog in the terms that are told after it is this
+abbrev pub TellsWatchdog : ℕ → Entry → Type 0
+TellsWatchdog watchdog x =
+    x.end ≡ side.Master → HasWatchdog x (Some watchdog)
+
+-- so it is of all these entries
+abbrev pub AllTell : ℕ → List Entry → Type 0
+AllTell watchdog [] = Unit {0}
+AllTell watchdog (x ∷ w) = TellsWatchdog watchdog x × AllTell watchdog w
+
+-- it stands for these entries of the pair of this connection: the slave is where its own deeds among them leave it, and the monitor has noted
+-- them all; so have the ages, if they are told, where the master tells its watchdog
+pub record LinkStands (link : LinkConf) (v : LinkView) (w : List Entry) : Type 0 where
+  pub slave : SlaveIsAfter link.slave v.slave (deeds side.Slave w)
+  pub monitor : v.monitor ≡ monitor.view_of w
+  pub watchdog : v.watchdog ≡ link.master.watchdog
+  pub ages : AllTell link.master.watchdog w → IfSome v.ages (λ a. a ≡ ages.view_of w)
+
+-- after these entries the slave did its next deed at this event, which is this, and it stands for the entry of that too
+pub record SlaveWent (link : LinkConf) (w : List Entry) (what : Move) (did : Did) (sent : List ℕ) (new : LinkView) : Type 0 where
+  pub stands : LinkStands link new (next_entry (OfSlave link.slave) (deeds side.Slave w) what ∷ w)
+  pub did_is : did ≡ (step (OfSlave link.slave) (deeds side.Slave w) what).did
+  pub sent_is : sent ≡ (step (OfSlave link.slave) (deeds side.Slave w) what).sent
+
+-- its slave goes on at this event: it did this and sent this frame, which was noted
+pub record SlaveGoesOn (old : LinkView) (what : Move) (did : Did) (sent : List ℕ) (new : LinkView) : Type 0 where
+  pub goes : (link : LinkConf) (w : List Entry) → LinkStands link old w → SlaveWent link w what did sent new
+
+-- an entry of a master has these parts: whether it is a tick, the bytes that came, what the master did and the frame that it sent
+pub record IsMasters (x : Entry) (tick : Bool) (came : List ℕ) (did : Did) (sent : List ℕ) : Type 0 where
+  pub parts : HasParts x side.Master came did sent
+  pub tick_is : is_tick x.what ≡ tick
+
+-- an entry of its master with these parts was noted
+pub record MasterNoted (old : LinkView) (tick : Bool) (came : List ℕ) (did : Did) (sent : List ℕ) (new : LinkView) : Type 0 where
+  pub stands : (link : LinkConf) (w : List Entry) (x : Entry) → LinkStands link old w → IsMasters x tick came did sent → LinkStands link new (x ∷ w)
+
+-- what of a connection never changes: the lengths of its slave, and whether the ages of its outputs are told
+pub record Fixed : Type 0 where
+  pub lengths : Lengths
+  pub aged : Bool
+
+abbrev pub fixed_of : LinkView → Fixed
+fixed_of v = record { lengths = v.slave.kit.settings.lengths; aged = is_some v.ages }
+
+-- one entry more was noted; what never changes, and whether it is cut, stay
+pub record NotesOne (old new : LinkView) : Type 0 where
+  pub noted : new.monitor.noted ≡ old.monitor.noted + 1
+  pub fixed : fixed_of new ≡ fixed_of old
+  pub cut : new.cut ≡ old.cut

@@ -1,0 +1,388 @@
+//! Both ends of all connections of a plant.
+ghost use Rattle.std.specs.Prelude.{◌≡◌, ◌≤◌, ◌<◌, ◌+◌, ◌*◌, [], ◌∷◌, ◌++◌, Some, None, length, vec_len, vec_capacity};
+ghost use Rattle.plant_model.specs.declared.journal.JournalStep.TheVariants as step;
+ghost use Rattle.plant_core.specs.Doing.{room_for};
+
+use crate::journal::note;
+use crate::link::Link;
+use crate::offers::note_offers;
+use crate::pushing::{deliver_to_slave, master_acted, masters_ticked, reset_slave, tick_slaves};
+use black_channel::{Channel, Parcel, Place};
+use failsafe_io::Application;
+use fsoe_base::{Did, End, FrameBuf, Image};
+use multi_master::MultiMaster;
+use plant_model::{JournalStep, PlantEvent};
+
+/// The most parcels that are pulled in a tick.
+pub(crate) const MOST_PULLS: u8 = 64;
+
+/// The master of all connections, what is kept of each beside its master, and where the masters write in a tick what they did and sent.
+#[derive(Drop)]
+pub(crate) struct Ends<A> {
+    pub(crate) master: MultiMaster<A>,
+    pub(crate) links: Vec<Link>,
+    pub(crate) dids: Vec<Did>,
+    pub(crate) outs: Vec<FrameBuf>,
+    /// Where an end writes what it did at the last frame that was pulled. Its place for data stays, since ticks have places of their own.
+    pub(crate) heard: Did,
+    /// Where an end writes what it sent then.
+    pub(crate) sent: FrameBuf,
+}
+
+/// Notes in the journal that this parcel was pulled.
+fn note_pulled(to: Place, frame: &FrameBuf, steps: &mut Vec<JournalStep>)
+    requires room { vec_len steps.old + 1 ≤ vec_capacity steps.old }
+    ensures noted { steps.new.items ≡ steps.old.items ++ step.Pulled (record { to = to; frame = frame.now }) ∷ [] }
+    ensures count { vec_len steps.new ≡ vec_len steps.old + 1 }
+    ensures capacity { vec_capacity steps.old ≤ vec_capacity steps.new }
+{
+    let parcel = Parcel {
+        to,
+        frame: frame.copy(),
+    };
+    note(steps, JournalStep::Pulled(parcel));
+}
+
+impl<A: Application> Ends<A> {
+    ghost use Rattle.fsoe_base.specs.declared.command.End.TheVariants as side;
+    ghost use Rattle.multi_master.specs.Calls.{ChangeApp};
+    ghost use Rattle.multi_master.specs.Standing as multi;
+    ghost use Rattle.multi_master.specs.Standing.{app_view};
+    ghost use Rattle.plant_model.specs.Acts.{Event, App, Happen};
+    ghost use Rattle.plant_core.specs.Doing.{GoesOn, Delivers, OffersNoted, PullsAll, Turns, sees};
+    ghost use Rattle.plant_core.specs.Standing.{IsPlant, fixed_in, lengths_kept};
+    ghost use Rattle.std.specs.Prelude.{IsSomeAnd};
+    ghost use Rattle.black_channel.specs.Told.{Told};
+    ghost use Rattle.plant_model.specs.FairPairs.{Fits, lengths_at};
+    ghost use Rattle.plant_model.specs.declared.event.PlantEvent.TheVariants as event;
+
+    /// The time of all ends goes on by one tick, and the offers that the cycle changed are noted.
+    fn tick<C: Channel>(&mut self, steps: &mut Vec<JournalStep>, channel: &mut C)
+        requires ready { IsPlant self.old.master self.old.links.items self.old.dids.items self.old.outs.items (vec_len steps.old) }
+        requires room { vec_len steps.old + 1 + vec_len self.old.links ≤ vec_capacity steps.old }
+        ensures goes { let seen = sees A.rule A.holds A.guards in GoesOn (seen self.old.master self.old.links.items steps.old.items) (Happen (Event event.Tick) ∷ []) (seen self.new.master self.new.links.items steps.new.items) (C.told channel.old) (C.told channel.new) }
+        ensures ready { IsPlant self.new.master self.new.links.items self.new.dids.items self.new.outs.items (vec_len steps.new) }
+        ensures fixed { fixed_in self.new.links.items ≡ fixed_in self.old.links.items }
+        ensures few { vec_len steps.new ≤ vec_len steps.old + 1 + vec_len self.old.links }
+        ensures capacity { vec_capacity steps.old ≤ vec_capacity steps.new }
+    {
+        note(steps, JournalStep::Script(PlantEvent::Tick));
+        tick_slaves(self.links.as_mut_slice(), channel);
+        self.master
+            .tick(self.outs.as_mut_slice(), self.dids.as_mut_slice());
+        masters_ticked(
+            self.links.as_mut_slice(),
+            self.dids.as_slice(),
+            self.outs.as_slice(),
+            channel,
+        );
+        note_offers(&self.master, self.links.as_mut_slice(), steps);
+    }
+
+    /// A frame that was pulled comes to the master of this connection: the offers that its cycle changed are noted before it, and its
+    /// answer is pushed.
+    fn deliver_to_master<C: Channel>(
+        &mut self,
+        link: u16,
+        frame: &FrameBuf,
+        steps: &mut Vec<JournalStep>,
+        channel: &mut C,
+    )
+        requires first { 1 ≤ link }
+        requires last { link ≤ vec_len self.old.links }
+        requires ready { IsPlant self.old.master self.old.links.items self.old.dids.items self.old.outs.items (vec_len steps.old) }
+        requires room { vec_len steps.old + 1 + vec_len self.old.links ≤ vec_capacity steps.old }
+        ensures delivers { let seen = sees A.rule A.holds A.guards in Delivers (seen self.old.master self.old.links.items steps.old.items) (record { to = record { link = link; end = side.Master }; frame = frame.now }) (seen self.new.master self.new.links.items steps.new.items) (C.told channel.old) (C.told channel.new) }
+        ensures ready { IsPlant self.new.master self.new.links.items self.new.dids.items self.new.outs.items (vec_len steps.new) }
+        ensures fixed { fixed_in self.new.links.items ≡ fixed_in self.old.links.items }
+        ensures few { vec_len steps.new ≤ vec_len steps.old + 1 + vec_len self.old.links }
+        ensures capacity { vec_capacity steps.old ≤ vec_capacity steps.new }
+    {
+        self.master
+            .deliver_into(link, frame.bytes(), &mut self.heard, &mut self.sent);
+        note_offers(&self.master, self.links.as_mut_slice(), steps);
+        let to = Place {
+            link,
+            end: End::Master,
+        };
+        note_pulled(to, frame, steps);
+        let kept = &mut self.links[usize::from(link) - 1];
+        master_acted(
+            link,
+            kept,
+            false,
+            frame.bytes(),
+            &self.heard,
+            &self.sent,
+            channel,
+        );
+    }
+
+    /// A frame that was pulled comes to the slave of this connection, and its answer is pushed.
+    fn deliver_to_slave<C: Channel>(
+        &mut self,
+        link: u16,
+        frame: &FrameBuf,
+        steps: &mut Vec<JournalStep>,
+        channel: &mut C,
+    )
+        requires first { 1 ≤ link }
+        requires last { link ≤ vec_len self.old.links }
+        requires ready { IsPlant self.old.master self.old.links.items self.old.dids.items self.old.outs.items (vec_len steps.old) }
+        requires room { vec_len steps.old + 1 + vec_len self.old.links ≤ vec_capacity steps.old }
+        ensures delivers { let seen = sees A.rule A.holds A.guards in Delivers (seen self.old.master self.old.links.items steps.old.items) (record { to = record { link = link; end = side.Slave }; frame = frame.now }) (seen self.new.master self.new.links.items steps.new.items) (C.told channel.old) (C.told channel.new) }
+        ensures ready { IsPlant self.new.master self.new.links.items self.new.dids.items self.new.outs.items (vec_len steps.new) }
+        ensures fixed { fixed_in self.new.links.items ≡ fixed_in self.old.links.items }
+        ensures few { vec_len steps.new ≤ vec_len steps.old + 1 + vec_len self.old.links }
+        ensures capacity { vec_capacity steps.old ≤ vec_capacity steps.new }
+    {
+        let to = Place {
+            link,
+            end: End::Slave,
+        };
+        note_pulled(to, frame, steps);
+        let kept = &mut self.links[usize::from(link) - 1];
+        deliver_to_slave(
+            link,
+            kept,
+            frame.bytes(),
+            channel,
+            &mut self.heard,
+            &mut self.sent,
+        );
+    }
+
+    /// A parcel that was pulled is noted, and comes to its end, if there is one.
+    fn deliver<C: Channel>(
+        &mut self,
+        to: Place,
+        frame: &FrameBuf,
+        steps: &mut Vec<JournalStep>,
+        channel: &mut C,
+    )
+        requires ready { IsPlant self.old.master self.old.links.items self.old.dids.items self.old.outs.items (vec_len steps.old) }
+        requires room { vec_len steps.old + 1 + vec_len self.old.links ≤ vec_capacity steps.old }
+        ensures delivers { let seen = sees A.rule A.holds A.guards in Delivers (seen self.old.master self.old.links.items steps.old.items) (record { to = to; frame = frame.now }) (seen self.new.master self.new.links.items steps.new.items) (C.told channel.old) (C.told channel.new) }
+        ensures ready { IsPlant self.new.master self.new.links.items self.new.dids.items self.new.outs.items (vec_len steps.new) }
+        ensures fixed { fixed_in self.new.links.items ≡ fixed_in self.old.links.items }
+        ensures few { vec_len steps.new ≤ vec_len steps.old + 1 + vec_len self.old.links }
+        ensures capacity { vec_capacity steps.old ≤ vec_capacity steps.new }
+    {
+        if to.link == 0 || usize::from(to.link) > self.links.len() {
+            note_pulled(to, frame, steps);
+            return;
+        }
+        match to.end {
+            End::Master => self.deliver_to_master(to.link, frame, steps, channel),
+            End::Slave => self.deliver_to_slave(to.link, frame, steps, channel),
+        }
+    }
+
+    /// Pulls at most 64 parcels, until none comes, and delivers each.
+    fn pull_all<C: Channel>(&mut self, steps: &mut Vec<JournalStep>, channel: &mut C)
+        requires ready { IsPlant self.old.master self.old.links.items self.old.dids.items self.old.outs.items (vec_len steps.old) }
+        requires room { vec_len steps.old + 64 * (vec_len self.old.links + 1) ≤ vec_capacity steps.old }
+        ensures pulls { let seen = sees A.rule A.holds A.guards in PullsAll (seen self.old.master self.old.links.items steps.old.items) (seen self.new.master self.new.links.items steps.new.items) (C.told channel.old) (C.told channel.new) }
+        ensures ready { IsPlant self.new.master self.new.links.items self.new.dids.items self.new.outs.items (vec_len steps.new) }
+        ensures fixed { fixed_in self.new.links.items ≡ fixed_in self.old.links.items }
+    {
+        let mut frame = FrameBuf::new();
+        for _ in 0..MOST_PULLS {
+            let Some(to) = channel.pull(&mut frame) else {
+                return;
+            };
+            self.deliver(to, &frame, steps, channel);
+        }
+    }
+
+    /// A tick, and then the pulls.
+    fn tick_and_pull<C: Channel>(&mut self, steps: &mut Vec<JournalStep>, channel: &mut C)
+        requires ready { IsPlant self.old.master self.old.links.items self.old.dids.items self.old.outs.items (vec_len steps.old) }
+        requires room { vec_len steps.old + 65 * (vec_len self.old.links + 1) ≤ vec_capacity steps.old }
+        ensures turns { let seen = sees A.rule A.holds A.guards in Turns (seen self.old.master self.old.links.items steps.old.items) (Event event.Tick) (seen self.new.master self.new.links.items steps.new.items) (C.told channel.old) (C.told channel.new) }
+        ensures ready { IsPlant self.new.master self.new.links.items self.new.dids.items self.new.outs.items (vec_len steps.new) }
+        ensures fixed { fixed_in self.new.links.items ≡ fixed_in self.old.links.items }
+    {
+        self.tick(steps, channel);
+        self.pull_all(steps, channel);
+    }
+
+    /// The slave of this connection sends these safe data from now on.
+    fn put(&mut self, link: u16, load: &Image, steps: &mut Vec<JournalStep>)
+        requires first { 1 ≤ link }
+        requires last { link ≤ vec_len self.old.links }
+        requires fits { IsSomeAnd (lengths_at (lengths_kept self.old.links.items) link) (λ ends. length load.now ≡ ends.slave) }
+        requires ready { IsPlant self.old.master self.old.links.items self.old.dids.items self.old.outs.items (vec_len steps.old) }
+        requires room { vec_len steps.old + 1 ≤ vec_capacity steps.old }
+        ensures goes { let seen = sees A.rule A.holds A.guards in (told : Told) → GoesOn (seen self.old.master self.old.links.items steps.old.items) (Happen (Event (event.Put link load.now)) ∷ []) (seen self.new.master self.new.links.items steps.new.items) told told }
+        ensures ready { IsPlant self.new.master self.new.links.items self.new.dids.items self.new.outs.items (vec_len steps.new) }
+        ensures fixed { fixed_in self.new.links.items ≡ fixed_in self.old.links.items }
+    {
+        let event = PlantEvent::Put {
+            link,
+            load: load.copy(),
+        };
+        note(steps, JournalStep::Script(event));
+        self.links[usize::from(link) - 1].put(load.bytes());
+    }
+
+    /// The slave of this connection sends fail-safe data from now on, or no longer.
+    fn hold(&mut self, link: u16, failsafe: bool, steps: &mut Vec<JournalStep>)
+        requires first { 1 ≤ link }
+        requires last { link ≤ vec_len self.old.links }
+        requires ready { IsPlant self.old.master self.old.links.items self.old.dids.items self.old.outs.items (vec_len steps.old) }
+        requires room { vec_len steps.old + 1 ≤ vec_capacity steps.old }
+        ensures goes { let seen = sees A.rule A.holds A.guards in (told : Told) → GoesOn (seen self.old.master self.old.links.items steps.old.items) (Happen (Event (event.Hold link failsafe)) ∷ []) (seen self.new.master self.new.links.items steps.new.items) told told }
+        ensures ready { IsPlant self.new.master self.new.links.items self.new.dids.items self.new.outs.items (vec_len steps.new) }
+        ensures fixed { fixed_in self.new.links.items ≡ fixed_in self.old.links.items }
+    {
+        note(
+            steps,
+            JournalStep::Script(PlantEvent::Hold { link, failsafe }),
+        );
+        self.links[usize::from(link) - 1].hold(failsafe);
+    }
+
+    /// The slave of this connection is reset, and its frame is pushed.
+    fn reset<C: Channel>(&mut self, link: u16, steps: &mut Vec<JournalStep>, channel: &mut C)
+        requires first { 1 ≤ link }
+        requires last { link ≤ vec_len self.old.links }
+        requires ready { IsPlant self.old.master self.old.links.items self.old.dids.items self.old.outs.items (vec_len steps.old) }
+        requires room { vec_len steps.old + 1 ≤ vec_capacity steps.old }
+        ensures goes { let seen = sees A.rule A.holds A.guards in GoesOn (seen self.old.master self.old.links.items steps.old.items) (Happen (Event (event.Local link)) ∷ []) (seen self.new.master self.new.links.items steps.new.items) (C.told channel.old) (C.told channel.new) }
+        ensures ready { IsPlant self.new.master self.new.links.items self.new.dids.items self.new.outs.items (vec_len steps.new) }
+        ensures fixed { fixed_in self.new.links.items ≡ fixed_in self.old.links.items }
+    {
+        note(steps, JournalStep::Script(PlantEvent::Local { link }));
+        reset_slave(link, &mut self.links[usize::from(link) - 1], channel);
+    }
+
+    /// The slave of this connection begins its next session with this id.
+    fn slave_nonce(&mut self, link: u16, id: u16, steps: &mut Vec<JournalStep>)
+        requires first { 1 ≤ link }
+        requires last { link ≤ vec_len self.old.links }
+        requires ready { IsPlant self.old.master self.old.links.items self.old.dids.items self.old.outs.items (vec_len steps.old) }
+        requires room { vec_len steps.old + 1 ≤ vec_capacity steps.old }
+        ensures goes { let seen = sees A.rule A.holds A.guards in (told : Told) → GoesOn (seen self.old.master self.old.links.items steps.old.items) (Happen (Event (event.Nonce link side.Slave id)) ∷ []) (seen self.new.master self.new.links.items steps.new.items) told told }
+        ensures ready { IsPlant self.new.master self.new.links.items self.new.dids.items self.new.outs.items (vec_len steps.new) }
+        ensures fixed { fixed_in self.new.links.items ≡ fixed_in self.old.links.items }
+    {
+        let event = PlantEvent::Nonce {
+            link,
+            end: End::Slave,
+            id,
+        };
+        note(steps, JournalStep::Script(event));
+        self.links[usize::from(link) - 1].nonce(u32::from(id));
+    }
+
+    /// The master of this connection begins its next session with this id.
+    fn master_nonce(&mut self, link: u16, id: u16, steps: &mut Vec<JournalStep>)
+        requires first { 1 ≤ link }
+        requires last { link ≤ vec_len self.old.links }
+        requires ready { IsPlant self.old.master self.old.links.items self.old.dids.items self.old.outs.items (vec_len steps.old) }
+        requires room { vec_len steps.old + 1 ≤ vec_capacity steps.old }
+        ensures goes { let seen = sees A.rule A.holds A.guards in (told : Told) → GoesOn (seen self.old.master self.old.links.items steps.old.items) (Happen (Event (event.Nonce link side.Master id)) ∷ []) (seen self.new.master self.new.links.items steps.new.items) told told }
+        ensures ready { IsPlant self.new.master self.new.links.items self.new.dids.items self.new.outs.items (vec_len steps.new) }
+        ensures fixed { fixed_in self.new.links.items ≡ fixed_in self.old.links.items }
+    {
+        let event = PlantEvent::Nonce {
+            link,
+            end: End::Master,
+            id,
+        };
+        note(steps, JournalStep::Script(event));
+        self.master.nonce(link, id);
+        self.links[usize::from(link) - 1].note_master(
+            false,
+            &[],
+            &Did::nothing(),
+            &FrameBuf::new(),
+        );
+    }
+
+    /// The connection is cut, or joined again.
+    fn cut(&mut self, link: u16, cut: bool, steps: &mut Vec<JournalStep>)
+        requires first { 1 ≤ link }
+        requires last { link ≤ vec_len self.old.links }
+        requires ready { IsPlant self.old.master self.old.links.items self.old.dids.items self.old.outs.items (vec_len steps.old) }
+        requires room { vec_len steps.old + 1 ≤ vec_capacity steps.old }
+        ensures goes { let seen = sees A.rule A.holds A.guards in (told : Told) → GoesOn (seen self.old.master self.old.links.items steps.old.items) (Happen (Event (event.Cut link cut)) ∷ []) (seen self.new.master self.new.links.items steps.new.items) told told }
+        ensures ready { IsPlant self.new.master self.new.links.items self.new.dids.items self.new.outs.items (vec_len steps.new) }
+        ensures fixed { fixed_in self.new.links.items ≡ fixed_in self.old.links.items }
+    {
+        note(steps, JournalStep::Script(PlantEvent::Cut { link, cut }));
+        self.links[usize::from(link) - 1].set_cut(cut);
+    }
+
+    /// What an event of the script says happens; at a tick the channel brings what it does.
+    pub(crate) fn happen<C: Channel>(
+        &mut self,
+        event: &PlantEvent,
+        steps: &mut Vec<JournalStep>,
+        channel: &mut C,
+    )
+        requires fits { Fits (lengths_kept self.old.links.items) event.now }
+        requires ready { IsPlant self.old.master self.old.links.items self.old.dids.items self.old.outs.items (vec_len steps.old) }
+        requires room { vec_len steps.old + room_for event.now (vec_len self.old.links) ≤ vec_capacity steps.old }
+        ensures turns { let seen = sees A.rule A.holds A.guards in Turns (seen self.old.master self.old.links.items steps.old.items) (Event event.now) (seen self.new.master self.new.links.items steps.new.items) (C.told channel.old) (C.told channel.new) }
+        ensures ready { IsPlant self.new.master self.new.links.items self.new.dids.items self.new.outs.items (vec_len steps.new) }
+        ensures fixed { fixed_in self.new.links.items ≡ fixed_in self.old.links.items }
+    {
+        match event {
+            PlantEvent::Tick => self.tick_and_pull(steps, channel),
+            PlantEvent::Put { link, load } => self.put(*link, load, steps),
+            PlantEvent::Hold { link, failsafe } => self.hold(*link, *failsafe, steps),
+            PlantEvent::Local { link } => self.reset(*link, steps, channel),
+            PlantEvent::Nonce {
+                link,
+                end: End::Master,
+                id,
+            } => self.master_nonce(*link, *id, steps),
+            PlantEvent::Nonce {
+                link,
+                end: End::Slave,
+                id,
+            } => self.slave_nonce(*link, *id, steps),
+            PlantEvent::Cut { link, cut } => self.cut(*link, *cut, steps),
+        }
+    }
+
+    /// The first cycle of another application, which runs from now on: the offers that it changed are noted.
+    pub(crate) fn start(&mut self, app: A, steps: &mut Vec<JournalStep>)
+        requires ready { IsPlant self.old.master self.old.links.items self.old.dids.items self.old.outs.items (vec_len steps.old) }
+        requires room { vec_len steps.old + vec_len self.old.links ≤ vec_capacity steps.old }
+        ensures follows { let seen = multi.seen A.rule A.holds A.guards in multi.Follows (seen self.old.master) (ChangeApp (app_view A.rule A.holds A.guards app)) (seen self.new.master) }
+        ensures cycles { multi.Offers (multi.seen A.rule A.holds A.guards self.old.master) (ChangeApp (app_view A.rule A.holds A.guards app)) }
+        ensures guards { multi.Guards (multi.seen A.rule A.holds A.guards self.old.master) (ChangeApp (app_view A.rule A.holds A.guards app)) }
+        ensures offers { OffersNoted (multi.seen A.rule A.holds A.guards self.new.master) self.old.links.items self.new.links.items steps.old.items steps.new.items }
+        ensures ready { IsPlant self.new.master self.new.links.items self.new.dids.items self.new.outs.items (vec_len steps.new) }
+        ensures fixed { fixed_in self.new.links.items ≡ fixed_in self.old.links.items }
+    {
+        self.master.change_app(app);
+        note_offers(&self.master, self.links.as_mut_slice(), steps);
+    }
+
+    /// Another application runs from now on, and the offers that its first cycle changed are noted.
+    pub(crate) fn change_app(&mut self, app: A, steps: &mut Vec<JournalStep>)
+        requires ready { IsPlant self.old.master self.old.links.items self.old.dids.items self.old.outs.items (vec_len steps.old) }
+        requires room { vec_len steps.old + 1 + vec_len self.old.links ≤ vec_capacity steps.old }
+        ensures goes { let seen = sees A.rule A.holds A.guards in (told : Told) → GoesOn (seen self.old.master self.old.links.items steps.old.items) (Happen (App (app_view A.rule A.holds A.guards app)) ∷ []) (seen self.new.master self.new.links.items steps.new.items) told told }
+        ensures ready { IsPlant self.new.master self.new.links.items self.new.dids.items self.new.outs.items (vec_len steps.new) }
+        ensures fixed { fixed_in self.new.links.items ≡ fixed_in self.old.links.items }
+    {
+        note(steps, JournalStep::App);
+        self.start(app, steps);
+    }
+}
+
+/// The most steps that an event may note, where there are so many connections.
+pub(crate) fn room_for(event: &PlantEvent, links: usize) -> usize
+    requires { links ≤ 64 }
+    ensures { result ≡ room_for event.now links }
+{
+    match event {
+        PlantEvent::Tick => 65 * (links + 1),
+        _ => 1,
+    }
+}

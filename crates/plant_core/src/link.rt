@@ -1,0 +1,227 @@
+//! What a plant keeps of one connection beside its master.
+ghost use Rattle.std.specs.Prelude.{◌≡◌, ◌+◌, ◌<◌, ◌≤◌, ◌^◌, ◌&&◌, not, List, [], IfSome, IsSome, false, is_some, length};
+ghost use Rattle.fsoe_base.specs.Image.{bit_of};
+ghost use Rattle.param_load.specs.declared.entry.Move.TheVariants as event;
+ghost use Rattle.end_model.specs.Readiness as model;
+ghost use Rattle.end_model.specs.Outputs as looking_back;
+ghost use Rattle.param_load.specs.declared.entry.Entry.{Entry};
+ghost use Rattle.exchange_model.specs.Monitor.{view_of, NotesParts};
+ghost use Rattle.exchange_model.specs.Other.{first_other};
+ghost use Rattle.fsoe_base.specs.Did.{nothing};
+ghost use Rattle.fsoe_base.specs.declared.command.End.TheVariants as side;
+ghost use Rattle.fsoe_base.specs.declared.lengths.TheConstants.{MOST_DATA};
+ghost use Rattle.plant_core.specs.Link.{NotesSlave, ages_in, monitor_in};
+ghost use Rattle.reaction_bound.specs.Age.{told_age, worst_of};
+ghost use Rattle.reaction_bound.specs.Ages as ages;
+ghost use Rattle.slave_core.specs.Standing.{Shows};
+
+use crate::watch::Watch;
+use fsoe_base::{Did, End, FrameBuf, State};
+use plant_conf::LinkConf;
+use slave_core::Slave;
+use std::marker::Model;
+
+/// The slave of a connection, what notes the entries of its pair, the watchdog that its master is set to, and whether the connection is
+/// cut. Each call that has the slave do something notes what it did; of the master it is told.
+#[derive(Drop)]
+pub(crate) struct Link {
+    slave: Slave,
+    watch: Watch,
+    watchdog: u16,
+    cut: bool,
+}
+
+impl Model for Link {
+    ghost use Rattle.plant_core.specs.Link.{LinkView, ages_in, monitor_in};
+
+    ghost Value = { LinkView };
+
+    ghost view = { λ l. record { slave = l.slave; monitor = monitor_in l.watch; ages = ages_in l.watch; watchdog = l.watchdog; cut = l.cut } };
+}
+
+/// Notes an entry of a slave, by whether it is a tick, the bytes that came, what the slave did and the frame that it sent.
+fn note_slave(slave: &Slave, watch: &mut Watch, tick: bool, came: &[u8], did: &Did, sent: &FrameBuf)
+    requires few { (monitor_in watch.old).noted + 1 < 2 ^ 64 }
+    ensures noted { NotesParts (monitor_in watch.old) side.Slave came.now did.now sent.now (monitor_in watch.new) }
+    ensures ages { NotesSlave slave.now (ages_in watch.old) tick came.now did.now sent.now (ages_in watch.new) }
+    ensures count { (monitor_in watch.new).noted ≡ (monitor_in watch.old).noted + 1 }
+    ensures aged { is_some (ages_in watch.new) ≡ is_some (ages_in watch.old) }
+{
+    let watchdog = match slave.terms() {
+        Some(terms) => Some(terms.watchdog),
+        None => None,
+    };
+    watch.note_parts(End::Slave, tick, came, did, sent, watchdog);
+}
+
+/// Notes an entry of a slave in which something was set, and nothing done.
+fn note_setting(slave: &Slave, watch: &mut Watch)
+    requires few { (monitor_in watch.old).noted + 1 < 2 ^ 64 }
+    ensures noted { NotesParts (monitor_in watch.old) side.Slave [] nothing [] (monitor_in watch.new) }
+    ensures ages { NotesSlave slave.now (ages_in watch.old) false [] nothing [] (ages_in watch.new) }
+    ensures count { (monitor_in watch.new).noted ≡ (monitor_in watch.old).noted + 1 }
+    ensures aged { is_some (ages_in watch.new) ≡ is_some (ages_in watch.old) }
+{
+    note_slave(slave, watch, false, &[], &Did::nothing(), &FrameBuf::new());
+}
+
+impl Link {
+    ghost use Rattle.plant_core.specs.Link.{new_link, SlaveGoesOn, MasterNoted, NotesOne};
+    ghost use Rattle.std.specs.Prelude.{IsTrue};
+    ghost use Rattle.param_load.specs.Profile.{allows_id};
+    ghost use Rattle.end_model.specs.Setup.{OfSlave, sends};
+
+    /// A new slave of this connection, which isn't cut. The ages of the outputs are told or not.
+    #[tactic(auto, using(crate::proofs::Linked::is_new))]
+    pub(crate) fn new(conf: &LinkConf, aged: bool) -> Link
+        ensures { result ≡ new_link aged conf.now }
+    {
+        Link {
+            slave: Slave::new(conf.slave.copy()),
+            watch: Watch::new(aged),
+            watchdog: conf.master.watchdog(),
+            cut: false,
+        }
+    }
+
+    /// Counts a tick at the slave, and writes what it did and the frame that it sent.
+    #[tactic(auto, using(crate::proofs::Linked::slave_goes, crate::proofs::Linked::notes_one))]
+    pub(crate) fn tick(&mut self, did: &mut Did, out: &mut FrameBuf)
+        requires few { self.old.monitor.noted + 1 < 2 ^ 64 }
+        ensures goes { SlaveGoesOn self.old event.Tick did.new out.new self.new }
+        ensures notes { NotesOne self.old self.new }
+    {
+        self.slave.tick_into(did, out);
+        note_slave(&self.slave, &mut self.watch, true, &[], did, out);
+    }
+
+    /// A frame comes to the slave: writes what it did and the frame that it sent.
+    #[tactic(auto, using(crate::proofs::Linked::slave_goes, crate::proofs::Linked::notes_one))]
+    pub(crate) fn deliver(&mut self, frame: &[u8], did: &mut Did, out: &mut FrameBuf)
+        requires few { self.old.monitor.noted + 1 < 2 ^ 64 }
+        ensures goes { SlaveGoesOn self.old (event.Deliver frame.now) did.new out.new self.new }
+        ensures notes { NotesOne self.old self.new }
+    {
+        self.slave.deliver_into(frame, did, out);
+        note_slave(&self.slave, &mut self.watch, false, frame, did, out);
+    }
+
+    /// The slave is reset: writes what it did and the frame that it sent.
+    #[tactic(auto, using(crate::proofs::Linked::slave_goes, crate::proofs::Linked::notes_one))]
+    pub(crate) fn reset(&mut self, did: &mut Did, out: &mut FrameBuf)
+        requires few { self.old.monitor.noted + 1 < 2 ^ 64 }
+        ensures goes { SlaveGoesOn self.old event.Local did.new out.new self.new }
+        ensures notes { NotesOne self.old self.new }
+    {
+        *did = self.slave.reset(out);
+        note_slave(&self.slave, &mut self.watch, false, &[], did, out);
+    }
+
+    /// The slave sends these safe data from now on, exactly as many bytes as it sends.
+    #[tactic(auto, using(slave_core::proofs::Law::set_answers, crate::proofs::Linked::slave_goes, crate::proofs::Linked::notes_one))]
+    pub(crate) fn put(&mut self, load: &[u8])
+        requires few { self.old.monitor.noted + 1 < 2 ^ 64 }
+        requires fits { length load.now ≡ sends (OfSlave self.old.slave.kit.settings) }
+        ensures goes { SlaveGoesOn self.old (event.Put load.now) nothing [] self.new }
+        ensures notes { NotesOne self.old self.new }
+    {
+        self.slave.put(load);
+        note_setting(&self.slave, &mut self.watch);
+    }
+
+    /// The slave sends fail-safe data from now on, or no longer.
+    #[tactic(auto, using(slave_core::proofs::Law::set_answers, crate::proofs::Linked::slave_goes, crate::proofs::Linked::notes_one))]
+    pub(crate) fn hold(&mut self, failsafe: bool)
+        requires few { self.old.monitor.noted + 1 < 2 ^ 64 }
+        ensures goes { SlaveGoesOn self.old (event.Hold failsafe) nothing [] self.new }
+        ensures notes { NotesOne self.old self.new }
+    {
+        self.slave.hold(failsafe);
+        note_setting(&self.slave, &mut self.watch);
+    }
+
+    /// The session id of the slave's sessions that begin from now on, one that its profile allows.
+    #[tactic(auto, using(slave_core::proofs::Law::set_answers, crate::proofs::Linked::slave_goes, crate::proofs::Linked::notes_one))]
+    pub(crate) fn nonce(&mut self, id: u32)
+        requires few { self.old.monitor.noted + 1 < 2 ^ 64 }
+        requires allowed { IsTrue (allows_id self.old.slave.kit.settings.profile id) }
+        ensures goes { SlaveGoesOn self.old (event.Nonce id) nothing [] self.new }
+        ensures notes { NotesOne self.old self.new }
+    {
+        self.slave.nonce(id);
+        note_setting(&self.slave, &mut self.watch);
+    }
+
+    /// Notes an entry of the master, by whether it is a tick, the bytes that came, what it did and the frame that it sent.
+    #[tactic(auto, using(crate::proofs::Linked::master_noted, crate::proofs::Linked::notes_one))]
+    pub(crate) fn note_master(&mut self, tick: bool, came: &[u8], did: &Did, sent: &FrameBuf)
+        requires few { self.old.monitor.noted + 1 < 2 ^ 64 }
+        ensures stands { MasterNoted self.old tick came.now did.now sent.now self.new }
+        ensures notes { NotesOne self.old self.new }
+    {
+        let watchdog = Some(self.watchdog);
+        self.watch
+            .note_parts(End::Master, tick, came, did, sent, watchdog);
+    }
+
+    /// Cuts the connection, or joins it again.
+    pub(crate) fn set_cut(&mut self, cut: bool)
+        ensures { self.new ≡ record self.old { cut = cut } }
+    {
+        self.cut = cut;
+    }
+
+    /// Whether the connection is cut.
+    pub(crate) fn is_cut(&self) -> bool
+        ensures { result ≡ self.now.cut }
+    {
+        self.cut
+    }
+
+    /// The state of the slave.
+    pub(crate) fn state(&self) -> State
+        ensures { Shows self.now.slave result model.state_of }
+    {
+        self.slave.state()
+    }
+
+    /// The outputs of the slave.
+    pub(crate) fn outputs(&self) -> &[u8]
+        ensures shown { Shows self.now.slave result.now looking_back.out }
+        ensures most { length result.now ≤ MOST_DATA }
+    {
+        self.slave.outputs()
+    }
+
+    /// Whether the slave offers this bit as 1 and isn't held. A bit that its offer doesn't have is 0.
+    pub(crate) fn offers(&self, bit: u16) -> bool
+        ensures { Shows self.now.slave result (λ s e. not (model.held e) && bit_of (model.offer s e) bit) }
+    {
+        !self.slave.held() && bit_of(self.slave.offer(), bit)
+    }
+
+    /// Whether an entry of the pair is other.
+    pub(crate) fn has_other(&self) -> bool
+        ensures { (w : List Entry) → self.now.monitor ≡ view_of w → result ≡ is_some (first_other w) }
+    {
+        self.watch.has_other()
+    }
+
+    /// The greatest age of an end's outputs, where ages are told.
+    pub(crate) fn worst(&self, at: End) -> Option<u32>
+        requires { IsSome self.now.ages }
+        ensures { (w : List Entry) → IfSome self.now.ages (λ a. a ≡ ages.view_of w) → result ≡ told_age (worst_of at w) }
+    {
+        self.watch.worst(at)
+    }
+}
+
+/// The value of a bit of these bytes: bit `b % 8`, lowest first, of byte `b / 8`; 0 where there is no such byte.
+pub(crate) fn bit_of(bytes: &[u8], b: u16) -> bool
+    ensures { result ≡ bit_of bytes.now b }
+{
+    match bytes.get(usize::from(b / 8)) {
+        Some(byte) => *byte & (1 << (b % 8)) != 0,
+        None => false,
+    }
+}

@@ -1,0 +1,342 @@
+//! Many connections and an application.
+ghost use Rattle.std.specs.Prelude.{◌≡◌, ◌≤◌, ◌⊎◌, All, List, length, map};
+ghost use Rattle.end_model.specs.Outputs.{out};
+ghost use Rattle.end_model.specs.Readiness.{state_of};
+ghost use Rattle.fsoe_base.specs.declared.command.End.TheVariants as side;
+ghost use Rattle.fsoe_base.specs.declared.lengths.TheConstants.{MOST_DATA};
+ghost use Rattle.plant_conf.specs.ConfView.{HasSameLengths};
+ghost use Rattle.plant_conf.specs.declared.conf.LinkConf.{LinkConf};
+ghost use Rattle.plant_model.specs.Pair.{state_at, outputs_at, lowest_other};
+ghost use Rattle.std.specs.Prelude.{[], ◌∷◌, map, IfOk, OnOk, OnErr};
+ghost use Rattle.black_channel.specs.Told.{Told};
+ghost use Rattle.multi_master.specs.Standing.{app_view};
+ghost use Rattle.plant_model.specs.Acts.{Start, uses};
+ghost use Rattle.plant_model.specs.FairPairs.{lengths_in};
+ghost use Rattle.plant_core.specs.Making.{links_made};
+ghost use Rattle.plant_core.specs.Standing.{AllNoted, PlantStands, seen, fixed_in, lengths_kept};
+ghost use Rattle.plant_model.specs.Uses.{Trace};
+ghost use Rattle.plant_model.specs.declared.journal.JournalStep.{JournalStep};
+
+use crate::ends::{Ends, room_for};
+use crate::journal::{Journal, take_room};
+use crate::link::{Link, bit_of};
+use crate::making::ends_made;
+use black_channel::Channel;
+use failsafe_io::{Application, Bit};
+use fb_net::{EntryOf, KindOf, Net};
+use file_run::Stopped;
+use fsoe_base::{End, Memory, State};
+use plant_conf::{BoundSpec, PlantConf};
+use plant_model::PlantEvent;
+use plant_setup::take_app;
+use std::alloc::Global;
+use std::marker::Model;
+use std::mem;
+
+/// Up to 64 connections, each with both its ends, and an application that decides the offers of all masters. Their frames go through a
+/// channel that is handed in with each call. What was done is noted in a journal.
+#[derive(Drop)]
+pub struct Plant<A> {
+    ends: Ends<A>,
+    journal: Journal,
+}
+
+impl<A> Model for Plant<A> {
+    ghost use Rattle.std.specs.Prelude.{length};
+    ghost use Rattle.plant_core.specs.Standing.{PlantValue, IsPlant};
+
+    ghost Value = { PlantValue A };
+
+    ghost view = { λ p. record { master = p.ends.master; links = p.ends.links.items; journal = p.journal } };
+
+    ghost invariant = { λ p. IsPlant p.ends.master p.ends.links.items p.ends.dids.items p.ends.outs.items (length p.journal) };
+}
+
+impl<H: Application> Plant<KindOf<H>> {
+    ghost use Rattle.std.specs.Prelude.{[], ◌∷◌, map, IfOk, OnOk, OnErr};
+    ghost use Rattle.multi_master.specs.Standing.{app_view};
+    ghost use Rattle.plant_model.specs.Acts.{Start, uses};
+    ghost use Rattle.plant_model.specs.FairPairs.{lengths_in};
+    ghost use Rattle.plant_core.specs.Making.{links_made};
+    ghost use Rattle.plant_core.specs.Standing.{seen, fixed_in, lengths_kept, PlantStands};
+    ghost use Rattle.plant_model.specs.Uses.{Trace};
+
+    /// A plant of this configuration's connections with this application, which has its first cycle, not ticked. All memory is taken
+    /// first, and then the channel begins with the seed. The greatest ages of the outputs are kept of the connections that a bound names.
+    /// After `Memory` the channel is unchanged, and the application is dropped.
+    #[tactic(auto, using(crate::proofs::Made::lengths_made))]
+    pub fn new<C: Channel>(
+        alloc: Global,
+        conf: &PlantConf,
+        app: KindOf<H>,
+        channel: &mut C,
+    ) -> Result<Plant<KindOf<H>>, Memory>
+        ensures stands { let K = ⟦<KindOf<H> as Application>⟧ in IfOk result (λ plant. PlantStands (record { links = conf.now.links; app = app_view K.rule K.holds K.guards app; seed = conf.now.seed }) (seen K.rule K.holds K.guards plant) []) }
+        ensures channel { let K = ⟦<KindOf<H> as Application>⟧ in OnOk result (Trace (uses (record { links = conf.now.links; app = app_view K.rule K.holds K.guards app; seed = conf.now.seed }) (Start ∷ [])) (C.told channel.old) (C.told channel.new)) }
+        ensures lengths { IfOk result (λ plant. lengths_kept plant.links ≡ map lengths_in conf.now.links) }
+        ensures aged { IfOk result (λ plant. fixed_in plant.links ≡ fixed_in (links_made 1 conf.now.bounds conf.now.links)) }
+        ensures kept { OnErr result (channel.new ≡ channel.old) }
+    {
+        let mut app = app;
+        Plant::begun(alloc, conf, &mut app, channel)
+    }
+
+    /// The same, with an application that stays where it is after `Memory`; else an empty net is left in its place.
+    pub fn begun<C: Channel>(
+        alloc: Global,
+        conf: &PlantConf,
+        app: &mut KindOf<H>,
+        channel: &mut C,
+    ) -> Result<Plant<KindOf<H>>, Memory>
+        ensures stands { let K = ⟦<KindOf<H> as Application>⟧ in IfOk result (λ plant. PlantStands (record { links = conf.now.links; app = app_view K.rule K.holds K.guards app.old; seed = conf.now.seed }) (seen K.rule K.holds K.guards plant) []) }
+        ensures channel { let K = ⟦<KindOf<H> as Application>⟧ in OnOk result (Trace (uses (record { links = conf.now.links; app = app_view K.rule K.holds K.guards app.old; seed = conf.now.seed }) (Start ∷ [])) (C.told channel.old) (C.told channel.new)) }
+        ensures fixed { IfOk result (λ plant. fixed_in plant.links ≡ fixed_in (links_made 1 conf.now.bounds conf.now.links)) }
+        ensures same_lengths { OnOk result (All HasSameLengths conf.now.links) }
+        ensures kept { OnErr result (channel.new ≡ channel.old) }
+        ensures unused { OnErr result (app.new ≡ app.old) }
+    {
+        let before = empty_net(alloc)?;
+        let after = empty_net(alloc)?;
+        begin(alloc, conf, before, app, after, channel)
+    }
+}
+
+/// The net that has no block and drives nothing.
+fn empty_net<H: Application>(alloc: Global) -> Result<KindOf<H>, Memory> {
+    match Net::new(Vec::new(alloc), Vec::new(alloc), &[], &[]) {
+        Ok(net) => Ok(KindOf::Net(net)),
+        Err(_) => Err(Memory),
+    }
+}
+
+/// A plant of this configuration's connections, in which this application runs, and another one ran before its first cycle. A third one is
+/// left in its place.
+fn begin<A: Application, C: Channel>(
+    alloc: Global,
+    conf: &PlantConf,
+    before: A,
+    app: &mut A,
+    after: A,
+    channel: &mut C,
+) -> Result<Plant<A>, Memory>
+    ensures stands { IfOk result (λ plant. PlantStands (record { links = conf.now.links; app = app_view A.rule A.holds A.guards app.old; seed = conf.now.seed }) (seen A.rule A.holds A.guards plant) []) }
+    ensures channel { OnOk result (Trace (uses (record { links = conf.now.links; app = app_view A.rule A.holds A.guards app.old; seed = conf.now.seed }) (Start ∷ [])) (C.told channel.old) (C.told channel.new)) }
+    ensures fixed { IfOk result (λ plant. fixed_in plant.links ≡ fixed_in (links_made 1 conf.now.bounds conf.now.links)) }
+    ensures same_lengths { OnOk result (All HasSameLengths conf.now.links) }
+    ensures kept { OnErr result (channel.new ≡ channel.old) }
+    ensures unused { OnErr result (app.new ≡ app.old) }
+{
+    let mut ends = ends_made(alloc, conf.links(), conf.bounds(), before)?;
+    let mut journal = Journal::new(alloc);
+    take_room(&mut journal.steps, ends.links.len())?;
+    channel.begin(conf.seed());
+    ends.start(mem::replace(app, after), &mut journal.steps);
+    Ok(Plant { ends, journal })
+}
+
+impl<A: Application> Plant<A> {
+    ghost use Rattle.std.specs.Prelude.{OnOk, OnErr, option_copied};
+    ghost use Rattle.multi_master.specs.Standing.{app_view};
+    ghost use Rattle.plant_model.specs.Acts.{Event, App};
+    ghost use Rattle.plant_core.specs.Standing.{TellsStill, seen, fixed_in, kept_at, lengths_kept, HasLink, Follows, ShowsPair, TellsOther, IsAged, ShowsOn, ShowsWorst};
+    ghost use Rattle.plant_model.specs.FairPairs.{Fits};
+
+    /// What an event of the script says happens, one that fits the connections. In a tick the channel brings what it does: at most 64
+    /// parcels are pulled, until none comes. All room in the journal is taken first; after `Memory` the plant and the channel are
+    /// unchanged.
+    pub fn step<C: Channel>(&mut self, event: &PlantEvent, channel: &mut C) -> Result<(), Memory>
+        requires fits { Fits (lengths_kept self.old.links) event.now }
+        ensures follows { let seen = seen A.rule A.holds A.guards in OnOk result (Follows (seen self.old) (Event event.now) (seen self.new) (C.told channel.old) (C.told channel.new)) }
+        ensures fixed { fixed_in self.new.links ≡ fixed_in self.old.links }
+        ensures kept { OnErr result (self.new ≡ self.old) }
+        ensures unused { OnErr result (channel.new ≡ channel.old) }
+    {
+        let room = room_for(event, self.ends.links.len());
+        take_room(&mut self.journal.steps, room)?;
+        self.ends.happen(event, &mut self.journal.steps, channel);
+        Ok(())
+    }
+
+    /// Drops the application that runs, and has this one in its place, which has its first cycle, not ticked. After `Memory` this one is
+    /// dropped, and nothing is changed.
+    pub fn change_app(&mut self, app: A) -> Result<(), Memory>
+        ensures follows { let seen = seen A.rule A.holds A.guards in OnOk result ((told : Told) → Follows (seen self.old) (App (app_view A.rule A.holds A.guards app)) (seen self.new) told told) }
+        ensures fixed { fixed_in self.new.links ≡ fixed_in self.old.links }
+        ensures kept { OnErr result (self.new ≡ self.old) }
+    {
+        take_room(&mut self.journal.steps, 1 + self.ends.links.len())?;
+        self.ends.change_app(app, &mut self.journal.steps);
+        Ok(())
+    }
+
+    /// What was done so far.
+    pub fn journal(&self) -> &Journal
+        ensures { result.now ≡ self.now.journal }
+    {
+        &self.journal
+    }
+
+    /// The same, of a plant that isn't needed any longer.
+    pub fn into_journal(self) -> Journal
+        ensures { result ≡ self.journal }
+    {
+        self.journal
+    }
+
+    /// The number of connections, which are numbered from 1.
+    pub fn links(&self) -> u16
+        ensures count { result ≡ length self.now.links }
+        ensures most { result ≤ 64 }
+    {
+        self.ends.links.len() as u16
+    }
+
+    /// The lowest connection whose pair has an other entry.
+    #[tactic(auto, using(crate::proofs::Others::other_told))]
+    pub fn other(&self) -> Option<u16>
+        ensures { TellsOther (seen A.rule A.holds A.guards self.now) result }
+    {
+        lowest_other(self.ends.links.as_slice())
+    }
+
+    /// The greatest age of the outputs of an end of this connection, in ticks of that end, after anything that it did: how long before its
+    /// peer sent the data from which the outputs were. A bound of the configuration names the connection, if there is one. None exactly where
+    /// no age was ever told; 2^32 - 1 where it was above that.
+    #[tactic(auto, using(crate::proofs::Watchdogs::worst_shown, crate::proofs::Watchdogs::no_worst))]
+    pub fn worst(&self, link: u16, end: End) -> Option<u32>
+        requires { IsAged self.now.links link }
+        ensures { ShowsWorst (seen A.rule A.holds A.guards self.now) link end result }
+    {
+        match self.link(link) {
+            Some(link) => link.worst(end),
+            None => None,
+        }
+    }
+
+    /// Whether the output bit is 1 at the slave of its connection; it isn't where there is no such connection or no such bit.
+    #[tactic(auto, using(crate::proofs::Watchdogs::on_shown, crate::proofs::Watchdogs::not_on))]
+    pub fn is_on(&self, out: Bit) -> bool
+        ensures { ShowsOn (seen A.rule A.holds A.guards self.now) out result }
+    {
+        match self.link(out.link) {
+            Some(link) => bit_of(link.outputs(), out.bit),
+            None => false,
+        }
+    }
+
+    /// Whether this bound is still, as `quiet` says; the e-stop of a connection that there isn't is off.
+    pub fn is_still(&self, bound: BoundSpec) -> bool
+        ensures { TellsStill (seen A.rule A.holds A.guards self.now) bound result }
+    {
+        if bound.estop.link > 0 && bound.estop.link <= self.links() {
+            self.quiet(bound.estop, bound.drive)
+        } else {
+            self.ends.master.guards(bound.drive, bound.estop)
+        }
+    }
+
+    /// What is kept of the connection with this number, if there is one.
+    fn link(&self, link: u16) -> Option<&Link>
+        ensures { option_copied result ≡ kept_at self.now.links link }
+    {
+        if link == 0 {
+            return None;
+        }
+        self.ends.links.get(usize::from(link) - 1)
+    }
+
+    /// The state of the slave of this connection.
+    pub fn slave_state(&self, link: u16) -> State
+        requires { HasLink self.now link }
+        ensures { ShowsPair (seen A.rule A.holds A.guards self.now) link result (λ l w. state_at l side.Slave w) }
+    {
+        self.ends.links[usize::from(link) - 1].state()
+    }
+
+    /// The outputs of the slave of this connection.
+    pub fn slave_outputs(&self, link: u16) -> &[u8]
+        requires { HasLink self.now link }
+        ensures shown { ShowsPair (seen A.rule A.holds A.guards self.now) link result.now (λ l w. outputs_at l side.Slave w) }
+        ensures most { length result.now ≤ MOST_DATA }
+    {
+        self.ends.links[usize::from(link) - 1].outputs()
+    }
+
+    /// The state of the master of this connection.
+    #[tactic(auto, using(crate::proofs::Readers::master_has, crate::proofs::Readers::master_state_shown))]
+    pub fn master_state(&self, link: u16) -> State
+        requires { HasLink self.now link }
+        ensures { ShowsPair (seen A.rule A.holds A.guards self.now) link result (λ l w. state_at l side.Master w) }
+    {
+        self.ends.master.state(link)
+    }
+
+    /// The outputs of the master of this connection, which are inputs of the application.
+    #[tactic(auto, using(crate::proofs::Readers::master_has, crate::proofs::Readers::master_outputs_shown))]
+    pub fn master_outputs(&self, link: u16) -> &[u8]
+        requires { HasLink self.now link }
+        ensures shown { ShowsPair (seen A.rule A.holds A.guards self.now) link result.now (λ l w. outputs_at l side.Master w) }
+        ensures most { length result.now ≤ MOST_DATA }
+    {
+        self.ends.master.outputs(link)
+    }
+
+    /// Whether the bound of these bits is still: the slave of the input bit's connection, which there is, offers that bit as 0 or is held, and
+    /// the application that runs guards the output bit by it. An input bit that its offer doesn't have is 0.
+    pub fn quiet(&self, inp: Bit, out: Bit) -> bool
+        requires { HasLink self.now inp.link }
+        ensures { TellsStill (seen A.rule A.holds A.guards self.now) (record { estop = inp; drive = out }) result }
+    {
+        !self.ends.links[usize::from(inp.link) - 1].offers(inp.bit)
+            && self.ends.master.guards(out, inp)
+    }
+}
+
+impl<H: Application> Plant<KindOf<H>> {
+    ghost use Rattle.std.specs.Prelude.{OnOk, OnErr, IfErr, None, string_bytes};
+    ghost use Rattle.multi_master.specs.Standing.{app_view};
+    ghost use Rattle.fb_net.specs.declared.kind_of.EntryOf.{EntryOf};
+    ghost use Rattle.fb_net.specs.declared.kind_of.KindOf.TheVariants as kind;
+    ghost use Rattle.file_run.specs.declared.stopped.Stopped.TheVariants as stopped;
+    ghost use Rattle.plant_setup.specs.Names.{place_of, IsTaken};
+    ghost use Rattle.plant_model.specs.Acts.{App};
+    ghost use Rattle.plant_core.specs.Standing.{seen, fixed_in, Follows};
+
+    /// Has the first spare application of this name run in the place of the one that runs, as `change_app` does. All room is taken first;
+    /// after an error nothing is changed: `NoApp` where there is none of this name, or `Memory`.
+    pub fn take_spare(&mut self, name: &[u8], spare: &mut Vec<EntryOf<H>>) -> Result<(), Stopped>
+        ensures follows { let K = ⟦<KindOf<H> as Application>⟧ in let seen = seen K.rule K.holds K.guards in
+            OnOk result ((entry : EntryOf H) × IsTaken (λ e. string_bytes e.name) name.now spare.old.items entry spare.new.items
+            × ((told : Told) → Follows (seen self.old) (App (app_view K.rule K.holds K.guards (kind.Handed entry.app))) (seen self.new) told told)) }
+        ensures fixed { fixed_in self.new.links ≡ fixed_in self.old.links }
+        ensures none { IfErr result (λ why. (why ≡ stopped.Memory) ⊎ ((why ≡ stopped.NoApp) × (place_of name.now (map (λ e. string_bytes e.name) spare.old.items) ≡ None))) }
+        ensures kept { OnErr result (self.new ≡ self.old) }
+        ensures unused { OnErr result (spare.new.items ≡ spare.old.items) }
+    {
+        if take_room(&mut self.journal.steps, 1 + self.ends.links.len()).is_err() {
+            return Err(Stopped::Memory);
+        }
+        match take_app(name, spare) {
+            Some(entry) => {
+                self.ends
+                    .change_app(KindOf::Handed(entry.app), &mut self.journal.steps);
+                Ok(())
+            }
+            None => Err(Stopped::NoApp),
+        }
+    }
+}
+
+/// The lowest of these connections whose pair has an other entry.
+#[tactic(auto, using(crate::proofs::Others::all_left))]
+fn lowest_other(links: &[Link]) -> Option<u16>
+    requires { length links.now ≤ 64 }
+    ensures { (confs : List LinkConf) (steps : List JournalStep) → AllNoted 1 confs links.now steps → result ≡ lowest_other 1 confs steps }
+{
+    for i in 0..links.len() {
+        if links[i].has_other() {
+            return Some(i as u16 + 1);
+        }
+    }
+    None
+}

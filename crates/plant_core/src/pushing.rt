@@ -1,0 +1,140 @@
+//! What an end of a connection sends goes to the channel.
+ghost use Rattle.std.specs.Prelude.{◌≡◌, ◌≤◌, ◌<◌, ◌+◌, ◌-◌, ◌^◌, ℕ, [], length};
+ghost use Rattle.param_load.specs.declared.entry.Move.TheVariants as event;
+ghost use Rattle.plant_model.specs.Uses.{place_of, sent_uses, Trace};
+ghost use Rattle.plant_core.specs.Doing.{SlaveActs, MasterActs, SlavesTick, MastersNoted};
+ghost use Rattle.plant_core.specs.Standing.{AreNoted, fixed_in};
+ghost use Rattle.plant_core.specs.Link.{NotesOne};
+
+use crate::link::Link;
+use black_channel::{Channel, Place};
+use fsoe_base::{Did, End, FrameBuf};
+
+/// Pushes a frame that is for this end of a connection, if there is one and the connection isn't cut.
+pub(crate) fn push_sent<C: Channel>(
+    channel: &mut C,
+    link: u16,
+    end: End,
+    frame: &FrameBuf,
+    cut: bool,
+)
+    ensures { Trace (sent_uses (place_of link end) frame.now cut) (C.told channel.old) (C.told channel.new) }
+{
+    if cut {
+        return;
+    }
+    if frame.is_empty() {
+        return;
+    }
+    channel.push(Place { link, end }, frame.bytes());
+}
+
+/// The slave of this connection ticks, and its frame is pushed.
+#[tactic(auto, using(crate::proofs::Acting::slave_acts))]
+fn tick_slave<C: Channel>(
+    number: u16,
+    link: &mut Link,
+    channel: &mut C,
+    did: &mut Did,
+    out: &mut FrameBuf,
+)
+    requires few { link.old.monitor.noted + 1 < 2 ^ 64 }
+    ensures acts { SlaveActs number event.Tick link.old link.new (C.told channel.old) (C.told channel.new) }
+    ensures notes { NotesOne link.old link.new }
+{
+    link.tick(did, out);
+    push_sent(channel, number, End::Master, out, link.is_cut());
+}
+
+/// A frame comes to the slave of this connection, and its answer is pushed.
+#[tactic(auto, using(crate::proofs::Acting::slave_acts))]
+pub(crate) fn deliver_to_slave<C: Channel>(
+    number: u16,
+    link: &mut Link,
+    frame: &[u8],
+    channel: &mut C,
+    did: &mut Did,
+    out: &mut FrameBuf,
+)
+    requires few { link.old.monitor.noted + 1 < 2 ^ 64 }
+    ensures acts { SlaveActs number (event.Deliver frame.now) link.old link.new (C.told channel.old) (C.told channel.new) }
+    ensures notes { NotesOne link.old link.new }
+{
+    link.deliver(frame, did, out);
+    push_sent(channel, number, End::Master, out, link.is_cut());
+}
+
+/// The slave of this connection is reset, and its frame is pushed.
+#[tactic(auto, using(crate::proofs::Acting::slave_acts))]
+pub(crate) fn reset_slave<C: Channel>(number: u16, link: &mut Link, channel: &mut C)
+    requires few { link.old.monitor.noted + 1 < 2 ^ 64 }
+    ensures acts { SlaveActs number event.Local link.old link.new (C.told channel.old) (C.told channel.new) }
+    ensures notes { NotesOne link.old link.new }
+{
+    let mut did = Did::nothing();
+    let mut out = FrameBuf::new();
+    link.reset(&mut did, &mut out);
+    push_sent(channel, number, End::Master, &out, link.is_cut());
+}
+
+/// Notes what the master of this connection did, by whether it was in a tick and by the bytes that came, and pushes its frame.
+#[tactic(auto, using(crate::proofs::Acting::master_acts))]
+pub(crate) fn master_acted<C: Channel>(
+    number: u16,
+    link: &mut Link,
+    tick: bool,
+    came: &[u8],
+    did: &Did,
+    sent: &FrameBuf,
+    channel: &mut C,
+)
+    requires few { link.old.monitor.noted + 1 < 2 ^ 64 }
+    ensures acts { MasterActs number tick came.now did.now sent.now link.old link.new (C.told channel.old) (C.told channel.new) }
+    ensures notes { NotesOne link.old link.new }
+{
+    link.note_master(tick, came, did, sent);
+    push_sent(channel, number, End::Slave, sent, link.is_cut());
+}
+
+/// The slaves of all connections tick, in their order, and their frames are pushed.
+pub(crate) fn tick_slaves<C: Channel>(links: &mut [Link], channel: &mut C)
+    requires most { length links.old ≤ 64 }
+    requires few { AreNoted (2 ^ 64 - 2) links.old }
+    ensures tick { SlavesTick links.old links.new (C.told channel.old) (C.told channel.new) }
+    ensures noted { (most : ℕ) → AreNoted most links.old → AreNoted (most + 1) links.new }
+    ensures fixed { fixed_in links.new ≡ fixed_in links.old }
+{
+    let mut did = Did::nothing();
+    let mut out = FrameBuf::new();
+    for i in 0..links.len() {
+        tick_slave(i as u16 + 1, &mut links[i], channel, &mut did, &mut out);
+    }
+}
+
+/// Notes what each master did in a tick, in the order of the connections, and pushes their frames.
+pub(crate) fn masters_ticked<C: Channel>(
+    links: &mut [Link],
+    dids: &[Did],
+    outs: &[FrameBuf],
+    channel: &mut C,
+)
+    requires most { length links.old ≤ 64 }
+    requires few { AreNoted (2 ^ 64 - 2) links.old }
+    requires dids { length dids.now ≡ length links.old }
+    requires outs { length outs.now ≡ length links.old }
+    ensures noted_are { MastersNoted dids.now outs.now links.old links.new (C.told channel.old) (C.told channel.new) }
+    ensures noted { (most : ℕ) → AreNoted most links.old → AreNoted (most + 1) links.new }
+    ensures fixed { fixed_in links.new ≡ fixed_in links.old }
+{
+    for i in 0..links.len() {
+        master_acted(
+            i as u16 + 1,
+            &mut links[i],
+            true,
+            &[],
+            &dids[i],
+            &outs[i],
+            channel,
+        );
+    }
+}

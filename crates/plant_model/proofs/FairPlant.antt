@@ -1,0 +1,89 @@
+-- A pair is a world of proper events where the deeds of both its ends are runs; and the law of the pair holds of worlds.
+use Rattle.std.proofs.Common.{◌≡◌, ℕ, zero, suc, List, [], ◌∷◌, slice_get, Option, Some, None, if◌then◌else◌, refl, sym, ap}
+use Rattle.std.specs.Prelude.{IfSome}
+use Rattle.fsoe_base.specs.declared.command.End.{End}
+use Rattle.fsoe_base.specs.declared.command.End.TheVariants as side
+use Rattle.fsoe_base.specs.declared.lengths.Lengths.{Lengths}
+use Rattle.param_load.specs.declared.entry.Entry.{Entry}
+use Rattle.param_load.specs.declared.entry.Move.{Move}
+use Rattle.param_load.specs.declared.master_settings.MasterSettings.{MasterSettings}
+use Rattle.param_load.specs.declared.slave_settings.SlaveSettings.{SlaveSettings}
+use Rattle.schedule_file.specs.declared.event.Event.{Event}
+use Rattle.plant_conf.specs.ConfView.{HasSameLengths}
+use Rattle.plant_conf.specs.declared.conf.LinkConf.{LinkConf}
+use Rattle.end_model.specs.Setup.{OfMaster, OfSlave}
+use Rattle.end_model.specs.Step.{IsRun}
+use Rattle.exchange_model.specs.Ends.{same_end, peer}
+use Rattle.exchange_model.specs.Fair.{Fair}
+use Rattle.exchange_model.specs.Other.{before_other}
+use Rattle.exchange_model.specs.World.{setup_of, deed_in, deeds, frames_of, end_of_event, move_from, next_entry, entry_on, going_on, world_after, SameLengths, IsNextEntry, IsWorld}
+use Rattle.exchange_model.proofs.Fairness.Headline.{fair_world}
+use Rattle.exchange_model.proofs.Worlds.Others.{before_is_clean, before_is_world}
+use Rattle.plant_model.specs.declared.journal.JournalStep.{JournalStep}
+use Rattle.plant_model.specs.FairPairs.{PairsAreFair}
+use Rattle.plant_model.specs.Pair.{pair, own_events, link_at}
+
+-- each entry is the next one of its end after those before it
+abbrev pub AreNext : MasterSettings → SlaveSettings → List Entry → Type 0
+AreNext ms ss [] = Unit {0}
+AreNext ms ss (x ∷ w) = (x ≡ next_entry (setup_of ms ss x.end) (deeds x.end w) x.what) × AreNext ms ss w
+
+next_on : (ms : MasterSettings) (ss : SlaveSettings) (events : List Event) (w : List Entry) (end : End) (what : Option Move) → AreNext ms ss w
+    → ((x : Entry) → AreNext ms ss (x ∷ w) → AreNext ms ss (world_after ms ss events (x ∷ w)))
+    → AreNext ms ss (going_on w (entry_on (setup_of ms ss end) (deeds end w) what) (world_after ms ss events))
+next_on ms ss events w end None h f = h
+next_on ms ss events w side.Master (Some what) h f = f (next_entry (OfMaster ms) (deeds side.Master w) what) (refl, h)
+next_on ms ss events w side.Slave (Some what) h f = f (next_entry (OfSlave ss) (deeds side.Slave w) what) (refl, h)
+
+pub are_next : (ms : MasterSettings) (ss : SlaveSettings) (events : List Event) (w : List Entry) → AreNext ms ss w → AreNext ms ss (world_after ms ss events w)
+are_next ms ss [] w h = h
+are_next ms ss (e ∷ events) w h =
+    next_on ms ss events w (end_of_event e) (move_from (frames_of (peer (end_of_event e)) w) e) h (λ x g. are_next ms ss events (x ∷ w) g)
+
+-- an entry, and the runs of both ends before it
+record Before (ms : MasterSettings) (ss : SlaveSettings) (end : End) (x : Entry) (w : List Entry) : Type 0 where
+  next : IsNextEntry (setup_of ms ss end) x (deeds end w)
+  master : IsRun (OfMaster ms) (deeds side.Master w)
+  slave : IsRun (OfSlave ss) (deeds side.Slave w)
+
+before : (ms : MasterSettings) (ss : SlaveSettings) (end : End) (x : Entry) (w : List Entry) → x ≡ next_entry (setup_of ms ss end) (deeds end w) x.what
+    → IsRun (OfMaster ms) (if same_end side.Master end then deed_in x ∷ deeds side.Master w else deeds side.Master w)
+    → IsRun (OfSlave ss) (if same_end side.Slave end then deed_in x ∷ deeds side.Slave w else deeds side.Slave w) → Before ms ss end x w
+before ms ss side.Master x w e m s = record { next = record { proper = m.0.proper; stepped = e }; master = m.1; slave = s }
+before ms ss side.Slave x w e m s = record { next = record { proper = s.0.proper; stepped = e }; master = m; slave = s.1 }
+
+is_world : (ms : MasterSettings) (ss : SlaveSettings) (w : List Entry) → AreNext ms ss w → IsRun (OfMaster ms) (deeds side.Master w) → IsRun (OfSlave ss) (deeds side.Slave w) → IsWorld ms ss w
+is_world ms ss [] h m s = tt
+is_world ms ss (x ∷ w) h m s = let b = before ms ss x.end x w h.0 m s in (b.next, is_world ms ss w h.1 b.master b.slave)
+
+-- the pair of a connection, which is a world of ends with equal lengths
+pub record WorldOf (link : LinkConf) (k : ℕ) (steps : List JournalStep) : Type 0 where
+  pub lengths : SameLengths link.master link.slave
+  pub world : IsWorld link.master link.slave (pair link k steps)
+
+pub world_of_runs : (link : LinkConf) (k : ℕ) (steps : List JournalStep) → HasSameLengths link → IsRun (OfMaster link.master) (deeds side.Master (pair link k steps)) → IsRun (OfSlave link.slave) (deeds side.Slave (pair link k steps))
+    → WorldOf link k steps
+world_of_runs link k steps e m s = record {
+  lengths = record { master = ap (λ (z : Lengths). z.master) (sym e); slave = ap (λ (z : Lengths). z.slave) (sym e) };
+  world = is_world link.master link.slave (pair link k steps) (are_next link.master link.slave (own_events k steps) [] tt) m s;
+}
+
+-- so it is of each of these connections
+abbrev pub AreWorlds : List LinkConf → List JournalStep → Type 0
+AreWorlds links steps = (place : ℕ) (link : LinkConf) → slice_get links place ≡ Some link → WorldOf link (suc place) steps
+
+fair_at : (links : List LinkConf) (steps : List JournalStep) (place : ℕ) (link : LinkConf) → AreWorlds links steps → slice_get links place ≡ Some link
+    → Fair link.master.lengths (before_other (pair link (suc place) steps))
+fair_at links steps place link are e =
+    let w = are place link e in
+    let clean : List Entry = before_other (pair link (suc place) steps) in
+    fair_world link.master link.slave clean w.lengths (before_is_world link.master link.slave (pair link (suc place) steps) w.world) (before_is_clean (pair link (suc place) steps))
+
+fair_if : (links : List LinkConf) (steps : List JournalStep) (k : ℕ) (o : Option LinkConf) → link_at links k ≡ o → AreWorlds links steps
+    → IfSome o (λ link. Fair link.master.lengths (before_other (pair link k steps)))
+fair_if links steps k None e are = tt
+fair_if links steps zero (Some link) e are = absurd (cc e)
+fair_if links steps (suc place) (Some link) e are = fair_at links steps place link are e
+
+pub worlds_are_fair : (links : List LinkConf) (steps : List JournalStep) → AreWorlds links steps → PairsAreFair links steps
+worlds_are_fair links steps are = λ k. fair_if links steps k (link_at links k) refl are

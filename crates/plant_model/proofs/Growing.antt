@@ -1,0 +1,162 @@
+-- How the entries of a pair grow with the journal, and which frames are pushed then.
+use Rattle.std.proofs.Common.{◌≡◌, ◌≢◌, ◌<◌, ℕ, zero, suc, ◌+◌, ◌-◌, ◌==◌, Bool, true, false, List, [], ◌∷◌, ◌++◌, map, take, reverse, length, slice_get, Option, Some, if◌then◌else◌, refl, sym, ap, ap₂, subst, ◌∙◌, arith}
+use Rattle.std.proofs.lemmas.Grind.{flat_map-append}
+use Rattle.std.proofs.lemmas.List.{append-nil}
+use Rattle.std.proofs.lemmas.Bool.{eq-eqb}
+use Rattle.fsoe_base.specs.declared.command.End.{End}
+use Rattle.fsoe_base.specs.declared.command.End.TheVariants as side
+use Rattle.param_load.specs.declared.entry.Entry.{Entry}
+use Rattle.param_load.specs.declared.entry.Move.{Move}
+use Rattle.param_load.specs.declared.entry.Move.TheVariants as move
+use Rattle.param_load.specs.declared.master_settings.MasterSettings.{MasterSettings}
+use Rattle.param_load.specs.declared.slave_settings.SlaveSettings.{SlaveSettings}
+use Rattle.schedule_file.specs.declared.event.Event.{Event}
+use Rattle.schedule_file.specs.declared.event.Event.TheVariants as at
+use Rattle.plant_conf.specs.declared.conf.LinkConf.{LinkConf}
+use Rattle.end_model.specs.Deed.{is_empty}
+use Rattle.exchange_model.specs.Ends.{same_end, peer}
+use Rattle.exchange_model.specs.World.{setup_of, deeds, frames_of, end_of_event, move_from, next_entry, entry_on, entry_at, going_on, world_after, world}
+use Rattle.plant_model.specs.declared.journal.JournalStep.{JournalStep}
+use Rattle.plant_model.specs.Acts.{newer, push_to, pushes_of}
+use Rattle.plant_model.specs.Uses.{place_of, sent_uses, each_uses, Use}
+use Rattle.plant_model.specs.Pair.{next_of, if_same, own_part, own_events, pair, pairs_by}
+use Rattle.plant_model.proofs.Masters.{IsPlain, ArePlain, events_plain, not_same}
+
+-- an event that names no frame, at an end
+abbrev pub event_for : End → Move → Event
+event_for end (move.Deliver bytes) = at.Raw end bytes
+event_for end move.Tick = at.Tick end
+event_for end (move.Put load) = at.Put end load
+event_for end (move.Hold failsafe) = at.Hold end failsafe
+event_for end (move.Nonce id) = at.Nonce end id
+event_for end move.Local = at.Local end
+
+pub event_world : (link : LinkConf) (end : End) (what : Move) (w : List Entry) → world_after link.master link.slave (event_for end what ∷ []) w ≡ next_of end what link w ∷ w
+event_world link end (move.Deliver bytes) w = refl
+event_world link end move.Tick w = refl
+event_world link end (move.Put load) w = refl
+event_world link end (move.Hold failsafe) w = refl
+event_world link end (move.Nonce id) w = refl
+event_world link end move.Local w = refl
+
+-- what such an event is to its end
+plain_move : (e : Event) → IsPlain e → (m : Move) × ((frames : List (List ℕ)) → move_from frames e ≡ Some m)
+plain_move (at.Deliver to back) h = absurd h
+plain_move (at.Altered to back pos mask) h = absurd h
+plain_move (at.Raw to frame) h = (move.Deliver frame, λ frames. refl)
+plain_move (at.Tick end) h = (move.Tick, λ frames. refl)
+plain_move (at.Put end load) h = (move.Put load, λ frames. refl)
+plain_move (at.Hold end failsafe) h = (move.Hold failsafe, λ frames. refl)
+plain_move (at.Nonce end id) h = (move.Nonce id, λ frames. refl)
+plain_move (at.Local end) h = (move.Local, λ frames. refl)
+
+world_append : (ms : MasterSettings) (ss : SlaveSettings) (xs ys : List Event) (w : List Entry) → ArePlain xs → world_after ms ss (xs ++ ys) w ≡ world_after ms ss ys (world_after ms ss xs w)
+world_append ms ss [] ys w h = refl
+world_append ms ss (e ∷ xs) ys w h =
+    let p = plain_move e h.0 in
+    let here : End = end_of_event e in
+    let found : entry_at ms ss w e ≡ Some (next_entry (setup_of ms ss here) (deeds here w) p.0) = ap (entry_on (setup_of ms ss here) (deeds here w)) (p.1 (frames_of (peer here) w)) in
+    subst (λ (o : Option Entry). going_on w o (world_after ms ss (xs ++ ys)) ≡ world_after ms ss ys (going_on w o (world_after ms ss xs))) (sym found)
+    (world_append ms ss xs ys (next_entry (setup_of ms ss here) (deeds here w) p.0 ∷ w) h.1)
+
+-- the entries of a pair by a longer journal
+pub pair_more : (link : LinkConf) (k : ℕ) (before more : List JournalStep) → pair link k (before ++ more) ≡ world_after link.master link.slave (own_events k more) (pair link k before)
+pair_more link k before more =
+    ap (world link.master link.slave) (flat_map-append (own_part k) before more) ∙ world_append link.master link.slave (own_events k before) (own_events k more) [] (events_plain k before)
+
+-- one more entry of an end of connection n
+abbrev pub one_more : ℕ → End → Move → (ℕ → LinkConf → List Entry) → ℕ → LinkConf → List Entry
+one_more n end what done k link = if n == k then next_of end what link (done k link) ∷ done k link else done k link
+
+-- a step is this event at this end of connection n, and nothing else
+pub record IsOne (s : JournalStep) (n : ℕ) (end : End) (what : Move) : Type 0 where
+  pub part : (k : ℕ) → own_part k s ≡ if_same n k (event_for end what)
+
+one_world : (link : LinkConf) (end : End) (what : Move) (w : List Entry) (b : Bool)
+    → world_after link.master link.slave ((if b then event_for end what ∷ [] else []) ++ []) w ≡ (if b then next_of end what link w ∷ w else w)
+one_world link end what w true = event_world link end what w
+one_world link end what w false = refl
+
+pub pair_one : (link : LinkConf) (k : ℕ) (before : List JournalStep) (s : JournalStep) (n : ℕ) (end : End) (what : Move) → IsOne s n end what
+    → pair link k (before ++ s ∷ []) ≡ one_more n end what (pairs_by before) k link
+pair_one link k before s n end what h =
+    pair_more link k before (s ∷ []) ∙ ap (λ (es : List Event). world_after link.master link.slave (es ++ []) (pair link k before)) (h.part k) ∙ one_world link end what (pair link k before) (n == k)
+
+-- the entries where the step is of another connection, and where it is of this one
+pub pair_other : (link : LinkConf) (k : ℕ) (before : List JournalStep) (s : JournalStep) (n : ℕ) (end : End) (what : Move) → IsOne s n end what → k ≢ n
+    → pair link k (before ++ s ∷ []) ≡ pair link k before
+pair_other link k before s n end what h other =
+    pair_one link k before s n end what h
+    ∙ ap (λ (b : Bool). if b then next_of end what link (pair link k before) ∷ pair link k before else pair link k before) (not_same n k (λ e. other (sym e)))
+
+pub pair_own : (link : LinkConf) (before : List JournalStep) (s : JournalStep) (n : ℕ) (end : End) (what : Move) → IsOne s n end what
+    → pair link n (before ++ s ∷ []) ≡ next_of end what link (pair link n before) ∷ pair link n before
+pair_own link before s n end what h =
+    pair_one link n before s n end what h
+    ∙ ap (λ (b : Bool). if b then next_of end what link (pair link n before) ∷ pair link n before else pair link n before) (eq-eqb n n refl)
+
+-- a frame before others, if there is one
+abbrev pub with_frame : List ℕ → List (List ℕ) → List (List ℕ)
+with_frame frame frames = if is_empty frame then frames else frame ∷ frames
+
+-- what an end sends in the entry of an end
+abbrev pub sent_in : End → End → Entry → List ℕ
+sent_in end of x = if same_end end of then x.sent else []
+
+pub frames_next : (end of : End) (what : Move) (link : LinkConf) (w : List Entry) → frames_of end (next_of of what link w ∷ w) ≡ with_frame (sent_in end of (next_of of what link w)) (frames_of end w)
+frames_next side.Master side.Master what link w = refl
+frames_next side.Master side.Slave what link w = refl
+frames_next side.Slave side.Master what link w = refl
+frames_next side.Slave side.Slave what link w = refl
+
+-- the frames that are new
+new_frame : (frame : List ℕ) (frames : List (List ℕ)) → newer frames (with_frame frame frames) ≡ (if is_empty frame then [] else frame ∷ [])
+new_frame [] frames =
+    let none : length frames - length frames ≡ 0 = omega arith in
+    ap (λ (n : ℕ). reverse (take n frames)) none
+new_frame (x ∷ frame) frames =
+    let one : suc (length frames) - length frames ≡ 1 = omega arith in
+    ap (λ (n : ℕ). reverse (take n ((x ∷ frame) ∷ frames))) one
+
+one_push : (k : ℕ) (end : End) (frame : List ℕ) (cut : Bool) → (if cut then [] else map (push_to k end) (if is_empty frame then [] else frame ∷ [])) ≡ sent_uses (place_of k end) frame cut
+one_push k end [] true = refl
+one_push k end [] false = refl
+one_push k end (x ∷ frame) true = refl
+one_push k end (x ∷ frame) false = refl
+
+-- the frames of each connection, one at most, are pushed
+pub pushes_each : (end : End) (k : ℕ) (links : List LinkConf) (cut : ℕ → Bool) (before now : List JournalStep) (frame : ℕ → LinkConf → List ℕ)
+    → ((j : ℕ) (link : LinkConf) → frames_of end (pair link j now) ≡ with_frame (frame j link) (frames_of end (pair link j before)))
+    → pushes_of end k links cut before now ≡ each_uses (λ j link. sent_uses (place_of j (peer end)) (frame j link) (cut j)) k links
+pushes_each end k [] cut before now frame h = refl
+pushes_each end k (link ∷ links) cut before now frame h =
+    let frames : List (List ℕ) = frames_of end (pair link k before) in
+    let first = ap (λ (fs : List (List ℕ)). if cut k then [] else map (push_to k (peer end)) (newer frames fs)) (h k link)
+    ∙ ap (λ (fs : List (List ℕ)). if cut k then [] else map (push_to k (peer end)) fs) (new_frame (frame k link) frames)
+    ∙ one_push k (peer end) (frame k link) (cut k) in
+    ap₂ (λ (xs ys : List Use). xs ++ ys) first (pushes_each end (suc k) links cut before now frame h)
+
+-- no connection has any uses
+pub each_none : (uses : ℕ → LinkConf → List Use) (k : ℕ) (links : List LinkConf) → ((j : ℕ) (link : LinkConf) → uses j link ≡ []) → each_uses uses k links ≡ []
+each_none uses k [] h = refl
+each_none uses k (link ∷ links) h = ap₂ (λ (xs ys : List Use). xs ++ ys) (h k link) (each_none uses (suc k) links h)
+
+-- none but one, whose number was passed
+each_past : (uses : ℕ → LinkConf → List Use) (k n : ℕ) (links : List LinkConf) → ((j : ℕ) (link : LinkConf) → j ≢ n → uses j link ≡ []) → n < k → each_uses uses k links ≡ []
+each_past uses k n [] h e = refl
+each_past uses k n (link ∷ links) h e = ap₂ (λ (xs ys : List Use). xs ++ ys) (h k link (λ z. absurd (omega arith))) (each_past uses (suc k) n links h (omega arith))
+
+-- none but one
+pub each_one : (uses : ℕ → LinkConf → List Use) (k n place : ℕ) (links : List LinkConf) (link : LinkConf) → ((j : ℕ) (l : LinkConf) → j ≢ n → uses j l ≡ []) → slice_get links place ≡ Some link → n ≡ k + place
+    → each_uses uses k links ≡ uses n link
+each_one uses k n place [] link h e i = absurd (cc e)
+each_one uses k n zero (l ∷ links) link h e i =
+    let same : l ≡ link = cc in
+    let number : k ≡ n = omega arith in
+    ap₂ (λ (xs ys : List Use). xs ++ ys) (ap₂ uses number same) (each_past uses (suc k) n links h (omega arith)) ∙ append-nil (uses n link)
+each_one uses k n (suc place) (l ∷ links) link h e i =
+    ap₂ (λ (xs ys : List Use). xs ++ ys) (h k l (λ z. absurd (omega arith))) (each_one uses (suc k) n place links link h e (omega arith))
+
+-- a step that means nothing for the ends
+pub no_entry : (link : LinkConf) (k : ℕ) (steps : List JournalStep) (s : JournalStep) → own_part k s ≡ [] → pair link k (steps ++ s ∷ []) ≡ pair link k steps
+no_entry link k steps s h = pair_more link k steps (s ∷ []) ∙ ap (λ (es : List Event). world_after link.master link.slave (es ++ []) (pair link k steps)) h

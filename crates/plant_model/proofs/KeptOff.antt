@@ -1,0 +1,164 @@
+-- The bits of a bound at the master of many connections and in the pairs: what the application reads is what the master of a pair has, and what it
+-- answers is what that master offers. Acts and entries are listed newest first.
+use Rattle.std.proofs.Common.{◌≡◌, ℕ, zero, suc, ◌-◌, Bool, true, false, ◌&&◌, not, List, [], ◌∷◌, ◌++◌, map, get_or, replicate, slice_get, slice_set, Option, Some, None, option_map, if◌then◌else◌, refl, sym, ap, ap₂, ◌∙◌, arith}
+use Rattle.std.specs.Prelude.{option_and_then, option_to_list}
+use Rattle.fsoe_base.specs.declared.command.End.{End}
+use Rattle.fsoe_base.specs.declared.command.End.TheVariants as side
+use Rattle.fsoe_base.specs.Image.{bit_of}
+use Rattle.failsafe_io.specs.Application.{Answer}
+use Rattle.failsafe_io.specs.declared.bit.Bit.{Bit}
+use Rattle.failsafe_io.specs.Bits.{bit_at}
+use Rattle.fb_net.proofs.Bits.{zero_bit}
+use Rattle.param_load.specs.declared.entry.Entry.{Entry}
+use Rattle.param_load.specs.declared.entry.Move.{Move}
+use Rattle.param_load.specs.declared.entry.Move.TheVariants as move
+use Rattle.param_load.specs.declared.master_settings.MasterSettings.{MasterSettings}
+use Rattle.param_load.specs.declared.slave_settings.SlaveSettings.{SlaveSettings}
+use Rattle.plant_conf.specs.declared.conf.LinkConf.{LinkConf}
+use Rattle.end_model.specs.Deed.{Deed}
+use Rattle.end_model.specs.Outputs.{out}
+use Rattle.end_model.specs.Readiness.{offer_after, offer, held_after, held}
+use Rattle.end_model.specs.Setup.{Setup, OfMaster, sends}
+use Rattle.exchange_model.specs.Ends.{same_end, of_end}
+use Rattle.exchange_model.specs.Fair.{received_len, outputs_due}
+use Rattle.exchange_model.specs.Items.{FailSafe, put_after, last_put, is_held, offered_put, next_offered}
+use Rattle.exchange_model.specs.Offering.{offers_bit}
+use Rattle.exchange_model.specs.World.{setup_of, deed_in, deeds, SameLengths, IsWorld}
+use Rattle.exchange_model.proofs.Fairness.Shown.{due_is_out, receives_is}
+use Rattle.exchange_model.proofs.Worlds.Projection.{told, deeds_are_run}
+use Rattle.multi_master.specs.Calls.{Call, Deliver, Tick, Nonce, ChangeApp, Meant, connection, replaced, event_at, cycle_in, with_cycle, after, meant}
+use Rattle.multi_master.specs.Connection.{Connection, with_event, outputs_at, offer_at}
+use Rattle.multi_master.proofs.Places.{map_set}
+use Rattle.plant_model.specs.Acts.{Beginning, Act, settings, call_of, calls, masters, cycle_of, journal}
+use Rattle.plant_model.specs.Bound.{inputs_after, offers_after}
+use Rattle.plant_model.specs.Pair.{pair, link_at}
+use Rattle.plant_model.proofs.Masters.{mastered}
+
+-- whether an end is held, and what it put last, by its entries and by its deeds
+held_if : (which : End) (x : Entry) (w : List Entry) (mine : Bool) → is_held (of_end which w) ≡ held (deeds which w)
+    → is_held (if mine then x ∷ of_end which w else of_end which w) ≡ held (if mine then deed_in x ∷ deeds which w else deeds which w)
+held_if which x w true h = ap (held_after x.what) h
+held_if which x w false h = h
+
+held_is : (which : End) (w : List Entry) → is_held (of_end which w) ≡ held (deeds which w)
+held_is which [] = refl
+held_is which (x ∷ w) = held_if which x w (same_end which x.end) (held_is which w)
+
+-- what was put, zeros where nothing was
+abbrev put_or : Setup → Option (List ℕ) → List ℕ
+put_or s None = replicate (sends s) 0
+put_or s (Some load) = load
+
+after_is : (s : Setup) (m : Move) (before : List ℕ) (o : Option (List ℕ)) → before ≡ put_or s o → offer_after m before ≡ put_or s (put_after m o)
+after_is s (move.Put load) before o h = refl
+after_is s (move.Deliver bytes) before o h = h
+after_is s move.Tick before o h = h
+after_is s (move.Hold failsafe) before o h = h
+after_is s (move.Nonce id) before o h = h
+after_is s move.Local before o h = h
+
+offer_if : (s : Setup) (which : End) (x : Entry) (w : List Entry) (mine : Bool) → offer s (deeds which w) ≡ put_or s (last_put (of_end which w))
+    → offer s (if mine then deed_in x ∷ deeds which w else deeds which w) ≡ put_or s (last_put (if mine then x ∷ of_end which w else of_end which w))
+offer_if s which x w true h = after_is s x.what (offer s (deeds which w)) (last_put (of_end which w)) h
+offer_if s which x w false h = h
+
+offer_is : (s : Setup) (which : End) (w : List Entry) → offer s (deeds which w) ≡ put_or s (last_put (of_end which w))
+offer_is s which [] = refl
+offer_is s which (x ∷ w) = offer_if s which x w (same_end which x.end) (offer_is s which w)
+
+bit_by : (s : Setup) (bit : ℕ) (now : Bool) (o : Option (List ℕ)) → offers_bit bit (if now then FailSafe else offered_put o) ≡ (not now && bit_of (put_or s o) bit)
+bit_by s bit true o = refl
+bit_by s bit false None = sym (zero_bit (sends s ∷ []) (record { link = 1; bit = bit }))
+bit_by s bit false (Some load) = refl
+
+-- whether an end offers a bit as 1, by its deeds
+pub offers_is : (s : Setup) (which : End) (bit : ℕ) (w : List Entry) → offers_bit bit (next_offered (of_end which w)) ≡ (not (held (deeds which w)) && bit_of (offer s (deeds which w)) bit)
+offers_is s which bit w =
+    bit_by s bit (is_held (of_end which w)) (last_put (of_end which w))
+    ∙ ap₂ (λ (now : Bool) (load : List ℕ). not now && bit_of load bit) (held_is which w) (sym (offer_is s which w))
+
+pub and_false : (b : Bool) → (b && false) ≡ false
+and_false true = refl
+and_false false = refl
+
+-- what has the place of a connection in a list of what all have
+mapped_at : (f : Connection → List ℕ) (cs : List Connection) (place : ℕ) (c : Connection) → slice_get cs place ≡ Some c → get_or (map f cs) place [] ≡ f c
+mapped_at f [] place c e = absurd (cc e)
+mapped_at f (a ∷ cs) zero c e = let i : a ≡ c = cc in ap f i
+mapped_at f (a ∷ cs) (suc place) c e = mapped_at f cs place c e
+
+-- the outputs of an end, by its entries
+pub out_due : (ms : MasterSettings) (ss : SlaveSettings) (which : End) (w : List Entry) → SameLengths ms ss → IsWorld ms ss w
+    → out (setup_of ms ss which) (deeds which w) ≡ outputs_due (received_len ms.lengths which) (of_end which w)
+out_due ms ss which w same h =
+    let s : Setup = setup_of ms ss which in
+    sym (due_is_out s (deeds which w) (deeds_are_run ms ss which w h))
+    ∙ ap₂ outputs_due (sym (receives_is ms ss which same)) (sym (told ms ss which w h))
+
+input_at : (b : Beginning) (bit : Bit) (acts : List Act) (place : ℕ) (link : LinkConf) → bit.link ≡ suc place → slice_get b.links place ≡ Some link
+    → bit_at (inputs_after b acts) bit ≡ bit_of (out (OfMaster link.master) (deeds side.Master (pair link bit.link (journal b acts)))) bit.bit
+input_at b bit acts place link n is =
+    let m = mastered b acts place link is in
+    ap (λ (k : ℕ). bit_at (inputs_after b acts) (record { link = k; bit = bit.bit })) n
+    ∙ ap (λ (image : List ℕ). bit_of image bit.bit) (mapped_at outputs_at (masters b acts).connections place m.there m.is ∙ ap₂ (λ (s : MasterSettings) (e : List Deed). out (OfMaster s) e) m.settings_are (sym m.deeds_are))
+    ∙ ap (λ (k : ℕ). bit_of (out (OfMaster link.master) (deeds side.Master (pair link k (journal b acts)))) bit.bit) (sym n)
+
+offer_bit_at : (b : Beginning) (bit : Bit) (acts : List Act) (place : ℕ) (link : LinkConf) → bit.link ≡ suc place → slice_get b.links place ≡ Some link
+    → bit_at (offers_after b acts) bit ≡ bit_of (offer (OfMaster link.master) (deeds side.Master (pair link bit.link (journal b acts)))) bit.bit
+offer_bit_at b bit acts place link n is =
+    let m = mastered b acts place link is in
+    ap (λ (k : ℕ). bit_at (offers_after b acts) (record { link = k; bit = bit.bit })) n
+    ∙ ap (λ (image : List ℕ). bit_of image bit.bit) (mapped_at offer_at (masters b acts).connections place m.there m.is ∙ ap₂ (λ (s : MasterSettings) (e : List Deed). offer (OfMaster s) e) m.settings_are (sym m.deeds_are))
+    ∙ ap (λ (k : ℕ). bit_of (offer (OfMaster link.master) (deeds side.Master (pair link k (journal b acts)))) bit.bit) (sym n)
+
+-- a connection that there is has a place
+pub record Placed (links : List LinkConf) (k : ℕ) (link : LinkConf) : Type 0 where
+  pub place : ℕ
+  pub number : k ≡ suc place
+  pub is : slice_get links place ≡ Some link
+
+pub placed : (links : List LinkConf) (k : ℕ) (link : LinkConf) → link_at links k ≡ Some link → Placed links k link
+placed links zero link e = absurd (cc e)
+placed links (suc place) link e = record { place = place; number = refl; is = e }
+
+-- an input of the application is an output of the master in the pair
+pub input_is : (b : Beginning) (bit : Bit) (acts : List Act) (link : LinkConf) → link_at b.links bit.link ≡ Some link
+    → bit_at (inputs_after b acts) bit ≡ bit_of (out (OfMaster link.master) (deeds side.Master (pair link bit.link (journal b acts)))) bit.bit
+input_is b bit acts link e = let p = placed b.links bit.link link e in input_at b bit acts p.place link p.number p.is
+
+-- where the offer of the master of many has a bit as 0, the master in the pair offers it as 0
+pub offered_zero : (b : Beginning) (bit : Bit) (acts : List Act) (link : LinkConf) → link_at b.links bit.link ≡ Some link → bit_at (offers_after b acts) bit ≡ false
+    → offers_bit bit.bit (next_offered (of_end side.Master (pair link bit.link (journal b acts)))) ≡ false
+offered_zero b bit acts link e is_off =
+    let p = placed b.links bit.link link e in
+    let w : List Entry = pair link bit.link (journal b acts) in
+    offers_is (OfMaster link.master) side.Master bit.bit w
+    ∙ ap (λ (z : Bool). not (held (deeds side.Master w)) && z) (sym (offer_bit_at b bit acts p.place link p.number p.is) ∙ is_off)
+    ∙ and_false (not (held (deeds side.Master w)))
+
+-- an event that puts nothing changes no offer
+same_offers : (m : Meant) (link : ℕ) (what : Move) (o : Option Connection) → ((c : Connection) → offer_at (with_event what c) ≡ offer_at c) → connection link m ≡ o
+    → map offer_at (replaced link (option_map (with_event what) o) m).connections ≡ map offer_at m.connections
+same_offers m link what None h e = refl
+same_offers m zero what (Some c) h e = absurd (cc e)
+same_offers m (suc place) what (Some c) h e =
+    let same : suc place - 1 ≡ place = omega arith in
+    ap (λ (k : ℕ). map offer_at (slice_set m.connections k (with_event what c))) same ∙ map_set offer_at m.connections place c (with_event what c) e (h c)
+
+-- a call that runs no cycle changes no offer
+call_keeps : (m : Meant) (call : Call) → cycle_in call m ≡ None → map offer_at (after call m).connections ≡ map offer_at m.connections
+call_keeps m (Deliver link bytes) e =
+    ap (λ (o : Option Answer). map offer_at (event_at link (move.Deliver bytes) (with_cycle o m)).connections) e
+    ∙ same_offers m link (move.Deliver bytes) (connection link m) (λ c. refl) refl
+call_keeps m Tick e = absurd (cc e)
+call_keeps m (Nonce link id) e = same_offers m link (move.Nonce id) (connection link m) (λ c. refl) refl
+call_keeps m (ChangeApp app) e = absurd (cc e)
+
+keeps_by : (b : Beginning) (o : Option Call) (before : List Call) → option_and_then (λ call. cycle_in call (meant (settings b) b.app before)) o ≡ None
+    → map offer_at (meant (settings b) b.app (option_to_list o ++ before)).connections ≡ map offer_at (meant (settings b) b.app before).connections
+keeps_by b None before e = refl
+keeps_by b (Some call) before e = call_keeps (meant (settings b) b.app before) call e
+
+-- nor does an act that runs none
+pub act_keeps : (b : Beginning) (act : Act) (acts : List Act) → cycle_of b act acts ≡ None → offers_after b (act ∷ acts) ≡ offers_after b acts
+act_keeps b act acts e = keeps_by b (call_of b act) (calls b acts) e

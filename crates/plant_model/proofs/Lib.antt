@@ -1,0 +1,15 @@
+pub mod Broken
+mod Cycled
+pub mod FairPlant
+mod Given
+pub mod Growing
+pub mod KeptOff
+pub mod Lines
+pub mod Masters
+mod Proper
+pub mod Reacting
+mod Sends
+mod Since
+mod SpareApps
+mod StillTurns
+mod Traces

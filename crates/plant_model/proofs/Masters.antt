@@ -1,0 +1,476 @@
+-- The master of each pair of a journal does what this connection of the master of many does: both are the runs of the same events.
+use Rattle.std.proofs.Common.{◌≡◌, ◌≢◌, ◌⊎◌, inl, inr, ℕ, zero, suc, ◌+◌, ◌-◌, ◌<◌, ◌==◌, List, [], ◌∷◌, ◌++◌, map, slice_get, slice_set, Option, Some, None, option_map, IfSome, Bool, true, false, if◌then◌else◌, refl, sym, ap, ap₂, subst, ◌∙◌, append_assoc, arith}
+use lib.Dec.{compare_is_eq}
+use Prim.Native.Nat.compare
+use Rattle.std.specs.Prelude.{IsSome, IsSomeAnd, option_to_list}
+use Rattle.std.specs.List.{flat_map}
+use Rattle.std.specs.Option.{option_map_or}
+use Rattle.std.proofs.lemmas.Bool.Decides.{eqb_tells}
+use Rattle.std.proofs.lemmas.Bool.{eq-eqb, eqb-true}
+use Rattle.std.proofs.lemmas.Grind.{flat_map-append}
+use Rattle.std.proofs.lemmas.List.{append-nil}
+use Rattle.fsoe_base.specs.declared.command.End.{End}
+use Rattle.fsoe_base.specs.declared.command.End.TheVariants as side
+use Rattle.failsafe_io.specs.Application.{Answer}
+use Rattle.param_load.specs.declared.entry.Entry.{Entry}
+use Rattle.param_load.specs.declared.entry.Move.{Move}
+use Rattle.param_load.specs.declared.entry.Move.TheVariants as move
+use Rattle.param_load.specs.declared.master_settings.MasterSettings.{MasterSettings}
+use Rattle.param_load.specs.declared.slave_settings.SlaveSettings.{SlaveSettings}
+use Rattle.schedule_file.specs.declared.event.Event.{Event}
+use Rattle.schedule_file.specs.declared.event.Event.TheVariants as at
+use Rattle.plant_conf.specs.declared.conf.LinkConf.{LinkConf}
+use Rattle.end_model.specs.Deed.{events_of}
+use Rattle.end_model.specs.Setup.{OfMaster, OfSlave}
+use Rattle.end_model.specs.Step.{run, continued}
+use Rattle.exchange_model.specs.World.{deeds, next_entry, world_after}
+use Rattle.multi_master.specs.Connection.{Connection, fresh, setup, with_event, offer_at, is_offer, with_offer, with_offers}
+use Rattle.multi_master.specs.Calls.{Call, Deliver, Tick, Nonce, ChangeApp, Meant, connection, replaced, event_at, all_tick, cycle_in, with_cycle, after, meant, changed_from}
+use Rattle.multi_master.proofs.Neighbours.{runs_alone, settings_alone}
+use Rattle.multi_master.proofs.Places.{same_bytes}
+use Rattle.plant_model.specs.declared.event.PlantEvent.{PlantEvent}
+use Rattle.plant_model.specs.declared.event.PlantEvent.TheVariants as event
+use Rattle.plant_model.specs.declared.journal.JournalStep.{JournalStep}
+use Rattle.plant_model.specs.declared.journal.JournalStep.TheVariants as journal_step
+use Rattle.plant_model.specs.Pair.{script_part, own_part, own_events, pair, link_at}
+use Rattle.plant_model.specs.Acts.{Beginning, Event as SaysEvent, App, Act, Start, Happen, PullFrom, delivery_call, call_of, calls, settings, masters, offer_step, offers_by, steps_of, journal}
+use Rattle.plant_model.specs.Promises.{MastersAgree}
+
+-- what an event means for the master, where it names no frame
+abbrev at_master : Event → List Move
+at_master (at.Deliver to back) = []
+at_master (at.Altered to back pos mask) = []
+at_master (at.Raw side.Master frame) = move.Deliver frame ∷ []
+at_master (at.Raw side.Slave frame) = []
+at_master (at.Tick side.Master) = move.Tick ∷ []
+at_master (at.Tick side.Slave) = []
+at_master (at.Put side.Master load) = move.Put load ∷ []
+at_master (at.Put side.Slave load) = []
+at_master (at.Hold side.Master failsafe) = move.Hold failsafe ∷ []
+at_master (at.Hold side.Slave failsafe) = []
+at_master (at.Nonce side.Master id) = move.Nonce id ∷ []
+at_master (at.Nonce side.Slave id) = []
+at_master (at.Local side.Master) = move.Local ∷ []
+at_master (at.Local side.Slave) = []
+
+-- an event names no frame
+abbrev pub IsPlain : Event → Type 0
+IsPlain (at.Deliver to back) = ⊥
+IsPlain (at.Altered to back pos mask) = ⊥
+IsPlain _ = Unit {0}
+
+abbrev pub ArePlain : List Event → Type 0
+ArePlain [] = Unit {0}
+ArePlain (e ∷ events) = IsPlain e × ArePlain events
+
+plain_if : (b : Bool) (e : Event) → IsPlain e → ArePlain (if b then e ∷ [] else [])
+plain_if true e h = (h, tt)
+plain_if false e h = tt
+
+plain_append : (xs ys : List Event) → ArePlain xs → ArePlain ys → ArePlain (xs ++ ys)
+plain_append [] ys h i = i
+plain_append (e ∷ xs) ys h i = (h.0, plain_append xs ys h.1 i)
+
+script_plain : (k : ℕ) (e : PlantEvent) → ArePlain (script_part k e)
+script_plain k event.Tick = (tt, (tt, tt))
+script_plain k (event.Put link load) = plain_if (link == k) (at.Put side.Slave load) tt
+script_plain k (event.Hold link failsafe) = plain_if (link == k) (at.Hold side.Slave failsafe) tt
+script_plain k (event.Local link) = plain_if (link == k) (at.Local side.Slave) tt
+script_plain k (event.Nonce link end id) = plain_if (link == k) (at.Nonce end id) tt
+script_plain k (event.Cut link cut) = tt
+
+step_plain : (k : ℕ) (s : JournalStep) → ArePlain (own_part k s)
+step_plain k (journal_step.Script e) = script_plain k e
+step_plain k journal_step.App = tt
+step_plain k (journal_step.Offer link load) = plain_if (link == k) (at.Put side.Master load) tt
+step_plain k (journal_step.Pulled parcel) = plain_if (parcel.to.link == k) (at.Raw parcel.to.end parcel.frame) tt
+
+pub events_plain : (k : ℕ) (steps : List JournalStep) → ArePlain (own_events k steps)
+events_plain k [] = tt
+events_plain k (s ∷ steps) = plain_append (own_part k s) (own_events k steps) (step_plain k s) (events_plain k steps)
+
+-- the master's deeds in a world of such events are the run of those at the master
+master_deeds : (ms : MasterSettings) (ss : SlaveSettings) (events : List Event) (w : List Entry) → ArePlain events
+    → deeds side.Master (world_after ms ss events w) ≡ continued (OfMaster ms) (deeds side.Master w) (flat_map at_master events)
+master_deeds ms ss [] w h = refl
+master_deeds ms ss (at.Deliver to back ∷ events) w h = absurd h.0
+master_deeds ms ss (at.Altered to back pos mask ∷ events) w h = absurd h.0
+master_deeds ms ss (at.Raw side.Master frame ∷ events) w h = master_deeds ms ss events (next_entry (OfMaster ms) (deeds side.Master w) (move.Deliver frame) ∷ w) h.1
+master_deeds ms ss (at.Raw side.Slave frame ∷ events) w h = master_deeds ms ss events (next_entry (OfSlave ss) (deeds side.Slave w) (move.Deliver frame) ∷ w) h.1
+master_deeds ms ss (at.Tick side.Master ∷ events) w h = master_deeds ms ss events (next_entry (OfMaster ms) (deeds side.Master w) move.Tick ∷ w) h.1
+master_deeds ms ss (at.Tick side.Slave ∷ events) w h = master_deeds ms ss events (next_entry (OfSlave ss) (deeds side.Slave w) move.Tick ∷ w) h.1
+master_deeds ms ss (at.Put side.Master load ∷ events) w h = master_deeds ms ss events (next_entry (OfMaster ms) (deeds side.Master w) (move.Put load) ∷ w) h.1
+master_deeds ms ss (at.Put side.Slave load ∷ events) w h = master_deeds ms ss events (next_entry (OfSlave ss) (deeds side.Slave w) (move.Put load) ∷ w) h.1
+master_deeds ms ss (at.Hold side.Master failsafe ∷ events) w h = master_deeds ms ss events (next_entry (OfMaster ms) (deeds side.Master w) (move.Hold failsafe) ∷ w) h.1
+master_deeds ms ss (at.Hold side.Slave failsafe ∷ events) w h = master_deeds ms ss events (next_entry (OfSlave ss) (deeds side.Slave w) (move.Hold failsafe) ∷ w) h.1
+master_deeds ms ss (at.Nonce side.Master id ∷ events) w h = master_deeds ms ss events (next_entry (OfMaster ms) (deeds side.Master w) (move.Nonce id) ∷ w) h.1
+master_deeds ms ss (at.Nonce side.Slave id ∷ events) w h = master_deeds ms ss events (next_entry (OfSlave ss) (deeds side.Slave w) (move.Nonce id) ∷ w) h.1
+master_deeds ms ss (at.Local side.Master ∷ events) w h = master_deeds ms ss events (next_entry (OfMaster ms) (deeds side.Master w) move.Local ∷ w) h.1
+master_deeds ms ss (at.Local side.Slave ∷ events) w h = master_deeds ms ss events (next_entry (OfSlave ss) (deeds side.Slave w) move.Local ∷ w) h.1
+
+-- what steps of a journal mean for the master of connection k
+abbrev master_moves : ℕ → List JournalStep → List Move
+master_moves k steps = flat_map at_master (own_events k steps)
+
+moves_append : (k : ℕ) (xs ys : List JournalStep) → master_moves k (xs ++ ys) ≡ master_moves k xs ++ master_moves k ys
+moves_append k xs ys = ap (flat_map at_master) (flat_map-append (own_part k) xs ys) ∙ flat_map-append at_master (own_events k xs) (own_events k ys)
+
+-- the put of a load where it isn't the offer
+abbrev put_part : Connection → List ℕ → List Move
+put_part c load = if is_offer load c then [] else move.Put load ∷ []
+
+not_same_by : (n k : ℕ) → n ≢ k → (((n == k) ≡ true) × (n ≡ k)) ⊎ (((n == k) ≡ false) × (n ≢ k)) → (n == k) ≡ false
+not_same_by n k h (inl i) = absurd (h i.1)
+not_same_by n k h (inr i) = i.0
+
+pub not_same : (n k : ℕ) → n ≢ k → (n == k) ≡ false
+not_same n k h = not_same_by n k h (eqb_tells n k)
+
+-- the offer of a connection with this number
+abbrev load_of : Meant → ℕ → List ℕ
+load_of m k = option_map_or offer_at (connection k m) []
+
+-- an offer of another connection means nothing here
+skipped : (m : Meant) (k n : ℕ) (b : Bool) (rest : List ℕ) (x : List Move) → (n == k) ≡ false → master_moves k (map (offer_step m) rest) ≡ x
+    → master_moves k (map (offer_step m) (if b then rest else n ∷ rest)) ≡ x
+skipped m k n true rest x e h = h
+skipped m k n false rest x e h =
+    subst (λ (is : Bool). flat_map at_master ((if is then at.Put side.Master (load_of m n) ∷ [] else []) ++ own_events k (map (offer_step m) rest)) ≡ x) (sym e) h
+
+-- one of this connection is put
+met : (m : Meant) (k n : ℕ) (b : Bool) (rest : List ℕ) → (n == k) ≡ true → master_moves k (map (offer_step m) rest) ≡ []
+    → master_moves k (map (offer_step m) (if b then rest else n ∷ rest)) ≡ (if b then [] else move.Put (load_of m n) ∷ [])
+met m k n true rest e h = h
+met m k n false rest e h =
+    subst (λ (is : Bool). flat_map at_master ((if is then at.Put side.Master (load_of m n) ∷ [] else []) ++ own_events k (map (offer_step m) rest)) ≡ move.Put (load_of m n) ∷ []) (sym e)
+    (ap (λ (xs : List Move). move.Put (load_of m n) ∷ xs) h)
+
+none_before : (m : Meant) (k n : ℕ) (olds news : List Connection) → k < n → master_moves k (map (offer_step m) (changed_from n olds news)) ≡ []
+none_before m k n [] news h = refl
+none_before m k n (o ∷ olds) [] h = refl
+none_before m k n (o ∷ olds) (w ∷ news) h =
+    skipped m k n (is_offer (offer_at w) o) (changed_from (suc n) olds news) [] (not_same n k (λ e. absurd (omega arith)))
+    (none_before m k (suc n) olds news (omega arith))
+
+-- the offers that a call changed mean, for connection k, the put of its offer where that is another one
+one_put : (m : Meant) (k n place : ℕ) (olds news : List Connection) (c d : Connection) → k ≡ n + place → slice_get olds place ≡ Some c → slice_get news place ≡ Some d
+    → master_moves k (map (offer_step m) (changed_from n olds news)) ≡ (if is_offer (offer_at d) c then [] else move.Put (load_of m k) ∷ [])
+one_put m k n place [] news c d e h i = cc
+one_put m k n place (o ∷ olds) [] c d e h i = cc
+one_put m k n zero (o ∷ olds) (w ∷ news) c d e h i =
+    let same_old : o ≡ c = cc in
+    let same_new : w ≡ d = cc in
+    let same : n ≡ k = omega arith in
+    subst (λ (j : ℕ). master_moves k (map (offer_step m) (changed_from n (o ∷ olds) (w ∷ news))) ≡ (if is_offer (offer_at d) c then [] else move.Put (load_of m j) ∷ [])) same
+    (subst (λ (z : Connection). master_moves k (map (offer_step m) (changed_from n (o ∷ olds) (w ∷ news))) ≡ (if is_offer (offer_at d) z then [] else move.Put (load_of m n) ∷ [])) same_old
+    (subst (λ (z : Connection). master_moves k (map (offer_step m) (changed_from n (o ∷ olds) (w ∷ news))) ≡ (if is_offer (offer_at z) o then [] else move.Put (load_of m n) ∷ [])) same_new
+    (met m k n (is_offer (offer_at w) o) (changed_from (suc n) olds news) (eq-eqb n k same) (none_before m k (suc n) olds news (omega arith)))))
+one_put m k n (suc place) (o ∷ olds) (w ∷ news) c d e h i =
+    skipped m k n (is_offer (offer_at w) o) (changed_from (suc n) olds news) _ (not_same n k (λ z. absurd (omega arith)))
+    (one_put m k (suc n) place olds news c d (omega arith) h i)
+
+-- what stands at a place, and what is said of it
+record Stood (cs : List Connection) (place : ℕ) (R : Connection → Type 0) : Type 0 where
+  was : Connection
+  is : slice_get cs place ≡ Some was
+  holds : R was
+
+-- the events of a connection and its offer, after some moves
+record Went (moves : List Move) (c d : Connection) : Type 0 where
+  settings : d.settings ≡ c.settings
+  events : events_of d.deeds ≡ events_of c.deeds ++ moves
+
+stays : (c d : Connection) → d ≡ c → Went (put_part c (offer_at d)) c d
+stays c d e = subst (λ (z : Connection). Went (put_part c (offer_at z)) c z) (sym e) (record {
+  settings = refl;
+  events = subst (λ (b : Bool). events_of c.deeds ≡ events_of c.deeds ++ (if b then [] else move.Put (offer_at c) ∷ [])) (sym (same_bytes (offer_at c))) (sym (append-nil (events_of c.deeds)));
+})
+
+offered : (load : List ℕ) (c d : Connection) (b : Bool) → is_offer load c ≡ b → d ≡ (if b then c else with_event (move.Put load) c) → Went (put_part c (offer_at d)) c d
+offered load c d true is e = stays c d e
+offered load c d false is e = subst (λ (z : Connection). Went (put_part c (offer_at z)) c z) (sym e) (record {
+  settings = refl;
+  events = subst (λ (b : Bool). events_of c.deeds ++ move.Put load ∷ [] ≡ events_of c.deeds ++ (if b then [] else move.Put load ∷ [])) (sym is) refl;
+})
+
+offers_stood : (loads : List (List ℕ)) (cs : List Connection) (place : ℕ) (d : Connection) → slice_get (with_offers loads cs) place ≡ Some d → Stood cs place (λ c. Went (put_part c (offer_at d)) c d)
+offers_stood [] cs place d h = record { was = d; is = h; holds = stays d d refl }
+offers_stood (load ∷ loads) [] place d h = record { was = d; is = h; holds = stays d d refl }
+offers_stood (load ∷ loads) (c ∷ cs) zero d h =
+    let i : with_offer load c ≡ d = cc in
+    record { was = c; is = refl; holds = offered load c d (is_offer load c) refl (sym i) }
+offers_stood (load ∷ loads) (c ∷ cs) (suc place) d h = let s = offers_stood loads cs place d h in record { was = s.was; is = s.is; holds = s.holds }
+
+cycle_stood : (o : Option Answer) (m : Meant) (place : ℕ) (d : Connection) → slice_get (with_cycle o m).connections place ≡ Some d → Stood m.connections place (λ c. Went (put_part c (offer_at d)) c d)
+cycle_stood None m place d h = record { was = d; is = h; holds = stays d d refl }
+cycle_stood (Some a) m place d h = offers_stood a.outputs m.connections place d h
+
+ticks_stood : (cs : List Connection) (place : ℕ) (d : Connection) → slice_get (map (with_event move.Tick) cs) place ≡ Some d → Stood cs place (λ c. d ≡ with_event move.Tick c)
+ticks_stood [] place d h = absurd (cc h)
+ticks_stood (c ∷ cs) zero d h = let i : with_event move.Tick c ≡ d = cc in record { was = c; is = refl; holds = sym i }
+ticks_stood (c ∷ cs) (suc place) d h = let s = ticks_stood cs place d h in record { was = s.was; is = s.is; holds = s.holds }
+
+zero_suc : (k : ℕ) → (0 == suc k) ≡ false
+zero_suc k = grind arith
+
+suc_zero : (k : ℕ) → (suc k == 0) ≡ false
+suc_zero k = grind arith
+
+suc_suc : (j k : ℕ) → (suc j == suc k) ≡ (j == k)
+suc_suc j k = ap compare_is_eq (compare.suc-suc j k)
+
+-- a connection after an event, if it is this one
+abbrev one_of : Bool → Move → Connection → Connection
+one_of b what c = if b then with_event what c else c
+
+by_test : (a b : Bool) (what : Move) (c d : Connection) → a ≡ b → d ≡ one_of b what c → d ≡ one_of a what c
+by_test a b what c d h e = e ∙ ap (λ (z : Bool). one_of z what c) (sym h)
+
+set_stood : (cs : List Connection) (place k : ℕ) (what : Move) (c d : Connection) → slice_get cs place ≡ Some c → slice_get (slice_set cs place (with_event what c)) k ≡ Some d
+    → Stood cs k (λ b. d ≡ one_of (place == k) what b)
+set_stood [] place k what c d h e = absurd (cc h)
+set_stood (a ∷ cs) zero zero what c d h e =
+    let i : a ≡ c = cc in
+    let j : with_event what c ≡ d = cc in
+    record { was = a; is = refl; holds = sym (ap (with_event what) i ∙ j) }
+set_stood (a ∷ cs) zero (suc k) what c d h e = record { was = d; is = e; holds = by_test (0 == suc k) false what d d (zero_suc k) refl }
+set_stood (a ∷ cs) (suc place) zero what c d h e = record { was = d; is = e; holds = by_test (suc place == 0) false what d d (suc_zero place) refl }
+set_stood (a ∷ cs) (suc place) (suc k) what c d h e =
+    let s = set_stood cs place k what c d h e in
+    record { was = s.was; is = s.is; holds = by_test (suc place == suc k) (place == k) what s.was d (suc_suc place k) s.holds }
+
+absent : (cs : List Connection) (place k : ℕ) (d : Connection) → slice_get cs place ≡ None → slice_get cs k ≡ Some d → (place == k) ≡ false
+absent cs place k d h e = not_same place k (λ same. cc)
+
+replaced_stood : (m : Meant) (place k : ℕ) (what : Move) (o : Option Connection) (d : Connection) → slice_get m.connections place ≡ o
+    → slice_get (replaced (suc place) (option_map (with_event what) o) m).connections k ≡ Some d → Stood m.connections k (λ b. d ≡ one_of (suc place == suc k) what b)
+replaced_stood m place k what None d h e =
+    record { was = d; is = e; holds = by_test (suc place == suc k) false what d d (suc_suc place k ∙ absent m.connections place k d h e) refl }
+replaced_stood m place k what (Some c) d h e =
+    let p : suc place - 1 ≡ place = omega arith in
+    let s = set_stood m.connections place k what c d h (rw p at e) in
+    record { was = s.was; is = s.is; holds = by_test (suc place == suc k) (place == k) what s.was d (suc_suc place k) s.holds }
+
+event_stood : (m : Meant) (link k : ℕ) (what : Move) (d : Connection) → slice_get (event_at link what m).connections k ≡ Some d → Stood m.connections k (λ b. d ≡ one_of (link == suc k) what b)
+event_stood m zero k what d e = record { was = d; is = e; holds = by_test (0 == suc k) false what d d (zero_suc k) refl }
+event_stood m (suc place) k what d e = replaced_stood m place k what (slice_get m.connections place) d refl e
+
+-- what a call means for this connection, which has this offer after it
+abbrev call_moves : ℕ → Call → Connection → List ℕ → List Move
+call_moves k (Deliver link bytes) c load = put_part c load ++ (if link == k then move.Deliver bytes ∷ [] else [])
+call_moves k Tick c load = move.Tick ∷ put_part c load
+call_moves k (Nonce link id) c load = (if link == k then move.Nonce id ∷ [] else []) ++ put_part c load
+call_moves k (ChangeApp app) c load = put_part c load
+
+went_then : (a b : List Move) (c d e : Connection) → Went a c d → Went b d e → Went (a ++ b) c e
+went_then a b c d e g h = record {
+  settings = h.settings ∙ g.settings;
+  events = h.events ∙ ap (λ (xs : List Move). xs ++ b) g.events ∙ append_assoc (events_of c.deeds) a b;
+}
+
+event_went : (b : Bool) (what : Move) (c d : Connection) → d ≡ one_of b what c → Went (if b then what ∷ [] else []) c d
+event_went true what c d e = subst (λ (z : Connection). Went (what ∷ []) c z) (sym e) (record { settings = refl; events = refl })
+event_went false what c d e = subst (λ (z : Connection). Went [] c z) (sym e) (record { settings = refl; events = sym (append-nil (events_of c.deeds)) })
+
+same_offer : (b : Bool) (what : Move) (c d : Connection) → ((z : Connection) → offer_at (with_event what z) ≡ offer_at z) → d ≡ one_of b what c → offer_at d ≡ offer_at c
+same_offer true what c d h e = ap offer_at e ∙ h c
+same_offer false what c d h e = ap offer_at e
+
+no_put : (c : Connection) (load : List ℕ) → load ≡ offer_at c → put_part c load ≡ []
+no_put c load e = ap (put_part c) e ∙ ap (λ (b : Bool). if b then [] else move.Put (offer_at c) ∷ []) (same_bytes (offer_at c))
+
+grown : (call : Call) (m : Meant) (place : ℕ) (d : Connection) → slice_get (after call m).connections place ≡ Some d
+    → Stood m.connections place (λ c. Went (call_moves (suc place) call c (offer_at d)) c d)
+grown (Deliver link bytes) m place d h =
+    let later : Meant = with_cycle (cycle_in (Deliver link bytes) m) m in
+    let s = event_stood later link place (move.Deliver bytes) d h in
+    let t = cycle_stood (cycle_in (Deliver link bytes) m) m place s.was s.is in
+    let same : offer_at d ≡ offer_at s.was = same_offer (link == suc place) (move.Deliver bytes) s.was d (λ z. refl) s.holds in
+    record {
+      was = t.was;
+      is = t.is;
+      holds = subst (λ (load : List ℕ). Went (put_part t.was load ++ (if link == suc place then move.Deliver bytes ∷ [] else [])) t.was d) (sym same)
+          (went_then (put_part t.was (offer_at s.was)) (if link == suc place then move.Deliver bytes ∷ [] else []) t.was s.was d t.holds (event_went (link == suc place) (move.Deliver bytes) s.was d s.holds));
+    }
+grown Tick m place d h =
+    let s = cycle_stood (cycle_in Tick m) (all_tick m) place d h in
+    let t = ticks_stood m.connections place s.was s.is in
+    let g : Went (put_part t.was (offer_at d)) (with_event move.Tick t.was) d = subst (λ (z : Connection). Went (put_part z (offer_at d)) z d) t.holds s.holds in
+    record {
+      was = t.was;
+      is = t.is;
+      holds = went_then (move.Tick ∷ []) (put_part t.was (offer_at d)) t.was (with_event move.Tick t.was) d (record { settings = refl; events = refl }) g;
+    }
+grown (Nonce link id) m place d h =
+    let s = event_stood m link place (move.Nonce id) d h in
+    let same : offer_at d ≡ offer_at s.was = same_offer (link == suc place) (move.Nonce id) s.was d (λ z. refl) s.holds in
+    let none : put_part s.was (offer_at d) ≡ [] = no_put s.was (offer_at d) same in
+    record {
+      was = s.was;
+      is = s.is;
+      holds = went_then (if link == suc place then move.Nonce id ∷ [] else []) (put_part s.was (offer_at d)) s.was d d
+          (event_went (link == suc place) (move.Nonce id) s.was d s.holds)
+          (subst (λ (xs : List Move). Went xs d d) (sym none) (record { settings = refl; events = sym (append-nil (events_of d.deeds)) }));
+    }
+grown (ChangeApp app) m place d h = cycle_stood (cycle_in (ChangeApp app) m) (record m { app = app }) place d h
+
+-- an event for a connection, and others
+if_moves : (b : Bool) (e : Event) (xs : List Event) → flat_map at_master ((if b then e ∷ [] else []) ++ xs) ≡ (if b then at_master e else []) ++ flat_map at_master xs
+if_moves true e xs = refl
+if_moves false e xs = refl
+
+parcel_moves : (there : Option LinkConf) (end : End) (link k : ℕ) (frame : List ℕ) (call : Call) (c : Connection) (load : List ℕ) (before : List Move) → delivery_call there end link frame ≡ Some call → before ≡ put_part c load
+    → before ++ flat_map at_master ((if link == k then at.Raw end frame ∷ [] else []) ++ []) ≡ call_moves k call c load
+parcel_moves None end link k frame call c load before e h = absurd (cc e)
+parcel_moves (Some conf) side.Slave link k frame call c load before e h = absurd (cc e)
+parcel_moves (Some conf) side.Master link k frame call c load before e h =
+    let i : Deliver link frame ≡ call = cc in
+    subst (λ (z : Call). before ++ flat_map at_master ((if link == k then at.Raw side.Master frame ∷ [] else []) ++ []) ≡ call_moves k z c load) i
+    (ap₂ (λ (xs ys : List Move). xs ++ ys) h (if_moves (link == k) (at.Raw side.Master frame) [] ∙ append-nil (if link == k then move.Deliver frame ∷ [] else [])))
+
+-- the steps of an act that makes a call mean what the call does
+act_moves : (act : Act) (b : Beginning) (call : Call) (k : ℕ) (changed : List JournalStep) (c : Connection) (load : List ℕ) → call_of b act ≡ Some call → master_moves k changed ≡ put_part c load
+    → master_moves k (steps_of act changed) ≡ call_moves k call c load
+act_moves Start b call k changed c load e h =
+    let i : ChangeApp b.app ≡ call = cc in subst (λ (z : Call). master_moves k changed ≡ call_moves k z c load) i h
+act_moves (Happen (SaysEvent event.Tick)) b call k changed c load e h =
+    let i : Tick ≡ call = cc in
+    subst (λ (z : Call). move.Tick ∷ master_moves k changed ≡ call_moves k z c load) i (ap (λ (xs : List Move). move.Tick ∷ xs) h)
+act_moves (Happen (SaysEvent (event.Put link bytes))) b call k changed c load e h = absurd (cc e)
+act_moves (Happen (SaysEvent (event.Hold link failsafe))) b call k changed c load e h = absurd (cc e)
+act_moves (Happen (SaysEvent (event.Local link))) b call k changed c load e h = absurd (cc e)
+act_moves (Happen (SaysEvent (event.Nonce link side.Slave id))) b call k changed c load e h = absurd (cc e)
+act_moves (Happen (SaysEvent (event.Nonce link side.Master id))) b call k changed c load e h =
+    let i : Nonce link id ≡ call = cc in
+    subst (λ (z : Call). flat_map at_master ((if link == k then at.Nonce side.Master id ∷ [] else []) ++ own_events k changed) ≡ call_moves k z c load) i
+    (if_moves (link == k) (at.Nonce side.Master id) (own_events k changed) ∙ ap (λ (xs : List Move). (if link == k then move.Nonce id ∷ [] else []) ++ xs) h)
+act_moves (Happen (SaysEvent (event.Cut link cut))) b call k changed c load e h = absurd (cc e)
+act_moves (Happen (App app)) b call k changed c load e h =
+    let i : ChangeApp app ≡ call = cc in subst (λ (z : Call). master_moves k changed ≡ call_moves k z c load) i h
+act_moves (PullFrom None) b call k changed c load e h = absurd (cc e)
+act_moves (PullFrom (Some parcel)) b call k changed c load e h =
+    moves_append k changed (journal_step.Pulled parcel ∷ []) ∙ parcel_moves (link_at b.links parcel.to.link) parcel.to.end parcel.to.link k parcel.frame call c load (master_moves k changed) e h
+
+slave_if : (b : Bool) (e : Event) → at_master e ≡ [] → flat_map at_master ((if b then e ∷ [] else []) ++ []) ≡ []
+slave_if true e h = append-nil (at_master e) ∙ h
+slave_if false e h = refl
+
+-- a parcel makes no call where its connection doesn't exist, or where it goes to a slave: for the master of one that exists it means nothing
+no_parcel_by : (there : Option LinkConf) (end : End) (link k : ℕ) (frame : List ℕ) → IsSome there → delivery_call there end link frame ≡ None
+    → flat_map at_master ((if link == k then at.Raw end frame ∷ [] else []) ++ []) ≡ []
+no_parcel_by None end link k frame h e = absurd (cc h)
+no_parcel_by (Some conf) side.Master link k frame h e = absurd (cc e)
+no_parcel_by (Some conf) side.Slave link k frame h e = slave_if (link == k) (at.Raw side.Slave frame) refl
+
+no_parcel : (links : List LinkConf) (end : End) (link k : ℕ) (frame : List ℕ) (same : Bool) → (link == k) ≡ same → IsSome (link_at links k) → delivery_call (link_at links link) end link frame ≡ None
+    → flat_map at_master ((if link == k then at.Raw end frame ∷ [] else []) ++ []) ≡ []
+no_parcel links end link k frame false is there e = ap (λ (b : Bool). flat_map at_master ((if b then at.Raw end frame ∷ [] else []) ++ [])) is
+no_parcel links end link k frame true is there e =
+    let i : link ≡ k = eqb-true link k is in
+    no_parcel_by (link_at links link) end link k frame (subst (λ (n : ℕ). IsSome (link_at links n)) (sym i) there) e
+
+-- the steps of an act that makes none mean nothing for a master
+no_moves : (act : Act) (b : Beginning) (k : ℕ) → IsSome (link_at b.links k) → call_of b act ≡ None → master_moves k (steps_of act []) ≡ []
+no_moves Start b k there e = absurd (cc e)
+no_moves (Happen (SaysEvent event.Tick)) b k there e = absurd (cc e)
+no_moves (Happen (SaysEvent (event.Put link load))) b k there e = slave_if (link == k) (at.Put side.Slave load) refl
+no_moves (Happen (SaysEvent (event.Hold link failsafe))) b k there e = slave_if (link == k) (at.Hold side.Slave failsafe) refl
+no_moves (Happen (SaysEvent (event.Local link))) b k there e = slave_if (link == k) (at.Local side.Slave) refl
+no_moves (Happen (SaysEvent (event.Nonce link side.Slave id))) b k there e = slave_if (link == k) (at.Nonce side.Slave id) refl
+no_moves (Happen (SaysEvent (event.Nonce link side.Master id))) b k there e = absurd (cc e)
+no_moves (Happen (SaysEvent (event.Cut link cut))) b k there e = refl
+no_moves (Happen (App app)) b k there e = absurd (cc e)
+no_moves (PullFrom None) b k there e = refl
+no_moves (PullFrom (Some parcel)) b k there e = no_parcel b.links parcel.to.end parcel.to.link k parcel.frame (parcel.to.link == k) refl there e
+
+fresh_events : (all : List MasterSettings) (place : ℕ) (c : Connection) → slice_get (map fresh all) place ≡ Some c → events_of c.deeds ≡ []
+fresh_events [] place c h = absurd (cc h)
+fresh_events (s ∷ all) zero c h = let i : fresh s ≡ c = cc in ap (λ (z : Connection). events_of z.deeds) (sym i)
+fresh_events (s ∷ all) (suc place) c h = fresh_events all place c h
+
+-- so it is after one act more
+agree_by : (b : Beginning) (act : Act) (acts : List Act) (place : ℕ) (d : Connection) (o : Option Call)
+    → ((c : Connection) → slice_get (masters b acts).connections place ≡ Some c → events_of c.deeds ≡ master_moves (suc place) (journal b acts))
+    → IsSome (link_at b.links (suc place)) → call_of b act ≡ o → slice_get (meant (settings b) b.app (option_to_list o ++ calls b acts)).connections place ≡ Some d
+    → events_of d.deeds ≡ master_moves (suc place) (journal b acts ++ steps_of act (offers_by b o (calls b acts)))
+agree_by b act acts place d None before there e h =
+    before d h
+    ∙ sym (moves_append (suc place) (journal b acts) (steps_of act []) ∙ ap (λ (xs : List Move). master_moves (suc place) (journal b acts) ++ xs) (no_moves act b (suc place) there e)
+    ∙ append-nil (master_moves (suc place) (journal b acts)))
+agree_by b act acts place d (Some call) before there e h =
+    let m : Meant = masters b acts in
+    let s = grown call m place d h in
+    let changed : List JournalStep = offers_by b (Some call) (calls b acts) in
+    let put : master_moves (suc place) changed ≡ (if is_offer (offer_at d) s.was then [] else move.Put (load_of (after call m) (suc place)) ∷ []) =
+    one_put (after call m) (suc place) 1 place m.connections (after call m).connections s.was d (omega arith) s.is h in
+    let load : load_of (after call m) (suc place) ≡ offer_at d = ap (λ (z : Option Connection). option_map_or offer_at z []) h in
+    let moves = act_moves act b call (suc place) changed s.was (offer_at d) e (put ∙ ap (λ (z : List ℕ). if is_offer (offer_at d) s.was then [] else move.Put z ∷ []) load) in
+    s.holds.events ∙ ap (λ (xs : List Move). xs ++ call_moves (suc place) call s.was (offer_at d)) (before s.was s.is)
+    ∙ ap (λ (ys : List Move). master_moves (suc place) (journal b acts) ++ ys) (sym moves)
+    ∙ sym (moves_append (suc place) (journal b acts) (steps_of act changed))
+
+-- there is a link for each connection
+link_there : (links : List LinkConf) (cs : List Connection) (place : ℕ) (c : Connection) → map (λ c. c.settings) cs ≡ map (λ l. l.master) links → slice_get cs place ≡ Some c → IsSome (slice_get links place)
+link_there links [] place c e h = absurd (cc h)
+link_there [] (a ∷ cs) place c e h = absurd (cc e)
+link_there (l ∷ links) (a ∷ cs) zero c e h = refl
+link_there (l ∷ links) (a ∷ cs) (suc place) c e h = link_there links cs place c (cc) h
+
+there_is : (b : Beginning) (acts : List Act) (place : ℕ) (c : Connection) → slice_get (masters b acts).connections place ≡ Some c → IsSome (link_at b.links (suc place))
+there_is b acts place c h = link_there b.links (masters b acts).connections place c (settings_alone (settings b) b.app (calls b acts)) h
+
+-- the events of a connection are what the journal means for its master
+agree : (b : Beginning) (acts : List Act) (place : ℕ) (c : Connection) → slice_get (masters b acts).connections place ≡ Some c → events_of c.deeds ≡ master_moves (suc place) (journal b acts)
+agree b [] place c h = fresh_events (settings b) place c h
+agree b (act ∷ acts) place c h = agree_by b act acts place c (call_of b act) (agree b acts place) (there_is b (act ∷ acts) place c h) refl h
+
+-- there is a connection with the settings of each link
+there_by : (ss : List MasterSettings) (cs : List Connection) (place : ℕ) (s : MasterSettings) → map (λ c. c.settings) cs ≡ ss → slice_get ss place ≡ Some s → (c : Connection) × (slice_get cs place ≡ Some c) × (c.settings ≡ s)
+there_by [] [] place s e h = absurd (cc h)
+there_by [] (c ∷ cs) place s e h = absurd (cc h)
+there_by (a ∷ ss) [] place s e h = absurd (cc e)
+there_by (a ∷ ss) (c ∷ cs) zero s e h = let i : c.settings ≡ a = cc in let j : a ≡ s = cc in (c, refl, i ∙ j)
+there_by (a ∷ ss) (c ∷ cs) (suc place) s e h = there_by ss cs place s (cc) h
+
+setting_at : (links : List LinkConf) (place : ℕ) (link : LinkConf) → slice_get links place ≡ Some link → slice_get (map (λ l. l.master) links) place ≡ Some link.master
+setting_at [] place link h = absurd (cc h)
+setting_at (l ∷ links) zero link h = let i : l ≡ link = cc in ap (λ (z : LinkConf). Some z.master) i
+setting_at (l ∷ links) (suc place) link h = setting_at links place link h
+
+-- the deeds of the connection, and those of the master in its pair
+deeds_agree : (b : Beginning) (acts : List Act) (place : ℕ) (link : LinkConf) (c : Connection) → slice_get (masters b acts).connections place ≡ Some c → c.settings ≡ link.master
+    → deeds side.Master (pair link (suc place) (journal b acts)) ≡ c.deeds
+deeds_agree b acts place link c h e =
+    let alone : IfSome (Some c) (λ z. z.deeds ≡ run (setup z) (events_of z.deeds)) =
+    subst (λ (o : Option Connection). IfSome o (λ z. z.deeds ≡ run (setup z) (events_of z.deeds))) h (runs_alone (settings b) b.app (calls b acts) (suc place)) in
+    master_deeds link.master link.slave (own_events (suc place) (journal b acts)) [] (events_plain (suc place) (journal b acts))
+    ∙ ap (run (OfMaster link.master)) (sym (agree b acts place c h))
+    ∙ ap (λ (z : MasterSettings). run (OfMaster z) (events_of c.deeds)) (sym e)
+    ∙ sym alone
+
+-- the connection of the master of many that has the number of a link
+pub record Mastered (b : Beginning) (acts : List Act) (place : ℕ) (link : LinkConf) : Type 0 where
+  pub there : Connection
+  pub is : slice_get (masters b acts).connections place ≡ Some there
+  pub settings_are : there.settings ≡ link.master
+  pub deeds_are : deeds side.Master (pair link (suc place) (journal b acts)) ≡ there.deeds
+
+pub mastered : (b : Beginning) (acts : List Act) (place : ℕ) (link : LinkConf) → slice_get b.links place ≡ Some link → Mastered b acts place link
+mastered b acts place link h =
+    let there = there_by (settings b) (masters b acts).connections place link.master (settings_alone (settings b) b.app (calls b acts)) (setting_at b.links place link h) in
+    record { there = there.0; is = there.1; settings_are = there.2; deeds_are = deeds_agree b acts place link there.0 there.1 there.2 }
+
+at_link : (b : Beginning) (acts : List Act) (place : ℕ) (link : LinkConf) → slice_get b.links place ≡ Some link
+    → IsSomeAnd (slice_get (masters b acts).connections place) (λ c. deeds side.Master (pair link (suc place) (journal b acts)) ≡ c.deeds)
+at_link b acts place link h =
+    let m = mastered b acts place link h in
+    subst (λ (o : Option Connection). IsSomeAnd o (λ c. deeds side.Master (pair link (suc place) (journal b acts)) ≡ c.deeds)) (sym m.is) m.deeds_are
+
+agree_if : (b : Beginning) (acts : List Act) (k : ℕ) (o : Option LinkConf) → link_at b.links k ≡ o
+    → IfSome o (λ link. IsSomeAnd (connection k (masters b acts)) (λ c. deeds side.Master (pair link k (journal b acts)) ≡ c.deeds))
+agree_if b acts k None h = tt
+agree_if b acts zero (Some link) h = absurd (cc h)
+agree_if b acts (suc place) (Some link) h = at_link b acts place link h
+
+pub masters_agree : (b : Beginning) (acts : List Act) → MastersAgree b acts
+masters_agree b acts = λ k. agree_if b acts k (link_at b.links k) refl

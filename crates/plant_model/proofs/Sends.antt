@@ -1,0 +1,101 @@
+-- What an end sent and when: data frames are sent as answers alone, and one that offered a bit as 1 came before all that were sent while it
+-- offered that bit as 0. Entries are listed newest first.
+use Rattle.std.proofs.Common.{◌≡◌, ◌≤◌, ℕ, Bool, true, false, List, [], ◌∷◌, ◌++◌, if◌then◌else◌, refl, sym, ap, subst, ◌∙◌, append_assoc, arith}
+use Rattle.std.specs.Prelude.{IsTrue}
+use Rattle.fsoe_base.specs.declared.command.End.{End}
+use Rattle.fsoe_base.specs.declared.command.End.TheVariants as side
+use Rattle.fsoe_base.specs.declared.command.State.{State}
+use Rattle.fsoe_base.specs.declared.command.State.TheVariants as state
+use Rattle.param_load.specs.declared.entry.Entry.{Entry}
+use Rattle.param_load.specs.declared.entry.Move.{Move}
+use Rattle.param_load.specs.declared.entry.Move.TheVariants as move
+use Rattle.plant_conf.specs.declared.conf.LinkConf.{LinkConf}
+use Rattle.end_model.specs.Deed.{Deed, ticked}
+use Rattle.end_model.specs.Phases.{is_data_frame}
+use Rattle.end_model.specs.Readiness.{state_of, reaches_limit}
+use Rattle.end_model.specs.Setup.{Setup, OfMaster, OfSlave}
+use Rattle.fsoe_base.specs.Did.{nothing}
+use Rattle.end_model.specs.Step.{on_expiry, deed_of, step}
+use Rattle.exchange_model.specs.Ends.{same_end, peer, of_end}
+use Rattle.exchange_model.specs.Items.{next_offered}
+use Rattle.exchange_model.specs.Offering.{offers_bit, ticks_of, WasOffered}
+use Rattle.exchange_model.proofs.Offering.Older.{ticked_most}
+use Rattle.plant_model.specs.Pair.{next_of}
+
+-- no frame comes in an event
+abbrev pub BringsNone : Move → Type 0
+BringsNone (move.Deliver bytes) = ⊥
+BringsNone _ = Unit {0}
+
+expiry_data : (now : State) (s : Setup) (e : List Deed) → is_data_frame (deed_of s e move.Tick (on_expiry now s)).sent ≡ false
+expiry_data state.Reset (OfMaster ms) e = refl
+expiry_data state.Reset (OfSlave ss) e = refl
+expiry_data state.Session s e = refl
+expiry_data state.Connection s e = refl
+expiry_data state.Parameter s e = refl
+expiry_data state.Data s e = refl
+
+tick_data : (s : Setup) (e : List Deed) (b : Bool) → is_data_frame (deed_of s e move.Tick (if b then on_expiry (state_of s e) s else nothing)).sent ≡ false
+tick_data s e true = expiry_data (state_of s e) s e
+tick_data s e false = refl
+
+-- where no frame comes no data frame is sent
+pub no_data : (s : Setup) (e : List Deed) (what : Move) → BringsNone what → is_data_frame (step s e what).sent ≡ false
+no_data s e (move.Deliver bytes) h = absurd h
+no_data s e move.Tick h = tick_data s e (reaches_limit s e)
+no_data s e (move.Put load) h = refl
+no_data s e (move.Hold failsafe) h = refl
+no_data s e (move.Nonce id) h = refl
+no_data s e move.Local h = refl
+
+-- where an end sent a data frame in these entries, after the old ones, this held of those before
+abbrev pub SentWhile : (List Entry → Type 0) → End → List Entry → List Entry → Type 0
+SentWhile P which [] old = Unit {0}
+SentWhile P which (x ∷ new) old = (x.end ≡ which → IsTrue (is_data_frame x.sent) → P (new ++ old)) × SentWhile P which new old
+
+pub sent_append : (P : List Entry → Type 0) (which : End) (new mid old : List Entry) → SentWhile P which mid old → SentWhile P which new (mid ++ old) → SentWhile P which (new ++ mid) old
+sent_append P which [] mid old h more = h
+sent_append P which (x ∷ new) mid old h more =
+    (λ is sends. subst P (sym (append_assoc new mid old)) (more.0 is sends), sent_append P which new mid old h more.1)
+
+-- an end offers a bit as 0
+abbrev pub OffersZero : End → ℕ → List Entry → Type 0
+OffersZero which bit w = offers_bit bit (next_offered (of_end which w)) ≡ false
+
+-- a frame that comes changes no offer
+pub delivered_zero : (which : End) (bit : ℕ) (end : End) (bytes : List ℕ) (link : LinkConf) (w : List Entry) → OffersZero which bit (next_of end (move.Deliver bytes) link w ∷ w) → OffersZero which bit w
+delivered_zero side.Master bit side.Master bytes link w h = h
+delivered_zero side.Master bit side.Slave bytes link w h = h
+delivered_zero side.Slave bit side.Master bytes link w h = h
+delivered_zero side.Slave bit side.Slave bytes link w h = h
+
+-- ticks of an end in entries that are the same
+most_if : (m n : Move) (one other : Bool) (a b : ℕ) → m ≡ n → one ≡ other → a ≤ b → (if one then ticked m a else a) ≤ (if other then ticked n b else b)
+most_if m n true true a b i j h = subst (λ (z : Move). ticked m a ≤ ticked z b) i (ticked_most m a b h)
+most_if m n false false a b i j h = h
+most_if m n true false a b i j h = absurd (cc j)
+most_if m n false true a b i j h = absurd (cc j)
+
+-- a data frame that offered the bit as 1 was sent before those that were sent while it was offered as 0
+sent_before : (which : End) (bit : ℕ) (new old later before : List Entry) (x : Entry) → SentWhile (OffersZero (peer which) bit) (peer which) new old → new ++ old ≡ later ++ (x ∷ before)
+    → x.end ≡ peer which → IsTrue (is_data_frame x.sent) → IsTrue (offers_bit bit (next_offered (of_end (peer which) before))) → ticks_of which new ≤ ticks_of which later
+sent_before which bit [] old later before x h e is sends on = omega arith
+sent_before which bit (y ∷ new) old [] before x h e is sends on =
+    let same : y ≡ x = cc in
+    let rest : new ++ old ≡ before = cc in
+    let offered : OffersZero (peer which) bit (new ++ old) = h.0 (ap (λ (z : Entry). z.end) same ∙ is) (ap (λ (z : Entry). is_data_frame z.sent) same ∙ sends) in
+    let here : OffersZero (peer which) bit before = subst (OffersZero (peer which) bit) rest offered in
+    let no : true ≡ false = sym on ∙ here in
+    absurd (cc no)
+sent_before which bit (y ∷ new) old (z ∷ later) before x h e is sends on =
+    let same : y ≡ z = cc in
+    let rest : new ++ old ≡ later ++ (x ∷ before) = cc in
+    most_if y.what z.what (same_end which y.end) (same_end which z.end) (ticks_of which new) (ticks_of which later) (ap (λ (v : Entry). v.what) same) (ap (λ (v : Entry). same_end which v.end) same)
+    (sent_before which bit new old later before x h.1 rest is sends on)
+
+-- so the ticks since are as few
+pub ticks_since : (which : End) (bit most : ℕ) (new old : List Entry) → SentWhile (OffersZero (peer which) bit) (peer which) new old → WasOffered which bit most (new ++ old) → ticks_of which new ≤ most
+ticks_since which bit most new old h o =
+    let few = sent_before which bit new old o.later o.before o.sending h o.parts_are o.by_peer o.sent_data o.offered in
+    let last = o.lately in
+    omega arith

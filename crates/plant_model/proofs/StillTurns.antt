@@ -1,0 +1,207 @@
+-- Where the moments of a plant are still for a bound, it is quiet: no act of a tick but the line of the script changes what a slave offers, nor
+-- which application runs, and each cycle keeps off what the application guards. Acts and turns are listed newest first, steps oldest first.
+use Rattle.std.proofs.Common.{◌≡◌, ℕ, ◌==◌, nat_lt, Bool, true, false, ◌&&◌, not, List, [], ◌∷◌, ◌++◌, map, length, Option, Some, None, option_map, if◌then◌else◌, refl, sym, ap, ap₂, ◌∙◌, append_assoc}
+use Rattle.std.specs.Prelude.{IfSome, option_to_list}
+use Rattle.std.specs.Option.{option_map_or}
+use Rattle.std.proofs.lemmas.List.{append-nil}
+use Rattle.fsoe_base.specs.declared.command.End.{End}
+use Rattle.fsoe_base.specs.declared.command.End.TheVariants as side
+use Rattle.failsafe_io.specs.Application.{Answer, GuardsBy}
+use Rattle.failsafe_io.specs.declared.bit.Bit.{Bit}
+use Rattle.failsafe_io.specs.Bits.{bit_at}
+use Rattle.black_channel.specs.declared.channel.Parcel.{Parcel}
+use Rattle.param_load.specs.declared.entry.Entry.{Entry}
+use Rattle.param_load.specs.declared.entry.Move.{Move}
+use Rattle.param_load.specs.declared.entry.Move.TheVariants as move
+use Rattle.plant_conf.specs.declared.conf.BoundSpec.{BoundSpec}
+use Rattle.plant_conf.specs.declared.conf.LinkConf.{LinkConf}
+use Rattle.exchange_model.specs.Ends.{of_end}
+use Rattle.exchange_model.specs.Items.{Offered, Unset, next_offered}
+use Rattle.exchange_model.specs.Offering.{offers_bit}
+use Rattle.multi_master.specs.Calls.{AppView, Call, Deliver, Tick, Meant, connection, replaced, cycle_in, with_cycle, after, meant, changed}
+use Rattle.multi_master.specs.Connection.{Connection, with_event}
+use Rattle.plant_model.specs.declared.event.PlantEvent.TheVariants as event
+use Rattle.plant_model.specs.declared.journal.JournalStep.{JournalStep}
+use Rattle.plant_model.specs.declared.journal.JournalStep.TheVariants as step
+use Rattle.plant_model.specs.Acts.{Beginning, Event, App, Act, Start, Happen, PullFrom, settings, delivery_call, call_of, calls, masters, cycle_of, offer_step, offers_by, offers, journal}
+use Rattle.plant_model.specs.Bound.{is_off, is_guarded, is_still, inputs_after, offers_after, KeepsOff, Quiet}
+use Rattle.plant_model.specs.Pair.{next_of, pair, link_at}
+use Rattle.plant_model.specs.Promises.{OffersAnswer, AllAnswered, GuardsAnswer, AllGuarded}
+use Rattle.plant_model.specs.Turns.{turn_acts}
+use Rattle.plant_model.proofs.Growing.{IsOne, pair_more, pair_one}
+
+-- a cycle keeps off what is guarded
+keeps_by : (guards : Bit → Bit → Bool) (ins outs : List (List ℕ)) (bound : BoundSpec) (o : Option Answer) → IfSome o (λ a. GuardsBy guards ins a.outputs) → IfSome o (λ a. outs ≡ a.outputs) → guards bound.drive bound.estop ≡ true
+    → IfSome o (λ a. bit_at ins bound.estop ≡ false → bit_at outs bound.drive ≡ false)
+keeps_by guards ins outs bound None g a on = tt
+keeps_by guards ins outs bound (Some x) g a on = λ is_zero. ap (λ (images : List (List ℕ)). bit_at images bound.drive) a ∙ g bound.drive bound.estop on is_zero
+
+pub guarded_keeps : (b : Beginning) (bound : BoundSpec) (act : Act) (done : List Act) → GuardsAnswer b act done → OffersAnswer b act done → is_guarded b bound (act ∷ done) ≡ true → KeepsOff b bound act done
+guarded_keeps b bound act done g a on = keeps_by (masters b (act ∷ done)).app.guards (inputs_after b (act ∷ done)) (offers_after b (act ∷ done)) bound (cycle_of b act done) g a on
+
+-- what is true of both
+pub both_first : (x y : Bool) → (x && y) ≡ true → x ≡ true
+both_first true y h = refl
+both_first false y h = h
+
+both_second : (x y : Bool) → (x && y) ≡ true → y ≡ true
+both_second true y h = h
+both_second false true h = refl
+both_second false false h = h
+
+-- an act after which a bound is still goes on with what was quiet
+pub quiet_on : (b : Beginning) (bound : BoundSpec) (act : Act) (later earlier : List Act) → AllGuarded b (act ∷ later ++ earlier) → AllAnswered b (act ∷ later ++ earlier) → is_still b bound (act ∷ later ++ earlier) ≡ true
+    → Quiet b bound later earlier → Quiet b bound (act ∷ later) earlier
+quiet_on b bound act later earlier g a still q =
+    let done : List Act = act ∷ later ++ earlier in (
+      both_first (is_off b bound.estop done) (is_guarded b bound done) still,
+      guarded_keeps b bound act (later ++ earlier) g.0 a.0 (both_second (is_off b bound.estop done) (is_guarded b bound done) still),
+      q,
+    )
+
+-- what a slave does at such an event leaves what it offers; so does what a master does
+abbrev Keeps : End → Move → Type 0
+Keeps side.Master what = Unit {0}
+Keeps side.Slave move.Tick = Unit {0}
+Keeps side.Slave (move.Deliver bytes) = Unit {0}
+Keeps side.Slave _ = ⊥
+
+keeps_offer : (link : LinkConf) (end : End) (what : Move) (w : List Entry) → Keeps end what → next_offered (of_end side.Slave (next_of end what link w ∷ w)) ≡ next_offered (of_end side.Slave w)
+keeps_offer link side.Master what w h = refl
+keeps_offer link side.Slave move.Tick w h = refl
+keeps_offer link side.Slave (move.Deliver bytes) w h = refl
+keeps_offer link side.Slave (move.Put load) w h = absurd h
+keeps_offer link side.Slave (move.Hold failsafe) w h = absurd h
+keeps_offer link side.Slave (move.Nonce id) w h = absurd h
+keeps_offer link side.Slave move.Local w h = absurd h
+
+came_keeps : (end : End) (bytes : List ℕ) → Keeps end (move.Deliver bytes)
+came_keeps side.Master bytes = tt
+came_keeps side.Slave bytes = tt
+
+keeps_if : (link : LinkConf) (end : End) (what : Move) (w : List Entry) (mine : Bool) → Keeps end what → next_offered (of_end side.Slave (if mine then next_of end what link w ∷ w else w)) ≡ next_offered (of_end side.Slave w)
+keeps_if link end what w true h = keeps_offer link end what w h
+keeps_if link end what w false h = refl
+
+-- what the slave of connection k offers by a journal
+abbrev offered_by : LinkConf → ℕ → List JournalStep → Offered
+offered_by link k js = next_offered (of_end side.Slave (pair link k js))
+
+one_keeps : (link : LinkConf) (k : ℕ) (js : List JournalStep) (s : JournalStep) (n : ℕ) (end : End) (what : Move) → IsOne s n end what → Keeps end what → offered_by link k (js ++ s ∷ []) ≡ offered_by link k js
+one_keeps link k js s n end what one h =
+    ap (λ (w : List Entry). next_offered (of_end side.Slave w)) (pair_one link k js s n end what one) ∙ keeps_if link end what (pair link k js) (n == k) h
+
+listed_keep : (link : LinkConf) (k : ℕ) (m : Meant) (listed : List ℕ) (js : List JournalStep) → offered_by link k (js ++ map (offer_step m) listed) ≡ offered_by link k js
+listed_keep link k m [] js = ap (offered_by link k) (append-nil js)
+listed_keep link k m (n ∷ listed) js =
+    ap (offered_by link k) (sym (append_assoc js (offer_step m n ∷ []) (map (offer_step m) listed)))
+    ∙ listed_keep link k m listed (js ++ offer_step m n ∷ [])
+    ∙ one_keeps link k js (offer_step m n) n side.Master (move.Put _) (record { part = λ j. refl }) tt
+
+offers_keep : (link : LinkConf) (k : ℕ) (b : Beginning) (o : Option Call) (made : List Call) (js : List JournalStep) → offered_by link k (js ++ offers_by b o made) ≡ offered_by link k js
+offers_keep link k b None made js = ap (offered_by link k) (append-nil js)
+offers_keep link k b (Some call) made js = listed_keep link k (meant (settings b) b.app (call ∷ made)) (changed (settings b) b.app (call ∷ made)) js
+
+-- a tick, and a pull, of a tick
+abbrev pub IsOfTick : Act → Type 0
+IsOfTick (Happen (Event event.Tick)) = Unit {0}
+IsOfTick (PullFrom gift) = Unit {0}
+IsOfTick _ = ⊥
+
+act_offers : (link : LinkConf) (k : ℕ) (b : Beginning) (act : Act) (done : List Act) → IsOfTick act → offered_by link k (journal b (act ∷ done)) ≡ offered_by link k (journal b done)
+act_offers link k b Start done h = absurd h
+act_offers link k b (Happen (App app)) done h = absurd h
+act_offers link k b (Happen (Event (event.Put n load))) done h = absurd h
+act_offers link k b (Happen (Event (event.Hold n failsafe))) done h = absurd h
+act_offers link k b (Happen (Event (event.Local n))) done h = absurd h
+act_offers link k b (Happen (Event (event.Nonce n end id))) done h = absurd h
+act_offers link k b (Happen (Event (event.Cut n cut))) done h = absurd h
+act_offers link k b (Happen (Event event.Tick)) done h =
+    let js : List JournalStep = journal b done in
+    let s : JournalStep = step.Script event.Tick in
+    let os : List JournalStep = offers b (Happen (Event event.Tick)) done in
+    ap (offered_by link k) (sym (append_assoc js (s ∷ []) os))
+    ∙ offers_keep link k b (Some Tick) (calls b done) (js ++ s ∷ [])
+    ∙ ap (λ (w : List Entry). next_offered (of_end side.Slave w)) (pair_more link k js (s ∷ []))
+act_offers link k b (PullFrom None) done h = offers_keep link k b None (calls b done) (journal b done)
+act_offers link k b (PullFrom (Some parcel)) done h =
+    let js : List JournalStep = journal b done in
+    let act : Act = PullFrom (Some parcel) in
+    let s : JournalStep = step.Pulled parcel in
+    let os : List JournalStep = offers b act done in
+    ap (offered_by link k) (sym (append_assoc js os (s ∷ [])))
+    ∙ one_keeps link k (js ++ os) s parcel.to.link parcel.to.end (move.Deliver parcel.frame) (record { part = λ j. refl }) (came_keeps parcel.to.end parcel.frame)
+    ∙ offers_keep link k b (call_of b act) (calls b done) js
+
+off_if : (o : Option LinkConf) (k bit : ℕ) (b : Beginning) (act : Act) (done : List Act) → IsOfTick act
+    → offers_bit bit (option_map_or (λ link. offered_by link k (journal b (act ∷ done))) o Unset) ≡ offers_bit bit (option_map_or (λ link. offered_by link k (journal b done)) o Unset)
+off_if None k bit b act done h = refl
+off_if (Some link) k bit b act done h = ap (offers_bit bit) (act_offers link k b act done h)
+
+-- the application that runs stays
+replaced_app : (link : ℕ) (o : Option Connection) (m : Meant) → (replaced link o m).app ≡ m.app
+replaced_app link None m = refl
+replaced_app link (Some c) m = refl
+
+cycle_guards : (o : Option Answer) (m : Meant) → (with_cycle o m).app.guards ≡ m.app.guards
+cycle_guards None m = refl
+cycle_guards (Some a) m = refl
+
+delivered_guards : (m : Meant) (link : ℕ) (bytes : List ℕ) → (after (Deliver link bytes) m).app.guards ≡ m.app.guards
+delivered_guards m link bytes =
+    let offered : Meant = with_cycle (cycle_in (Deliver link bytes) m) m in
+    ap (λ (app : AppView). app.guards) (replaced_app link (option_map (with_event (move.Deliver bytes)) (connection link offered)) offered) ∙ cycle_guards (cycle_in (Deliver link bytes) m) m
+
+parcel_guards : (b : Beginning) (done : List Act) (o : Option LinkConf) (end : End) (n : ℕ) (frame : List ℕ)
+    → (meant (settings b) b.app (option_to_list (delivery_call o end n frame) ++ calls b done)).app.guards ≡ (masters b done).app.guards
+parcel_guards b done None end n frame = refl
+parcel_guards b done (Some link) side.Slave n frame = refl
+parcel_guards b done (Some link) side.Master n frame = delivered_guards (masters b done) n frame
+
+act_guards : (b : Beginning) (act : Act) (done : List Act) → IsOfTick act → (masters b (act ∷ done)).app.guards ≡ (masters b done).app.guards
+act_guards b Start done h = absurd h
+act_guards b (Happen (App app)) done h = absurd h
+act_guards b (Happen (Event (event.Put n load))) done h = absurd h
+act_guards b (Happen (Event (event.Hold n failsafe))) done h = absurd h
+act_guards b (Happen (Event (event.Local n))) done h = absurd h
+act_guards b (Happen (Event (event.Nonce n end id))) done h = absurd h
+act_guards b (Happen (Event (event.Cut n cut))) done h = absurd h
+act_guards b (Happen (Event event.Tick)) done h = refl
+act_guards b (PullFrom None) done h = refl
+act_guards b (PullFrom (Some parcel)) done h = parcel_guards b done (link_at b.links parcel.to.link) parcel.to.end parcel.to.link parcel.frame
+
+-- so a bound stays still through a tick
+pub stays_still : (b : Beginning) (bound : BoundSpec) (act : Act) (done : List Act) → IsOfTick act → is_still b bound (act ∷ done) ≡ is_still b bound done
+stays_still b bound act done h =
+    ap₂ (λ (x y : Bool). not x && y) (off_if (link_at b.links bound.estop.link) bound.estop.link bound.estop.bit b act done h)
+    (ap (λ (guards : Bit → Bit → Bool). guards bound.drive bound.estop) (act_guards b act done h))
+
+abbrev pub AreOfTick : List Act → Type 0
+AreOfTick [] = Unit {0}
+AreOfTick (act ∷ more) = IsOfTick act × AreOfTick more
+
+pulled_of_tick : (parcels : List Parcel) → AreOfTick (map (λ parcel. PullFrom (Some parcel)) parcels ++ Happen (Event event.Tick) ∷ [])
+pulled_of_tick [] = (tt, tt)
+pulled_of_tick (parcel ∷ parcels) = (tt, pulled_of_tick parcels)
+
+pulls_of_tick : (few : Bool) (parcels : List Parcel)
+    → AreOfTick (((if few then PullFrom None ∷ [] else []) ++ map (λ parcel. PullFrom (Some parcel)) parcels) ++ Happen (Event event.Tick) ∷ [])
+pulls_of_tick true parcels = (tt, pulled_of_tick parcels)
+pulls_of_tick false parcels = pulled_of_tick parcels
+
+-- all acts of a tick are such
+pub turn_of_tick : (parcels : List Parcel) → AreOfTick (turn_acts (Event event.Tick) parcels)
+turn_of_tick parcels = pulls_of_tick (nat_lt (length parcels) 64) parcels
+
+-- a bound that is still before a tick is still and quiet after it
+pub record StaysQuiet (b : Beginning) (bound : BoundSpec) (later earlier : List Act) : Type 0 where
+  pub still : is_still b bound (later ++ earlier) ≡ true
+  pub quiet : Quiet b bound later earlier
+
+pub ticked_quiet : (b : Beginning) (bound : BoundSpec) (more later earlier : List Act) → AreOfTick more → AllGuarded b ((more ++ later) ++ earlier) → AllAnswered b ((more ++ later) ++ earlier)
+    → StaysQuiet b bound later earlier → StaysQuiet b bound (more ++ later) earlier
+ticked_quiet b bound [] later earlier h g a q = q
+ticked_quiet b bound (act ∷ more) later earlier h g a q =
+    let before = ticked_quiet b bound more later earlier h.1 g.1 a.1 q in
+    let still : is_still b bound (act ∷ (more ++ later) ++ earlier) ≡ true = stays_still b bound act ((more ++ later) ++ earlier) h.0 ∙ before.still in
+    record { still = still; quiet = quiet_on b bound act (more ++ later) earlier g a still before.quiet }

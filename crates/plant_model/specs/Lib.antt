@@ -1,0 +1,12 @@
+pub mod Acts
+pub mod Bound
+pub mod BoundLines
+pub mod Broken
+pub mod FairPairs
+pub mod Pair
+pub mod PlantReport
+pub mod Promises
+pub mod Turns
+pub mod Uses
+pub mod WorkedActs
+pub mod WorkedPlant

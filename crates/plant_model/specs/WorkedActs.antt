@@ -1,0 +1,106 @@
+-- Acts of the worked plant whose channel keeps order: its journal, and what happened to the channel. Acts are listed newest first, steps and
+-- uses oldest first.
+use Rattle.std.specs.Prelude.{◌≡◌, ℕ, true, false, List, [], ◌∷◌, codes, map, reverse, take, Some}
+use Rattle.hex.specs.Hex.{decode_of}
+use Rattle.fsoe_base.specs.declared.command.End.{End}
+use Rattle.fsoe_base.specs.declared.command.End.TheVariants as side
+use Rattle.black_channel.specs.Holds.{Ring}
+use Rattle.black_channel.specs.declared.channel.Parcel.{Parcel}
+use Rattle.end_model.specs.WorkedRuns.{if_bytes}
+use Rattle.multi_master.specs.Calls.{AppView}
+use Rattle.plant_model.specs.declared.event.PlantEvent.TheVariants as event
+use Rattle.plant_model.specs.declared.journal.JournalStep.{JournalStep}
+use Rattle.plant_model.specs.declared.journal.JournalStep.TheVariants as step
+use Rattle.plant_model.specs.Acts.{Beginning, Event, Act, Start, Happen, PullFrom, journal, uses}
+use Rattle.plant_model.specs.Uses.{Use, Begin, Push, Pull, GivesHeld}
+use Rattle.plant_model.specs.WorkedPlant.{both_links, tick, offer}
+
+-- an application that answers 0100 to the second connection at each cycle, and zeros to the first
+abbrev pub driving : AppView
+driving = record {
+  rule = λ held ticked inputs lens. record { outputs = (0 ∷ 0 ∷ []) ∷ (1 ∷ 0 ∷ []) ∷ []; holds = held };
+  holds = [];
+  guards = λ out inp. false;
+}
+
+-- the worked plant with it
+abbrev pub driving_plant : Beginning
+driving_plant = record { links = both_links; app = driving; seed = 1 }
+
+-- a parcel for an end of a connection, in hexadecimal
+abbrev pub parcel_for : End → ℕ → List ℕ → Parcel
+parcel_for end link text = record { to = record { link = link; end = end }; frame = if_bytes (decode_of text) }
+
+-- for a slave, and for a master
+abbrev pub for_slave : ℕ → List ℕ → Parcel
+for_slave = parcel_for side.Slave
+
+abbrev pub for_master : ℕ → List ℕ → Parcel
+for_master = parcel_for side.Master
+
+-- the parcels of the first pulls
+abbrev pub first_parcels : List Parcel
+first_parcels =
+    for_slave 1 (codes "2a0000c42d0000")
+    ∷ for_slave 2 (codes "2a0000c42d0000")
+    ∷ for_master 1 (codes "2a0000c42d0000")
+    ∷ for_master 2 (codes "2a0000c42d0000")
+    ∷ for_slave 1 (codes "4e0100123e0000")
+    ∷ for_slave 2 (codes "4e0100123e0000")
+    ∷ []
+
+-- a start, a tick, and these pulls
+abbrev pub first_acts : List Act
+first_acts = reverse (Start ∷ Happen (Event event.Tick) ∷ map (λ parcel. PullFrom (Some parcel)) first_parcels)
+
+-- the journal begins with the one offer that the first cycle changed; nothing is changed after it
+abbrev pub first_steps : List JournalStep
+first_steps = offer 2 (codes "0100") ∷ tick ∷ map step.Pulled first_parcels
+
+-- the uses of the channel: it begins with the seed; both masters' first frames are pushed; each parcel is pulled, and its answer pushed
+abbrev pub first_uses : List Use
+first_uses =
+    Begin 1
+    ∷ Push (for_slave 1 (codes "2a0000c42d0000"))
+    ∷ Push (for_slave 2 (codes "2a0000c42d0000"))
+    ∷ Pull (Some (for_slave 1 (codes "2a0000c42d0000")))
+    ∷ Push (for_master 1 (codes "2a0000c42d0000"))
+    ∷ Pull (Some (for_slave 2 (codes "2a0000c42d0000")))
+    ∷ Push (for_master 2 (codes "2a0000c42d0000"))
+    ∷ Pull (Some (for_master 1 (codes "2a0000c42d0000")))
+    ∷ Push (for_slave 1 (codes "4e0100123e0000"))
+    ∷ Pull (Some (for_master 2 (codes "2a0000c42d0000")))
+    ∷ Push (for_slave 2 (codes "4e0100123e0000"))
+    ∷ Pull (Some (for_slave 1 (codes "4e0100123e0000")))
+    ∷ Push (for_master 1 (codes "4e020090470000"))
+    ∷ Pull (Some (for_slave 2 (codes "4e0100123e0000")))
+    ∷ Push (for_master 2 (codes "4e020090470000"))
+    ∷ []
+
+-- so they are, and a channel that keeps order gives just these parcels
+unfoldable pub FirstActs : Type 0
+FirstActs =
+    (journal driving_plant first_acts ≡ first_steps)
+    × (uses driving_plant first_acts ≡ first_uses)
+    × GivesHeld (uses driving_plant first_acts) (Ring [])
+
+-- the same where the first connection is cut: what its ends send isn't pushed, and what was under way still comes
+abbrev pub cut_acts : List Act
+cut_acts =
+    reverse
+    (Start
+    ∷ Happen (Event event.Tick)
+    ∷ Happen (Event (event.Cut 1 true))
+    ∷ map (λ parcel. PullFrom (Some parcel)) (take 2 first_parcels))
+
+-- the uses then
+unfoldable pub CutActs : Type 0
+CutActs =
+    uses driving_plant cut_acts
+    ≡ Begin 1
+    ∷ Push (for_slave 1 (codes "2a0000c42d0000"))
+    ∷ Push (for_slave 2 (codes "2a0000c42d0000"))
+    ∷ Pull (Some (for_slave 1 (codes "2a0000c42d0000")))
+    ∷ Pull (Some (for_slave 2 (codes "2a0000c42d0000")))
+    ∷ Push (for_master 2 (codes "2a0000c42d0000"))
+    ∷ []

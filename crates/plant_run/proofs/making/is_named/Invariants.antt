@@ -1,6 +1,0 @@
-use Rattle.std.proofs.Common.{◌≡◌, drop}
-use Rattle.plant_run.specs.Making.{is_named}
-use Rattle.plant_run.proofs.making.is_named.Given as goal
-
-abbrev pub invariant-loop-bound : goal.invariant-loop-bound
-invariant-loop-bound l = is_named (drop l.bound-index l.bounds) l.link ≡ is_named l.bounds l.link

@@ -1,6 +1,0 @@
-use Rattle.std.proofs.Common.{◌≡◌, take}
-use Rattle.plant_run.specs.Making.{links_made}
-use Rattle.plant_run.proofs.making.links_made.Given as goal
-
-abbrev pub invariant-loop-i : goal.invariant-loop-i
-invariant-loop-i l = l.links.items ≡ links_made 1 l.bounds (take l.i l.confs)

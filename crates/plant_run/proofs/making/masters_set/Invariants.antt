@@ -1,6 +1,0 @@
-use Rattle.std.proofs.Common.{◌≡◌, map, take}
-use Rattle.plant_run.specs.Making.{master_in}
-use Rattle.plant_run.proofs.making.masters_set.Given as goal
-
-abbrev pub invariant-loop-i : goal.invariant-loop-i
-invariant-loop-i l = l.settings.items ≡ map master_in (take l.i l.confs)

@@ -1,8 +1,0 @@
-use Rattle.plant_run.proofs.Pulling.{follows_event}
-use Rattle.plant_run.proofs.plant.Plant.step.Goals as goal
-
-pub returns-clause-follows : goal.returns-clause-follows
-returns-clause-follows g c =
-    let turns = rw c.in_ok-take_room.ensures.steps at c.happen.ensures.turns in
-    let fits = rw (← c.self.view_is, ← c.self-inside.view_is) at c.requires.fits in
-    rw (← c.self.view_is, ← c.self-inside.view_is) (follows_event _ _ c.args.event.now _ _ fits turns)
