@@ -4,7 +4,7 @@ ghost use Rattle.fsoe_base.specs.LengthsOf.{length_of};
 ghost use Rattle.schedule_file.specs.Event.{Fits, PairLineFits, profile_of};
 ghost use Rattle.schedule_file.specs.Field.{fields_after};
 ghost use Rattle.schedule_file.specs.Fields.{Becomes};
-ghost use Rattle.schedule_file.specs.PairEvent.{pair_word_of, event_said, pair_line};
+ghost use Rattle.schedule_file.specs.PairEvent.{pair_word_of, later_word_of, event_said, pair_line};
 
 use crate::event::{Event, ScheduleLine};
 use crate::event_line::{
@@ -50,7 +50,17 @@ pub fn read_pair_word(text: &[u8]) -> Option<PairWord>
         Some(PairWord::Tick(End::Master))
     } else if text == b"ts".as_slice() {
         Some(PairWord::Tick(End::Slave))
-    } else if text == b"pm".as_slice() {
+    } else {
+        read_later_word(text)
+    }
+}
+
+/// The word of a put, a hold, a session id or a local reset, or `end`.
+#[inline]
+fn read_later_word(text: &[u8]) -> Option<PairWord>
+    ensures { result ≡ later_word_of text.now }
+{
+    if text == b"pm".as_slice() {
         Some(PairWord::Put(End::Master))
     } else if text == b"ps".as_slice() {
         Some(PairWord::Put(End::Slave))
