@@ -1,5 +1,5 @@
 -- What a document means, where what its tables say is known.
-use Rattle.std.proofs.Common.{◌≡◌, ◌∙◌, sym, ℕ, false, List, [], ◌∷◌, map, Result, Ok, Err, if◌then◌else◌, refl, ap}
+use Rattle.std.proofs.Common.{◌≡◌, ◌≢◌, ◌∙◌, sym, ℕ, false, List, [], ◌∷◌, map, Result, Ok, Err, IfErr, IsErrAnd, if◌then◌else◌, refl, ap, subst}
 use Rattle.toml.specs.Data.{Members}
 use Rattle.fb_net.specs.declared.spec.BlockSpec.{BlockSpec}
 use Rattle.fb_net.specs.declared.spec.Drive.{Drive}
@@ -31,6 +31,50 @@ map-itself (x ∷ xs) = ap (λ ys. x ∷ ys) (map-itself xs)
 ids-of-values : (links : List LinkConf) → map (λ link. link.master.conn) (map link_values links) ≡ map (λ link. link.master.conn) links
 ids-of-values [] = refl
 ids-of-values (link ∷ links) = ap (λ ids. link.master.conn ∷ ids) (ids-of-values links)
+
+fails : {A B : Type 0} (r : Result A ConfFault) (e : ConfFault) (f : A → Result B ConfFault) → r ≡ Err e → (r >>= f) ≡ Err e
+fails r e f h = ap (λ q. q >>= f) h
+
+-- what an error is passed on as
+pub passed : {A B : Type 0} (r : Result A ConfFault) (said : Result B ConfFault) (e : ConfFault) → IsErrAnd r (λ y. y ≡ e) → (e ≢ fault.Memory → said ≡ Err e) → IfErr r (λ y. y ≢ fault.Memory → said ≡ Err y)
+passed (Ok x) said e h refuses = absurd h
+passed (Err y) said e h refuses = subst (λ (y : ConfFault). y ≢ fault.Memory → said ≡ Err y) (sym h) refuses
+
+-- one part of a document is refused, and those before it are known
+pub plant-refused : (document : Members) (e : ConfFault) → has_too_many document ≡ false → plant_keys document ≡ Err e → document_meaning document ≡ Err e
+plant-refused document e few h =
+    bind (few_tables document) tt _ (ap (λ many. if many then Err fault.TooMany else Ok tt) few)
+    ∙ fails (plant_keys document) e _ h
+
+pub links-refused : (document : Members) (e : ConfFault) (keys : PlantKeys) → has_too_many document ≡ false → plant_keys document ≡ Ok keys → connections document ≡ Err e → document_meaning document ≡ Err e
+links-refused document e keys few p h =
+    bind (few_tables document) tt _ (ap (λ many. if many then Err fault.TooMany else Ok tt) few)
+    ∙ bind (plant_keys document) keys _ p
+    ∙ fails (connections document) e _ h
+
+pub blocks-refused : (document : Members) (e : ConfFault) (keys : PlantKeys) (links : List LinkConf) → has_too_many document ≡ false → plant_keys document ≡ Ok keys → connections document ≡ Ok (map link_values links) → all_of table.Block block document ≡ Err e → document_meaning document ≡ Err e
+blocks-refused document e keys links few p c h =
+    bind (few_tables document) tt _ (ap (λ many. if many then Err fault.TooMany else Ok tt) few)
+    ∙ bind (plant_keys document) keys _ p
+    ∙ bind (connections document) (map link_values links) _ c
+    ∙ fails (all_of table.Block block document) e _ h
+
+pub drives-refused : (document : Members) (e : ConfFault) (keys : PlantKeys) (links : List LinkConf) (blocks : List BlockSpec) → has_too_many document ≡ false → plant_keys document ≡ Ok keys → connections document ≡ Ok (map link_values links) → all_of table.Block block document ≡ Ok (map (λ x. x) blocks) → all_of table.Drive drive document ≡ Err e → document_meaning document ≡ Err e
+drives-refused document e keys links blocks few p c b h =
+    bind (few_tables document) tt _ (ap (λ many. if many then Err fault.TooMany else Ok tt) few)
+    ∙ bind (plant_keys document) keys _ p
+    ∙ bind (connections document) (map link_values links) _ c
+    ∙ bind (all_of table.Block block document) (map (λ x. x) blocks) _ b
+    ∙ fails (all_of table.Drive drive document) e _ h
+
+pub bounds-refused : (document : Members) (e : ConfFault) (keys : PlantKeys) (links : List LinkConf) (blocks : List BlockSpec) (drives : List Drive) → has_too_many document ≡ false → plant_keys document ≡ Ok keys → connections document ≡ Ok (map link_values links) → all_of table.Block block document ≡ Ok (map (λ x. x) blocks) → all_of table.Drive drive document ≡ Ok (map (λ x. x) drives) → all_of table.Bound bound document ≡ Err e → document_meaning document ≡ Err e
+bounds-refused document e keys links blocks drives few p c b d h =
+    bind (few_tables document) tt _ (ap (λ many. if many then Err fault.TooMany else Ok tt) few)
+    ∙ bind (plant_keys document) keys _ p
+    ∙ bind (connections document) (map link_values links) _ c
+    ∙ bind (all_of table.Block block document) (map (λ x. x) blocks) _ b
+    ∙ bind (all_of table.Drive drive document) (map (λ x. x) drives) _ d
+    ∙ fails (all_of table.Bound bound document) e _ h
 
 abbrev pub values_known : PlantKeys → List LinkConf → List BlockSpec → List Drive → List BoundSpec → ConfValues
 values_known keys links blocks drives bounds = record {
