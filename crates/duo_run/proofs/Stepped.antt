@@ -1,5 +1,6 @@
 -- A pair whose end does its next deed does the next entry of the world.
 use Rattle.std.proofs.Common.{◌≡◌, ℕ, List, ◌∷◌, Option, Some, None, refl, sym, ap, subst, ◌∙◌, if◌then◌else◌}
+use Rattle.std.specs.Prelude.{Result, Ok, Err, OnOk, OnErr}
 use Rattle.fsoe_base.specs.declared.command.End.{End}
 use Rattle.fsoe_base.specs.declared.command.End.TheVariants as end_name
 use Rattle.fsoe_base.specs.declared.command.State.{State}
@@ -125,6 +126,17 @@ pub advances_by : (at : End) (old : DuoView) (event : Event) (did : Did) (sent :
 advances_by at old event did sent new here writable happens = record {
   next = happens-next old event did sent new writable (subst (λ (at : End). Happens at old event did sent new) here happens);
 }
+
+-- the same of an answer that may be an error
+pub advances_on : {X E : Type 0} (r : Result X E) (at : End) (old : DuoView) (event : Event) (did : Did) (sent : List ℕ) (new : DuoView) → end_of_event event ≡ at → IsWritable event
+    → OnOk r (Happens at old event did sent new) → OnOk r (Advances old event did sent new)
+advances_on (Ok x) at old event did sent new here writable h = advances_by at old event did sent new (sym here) writable h
+advances_on (Err e) at old event did sent new here writable h = tt
+
+pub misses_on : {X E : Type 0} (r : Result X E) (at : End) (v : DuoView) (event : Event) → end_of_event event ≡ at → IsWritable event
+    → OnErr r (move_from (sent_by (peer at) v).frames event ≡ None) → OnErr r (Misses v event)
+misses_on (Ok x) at v event here writable h = tt
+misses_on (Err e) at v event here writable h = misses_by v event writable (subst (λ (at : End). move_from (sent_by (peer at) v).frames event ≡ None) (sym here) h)
 
 pub master_happens : (old new : DuoView) (event : Event) (came : List ℕ) (did : Did) (sent : List ℕ) → Comes old.slave_sent.frames event came
     → master_core.Follows old.master (move_at event came) new.master → master_core.Answers old.master (move_at event came) did sent → Hears old.master_sent sent new.master_sent

@@ -1,17 +1,27 @@
 -- What holds of a pair after so many events of a number.
-use Rattle.std.proofs.Common.{◌≡◌, ℕ, suc, ◌+◌, List, ◌∷◌, Some, None, sym, ap, subst, ◌∙◌, add-one, rules}
+use Rattle.std.proofs.Common.{◌≡◌, ℕ, suc, ◌+◌, ◌^◌, ◌<◌, List, [], ◌∷◌, length, Some, None, sym, ap, ap₂, subst, ◌∙◌, add-one, arith, rules}
 use Rattle.std.specs.Prelude.{Result, Ok, Err, IsOk, OnErr}
+use Rattle.std.proofs.lemmas.List.Sums.{count_by-le-length}
+use Rattle.fsoe_base.specs.LengthsOf.{length_of}
 use Rattle.fsoe_base.specs.declared.command.End.{End}
+use Rattle.fsoe_base.specs.declared.command.End.TheVariants as end_name
 use Rattle.fsoe_base.specs.declared.command.State.{State}
 use Rattle.fsoe_base.specs.declared.did.Did.{Did}
 use Rattle.param_load.specs.declared.entry.Entry.{Entry}
-use Rattle.schedule_file.specs.Made.{event_at, made_lengths, made_profiles, made_master, made_slave}
+use Rattle.param_load.specs.declared.master_settings.MasterSettings.{MasterSettings}
+use Rattle.param_load.specs.declared.profile.Profiles.{Profiles}
+use Rattle.param_load.specs.declared.slave_settings.SlaveSettings.{SlaveSettings}
+use Rattle.fsoe_base.specs.declared.lengths.Lengths.{Lengths}
+use Rattle.schedule_file.specs.Event.{Fits, profile_of}
+use Rattle.exchange_model.specs.Fair.{takes_data}
+use Rattle.schedule_file.specs.Made.{FitsMade, event_at, made_lengths, made_profiles, made_master, made_slave}
 use Rattle.schedule_file.specs.Maker.{MakerView, IsMaker, Makes}
 use Rattle.schedule_file.specs.declared.event.Event.{Event}
+use Rattle.exchange_model.specs.Monitor.{MonitorView}
 use Rattle.exchange_model.specs.World.{end_of_event, entry_at}
 use Rattle.duo_run.specs.Bulk.{entries_of}
 use Rattle.duo_run.specs.Duo.{DuoView, DuoStands, NextEntry, Advances, Misses, ShowsLast, lengths_of, profiles_of, steps_done}
-use Rattle.duo_run.specs.Summary.{summary_of, CountsEntry}
+use Rattle.duo_run.specs.Summary.{has_reset, has_drop, counts_of, summary_of, CountsEntry, HasRoom}
 use Rattle.duo_run.specs.declared.summary.Summary.{Summary}
 use Rattle.duo_run.proofs.WholeRuns.{Goes, entry_goes, entries_more, is_whole}
 
@@ -23,6 +33,46 @@ pub record AfterEvents (number count : ℕ) (maker : MakerView) (duo : DuoView) 
   pub profiles : profiles_of duo ≡ made_profiles
   pub steps : steps_done duo ≡ count
   pub tells : summary ≡ summary_of (entries_of number count)
+
+-- before the first event
+pub none_done : (number : ℕ) (ms : MasterSettings) (ss : SlaveSettings) (maker : MakerView) (duo : DuoView) (summary : Summary) → ms ≡ made_master → ss ≡ made_slave → IsMaker number 0 maker
+    → DuoStands ms ss duo [] → lengths_of duo ≡ ms.lengths → profiles_of duo ≡ record { master = ms.profile; slave = ss.profile } → steps_done duo ≡ 0 → summary ≡ summary_of []
+    → AfterEvents number 0 maker duo summary
+none_done number ms ss maker duo summary m s made stands lengths profiles steps tells = record {
+  makes = made;
+  stands = subst (λ (x : MasterSettings). DuoStands x made_slave duo []) m (subst (λ (x : SlaveSettings). DuoStands ms x duo []) s stands);
+  lengths = lengths ∙ ap (λ (x : MasterSettings). x.lengths) m;
+  profiles = profiles ∙ ap₂ (λ (x : MasterSettings) (y : SlaveSettings). record { master = x.profile; slave = y.profile }) m s;
+  steps = steps;
+  tells = tells;
+}
+
+-- the next event fits the pair
+pub next_fits : (number count : ℕ) (maker : MakerView) (duo : DuoView) (summary : Summary) (event : Event) → AfterEvents number count maker duo summary → FitsMade event
+    → Fits (length_of (lengths_of duo)) (profile_of (profiles_of duo)) event
+next_fits number count maker duo summary event after fits =
+    subst (λ (l : Lengths). Fits (length_of l) (profile_of (profiles_of duo)) event) (sym after.lengths)
+    (subst (λ (p : Profiles). Fits (length_of made_lengths) (profile_of p) event) (sym after.profiles) fits)
+
+-- each count has room for one more
+room-of : (which : End) (w : List Entry) → length w + 1 < 2 ^ 64 → HasRoom (counts_of which w)
+room-of which w few = record {
+  taken = omega (arith, count_by-le-length (takes_data which) w);
+  resets = omega (arith, count_by-le-length (has_reset which) w);
+  drops = omega (arith, count_by-le-length (has_drop which) w);
+}
+
+pub has_room : (number count : ℕ) (maker : MakerView) (duo : DuoView) (summary : Summary) → AfterEvents number count maker duo summary → count + 1 < 2 ^ 64
+    → HasRoom summary.master × HasRoom summary.slave
+has_room number count maker duo summary after few =
+    let w : List Entry = entries_of number count in
+    let long : length w ≡ count = sym (ap (λ (m : MonitorView). m.noted) after.stands.monitor) ∙ after.steps in
+    let room : length w + 1 < 2 ^ 64 = subst (λ (n : ℕ). n + 1 < 2 ^ 64) (sym long) few in
+    (subst (λ (s : Summary). HasRoom s.master) (sym after.tells) (room-of end_name.Master w room), subst (λ (s : Summary). HasRoom s.slave) (sym after.tells) (room-of end_name.Slave w room))
+
+-- after all of them
+pub all_done : (number events count : ℕ) (maker : MakerView) (duo : DuoView) (summary : Summary) → count ≡ events → AfterEvents number count maker duo summary → AfterEvents number events maker duo summary
+all_done number events count maker duo summary e after = subst (λ (n : ℕ). AfterEvents number n maker duo summary) e after
 
 -- no event names a frame that wasn't sent
 pub never_misses : (number count : ℕ) (maker next : MakerView) (duo : DuoView) (summary : Summary) (event : Event)

@@ -5,7 +5,6 @@ use Rattle.fsoe_base.specs.declared.command.End.{End}
 use Rattle.param_load.specs.declared.entry.Entry.{Entry}
 use Rattle.param_load.specs.declared.master_settings.MasterSettings.{MasterSettings}
 use Rattle.param_load.specs.declared.slave_settings.SlaveSettings.{SlaveSettings}
-use Rattle.schedule_file.specs.Header.{Heading}
 use Rattle.schedule_file.specs.PairsEvent.{numbered}
 use Rattle.schedule_file.specs.PairsHeader.{PairsHeading, pairs_of}
 use Rattle.schedule_file.specs.PairsInput.{entries_of}

@@ -98,7 +98,6 @@ impl Duo {
 
     /// Does an event at its end, as `step` does, and makes no entry: what the end did and the frame that it sent are written to
     /// `answer`, and the rest of the entry is read from the end.
-    #[tactic(auto, using(crate::proofs::Stepped::advances_by, crate::proofs::Stepped::misses_by))]
     pub(crate) fn advance(&mut self, event: &Event, answer: &mut Answer) -> Result<(), StepFault>
         requires fits { Fits (length_of (lengths_of self.old)) (profile_of (profiles_of self.old)) event.now }
         requires fewer { steps_done self.old + 1 < 2 ^ 64 }
