@@ -1,4 +1,5 @@
 mod WorkedSettings
+mod WorkedTraces
 pub mod Frames
 pub mod NoneApplies
 pub mod PieceRows
