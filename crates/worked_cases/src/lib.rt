@@ -23,8 +23,6 @@ mod of_param_load;
 #[cfg(test)]
 mod of_plant_conf;
 #[cfg(test)]
-mod of_plant_setup;
-#[cfg(test)]
 mod of_schedule_file;
 #[cfg(test)]
 mod of_seq_chain;

@@ -1,7 +1,7 @@
 ghost use Rattle.std.specs.Prelude.{◌≡◌, IsTrue};
 ghost use Rattle.param_load.specs.AppRule.{is_acceptable};
 
-use fsoe_base::{Code, Lengths};
+use fsoe_base::{Code, Image, Lengths};
 use param_load::{
     AppBytes, AppRule, BadSetting, Download, MasterSettings, Payload, Profile, Progress,
     SlaveSettings, Upload,
@@ -35,77 +35,135 @@ fn one_byte() -> AppRule
     AppRule::Ranges(low, high)
 }
 
+fn parameters(profile: Profile, frames: &[[u8; 2]]) -> Result<Progress, Code> {
+    let mut upload = Upload::parameter(2, 1000, &one_byte(), profile);
+    outcome(&mut upload, frames)
+}
+
+fn connection(frames: &[[u8; 2]]) -> Result<Progress, Code> {
+    let mut upload = Upload::connection(2, 1, 2);
+    outcome(&mut upload, frames)
+}
+
+/// A profile, the frames of a Parameter upload, and what the last of them gives.
+type Row = (Profile, &'static [[u8; 2]], Result<Progress, Code>);
+
+const WHOLE: Result<Progress, Code> = Ok(Progress::Whole);
+
+const MORE: Result<Progress, Code> = Ok(Progress::More);
+
+const PARAMETERS: [Row; 14] = [
+    (Profile::One, &[[2, 0], [100, 0], [1, 0], [0x20, 0]], WHOLE),
+    (Profile::One, &[[2, 0], [100, 0], [1, 0]], MORE),
+    (
+        Profile::One,
+        &[[2, 0], [100, 0], [1, 0], [0x30, 0]],
+        Err(Code::WRONG_APPLICATION),
+    ),
+    (
+        Profile::One,
+        &[[2, 0], [100, 0], [1, 0], [0x0F, 0]],
+        Err(Code::WRONG_APPLICATION),
+    ),
+    (
+        Profile::One,
+        &[[2, 0], [100, 0], [1, 0], [0x20, 1]],
+        Err(Code::WRONG_DATA),
+    ),
+    (
+        Profile::One,
+        &[[2, 0], [100, 0], [2, 0]],
+        Err(Code::WRONG_APPLICATION_LENGTH),
+    ),
+    (Profile::One, &[[2, 0], [0xE8, 3], [1, 0]], MORE),
+    (
+        Profile::One,
+        &[[2, 0], [0xE9, 3]],
+        Err(Code::WRONG_COMMUNICATION),
+    ),
+    (
+        Profile::One,
+        &[[2, 0], [0, 0]],
+        Err(Code::WRONG_COMMUNICATION),
+    ),
+    (
+        Profile::One,
+        &[[4, 0]],
+        Err(Code::WRONG_COMMUNICATION_LENGTH),
+    ),
+    (
+        Profile::One,
+        &[[2, 1]],
+        Err(Code::WRONG_COMMUNICATION_LENGTH),
+    ),
+    (
+        Profile::Two(7),
+        &[[4, 0], [100, 0], [7, 0], [1, 0], [0x10, 0]],
+        WHOLE,
+    ),
+    (
+        Profile::Two(7),
+        &[[4, 0], [100, 0], [8, 0]],
+        Err(Code::WRONG_COMMUNICATION),
+    ),
+    (
+        Profile::Two(7),
+        &[[2, 0]],
+        Err(Code::WRONG_COMMUNICATION_LENGTH),
+    ),
+];
+
 #[test]
 fn parameters_are_tested_field_by_field(rt: HostRuntime) {
-    let whole = Ok(Progress::Whole);
-    for (frames, want) in [
-        ([[2, 0], [100, 0], [1, 0], [0x20, 0]].as_slice(), whole),
-        (&[[2, 0], [100, 0], [1, 0]], Ok(Progress::More)),
-        (
-            &[[2, 0], [100, 0], [1, 0], [0x30, 0]],
-            Err(Code::WRONG_APPLICATION),
-        ),
-        (
-            &[[2, 0], [100, 0], [1, 0], [0x0F, 0]],
-            Err(Code::WRONG_APPLICATION),
-        ),
-        (
-            &[[2, 0], [100, 0], [1, 0], [0x20, 1]],
-            Err(Code::WRONG_DATA),
-        ),
-        (
-            &[[2, 0], [100, 0], [2, 0]],
-            Err(Code::WRONG_APPLICATION_LENGTH),
-        ),
-        (&[[2, 0], [0xE8, 3], [1, 0]], Ok(Progress::More)),
-        (&[[2, 0], [0xE9, 3]], Err(Code::WRONG_COMMUNICATION)),
-        (&[[2, 0], [0, 0]], Err(Code::WRONG_COMMUNICATION)),
-        (&[[4, 0]], Err(Code::WRONG_COMMUNICATION_LENGTH)),
-        (&[[2, 1]], Err(Code::WRONG_COMMUNICATION_LENGTH)),
-    ] {
-        let mut upload = Upload::parameter(2, 1000, &one_byte(), Profile::One);
-        assert_eq!(rt; outcome(&mut upload, frames), want, "after {frames:?}");
-    }
-    for (frames, want) in [
-        (
-            [[4, 0], [100, 0], [7, 0], [1, 0], [0x10, 0]].as_slice(),
-            whole,
-        ),
-        (&[[4, 0], [100, 0], [8, 0]], Err(Code::WRONG_COMMUNICATION)),
-        (&[[2, 0]], Err(Code::WRONG_COMMUNICATION_LENGTH)),
-    ] {
-        let mut upload = Upload::parameter(2, 1000, &one_byte(), Profile::Two(7));
-        assert_eq!(rt; outcome(&mut upload, frames), want, "after {frames:?}");
-    }
-    for (frames, want) in [
-        ([[1, 0], [2, 0]].as_slice(), whole),
-        (&[[1, 1]], Err(Code::WRONG_CONNECTION)),
-        (&[[1, 0], [3, 0]], Err(Code::WRONG_ADDRESS)),
-    ] {
-        let mut upload = Upload::connection(2, 1, 2);
-        assert_eq!(rt; outcome(&mut upload, frames), want, "after {frames:?}");
+    for (profile, frames, want) in PARAMETERS {
+        assert_eq!(rt; parameters(profile, frames), want, "after {frames:?}");
     }
 }
 
 #[test]
-fn a_whole_upload_tells_what_came(rt: HostRuntime) {
+fn a_connection_is_tested_field_by_field(rt: HostRuntime) {
+    for (frames, want) in [
+        ([[1, 0], [2, 0]].as_slice(), WHOLE),
+        (&[[1, 1]], Err(Code::WRONG_CONNECTION)),
+        (&[[1, 0], [3, 0]], Err(Code::WRONG_ADDRESS)),
+    ] {
+        assert_eq!(rt; connection(frames), want, "after {frames:?}");
+    }
+}
+
+/// The watchdog of a whole upload, its application parameters where there is one, and what answers its last frame.
+fn told(frames: &[[u8; 2]]) -> Option<(u16, Option<u8>, Image)> {
     let mut upload = Upload::parameter(2, 1000, &one_byte(), Profile::One);
-    let frames = [[2, 0], [100, 0], [1, 0], [0x20, 0]];
-    assert_eq!(rt; outcome(&mut upload, &frames), Ok(Progress::Whole));
-    assert_eq!(rt; upload.echo(4).bytes(), [0x20, 0, 0, 0].as_slice());
-    assert_eq!(rt; upload.is_whole(), true);
-    if upload.is_whole() {
-        assert_eq!(rt; upload.watchdog(), 100);
-        assert_eq!(rt; upload.app().bytes(), [0x20].as_slice());
+    outcome(&mut upload, frames).ok()?;
+    let echo = upload.echo(4);
+    if !upload.is_whole() {
+        return None;
     }
+    Some((
+        upload.watchdog(),
+        upload.app().bytes().first().copied(),
+        echo,
+    ))
+}
+
+/// The session id of a whole upload in profile Two.
+fn told_id(frames: &[[u8; 2]]) -> Option<u32> {
     let mut upload = Upload::session(2, Profile::Two(7));
-    assert_eq!(rt;
-        outcome(&mut upload, &[[1, 2], [3, 4]]),
-        Ok(Progress::Whole)
-    );
+    outcome(&mut upload, frames).ok()?;
     if upload.is_whole() {
-        assert_eq!(rt; upload.id(), 0x0403_0201);
+        Some(upload.id())
+    } else {
+        None
     }
+}
+
+#[test]
+fn a_whole_upload_tells_what_came(rt: HostRuntime) -> Result<(), Fail> {
+    let (watchdog, app, echo) = told(&[[2, 0], [100, 0], [1, 0], [0x20, 0]]).ok_or("not whole")?;
+    assert_eq!(rt; (watchdog, app), (100, Some(0x20)));
+    assert_eq!(rt; echo.bytes(), [0x20, 0, 0, 0].as_slice());
+    assert_eq!(rt; told_id(&[[1, 2], [3, 4]]), Some(0x0403_0201));
+    Ok(())
 }
 
 /// What the last of these answers gives to a download, or the first code; Whole also where answers are left.
@@ -123,27 +181,56 @@ fn answered(download: &mut Download, answers: &[[u8; 4]]) -> Result<Progress, Co
     Ok(last)
 }
 
+/// What the last of these answers gives to the download of a connection, which are to be its bytes or any, and the first byte of its piece in
+/// turn then, if there is one.
+fn download(echo: bool, answers: &[[u8; 4]]) -> (Result<Progress, Code>, Option<u8>) {
+    let mut download = Download::new(Payload::connection(1, 2), 2, echo);
+    let outcome = answered(&mut download, answers);
+    if download.is_whole() {
+        return (outcome, None);
+    }
+    (outcome, download.load(4).bytes().first().copied())
+}
+
 #[test]
 fn answers_to_a_download_are_tested(rt: HostRuntime) {
-    for (echo, answers, want) in [
-        (true, [[1, 0, 0, 0]].as_slice(), Ok(Progress::More)),
-        (true, &[[1, 0, 0, 0], [2, 0, 0, 0]], Ok(Progress::Whole)),
-        (true, &[[1, 0, 0, 0], [3, 0, 0, 0]], Err(Code::WRONG_DATA)),
-        (true, &[[1, 0, 0, 1]], Err(Code::WRONG_DATA)),
-        (true, &[[0, 0, 0, 0]], Err(Code::WRONG_DATA)),
-        (false, &[[9, 9, 0, 0], [9, 9, 0, 0]], Ok(Progress::Whole)),
-        (false, &[[9, 9, 1, 0]], Err(Code::WRONG_DATA)),
+    for (echo, answers, want, next) in [
+        (true, [].as_slice(), MORE, Some(1)),
+        (true, &[[1, 0, 0, 0]], MORE, Some(2)),
+        (true, &[[1, 0, 0, 0], [2, 0, 0, 0]], WHOLE, None),
+        (
+            true,
+            &[[1, 0, 0, 0], [3, 0, 0, 0]],
+            Err(Code::WRONG_DATA),
+            Some(2),
+        ),
+        (true, &[[1, 0, 0, 1]], Err(Code::WRONG_DATA), Some(1)),
+        (true, &[[0, 0, 0, 0]], Err(Code::WRONG_DATA), Some(1)),
+        (false, &[[9, 9, 0, 0], [9, 9, 0, 0]], WHOLE, None),
+        (false, &[[9, 9, 1, 0]], Err(Code::WRONG_DATA), Some(1)),
     ] {
-        let mut download = Download::new(Payload::connection(1, 2), 2, echo);
-        assert_eq!(rt; download.load(4).bytes(), [1, 0, 0, 0].as_slice());
-        assert_eq!(rt; answered(&mut download, answers), want, "after {answers:?}");
+        assert_eq!(rt; download(echo, answers), (want, next), "after {answers:?}");
     }
-    let mut download = Download::new(Payload::connection(1, 2), 2, true);
-    assert_eq!(rt;
-        answered(&mut download, &[[1, 0, 0, 0], [3, 0, 0, 0]]),
-        Err(Code::WRONG_DATA)
-    );
-    assert_eq!(rt; download.load(4).bytes(), [2, 0, 0, 0].as_slice());
+}
+
+/// Why a master of profile One and one of profile Two can't be set so.
+fn master_faults(lengths: Lengths, conn: u16, watchdog: u16) -> [Option<BadSetting>; 2] {
+    let one = MasterSettings::new(lengths, conn, 2, watchdog, AppBytes::new(), 1);
+    let two = MasterSettings::two(lengths, conn, 2, watchdog, AppBytes::new(), 65_536, 7);
+    [one.err(), two.err()]
+}
+
+/// The same of a slave.
+fn slave_faults(lengths: Lengths, hand: u16, most: u16, n: u16) -> [Option<BadSetting>; 2] {
+    let one = SlaveSettings::new(lengths, 2, hand, most, AppRule::Any(n), 2);
+    let two = SlaveSettings::two(lengths, 2, hand, most, AppRule::Any(n), 65_536, 7);
+    [one.err(), two.err()]
+}
+
+/// The same of a slave with a rule of ranges from 20h to 10h.
+fn backward_fault(lengths: Lengths) -> Option<BadSetting> {
+    let backward = AppRule::Ranges(bytes(0x20), bytes(0x10));
+    SlaveSettings::new(lengths, 2, 1, 1, backward, 2).err()
 }
 
 #[test]
@@ -154,10 +241,7 @@ fn settings_are_refused_in_order(rt: HostRuntime) -> Result<(), Fail> {
         (1, 0, Some(BadSetting::Watchdog)),
         (1, 1, None),
     ] {
-        let one = MasterSettings::new(lengths, conn, 2, watchdog, AppBytes::new(), 1);
-        assert_eq!(rt; one.err(), want);
-        let two = MasterSettings::two(lengths, conn, 2, watchdog, AppBytes::new(), 65_536, 7);
-        assert_eq!(rt; two.err(), want);
+        assert_eq!(rt; master_faults(lengths, conn, watchdog), [want, want]);
     }
     for (hand, most, n, want) in [
         (0, 0, 513, Some(BadSetting::Hand)),
@@ -165,16 +249,9 @@ fn settings_are_refused_in_order(rt: HostRuntime) -> Result<(), Fail> {
         (1, 1, 513, Some(BadSetting::Rule)),
         (1, 1, 512, None),
     ] {
-        let one = SlaveSettings::new(lengths, 2, hand, most, AppRule::Any(n), 2);
-        assert_eq!(rt; one.err(), want);
-        let two = SlaveSettings::two(lengths, 2, hand, most, AppRule::Any(n), 65_536, 7);
-        assert_eq!(rt; two.err(), want);
+        assert_eq!(rt; slave_faults(lengths, hand, most, n), [want, want]);
     }
-    let backward = AppRule::Ranges(bytes(0x20), bytes(0x10));
-    assert_eq!(rt;
-        SlaveSettings::new(lengths, 2, 1, 1, backward, 2).err(),
-        Some(BadSetting::Rule)
-    );
+    assert_eq!(rt; backward_fault(lengths), Some(BadSetting::Rule));
     Ok(())
 }
 

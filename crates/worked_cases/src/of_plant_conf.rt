@@ -4,6 +4,7 @@ use fb_net::{Drive, Wire};
 use fsoe_io::LineText;
 use param_load::{AppRule, Profile};
 use plant_conf::{BoundSpec, ConfFault, LinkConf, PlantConf, read_conf};
+use plant_setup::{SetupFault, write_config_line};
 use std::alloc::{AllocError, Global};
 use std::test::Fail;
 
@@ -48,91 +49,20 @@ estop = \"i1.61\"
 drive = \"o1.62\"
 ";
 
-fn bit(link: u16, bit: u16) -> Bit {
-    Bit { link, bit }
+fn conf_of(alloc: Global, text: &str) -> Result<PlantConf, ConfFault> {
+    read_conf(alloc, text.as_bytes())
 }
 
-/// What is read of the texts, one after another.
-fn read_all(alloc: Global, texts: &[&str]) -> Result<Result<PlantConf, ConfFault>, AllocError> {
-    let mut whole = String::new(alloc);
-    for text in texts {
-        whole.push_str(text)?;
+/// Whether this comes of reading a text: `read`, or a fault as it is written.
+fn comes(alloc: Global, text: &str, outcome: &str) -> bool {
+    let mut line = LineText::new();
+    match conf_of(alloc, text) {
+        Ok(_) => return outcome == "read",
+        Err(fault) => write_config_line(SetupFault::Conf(fault), &mut line),
     }
-    Ok(read_conf(alloc, whole.as_bytes()))
-}
-
-/// A fault as a line of text.
-fn push_fault(fault: ConfFault, text: &mut LineText) {
-    text.clear();
-    let key = match fault {
-        ConfFault::Missing(key) => {
-            text.push_str("Missing ");
-            key
-        }
-        ConfFault::Kind(key) => {
-            text.push_str("Kind ");
-            key
-        }
-        ConfFault::Range(key) => {
-            text.push_str("Range ");
-            key
-        }
-        ConfFault::SameConn { a, b } => {
-            text.push_str("SameConn ");
-            text.push_decimal(u64::from(a));
-            text.push_str(" ");
-            text.push_decimal(u64::from(b));
-            return;
-        }
-        ConfFault::Syntax => return text.push_str("Syntax"),
-        ConfFault::TooMany => return text.push_str("TooMany"),
-        ConfFault::Memory => return text.push_str("Memory"),
-    };
-    key.push(text);
-}
-
-/// What comes of reading, as a line of text.
-fn push_outcome(read: Result<PlantConf, ConfFault>, text: &mut LineText) {
-    match read {
-        Ok(_) => {
-            text.clear();
-            text.push_str("read");
-        }
-        Err(fault) => push_fault(fault, text),
-    }
-}
-
-#[test]
-fn the_worked_plant_is_read(rt: HostRuntime) -> Result<(), Fail> {
-    let read = read_all(rt.alloc(), &[PLANT, FIRST, SECOND, NET])?;
-    assert!(rt; read.is_ok());
-    if let Ok(mut conf) = read {
-        let counts = (
-            conf.links().len(),
-            conf.blocks().len(),
-            conf.drives().len(),
-            conf.bounds().len(),
-        );
-        assert_eq!(rt; counts, (2, 1, 1, 0));
-        assert_eq!(rt; conf.app(), "net");
-        assert_eq!(rt; conf.channel(), "perfect");
-        assert_eq!(rt; conf.seed(), 1);
-        let second = &conf.links()[conf.links().len() - 1];
-        let (master, slave) = (&second.master, &second.slave);
-        let numbers = [master.conn(), master.address(), master.watchdog()];
-        assert_eq!(rt; numbers, [2, 12, 5]);
-        assert_eq!(rt;
-            [slave.address(), slave.hand(), slave.most()],
-            [12, 5, 65_535]
-        );
-        assert_eq!(rt; (master.nonce(), slave.nonce()), (1, 2));
-        assert_eq!(rt; master.profile(), Profile::One);
-        assert!(rt; matches!(slave.rule(), AppRule::Any(0)));
-        let (blocks, drives) = conf.take_net();
-        let left = (conf.blocks().len(), conf.drives().len(), conf.links().len());
-        assert_eq!(rt; (blocks.len(), drives.len(), left), (1, 1, (0, 0, 2)));
-    }
-    Ok(())
+    let told = line.bytes();
+    let fault = told.get(7..told.len().saturating_sub(1));
+    told.starts_with(b"config ") && told.ends_with(b"\n") && fault == Some(outcome.as_bytes())
 }
 
 /// A row each: a line of `WHOLE`, what stands in its place, and what comes of reading.
@@ -282,203 +212,166 @@ drive = "o1.62" | drive = 1 | Kind bound 1 drive
 drive = "o1.62" | drive = "i1.62" | Range bound 1 drive
 drive = "o1.62" | drive = "x" | Range bound 1 drive"#;
 
+/// The text of a row: `WHOLE` with its line altered.
+fn altered(alloc: Global, line: &str, instead: &str) -> Result<String, AllocError> {
+    let mut whole = String::new(alloc);
+    for (place, part) in WHOLE.split(line).enumerate() {
+        if place > 0 {
+            whole.push_str(instead)?;
+        }
+        whole.push_str(part)?;
+    }
+    Ok(whole)
+}
+
 #[test]
 fn each_key_has_its_faults(rt: HostRuntime) -> Result<(), Fail> {
-    let mut text = LineText::new();
     for row in ROWS.lines() {
         let (line, rest) = row.split_once(" | ").ok_or("no line")?;
-        let (altered, outcome) = rest.split_once(" | ").ok_or("no outcome")?;
-        let (before, after) = WHOLE.split_once(line).ok_or("no such line")?;
-        push_outcome(read_all(rt.alloc(), &[before, altered, after])?, &mut text);
-        assert_eq!(rt; text.bytes(), outcome.as_bytes(), "at {row}");
+        let (instead, outcome) = rest.split_once(" | ").ok_or("no outcome")?;
+        let text = altered(rt.alloc(), line, instead)?;
+        assert!(rt; comes(rt.alloc(), &text, outcome), "at {row}");
     }
     Ok(())
 }
 
-/// Texts that are read one after another, and what comes of it.
-type Whole = (&'static [&'static str], &'static str);
-
-const NO_WATCHDOG: &str = "[[connection]]\nid = 2\naddress = 0\nmaster_length = 0\n";
-
-const NO_KIND: &str = "[[block]]\nins = 1\n";
-
-const WHOLES: [Whole; 30] = [
-    (&[], "Missing plant"),
-    (&["[plant"], "Syntax"),
-    (&[FIRST], "Missing plant"),
-    (&["plant = 1\n", FIRST], "Kind plant"),
-    (&["[[plant]]\n", FIRST], "Kind plant"),
-    (&[PLANT], "Missing connection"),
-    (&["connection = []\n", PLANT], "Missing connection"),
-    (&["connection = 1\n", PLANT], "Kind connection"),
-    (&[PLANT, "[connection]\nid = 1\n"], "Kind connection"),
-    (
-        &["connection = [{ id = 0 }, 1]\n", PLANT],
-        "Kind connection",
-    ),
-    (
-        &["connection = [{ id = 0 }]\n", PLANT],
-        "Range connection 1 id",
-    ),
-    (&["block = 1\n", PLANT, FIRST], "Kind block"),
-    (&["block = [[]]\n", PLANT, FIRST], "Kind block"),
-    (&["drive = true\n", PLANT, FIRST], "Kind drive"),
-    (&["bound = {}\n", PLANT, FIRST], "Kind bound"),
-    (
-        &["block = []\ndrive = []\nbound = []\n", PLANT, FIRST],
-        "read",
-    ),
-    (
-        &["other = 1\n", PLANT, "color = 1\n", FIRST, "id2 = 1\n"],
-        "read",
-    ),
-    (&[PLANT, FIRST, SECOND, NET], "read"),
-    (&[PLANT, FIRST, FIRST], "SameConn 1 2"),
-    (&[PLANT, FIRST, SECOND, FIRST], "SameConn 1 3"),
-    (&[PLANT, FIRST, SECOND, SECOND, FIRST], "SameConn 1 4"),
-    (&[PLANT, FIRST, SECOND, SECOND, SECOND], "SameConn 2 3"),
-    (
-        &[PLANT, FIRST, NO_WATCHDOG],
-        "Missing connection 2 watchdog",
-    ),
-    (&["[plant]\napp = 1\n", NO_WATCHDOG], "Kind plant app"),
-    (
-        &["block = 1\n", PLANT, NO_WATCHDOG],
-        "Missing connection 1 watchdog",
-    ),
-    (&[PLANT, FIRST, FIRST, NO_KIND], "Missing block 1 kind"),
-    (
-        &["drive = 1\n", PLANT, FIRST, NO_KIND],
-        "Missing block 1 kind",
-    ),
-    (
-        &["bound = 1\n", PLANT, FIRST, "[[drive]]\n"],
-        "Missing drive 1 out",
-    ),
-    (&["bound = 1\n", PLANT, FIRST, FIRST], "Kind bound"),
-    (&[PLANT, "seed = 2\n", FIRST], "Syntax"),
-];
-
-#[test]
-fn the_first_fault_of_a_text_is_told(rt: HostRuntime) -> Result<(), Fail> {
-    let mut text = LineText::new();
-    for (texts, outcome) in WHOLES {
-        push_outcome(read_all(rt.alloc(), texts)?, &mut text);
-        assert_eq!(rt; text.bytes(), outcome.as_bytes());
+/// 64 connections, the last with so many hexadecimal digits of application parameters.
+fn sixty_four(alloc: Global, digits: u16) -> Result<String, AllocError> {
+    let mut whole = String::from_str(alloc, PLANT)?;
+    for id in 1..65u16 {
+        let lines = format!(in alloc;
+            "[[connection]]\nid = {id}\naddress = 1\nwatchdog = 5\nmaster_length = 2\nslave_length = 2\n"
+        )?;
+        whole.push_str(&lines)?;
     }
-    assert_eq!(rt;
-        read_conf(rt.alloc(), b"# \xff\n").err(),
-        Some(ConfFault::Syntax)
-    );
-    Ok(())
-}
-
-/// A text that stands once, one that stands a number of times after it, and what comes of reading both.
-type Many = (&'static [&'static str], &'static str, u64, &'static str);
-
-const BLOCK: &str = "[[block]]\nkind = \"const1\"\nins = []\n";
-
-const DRIVE: &str = "[[drive]]\nout = \"o1.0\"\nfrom = \"b1\"\n";
-
-const BOUND: &str = "[[bound]]\nestop = \"i1.0\"\ndrive = \"o1.0\"\n";
-
-const MANY: [Many; 9] = [
-    (&[], "[[connection]]\n", 64, "Missing plant"),
-    (&[], "[[connection]]\n", 65, "TooMany"),
-    (&[PLANT, FIRST], BLOCK, 256, "read"),
-    (&[PLANT, FIRST], BLOCK, 257, "TooMany"),
-    (&[PLANT, FIRST], DRIVE, 1024, "read"),
-    (&[PLANT, FIRST], DRIVE, 1025, "TooMany"),
-    (&[PLANT, FIRST], BOUND, 16, "read"),
-    (&[PLANT, FIRST], BOUND, 17, "TooMany"),
-    (&["connection = [1, 1]\n", PLANT], BOUND, 17, "TooMany"),
-];
-
-#[test]
-fn tables_are_counted(rt: HostRuntime) -> Result<(), Fail> {
-    let mut text = LineText::new();
-    for (once, again, count, outcome) in MANY {
-        let mut whole = String::new(rt.alloc());
-        for part in once {
-            whole.push_str(part)?;
-        }
-        for _ in 0..count {
-            whole.push_str(again)?;
-        }
-        push_outcome(read_conf(rt.alloc(), whole.as_bytes()), &mut text);
-        assert_eq!(rt; text.bytes(), outcome.as_bytes(), "at {count}");
+    whole.push_str("app = \"")?;
+    for _ in 0..digits {
+        whole.push_str("c")?;
     }
-    Ok(())
+    whole.push_str("\"\n")?;
+    Ok(whole)
 }
 
 #[test]
 fn sixty_four_connections_and_512_bytes_are_read(rt: HostRuntime) -> Result<(), Fail> {
-    let mut text = LineText::new();
     for (digits, outcome) in [(1024, "read"), (1026, "Range connection 64 app")] {
-        let mut whole = String::from_str(rt.alloc(), PLANT)?;
-        for id in 1..65u64 {
-            let (_, rest) = FIRST.split_once("id = 1").ok_or("no id")?;
-            text.clear();
-            text.push_decimal(id);
-            whole.push_str("[[connection]]\nid = ")?;
-            whole.push_str(std::str::from_utf8(text.bytes()).ok().ok_or("no digits")?)?;
-            whole.push_str(rest)?;
-        }
-        whole.push_str("app = \"")?;
-        for _ in 0..digits {
-            whole.push_str("c")?;
-        }
-        whole.push_str("\"\n")?;
-        push_outcome(read_conf(rt.alloc(), whole.as_bytes()), &mut text);
-        assert_eq!(rt; text.bytes(), outcome.as_bytes());
+        let text = sixty_four(rt.alloc(), digits)?;
+        assert!(rt; comes(rt.alloc(), &text, outcome), "{digits} digits");
     }
     Ok(())
 }
 
+/// Whether these bytes are refused as no document.
+fn is_no_document(alloc: Global, bytes: &[u8]) -> bool {
+    matches!(read_conf(alloc, bytes), Err(ConfFault::Syntax))
+}
+
 #[test]
-fn every_key_is_taken_as_it_stands(rt: HostRuntime) -> Result<(), Fail> {
-    let conf = read_conf(rt.alloc(), WHOLE.as_bytes())
-        .ok()
-        .ok_or("not read")?;
-    assert_eq!(rt;
-        (conf.app(), conf.channel(), conf.seed()),
-        ("mine", "wire", 77)
-    );
-    for LinkConf { master, slave } in conf.links() {
-        let numbers = [master.conn(), master.address(), master.watchdog()];
-        assert_eq!(rt; numbers, [21, 22, 23]);
-        assert_eq!(rt; [master.own_len(), master.peer_len()], [24, 26]);
-        assert_eq!(rt; [slave.own_len(), slave.peer_len()], [26, 24]);
-        assert_eq!(rt; master.app().bytes(), [10, 11].as_slice());
-        assert!(rt; slave.rule().allows(&[10, 11]) && !slave.rule().allows(&[10, 12]));
-        assert_eq!(rt; [slave.address(), slave.hand(), slave.most()], [32, 33, 34]);
-        assert_eq!(rt; (master.nonce(), slave.nonce()), (35, 36));
-        assert!(rt; slave.profile() == Profile::One && master.profile() == Profile::One);
+fn what_is_no_utf_8_is_no_document(rt: HostRuntime) {
+    assert!(rt; is_no_document(rt.alloc(), b"# \xff\n"));
+}
+
+/// How many connections, blocks, drives and bounds there are.
+fn counts(conf: &PlantConf) -> [usize; 4] {
+    [
+        conf.links().len(),
+        conf.blocks().len(),
+        conf.drives().len(),
+        conf.bounds().len(),
+    ]
+}
+
+/// Whether these are the names of the application and of the channel, and the seed.
+fn has_names(conf: &PlantConf, app: &str, channel: &str, seed: u64) -> bool {
+    conf.app() == app && conf.channel() == channel && conf.seed() == seed
+}
+
+/// The numbers of both ends of a connection: connection id, address and watchdog of the master; address and both limits of the slave; and both
+/// nonces.
+fn numbers(link: &LinkConf) -> ([u16; 3], [u16; 3], [u32; 2]) {
+    let LinkConf { master, slave } = link;
+    (
+        [master.conn(), master.address(), master.watchdog()],
+        [slave.address(), slave.hand(), slave.most()],
+        [master.nonce(), slave.nonce()],
+    )
+}
+
+fn worked_plant(alloc: Global) -> Result<Option<PlantConf>, AllocError> {
+    let mut text = String::new(alloc);
+    for part in [PLANT, FIRST, SECOND, NET] {
+        text.push_str(part)?;
     }
+    Ok(conf_of(alloc, &text).ok())
+}
+
+#[test]
+fn the_worked_plant_is_read(rt: HostRuntime) -> Result<(), Fail> {
+    let conf = worked_plant(rt.alloc())?.ok_or("not read")?;
+    assert_eq!(rt; counts(&conf), [2, 1, 1, 0]);
+    assert!(rt; has_names(&conf, "net", "perfect", 1));
+    let second = conf.links().last().ok_or("no connection")?;
+    assert_eq!(rt; numbers(second), ([2, 12, 5], [12, 5, 65_535], [1, 2]));
+    assert!(rt; matches!(second.slave.rule(), AppRule::Any(0)));
+    Ok(())
+}
+
+/// How many blocks and drives are taken, and what is left then.
+fn net_taken(conf: PlantConf) -> ([usize; 2], [usize; 4]) {
+    let mut conf = conf;
+    let (blocks, drives) = conf.take_net();
+    ([blocks.len(), drives.len()], counts(&conf))
+}
+
+#[test]
+fn the_net_is_taken_from_a_configuration(rt: HostRuntime) -> Result<(), Fail> {
+    let conf = worked_plant(rt.alloc())?.ok_or("not read")?;
+    assert_eq!(rt; net_taken(conf), ([1, 1], [2, 0, 0, 0]));
+    Ok(())
+}
+
+/// Whether a connection has the lengths 24 and 26 and the application parameters 0a 0b, and its slave allows no others, in profile One.
+fn has_its_parameters(link: &LinkConf) -> bool {
+    let LinkConf { master, slave } = link;
+    [master.own_len(), slave.own_len()] == [24, 26]
+        && master.app().bytes() == [10, 11].as_slice()
+        && slave.rule().allows(&[10, 11])
+        && !slave.rule().allows(&[10, 12])
+        && slave.profile() == Profile::One
+        && master.profile() == Profile::One
+}
+
+fn bit(link: u16, bit: u16) -> Bit {
+    Bit { link, bit }
+}
+
+/// Whether the net and the bounds of a configuration are those of `WHOLE`.
+fn has_its_bits(conf: &PlantConf) -> bool {
     for spec in conf.blocks() {
-        assert_eq!(rt; spec.block.kind(), BlockKind::And);
         let wires = [Wire::Input(bit(1, 0)), Wire::Block(1)];
-        assert_eq!(rt; spec.ins.list(), wires.as_slice());
+        if spec.block.kind() != BlockKind::And || spec.ins.list() != wires.as_slice() {
+            return false;
+        }
     }
     let drive = Drive {
         out: bit(1, 51),
         from: Wire::Block(1),
     };
-    assert_eq!(rt; conf.drives(), [drive].as_slice());
     let bound = BoundSpec {
         estop: bit(1, 61),
         drive: bit(1, 62),
     };
-    assert_eq!(rt; conf.bounds(), [bound].as_slice());
-    assert_eq!(rt; (conf.links().len(), conf.blocks().len()), (1, 1));
-    Ok(())
+    conf.drives() == [drive].as_slice() && conf.bounds() == [bound].as_slice()
 }
 
-/// Without memory nothing else is told: to be run with each allocation refused in turn.
 #[test]
-fn reading_tells_that_there_is_no_memory(rt: HostRuntime) -> Result<(), Fail> {
-    if let Err(fault) = read_conf(rt.alloc(), WHOLE.as_bytes()) {
-        assert_eq!(rt; fault, ConfFault::Memory);
+fn every_key_is_taken_as_it_stands(rt: HostRuntime) -> Result<(), Fail> {
+    let conf = conf_of(rt.alloc(), WHOLE).ok().ok_or("not read")?;
+    assert_eq!(rt; counts(&conf), [1, 1, 1, 1]);
+    assert!(rt; has_names(&conf, "mine", "wire", 77) && has_its_bits(&conf));
+    for link in conf.links() {
+        assert_eq!(rt; numbers(link), ([21, 22, 23], [32, 33, 34], [35, 36]));
+        assert!(rt; has_its_parameters(link));
     }
     Ok(())
 }

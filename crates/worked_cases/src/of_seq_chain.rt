@@ -1,7 +1,6 @@
 use fsoe_base::{Command, FrameBuf};
 use fsoe_frame::view;
-use seq_chain::{Chain, laws};
-use std::process::Abort;
+use seq_chain::Chain;
 
 /// A frame with two safe data bytes: command, data, number and CRC.
 type Row = (Command, [u8; 2], u16, u16);
@@ -54,49 +53,63 @@ const FORGED_DATA: [Row; 2] = [
 /// A forged frame in place of the master's second Parameter frame.
 const FORGED_PARAMETERS: [Row; 1] = [(Command::Parameter, [0x00, 0x00], 5, 0xA7BD)];
 
-/// Seals the row's frame at one end and takes it at the other.
-fn passes(rt: &impl Abort, (command, data, number, crc): Row, from: &mut Chain, to: &mut Chain) {
+/// Whether the row's frame is sealed at one end, with its number, and taken at the other, which then refuses the same frame.
+fn passes((command, data, number, crc): Row, from: &mut Chain, to: &mut Chain) -> bool {
     let conn = if command == Command::Session { 0 } else { 1 };
     let mut out = FrameBuf::new();
     from.seal(command, conn, &data, &mut out);
     let [low, high] = crc.to_le_bytes();
     let frame = [command.byte(), data[0], data[1], low, high, conn as u8, 0];
-    assert_eq!(rt; out.bytes(), frame.as_slice(), "number {number}");
-    assert_eq!(rt; from.own_prev(), Some(crc));
-    assert_eq!(rt; from.own_seq(), number.wrapping_add(1));
-    let received = view(&frame, 2).expect(rt, "two safe data bytes");
-    let conn = received.conn();
-    assert!(rt; to.test(&received, conn), "number {number}");
-    to.take(&received, conn);
-    assert_eq!(rt; to.taken_prev(), Some(crc));
-    assert_eq!(rt; to.peer_seq(), number.wrapping_add(1));
-    assert!(rt; !to.test(&received, conn), "the same frame again");
+    let next = number.wrapping_add(1);
+    out.bytes() == frame.as_slice()
+        && (from.own_prev(), from.own_seq()) == (Some(crc), next)
+        && takes(&frame, to)
+        && (to.taken_prev(), to.peer_seq()) == (Some(crc), next)
 }
 
-/// Passes these rows by turns, from the first of the two chains on.
-fn pass_by_turns(rt: &impl Abort, rows: &[Row], first: Chain, second: Chain) -> (Chain, Chain) {
-    let mut from = first;
-    let mut to = second;
-    for row in rows {
-        passes(rt, *row, &mut from, &mut to);
-        (from, to) = (to, from);
+/// Whether a frame passes the test and is taken, and doesn't pass again.
+fn takes(frame: &[u8], to: &mut Chain) -> bool {
+    let Some(received) = view(frame, 2) else {
+        return false;
+    };
+    let conn = received.conn();
+    if !to.test(&received, conn) {
+        return false;
     }
-    (from, to)
+    to.take(&received, conn);
+    !to.test(&received, conn)
+}
+
+/// Passes these rows by turns, from the first end on. The number of the first row that doesn't pass.
+fn pass_by_turns(rows: &[Row], ends: &mut (Chain, Chain)) -> Option<u16> {
+    for row in rows {
+        let (mut from, mut to) = *ends;
+        if !passes(*row, &mut from, &mut to) {
+            return Some(row.2);
+        }
+        *ends = (to, from);
+    }
+    None
+}
+
+/// The same of so many rows of the handshake, and then of these.
+fn first_unlike(begun: usize, then: &[Row]) -> Option<u16> {
+    let mut ends = (Chain::new(), Chain::new());
+    match pass_by_turns(&HANDSHAKE[..begun.min(15)], &mut ends) {
+        None => pass_by_turns(then, &mut ends),
+        unlike => unlike,
+    }
 }
 
 #[test]
 fn sessions(rt: HostRuntime) {
-    assert_eq!(rt; Chain::new().own_prev(), None);
-    assert_eq!(rt; (Chain::new().own_seq(), Chain::new().peer_seq()), (1, 1));
-    let (slave, master) = pass_by_turns(&rt, &HANDSHAKE, Chain::new(), Chain::new());
-    pass_by_turns(&rt, &DATA, slave, master);
-    pass_by_turns(&rt, &HELD, slave, master);
-    pass_by_turns(&rt, &STEPPED, slave, master);
-    let (master, slave) = pass_by_turns(&rt, &HANDSHAKE[..14], Chain::new(), Chain::new());
-    pass_by_turns(&rt, &FORGED_DATA, master, slave);
-    let (master, slave) = pass_by_turns(&rt, &HANDSHAKE[..8], Chain::new(), Chain::new());
-    pass_by_turns(&rt, &FORGED_PARAMETERS, master, slave);
-    laws::another_last();
-    laws::first_groups();
-    laws::steps();
+    for (begun, then) in [
+        (15, DATA.as_slice()),
+        (15, &HELD),
+        (15, &STEPPED),
+        (14, &FORGED_DATA),
+        (8, &FORGED_PARAMETERS),
+    ] {
+        assert_eq!(rt; first_unlike(begun, then), None, "after {begun}");
+    }
 }
