@@ -6,14 +6,19 @@ use fsoe_io::LineText;
 use std::alloc::{AllocError, Global};
 use std::test::Fail;
 
-/// What a window gives so many frames back, to which the frames of one byte from 1 on were pushed.
-fn byte_back(pushed: u8, back: u8) -> Option<u8> {
+/// A window to which the frames of one byte from 1 on were pushed.
+fn window_of(pushed: u8) -> Window {
     let mut window = Window::new();
     for byte in 1..=pushed {
         window.push(&[byte]);
     }
+    window
+}
+
+/// What it gives so many frames back.
+fn byte_back(pushed: u8, back: u8) -> Option<u8> {
     let mut out = FrameBuf::new();
-    if !(1..=64).contains(&back) || !window.back(back, &mut out) {
+    if !(1..=64).contains(&back) || !window_of(pushed).back(back, &mut out) {
         return None;
     }
     out.bytes().first().copied()
@@ -30,6 +35,7 @@ fn a_window_gives_the_last_64_frames_back(rt: HostRuntime) {
     ] {
         assert_eq!(rt; byte_back(pushed, back), byte, "{back} of {pushed}");
     }
+    assert_eq!(rt; window_of(70).sent(), 70);
 }
 
 /// The master of a connection with an odd number, or the slave of one with an even number.
@@ -103,8 +109,9 @@ fn a_full_perfect_channel_loses_the_oldest_frame(rt: HostRuntime) -> Result<(), 
     Ok(())
 }
 
-/// The seed with which a hostile channel begins, if it is begun anew, how many parcels are pushed then, and what it gives. The rows were made
-/// by a program in another language, from the table of a pull and the generator's published algorithm.
+/// The seed with which a hostile channel begins, if it is begun anew, how many parcels are pushed then, and what it
+/// gives. The rows were made by a program in another language, from the table of a pull and the generator's published
+/// algorithm.
 const HOSTILE: [(Option<u64>, u8, &str); 5] = [
     (
         None,

@@ -1,7 +1,7 @@
 use fb_lib::{Block, BlockKind};
 
-/// The first cycle of a row in which a new block doesn't give what is wanted. A cycle has a digit for each input, `T` where it is ticked, and the
-/// output after a colon.
+/// The first cycle of a row in which a new block doesn't give what is wanted. A cycle has a digit for each input, `T`
+/// where it is ticked, and the output after a colon.
 fn first_unlike(kind: BlockKind, n: u16, row: &'static str) -> Option<&'static str> {
     let mut block = Block::new(kind, n);
     let count = if block.takes(2) { 2 } else { 1 };

@@ -1,7 +1,6 @@
 use failsafe_io::{Application, Bit};
 use fb_lib::BlockKind;
-use fb_net::{AppKind, BlockSpec, Drive, KindOf, Mirror, Net, NetFault, Wire, Wires, Zeros};
-use fsoe_base::Image;
+use fb_net::{BlockSpec, Drive, Net, NetFault, Wire, Wires};
 use std::alloc::{AllocError, Global};
 use std::test::Fail;
 
@@ -119,45 +118,5 @@ fn the_first_fault_is_told(rt: HostRuntime) -> Result<(), Fail> {
     for (kind, wires, drives, fault) in ROWS {
         assert_eq!(rt; net_of(rt.alloc(), kind, wires, drives)?.err(), Some(fault));
     }
-    Ok(())
-}
-
-/// Two images of 2 bytes, of which the first begins with this byte.
-fn images(alloc: Global, first: u8) -> Result<Vec<Image>, AllocError> {
-    let mut image = Image::zeros(2);
-    image.set(&[first, 0]);
-    let mut images = Vec::new(alloc);
-    images.push(image)?;
-    images.push(Image::zeros(2))?;
-    Ok(images)
-}
-
-/// What an application that is handed in answers to an image that begins with 81h; and whether it guards an output bit by the same input bit,
-/// and by that of another connection.
-fn answered(
-    alloc: Global,
-    handed: Box<dyn Application>,
-) -> Result<(Option<u8>, [bool; 2]), AllocError> {
-    let mut app: AppKind = KindOf::Handed(handed);
-    let inputs = images(alloc, 0x81)?;
-    let mut outputs = images(alloc, 1)?;
-    app.cycle(false, inputs.as_slice(), outputs.as_mut_slice());
-    let mut first = None;
-    if let Some(image) = outputs.first() {
-        first = image.bytes().first().copied();
-    }
-    let guards = [
-        app.guards(bit(1, 3), bit(1, 3)),
-        app.guards(bit(1, 3), bit(2, 3)),
-    ];
-    Ok((first, guards))
-}
-
-#[test]
-fn applications_answer_through_a_box(rt: HostRuntime) -> Result<(), Fail> {
-    let mirror: Box<dyn Application> = Box::new(rt.alloc(), Mirror)?;
-    assert_eq!(rt; answered(rt.alloc(), mirror)?, (Some(0x81), [true, false]));
-    let zeros: Box<dyn Application> = Box::new(rt.alloc(), Zeros)?;
-    assert_eq!(rt; answered(rt.alloc(), zeros)?, (Some(0), [true, true]));
     Ok(())
 }

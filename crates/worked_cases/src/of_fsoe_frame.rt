@@ -37,7 +37,8 @@ fn writes_frames(rt: HostRuntime) {
     assert!(rt; is_written(Command::Connection, &[2, 0], &[0x5F62], 1, &CONNECTION));
 }
 
-/// Whether these are the command byte, the data and the connection id of a frame; false where it isn't one of so many data.
+/// Whether these are the command byte, the data and the connection id of a frame; false where it isn't one of so many
+/// data.
 fn is_read(bytes: &[u8], l: usize, command: u8, load: &[u8], conn: u16) -> bool
     requires { IsTrue (is_length l) }
 {

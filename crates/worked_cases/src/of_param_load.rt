@@ -181,8 +181,8 @@ fn answered(download: &mut Download, answers: &[[u8; 4]]) -> Result<Progress, Co
     Ok(last)
 }
 
-/// What the last of these answers gives to the download of a connection, which are to be its bytes or any, and the first byte of its piece in
-/// turn then, if there is one.
+/// What the last of these answers gives to the download of a connection, which are to be its bytes or any, and the
+/// first byte of its piece in turn then, if there is one.
 fn download(echo: bool, answers: &[[u8; 4]]) -> (Result<Progress, Code>, Option<u8>) {
     let mut download = Download::new(Payload::connection(1, 2), 2, echo);
     let outcome = answered(&mut download, answers);

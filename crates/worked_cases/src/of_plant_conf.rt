@@ -286,8 +286,8 @@ fn has_names(conf: &PlantConf, app: &str, channel: &str, seed: u64) -> bool {
     conf.app() == app && conf.channel() == channel && conf.seed() == seed
 }
 
-/// The numbers of both ends of a connection: connection id, address and watchdog of the master; address and both limits of the slave; and both
-/// nonces.
+/// The numbers of both ends of a connection: connection id, address and watchdog of the master; address and both limits
+/// of the slave; and both nonces.
 fn numbers(link: &LinkConf) -> ([u16; 3], [u16; 3], [u32; 2]) {
     let LinkConf { master, slave } = link;
     (
@@ -330,7 +330,8 @@ fn the_net_is_taken_from_a_configuration(rt: HostRuntime) -> Result<(), Fail> {
     Ok(())
 }
 
-/// Whether a connection has the lengths 24 and 26 and the application parameters 0a 0b, and its slave allows no others, in profile One.
+/// Whether a connection has the lengths 24 and 26 and the application parameters 0a 0b, and its slave allows no others,
+/// in profile One.
 fn has_its_parameters(link: &LinkConf) -> bool {
     let LinkConf { master, slave } = link;
     [master.own_len(), slave.own_len()] == [24, 26]

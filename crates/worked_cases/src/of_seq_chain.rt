@@ -53,7 +53,8 @@ const FORGED_DATA: [Row; 2] = [
 /// A forged frame in place of the master's second Parameter frame.
 const FORGED_PARAMETERS: [Row; 1] = [(Command::Parameter, [0x00, 0x00], 5, 0xA7BD)];
 
-/// Whether the row's frame is sealed at one end, with its number, and taken at the other, which then refuses the same frame.
+/// Whether the row's frame is sealed at one end, with its number, and taken at the other, which then refuses the same
+/// frame.
 fn passes((command, data, number, crc): Row, from: &mut Chain, to: &mut Chain) -> bool {
     let conn = if command == Command::Session { 0 } else { 1 };
     let mut out = FrameBuf::new();
