@@ -1,4 +1,5 @@
-//! Whether the entries of a pair are fair, by a plain program that looks back over all of them at each. Places count from 0, oldest first.
+//! Whether the entries of a pair are fair, by a plain program that looks back over all of them at each. Places count
+//! from 0, oldest first.
 
 use fsoe_base::{Command, End, Took};
 use param_load::{Entry, Move, Terms};
@@ -51,8 +52,8 @@ fn last_sent(entries: &[Entry], which: End) -> Option<usize> {
 }
 
 impl Before<'_> {
-    /// The place of the entry whose frame an end awaits: the last one in which its peer sent a frame other than a Reset frame as the
-    /// answer to the end's last one.
+    /// The place of the entry whose frame an end awaits: the last one in which its peer sent a frame other than a Reset
+    /// frame as the answer to the end's last one.
     fn awaited(&self, which: End) -> Option<usize> {
         let mine = last_sent(self.entries, which)?;
         let mut last = None;
@@ -79,15 +80,16 @@ impl Before<'_> {
         is_that.then_some(place)
     }
 
-    /// The place of the entry whose frame gave these data to the next entry; None where they aren't those that the peer put into the
-    /// awaited answer, or both ends told other terms.
+    /// The place of the entry whose frame gave these data to the next entry; None where they aren't those that the peer
+    /// put into the awaited answer, or both ends told other terms.
     fn source(&self, entry: &Entry, took: &Took) -> Option<usize> {
         let place = self.awaited(entry.end)?;
         is_from(self.entries, place, took, &entry.terms).then_some(place)
     }
 }
 
-/// Whether a data frame has what its end was to send after these entries: zeros where it was held, else what was put last.
+/// Whether a data frame has what its end was to send after these entries: zeros where it was held, else what was put
+/// last.
 fn has_put(entries: &[Entry], which: End, took: &Took) -> bool {
     let mut held = false;
     let mut put: Option<&[u8]> = None;
@@ -120,8 +122,8 @@ fn is_from(entries: &[Entry], place: usize, took: &Took, terms: &Option<Terms>) 
     equal_terms && has_put(before, item.end, took)
 }
 
-/// Whether outputs are those by looking back over these entries of an end: the data taken last where no reset came after them and fewer
-/// ticks than the watchdog of the terms told then, else zeros.
+/// Whether outputs are those by looking back over these entries of an end: the data taken last where no reset came
+/// after them and fewer ticks than the watchdog of the terms told then, else zeros.
 fn are_due(entries: &[Entry], which: End, outputs: &[u8]) -> bool {
     let mut last = None;
     let mut ticks: u16 = 0;
@@ -146,8 +148,8 @@ fn are_due(entries: &[Entry], which: End, outputs: &[u8]) -> bool {
     }
 }
 
-/// The number of the first entry that isn't fair, from 1; None where all are. Fair is an entry whose data are those that the peer put
-/// into the awaited answer, under equal terms and once, and whose outputs are those by looking back.
+/// The number of the first entry that isn't fair, from 1; None where all are. Fair is an entry whose data are those
+/// that the peer put into the awaited answer, under equal terms and once, and whose outputs are those by looking back.
 pub(crate) fn first_unfair(alloc: Global, entries: &[Entry]) -> Result<Option<usize>, Fail> {
     let mut answered = Vec::new(alloc);
     let mut used = Vec::new(alloc);

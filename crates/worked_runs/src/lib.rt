@@ -1,5 +1,6 @@
-//! Worked cases of whole runs: of commands over an input at which the outside fails, of a pair over a schedule, and of a plant over its script;
-//! rows that were given from outside. A plain program judges whether the entries of a run are fair.
+//! Worked cases of whole runs: of commands over an input at which the outside fails, of a pair over a schedule, and of
+//! a plant over its script; rows that were given from outside. A plain program judges whether the entries of a run are
+//! fair.
 #![tactic(auto)]
 
 #[cfg(test)]

@@ -19,8 +19,8 @@ enum Run {
     Image,
 }
 
-/// Runs it over an input, of which `most` bytes come and go in a call; the read and the write of these numbers fail, of 0 none. None where there
-/// is no memory for it.
+/// Runs it over an input, of which `most` bytes come and go in a call; the read and the write of these numbers fail, of
+/// 0 none. None where there is no memory for it.
 fn run_over(
     alloc: Global,
     run: Run,
@@ -156,12 +156,12 @@ const SHORTS: [Short; 7] = [
 ];
 
 /// The whole lines of these bytes.
-fn whole_lines(bytes: &[u8]) -> usize {
+pub(crate) fn whole_lines(bytes: &[u8]) -> usize {
     bytes.iter().filter(|byte| **byte == b'\n').count()
 }
 
 /// The lines of a short input.
-fn input_of(alloc: Global, lines: &[(&str, &str)]) -> Result<Vec<u8>, Fail> {
+pub(crate) fn input_of(alloc: Global, lines: &[(&str, &str)]) -> Result<Vec<u8>, Fail> {
     let mut input = Vec::new(alloc);
     for (line, _) in lines {
         input.extend_from_slice(line.as_bytes())?;
@@ -170,7 +170,11 @@ fn input_of(alloc: Global, lines: &[(&str, &str)]) -> Result<Vec<u8>, Fail> {
 }
 
 /// What is written once the first so many lines are read.
-fn report_of(alloc: Global, lines: &[(&str, &str)], count: usize) -> Result<Vec<u8>, Fail> {
+pub(crate) fn report_of(
+    alloc: Global,
+    lines: &[(&str, &str)],
+    count: usize,
+) -> Result<Vec<u8>, Fail> {
     let mut report = Vec::new(alloc);
     for (_, written) in lines.iter().take(count) {
         report.extend_from_slice(written.as_bytes())?;
@@ -178,38 +182,54 @@ fn report_of(alloc: Global, lines: &[(&str, &str)], count: usize) -> Result<Vec<
     Ok(report)
 }
 
+/// Whether a run ends so, at which the read of this number fails: after the whole lines that were read, and what is
+/// written once they are.
+fn ends_with_read(alloc: Global, short: &Short, input: &[u8], read: usize) -> Result<bool, Fail> {
+    let (run, lines) = *short;
+    let fails = (read as u64).saturating_add(1);
+    let (ended, sink) = run_over(alloc, run, input, 1, fails, 0).ok_or("not run")?;
+    let count = whole_lines(&input[..read.min(input.len())]);
+    let report = report_of(alloc, lines, count)?;
+    let (status, place) = (Status::Read, count as u64);
+    Ok(ended == Ended { status, place } && sink.bytes() == report.as_slice())
+}
+
 #[test]
 fn each_read_that_fails_ends_a_run_after_the_whole_lines(rt: HostRuntime) -> Result<(), Fail> {
-    for (run, lines) in SHORTS {
-        let input = input_of(rt.alloc(), lines)?;
+    for short in &SHORTS {
+        let input = input_of(rt.alloc(), short.1)?;
         for read in 0..input.len() {
-            let fails = read as u64 + 1;
-            let (ended, sink) = run_over(rt.alloc(), run, input.as_slice(), 1, fails, 0).ok_or(
-                "not run",
-            )?;
-            let count = whole_lines(&input[..read]);
-            let (status, place) = (Status::Read, count as u64);
-            assert_eq!(rt; ended, Ended { status, place });
-            let report = report_of(rt.alloc(), lines, count)?;
-            assert_eq!(rt; sink.bytes(), report.as_slice());
+            assert!(rt;
+                ends_with_read(rt.alloc(), short, &input, read)?,
+                "read {read}"
+            );
         }
     }
     Ok(())
 }
 
+/// Whether a run ends so, at which the write after so many bytes of its report fails.
+fn ends_with_write(
+    alloc: Global,
+    short: &Short,
+    report: &[u8],
+    written: usize,
+) -> Result<bool, Fail> {
+    let (run, lines) = *short;
+    let input = input_of(alloc, lines)?;
+    let fails = (written as u64).saturating_add(1);
+    let (ended, sink) = run_over(alloc, run, &input, 1, 0, fails).ok_or("not run")?;
+    let (status, place) = (Status::Write, written as u64);
+    Ok(ended == Ended { status, place } && sink.bytes() == &report[..written.min(report.len())])
+}
+
 #[test]
 fn each_write_that_fails_ends_a_run_after_the_bytes_written(rt: HostRuntime) -> Result<(), Fail> {
-    for (run, lines) in SHORTS {
-        let input = input_of(rt.alloc(), lines)?;
-        let report = report_of(rt.alloc(), lines, lines.len())?;
+    for short in &SHORTS {
+        let report = report_of(rt.alloc(), short.1, short.1.len())?;
         for written in 0..report.len() {
-            let fails = written as u64 + 1;
-            let (ended, sink) = run_over(rt.alloc(), run, input.as_slice(), 1, 0, fails).ok_or(
-                "not run",
-            )?;
-            let (status, place) = (Status::Write, written as u64);
-            assert_eq!(rt; ended, Ended { status, place });
-            assert_eq!(rt; sink.bytes(), &report[..written]);
+            let ends = ends_with_write(rt.alloc(), short, &report, written)?;
+            assert!(rt; ends, "write {written}");
         }
     }
     Ok(())
@@ -224,11 +244,10 @@ rule any 0
 go
 ";
 
-#[test]
-fn a_replay_of_the_events_of_a_number_ends_alike(rt: HostRuntime) -> Result<(), Fail> {
-    let mut input = Vec::new(rt.alloc());
-    input.extend_from_slice(SETTINGS.as_bytes())?;
-    let mut maker = Maker::new(3);
+/// A pair file with the first 500 events of a number.
+fn events_of(alloc: Global, number: u64) -> Result<Vec<u8>, Fail> {
+    let mut input = SETTINGS.as_bytes().to_vec(alloc)?;
+    let mut maker = Maker::new(number);
     let mut line = LineBuf::new();
     for _ in 0..500 {
         write_event(&maker.next(), &mut line);
@@ -236,44 +255,25 @@ fn a_replay_of_the_events_of_a_number_ends_alike(rt: HostRuntime) -> Result<(), 
         input.push(b'\n')?;
     }
     input.extend_from_slice(b"end\n")?;
-    let (status, place) = (Status::Other, 154);
-    let (ended, sink) = run_over(rt.alloc(), Run::Replay, &input, 1000, 0, 0).ok_or("not run")?;
-    assert_eq!(rt; ended, Ended { status, place });
-    assert!(rt; sink.bytes().ends_with(b"\nevents 500\nother 154\n"));
-    let mut sink = MemSink::new(rt.alloc(), 100_000, 1000, vec![in rt.alloc(); 0u64]?)
-        .ok()
-        .ok_or("no memory")?;
-    let ended = run_bulk(3, 500, &mut sink);
-    assert_eq!(rt; ended, Ended { status, place });
-    assert!(rt; sink.bytes().ends_with(b"\nother 154\n"));
-    Ok(())
+    Ok(input)
+}
+
+/// How the run of the events of a number ends, and what it writes.
+fn run_number(alloc: Global, number: u64) -> Option<(Ended, MemSink)> {
+    let mut sink = MemSink::new(alloc, 100_000, 1000, Vec::new(alloc)).ok()?;
+    let ended = run_bulk(number, 500, &mut sink);
+    Some((ended, sink))
 }
 
 #[test]
-fn a_replay_of_pairs_ends_at_the_first_event_with_another_entry(
-    rt: HostRuntime,
-) -> Result<(), Fail> {
-    let mut input = Vec::new(rt.alloc());
-    input.extend_from_slice(b"fsoe 2 pairs\n")?;
-    for pair in ["pair 1\n", "pair 2\n"] {
-        input.extend_from_slice(pair.as_bytes())?;
-        input.extend_from_slice(
-            b"lengths 2 2\nmaster 1 2 100 1\nslave 2 200 1000 2\nrule any 0\n",
-        )?;
-    }
-    input.extend_from_slice(b"go\n1 pm 0100\n2 pm 0100\n1 ps 8000\n2 ps 8000\nt\n")?;
-    for _ in 0..8 {
-        input.extend_from_slice(b"1 ds -1\n1 dm -1\n2 ds -1\n2 dm -1\n")?;
-    }
-    input.extend_from_slice(b"2 rs 36ff004ee90100\n1 rs 36ff004ee90100\nend\n")?;
-    let (status, place) = (Status::Other, 38);
-    let (ended, sink) = run_over(rt.alloc(), Run::Replay, input.as_slice(), 1000, 0, 0).ok_or(
-        "not run",
-    )?;
+fn a_replay_of_the_events_of_a_number_ends_alike(rt: HostRuntime) -> Result<(), Fail> {
+    let input = events_of(rt.alloc(), 3)?;
+    let (ended, sink) = run_over(rt.alloc(), Run::Replay, &input, 1000, 0, 0).ok_or("not run")?;
+    let (status, place) = (Status::Other, 154);
     assert_eq!(rt; ended, Ended { status, place });
-    assert!(rt;
-        sink.bytes()
-            .ends_with(b"\nevents 39\npair 1 other 39\npair 2 other 38\n")
-    );
+    assert!(rt; sink.bytes().ends_with(b"\nevents 500\nother 154\n"));
+    let (ended, sink) = run_number(rt.alloc(), 3).ok_or("no memory")?;
+    assert_eq!(rt; ended, Ended { status, place });
+    assert!(rt; sink.bytes().ends_with(b"\nother 154\n"));
     Ok(())
 }

@@ -3,7 +3,8 @@ ghost use Rattle.duo_run.specs.Duo.{steps_done};
 
 use crate::fairness::first_unfair;
 use duo_run::Duo;
-use fsoe_base::{Command, Did, Image, Lengths};
+use exchange_model::{ListMonitor, Monitor};
+use fsoe_base::{Command, Did, End, Image, Lengths};
 use param_load::{AppBytes, AppRule, Entry, MasterSettings, Move, Profiles, SlaveSettings};
 use schedule_file::{ScheduleLine, read_event};
 use std::alloc::Global;
@@ -84,6 +85,14 @@ fn make_untrue(entries: &mut Vec<Entry>, what: Untrue) -> Option<()> {
     Some(())
 }
 
+/// The first unfair entry of so many of a run after the first data.
+fn unfair_of(alloc: Global, rows: &[&str], count: usize) -> Result<Option<usize>, Fail>
+    requires few { length rows.now ≤ 4 }
+{
+    let entries = entries_after_first_data(alloc, rows)?;
+    first_unfair(alloc, entries.get(..count).ok_or("few entries")?)
+}
+
 #[test]
 fn worked_runs_are_fair_before_a_foreign_frame(rt: HostRuntime) -> Result<(), Fail> {
     for (rows, fair) in [
@@ -92,35 +101,90 @@ fn worked_runs_are_fair_before_a_foreign_frame(rt: HostRuntime) -> Result<(), Fa
         (["rs 36ff004ee90100"].as_slice(), 19),
         (["zs", "ds -8", "ds -7"].as_slice(), 21),
     ] {
-        let entries = entries_after_first_data(rt.alloc(), rows)?;
-        let entries = entries.get(..fair).ok_or("few entries")?;
-        assert_eq!(rt; first_unfair(rt.alloc(), entries)?, None, "{fair} entries");
+        assert_eq!(rt; unfair_of(rt.alloc(), rows, fair)?, None, "{fair} entries");
     }
     Ok(())
 }
 
+/// The first unfair entries of a run with two repeats, as it is and with one thing made untrue.
+fn unfair_by(alloc: Global, what: Untrue) -> Result<[Option<usize>; 2], Fail> {
+    let mut entries = entries_after_first_data(alloc, &["ds -2", "ds -2"])?;
+    let before = first_unfair(alloc, entries.as_slice())?;
+    make_untrue(&mut entries, what).ok_or("few entries")?;
+    Ok([before, first_unfair(alloc, entries.as_slice())?])
+}
+
 #[test]
 fn untrue_entries_are_unfair(rt: HostRuntime) -> Result<(), Fail> {
-    let forged = entries_after_first_data(rt.alloc(), &["rs 36ff004ee90100"])?;
-    assert_eq!(rt; first_unfair(rt.alloc(), forged.as_slice())?, Some(20));
+    assert_eq!(rt;
+        unfair_of(rt.alloc(), &["rs 36ff004ee90100"], 20)?,
+        Some(20)
+    );
     for (what, unfair) in [
         (Untrue::Put, 18),
         (Untrue::Terms, 18),
         (Untrue::Outputs, 18),
         (Untrue::Twice, 21),
     ] {
-        let mut entries = entries_after_first_data(rt.alloc(), &["ds -2", "ds -2"])?;
         assert_eq!(rt;
-            first_unfair(rt.alloc(), entries.as_slice())?,
-            None,
-            "{what:?}"
-        );
-        make_untrue(&mut entries, what).ok_or("few entries")?;
-        assert_eq!(rt;
-            first_unfair(rt.alloc(), entries.as_slice())?,
-            Some(unfair),
+            unfair_by(rt.alloc(), what)?,
+            [None, Some(unfair)],
             "{what:?}"
         );
     }
+    Ok(())
+}
+
+/// The first other entry, and the number of the item that each end awaits after the entries. None where the monitors of
+/// a run differ, or where memory ran out.
+fn judged(alloc: Global, entries: &[Entry]) -> Option<(Option<u64>, [Option<u64>; 2])> {
+    let mut monitor = Monitor::new();
+    let mut plain = ListMonitor::new(alloc);
+    if entries.len() > 1000 {
+        return None;
+    }
+    for entry in entries {
+        monitor.note(entry);
+        plain.note(entry).ok()?;
+        if plain.other() != monitor.other() {
+            return None;
+        }
+    }
+    let awaited = [monitor.awaited(End::Master), monitor.awaited(End::Slave)];
+    Some((monitor.other(), awaited))
+}
+
+/// The same after the first data and these events.
+fn judged_after(
+    alloc: Global,
+    rows: &[&str],
+) -> Result<Option<(Option<u64>, [Option<u64>; 2])>, Fail>
+    requires few { length rows.now ≤ 4 }
+{
+    let entries = entries_after_first_data(alloc, rows)?;
+    Ok(judged(alloc, entries.as_slice()))
+}
+
+#[test]
+fn monitors_find_the_first_other_entry(rt: HostRuntime) -> Result<(), Fail> {
+    for (rows, other) in [
+        ([].as_slice(), None),
+        (&["ds -1", "dm -1", "ds -3"], None),
+        (&["ds -1", "zs", "dm -2", "dm -1"], None),
+        (&["zs", "ds -8", "ds -1"], None),
+        (&["hs 1", "ds -1", "dm -1"], None),
+        (&["rs 36ff004ee90100"], Some(20)),
+        (&["zs", "ds -8", "ds -7"], Some(22)),
+    ] {
+        let (found, _) = judged_after(rt.alloc(), rows)?.ok_or("not judged")?;
+        assert_eq!(rt; found, other, "{rows:?}");
+    }
+    Ok(())
+}
+
+#[test]
+fn an_answer_stays_awaited_when_its_sender_resets(rt: HostRuntime) -> Result<(), Fail> {
+    let told = judged_after(rt.alloc(), &["ds -1", "zs"])?;
+    assert_eq!(rt; told, Some((None, [Some(9), None])));
     Ok(())
 }

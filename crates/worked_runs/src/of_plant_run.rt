@@ -1,4 +1,5 @@
 use crate::fairness::first_unfair;
+use crate::of_commands::{input_of, report_of, whole_lines};
 use crate::pairs::{Played, play_pair};
 use crate::plants::{Outside, Ran, SURE, run_over, run_worked, set_worked};
 use crate::test_channels::Written;
@@ -9,54 +10,11 @@ use plant_run::JournalStep;
 use std::alloc::Global;
 use std::test::Fail;
 
-/// The name of a channel, a script, the whole report, and how many steps of the journal are lines of the script, offers and parcels.
+/// The name of a channel, a script, the whole report, and how many steps of the journal are lines of the script, offers
+/// and parcels.
 type Row = (&'static str, &'static str, &'static str, [usize; 3]);
 
-/// The stop is released, and then pressed and its slave cut off: the drive goes off after the watchdog of the master.
-const CUT_OFF: Row = (
-    "perfect",
-    "fsoe 1 plant
-t
-p 1 0300
-t
-p 1 0000
-cut 1 1
-t
-t
-t
-t
-t
-end
-",
-    "tick 1
-1 Data 0000 Data 0000
-2 Data 0000 Data 0000
-tick 2
-1 Data 0300 Data 0000
-2 Data 0000 Data 0100
-tick 3
-1 Data 0300 Data 0000
-2 Data 0000 Data 0100
-tick 4
-1 Data 0300 Data 0000
-2 Data 0000 Data 0100
-tick 5
-1 Data 0300 Data 0000
-2 Data 0000 Data 0100
-tick 6
-1 Data 0300 Data 0000
-2 Data 0000 Data 0100
-tick 7
-1 Reset 0000 Data 0000
-2 Data 0000 Data 0000
-ticks 7
-other none
-",
-    [10, 2, 7 * 64],
-);
-
-const ROWS: [Row; 4] = [
-    CUT_OFF,
+const ROWS: [Row; 2] = [
     (
         "perfect",
         "fsoe 1 plant\nt\np 1 0300\nt\napp zeros\nt\nend\n",
@@ -73,12 +31,6 @@ ticks 3
 other none
 ",
         [5, 2, 3 * 64],
-    ),
-    (
-        "hostile",
-        "fsoe 1 plant\nend\n",
-        "ticks 0\nother none\n",
-        [0, 0, 0],
     ),
     (
         "list",
@@ -122,12 +74,18 @@ fn plants_report_worked_rows(rt: HostRuntime) -> Result<(), Fail> {
     Ok(())
 }
 
+/// The channel that writes what is pushed, and the run of a plant over it and a script.
+fn run_written(alloc: Global, script: &str) -> Option<(Written, Ran)> {
+    let (conf, setup, _) = set_worked(alloc, "list", 0)?;
+    let mut channel = Written::new(alloc)?;
+    let ran = run_over(alloc, conf, setup, &mut channel, script, SURE)?;
+    Some((channel, ran))
+}
+
 #[test]
 fn a_plant_pushes_each_masters_reset_once(rt: HostRuntime) -> Result<(), Fail> {
-    let (_, script, report, _) = ROWS[3];
-    let (conf, setup, _) = set_worked(rt.alloc(), "list", 0).ok_or("not set up")?;
-    let mut channel = Written::new(rt.alloc()).ok_or("no memory")?;
-    let ran = run_over(rt.alloc(), conf, setup, &mut channel, script, SURE).ok_or("not run")?;
+    let (_, script, report, _) = ROWS[1];
+    let (channel, ran) = run_written(rt.alloc(), script).ok_or("not run")?;
     assert_eq!(rt; ran.sink.bytes(), report.as_bytes());
     assert_eq!(rt;
         channel.pushed.bytes(),
@@ -136,82 +94,68 @@ fn a_plant_pushes_each_masters_reset_once(rt: HostRuntime) -> Result<(), Fail> {
     Ok(())
 }
 
-/// A script, and what is written of its first lines, by their number.
-const SHORT: (&str, [&str; 5]) = (
-    "fsoe 1 plant\nt\np 1 0300\nt\nend\n",
-    [
-        "",
-        "",
+/// The lines of a short script, each with what is written once it is read.
+const SHORT: [(&str, &str); 5] = [
+    ("fsoe 1 plant\n", ""),
+    (
+        "t\n",
         "tick 1\n1 Data 0000 Data 0000\n2 Data 0000 Data 0000\n",
-        "tick 1\n1 Data 0000 Data 0000\n2 Data 0000 Data 0000\n",
-        "tick 1\n1 Data 0000 Data 0000\n2 Data 0000 Data 0000\ntick 2\n1 Data 0300 Data 0000\n2 Data 0000 Data 0100\n",
-    ],
-);
+    ),
+    ("p 1 0300\n", ""),
+    (
+        "t\n",
+        "tick 2\n1 Data 0300 Data 0000\n2 Data 0000 Data 0100\n",
+    ),
+    ("end\n", "ticks 2\nother none\n"),
+];
 
-/// Its whole report.
-const SHORT_REPORT: &str = "tick 1
-1 Data 0000 Data 0000
-2 Data 0000 Data 0000
-tick 2
-1 Data 0300 Data 0000
-2 Data 0000 Data 0100
-ticks 2
-other none
-";
+/// The short script, of which a byte comes and goes in a call, with the read and the write of these numbers failing, of
+/// 0 none: how it ends, and what it writes.
+fn run_short(alloc: Global, read_fails: u64, write_fails: u64) -> Result<Ran, Fail> {
+    let outside = Outside {
+        most: 1,
+        read_fails,
+        write_fails,
+    };
+    let script = "fsoe 1 plant\nt\np 1 0300\nt\nend\n";
+    Ok(run_worked(alloc, "perfect", 1, script, outside).ok_or("not run")?)
+}
+
+/// Whether the run ends so, at which the read of this number fails: after the whole lines that were read, and what is
+/// written once they are.
+fn ends_with_read(alloc: Global, script: &[u8], read: usize) -> Result<bool, Fail> {
+    let ran = run_short(alloc, (read as u64).saturating_add(1), 0)?;
+    let count = whole_lines(&script[..read.min(script.len())]);
+    let report = report_of(alloc, &SHORT, count)?;
+    let (status, place) = (Status::Read, count as u64);
+    Ok(ran.ended == Ended { status, place } && ran.sink.bytes() == report.as_slice())
+}
 
 #[test]
 fn each_read_that_fails_ends_a_run_after_the_whole_lines(rt: HostRuntime) -> Result<(), Fail> {
-    let (script, written) = SHORT;
-    let mut lines = 0usize;
+    let script = input_of(rt.alloc(), &SHORT)?;
     for read in 0..script.len() {
-        let outside = Outside {
-            most: 1,
-            read_fails: read as u64 + 1,
-            write_fails: 0,
-        };
-        let ran = run_worked(rt.alloc(), "perfect", 1, script, outside).ok_or("not run")?;
-        let (status, place) = (Status::Read, lines as u64);
-        assert_eq!(rt; ran.ended, Ended { status, place }, "read {read}");
-        let text = written.get(lines).ok_or("many lines")?;
-        assert_eq!(rt; ran.sink.bytes(), text.as_bytes(), "read {read}");
-        if script.as_bytes()[read] == b'\n' {
-            lines = lines.saturating_add(1);
-        }
+        assert!(rt; ends_with_read(rt.alloc(), &script, read)?, "read {read}");
     }
     Ok(())
+}
+
+/// Whether the run ends so, at which the write after so many bytes of its report fails.
+fn ends_with_write(alloc: Global, report: &[u8], written: usize) -> Result<bool, Fail> {
+    let ran = run_short(alloc, 0, (written as u64).saturating_add(1))?;
+    let (status, place) = (Status::Write, written as u64);
+    let part = &report[..written.min(report.len())];
+    Ok(ran.ended == Ended { status, place } && ran.sink.bytes() == part)
 }
 
 #[test]
 fn each_write_that_fails_ends_a_run_after_the_bytes_written(rt: HostRuntime) -> Result<(), Fail> {
-    let (script, _) = SHORT;
-    let report = SHORT_REPORT.as_bytes();
+    let report = report_of(rt.alloc(), &SHORT, 5)?;
     for written in 0..report.len() {
-        let outside = Outside {
-            most: 1,
-            read_fails: 0,
-            write_fails: written as u64 + 1,
-        };
-        let ran = run_worked(rt.alloc(), "perfect", 1, script, outside).ok_or("not run")?;
-        let (status, place) = (Status::Write, written as u64);
-        assert_eq!(rt; ran.ended, Ended { status, place });
-        assert_eq!(rt; ran.sink.bytes(), &report[..written]);
-    }
-    Ok(())
-}
-
-/// Without memory a run tells that, after a first part of its report: to be run with each allocation refused in turn.
-#[test]
-fn a_run_tells_that_there_is_no_memory(rt: HostRuntime) -> Result<(), Fail> {
-    let (channel, script, report, _) = CUT_OFF;
-    if let Some(ran) = run_worked(rt.alloc(), channel, 1, script, SURE) {
-        assert_eq!(rt; ran.ended.place, 0);
-        match ran.ended.status {
-            Status::Memory => assert!(rt; report.as_bytes().starts_with(ran.sink.bytes())),
-            status => {
-                assert_eq!(rt; status, Status::Ok);
-                assert_eq!(rt; ran.sink.bytes(), report.as_bytes());
-            }
-        }
+        assert!(rt;
+            ends_with_write(rt.alloc(), &report, written)?,
+            "write {written}"
+        );
     }
     Ok(())
 }
@@ -239,15 +183,13 @@ fn last_line(alloc: Global, k: u16, duo: &Duo) -> Result<String, Fail> {
     Ok(format!(in alloc; "{k} {of_master} {a:02x}{b:02x} {of_slave} {c:02x}{d:02x}\n")?)
 }
 
-/// What is written after the last tick, by both pairs.
-fn last_lines(alloc: Global, ticks: u8, one: &Duo, two: &Duo) -> Result<String, Fail> {
-    let (first, second) = (last_line(alloc, 1, one)?, last_line(alloc, 2, two)?);
-    let other = match (one.other(), two.other()) {
-        (Some(_), _) => "1",
-        (None, Some(_)) => "2",
-        (None, None) => "none",
-    };
-    Ok(format!(in alloc; "tick {ticks}\n{first}{second}ticks {ticks}\nother {other}\n")?)
+/// A plant that ran over a script of ticks, and both its pairs, played anew by its journal.
+#[derive(Drop)]
+struct Both {
+    ticks: u8,
+    ran: Ran,
+    one: Played,
+    two: Played,
 }
 
 /// The pair of connection k of a plant that ran.
@@ -260,6 +202,54 @@ fn pair_of(alloc: Global, ran: &Ran, k: u16) -> Result<Played, Fail> {
     play_pair(alloc, &links[place], k, ran.journal.steps())
 }
 
+fn run_both(
+    alloc: Global,
+    channel: &str,
+    seed: u64,
+    ticks: u8,
+    change: bool,
+) -> Result<Both, Fail> {
+    let script = ticking(alloc, ticks, change)?;
+    let ran = run_worked(alloc, channel, seed, script.as_str(), SURE).ok_or("not run")?;
+    let one = pair_of(alloc, &ran, 1)?;
+    let two = pair_of(alloc, &ran, 2)?;
+    Ok(Both {
+        ticks,
+        ran,
+        one,
+        two,
+    })
+}
+
+impl Both {
+    /// Whether the report ends as both pairs stand after the last tick.
+    fn is_reported(&self, alloc: Global) -> Result<bool, Fail> {
+        let (one, two) = (&self.one.duo, &self.two.duo);
+        let (first, second) = (last_line(alloc, 1, one)?, last_line(alloc, 2, two)?);
+        let other = match (one.other(), two.other()) {
+            (Some(_), _) => "1",
+            (None, Some(_)) => "2",
+            (None, None) => "none",
+        };
+        let ticks = self.ticks;
+        let last = format!(in alloc;
+            "tick {ticks}\n{first}{second}ticks {ticks}\nother {other}\n"
+        )?;
+        Ok(self.ran.sink.bytes().ends_with(last.as_bytes()))
+    }
+
+    /// The first unfair entry of each pair.
+    fn unfair(&self, alloc: Global) -> Result<[Option<usize>; 2], Fail> {
+        let one = first_unfair(alloc, self.one.entries.as_slice())?;
+        Ok([one, first_unfair(alloc, self.two.entries.as_slice())?])
+    }
+
+    /// Whether an end was ever in Data.
+    fn comes_to_data(&self) -> bool {
+        comes_to_data(&self.one) || comes_to_data(&self.two)
+    }
+}
+
 /// Whether an end of a pair was ever in Data.
 fn comes_to_data(pair: &Played) -> bool {
     pair.entries.iter().any(|entry| entry.state == State::Data)
@@ -269,20 +259,12 @@ fn comes_to_data(pair: &Played) -> bool {
 fn pairs_over_a_hostile_channel_are_fair(rt: HostRuntime) -> Result<(), Fail> {
     let mut data_came = false;
     for (ticks, change) in [(200, false), (50, true)] {
-        let script = ticking(rt.alloc(), ticks, change)?;
         for seed in 1..21 {
-            let ran = run_worked(rt.alloc(), "hostile", seed, script.as_str(), SURE).ok_or(
-                "not run",
-            )?;
-            let (one, two) = (pair_of(rt.alloc(), &ran, 1)?, pair_of(rt.alloc(), &ran, 2)?);
-            let last = last_lines(rt.alloc(), ticks, &one.duo, &two.duo)?;
-            assert!(rt; ran.sink.bytes().ends_with(last.as_bytes()), "seed {seed}");
-            if ran.ended.status == Status::Ok {
-                for pair in [&one, &two] {
-                    let unfair = first_unfair(rt.alloc(), pair.entries.as_slice())?;
-                    assert_eq!(rt; unfair, None, "seed {seed}");
-                    data_came = data_came || comes_to_data(pair);
-                }
+            let both = run_both(rt.alloc(), "hostile", seed, ticks, change)?;
+            assert!(rt; both.is_reported(rt.alloc())?, "seed {seed}");
+            if both.ran.ended.status == Status::Ok {
+                assert_eq!(rt; both.unfair(rt.alloc())?, [None, None], "seed {seed}");
+                data_came = data_came || both.comes_to_data();
             }
         }
     }
@@ -292,14 +274,8 @@ fn pairs_over_a_hostile_channel_are_fair(rt: HostRuntime) -> Result<(), Fail> {
 
 #[test]
 fn no_end_of_crossed_connections_comes_to_data(rt: HostRuntime) -> Result<(), Fail> {
-    let script = ticking(rt.alloc(), 50, false)?;
-    let ran = run_worked(rt.alloc(), "crossed", 1, script.as_str(), SURE).ok_or("not run")?;
-    let (one, two) = (pair_of(rt.alloc(), &ran, 1)?, pair_of(rt.alloc(), &ran, 2)?);
-    let last = last_lines(rt.alloc(), 50, &one.duo, &two.duo)?;
-    assert!(rt; ran.sink.bytes().ends_with(last.as_bytes()));
-    assert_eq!(rt; ran.ended.status, Status::Ok);
-    for pair in [&one, &two] {
-        assert!(rt; !comes_to_data(pair));
-    }
+    let both = run_both(rt.alloc(), "crossed", 1, 50, false)?;
+    assert!(rt; both.is_reported(rt.alloc())? && !both.comes_to_data());
+    assert_eq!(rt; both.ran.ended.status, Status::Ok);
     Ok(())
 }

@@ -1,5 +1,5 @@
-//! The worked plant, in which an emergency stop at the first connection drives a bit of the second: set up and run as a command does it, over
-//! a script in memory.
+//! The worked plant, in which an emergency stop at the first connection drives a bit of the second: set up and run as a
+//! command does it, over a script in memory.
 use crate::test_channels::Crossed;
 use black_channel::{Channel, HostileChannel, ListChannel, PerfectChannel};
 use fb_net::{AppEntry, Zeros};
@@ -72,8 +72,8 @@ fn channels(alloc: Global) -> Option<Vec<Box<dyn Channel>>> {
     Some(channels)
 }
 
-/// The worked plant set up with the channel of this name and this seed, and the channels that were handed in. Its script may take the
-/// application `zeros`.
+/// The worked plant set up with the channel of this name and this seed, and the channels that were handed in. Its
+/// script may take the application `zeros`.
 pub(crate) fn set_worked(
     alloc: Global,
     channel: &str,
@@ -131,7 +131,8 @@ pub(crate) fn run_over<C: Channel>(
     })
 }
 
-/// Runs it over a script, with the channel of this name and this seed. None where there is no memory for what it is handed.
+/// Runs it over a script, with the channel of this name and this seed. None where there is no memory for what it is
+/// handed.
 pub(crate) fn run_worked(
     alloc: Global,
     channel: &str,

@@ -7,8 +7,8 @@ use fsoe_base::{End, FrameBuf};
 use fsoe_io::LineText;
 use std::alloc::Global;
 
-/// A channel by the name `crossed` between two connections, which keeps order: what is for the slave of one comes to the master of the other,
-/// and what is for a master to the slave of the other. It tells nothing of itself.
+/// A channel by the name `crossed` between two connections, which keeps order: what is for the slave of one comes to
+/// the master of the other, and what is for a master to the slave of the other. It tells nothing of itself.
 #[derive(Drop)]
 pub(crate) struct Crossed {
     channel: PerfectChannel,
@@ -53,8 +53,8 @@ impl Channel for Crossed {
     }
 }
 
-/// A channel that gives nothing, and writes what is pushed: for each parcel the number of its connection, `m` or `s`, a space, the frame and a
-/// newline.
+/// A channel that gives nothing, and writes what is pushed: for each parcel the number of its connection, `m` or `s`, a
+/// space, the frame and a newline.
 #[derive(Drop)]
 pub(crate) struct Written {
     channel: ListChannel,
