@@ -1,25 +1,21 @@
 ghost use Rattle.std.specs.Prelude.{◌≡◌, ◌+◌, min, false, [], ◌∷◌, get_or};
 ghost use Rattle.fb_net.specs.Mirror.{mirror_images};
 
+use entry_text::push_entry;
 use failsafe_io::{Application, Bit};
-use fb_net::{AppKind, KindOf, Mirror};
-use fsoe_base::{Cause, Code, Did, Dropped, FrameBuf, Image, Lengths, State};
+use fb_net::Mirror;
+use fsoe_base::{Did, FrameBuf, Image, Lengths};
+use fsoe_io::LineText;
 use multi_master::{MultiMaster, NewFault};
 use param_load::{AppBytes, MasterSettings};
 use std::alloc::Global;
-use std::rc::Rc;
 use std::test::Fail;
 
 /// Reset with code 0, as a master and as a slave sends it.
 const RESET: [u8; 7] = [0x2A, 0x00, 0x00, 0xC4, 0x2D, 0x00, 0x00];
 
-/// Reset with code 5, of a watchdog that expired.
-const EXPIRED: [u8; 7] = [0x2A, 0x05, 0x00, 0x25, 0xAE, 0x00, 0x00];
-
-/// A master's first Session frame, of nonce 1.
-const SESSION: [u8; 7] = [0x4E, 0x01, 0x00, 0x12, 0x3E, 0x00, 0x00];
-
-/// Settings of connections with these ids, of lengths 2 and 2, with a watchdog of 5 ticks and nonce 1; the address is the id and 10.
+/// Settings of connections with these ids, of lengths 2 and 2, with a watchdog of 5 ticks and nonce 1; the address is
+/// the id and 10.
 fn settings(alloc: Global, conns: &[u16]) -> Result<Vec<MasterSettings>, Fail> {
     let mut settings = Vec::new(alloc);
     for conn in conns {
@@ -30,42 +26,82 @@ fn settings(alloc: Global, conns: &[u16]) -> Result<Vec<MasterSettings>, Fail> {
     Ok(settings)
 }
 
+/// Whether this is what a report says of a connection that did this and sent this frame.
+fn tells<A: Application>(
+    multi: &MultiMaster<A>,
+    link: u16,
+    did: &Did,
+    out: &FrameBuf,
+    line: &str,
+) -> bool {
+    let mut text = LineText::new();
+    if link == 0 || link > multi.links() {
+        return false;
+    }
+    push_entry(
+        did,
+        multi.state(link),
+        multi.outputs(link),
+        out.bytes(),
+        &mut text,
+    );
+    text.bytes() == line.as_bytes()
+}
+
+/// Whether a tick of two connections is told so.
+fn ticks<A: Application>(multi: &mut MultiMaster<A>, lines: [&str; 2]) -> bool {
+    let mut outs = [FrameBuf::new(), FrameBuf::new()];
+    let mut dids = [Did::nothing(), Did::nothing()];
+    if multi.links() != 2 {
+        return false;
+    }
+    multi.tick(&mut outs, &mut dids);
+    tells(multi, 1, &dids[0], &outs[0], lines[0]) && tells(multi, 2, &dids[1], &outs[1], lines[1])
+}
+
+/// Whether a frame that is delivered to a connection is told so.
+fn delivers<A: Application>(
+    multi: &mut MultiMaster<A>,
+    link: u16,
+    frame: &[u8],
+    line: &str,
+) -> bool {
+    let mut out = FrameBuf::new();
+    if link == 0 || link > multi.links() {
+        return false;
+    }
+    let did = multi.deliver(link, frame, &mut out);
+    tells(multi, link, &did, &out, line)
+}
+
+const RESET_SENT: &str = "again Reset 0000 > 2a0000c42d0000";
+
+const SESSION_SENT: &str = "took Reset Session 0000 > 4e0100123e0000";
+
+const DROPPED: &str = "drop Length Reset 0000";
+
 #[test]
 fn a_connection_leaves_its_neighbour_alone(rt: HostRuntime) -> Result<(), Fail> {
     let made = MultiMaster::new(settings(rt.alloc(), &[1, 2])?, Mirror);
-    assert!(rt; made.is_ok());
-    if let Ok(mut multi) = made {
-        let mut out = FrameBuf::new();
-        let mut outs = [FrameBuf::new(), FrameBuf::new()];
-        let mut dids = [Did::nothing(), Did::nothing()];
-        assert!(rt; multi.links() == 2);
-        multi.tick(&mut outs, &mut dids);
-        assert_eq!(rt; outs[0].bytes(), RESET.as_slice());
-        assert_eq!(rt; outs[1].bytes(), RESET.as_slice());
-        let did = multi.deliver(1, &RESET, &mut out);
-        assert!(rt; did.took.is_some() && did.sent);
-        assert_eq!(rt; out.bytes(), SESSION.as_slice());
-        assert_eq!(rt; multi.state(1), State::Session);
-        assert_eq!(rt; multi.state(2), State::Reset);
-        let did = multi.deliver(2, &[0], &mut out);
-        assert_eq!(rt; did.dropped, Some(Dropped::Length));
-        assert!(rt; !did.sent && out.is_empty());
-        assert_eq!(rt; multi.state(1), State::Session);
-        assert_eq!(rt; multi.state(2), State::Reset);
-        for _ in 0..4 {
-            assert!(rt; multi.links() == 2);
-            multi.tick(&mut outs, &mut dids);
-            assert!(rt; !dids[0].sent && outs[0].is_empty() && !dids[1].sent && outs[1].is_empty());
-        }
-        assert!(rt; multi.links() == 2);
-        multi.tick(&mut outs, &mut dids);
-        assert_eq!(rt; dids[0].reset, Some(Cause::Found(Code::WATCHDOG_EXPIRED)));
-        assert_eq!(rt; outs[0].bytes(), EXPIRED.as_slice());
-        assert!(rt; dids[1].sent && dids[1].reset.is_none());
-        assert_eq!(rt; outs[1].bytes(), RESET.as_slice());
-        assert!(rt; multi.changed().is_empty());
+    let mut multi = made.ok().ok_or("refused")?;
+    assert!(rt; ticks(&mut multi, [RESET_SENT, RESET_SENT]));
+    assert!(rt; delivers(&mut multi, 1, &RESET, SESSION_SENT));
+    assert!(rt; delivers(&mut multi, 2, &[0], DROPPED));
+    for _ in 0..4 {
+        assert!(rt; ticks(&mut multi, ["quiet Session 0000", "quiet Reset 0000"]));
     }
+    let expired = "reset found 05 Reset 0000 > 2a050025ae0000";
+    assert!(rt; ticks(&mut multi, [expired, RESET_SENT]));
     Ok(())
+}
+
+/// The fault of settings with so many connection ids, from 1 on, and after 64 from 1 again.
+fn fault_of_many(alloc: Global, count: u16) -> Result<Option<NewFault>, Fail> {
+    let mut conns = Vec::new(alloc);
+    for place in 0..count {
+        conns.push(place % 64 + 1)?;
+    }
+    fault_of(alloc, conns.as_slice())
 }
 
 fn fault_of(alloc: Global, conns: &[u16]) -> Result<Option<NewFault>, Fail> {
@@ -74,20 +110,12 @@ fn fault_of(alloc: Global, conns: &[u16]) -> Result<Option<NewFault>, Fail> {
 
 #[test]
 fn settings_of_many_connections_are_refused_in_order(rt: HostRuntime) -> Result<(), Fail> {
-    let mut many = Vec::new(rt.alloc());
-    for conn in 1..65u16 {
-        many.push(conn)?;
-    }
     let same = |a, b| Some(NewFault::SameConn { a, b });
-    assert_eq!(rt; fault_of(rt.alloc(), &[])?, None);
-    assert_eq!(rt; fault_of(rt.alloc(), many.as_slice())?, None);
     assert_eq!(rt; fault_of(rt.alloc(), &[1, 2, 1])?, same(1, 3));
     assert_eq!(rt; fault_of(rt.alloc(), &[1, 2, 2, 1])?, same(1, 4));
-    many.push(1)?;
-    assert_eq!(rt;
-        fault_of(rt.alloc(), many.as_slice())?,
-        Some(NewFault::TooMany)
-    );
+    for (count, want) in [(0, None), (64, None), (65, Some(NewFault::TooMany))] {
+        assert_eq!(rt; fault_of_many(rt.alloc(), count)?, want, "{count}");
+    }
     Ok(())
 }
 
@@ -107,11 +135,10 @@ fn image(byte: u8) -> Image
     image
 }
 
-/// Answers the number of its cycles in the first byte of the outputs of two connections. What it holds of `lives` is let go with it.
+/// Answers the number of its cycles in the first byte of the outputs of two connections.
 #[derive(Drop)]
 struct Counts {
     cycles: u8,
-    lives: Rc<u8>,
 }
 
 impl Application for Counts {
@@ -133,59 +160,26 @@ impl Application for Counts {
     }
 }
 
-/// A boxed application that counts, and holds this.
-fn counting(alloc: Global, lives: &Rc<u8>) -> Result<Counts, Fail> {
-    Ok(Counts {
-        cycles: 0,
-        lives: lives.clone()?,
-    })
+/// Whether both connections offer this byte and a zero, and these are told as changed.
+fn offers(multi: &MultiMaster<Counts>, byte: u8, changed: &[u16]) -> bool {
+    if multi.links() != 2 || multi.changed() != changed {
+        return false;
+    }
+    multi.offer(1) == [byte, 0].as_slice() && multi.offer(2) == [byte, 0].as_slice()
 }
 
 #[test]
 fn another_application_begins_anew(rt: HostRuntime) -> Result<(), Fail> {
-    let first = Rc::new(rt.alloc(), 0u8)?;
-    let second = Rc::new(rt.alloc(), 0u8)?;
-    let boxed: Box<dyn Application> = Box::new(rt.alloc(), counting(rt.alloc(), &first)?)?;
-    let app: AppKind = KindOf::Handed(boxed);
-    let made = MultiMaster::new(settings(rt.alloc(), &[1, 2])?, app);
-    assert!(rt; made.is_ok());
-    if let Ok(mut multi) = made {
-        let mut out = FrameBuf::new();
-        let mut outs = [FrameBuf::new(), FrameBuf::new()];
-        let mut dids = [Did::nothing(), Did::nothing()];
-        assert!(rt; multi.links() == 2);
-        assert_eq!(rt; multi.offer(1), [0, 0].as_slice());
-        multi.tick(&mut outs, &mut dids);
-        multi.deliver(1, &RESET, &mut out);
-        assert_eq!(rt; multi.offer(1), [2, 0].as_slice());
-        assert_eq!(rt; multi.offer(2), [2, 0].as_slice());
-        assert_eq!(rt; multi.changed(), [1, 2].as_slice());
-        // A frame that is dropped runs no cycle.
-        multi.deliver(2, &[0], &mut out);
-        assert_eq!(rt; multi.offer(2), [2, 0].as_slice());
-        assert!(rt; multi.changed().is_empty());
-        assert_eq!(rt; Rc::strong_count(&first), 2);
-        let next: Box<dyn Application> = Box::new(rt.alloc(), counting(rt.alloc(), &second)?)?;
-        multi.change_app(KindOf::Handed(next));
-        assert_eq!(rt; Rc::strong_count(&first), 1);
-        assert_eq!(rt; multi.offer(1), [1, 0].as_slice());
-        assert_eq!(rt; multi.offer(2), [1, 0].as_slice());
-        assert_eq!(rt; Rc::strong_count(&second), 2);
-    }
-    assert_eq!(rt; Rc::strong_count(&second), 1);
-    Ok(())
-}
-
-/// Without memory a new master is refused for that alone, and the application that was handed in is let go: to be run with each
-/// allocation refused in turn.
-#[test]
-fn making_tells_that_there_is_no_memory(rt: HostRuntime) -> Result<(), Fail> {
-    let lives = Rc::new(rt.alloc(), 0u8)?;
-    let own = settings(rt.alloc(), &[1, 2])?;
-    let app = counting(rt.alloc(), &lives)?;
-    if let Err(fault) = MultiMaster::new(own, app) {
-        assert_eq!(rt; fault, NewFault::Memory);
-        assert_eq!(rt; Rc::strong_count(&lives), 1);
-    }
+    let made = MultiMaster::new(settings(rt.alloc(), &[1, 2])?, Counts { cycles: 0 });
+    let mut multi = made.ok().ok_or("refused")?;
+    assert!(rt; offers(&multi, 0, &[]));
+    assert!(rt; ticks(&mut multi, [RESET_SENT, RESET_SENT]));
+    assert!(rt; delivers(&mut multi, 1, &RESET, SESSION_SENT));
+    assert!(rt; offers(&multi, 2, &[1, 2]));
+    // A frame that is dropped runs no cycle.
+    assert!(rt; delivers(&mut multi, 2, &[0], DROPPED));
+    assert!(rt; offers(&multi, 2, &[]));
+    multi.change_app(Counts { cycles: 0 });
+    assert!(rt; offers(&multi, 1, &[1, 2]));
     Ok(())
 }

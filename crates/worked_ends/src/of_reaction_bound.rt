@@ -1,6 +1,7 @@
+ghost use Rattle.std.specs.Prelude.{◌≡◌, ◌<◌, ◌+◌};
+
 use fsoe_base::{Cause, Command, Did, End, FrameBuf};
 use reaction_bound::{Ages, Reaction};
-use std::test::Fail;
 
 type Frame = [u8; 7];
 
@@ -18,78 +19,126 @@ fn frame(bytes: &Frame) -> FrameBuf {
     frame
 }
 
-#[test]
-fn a_reaction_is_broken_at_its_limit(rt: HostRuntime) -> Result<(), Fail> {
+/// When a reaction with a limit of 2 ticks is broken, after one tick with the drive on though its stop is quiet, and
+/// after two more.
+fn broken_in_turn() -> [Option<u64>; 2] {
     let mut reaction = Reaction::new(2);
     reaction.quiet(true);
     reaction.tick(true);
-    assert_eq!(rt; reaction.broken(), None);
+    let first = reaction.broken();
     reaction.quiet(true);
     reaction.tick(true);
     reaction.tick(true);
-    assert_eq!(rt; reaction.broken(), Some(2));
-
-    let mut broken_off = Reaction::new(2);
-    broken_off.quiet(true);
-    broken_off.tick(true);
-    broken_off.quiet(false);
-    broken_off.quiet(true);
-    broken_off.tick(true);
-    assert_eq!(rt; broken_off.broken(), None);
-
-    let mut off_in_time = Reaction::new(2);
-    off_in_time.quiet(true);
-    off_in_time.tick(true);
-    off_in_time.tick(false);
-    assert_eq!(rt; off_in_time.broken(), None);
-    Ok(())
+    [first, reaction.broken()]
 }
 
-/// Data that a slave's peer sent two ticks before the slave took them, under a watchdog of four ticks.
+/// The same where the stop isn't quiet in between.
+fn broken_off() -> Option<u64> {
+    let mut reaction = Reaction::new(2);
+    reaction.quiet(true);
+    reaction.tick(true);
+    reaction.quiet(false);
+    reaction.quiet(true);
+    reaction.tick(true);
+    reaction.broken()
+}
+
+/// The same where the drive is off at the second tick.
+fn off_in_time() -> Option<u64> {
+    let mut reaction = Reaction::new(2);
+    reaction.quiet(true);
+    reaction.tick(true);
+    reaction.tick(false);
+    reaction.broken()
+}
+
 #[test]
-fn outputs_age_from_when_they_were_sent(rt: HostRuntime) -> Result<(), Fail> {
-    let none = FrameBuf::new();
-    let quiet = Did::nothing();
+fn a_reaction_is_broken_at_its_limit(rt: HostRuntime) {
+    assert_eq!(rt; broken_in_turn(), [None, Some(2)]);
+    assert_eq!(rt; (broken_off(), off_in_time()), (None, None));
+}
+
+/// Notes that an end took a data frame, under a watchdog of four ticks.
+fn note_data(ages: &mut Ages, at: End, came: &Frame)
+    requires { ages.old.monitor.noted < 1000 }
+    ensures { ages.new.monitor.noted ≡ ages.old.monitor.noted + 1 }
+{
+    let data = Did::took(Command::ProcessData, &[1, 0], true);
+    ages.note_parts(at, false, came, &data, &frame(&ANSWER), Some(4));
+}
+
+/// Notes ticks of an end.
+fn note_tick(ages: &mut Ages, at: End, watchdog: Option<u16>)
+    requires { ages.old.monitor.noted < 1000 }
+    ensures { ages.new.monitor.noted ≡ ages.old.monitor.noted + 1 }
+{
+    ages.note_parts(at, true, &[], &Did::nothing(), &FrameBuf::new(), watchdog);
+}
+
+/// A slave sent a Session frame, and its master took it and sent data.
+fn data_sent() -> Ages
+    ensures { result.monitor.noted ≡ 2 }
+{
     let mut ages = Ages::new();
     let session = Did::took(Command::Session, &[2, 0], true);
-    let data = Did::took(Command::ProcessData, &[1, 0], true);
-    ages.note_parts(End::Slave, false, &[], &quiet, &frame(&SESSION), None);
+    ages.note_parts(
+        End::Slave,
+        false,
+        &[],
+        &Did::nothing(),
+        &frame(&SESSION),
+        None,
+    );
     ages.note_parts(End::Master, false, &SESSION, &session, &frame(&DATA), None);
-    ages.note_parts(End::Slave, true, &[], &quiet, &none, None);
-    ages.note_parts(End::Slave, true, &[], &quiet, &none, None);
-    assert_eq!(rt; ages.age(End::Slave), None);
-    ages.note_parts(End::Slave, false, &DATA, &data, &frame(&ANSWER), Some(4));
-    assert_eq!(rt; ages.age(End::Slave), Some(2));
-    ages.note_parts(End::Master, true, &[], &quiet, &none, None);
-    ages.note_parts(End::Slave, true, &[], &quiet, &none, Some(4));
-    ages.note_parts(End::Slave, true, &[], &quiet, &none, Some(4));
-    ages.note_parts(End::Slave, true, &[], &quiet, &none, Some(4));
-    assert_eq!(rt; ages.age(End::Slave), Some(5));
-    ages.note_parts(End::Slave, true, &[], &quiet, &none, Some(4));
-    assert_eq!(rt; ages.age(End::Slave), None);
-    assert_eq!(rt; ages.worst(End::Slave), Some(5));
-    assert_eq!(rt; ages.worst(End::Master), None);
-    assert_eq!(rt; ages.other(), None);
-    Ok(())
+    ages
 }
 
-/// Data that no end sent have no age, and a reset ends the age of those that one did.
+/// The ages of a slave's outputs: two ticks after its master sent data, once it takes them, three ticks later, and at
+/// the fourth tick.
+fn ages_in_turn() -> ([Option<u32>; 4], Ages) {
+    let mut ages = data_sent();
+    note_tick(&mut ages, End::Slave, None);
+    note_tick(&mut ages, End::Slave, None);
+    let sent = ages.age(End::Slave);
+    note_data(&mut ages, End::Slave, &DATA);
+    let taken = ages.age(End::Slave);
+    note_tick(&mut ages, End::Master, None);
+    note_tick(&mut ages, End::Slave, Some(4));
+    note_tick(&mut ages, End::Slave, Some(4));
+    note_tick(&mut ages, End::Slave, Some(4));
+    let later = ages.age(End::Slave);
+    note_tick(&mut ages, End::Slave, Some(4));
+    ([sent, taken, later, ages.age(End::Slave)], ages)
+}
+
+/// The greatest ages of both ends' outputs, and the first other entry.
+fn worst(ages: &Ages) -> ([Option<u32>; 2], Option<u64>) {
+    let both = [ages.worst(End::Master), ages.worst(End::Slave)];
+    (both, ages.other())
+}
+
 #[test]
-fn forged_data_have_no_age(rt: HostRuntime) -> Result<(), Fail> {
-    let quiet = Did::nothing();
-    let session = Did::took(Command::Session, &[2, 0], true);
-    let data = Did::took(Command::ProcessData, &[1, 0], true);
+fn outputs_age_from_when_they_were_sent(rt: HostRuntime) {
+    let (in_turn, ages) = ages_in_turn();
+    assert_eq!(rt; in_turn, [None, Some(2), Some(5), None]);
+    assert_eq!(rt; worst(&ages), ([None, Some(5)], None));
+}
+
+/// The ages of a slave's outputs once it takes data, after a reset, and once it takes data that no end sent.
+fn ages_by_turns() -> ([Option<u32>; 3], Ages) {
+    let mut ages = data_sent();
+    note_data(&mut ages, End::Slave, &DATA);
+    let taken = ages.age(End::Slave);
     let reset = Did::reset(false, Cause::Local);
-    let mut ages = Ages::new();
-    ages.note_parts(End::Slave, false, &[], &quiet, &frame(&SESSION), None);
-    ages.note_parts(End::Master, false, &SESSION, &session, &frame(&DATA), None);
-    ages.note_parts(End::Slave, false, &DATA, &data, &frame(&ANSWER), Some(4));
-    assert_eq!(rt; ages.age(End::Slave), Some(0));
     ages.note_parts(End::Slave, false, &[], &reset, &frame(&SESSION), None);
-    assert_eq!(rt; ages.age(End::Slave), None);
-    ages.note_parts(End::Slave, false, &FORGED, &data, &frame(&ANSWER), Some(4));
-    assert_eq!(rt; ages.age(End::Slave), None);
-    assert_eq!(rt; ages.worst(End::Slave), Some(0));
-    assert_eq!(rt; ages.other(), Some(5));
-    Ok(())
+    let after_reset = ages.age(End::Slave);
+    note_data(&mut ages, End::Slave, &FORGED);
+    ([taken, after_reset, ages.age(End::Slave)], ages)
+}
+
+#[test]
+fn forged_data_have_no_age(rt: HostRuntime) {
+    let (in_turn, ages) = ages_by_turns();
+    assert_eq!(rt; in_turn, [Some(0), None, None]);
+    assert_eq!(rt; worst(&ages), ([None, Some(0)], Some(5)));
 }
