@@ -1,4 +1,7 @@
-use fsoe_io::{Desk, LoadFault, MemDesk, Partial, Source, StdSink, StdSource, SureDesk, put_all};
+use fsoe_io::{
+    Desk, LoadFault, MemDesk, MemSink, Output, Partial, Source, StdSink, StdSource, SureDesk,
+    put_all,
+};
 use std::alloc::{AllocError, Global};
 use std::test::Fail;
 
@@ -23,6 +26,25 @@ fn put_twice() -> [Result<(), Partial>; 2] {
 fn streams_of_std_are_ends(rt: HostRuntime) {
     assert_eq!(rt; read_by_twos(), ([Some(2), Some(1), Some(0)], *b"ab"));
     assert_eq!(rt; put_twice(), [Ok(()), Err(Partial { done: 1 })]);
+}
+
+/// What a sink holds that takes three bytes in a call and fails at the third, once a text was put and another finished;
+/// and how many bytes the output tells as sent. None where a text was written at once, or nothing failed.
+fn sent_before_fault(alloc: Global) -> Option<(MemSink, u64)> {
+    let mut sink = MemSink::new(alloc, 100, 3, vec![in alloc; 3].ok()?).ok()?;
+    let mut output = Output::new();
+    output.put(&mut sink, b"events ").ok()?;
+    if !sink.bytes().is_empty() || output.finish(&mut sink, b"12\n").is_ok() {
+        return None;
+    }
+    Some((sink, output.sent()))
+}
+
+#[test]
+fn an_output_sends_what_waits(rt: HostRuntime) -> Result<(), Fail> {
+    let (sink, sent) = sent_before_fault(rt.alloc()).ok_or("no fault")?;
+    assert_eq!(rt; (sink.bytes(), sent), (b"events".as_slice(), 6));
+    Ok(())
 }
 
 /// How many bytes a desk loads.
