@@ -5,3 +5,6 @@ pub mod Adjacent
 pub mod ByTable
 pub mod BitsLemmas
 pub mod TwoParts
+pub mod Xored
+pub mod Far
+pub mod Weight

@@ -1,22 +1,19 @@
 -- The CRC of two parts is made of the CRC of each.
 use Rattle.std.proofs.Common.{◌≡◌, ℕ, ◌<◌, List, [], ◌∷◌, ◌++◌, length, bit_xor, replicate, refl, sym, ap, ◌∙◌, lit<}
-use Rattle.std.specs.Int.Bits.{xor_zero_r, xor_comm}
+use Rattle.std.specs.Int.Bits.{xor_zero_l, xor_zero_r}
 use Rattle.fsoe_crc.specs.Remainder.{fed_bits, bits_of, fed_bytes, sixteen_zeros, rem}
 use Rattle.fsoe_crc.proofs.Linear.{fed_bits-xor, byte_xor, byte-below, fed_bytes-below, fed_bytes-append, sixteen_zeros-are_bits}
-
-xor_zero_left : (n : ℕ) → bit_xor 0 n ≡ n
-xor_zero_left n = xor_comm 0 n ∙ xor_zero_r n
 
 -- bytes more of two values together: as many zero bytes more of the one, and the bytes more of the other
 fed_bytes-xor : (v w : ℕ) (bytes : List ℕ) → v < 0x10000 → w < 0x10000 → fed_bytes (bit_xor v w) bytes ≡ bit_xor (fed_bytes v (replicate (length bytes) 0)) (fed_bytes w bytes)
 fed_bytes-xor v w [] hv hw = refl
 fed_bytes-xor v w (b ∷ bytes) hv hw =
-    ap (λ x. fed_bytes (fed_bits (bit_xor v w) (bits_of x)) bytes) (sym (xor_zero_left b))
+    ap (λ x. fed_bytes (fed_bits (bit_xor v w) (bits_of x)) bytes) (sym (xor_zero_l b))
     ∙ ap (λ x. fed_bytes x bytes) (byte_xor v w 0 b hv hw)
     ∙ fed_bytes-xor (fed_bits v (bits_of 0)) (fed_bits w (bits_of b)) bytes (byte-below v 0 hv) (byte-below w b hw)
 
 -- the sixteen zero bits are linear too
-sixteen-xor : (v w : ℕ) → v < 0x10000 → w < 0x10000 → fed_bits (bit_xor v w) sixteen_zeros ≡ bit_xor (fed_bits v sixteen_zeros) (fed_bits w sixteen_zeros)
+pub sixteen-xor : (v w : ℕ) → v < 0x10000 → w < 0x10000 → fed_bits (bit_xor v w) sixteen_zeros ≡ bit_xor (fed_bits v sixteen_zeros) (fed_bits w sixteen_zeros)
 unfolding sixteen_zeros
 sixteen-xor v w hv hw = fed_bits-xor v w sixteen_zeros sixteen_zeros hv hw sixteen_zeros-are_bits sixteen_zeros-are_bits refl
 

@@ -1,7 +1,8 @@
 //! What the CRC is sure to tell apart, and how it is made of the CRCs of parts.
 
-ghost use Rattle.std.specs.Prelude.{◌≡◌, ◌<◌, ℕ, List, ◌∷◌, ◌++◌, length, replicate, bit_xor};
+ghost use Rattle.std.specs.Prelude.{◌≡◌, ◌≢◌, ◌<◌, ◌≤◌, ℕ, ◌+◌, List, [], ◌∷◌, ◌++◌, length, replicate, bit_xor};
 ghost use Rattle.fsoe_crc.specs.Remainder.{rem};
+ghost use Rattle.fsoe_crc.specs.Turned.{turned_bits};
 
 /// Two lists of bytes of one length that differ only within two adjacent bytes, or within one
 /// byte, have the same CRC only where they are equal. The call does nothing: the law is its contract.
@@ -14,4 +15,12 @@ pub fn adjacent_bytes()
 /// second, and that of the second alone. So it can be made of what each part decides by itself.
 pub fn two_parts()
     ensures { (first second : List ℕ) → rem (first ++ second) ≡ bit_xor (rem (first ++ replicate (length second) 0)) (rem second) }
+{}
+
+/// Two data bytes with their CRC are 32 bits. Two other data bytes with theirs differ from these in at least six bits, whatever
+/// comes before both; and so do one data byte and another. Three zeros follow the data, as in a frame's cover.
+#[tactic(auto, using(crate::proofs::Weight::pair_turned, crate::proofs::Weight::byte_turned))]
+pub fn six_turned_bits()
+    ensures pair { (before : List ℕ) (a b c d : ℕ) → a < 256 → b < 256 → c < 256 → d < 256 → (a ≡ c → b ≢ d) → 6 ≤ turned_bits a c + turned_bits b d + turned_bits (rem (before ++ a ∷ b ∷ 0 ∷ 0 ∷ 0 ∷ [])) (rem (before ++ c ∷ d ∷ 0 ∷ 0 ∷ 0 ∷ [])) }
+    ensures one { (before : List ℕ) (a c : ℕ) → a < 256 → c < 256 → a ≢ c → 6 ≤ turned_bits a c + turned_bits (rem (before ++ a ∷ 0 ∷ 0 ∷ 0 ∷ [])) (rem (before ++ c ∷ 0 ∷ 0 ∷ 0 ∷ [])) }
 {}

@@ -4,6 +4,7 @@ use Rattle.std.specs.Int.Bits.{xor_self, xor_comm, xor_lt, xor_block}
 use Rattle.fsoe_crc.specs.Remainder.{computing, fed_bits, bits_of, fed_bytes, sixteen_zeros, rem}
 use Rattle.fsoe_crc.proofs.Linear.{fed_bytes-below, fed_bytes-append, fed_bytes-injective, fed_bits-injective, sixteen_zeros-are_bits}
 use Rattle.fsoe_crc.proofs.Adjacent.{first_byte, second_byte}
+use Rattle.fsoe_crc.proofs.Xored.{bytes_xored}
 use Rattle.fsoe_frame.specs.Parts.{Frame}
 use Rattle.seq_chain.specs.declared.link.Link.{Link}
 use Rattle.seq_chain.specs.Cover.{place, cover, first_of, crc_0}
@@ -12,7 +13,6 @@ use Rattle.seq_chain.specs.Sealing.{fits, steps_again}
 use Rattle.seq_chain.specs.FreshIds.{SteppedAlikeAfter, step_in_last}
 use Rattle.seq_chain.proofs.ToldApart.{last_told, first_group, crc_0_is}
 use Rattle.seq_chain.proofs.OneChange.{refused, fitting}
-use Rattle.seq_chain.proofs.Xored.{bytes_xored}
 
 -- a frame that fits after both CRC_0 has one CRC_0 under both
 one_crc_0 : (last last' : ℕ) (before : Option Link) (f : Frame) → IsTrue (fits last before f) → IsTrue (fits last' before f)

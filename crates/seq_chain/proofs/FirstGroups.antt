@@ -4,6 +4,8 @@ use Rattle.std.specs.Int.Bits.{xor_lt, xor_block}
 use Rattle.fsoe_crc.specs.Remainder.{computing, fed_bytes, sixteen_zeros, rem}
 use Rattle.fsoe_crc.proofs.Linear.{fed_bits-below, fed_bytes-below, sixteen_zeros-are_bits}
 use Rattle.fsoe_crc.proofs.Adjacent.{rem-adjacent}
+use Rattle.fsoe_crc.proofs.Xored.{rem-xored}
+use Rattle.fsoe_crc.proofs.Weight.{zero_first}
 use Rattle.fsoe_frame.specs.Parts.{AreBytes}
 use Rattle.seq_chain.specs.declared.link.Link.{Link}
 use Rattle.seq_chain.specs.Cover.{common, cover, first_of, crc_0}
@@ -12,7 +14,6 @@ use Rattle.seq_chain.specs.Sealing.{sealed}
 use Rattle.seq_chain.specs.Differences.{SteppedAlike}
 use Rattle.seq_chain.specs.FreshIds.{first_number, step_in_last, step_in_load}
 use Rattle.seq_chain.proofs.ToldApart.{one_told, pair_told}
-use Rattle.seq_chain.proofs.Xored.{rem-xored}
 
 pub first_told : (last conn n cmd : ℕ) (load load' : List ℕ) → length load ≡ length load' → AreBytes load → AreBytes load' → first_number load ≢ first_number load'
     → crc_0 last conn n cmd load ≢ crc_0 last conn n cmd load'
@@ -36,11 +37,6 @@ rem-below bytes = fed_bits-below (fed_bytes 0 bytes) sixteen_zeros (fed_bytes-be
 pub step_is : rem (0x85 ∷ 0x99 ∷ 0 ∷ 0 ∷ 0 ∷ []) ≡ step_in_last
 unfolding computing
 step_is = refl
-
--- a zero in front is nothing to a CRC
-zero_first : (x : ℕ) → rem (0 ∷ x ∷ 0 ∷ 0 ∷ 0 ∷ []) ≡ rem (x ∷ 0 ∷ 0 ∷ 0 ∷ [])
-unfolding computing
-zero_first x = refl
 
 -- where the CRC_0 of two loads differ by the step, their first groups do
 pub differ_in_load : (last conn n cmd : ℕ) (load load' : List ℕ) → length load ≡ length load' → AreBytes load → AreBytes load'

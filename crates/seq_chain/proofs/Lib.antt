@@ -3,7 +3,6 @@ pub mod PartsOfCover
 pub mod ToldApart
 pub mod Steps
 pub mod OneChange
-pub mod Xored
 pub mod AnotherLast
 pub mod FirstGroups
 pub mod BothFit
