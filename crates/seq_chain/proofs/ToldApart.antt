@@ -32,7 +32,7 @@ pub command_told : (last conn n cmd cmd' i : ℕ) (group : List ℕ) → cmd < 2
 command_told last conn n cmd cmd' i group h h' other e = other (rem-one (low_high last ++ low_high conn ++ low_high n) (after_common i group) cmd cmd' h h' e)
 
 -- the zeros at the end come after the data
-zeros_last : (first : List ℕ) (i : ℕ) (group : List ℕ) → rem (covered first i group) ≡ rem ((first ++ place i) ++ (group ++ 0 ∷ 0 ∷ 0 ∷ []))
+pub zeros_last : (first : List ℕ) (i : ℕ) (group : List ℕ) → rem (covered first i group) ≡ rem ((first ++ place i) ++ (group ++ 0 ∷ 0 ∷ 0 ∷ []))
 zeros_last first i group = ap rem (append_assoc (first ++ place i) group (0 ∷ 0 ∷ 0 ∷ []))
 
 pub one_told : (first : List ℕ) (i d d' : ℕ) → d < 256 → d' < 256 → rem (covered first i (d ∷ [])) ≡ rem (covered first i (d' ∷ [])) → (d ∷ []) ≡ (d' ∷ [])

@@ -1,5 +1,6 @@
--- Two frames that differ in one thing alone, and how their numbers go.
-use Rattle.std.specs.Prelude.{◌≡◌, ◌≢◌, ℕ, zero, suc, List, ◌∷◌, length, Option}
+-- What two frames differ in, and how their numbers go.
+use Rattle.std.specs.Prelude.{◌≡◌, ◌≢◌, ℕ, zero, suc, ◌+◌, List, ◌∷◌, length, Option}
+use Rattle.fsoe_crc.specs.Turned.{turned_bits}
 use Rattle.seq_chain.specs.declared.link.Link.{Link}
 use Rattle.fsoe_frame.specs.Layout.{groups}
 use Rattle.fsoe_frame.specs.Parts.{Frame}
@@ -31,6 +32,22 @@ pub record DifferInGroup (k : ℕ) (f g : Frame) : Type 0 where
 pub record DifferInCrc (k : ℕ) (f g : Frame) : Type 0 where
   pub crc : DifferAt k f.crcs g.crcs
   pub alone : g ≡ record f { crcs = g.crcs }
+
+-- two frames of one length differ, and not in the command or the connection id field: so in their data or CRC fields
+pub record DifferInGroups (f g : Frame) : Type 0 where
+  pub differ : f ≢ g
+  pub one_length : length f.load ≡ length g.load
+  pub command : f.cmd ≡ g.cmd
+  pub connection : f.conn ≡ g.conn
+
+-- in how many bits two lists of numbers differ, place by place
+abbrev pub turned_within : List ℕ → List ℕ → ℕ
+turned_within (m ∷ ms) (n ∷ ns) = turned_bits m n + turned_within ms ns
+turned_within _ _ = 0
+
+-- in how many bits two frames of one length differ
+abbrev pub turned_in_frames : Frame → Frame → ℕ
+turned_in_frames f g = turned_bits f.cmd g.cmd + turned_within f.load g.load + turned_within f.crcs g.crcs + turned_bits f.conn g.conn
 
 -- the second step of the number comes for both frames or for neither
 abbrev pub SteppedAlike : ℕ → Option Link → Frame → Frame → Type 0

@@ -1,6 +1,6 @@
 //! What the chain is sure to tell apart. The calls do nothing: each law is a contract.
 
-ghost use Rattle.std.specs.Prelude.{◌≡◌, ◌≢◌, ◌<◌, ◌≤◌, ℕ, List, [], ◌∷◌, length, Option, Some, None, IfSome, IsTrue, false, bit_xor};
+ghost use Rattle.std.specs.Prelude.{◌≡◌, ◌≢◌, ◌<◌, ◌≤◌, ℕ, List, [], ◌∷◌, length, take, Option, Some, None, IfSome, IsTrue, false, bit_xor};
 ghost use Rattle.fsoe_crc.specs.Remainder.{rem};
 ghost use Rattle.fsoe_base.specs.Lengths.{is_length, frame_len};
 ghost use Rattle.fsoe_frame.specs.Parts.{Frame, AreBytes, frame_of};
@@ -11,7 +11,7 @@ ghost use Rattle.seq_chain.specs.Cover.{cover, crc_0, first_of};
 ghost use Rattle.seq_chain.specs.Numbers.{next, number_of};
 ghost use Rattle.seq_chain.specs.Sealing.{sealed, noted, fits};
 ghost use Rattle.seq_chain.specs.BothFit.{noted_before, stepped_frame, other_frame};
-ghost use Rattle.seq_chain.specs.Differences.{DifferInCommand, DifferInConnection, DifferInGroup, DifferInCrc, SteppedAlike};
+ghost use Rattle.seq_chain.specs.Differences.{DifferInCommand, DifferInConnection, DifferInGroup, DifferInCrc, DifferInGroups, turned_in_frames, SteppedAlike};
 ghost use Rattle.seq_chain.specs.FreshIds.{first_number, SteppedAlikeAfter, step_in_last, step_in_load};
 
 /// Two covers that differ in one part alone have different CRCs: in the CRC_0 taken last, in the connection id, in
@@ -57,6 +57,14 @@ pub fn one_change_stepped_alike()
     ensures command { (last : ℕ) (before : Option Link) (f g : Frame) → f.cmd < 256 → g.cmd < 256 → 0 < length f.load → IsTrue (fits last before f) → DifferInCommand f g → SteppedAlike last before f g → fits last before g ≡ false }
     ensures connection { (last : ℕ) (before : Option Link) (f g : Frame) → f.conn < 65536 → g.conn < 65536 → 0 < length f.load → IsTrue (fits last before f) → DifferInConnection f g → SteppedAlike last before f g → fits last before g ≡ false }
     ensures first_data { (last : ℕ) (before : Option Link) (f g : Frame) → AreBytes f.load → AreBytes g.load → IsTrue (fits last before f) → DifferInGroup 0 f g → SteppedAlike last before f g → fits last before g ≡ false }
+{}
+
+/// A frame that differs from one that fits in fewer than six bits of its data and CRC fields doesn't fit, wherever these bits are,
+/// where the data of the first group are equal, or the second step of the number comes for both or for neither.
+#[tactic(auto, using(crate::proofs::FewTurned::later_refused, crate::proofs::FewTurned::groups_refused))]
+pub fn few_turned_bits()
+    ensures later_groups { (last : ℕ) (before : Option Link) (f g : Frame) → AreBytes f.load → AreBytes g.load → IsTrue (fits last before f) → DifferInGroups f g → take 2 f.load ≡ take 2 g.load → turned_in_frames f g < 6 → fits last before g ≡ false }
+    ensures groups { (last : ℕ) (before : Option Link) (f g : Frame) → AreBytes f.load → AreBytes g.load → IsTrue (fits last before f) → DifferInGroups f g → SteppedAlike last before f g → turned_in_frames f g < 6 → fits last before g ≡ false }
 {}
 
 /// That proviso is needed: two frames that differ in the data of the first group alone both fit after the same frames,
