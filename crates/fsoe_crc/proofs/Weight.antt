@@ -1,37 +1,52 @@
--- Two bytes and their CRC are 32 bits. Of two such, at least six bits differ.
-use Rattle.std.proofs.Common.{◌≡◌, ◌≢◌, ℕ, ◌+◌, ◌*◌, ◌/◌, ◌%◌, ◌<◌, ◌≤◌, List, [], ◌∷◌, ◌++◌, bit_xor, count_ones, true, refl, sym, ap, ◌∙◌, lit<, arith}
+-- In how many bits data with their CRC differ from other data with theirs.
+use Rattle.std.proofs.Common.{◌≡◌, ◌≢◌, ℕ, ◌+◌, ◌*◌, ◌/◌, ◌%◌, ◌^◌, ◌<◌, ◌≤◌, List, [], ◌∷◌, ◌++◌, length, suc, bit_xor, count_ones, true, refl, sym, ap, ◌∙◌, lit<, arith}
 use Rattle.std.proofs.lemmas.Nat.{ones_le_self}
 use Rattle.std.specs.Int.Bits.{xor_shr, xor_mod, xor_lt}
-use Rattle.std.specs.Int.Count.{ones_cat}
+use lib.Count.{ones, ones_in, ones_cat}
 use Rattle.fsoe_crc.specs.Remainder.{computing, rem}
 use Rattle.fsoe_crc.specs.Turned.{turned_bits}
 use Rattle.fsoe_crc.proofs.Xor.{xor_zero_eq}
+use Rattle.fsoe_crc.proofs.Linear.{xored}
 use Rattle.fsoe_crc.proofs.Xored.{rem-xored}
 use Rattle.fsoe_crc.proofs.Far.{ones_below, columns, far, all_far, IsLinear, all_enough}
 
--- the CRC of a number of 16 bits, high byte first, and of three zeros
-unfoldable crc_of : ℕ → ℕ
-crc_of m = rem (m / 256 ∷ m % 256 ∷ 0 ∷ 0 ∷ 0 ∷ [])
+-- the bytes of a number that begin at these bits of it
+abbrev pub bytes_at : List ℕ → ℕ → List ℕ
+bytes_at [] m = []
+bytes_at (k ∷ ks) m = m / 2 ^ k % 256 ∷ bytes_at ks m
 
-crc_of-linear : IsLinear crc_of
-unfolding crc_of
-crc_of-linear m n =
-    rw (xor_shr m n 8, xor_mod m n 8)
-    (sym (rem-xored [] (m / 256 ∷ m % 256 ∷ 0 ∷ 0 ∷ 0 ∷ []) (n / 256 ∷ n % 256 ∷ 0 ∷ 0 ∷ 0 ∷ []) refl))
+unfoldable pub crc_at : List ℕ → ℕ → ℕ
+crc_at ks m = rem (bytes_at ks m)
 
--- of all such numbers but 0
-computed : all_far (columns crc_of 16) 5 ≡ true
-unfolding all_far far ones_below columns crc_of computing
-computed = refl
+bytes_at-xored : (ks : List ℕ) (m n : ℕ) → bytes_at ks (bit_xor m n) ≡ xored (bytes_at ks m) (bytes_at ks n)
+bytes_at-xored [] m n = refl
+bytes_at-xored (k ∷ ks) m n = rw (xor_shr m n k, xor_mod (m / 2 ^ k) (n / 2 ^ k) 8) (ap (λ xs. bit_xor (m / 2 ^ k % 256) (n / 2 ^ k % 256) ∷ xs) (bytes_at-xored ks m n))
+
+bytes_at-length : (ks : List ℕ) (m n : ℕ) → length (bytes_at ks m) ≡ length (bytes_at ks n)
+bytes_at-length [] m n = refl
+bytes_at-length (k ∷ ks) m n = ap suc (bytes_at-length ks m n)
+
+crc_at-linear : (ks : List ℕ) → IsLinear (crc_at ks)
+unfolding crc_at
+crc_at-linear ks m n = ap rem (bytes_at-xored ks m n) ∙ sym (rem-xored [] (bytes_at ks m) (bytes_at ks n) (bytes_at-length ks m n))
+
+-- of numbers of k bits, but 0, and the CRC of such bytes of theirs
+pub weight : (ks bytes : List ℕ) (k n m : ℕ) → all_far (columns (crc_at ks) k) n ≡ true → m < 2 ^ k → m ≢ 0 → bytes_at ks m ≡ bytes → n < count_ones m + count_ones (rem bytes)
+unfolding crc_at
+weight ks bytes k n m all h some e = rw (sym e) (all_enough (crc_at ks) k n m (crc_at-linear ks) h some all)
+
+pair_computed : all_far (columns (crc_at (8 ∷ 0 ∷ 16 ∷ 16 ∷ 16 ∷ [])) 16) 5 ≡ true
+unfolding all_far far ones_below columns crc_at computing
+pair_computed = refl
 
 six : (x y : ℕ) → x < 256 → y < 256 → (x ≡ 0 → y ≢ 0) → 6 ≤ count_ones x + count_ones y + count_ones (rem (x ∷ y ∷ 0 ∷ 0 ∷ 0 ∷ []))
-unfolding crc_of
 six x y hx hy some =
     let m : ℕ = x * 256 + y in
-    let high : (x * 256 + y) / 256 ≡ x = omega arith in
-    let low : (x * 256 + y) % 256 ≡ y = omega arith in
-    let made : crc_of m ≡ rem (x ∷ y ∷ 0 ∷ 0 ∷ 0 ∷ []) = ap (λ u. rem (u ∷ m % 256 ∷ 0 ∷ 0 ∷ 0 ∷ [])) high ∙ ap (λ u. rem (x ∷ u ∷ 0 ∷ 0 ∷ 0 ∷ [])) low in
-    rw (sym made, sym (ones_cat 8 x y hy)) (all_enough crc_of 16 5 m crc_of-linear (omega arith) (λ e. some (omega arith) (omega arith)) computed)
+    let high : m / 2 ^ 8 % 256 ≡ x = omega arith in
+    let low : m / 2 ^ 0 % 256 ≡ y = omega arith in
+    let none : m / 2 ^ 16 % 256 ≡ 0 = omega arith in
+    rw (sym (ones_cat 8 x y hy))
+    (weight _ (x ∷ y ∷ 0 ∷ 0 ∷ 0 ∷ []) 16 5 m pair_computed (omega arith) (λ e. some (omega arith) (omega arith)) (λ i. high i ∷ low i ∷ none i ∷ none i ∷ none i ∷ []))
 
 pub pair_turned : (before : List ℕ) (a b c d : ℕ) → a < 256 → b < 256 → c < 256 → d < 256 → (a ≡ c → b ≢ d)
     → 6 ≤ turned_bits a c + turned_bits b d + turned_bits (rem (before ++ a ∷ b ∷ 0 ∷ 0 ∷ 0 ∷ [])) (rem (before ++ c ∷ d ∷ 0 ∷ 0 ∷ 0 ∷ []))
@@ -49,3 +64,8 @@ pub byte_turned : (before : List ℕ) (a c : ℕ) → a < 256 → c < 256 → a 
 byte_turned before a c ha hc other =
     rw (rem-xored before (a ∷ 0 ∷ 0 ∷ 0 ∷ []) (c ∷ 0 ∷ 0 ∷ 0 ∷ []) refl)
     (rw (sym (zero_first (bit_xor a c))) (omega (arith, ones_le_self 0, six 0 (bit_xor a c) (lit< tt) (xor_lt 8 a c ha hc) (λ e f. other (xor_zero_eq a c f)))))
+
+-- a pair and its CRC that reach six
+pub six_reached : turned_bits 0x2C 0 + turned_bits 4 0 + turned_bits (rem (0x2C ∷ 4 ∷ 0 ∷ 0 ∷ 0 ∷ [])) (rem (0 ∷ 0 ∷ 0 ∷ 0 ∷ 0 ∷ [])) ≡ 6
+unfolding computing ones ones_in
+six_reached = refl

@@ -18,9 +18,10 @@ pub fn two_parts()
 {}
 
 /// Two data bytes with their CRC are 32 bits. Two other data bytes with theirs differ from these in at least six bits, whatever
-/// comes before both; and so do one data byte and another. Three zeros follow the data, as in a frame's cover.
-#[tactic(auto, using(crate::proofs::Weight::pair_turned, crate::proofs::Weight::byte_turned))]
+/// comes before both; and so do one data byte and another. Three zeros follow the data, as in a frame's cover. Some reach six.
+#[tactic(auto, using(crate::proofs::Weight::pair_turned, crate::proofs::Weight::byte_turned, crate::proofs::Weight::six_reached))]
 pub fn six_turned_bits()
     ensures pair { (before : List ℕ) (a b c d : ℕ) → a < 256 → b < 256 → c < 256 → d < 256 → (a ≡ c → b ≢ d) → 6 ≤ turned_bits a c + turned_bits b d + turned_bits (rem (before ++ a ∷ b ∷ 0 ∷ 0 ∷ 0 ∷ [])) (rem (before ++ c ∷ d ∷ 0 ∷ 0 ∷ 0 ∷ [])) }
     ensures one { (before : List ℕ) (a c : ℕ) → a < 256 → c < 256 → a ≢ c → 6 ≤ turned_bits a c + turned_bits (rem (before ++ a ∷ 0 ∷ 0 ∷ 0 ∷ [])) (rem (before ++ c ∷ 0 ∷ 0 ∷ 0 ∷ [])) }
+    ensures reached { turned_bits 0x2C 0 + turned_bits 4 0 + turned_bits (rem (0x2C ∷ 4 ∷ 0 ∷ 0 ∷ 0 ∷ [])) (rem (0 ∷ 0 ∷ 0 ∷ 0 ∷ 0 ∷ [])) ≡ 6 }
 {}

@@ -13,6 +13,7 @@ use Rattle.seq_chain.specs.Sealing.{fits}
 use Rattle.seq_chain.specs.Differences.{DifferInGroups, turned_within, turned_in_frames, SteppedAlike}
 use Rattle.seq_chain.proofs.ToldApart.{zeros_last}
 use Rattle.seq_chain.proofs.OneChange.{refused, fitting}
+use Rattle.seq_chain.proofs.FirstTurned.{pair_turned as first_pair, one_turned}
 
 byte_apart : (first : List ℕ) (i d d' : ℕ) → d < 256 → d' < 256 → d ≢ d' → 6 ≤ turned_bits d d' + turned_bits (rem (covered first i (d ∷ []))) (rem (covered first i (d' ∷ [])))
 byte_apart first i d d' h h' other = rw (zeros_last first i (d ∷ []), zeros_last first i (d' ∷ [])) (byte_turned (first ++ place i) d d' h h' other)
@@ -77,3 +78,34 @@ pub later_refused : (last : ℕ) (before : Option Link) (f g : Frame) → AreByt
 later_refused last before f g h h' right d same few =
     groups_refused last before f g h h' right d
     (stepped_alike last f.conn f.cmd before f.load g.load same ∙ (λ i. repeats_crc (λ n. crc_0 last (d.connection i) n (d.command i) g.load) before)) few
+
+-- where the connection id or the command differs, at least four bits do: of these, of the first group and of its CRC
+first_apart : (last conn conn' n cmd cmd' : ℕ) (load load' : List ℕ) → conn < 65536 → conn' < 65536 → cmd < 256 → cmd' < 256 → 0 < length load → length load ≡ length load' → AreBytes load → AreBytes load' → (conn ≡ conn' → cmd ≢ cmd')
+    → 4 ≤ turned_bits conn conn' + turned_bits cmd cmd' + turned_within load load' + turned_within (crcs last conn n cmd load) (crcs last conn' n cmd' load')
+first_apart last conn conn' n cmd cmd' (d ∷ []) (d' ∷ []) hconn hconn' hcmd hcmd' some same h h' other =
+    omega (arith, one_turned last conn conn' n cmd cmd' d d' hconn hconn' hcmd hcmd' (h 0) (h' 0) other)
+first_apart last conn conn' n cmd cmd' (d ∷ b ∷ load) (d' ∷ b' ∷ load') hconn hconn' hcmd hcmd' some same h h' other =
+    omega (arith, first_pair last conn conn' n cmd cmd' d b d' b' hconn hconn' hcmd hcmd' (h 0) (h 1) (h' 0) (h' 1) other)
+first_apart last conn conn' n cmd cmd' load load' hconn hconn' hcmd hcmd' some same h h' other = absurd (omega arith)
+
+first_refused : (last : ℕ) (before : Option Link) (f g : Frame) → f.cmd < 256 → g.cmd < 256 → f.conn < 65536 → g.conn < 65536 → 0 < length f.load → length f.load ≡ length g.load → AreBytes f.load → AreBytes g.load
+    → IsTrue (fits last before f) → SteppedAlike last before f g → (f.conn ≡ g.conn → f.cmd ≢ g.cmd) → turned_in_frames f g < 4 → fits last before g ≡ false
+first_refused last before f g hcmd hcmd' hconn hconn' some same h h' right steps other few =
+    refused (fits last before g) (λ also.
+    let n : ℕ = number_of last before f.conn f.cmd f.load in
+    let mine : f.crcs ≡ crcs last f.conn n f.cmd f.load = fitting last before f right in
+    let theirs : g.crcs ≡ crcs last g.conn n g.cmd g.load = fitting_alike last before f g steps also in
+    let both : turned_within f.crcs g.crcs ≡ turned_within (crcs last f.conn n f.cmd f.load) (crcs last g.conn n g.cmd g.load) = λ i. turned_within (mine i) (theirs i) in
+    let four = first_apart last f.conn g.conn n f.cmd g.cmd f.load g.load hconn hconn' hcmd hcmd' some same h h' other in
+    absurd (omega (arith, four, both, few)))
+
+pub anywhere_refused : (last : ℕ) (before : Option Link) (f g : Frame) → f.cmd < 256 → g.cmd < 256 → f.conn < 65536 → g.conn < 65536 → 0 < length f.load → length f.load ≡ length g.load → AreBytes f.load → AreBytes g.load
+    → IsTrue (fits last before f) → f ≢ g → SteppedAlike last before f g → turned_in_frames f g < 4 → fits last before g ≡ false
+anywhere_refused last before f g hcmd hcmd' hconn hconn' some same h h' right other steps few =
+    elim (cases_eq f.conn g.conn) [
+      | inr differ ↦ first_refused last before f g hcmd hcmd' hconn hconn' some same h h' right steps (λ e. absurd (differ e)) few
+      | inl conn ↦ elim (cases_eq f.cmd g.cmd) [
+        | inr differ ↦ first_refused last before f g hcmd hcmd' hconn hconn' some same h h' right steps (λ _. differ) few
+        | inl cmd ↦ groups_refused last before f g h h' right (record { differ = other; one_length = same; command = cmd; connection = conn }) steps (omega arith)
+      ]
+    ]

@@ -3,6 +3,7 @@ pub mod PartsOfCover
 pub mod ToldApart
 pub mod Steps
 pub mod OneChange
+pub mod FirstTurned
 pub mod FewTurned
 pub mod AnotherLast
 pub mod FirstGroups

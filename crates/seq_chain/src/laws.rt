@@ -59,12 +59,14 @@ pub fn one_change_stepped_alike()
     ensures first_data { (last : ℕ) (before : Option Link) (f g : Frame) → AreBytes f.load → AreBytes g.load → IsTrue (fits last before f) → DifferInGroup 0 f g → SteppedAlike last before f g → fits last before g ≡ false }
 {}
 
-/// A frame that differs from one that fits in fewer than six bits of its data and CRC fields doesn't fit, wherever these bits are,
-/// where the data of the first group are equal, or the second step of the number comes for both or for neither.
-#[tactic(auto, using(crate::proofs::FewTurned::later_refused, crate::proofs::FewTurned::groups_refused))]
+/// A frame that differs from one that fits in fewer than six bits of its data and CRC fields alone, wherever these are, doesn't
+/// fit, provided that the data of the first group are equal, or that the second step of the number comes for both or for neither.
+/// With the latter proviso no frame fits that differs in fewer than four bits anywhere.
+#[tactic(auto, using(crate::proofs::FewTurned::later_refused, crate::proofs::FewTurned::groups_refused, crate::proofs::FewTurned::anywhere_refused))]
 pub fn few_turned_bits()
     ensures later_groups { (last : ℕ) (before : Option Link) (f g : Frame) → AreBytes f.load → AreBytes g.load → IsTrue (fits last before f) → DifferInGroups f g → take 2 f.load ≡ take 2 g.load → turned_in_frames f g < 6 → fits last before g ≡ false }
     ensures groups { (last : ℕ) (before : Option Link) (f g : Frame) → AreBytes f.load → AreBytes g.load → IsTrue (fits last before f) → DifferInGroups f g → SteppedAlike last before f g → turned_in_frames f g < 6 → fits last before g ≡ false }
+    ensures anywhere { (last : ℕ) (before : Option Link) (f g : Frame) → f.cmd < 256 → g.cmd < 256 → f.conn < 65536 → g.conn < 65536 → 0 < length f.load → length f.load ≡ length g.load → AreBytes f.load → AreBytes g.load → IsTrue (fits last before f) → f ≢ g → SteppedAlike last before f g → turned_in_frames f g < 4 → fits last before g ≡ false }
 {}
 
 /// That proviso is needed: two frames that differ in the data of the first group alone both fit after the same frames,
