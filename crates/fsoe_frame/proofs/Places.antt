@@ -8,6 +8,7 @@ use Rattle.std.proofs.lemmas.List.{drop_all, length-take-le, take_all, take_at}
 use Rattle.std.specs.List.{refill}
 use borrow.Rule.Slice.PartMut.{put_mid}
 use Rattle.fsoe_base.specs.Lengths.{is_length, group_count, frame_len}
+use Rattle.byteorder.specs.Endian.{little_bytes, little_number}
 use Rattle.fsoe_base.specs.Bytes.{low_high}
 use Rattle.fsoe_frame.specs.Layout.{groups, with_crcs, layout}
 use Rattle.fsoe_frame.specs.Parts.{Frame, AreBytes, bytes_of, pairs, one_byte, add_group, frame_of}
@@ -19,25 +20,25 @@ even_length l h other = grind (arith, nat_tests)
 -- what stands at the places of n pairs
 pub record AtPlaces (command n : ℕ) (bytes : List ℕ) (f : Frame) : Type 0 where
   pub cmd_is : f.cmd ≡ command
-  pub conn_is : f.conn ≡ slice_index bytes (4 * n) + 256 * slice_index bytes (4 * n + 1)
-  pub crc_is : (k : ℕ) → k < n → slice_index f.crcs k ≡ slice_index bytes (4 * k + 2) + 256 * slice_index bytes (4 * k + 3)
+  pub conn_is : f.conn ≡ little_number 2 (drop (4 * n) bytes)
+  pub crc_is : (k : ℕ) → k < n → slice_index f.crcs k ≡ little_number 2 (drop (4 * k + 2) bytes)
 
-past_four : (a b c d : ℕ) (bytes : List ℕ) (i j : ℕ) → j ≡ suc (suc (suc (suc i))) → slice_index (a ∷ b ∷ c ∷ d ∷ bytes) j ≡ slice_index bytes i
+past_four : (a b c d : ℕ) (bytes : List ℕ) (i j : ℕ) → j ≡ suc (suc (suc (suc i))) → drop j (a ∷ b ∷ c ∷ d ∷ bytes) ≡ drop i bytes
 past_four a b c d bytes i j e = rw e refl
 
 -- the places after one more group
 more_places : (cmd n d d' c c' : ℕ) (bytes : List ℕ) (f : Frame) → AtPlaces cmd n bytes f → AtPlaces cmd (suc n) (d ∷ d' ∷ c ∷ c' ∷ bytes) (add_group d d' (c + 256 * c') f)
 more_places cmd n d d' c c' bytes f h = record {
   cmd_is = h.cmd_is;
-  conn_is = rw (past_four d d' c c' bytes (4 * n) (4 * suc n) (omega arith), past_four d d' c c' bytes (4 * n + 1) (4 * suc n + 1) (omega arith)) h.conn_is;
+  conn_is = rw (past_four d d' c c' bytes (4 * n) (4 * suc n) (omega arith)) h.conn_is;
   crc_is = more_crcs n d d' c c' bytes f h.crc_is;
 }
   where
-    more_crcs : (n d d' c c' : ℕ) (bytes : List ℕ) (f : Frame) → ((k : ℕ) → k < n → slice_index f.crcs k ≡ slice_index bytes (4 * k + 2) + 256 * slice_index bytes (4 * k + 3))
-        → (k : ℕ) → k < suc n → slice_index ((c + 256 * c') ∷ f.crcs) k ≡ slice_index (d ∷ d' ∷ c ∷ c' ∷ bytes) (4 * k + 2) + 256 * slice_index (d ∷ d' ∷ c ∷ c' ∷ bytes) (4 * k + 3)
-    more_crcs n d d' c c' bytes f h zero lt = refl
+    more_crcs : (n d d' c c' : ℕ) (bytes : List ℕ) (f : Frame) → ((k : ℕ) → k < n → slice_index f.crcs k ≡ little_number 2 (drop (4 * k + 2) bytes))
+        → (k : ℕ) → k < suc n → slice_index ((c + 256 * c') ∷ f.crcs) k ≡ little_number 2 (drop (4 * k + 2) (d ∷ d' ∷ c ∷ c' ∷ bytes))
+    more_crcs n d d' c c' bytes f h zero lt = omega arith
     more_crcs n d d' c c' bytes f h (suc k) lt =
-        rw (past_four d d' c c' bytes (4 * k + 2) (4 * suc k + 2) (omega arith), past_four d d' c c' bytes (4 * k + 3) (4 * suc k + 3) (omega arith)) (h k (omega arith))
+        rw (past_four d d' c c' bytes (4 * k + 2) (4 * suc k + 2) (omega arith)) (h k (omega arith))
 
 -- what holds of two bytes, and stays so with four bytes in front, holds of the bytes of n groups and a connection id
 by_groups : (P : ℕ → List ℕ → Type 0) → ((k k' : ℕ) → P 0 (k ∷ k' ∷ [])) → ((n d d' c c' : ℕ) (bytes : List ℕ) → P n bytes → P (suc n) (d ∷ d' ∷ c ∷ c' ∷ bytes))
@@ -54,7 +55,7 @@ by_groups P last more (suc n) (a ∷ b ∷ c ∷ []) h = absurd (omega arith)
 
 pub pairs_places : (cmd n : ℕ) (bytes : List ℕ) → length bytes ≡ 4 * n + 2 → AtPlaces cmd n bytes (pairs cmd bytes)
 pairs_places cmd =
-    by_groups (λ n bytes. AtPlaces cmd n bytes (pairs cmd bytes)) (λ k k'. record { cmd_is = refl; conn_is = refl; crc_is = λ i lt. absurd (omega arith) })
+    by_groups (λ n bytes. AtPlaces cmd n bytes (pairs cmd bytes)) (λ k k'. record { cmd_is = refl; conn_is = omega arith; crc_is = λ i lt. absurd (omega arith) })
     (λ n d d' c c' bytes at. more_places cmd n d d' c c' bytes (pairs cmd bytes) at)
 
 -- a number of 16 bits from its two bytes
@@ -74,7 +75,7 @@ pairs_layout cmd conn (suc n) (d ∷ d' ∷ load) [] h k = absurd (omega arith)
 -- the parts of a frame at its places
 pub record FrameAt (l : ℕ) (bytes : List ℕ) (f : Frame) : Type 0 where
   pub cmd_is : f.cmd ≡ slice_index bytes 0
-  pub conn_is : f.conn ≡ slice_index bytes (length bytes - 2) + 256 * slice_index bytes (length bytes - 2 + 1)
+  pub conn_is : f.conn ≡ little_number 2 (drop (length bytes - 2) bytes)
 
 -- what holds of any five bytes holds of bytes that are five
 of_five : (P : List ℕ → Type 0) → ((d c c' k k' : ℕ) → P (d ∷ c ∷ c' ∷ k ∷ k' ∷ [])) → (bytes : List ℕ) → length bytes ≡ 5 → P bytes
@@ -87,14 +88,13 @@ of_five P five (x ∷ y ∷ z ∷ u ∷ []) h = absurd (omega arith)
 of_five P five (x ∷ y ∷ z ∷ u ∷ v ∷ w ∷ more) h = absurd (omega arith)
 
 one_at : (b : ℕ) (bytes : List ℕ) → length bytes ≡ 5 → FrameAt 1 (b ∷ bytes) (one_byte b bytes)
-one_at b = of_five (λ bytes. FrameAt 1 (b ∷ bytes) (one_byte b bytes)) (λ d c c' k k'. record { cmd_is = refl; conn_is = refl })
+one_at b = of_five (λ bytes. FrameAt 1 (b ∷ bytes) (one_byte b bytes)) (λ d c c' k k'. record { cmd_is = refl; conn_is = omega arith })
 
 pairs_at : (l b : ℕ) (bytes : List ℕ) → l % 2 ≡ 0 → length bytes ≡ 2 + 2 * l → FrameAt l (b ∷ bytes) (pairs b bytes)
 pairs_at l b bytes even h =
     let at : AtPlaces b (l / 2) bytes (pairs b bytes) = pairs_places b (l / 2) bytes (omega arith) in
     let low : length (b ∷ bytes) - 2 ≡ suc (4 * (l / 2)) = omega arith in
-    let high : length (b ∷ bytes) - 2 + 1 ≡ suc (4 * (l / 2) + 1) = omega arith in
-    record { cmd_is = at.cmd_is; conn_is = rw (high, low) at.conn_is }
+    record { cmd_is = at.cmd_is; conn_is = rw low at.conn_is }
 
 len_other : (l : ℕ) → l ≢ 1 → frame_len l ≡ 3 + 2 * l
 len_other l h = grind (arith, nat_tests)
@@ -114,15 +114,14 @@ frame_at l (b ∷ bytes) valid h =
     ]
 
 pub crc_other : (l : ℕ) (bytes : List ℕ) (k : ℕ) → IsTrue (is_length l) → l ≢ 1 → length bytes ≡ frame_len l → k < group_count l
-    → slice_index (frame_of l bytes).crcs k ≡ slice_index bytes (3 + 4 * k) + 256 * slice_index bytes (3 + 4 * k + 1)
+    → slice_index (frame_of l bytes).crcs k ≡ little_number 2 (drop (3 + 4 * k) bytes)
 crc_other l [] k valid other h lt = absurd (let e = len_other l other in omega arith)
 crc_other l (b ∷ bytes) k valid other h lt =
     let even : l % 2 ≡ 0 = (even_length l valid other).0 in
     let e : frame_len l ≡ 3 + 2 * l = len_other l other in
     let at : AtPlaces b (l / 2) bytes (pairs b bytes) = pairs_places b (l / 2) bytes (omega arith) in
     let low : 3 + 4 * k ≡ suc (4 * k + 2) = omega arith in
-    let high : 3 + 4 * k + 1 ≡ suc (4 * k + 3) = omega arith in
-    rw (frame_of_other l b bytes other, high, low) (at.crc_is k (count_other l k other lt))
+    rw (frame_of_other l b bytes other, low) (at.crc_is k (count_other l k other lt))
   where
     count_other : (l k : ℕ) → l ≢ 1 → k < group_count l → k < l / 2
     count_other l k other lt = grind (arith, nat_tests)
@@ -295,12 +294,12 @@ group_of l bytes f k valid right e lt =
     let count : length f.crcs ≡ group_count l = sym (ap (λ g. length g.crcs) e) ∙ (whole l bytes valid right).crcs in
     omega arith
 
-pub crc_within : (l : ℕ) (bytes : List ℕ) (f : Frame) (k : ℕ) → IsTrue (is_length l) → length bytes ≡ frame_len l → frame_of l bytes ≡ f → l ≢ 1 → k < length f.crcs → 3 + 4 * k + 1 < length bytes
+pub crc_within : (l : ℕ) (bytes : List ℕ) (f : Frame) (k : ℕ) → IsTrue (is_length l) → length bytes ≡ frame_len l → frame_of l bytes ≡ f → l ≢ 1 → k < length f.crcs → 3 + 4 * k + 2 ≤ length bytes
 crc_within l bytes f k valid right e other lt =
     omega (arith, group_of l bytes f k valid right e lt, frame_len_other l valid other, other_count l other)
 
 pub crc_at_pairs : (l : ℕ) (bytes : List ℕ) (f : Frame) (k : ℕ) → IsTrue (is_length l) → length bytes ≡ frame_len l → frame_of l bytes ≡ f → l ≢ 1 → k < length f.crcs
-    → slice_index bytes (3 + 4 * k) + 256 * slice_index bytes (3 + 4 * k + 1) ≡ slice_index f.crcs k
+    → little_number 2 (drop (3 + 4 * k) bytes) ≡ slice_index f.crcs k
 crc_at_pairs l bytes f k valid right e other lt = sym (crc_other l bytes k valid other right (group_of l bytes f k valid right e lt)) ∙ ap (λ g. slice_index g.crcs k) e
 
 -- the load of a frame is as long as a load can be, with a CRC for each group
@@ -320,22 +319,19 @@ pair_left load i h =
     ∙ ap (λ xs. get_or load (2 * i) 0 ∷ xs) (drop-cons load (2 * i + 1) 0 h ∙ ap (λ n. get_or load (2 * i + 1) 0 ∷ drop n load) more)
 
 -- one more pair is written, with its CRC
-pub writes_pair : (load crcs out new whole bytes : List ℕ) (i : ℕ) → 2 * i + 1 < length load → i < length crcs
+pub writes_pair : (load crcs out new whole : List ℕ) (i : ℕ) → 2 * i + 1 < length load → i < length crcs
     → out ++ with_crcs (groups (drop (2 * i) load)) (drop i crcs) ≡ whole
-    → get_or crcs i 0 < 65536
-    → bytes ≡ get_or crcs i 0 % 256 ∷ get_or crcs i 0 / 256 % 256 ∷ []
-    → new ≡ out ++ get_or load (2 * i) 0 ∷ get_or load (2 * i + 1) 0 ∷ get_or bytes 0 0 ∷ get_or bytes 1 0 ∷ []
+    → new ≡ (out ++ get_or load (2 * i) 0 ∷ get_or load (2 * i + 1) 0 ∷ []) ++ low_high (get_or crcs i 0)
     → new ++ with_crcs (groups (drop (2 * (i + 1)) load)) (drop (i + 1) crcs) ≡ whole
-writes_pair load crcs out new whole bytes i h k e fits b f =
+writes_pair load crcs out new whole i h k e f =
     let rest : List ℕ = with_crcs (groups (drop (2 * (i + 1)) load)) (drop (i + 1) crcs) in
-    let high : get_or crcs i 0 / 256 % 256 ≡ get_or crcs i 0 / 256 = omega arith in
     let d : ℕ = get_or load (2 * i) 0 in
     let d' : ℕ = get_or load (2 * i + 1) 0 in
     let crc : drop i crcs ≡ get_or crcs i 0 ∷ drop (i + 1) crcs = drop-cons crcs i 0 k ∙ ap (λ n. get_or crcs i 0 ∷ drop n crcs) (sym (add-one i)) in
     let here : with_crcs (groups (drop (2 * i) load)) (drop i crcs) ≡ d ∷ d' ∷ low_high (get_or crcs i 0) ++ rest =
     ap (λ xs. with_crcs (groups xs) (drop i crcs)) (pair_left load i h)
     ∙ ap (λ xs. with_crcs (groups (d ∷ d' ∷ drop (2 * (i + 1)) load)) xs) crc in
-    ap (λ xs. xs ++ rest) (f ∙ ap (λ xs. out ++ d ∷ d' ∷ get_or xs 0 0 ∷ get_or xs 1 0 ∷ []) (b ∙ ap (λ n. get_or crcs i 0 % 256 ∷ n ∷ []) high))
+    ap (λ xs. xs ++ rest) (f ∙ append_assoc out (d ∷ d' ∷ []) (low_high (get_or crcs i 0)))
     ∙ append_assoc out (d ∷ d' ∷ low_high (get_or crcs i 0)) rest
     ∙ sym (ap (λ xs. out ++ xs) here)
     ∙ e
@@ -351,21 +347,40 @@ put_taken at next out new piece post le end is =
     ∙ ap (take next) (sym (append_assoc (take at out) piece post))
     ∙ take_at (take at out ++ piece) post next (omega (arith, length-append (take at out) piece, length-take-le at out le))
 
+-- what `write_u16` puts in front of what stays
+written : (n : ℕ) (new rest : List ℕ) → new ≡ little_bytes 2 n ++ rest → n < 65536 → new ≡ low_high n ++ rest
+written n new rest e fits =
+    let high : n / 256 % 256 ≡ n / 256 = omega arith in
+    e ∙ ap (λ h. n % 256 ∷ h ∷ rest) high
+
+-- a number that is written over the last two bytes
+pub written_last : (n : ℕ) (new rest : List ℕ) → new ≡ little_bytes 2 n ++ rest → n < 65536 → length new ≤ 2 → new ≡ low_high n
+written_last n new [] e fits two = written n new [] e fits
+written_last n new (b ∷ rest) e fits two = absurd (let long = ap length e in omega arith)
+
+-- a number that is written after a front stands there
+pub number_taken : (at next n : ℕ) (out new rest post : List ℕ) → new ≡ little_bytes 2 n ++ rest → n < 65536 → at ≤ length out → next ≡ at + 2
+    → take next (take at out ++ (new ++ post)) ≡ take at out ++ low_high n
+number_taken at next n out new rest post e fits le end =
+    ap (λ xs. take next (take at out ++ (xs ++ post))) (written n new rest e fits)
+    ∙ put_taken at next out (low_high n) (low_high n) (rest ++ post) le end refl
+
 -- bytes over which as many are written
 pub refilled : (old new : List ℕ) → length old ≡ length new → refill (length old) old new ≡ new
 refilled old new same = take_at new (drop (length new) old) (length old) (sym same)
 
--- a group of one byte is written, with its CRC
-pub one_group : (load crcs bytes : List ℕ) → length load ≡ 1 → length crcs ≡ 1 → get_or crcs 0 0 < 65536
-    → bytes ≡ get_or crcs 0 0 % 256 ∷ get_or crcs 0 0 / 256 % 256 ∷ []
-    → get_or load 0 0 ∷ get_or bytes 0 0 ∷ get_or bytes 1 0 ∷ [] ≡ with_crcs (groups load) crcs
-one_group (d ∷ []) (c ∷ []) bytes h k fits b =
-    let high : c / 256 % 256 ≡ c / 256 = omega arith in
-    ap (λ xs. d ∷ get_or xs 0 0 ∷ get_or xs 1 0 ∷ []) b ∙ ap (λ n. d ∷ c % 256 ∷ n ∷ []) high
-one_group [] crcs bytes h k fits b = absurd (omega arith)
-one_group (d ∷ d' ∷ load) crcs bytes h k fits b = absurd (omega arith)
-one_group (d ∷ []) [] bytes h k fits b = absurd (omega arith)
-one_group (d ∷ []) (c ∷ c' ∷ crcs) bytes h k fits b = absurd (omega arith)
+-- a first byte, and what is written after it up to the end, are all
+pub after_first : (out last : List ℕ) (b : ℕ) → 0 < length out → put_mid 1 (length (slice_set out 0 b) - 1) (slice_set out 0 b) last ≡ b ∷ last
+after_first (x ∷ out) last b some = ap (λ xs. b ∷ (last ++ xs)) (drop_all (length (b ∷ out) - 1) out (omega arith)) ∙ ap (λ xs. b ∷ xs) (append-nil last)
+after_first [] last b some = absurd (omega arith)
+
+-- a group of one byte, with its CRC
+pub one_group : (load crcs : List ℕ) → length load ≡ 1 → length crcs ≡ 1 → get_or load 0 0 ∷ low_high (get_or crcs 0 0) ≡ with_crcs (groups load) crcs
+one_group (d ∷ []) (c ∷ []) h k = refl
+one_group [] crcs h k = absurd (omega arith)
+one_group (d ∷ d' ∷ load) crcs h k = absurd (omega arith)
+one_group (d ∷ []) [] h k = absurd (omega arith)
+one_group (d ∷ []) (c ∷ c' ∷ crcs) h k = absurd (omega arith)
 
 -- all groups are written
 pub all_written : (load crcs out whole : List ℕ) (i : ℕ) → IsTrue (is_length (length load)) → length load ≢ 1 → length crcs ≡ group_count (length load)
@@ -391,12 +406,6 @@ framed (b ∷ out) middle last cmd end k k' some e room =
     ∙ ap (λ xs. cmd ∷ (middle ++ (last ++ xs))) (drop_all k' rest long)
     ∙ ap (λ xs. cmd ∷ (middle ++ xs)) (append-nil last)
 framed [] middle last cmd end k k' some e room = absurd (omega arith)
-
--- the two bytes of a number of 16 bits
-pub two_bytes : (n : ℕ) (bytes : List ℕ) → n < 65536 → bytes ≡ n % 256 ∷ n / 256 % 256 ∷ [] → bytes ≡ low_high n
-two_bytes n bytes fits b =
-    let high : n / 256 % 256 ≡ n / 256 = omega arith in
-    b ∙ ap (λ h. n % 256 ∷ h ∷ []) high
 
 -- how many bytes the groups have with their CRCs
 pub group_bytes : (l n count : ℕ) → IsTrue (is_length l) → n ≡ frame_len l → count ≡ group_count l → n ≡ 3 + (l + 2 * count)

@@ -4,6 +4,7 @@ ghost use Rattle.std.specs.Prelude.{◌≡◌, ◌↔◌, ◌≤◌, ◌<◌, �
 ghost use Rattle.fsoe_base.specs.Lengths.{is_length, group_count, frame_len};
 ghost use Rattle.fsoe_frame.specs.Parts.{frame_of, bytes_of};
 
+use byteorder::{ByteOrder, LittleEndian};
 use fsoe_base::{Image, MOST_FRAME};
 use std::marker::Model;
 
@@ -62,14 +63,15 @@ impl<'a> FrameView<'a> {
     }
 
     /// The CRC of a group that exists.
+    #[tactic(auto, using(crate::proofs::Places::crc_within))]
     pub fn crc_at(&self, group: usize) -> u16
         requires { group < length self.now.crcs }
         ensures { result ≡ slice_index self.now.crcs group }
     {
         if self.l == 1 {
-            number(self.bytes, 2)
+            LittleEndian::read_u16(&self.bytes[2..])
         } else {
-            number(self.bytes, 3 + 4 * group)
+            LittleEndian::read_u16(&self.bytes[3 + 4 * group..])
         }
     }
 
@@ -77,7 +79,7 @@ impl<'a> FrameView<'a> {
     pub fn conn(&self) -> u16
         ensures { result ≡ self.now.conn }
     {
-        number(self.bytes, self.bytes.len() - 2)
+        LittleEndian::read_u16(&self.bytes[self.bytes.len() - 2..])
     }
 
     /// The bytes, at most 255.
@@ -103,12 +105,4 @@ fn read_load(bytes: &[u8], out: &mut [u8])
             out[2 * group..2 * group + 2].copy_from_slice(&pair);
         }
     }
-}
-
-/// The number of 16 bits at a place, low byte first.
-fn number(bytes: &[u8], at: usize) -> u16
-    requires { at + 1 < length bytes.now }
-    ensures { result ≡ slice_index bytes.now at + 256 * slice_index bytes.now (at + 1) }
-{
-    u16::from_le_bytes([bytes[at], bytes[at + 1]])
 }

@@ -5,6 +5,7 @@ ghost use Rattle.fsoe_base.specs.Command.{command_byte};
 ghost use Rattle.fsoe_base.specs.Lengths.{is_length, group_count, frame_len};
 ghost use Rattle.fsoe_frame.specs.Layout.{groups, layout, with_crcs};
 
+use byteorder::{ByteOrder, LittleEndian};
 use fsoe_base::{Command, FrameBuf, frame_len};
 
 /// Writes into `out` the frame of a command with this load of safe data, these CRCs and this connection
@@ -29,7 +30,7 @@ fn write_over(command: u8, load: &[u8], crcs: &[u16], conn: u16, out: &mut [u8])
     let end = out.len() - 2;
     out[0] = command;
     write_groups(load, crcs, &mut out[1..end]);
-    out[end..].copy_from_slice(&conn.to_le_bytes());
+    LittleEndian::write_u16(&mut out[end..], conn);
 }
 
 /// Writes each group followed by its CRC, low byte first, over bytes that are as many.
@@ -40,13 +41,14 @@ fn write_groups(load: &[u8], crcs: &[u16], out: &mut [u8])
     ensures { out.new ≡ with_crcs (groups load.now) crcs.now }
 {
     if load.len() == 1 {
-        let [low, high] = crcs[0].to_le_bytes();
-        out.copy_from_slice(&[load[0], low, high]);
+        out[0] = load[0];
+        LittleEndian::write_u16(&mut out[1..], crcs[0]);
         return;
     }
     for group in 0..crcs.len() {
-        let [low, high] = crcs[group].to_le_bytes();
-        let bytes = [load[2 * group], load[2 * group + 1], low, high];
-        out[4 * group..4 * group + 4].copy_from_slice(&bytes);
+        let at = 4 * group;
+        let pair = [load[2 * group], load[2 * group + 1]];
+        out[at..at + 2].copy_from_slice(&pair);
+        LittleEndian::write_u16(&mut out[at + 2..], crcs[group]);
     }
 }
