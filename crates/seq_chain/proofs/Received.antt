@@ -1,7 +1,9 @@
 -- What is read from bytes is within the widths of a frame's parts.
-use Rattle.std.proofs.Common.{◌≡◌, ◌≢◌, ℕ, zero, suc, ◌+◌, ◌-◌, ◌*◌, ◌/◌, ◌%◌, ◌<◌, List, [], ◌∷◌, length, slice_index, IsTrue, inl, inr, ap, arith}
+use Rattle.std.proofs.Common.{◌≡◌, ◌≢◌, ℕ, zero, suc, ◌+◌, ◌-◌, ◌*◌, ◌/◌, ◌%◌, ◌<◌, List, [], ◌∷◌, length, drop, slice_index, IsTrue, inl, inr, ap, arith}
 use Rattle.std.proofs.lemmas.Bool.{cases_eq}
 use Rattle.std.proofs.lemmas.Bool.Decides.{nat_tests}
+use Rattle.std.proofs.lemmas.List.{get_or-drop}
+use Rattle.byteorder.specs.Numbers.{little_from-lt}
 use Rattle.fsoe_base.specs.Lengths.{is_length, frame_len}
 use Rattle.fsoe_frame.specs.Parts.{AreBytes, one_byte, pairs, frame_of}
 use Rattle.fsoe_frame.proofs.Places.{FrameAt, frame_at, frame_len_other, whole}
@@ -15,10 +17,9 @@ received_command l bytes valid right h =
 
 pub received_connection : (l : ℕ) (bytes : List ℕ) → IsTrue (is_length l) → length bytes ≡ frame_len l → AreBytes bytes → (frame_of l bytes).conn < 65536
 received_connection l bytes valid right h =
-    let at : FrameAt l bytes (frame_of l bytes) = frame_at l bytes valid right in
-    let low = h (length bytes - 2) in
-    let high = h (length bytes - 2 + 1) in
-    let e = at.conn_is in
+    let end : ℕ = length bytes - 2 in
+    let fits = little_from-lt 0 2 (drop end bytes) (λ k. rw (get_or-drop end bytes k 0) (h (end + k))) in
+    let e = (frame_at l bytes valid right).conn_is in
     omega arith
 
 one_load : (cmd : ℕ) (bytes : List ℕ) → length bytes ≡ 5 → AreBytes bytes → AreBytes (one_byte cmd bytes).load

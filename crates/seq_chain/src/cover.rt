@@ -7,6 +7,7 @@ ghost use Rattle.fsoe_base.specs.Bytes.{low_high};
 ghost use Rattle.seq_chain.specs.Cover.{common, place, covered, crcs};
 
 use arrayvec::ArrayVec;
+use byteorder::{ByteOrder, LittleEndian};
 use fsoe_crc::Register;
 
 /// The CRCs of a frame, one for each group.
@@ -115,6 +116,7 @@ fn pair_and_zeros(first: u8, second: u8) -> u16
 fn feed_number(register: &mut Register, n: u16)
     ensures { (fed : List ℕ) → register.old ≡ rem fed → register.new ≡ rem (fed ++ low_high n) }
 {
-    let [low, high] = n.to_le_bytes();
-    register.feed_pair(low, high);
+    let mut bytes = [0; 2];
+    LittleEndian::write_u16(&mut bytes, n);
+    register.feed_pair(bytes[0], bytes[1]);
 }
