@@ -2,6 +2,7 @@
 ghost use Rattle.std.specs.Prelude.{◌≡◌, ◌<◌, ◌+◌, length, drop};
 ghost use Rattle.param_load.specs.Payload.{number_at};
 
+use byteorder::{ByteOrder, LittleEndian};
 use fsoe_base::ByteList;
 
 /// The first bytes of each frame of an upload, joined: at most a byte less than the longest payload, and one
@@ -21,5 +22,5 @@ pub(crate) fn number_at(bytes: &[u8], place: usize) -> u16
     requires { place + 1 < length bytes.now }
     ensures { result ≡ number_at place bytes.now }
 {
-    u16::from_le_bytes([bytes[place], bytes[place + 1]])
+    LittleEndian::read_u16(&bytes[place..])
 }

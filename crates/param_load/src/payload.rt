@@ -7,6 +7,7 @@ ghost use Rattle.param_load.specs.Payload.{session_payload, connection_payload, 
 use crate::app_rule::AppBytes;
 use crate::joined::past;
 use crate::profile::Profile;
+use byteorder::{ByteOrder, LittleEndian};
 use fsoe_base::{ByteList, Image, MOST_DATA};
 use std::marker::Model;
 
@@ -46,8 +47,9 @@ impl Payload {
         requires { length self.old + 2 ≤ 520 }
         ensures { self.new ≡ self.old ++ low_high n }
     {
-        let [low, high] = n.to_le_bytes();
-        self.add(&[low, high]);
+        let mut bytes = [0; 2];
+        LittleEndian::write_u16(&mut bytes, n);
+        self.add(&bytes);
     }
 
     /// A session id, in 2 bytes in profile One and in 4 in profile Two, low byte first. In profile One it is at
@@ -58,8 +60,12 @@ impl Payload {
     {
         let mut payload = Payload::new();
         match profile {
-            Profile::One => payload.add(&(id as u16).to_le_bytes()),
-            Profile::Two(_) => payload.add(&id.to_le_bytes()),
+            Profile::One => payload.add_number(id as u16),
+            Profile::Two(_) => {
+                let mut bytes = [0; 4];
+                LittleEndian::write_u32(&mut bytes, id);
+                payload.add(&bytes);
+            }
         }
         payload
     }

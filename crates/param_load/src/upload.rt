@@ -4,6 +4,7 @@ use crate::contents::Expected;
 use crate::joined::{Joined, number_at, past};
 use crate::payload::padded;
 use crate::profile::Profile;
+use byteorder::{ByteOrder, LittleEndian};
 use fsoe_base::{Code, Image, MOST_DATA};
 use std::marker::Model;
 
@@ -150,11 +151,10 @@ impl Upload {
         requires session { IsTrue (is_session self.now.expected) }
         ensures { result ≡ id_of self.now.expected self.now.joined }
     {
-        let low = u32::from(number_at(self.joined.bytes(), 0));
+        let bytes = self.joined.bytes();
         match &self.expected {
-            Expected::Session(Profile::Two(_)) => low
-                + 65_536 * u32::from(number_at(self.joined.bytes(), 2)),
-            _ => low,
+            Expected::Session(Profile::Two(_)) => LittleEndian::read_u32(bytes),
+            _ => u32::from(LittleEndian::read_u16(bytes)),
         }
     }
 
