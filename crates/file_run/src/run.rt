@@ -4,6 +4,7 @@ ghost use Rattle.fsoe_io.specs.Line.{IsLine};
 ghost use Rattle.file_run.specs.Ending.{Writes};
 ghost use Rattle.file_run.specs.Left.{Leaves};
 ghost use Rattle.file_run.specs.NextLine.{from_line};
+ghost use Rattle.file_run.specs.Outside.{Outside};
 ghost use Rattle.file_run.specs.Ran.{RanOver};
 ghost use Rattle.file_run.specs.Reporting.{TakesMemory};
 ghost use Rattle.file_run.specs.Stop.{halted_by, last_of};
@@ -40,14 +41,12 @@ pub(crate) fn run_on<M: Machine, S: Source, K: Sink>(
 ) -> Ended
     requires line { IsLine reader.old.line }
     requires lines { reader.old.lines ≡ 1 }
-    ensures ran { RanOver (M.reporting handed.old) result (record {
+    ensures { let outside : Outside = record {
       source = record { before = from_line reader.old (S.left source.old); after = S.left source.new; faults_before = S.faults source.old; faults_after = S.faults source.new };
       sink = record { before = K.written sink.old; after = K.written sink.new; faults_before = K.faults sink.old; faults_after = K.faults sink.new };
-    }) }
-    ensures leaves { Leaves (handed.new ≡ handed.old) (TakesMemory (M.reporting handed.old).memory) (M.reporting handed.old).format (λ h log text. (v : M) × M.stands handed.old v handed.new h log text) (M.closes handed.old handed.new) result (record {
-      source = record { before = from_line reader.old (S.left source.old); after = S.left source.new; faults_before = S.faults source.old; faults_after = S.faults source.new };
-      sink = record { before = K.written sink.old; after = K.written sink.new; faults_before = K.faults sink.old; faults_after = K.faults sink.new };
-    }) }
+    } in
+        RanOver (M.reporting handed.old) result outside
+        × Leaves (handed.new ≡ handed.old) (TakesMemory (M.reporting handed.old).memory) (M.reporting handed.old).format (λ h log text. (v : M) × M.stands handed.old v handed.new h log text) (M.closes handed.old handed.new) result outside }
 {
     M::laws();
     let mut output = Output::new();

@@ -10,7 +10,7 @@ returns-then-eq-clause-ran g c =
     let line = rw (nothing_held _ (g.S.Source.left c.args.source.now) c.new-reader.ensures.bytes) at c.in-Ok.ensures.finds in
     is_titled c.args.title.now c.next_line.new.reader.line (g.S.Source.left c.args.source.now) _ _ _ line.0 line.1 (sym c.line.ensures ∙ same_text c.line.result.now c.args.title.now c.if-eq.ensures)
     (ran_told (g.T.Machine.reporting c.args.titled.now) c.run_on.result _ (g.S.Source.left c.args.source.now) (g.S.Source.faults c.args.source.now)
-    (told_from c.next_line.new.reader (g.S.Source.left c.args.source.now) (g.S.Source.left c.next_line.new.source) line.1) c.next_line.ensures.later c.run_on.ensures.ran)
+    (told_from c.next_line.new.reader (g.S.Source.left c.args.source.now) (g.S.Source.left c.next_line.new.source) line.1) c.next_line.ensures.later c.run_on.ensures.0)
 
 pub returns-then-eq-clause-leaves : goal.returns-then-eq-clause-leaves
 returns-then-eq-clause-leaves g c =
@@ -18,7 +18,7 @@ returns-then-eq-clause-leaves g c =
     is_titled c.args.title.now c.next_line.new.reader.line (g.S.Source.left c.args.source.now) _ _ _ line.0 line.1 (sym c.line.ensures ∙ same_text c.line.result.now c.args.title.now c.if-eq.ensures) (
       refl,
       leaves_told _ _ (g.T.Machine.reporting c.args.titled.now).format _ _ c.run_on.result _ (g.S.Source.left c.args.source.now) (g.S.Source.faults c.args.source.now)
-          (told_from c.next_line.new.reader (g.S.Source.left c.args.source.now) (g.S.Source.left c.next_line.new.source) line.1) c.run_on.ensures.leaves,
+          (told_from c.next_line.new.reader (g.S.Source.left c.args.source.now) (g.S.Source.left c.next_line.new.source) line.1) c.run_on.ensures.1,
     )
 
 pub returns-else-eq-clause-ran : goal.returns-else-eq-clause-ran
@@ -26,7 +26,7 @@ returns-else-eq-clause-ran g c =
     let line = rw (nothing_held _ (g.S.Source.left c.args.source.now) c.new-reader.ensures.bytes) at c.in-Ok.ensures.finds in
     is_plain c.args.title.now c.next_line.new.reader.line (g.S.Source.left c.args.source.now) _ _ _ line.0 line.1 (λ same. other_text c.line.result.now c.args.title.now c.if-eq.ensures (c.line.ensures ∙ same))
     (ran_told (g.M.Machine.reporting c.args.plain.now) c.run_on-else-eq.result _ (g.S.Source.left c.args.source.now) (g.S.Source.faults c.args.source.now)
-    (told_from c.next_line.new.reader (g.S.Source.left c.args.source.now) (g.S.Source.left c.next_line.new.source) line.1) c.next_line.ensures.later c.run_on-else-eq.ensures.ran)
+    (told_from c.next_line.new.reader (g.S.Source.left c.args.source.now) (g.S.Source.left c.next_line.new.source) line.1) c.next_line.ensures.later c.run_on-else-eq.ensures.0)
 
 pub returns-else-eq-clause-leaves : goal.returns-else-eq-clause-leaves
 returns-else-eq-clause-leaves g c =
@@ -34,7 +34,7 @@ returns-else-eq-clause-leaves g c =
     is_plain c.args.title.now c.next_line.new.reader.line (g.S.Source.left c.args.source.now) _ _ _ line.0 line.1 (λ same. other_text c.line.result.now c.args.title.now c.if-eq.ensures (c.line.ensures ∙ same)) (
       refl,
       leaves_told _ _ (g.M.Machine.reporting c.args.plain.now).format _ _ c.run_on-else-eq.result _ (g.S.Source.left c.args.source.now) (g.S.Source.faults c.args.source.now)
-          (told_from c.next_line.new.reader (g.S.Source.left c.args.source.now) (g.S.Source.left c.next_line.new.source) line.1) c.run_on-else-eq.ensures.leaves,
+          (told_from c.next_line.new.reader (g.S.Source.left c.args.source.now) (g.S.Source.left c.next_line.new.source) line.1) c.run_on-else-eq.ensures.1,
     )
 
 pub returns-in-Err-clause-ran : goal.returns-in-Err-clause-ran

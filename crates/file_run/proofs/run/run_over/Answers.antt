@@ -7,13 +7,13 @@ pub returns-in-Ok-clause-ran : goal.returns-in-Ok-clause-ran
 returns-in-Ok-clause-ran g c =
     let line = rw (nothing_held _ (g.S.Source.left c.args.source.now) c.new-reader.ensures.bytes) at c.in-Ok.ensures.finds in
     ran_told (g.M.Machine.reporting c.args.handed.now) c.run_on.result _ (g.S.Source.left c.args.source.now) (g.S.Source.faults c.args.source.now)
-    (told_from c.next_line.new.reader (g.S.Source.left c.args.source.now) (g.S.Source.left c.next_line.new.source) line.1) c.next_line.ensures.later c.run_on.ensures.ran
+    (told_from c.next_line.new.reader (g.S.Source.left c.args.source.now) (g.S.Source.left c.next_line.new.source) line.1) c.next_line.ensures.later c.run_on.ensures.0
 
 pub returns-in-Ok-clause-leaves : goal.returns-in-Ok-clause-leaves
 returns-in-Ok-clause-leaves g c =
     let line = rw (nothing_held _ (g.S.Source.left c.args.source.now) c.new-reader.ensures.bytes) at c.in-Ok.ensures.finds in
     leaves_told _ _ (g.M.Machine.reporting c.args.handed.now).format _ _ c.run_on.result _ (g.S.Source.left c.args.source.now) (g.S.Source.faults c.args.source.now)
-    (told_from c.next_line.new.reader (g.S.Source.left c.args.source.now) (g.S.Source.left c.next_line.new.source) line.1) c.run_on.ensures.leaves
+    (told_from c.next_line.new.reader (g.S.Source.left c.args.source.now) (g.S.Source.left c.next_line.new.source) line.1) c.run_on.ensures.1
 
 pub returns-in-Err-clause-ran : goal.returns-in-Err-clause-ran
 returns-in-Err-clause-ran g c =
