@@ -92,7 +92,7 @@ begins-sent ms e bytes h =
 -- in state Reset the Reset frame with code 0 begins a session, another one is dropped
 by-code : (ms : MasterSettings) (e : List Deed) (bytes : List ℕ) (b : Bool) → state_of (OfMaster ms) e ≡ state.Reset → notes_of ms e ≡ no_notes ms → Arrived ms bytes → Sound ms e
     → Agrees ms e (move.Deliver bytes) (if b then takes_frame command.Reset (came ms bytes).load else dropped why.InReset)
-    (answered_by (if b then makes_due (view_in state.Reset ms e) (phase.Begin (bytes_of (came ms bytes))) (accepts command.Reset (came ms bytes).load false) else drops (view_in state.Reset ms e) why.InReset))
+    (answered_by (if b then makes_due (view_in state.Reset ms e) (phase.Begin (bytes_of (came ms bytes))) (code 0) (accepts command.Reset (came ms bytes).load false) else drops (view_in state.Reset ms e) why.InReset))
 by-code ms e bytes true at h a s = takes-agree ms e bytes command.Reset (begun_outcome ms e bytes) (begins-after ms e bytes h a s) refl (begins-sent ms e bytes h)
 by-code ms e bytes false at h a s = drop-agrees state.Reset ms e bytes why.InReset at s
 

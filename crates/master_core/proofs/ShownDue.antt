@@ -1,5 +1,5 @@
 -- What a master shows while a frame is due is what it shows after the reply.
-use Rattle.std.proofs.Common.{◌≡◌, ℕ, List, Bool, true, false, Option, IsTrue, refl, sym, ap, ◌∙◌}
+use Rattle.std.proofs.Common.{◌≡◌, ℕ, List, Bool, Option, Some, None, IsTrue, refl, sym, ap, ◌∙◌}
 use Rattle.fsoe_base.specs.declared.command.State.{State}
 use Rattle.param_load.specs.declared.master_settings.MasterSettings.{MasterSettings}
 use Rattle.param_load.specs.declared.terms.Terms.{Terms}
@@ -9,6 +9,7 @@ use Rattle.end_model.specs.Outputs.{out}
 use Rattle.end_model.specs.Readiness.{state_of, age, told_terms, offer, held}
 use Rattle.master_core.specs.declared.phase.Phase.{Phase}
 use Rattle.master_core.specs.declared.phase.Phase.TheVariants as phase
+use Rattle.master_core.specs.declared.states.Due.{Due}
 use Rattle.master_core.specs.Kit.{KitView}
 use Rattle.master_core.specs.Master.{replies}
 use Rattle.master_core.specs.MasterView.{MasterView}
@@ -32,12 +33,12 @@ abbrev ShowAlike : MasterSettings → Phase → Phase → Type 0
 ShowAlike settings x y = (machine.state_of x ≡ machine.state_of y) × (machine.terms_in x ≡ machine.terms_in y) × (machine.outputs_in settings x ≡ machine.outputs_in settings y)
 
 sent-alike : (kit : KitView) (p : Phase) → ShowAlike kit.settings (machine.sent_phase kit p) p
-sent-alike kit (phase.Reset x) = (refl, refl, refl)
+sent-alike kit (phase.Reset s) = (refl, refl, refl)
 sent-alike kit _ = (refl, refl, refl)
 
-replied-alike : (kit : KitView) (p : Phase) (due : Bool) → ShowAlike kit.settings (replied kit (record { phase = p; due = due })).phase p
-replied-alike kit p true = sent-alike kit p
-replied-alike kit p false = (refl, refl, refl)
+replied-alike : (kit : KitView) (p : Phase) (due : Option Due) → ShowAlike kit.settings (replied kit (record { phase = p; due = due })).phase p
+replied-alike kit p (Some due) = sent-alike kit p
+replied-alike kit p None = (refl, refl, refl)
 
 -- the readers
 pub state_due : (v : MasterView) (shown : State) → shown ≡ machine.state_of v.state.phase → ShowsDue v shown state_of

@@ -1,7 +1,8 @@
 -- A frame that is taken in place: the master goes on to where it settles the frame.
-use Rattle.std.proofs.Common.{◌≡◌, true, false, Result, Ok, Err, sym, ap, ◌∙◌}
+use Rattle.std.proofs.Common.{◌≡◌, true, false, Some, Result, Ok, Err, sym, ap, ◌∙◌}
 use Rattle.fsoe_base.specs.declared.command.Code.{Code}
 use Rattle.fsoe_base.specs.declared.did.Cause.TheVariants as cause
+use Rattle.fsoe_base.specs.Codes.{local_reset}
 use Rattle.fsoe_base.specs.Did.{takes}
 use Rattle.failsafe_io.specs.Timer.{started}
 use Rattle.seq_chain.specs.SessionFrame.{SessionFrameView}
@@ -18,14 +19,14 @@ use Rattle.master_core.specs.States.{answered, with_download, first_data, sessio
 
 -- a frame that is taken, with this phase after it
 abbrev taken : MasterView → SessionFrameView → Phase → Accepted
-taken v f p = makes_due v p (takes f.command f.frame.load true)
+taken v f p = makes_due v p local_reset (takes f.command f.frame.load true)
 
 settled : (v : MasterView) (f : SessionFrameView) (p : Phase) (r : Result Phase Code) → Ok p ≡ r → taken v f p ≡ settles v f r
 settled v f p r h = ap (λ (r : Result Phase Code). settles v f r) h
 
 -- a master with another phase, whose frame is due
 abbrev owing : MasterView → Phase → MasterView
-owing v p = record v { state = record { phase = p; due = true }; timer = started v.kit.settings.watchdog }
+owing v p = record v { state = record { phase = p; due = Some (record { code = local_reset }) }; timer = started v.kit.settings.watchdog }
 
 pub master_taken : (v : MasterView) (f : SessionFrameView) (p : Phase) (r : Result Phase Code) → Ok p ≡ r → owing v p ≡ (settles v f r).master
 master_taken v f p r h = ap (λ (a : Accepted). a.master) (settled v f p r h)

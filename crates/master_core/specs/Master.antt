@@ -26,6 +26,7 @@ use Rattle.master_core.specs.Kit.{first_kit}
 use Rattle.master_core.specs.Now.{at_rest, is_due, replied, reply}
 use Rattle.master_core.specs.Phase.{is_reset, kept_in, fault, next_phase}
 use Rattle.master_core.specs.MasterView.{MasterView}
+use Rattle.master_core.specs.States.{no_session}
 
 -- what a frame that is accepted leaves and does
 pub record Accepted : Type 0 where
@@ -40,19 +41,19 @@ pub record Outcome : Type 0 where
 
 -- a new master: its first tick reaches the limit
 abbrev pub first_master : MasterSettings → MasterView
-first_master settings = record { kit = first_kit settings; state = at_rest (phase.Reset local_reset); timer = record { limit = settings.watchdog; age = settings.watchdog - 1 } }
+first_master settings = record { kit = first_kit settings; state = at_rest (phase.Reset no_session); timer = record { limit = settings.watchdog; age = settings.watchdog - 1 } }
 
 -- a frame is dropped that didn't pass the test of the CRCs
 abbrev pub drops : MasterView → Dropped → Accepted
 drops v why = record { master = v; did = did.dropped why }
 
--- a step after which the frame of this phase is due: none was sent yet
-abbrev pub makes_due : MasterView → Phase → Did → Accepted
-makes_due v p done = record { master = record v { state = record { phase = p; due = true }; timer = started v.kit.settings.watchdog }; did = record done { sent = false } }
+-- a step after which the frame of this phase is due, a Reset frame with this code: none was sent yet
+abbrev pub makes_due : MasterView → Phase → Code → Did → Accepted
+makes_due v p x done = record { master = record v { state = record { phase = p; due = Some (record { code = x }) }; timer = started v.kit.settings.watchdog }; did = record done { sent = false } }
 
 -- a session ends, and a Reset frame with the code is due
 abbrev pub ends : MasterView → Bool → Cause → Code → Accepted
-ends v passed why x = makes_due v (phase.Reset x) (resets passed why)
+ends v passed why x = makes_due v (phase.Reset no_session) x (resets passed why)
 
 -- a test fails: in state Reset the frame is dropped, and else the session ends
 abbrev pub refuses : MasterView → Code → Accepted
@@ -60,7 +61,7 @@ refuses v x = if is_reset v.state.phase then drops v dropped.InReset else ends v
 
 -- in state Reset the Reset frame with code 0 begins a session, and one with another code is dropped
 abbrev pub begins : MasterView → Code → Frame → Accepted
-begins v x f = if x.0 == 0 then makes_due v (phase.Begin (bytes_of f)) (takes command.Reset f.load false) else drops v dropped.InReset
+begins v x f = if x.0 == 0 then makes_due v (phase.Begin (bytes_of f)) local_reset (takes command.Reset f.load false) else drops v dropped.InReset
 
 -- a valid Reset frame: outside state Reset the session ends
 abbrev pub on_reset_view : MasterView → Code → Frame → Accepted
@@ -68,7 +69,7 @@ on_reset_view v x f = if is_reset v.state.phase then begins v x f else ends v fa
 
 -- a frame that passed the tests, by its contents
 abbrev pub settles : MasterView → SessionFrameView → Result Phase Code → Accepted
-settles v f (Ok p) = makes_due v p (takes f.command f.frame.load true)
+settles v f (Ok p) = makes_due v p local_reset (takes f.command f.frame.load true)
 settles v f (Err x) = ends v true (cause.Found x) x
 
 -- a frame of a session

@@ -5,7 +5,7 @@ use Rattle.fsoe_base.specs.declared.command.Command.{Command}
 use Rattle.fsoe_base.specs.declared.command.Command.TheVariants as command
 use Rattle.fsoe_base.specs.declared.command.State.{State}
 use Rattle.fsoe_base.specs.declared.command.State.TheVariants as state
-use Rattle.fsoe_base.specs.Codes.{command_not_allowed, local_reset}
+use Rattle.fsoe_base.specs.Codes.{command_not_allowed}
 use Rattle.seq_chain.specs.declared.chain.Chain.{Chain}
 use Rattle.seq_chain.specs.declared.session.Session.{Session}
 use Rattle.seq_chain.specs.Chain.{fits_next}
@@ -19,6 +19,7 @@ use Rattle.end_model.specs.Readiness.{master_allows}
 use Rattle.end_model.specs.Verdict.{has_conn}
 use Rattle.master_core.specs.declared.phase.Phase.{Phase}
 use Rattle.master_core.specs.declared.phase.Phase.TheVariants as phase
+use Rattle.master_core.specs.declared.states.Due.{Due}
 use Rattle.master_core.specs.Kit.{KitView}
 use Rattle.master_core.specs.States.{first_exchange, piece_sent, piece_frame, session_next, connection_next, parameter_next, data_next, data_sent, data_frame}
 use Rattle.master_core.specs.Views.{ExchangeUnder, DataUnder}
@@ -53,12 +54,12 @@ IsParameter _ = ⊥
 
 -- whether there is no session
 abbrev pub is_reset : Phase → Bool
-is_reset (phase.Reset x) = true
+is_reset (phase.Reset s) = true
 is_reset _ = false
 
 -- the state: that of the frame that was sent last, or of the one that is due
 abbrev pub state_of : Phase → State
-state_of (phase.Reset x) = state.Reset
+state_of (phase.Reset s) = state.Reset
 state_of (phase.Begin last) = state.Session
 state_of (phase.Session s) = state.Session
 state_of (phase.Connection s) = state.Connection
@@ -106,7 +107,7 @@ placed (Err x) p = Err x
 
 -- the phase after the frame that is due was sent
 abbrev pub sent_phase : KitView → Phase → Phase
-sent_phase kit (phase.Reset x) = phase.Reset local_reset
+sent_phase kit (phase.Reset s) = phase.Reset s
 sent_phase kit (phase.Begin last) = phase.Session (piece_sent command.Session 0 kit (first_exchange kit last))
 sent_phase kit (phase.Session s) = phase.Session (piece_sent command.Session 0 kit s)
 sent_phase kit (phase.Connection s) = phase.Connection (piece_sent command.Connection kit.settings.conn kit s)
@@ -114,13 +115,13 @@ sent_phase kit (phase.Parameter s) = phase.Parameter (piece_sent command.Paramet
 sent_phase kit (phase.Data s) = phase.Data (data_sent kit s)
 
 -- the frame that is due, with the kit of the moment when it is sent
-abbrev pub due_frame : KitView → Phase → List ℕ
-due_frame kit (phase.Reset x) = reset_frame x.0 (sends (OfMaster kit.settings))
-due_frame kit (phase.Begin last) = piece_frame command.Session 0 kit (first_exchange kit last)
-due_frame kit (phase.Session s) = piece_frame command.Session 0 kit s
-due_frame kit (phase.Connection s) = piece_frame command.Connection kit.settings.conn kit s
-due_frame kit (phase.Parameter s) = piece_frame command.Parameter kit.settings.conn kit s
-due_frame kit (phase.Data s) = data_frame kit s
+abbrev pub due_frame : Due → KitView → Phase → List ℕ
+due_frame due kit (phase.Reset s) = reset_frame due.code.0 (sends (OfMaster kit.settings))
+due_frame due kit (phase.Begin last) = piece_frame command.Session 0 kit (first_exchange kit last)
+due_frame due kit (phase.Session s) = piece_frame command.Session 0 kit s
+due_frame due kit (phase.Connection s) = piece_frame command.Connection kit.settings.conn kit s
+due_frame due kit (phase.Parameter s) = piece_frame command.Parameter kit.settings.conn kit s
+due_frame due kit (phase.Data s) = data_frame kit s
 
 -- the outputs: zeros in every state but Data
 abbrev pub outputs_in : MasterSettings → Phase → List ℕ

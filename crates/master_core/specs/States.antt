@@ -18,9 +18,14 @@ use Rattle.failsafe_io.specs.Outputs.{outputs_of}
 use Rattle.end_model.specs.Setup.{OfMaster, sends, receives}
 use Rattle.master_core.specs.declared.states.Exchange.{Exchange}
 use Rattle.master_core.specs.declared.states.InData.{InData}
+use Rattle.master_core.specs.declared.states.InReset.{InReset}
 use Rattle.master_core.specs.declared.phase.Phase.{Phase}
 use Rattle.master_core.specs.declared.phase.Phase.TheVariants as phase
 use Rattle.master_core.specs.Kit.{KitView, session_download, connection_download, parameter_download}
+
+-- state Reset, which has nothing of a session
+abbrev pub no_session : InReset
+no_session = record { 0 = tt }
 
 -- the safe data of the frame with the piece in turn
 abbrev pub piece_load : KitView → Exchange → List ℕ

@@ -2,7 +2,6 @@
 use Rattle.std.specs.Prelude.{ℕ, ◌-◌, ◌*◌, Bool, true, false, List, [], Option, unwrap_or}
 use Rattle.fsoe_base.specs.declared.command.State.{State}
 use Rattle.fsoe_base.specs.declared.command.State.TheVariants as state
-use Rattle.fsoe_base.specs.Codes.{local_reset}
 use Rattle.seq_chain.specs.declared.chain.Chain.{Chain}
 use Rattle.seq_chain.specs.declared.session.Session.{Session}
 use Rattle.param_load.specs.declared.master_settings.MasterSettings.{MasterSettings}
@@ -18,6 +17,7 @@ use Rattle.master_core.specs.declared.states.Exchange.{Exchange}
 use Rattle.master_core.specs.Kit.{KitView}
 use Rattle.master_core.specs.MasterView.{MasterView}
 use Rattle.master_core.specs.Now.{at_rest}
+use Rattle.master_core.specs.States.{no_session}
 
 -- the offer, the hold and the nonce outlast sessions
 abbrev pub kit_of : MasterSettings → List Deed → KitView
@@ -58,7 +58,7 @@ exchange_of ms n payload echo count = record {
 
 -- the phase in each state, by what is noted
 abbrev pub phase_in : State → MasterSettings → Notes → Phase
-phase_in state.Reset ms n = phase.Reset local_reset
+phase_in state.Reset ms n = phase.Reset no_session
 phase_in state.Session ms n = phase.Session (exchange_of ms n (pay ms (unwrap_or n.id 0) state.Session) false n.session)
 phase_in state.Connection ms n = phase.Connection (exchange_of ms n (pay ms 0 state.Connection) true n.connection)
 phase_in state.Parameter ms n = phase.Parameter (exchange_of ms n (pay ms 0 state.Parameter) true n.parameter)

@@ -6,7 +6,7 @@ ghost use Rattle.fsoe_frame.specs.Parts.{bytes_of};
 
 use crate::kit::Kit;
 use crate::phase::Phase;
-use crate::states::InReset;
+use crate::states::{Due, InReset};
 use failsafe_io::Watchdog;
 use fsoe_base::{Cause, Code, Command, Did, Dropped, FrameBuf, Image, MOST_DATA, State, Took};
 use fsoe_frame::FrameView;
@@ -20,8 +20,8 @@ use std::marker::Model;
 pub struct Master {
     kit: Kit,
     phase: Phase,
-    /// Whether the frame of the phase is still to be sent.
-    due: bool,
+    /// The frame of the phase, while it is still to be sent.
+    due: Option<Due>,
     watchdog: Watchdog,
 }
 
@@ -67,7 +67,7 @@ impl Model for Master {
 }
 
 impl Master {
-    ghost use Rattle.std.specs.Prelude.{◌≤◌, ◌||◌, ℕ, List, true, IsTrue, OnOk, IfErr, is_some, length, [], option_copied};
+    ghost use Rattle.std.specs.Prelude.{◌≤◌, ◌||◌, ℕ, List, Some, true, IsTrue, OnOk, IfErr, is_some, length, [], option_copied};
     ghost use Rattle.fsoe_base.specs.declared.did.Cause.TheVariants as cause;
     ghost use Rattle.param_load.specs.Profile.{allows_id};
     ghost use Rattle.failsafe_io.specs.Timer.{started};
@@ -93,17 +93,17 @@ impl Master {
         let limit = settings.watchdog();
         Master {
             kit: Kit::new(settings),
-            phase: Phase::Reset(InReset::new(Code::LOCAL_RESET)),
-            due: false,
+            phase: Phase::Reset(InReset(())),
+            due: None,
             watchdog: Watchdog::new(limit, limit - 1),
         }
     }
 
-    /// The frame of the phase is due from now on. The age is 0.
-    fn owe(&mut self)
-        ensures { self.new ≡ record self.old { state = record self.old.state { due = true }; timer = started self.old.kit.settings.watchdog } }
+    /// The frame of the phase is due from now on, a Reset frame with this code. The age is 0.
+    fn owe(&mut self, code: Code)
+        ensures { self.new ≡ record self.old { state = record self.old.state { due = Some (record { code = code }) }; timer = started self.old.kit.settings.watchdog } }
     {
-        self.due = true;
+        self.due = Some(Due { code });
         let limit = self.kit.settings().watchdog();
         self.watchdog.restart(limit);
     }
@@ -115,8 +115,8 @@ impl Master {
         ensures master { self.new ≡ (ends self.old passed why code).master }
         ensures did { did.new ≡ (ends self.old passed why code).did }
     {
-        self.phase = Phase::Reset(InReset::new(code));
-        self.owe();
+        self.phase = Phase::Reset(InReset(()));
+        self.owe(code);
         *did = Did {
             sent: false,
             ..Did::reset(passed, why)
@@ -158,7 +158,7 @@ impl Master {
             return;
         }
         self.phase = Phase::Begin(kept(view));
-        self.owe();
+        self.owe(Code::LOCAL_RESET);
         tell_reset(view, did);
     }
 
@@ -173,7 +173,7 @@ impl Master {
         ensures kit { self.new.kit ≡ self.old.kit }
     {
         self.phase.take(seen, link, &self.kit)?;
-        self.owe();
+        self.owe(Code::LOCAL_RESET);
         Ok(())
     }
 
@@ -249,7 +249,7 @@ impl Master {
     pub fn due(&self) -> bool
         ensures { result ≡ is_due self.now.state }
     {
-        self.due
+        self.due.is_some()
     }
 
     /// Sends the frame that is due, if one is.
@@ -259,12 +259,10 @@ impl Master {
         ensures kit { self.new.kit ≡ self.old.kit }
         ensures done { is_due self.new.state ≡ false }
     {
-        if !self.due {
-            out.clear();
-            return;
+        match self.due.take() {
+            Some(due) => due.send(&mut self.phase, &self.kit, out),
+            None => out.clear(),
         }
-        self.phase.send(&self.kit, out);
-        self.due = false;
     }
 
     /// Writes the frame that is due to `out`, in place of what it held. It has the offer of this moment, and a first
@@ -290,7 +288,7 @@ impl Master {
         ensures done { is_due self.new.state ≡ false }
     {
         self.receive(frame, did);
-        did.sent = self.due;
+        did.sent = self.due.is_some();
         self.send(out);
     }
 

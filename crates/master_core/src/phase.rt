@@ -4,11 +4,11 @@ ghost use Rattle.end_model.specs.Setup.{OfMaster};
 ghost use Rattle.end_model.specs.Verdict.{has_conn};
 
 use crate::kit::Kit;
-use crate::states::{InConnection, InData, InParameter, InReset, InSession};
+use crate::states::{Due, InConnection, InData, InParameter, InReset, InSession};
 use failsafe_io::zeros;
 use fsoe_base::{Code, Command, FrameBuf, MOST_DATA, State};
 use param_load::{MasterSettings, Progress, Terms};
-use seq_chain::{Link, Session, SessionFrame, test_session};
+use seq_chain::{Link, Session, SessionFrame, reset_frame, test_session};
 use std::mem;
 
 /// The phase that a master is in: that of the frame that it sent last, or of the one that is due.
@@ -37,6 +37,7 @@ impl Phase {
     ghost use Rattle.std.specs.Prelude.{◌≡◌, ◌≤◌, length, Some, IfOk, option_copied};
     ghost use Rattle.std.specs.Result.{result_err};
     ghost use Rattle.seq_chain.specs.Chain.{tested};
+    ghost use Rattle.master_core.specs.declared.states.Due.{Due};
     ghost use Rattle.master_core.specs.declared.states.Exchange.{Exchange};
     ghost use Rattle.master_core.specs.declared.phase.Phase.TheVariants as phase;
     ghost use Rattle.master_core.specs.Kit.{connection_download, parameter_download};
@@ -207,7 +208,7 @@ impl Phase {
     fn begin_session(&mut self, kit: &Kit, out: &mut FrameBuf)
         requires { IsBegin self.old }
         ensures next { self.new ≡ sent_phase kit.now self.old }
-        ensures sent { out.new ≡ due_frame kit.now self.old }
+        ensures sent { (due : Due) → out.new ≡ due_frame due kit.now self.old }
         ensures under { IsUnder kit.now.settings self.new }
     {
         let Phase::Begin(last) = self else {
@@ -215,23 +216,6 @@ impl Phase {
         };
         let last = mem::replace(last, FrameBuf::new());
         *self = Phase::Session(InSession::begin(last, kit, out));
-    }
-
-    /// Sends the frame that is due, in place of what `out` held.
-    pub(crate) fn send(&mut self, kit: &Kit, out: &mut FrameBuf)
-        requires under { IsUnder kit.now.settings self.old }
-        ensures next { self.new ≡ sent_phase kit.now self.old }
-        ensures sent { out.new ≡ due_frame kit.now self.old }
-        ensures under { IsUnder kit.now.settings self.new }
-    {
-        match self {
-            Phase::Reset(state) => state.send(kit, out),
-            Phase::Begin(_) => self.begin_session(kit, out),
-            Phase::Session(state) => state.send(kit, out),
-            Phase::Connection(state) => state.send(kit, out),
-            Phase::Parameter(state) => state.send(kit, out),
-            Phase::Data(state) => state.send(kit, out),
-        }
     }
 
     /// The terms in state Data.
@@ -254,6 +238,28 @@ impl Phase {
         match self {
             Phase::Data(state) => state.outputs.bytes(),
             _ => zeros(kit.settings().peer_len()),
+        }
+    }
+}
+
+impl Due {
+    ghost use Rattle.std.specs.Prelude.{◌≡◌};
+    ghost use Rattle.master_core.specs.Phase.{IsUnder, sent_phase, due_frame};
+
+    /// Sends the frame that is due in this phase, in place of what `out` held.
+    pub(crate) fn send(self, phase: &mut Phase, kit: &Kit, out: &mut FrameBuf)
+        requires under { IsUnder kit.now.settings phase.old }
+        ensures next { phase.new ≡ sent_phase kit.now phase.old }
+        ensures sent { out.new ≡ due_frame self kit.now phase.old }
+        ensures under { IsUnder kit.now.settings phase.new }
+    {
+        match phase {
+            Phase::Reset(_) => reset_frame(self.code, kit.settings().own_len(), out),
+            Phase::Begin(_) => phase.begin_session(kit, out),
+            Phase::Session(state) => state.send(kit, out),
+            Phase::Connection(state) => state.send(kit, out),
+            Phase::Parameter(state) => state.send(kit, out),
+            Phase::Data(state) => state.send(kit, out),
         }
     }
 }

@@ -2,12 +2,10 @@
 //! an answer that passed the tests in this state, with what the chain notes of it, or refuses it with the code of the test
 //! of the answer's contents that fails; and it sends the frame that follows.
 ghost use Rattle.std.specs.Prelude.{◌≡◌, OnOk, OnErr};
-ghost use Rattle.fsoe_base.specs.Codes.{local_reset};
 ghost use Rattle.fsoe_base.specs.declared.command.Command.TheVariants as command;
 ghost use Rattle.param_load.specs.Download.{outcome};
 ghost use Rattle.seq_chain.specs.Session.{HasPassed};
-ghost use Rattle.end_model.specs.Setup.{OfMaster, sends, receives};
-ghost use Rattle.seq_chain.specs.Reset.{reset_frame};
+ghost use Rattle.end_model.specs.Setup.{OfMaster, receives};
 ghost use Rattle.master_core.specs.Kit.{connection_download, parameter_download};
 ghost use Rattle.master_core.specs.States.{piece_sent, piece_frame, first_exchange, answered, with_download, first_data, data_next, in_place, data_sent, data_frame};
 ghost use Rattle.master_core.specs.Views.{ExchangeUnder, DataUnder};
@@ -16,15 +14,20 @@ use crate::kit::Kit;
 use failsafe_io::{Outputs, data_holds};
 use fsoe_base::{Code, Command, FrameBuf};
 use param_load::{Download, Progress, Terms};
-use seq_chain::{Link, Session, SessionFrame, reset_frame};
+use seq_chain::{Link, Session, SessionFrame};
 use std::marker::Model;
 use std::mem;
 
-/// No session. The code is that of the Reset frame that is due, and 0 while none is.
+/// The frame of a phase is due: in state Reset the Reset frame with this code, which is 0 in the other states. It is made where
+/// a frame is accepted or a session ends, and spent by the sending of that frame, which needs it.
 #[derive(Debug, Drop)]
-pub struct InReset {
-    code: Code,
+pub struct Due {
+    pub(crate) code: Code,
 }
+
+/// No session.
+#[derive(Debug, Drop)]
+pub struct InReset(pub(crate) ());
 
 /// A session in which session ids are exchanged.
 #[derive(Debug, Drop)]
@@ -57,14 +60,6 @@ pub struct InData {
 pub(crate) struct Exchange {
     pub(crate) session: Session,
     download: Download,
-}
-
-impl Model for InReset {
-    ghost use Rattle.fsoe_base.specs.declared.command.Code.{Code};
-
-    ghost Value = { Code };
-
-    ghost view = { λ s. s.code };
 }
 
 impl Model for InSession {
@@ -118,24 +113,6 @@ impl Exchange {
     {
         let load = self.download.load(kit.settings().own_len());
         self.session.seal(command, conn, load.bytes(), out);
-    }
-}
-
-impl InReset {
-    /// The Reset frame with this code is to be sent.
-    pub(crate) fn new(code: Code) -> InReset
-        ensures { result ≡ code }
-    {
-        InReset { code }
-    }
-
-    /// Sends the Reset frame that is due.
-    pub(crate) fn send(&mut self, kit: &Kit, out: &mut FrameBuf)
-        ensures next { self.new ≡ local_reset }
-        ensures sent { out.new ≡ reset_frame self.old.0 (sends (OfMaster kit.now.settings)) }
-    {
-        reset_frame(self.code, kit.settings().own_len(), out);
-        self.code = Code::LOCAL_RESET;
     }
 }
 
