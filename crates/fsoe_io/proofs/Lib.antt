@@ -7,5 +7,4 @@ pub mod Newline
 pub mod Raised
 pub mod Shelves
 pub mod Loading
-pub mod HexText
 pub mod Numbers

@@ -4,7 +4,6 @@
 mod desk;
 mod failed_loads;
 mod file_desk;
-mod hex_text;
 mod line;
 mod line_reader;
 mod line_text;

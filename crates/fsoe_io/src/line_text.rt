@@ -2,7 +2,6 @@
 ghost use Rattle.std.specs.Prelude.{◌≡◌, ◌+◌, ◌*◌, ◌≤◌, List, [], ◌++◌, ℕ, length, decimal};
 ghost use Rattle.hex.specs.Hex.{encode_lower};
 
-use crate::hex_text::write_hex;
 use crate::numeral::Numeral;
 use std::marker::Model;
 
@@ -106,7 +105,7 @@ impl LineText {
         ensures most { length self.new ≡ length self.old + 2 * length bytes.now }
     {
         let end = self.len + 2 * bytes.len();
-        write_hex(bytes, &mut self.bytes[self.len..end]);
+        hex::encode_to_slice(bytes, &mut self.bytes[self.len..end]).unwrap();
         self.len = end;
     }
 }
