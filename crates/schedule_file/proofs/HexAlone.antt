@@ -1,14 +1,12 @@
 -- Hexadecimal digits are one field.
-use Rattle.std.proofs.Common.{◌≡◌, ℕ, ◌<◌, ◌≤◌, length, List, [], ◌∷◌, refl, sym, ap, ◌∙◌, arith, false, true}
+use Rattle.std.proofs.Common.{◌≡◌, ℕ, List, [], ◌∷◌, refl, sym, ap, ◌∙◌, arith, false, true}
 use Rattle.std.specs.Prelude.{Option, Result, Ok, Err, Some, None}
 use Rattle.std.proofs.lemmas.Bool.Decides.{nat_tests}
 use Rattle.std.proofs.lemmas.List.Splits.{slice_split_none, join_with_byte-slice_split}
-use Rattle.std.proofs.lemmas.List.{take_at}
-use Rattle.std.specs.List.{join_with_byte, refill}
+use Rattle.std.specs.List.{join_with_byte}
 use Rattle.hex.specs.Hex.{decode_of, is_hex_digit}
 use Rattle.hex.specs.declared.error.FromHexError.{FromHexError}
 use Rattle.hex.proofs.HexLemmas.{decode_of-ok}
-use Rattle.schedule_file.proofs.HexDigits.{some_bytes-within}
 use Rattle.schedule_file.specs.Field.{is_space, fields_of, some_bytes, bytes_said}
 use Rattle.schedule_file.specs.Fields.{one_hex_field, not_hex, value_or}
 use Rattle.schedule_file.specs.declared.line_cause.LineCause.{LineCause}
@@ -54,7 +52,3 @@ said_alone most text bytes e = hex_said most text bytes (said-of most text bytes
 
 pub unsaid_alone : (most : ℕ) (text : List ℕ) (why : LineCause) → value_or cause.Hex (bytes_said most text) ≡ Err why → one_hex_field most (fields_of text) ≡ Err (not_hex (fields_of text))
 unsaid_alone most text why e = hex_unsaid most text (unsaid-of most text why (bytes_said most text) refl e)
-
--- digits that are decoded over as many bytes say those
-pub hex_written : (most : ℕ) (text bytes before : List ℕ) → decode_of text ≡ Ok bytes → 0 < length bytes → length bytes ≤ most → length bytes ≡ length before → bytes_said most text ≡ Some (refill (length before) before bytes)
-hex_written most text bytes before e some few same = ap (some_bytes most) e ∙ some_bytes-within most bytes some few ∙ ap Some (sym (take_at bytes _ (length before) same))

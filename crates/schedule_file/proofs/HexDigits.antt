@@ -1,17 +1,15 @@
 -- What texts of hexadecimal digits say, and which texts say no bytes.
-use Rattle.std.proofs.Common.{◌≡◌, ℕ, ◌+◌, ◌*◌, ◌/◌, ◌%◌, ◌<◌, ◌≤◌, List, length, refl, sym, ◌∙◌, arith, inl, inr}
-use Rattle.std.specs.Prelude.{◌⊎◌, Result, Ok, Err, Some, None, false}
-use Rattle.std.specs.List.{list_all}
+use Rattle.std.proofs.Common.{◌≡◌, ℕ, ◌+◌, ◌*◌, ◌/◌, ◌%◌, ◌<◌, ◌≤◌, List, length, take, drop, slice_index, slice_set, bit_or, unwrap_or, refl, sym, ap, ◌∙◌, arith, inl, inr}
+use Rattle.std.specs.Prelude.{◌⊎◌, Result, Ok, Err, Option, Some, None, true}
+use Rattle.std.proofs.lemmas.Bool.{cases_lt}
 use Rattle.std.proofs.lemmas.Bool.Decides.{nat_tests}
-use Rattle.std.proofs.lemmas.List.Sums.{list_all-from_AllPass}
-use Rattle.hex.specs.Hex.{decode_of, hex_digit_value, is_hex_digit, pair_value}
+use Rattle.std.proofs.lemmas.List.{append-nil, drop_all, length-take-le}
+use Rattle.std.proofs.lemmas.Nat.{le_or_l, le_or_r, or_of_8}
+use Rattle.hex.specs.Hex.{decode_of, decode_pairs, hex_digit_value, is_hex_digit, pair_value}
 use Rattle.hex.specs.declared.error.FromHexError.{FromHexError}
-use Rattle.hex.proofs.HexLemmas.{decode_of-ok}
+use Rattle.hex.proofs.HexLemmas.{decode_of-even, decode_of-ok}
+use Rattle.hex.proofs.Pairs.{decode_step, prepend}
 use Rattle.schedule_file.specs.Field.{some_bytes, bytes_said}
-
--- the byte of two digits
-pub pair_read : (high low i h l : ℕ) → hex_digit_value high ≡ Some h → hex_digit_value low ≡ Some l → pair_value high low i ≡ Ok (h * 16 + l)
-pair_read high low i h l e f = rw (e, f) refl
 
 -- bytes that are as many as there may be
 pub some_bytes-within : (most : ℕ) (bytes : List ℕ) → 0 < length bytes → length bytes ≤ most → some_bytes most (Ok bytes) ≡ Some bytes
@@ -33,7 +31,67 @@ other_count most text (inr many) = no_bytes most (decode_of text) (λ bytes e. s
 pub odd_count : (most : ℕ) (text : List ℕ) → length text % 2 ≡ 1 → bytes_said most text ≡ None
 odd_count most text odd = no_bytes most (decode_of text) (λ bytes e. let ok = decode_of-ok text bytes e in absurd (omega (arith, odd, ok.0)))
 
--- other characters than digits say no bytes
-pub other_digits : (most : ℕ) (text : List ℕ) → list_all is_hex_digit text ≡ false → bytes_said most text ≡ None
-other_digits most text other =
-    no_bytes most (decode_of text) (λ bytes e. let ok = decode_of-ok text bytes e in cc (sym other ∙ list_all-from_AllPass is_hex_digit text ok.1))
+-- what is looked up of a character
+pub looked_up : (c : ℕ) → unwrap_or (hex_digit_value c) 256 ≤ 256
+looked_up c = grind (arith, nat_tests)
+
+digit_small : (c : ℕ) → is_hex_digit c ≡ true → unwrap_or (hex_digit_value c) 256 < 16
+digit_small c digit = grind (arith, nat_tests)
+
+digit_read : (digit : Option ℕ) (v : ℕ) → v ≡ unwrap_or digit 256 → v < 256 → digit ≡ Some v
+digit_read None v e lt = absurd (omega (arith, e))
+digit_read (Some n) v e lt = ap Some (sym e)
+
+-- two values that make a byte are those of digits
+pair_read : (high low i h l : ℕ) → h ≡ unwrap_or (hex_digit_value high) 256 → l ≡ unwrap_or (hex_digit_value low) 256 → h * 16 + l < 256 → pair_value high low i ≡ Ok ((h * 16 + l) % 256)
+pair_read high low i h l e f lt =
+    let h_is = digit_read (hex_digit_value high) h e (omega arith) in
+    let l_is = digit_read (hex_digit_value low) l f (omega arith) in
+    let same : h * 16 + l ≡ (h * 16 + l) % 256 = omega arith in
+    rw (h_is, l_is) (ap Ok same)
+
+-- two values that make none say that a character is no digit
+pair_refused : (text : List ℕ) (most i h l : ℕ) → 2 * i + 1 < length text → h ≡ unwrap_or (hex_digit_value (slice_index text (2 * i))) 256
+    → l ≡ unwrap_or (hex_digit_value (slice_index text (2 * i + 1))) 256 → 256 ≤ h * 16 + l → bytes_said most text ≡ None
+pair_refused text most i h l fits e f many =
+    no_bytes most (decode_of text) (λ bytes is.
+    let digits = (decode_of-ok text bytes is).1 in
+    let high = digit_small (slice_index text (2 * i)) (digits (2 * i) 0 (omega arith)) in
+    let low = digit_small (slice_index text (2 * i + 1)) (digits (2 * i + 1) 0 fits) in
+    absurd (omega (arith, e, f, high, low)))
+
+-- while all are digits, the bytes so far and those of the digits to come are all; else the text says no bytes
+abbrev pub Reads : List ℕ → List ℕ → ℕ → ℕ → Type 0
+Reads text out i seen =
+    (seen < 256 → decode_pairs 0 text ≡ prepend (take i out) (decode_pairs (2 * i) (drop (2 * i) text))) × (256 ≤ seen → (most : ℕ) → bytes_said most text ≡ None)
+
+pub one_read : (text out : List ℕ) (i seen h l : ℕ) → 2 * i + 1 < length text → i < length out → h ≡ unwrap_or (hex_digit_value (slice_index text (2 * i))) 256
+    → l ≡ unwrap_or (hex_digit_value (slice_index text (2 * i + 1))) 256 → Reads text out i seen → Reads text (slice_set out i ((h * 16 + l) % 256)) (i + 1) (bit_or seen (h * 16 + l))
+one_read text out i seen h l fits room e f so_far =
+    let before = le_or_l seen (h * 16 + l) in
+    let here = le_or_r seen (h * 16 + l) in (
+      λ few.
+          let pair = pair_read (slice_index text (2 * i)) (slice_index text (2 * i + 1)) (2 * i) h l e f (omega (arith, here, few)) in
+          decode_step text out i ((h * 16 + l) % 256) fits room pair (so_far.0 (omega (arith, before, few))),
+      λ many most.
+          elim (cases_lt seen 256) [
+            | inl small ↦ pair_refused text most i h l fits e f (at_least seen (h * 16 + l) small many)
+            | inr large ↦ so_far.1 large most
+          ],
+    )
+  where
+    at_least : (a b : ℕ) → a < 256 → 256 ≤ bit_or a b → 256 ≤ b
+    at_least a b small many = elim (cases_lt b 256) [
+      | inl less ↦ let or = or_of_8 a b small less in absurd (omega (arith, or, many))
+      | inr large ↦ large
+    ]
+
+-- the bytes of all pairs are said
+pub all_read : (most count : ℕ) (text out : List ℕ) → length text ≡ 2 * count → 0 < count → count ≤ most → count ≤ length out
+    → decode_pairs 0 text ≡ prepend (take count out) (decode_pairs (2 * count) (drop (2 * count) text)) → Some (take count out) ≡ bytes_said most text
+unfolding decode_pairs
+all_read most count text out two some few room so_far =
+    let long = length-take-le count out room in
+    let read = decode_of-even text (omega (arith, two)) ∙ so_far ∙ ap (λ rest. prepend (take count out) (decode_pairs (2 * count) rest)) (drop_all (2 * count) text (omega (arith, two)))
+    ∙ ap Ok (append-nil (take count out)) in
+    sym (ap (some_bytes most) read ∙ some_bytes-within most (take count out) (omega (arith, long)) (omega (arith, long)))

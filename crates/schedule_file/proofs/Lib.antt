@@ -13,8 +13,6 @@ pub mod HexAlone
 pub mod Rooms
 pub mod Fitting
 pub mod OneSetting
-pub mod DigitLanes
-pub mod DigitParts
 pub mod Pairs
 pub mod PairsRead
 pub mod PairsFitting

@@ -1,9 +1,9 @@
 -- The fields of a line, and what one field says.
-use Rattle.std.specs.Prelude.{◌≡◌, ℕ, ◌==◌, ◌<◌, ◌≤◌, ◌*◌, IsTrue, ◌&&◌, ◌||◌, nat_le, nat_lt, length, slice_index, Bool, List, [], Option, Some, None, Result, Ok, Err, if◌then◌else◌}
-use Rattle.std.specs.List.{slice_split, list_all}
+use Rattle.std.specs.Prelude.{ℕ, ◌==◌, ◌&&◌, ◌||◌, nat_le, nat_lt, length, slice_index, Bool, List, [], Option, Some, None, Result, Ok, Err, if◌then◌else◌}
+use Rattle.std.specs.List.{slice_split}
 use Rattle.std.specs.Str.{all_ascii_digits}
 use Rattle.std.specs.Str.Parse.{digits_value}
-use Rattle.hex.specs.Hex.{decode_of, is_hex_digit}
+use Rattle.hex.specs.Hex.{decode_of}
 use Rattle.hex.specs.declared.error.FromHexError.{FromHexError}
 use denote.Ref.{Bor}
 
@@ -36,8 +36,3 @@ some_bytes most (Err e) = None
 -- the bytes that a field says in hexadecimal, where they are from one to `most`
 abbrev pub bytes_said : ℕ → List ℕ → Option (List ℕ)
 bytes_said most text = some_bytes most (decode_of text)
-
--- a field says this many bytes in hexadecimal, from one to `most`: it has two digits for each; or it says none
-abbrev pub CountsBytes : Option ℕ → ℕ → List ℕ → Type 0
-CountsBytes (Some count) most text = (0 < count) × (count ≤ most) × (length text ≡ 2 * count) × IsTrue (list_all is_hex_digit text)
-CountsBytes None most text = bytes_said most text ≡ None

@@ -7,7 +7,6 @@ pub mod Header
 pub mod HeaderKind
 pub mod HeaderLine
 pub mod HeaderPart
-pub mod HexDigits
 pub mod Input
 pub mod LineCause
 pub mod LinesLeft

@@ -10,10 +10,8 @@ ghost use Rattle.schedule_file.specs.Field.{bytes_said, fields_after};
 ghost use Rattle.schedule_file.specs.Fields.{Becomes};
 
 use crate::event::{Event, MAX_BACK, ScheduleLine};
-use crate::field::{
-    bytes_field, count_bytes, next_field, no_field, number, number_16, number_32, one_field,
-};
-use crate::hex_digits::decode;
+use crate::field::{bytes_field, next_field, no_field, number, number_16, number_32, one_field};
+use crate::hex_digits::read_hex;
 use crate::line_cause::LineCause;
 use fsoe_base::{End, FrameBuf, Image, Lengths, MOST_FRAME};
 use param_load::Profile;
@@ -51,9 +49,8 @@ fn read_reference(text: &[u8]) -> Option<u8>
 fn read_mask(text: &[u8]) -> Option<u8>
     ensures { option_map (λ mask. mask ∷ []) result ≡ bytes_said 1 text.now }
 {
-    count_bytes(text, 1)?;
     let mut mask = [0];
-    decode(text, &mut mask);
+    read_hex(text, &mut mask)?;
     Some(mask[0])
 }
 

@@ -2,10 +2,10 @@
 ghost use Rattle.std.specs.Prelude.{◌≡◌, ◌≤◌, ◌<◌, ◌∷◌, length, IfSome, IfOk, OnOk, OnErr};
 ghost use Rattle.memchr.specs.Find.{IsFirstByte, is_byte};
 ghost use Rattle.schedule_file.specs.Fields.{value_or, next_field, no_field, one_field, number_16, number_32, one_hex_field, not_hex, IsField, AreFields, Becomes};
-ghost use Rattle.schedule_file.specs.Field.{CountsBytes, fields_of, fields_after, number_said, bytes_said};
+ghost use Rattle.schedule_file.specs.Field.{fields_of, fields_after, number_said, bytes_said};
 ghost use Rattle.schedule_file.specs.declared.line_cause.LineCause.TheVariants as cause;
 
-use crate::hex_digits::{are_digits, decode};
+use crate::hex_digits::read_hex;
 use crate::line_cause::LineCause;
 use fsoe_base::ByteList;
 use std::marker::Model;
@@ -63,21 +63,6 @@ pub fn number(text: &[u8], most: u32) -> Option<u32>
     }
 }
 
-/// How many bytes a field says in digits of either case, from one to `most`. None where it says no such bytes. `decode` writes them where
-/// they are to stand, so that none is moved.
-pub fn count_bytes(text: &[u8], most: usize) -> Option<usize>
-    ensures { CountsBytes result most text.now }
-{
-    let len = text.len() / 2;
-    if len == 0 || len > most {
-        return None;
-    }
-    if text.len() % 2 != 0 || !are_digits(text) {
-        return None;
-    }
-    Some(len)
-}
-
 /// The most bytes of a hexadecimal field in a header.
 pub const MAX_HEX: usize = 256;
 
@@ -106,9 +91,8 @@ impl HexBytes {
         ensures value { result ≡ bytes_said most text.now }
         ensures count { IfSome result (λ bytes. (0 < length bytes) × (length bytes ≤ most)) }
     {
-        let len = count_bytes(text, most)?;
         let mut bytes = [0; MAX_HEX];
-        decode(text, &mut bytes[..len]);
+        let len = read_hex(text, &mut bytes[..most])?;
         Some(HexBytes { bytes, len })
     }
 
@@ -197,10 +181,10 @@ pub fn read_bytes<const MOST: usize>(
     ensures count { OnOk result ((0 < length bytes.new) × (length bytes.new ≤ MOST)) }
     ensures unwritten { OnErr result (bytes.new ≡ bytes.old) }
 {
-    match count_bytes(text, MOST) {
-        Some(len) => {
-            bytes.resize(len);
-            decode(text, bytes.bytes_mut());
+    let mut read = [0; MOST];
+    match read_hex(text, &mut read) {
+        Some(count) => {
+            bytes.set(&read[..count]);
             Ok(())
         }
         None => Err(LineCause::Hex),

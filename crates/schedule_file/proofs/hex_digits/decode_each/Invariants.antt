@@ -1,8 +1,0 @@
-use Rattle.std.proofs.Common.{◌≡◌, ◌*◌, take, drop}
-use Rattle.hex.specs.Hex.{decode_pairs}
-use Rattle.hex.proofs.Pairs.{prepend}
-use Rattle.schedule_file.proofs.hex_digits.decode_each.Given as goal
-
--- the bytes so far and those of the digits to come are all
-abbrev pub invariant-loop-i : goal.invariant-loop-i
-invariant-loop-i l = decode_pairs 0 l.text ≡ prepend (take l.i l.out) (decode_pairs (2 * l.i) (drop (2 * l.i) l.text))
