@@ -1,4 +1,4 @@
-//! Bytes from hexadecimal digits. The value of a digit is looked up: `hex::decode_to_slice`, which compares it with ranges, costs twice as much.
+//! Bytes from hexadecimal digits, by a table: `hex::decode_to_slice` tests each digit, at more than twice the cost.
 ghost use Rattle.std.specs.Prelude.{◌≡◌, ◌≤◌, ◌<◌, length, take, unwrap_or, option_map, IfSome};
 ghost use Rattle.hex.specs.Hex.{hex_digit_value};
 ghost use Rattle.schedule_file.specs.Field.{bytes_said};
@@ -29,8 +29,8 @@ fn value(c: u8) -> u16
     VALUES[c as usize]
 }
 
-/// Writes over the front of `out` the bytes that a field says in digits of either case, from one to as many as there is room for, and gives
-/// their number. None where it says no such bytes, and then what `out` holds is left open.
+/// Writes the bytes that a field says in digits of either case, at least one, to the front of `out`, and gives their
+/// number. None where it says none, or more than there is room for: what `out` holds is then left open.
 pub(crate) fn read_hex(text: &[u8], out: &mut [u8]) -> Option<usize>
     ensures value { option_map (λ count. take count out.new) result ≡ bytes_said (length out.old) text.now }
     ensures count { IfSome result (λ count. (0 < count) × (count ≤ length out.old)) }
