@@ -153,9 +153,8 @@ impl<A: Application> MultiMaster<A> {
         );
     }
 
-    /// Drops the application that runs, and has this one in its place. All offers become zeros; then the new one has its first cycle,
-    /// which isn't ticked, and its answers are the offers of all connections. No frame is made in between, so none carries an offer of
-    /// the old one.
+    /// Drops the application that runs, and has this one in its place. It has its first cycle at once, which isn't ticked, and its
+    /// answers are the offers of all connections. No frame is made in between, so none carries an offer of the old one.
     pub fn change_app(&mut self, app: A)
         ensures follows { let seen = seen A.rule A.holds A.guards in Follows (seen self.old) (ChangeApp (app_view A.rule A.holds A.guards app)) (seen self.new) }
         ensures offers { Offers (seen A.rule A.holds A.guards self.old) (ChangeApp (app_view A.rule A.holds A.guards app)) }
