@@ -1,11 +1,10 @@
 -- Each transition of a typed state goes on as looking back says.
-use Rattle.std.proofs.Common.{◌≡◌, ℕ, List, ◌∷◌, Bool, true, false, IsTrue, Result, Ok, Err, IfOk, IfErr, OnOk, OnErr, if◌then◌else◌, refl, sym, ap, subst, ◌∙◌}
+use Rattle.std.proofs.Common.{◌≡◌, ℕ, List, ◌∷◌, Bool, true, false, IsTrue, None, Result, Ok, Err, IfOk, IfErr, OnOk, OnErr, if◌then◌else◌, refl, sym, ap, subst, ◌∙◌}
 use Rattle.fsoe_base.specs.declared.command.Code.{Code}
 use Rattle.fsoe_base.specs.declared.command.State.{State}
 use Rattle.fsoe_base.specs.declared.command.State.TheVariants as state
-use Rattle.fsoe_base.specs.declared.did.Cause.TheVariants as cause
 use Rattle.fsoe_base.specs.declared.did.Dropped.TheVariants as dropped
-use Rattle.failsafe_io.specs.Timer.{Timer}
+use Rattle.failsafe_io.specs.Timer.{Timer, started}
 use Rattle.seq_chain.specs.Opened.{opened}
 use Rattle.seq_chain.specs.SessionFrame.{SessionFrameView}
 use Rattle.param_load.specs.declared.entry.Move.TheVariants as move
@@ -26,9 +25,9 @@ use Rattle.slave_core.specs.declared.states.InData.{InData}
 use Rattle.slave_core.specs.After.{after}
 use Rattle.slave_core.specs.GoesOn.{Meets, IsTaken, IsRefused, GoesOn}
 use Rattle.slave_core.specs.Kit.{KitView}
-use Rattle.slave_core.specs.Now.{is_reset, kept_in, fault}
-use Rattle.slave_core.specs.Slave.{Outcome, drops, falls, settles, refuses, on_session, on_opened}
-use Rattle.slave_core.specs.SlaveView.{SlaveView}
+use Rattle.slave_core.specs.Now.{is_reset, kept_in, limit_of, fault}
+use Rattle.slave_core.specs.Slave.{Outcome, drops, fallen, refuses, refuses_contents, taken, settles, on_session, on_opened}
+use Rattle.slave_core.specs.SlaveView.{SlaveView, IsSoundSlave}
 use Rattle.slave_core.specs.States as states
 use Rattle.slave_core.specs.Taken.{as_now, next_state, reply}
 use Rattle.slave_core.specs.ViewOf.{view_in, view_of}
@@ -230,29 +229,34 @@ pub stays_in_data : (s : InData) (kit : KitView) (f : SessionFrameView) (r : Res
     → states.or_reset r next ≡ states.data_next kit s f → states.or_reset r (now.Data next) ≡ next_state kit (now.Data s) f
 stays_in_data s kit f r next i = placed now.Data r next ∙ ap (as_now now.Data) i
 
--- there is one state Reset
-one-reset : (p q : Now) → is_reset p ≡ true → is_reset q ≡ true → q ≡ p
-one-reset (now.Reset s) (now.Reset r) h i = refl
-one-reset (now.Reset s) (now.Session r) h i = absurd (cc i)
-one-reset (now.Reset s) (now.Connection r) h i = absurd (cc i)
-one-reset (now.Reset s) (now.Parameter r) h i = absurd (cc i)
-one-reset (now.Reset s) (now.Data r) h i = absurd (cc i)
-one-reset (now.Session s) q h i = absurd (cc h)
-one-reset (now.Connection s) q h i = absurd (cc h)
-one-reset (now.Parameter s) q h i = absurd (cc h)
-one-reset (now.Data s) q h i = absurd (cc h)
-
 same-slave : (w v : SlaveView) → w.kit ≡ v.kit → w.state ≡ v.state → w.timer ≡ v.timer → w ≡ v
 same-slave w v k s t =
     ap (λ (kit : KitView). record w { kit = kit }) k
     ∙ ap (λ (state : Now). record w { kit = v.kit; state = state }) s
     ∙ ap (λ (timer : Timer). record { kit = v.kit; state = v.state; timer = timer }) t
 
-refused-by : (b : Bool) (v w : SlaveView) (x : Code) → is_reset v.state ≡ b → is_reset w.state ≡ b → w.kit ≡ v.kit → w.timer ≡ v.timer
-    → (if b then drops w true dropped.InReset else falls w true (cause.Found x) x) ≡ (if b then drops v true dropped.InReset else falls v true (cause.Found x) x)
-refused-by true v w x h i k t = ap (λ (v : SlaveView). drops v true dropped.InReset) (same-slave w v k (one-reset v.state w.state h i) t)
-refused-by false v w x h i k t = ap (λ (k : KitView). falls (record v { kit = k }) true (cause.Found x) x) k
+pub taken_by : (v w : SlaveView) (f : SessionFrameView) (answer : List ℕ) → w.kit ≡ v.kit → w.timer ≡ started (limit_of v.kit.settings w.state)
+    → Ok w.state ≡ next_state v.kit v.state f → answer ≡ reply v.kit v.state f
+    → taken w f answer ≡ on_session v f None
+taken_by v w f answer k t i j =
+    ap (λ (v : SlaveView). taken v f answer) (same-slave w (record v { state = w.state; timer = started (limit_of v.kit.settings w.state) }) k refl t)
+    ∙ ap (taken (record v { state = w.state; timer = started (limit_of v.kit.settings w.state) }) f) j
+    ∙ ap (settles v f (reply v.kit v.state f)) i
 
--- a slave that is only left refuses a frame as it did before: in state Reset it is as it was
-pub refused_alike : (v w : SlaveView) (x : Code) → w.kit ≡ v.kit → is_reset w.state ≡ is_reset v.state → w.timer ≡ v.timer → refuses w true x ≡ refuses v true x
-refused_alike v w x k i t = ap (λ (b : Bool). if b then drops w true dropped.InReset else falls w true (cause.Found x) x) i ∙ refused-by (is_reset v.state) v w x refl i k t
+forgotten : (kit : KitView) (state : Now) (timer : Timer) (x : Code) → (IsTrue (is_reset state) → timer ≡ started kit.settings.hand)
+    → refuses_contents (fallen (record { kit = kit; state = state; timer = timer })) (is_reset state) x ≡ refuses (record { kit = kit; state = state; timer = timer }) true x
+forgotten kit (now.Reset s) timer x h = ap (λ (timer : Timer). drops (record { kit = kit; state = now.Reset s; timer = timer }) true dropped.InReset) (sym (h refl))
+forgotten kit (now.Session s) timer x h = refl
+forgotten kit (now.Connection s) timer x h = refl
+forgotten kit (now.Parameter s) timer x h = refl
+forgotten kit (now.Data s) timer x h = refl
+
+-- a slave that forgot its session refuses a frame as it did before: in state Reset it is as it was
+pub refused_by : (v w : SlaveView) (f : SessionFrameView) (b : Bool) (x : Code) → IsSoundSlave v → b ≡ is_reset v.state → w ≡ fallen v
+    → Err (states.no_session, x) ≡ next_state v.kit v.state f
+    → refuses_contents w b x ≡ on_session v f None
+refused_by v w f b x h i k e =
+    ap (λ (b : Bool). refuses_contents w b x) i
+    ∙ ap (λ (w : SlaveView). refuses_contents w (is_reset v.state) x) k
+    ∙ forgotten v.kit v.state v.timer x h.at_rest
+    ∙ ap (settles v f (reply v.kit v.state f)) e

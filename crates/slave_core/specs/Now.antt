@@ -64,6 +64,13 @@ upload_is_whole (now.Connection s) = is_whole s.upload
 upload_is_whole (now.Parameter s) = is_whole s.upload
 upload_is_whole _ = false
 
+-- whether a frame that is allowed may begin another state: no payload is still to come
+abbrev pub begins : Now → Bool
+begins (now.Session s) = is_whole s.upload
+begins (now.Connection s) = is_whole s.upload
+begins (now.Parameter s) = is_whole s.upload
+begins _ = true
+
 -- the commands of a session that are allowed: that of the phase until its payload is whole, then that of the next phase
 abbrev pub allows : Now → Command → Bool
 allows now c = slave_allows (state_of now) (upload_is_whole now) c

@@ -62,6 +62,10 @@ falls v passed why x = record {
 abbrev pub refuses : SlaveView → Bool → Code → Outcome
 refuses v passed x = if is_reset v.state then drops v passed dropped.InReset else falls v passed (cause.Found x) x
 
+-- the contents of a frame are wrong: the session that it was for ends, also one that is forgotten already
+abbrev pub refuses_contents : SlaveView → Bool → Code → Outcome
+refuses_contents v was_reset x = if was_reset then refuses v true x else falls v true (cause.Found x) x
+
 -- a valid Reset frame is taken in state Reset, and a Reset frame with code 0 is sent
 abbrev pub acknowledges : SlaveView → List ℕ → Outcome
 acknowledges v load = record { slave = fallen v; did = takes command.Reset load false; sent = reset_frame 0 (sends (OfSlave v.kit.settings)) }
@@ -70,13 +74,13 @@ acknowledges v load = record { slave = fallen v; did = takes command.Reset load 
 abbrev pub reset_by_peer : SlaveView → Code → List ℕ → Outcome
 reset_by_peer v x load = if is_reset v.state then acknowledges v load else falls v false (cause.Peer x) local_reset
 
+-- a slave took a frame of a session, and sent this answer
+abbrev pub taken : SlaveView → SessionFrameView → List ℕ → Outcome
+taken v f answer = record { slave = v; did = takes f.command f.frame.load true; sent = answer }
+
 -- a frame whose contents were tested is taken and answered, or refused with their code
 abbrev pub settles : SlaveView → SessionFrameView → List ℕ → Result Now (InReset × Code) → Outcome
-settles v f answer (Ok next) = record {
-  slave = record v { state = next; timer = started (limit_of v.kit.settings next) };
-  did = takes f.command f.frame.load true;
-  sent = answer;
-}
+settles v f answer (Ok next) = taken (record v { state = next; timer = started (limit_of v.kit.settings next) }) f answer
 settles v f answer (Err e) = refuses v true e.1
 
 -- a frame of a session is refused by the first of its tests that fails, and else its contents are tested

@@ -5,6 +5,7 @@ use crate::states::{InConnection, InData, InParameter, InReset, InSession};
 use fsoe_base::{Code, Command, FrameBuf, State};
 use param_load::Terms;
 use seq_chain::{Link, Session, SessionFrame, test_session};
+use std::mem;
 
 /// The state that a slave is in.
 #[derive(Debug, Drop)]
@@ -17,14 +18,12 @@ pub(crate) enum Now {
 }
 
 impl Now {
-    ghost use Rattle.std.specs.Prelude.{◌≡◌, ◌<◌, true, IsTrue, Some, IfOk, OnOk, OnErr, option_copied};
+    ghost use Rattle.std.specs.Prelude.{◌≡◌, ◌<◌, IsTrue, Some, IfOk, OnOk, option_copied};
     ghost use Rattle.std.specs.Result.{result_err};
-    ghost use Rattle.fsoe_base.specs.Data.{is_data};
-    ghost use Rattle.fsoe_base.specs.declared.command.State.TheVariants as state;
     ghost use Rattle.seq_chain.specs.Chain.{tested};
     ghost use Rattle.seq_chain.specs.Session.{HasPassed, is_repeat};
     ghost use Rattle.end_model.specs.Setup.{OfSlave, receives};
-    ghost use Rattle.slave_core.specs.Now.{IsUnder, state_of, is_reset, upload_is_whole, session_of, chain_of, kept_in, allows, has_conn, limit_of, terms_shown_in, fault};
+    ghost use Rattle.slave_core.specs.Now.{IsUnder, state_of, is_reset, begins, session_of, chain_of, kept_in, allows, has_conn, limit_of, terms_shown_in, fault};
     ghost use Rattle.slave_core.specs.States.{or_reset};
     ghost use Rattle.slave_core.specs.Taken.{next_state, reply};
 
@@ -140,98 +139,54 @@ impl Now {
         }
     }
 
-    // A function clears the room of all its locals, so that each change of phase, which makes a state, has one of its own.
+    /// The state that begins with this frame, which passed the tests, by the transition to it.
+    fn begin(self, seen: &Seen<'_>, kit: &Kit, out: &mut FrameBuf) -> Result<Now, (InReset, Code)>
+        requires allowed { IsTrue (allows self seen.now.frame.command) }
+        requires begins { IsTrue (begins self) }
+        requires under { IsUnder kit.now.settings self }
+        requires passed { HasPassed (receives (OfSlave kit.now.settings)) (chain_of self) seen.now.frame seen.now.link }
+        ensures next { result ≡ next_state kit.now self seen.now.frame }
+        ensures sent { OnOk result (out.new ≡ reply kit.now self seen.now.frame) }
+        ensures under { IfOk result (λ next. IsUnder kit.now.settings next) }
+    {
+        Ok(match self {
+            Now::Reset(state) => Now::Session(state.start(seen, kit, out)?),
+            Now::Session(state) => Now::Connection(state.connect(seen, kit, out)?),
+            Now::Connection(state) => Now::Parameter(state.load(seen, kit, out)?),
+            Now::Parameter(state) => Now::Data(state.run(seen, kit, out)?),
+            Now::Data(state) => Now::Data(state.more(seen, kit, out)?),
+        })
+    }
 
-    /// Begins a session in state Reset, as `InReset::start` does.
+    /// Begins the next state in place of this one, or state Reset after a refusal.
+    // A function clears the room of all its locals: what moves a state isn't to burden what goes on in place.
     #[inline(never)]
-    fn start(&mut self, seen: &Seen<'_>, kit: &Kit, out: &mut FrameBuf) -> Result<(), Code>
-        requires phase { is_reset self.old ≡ true }
+    fn change(&mut self, seen: &Seen<'_>, kit: &Kit, out: &mut FrameBuf) -> Result<(), Code>
+        requires allowed { IsTrue (allows self.old seen.now.frame.command) }
+        requires begins { IsTrue (begins self.old) }
         requires under { IsUnder kit.now.settings self.old }
         requires passed { HasPassed (receives (OfSlave kit.now.settings)) (chain_of self.old) seen.now.frame seen.now.link }
         ensures next { or_reset result self.new ≡ next_state kit.now self.old seen.now.frame }
         ensures sent { OnOk result (out.new ≡ reply kit.now self.old seen.now.frame) }
-        ensures unwritten { OnErr result (out.new ≡ out.old) }
         ensures under { IsUnder kit.now.settings self.new }
-        ensures reset { OnErr result (is_reset self.new ≡ is_reset self.old) }
     {
-        let mut first = InSession::first(kit);
-        first.go_on(seen, kit, out)?;
-        *self = Now::Session(first);
-        Ok(())
+        match mem::replace(self, Now::Reset(InReset::new())).begin(seen, kit, out) {
+            Ok(next) => {
+                *self = next;
+                Ok(())
+            }
+            Err((reset, code)) => {
+                *self = Now::Reset(reset);
+                Err(code)
+            }
+        }
     }
 
-    /// Goes on from state Session to Connection, as `InSession::connect` does.
-    #[inline(never)]
-    fn connect(&mut self, seen: &Seen<'_>, kit: &Kit, out: &mut FrameBuf) -> Result<(), Code>
-        requires phase { state_of self.old ≡ state.Session }
-        requires whole { IsTrue (upload_is_whole self.old) }
-        requires under { IsUnder kit.now.settings self.old }
-        requires passed { HasPassed (receives (OfSlave kit.now.settings)) (chain_of self.old) seen.now.frame seen.now.link }
-        ensures next { or_reset result self.new ≡ next_state kit.now self.old seen.now.frame }
-        ensures sent { OnOk result (out.new ≡ reply kit.now self.old seen.now.frame) }
-        ensures unwritten { OnErr result (out.new ≡ out.old) }
-        ensures under { IsUnder kit.now.settings self.new }
-        ensures reset { OnErr result (is_reset self.new ≡ is_reset self.old) }
-    {
-        let Now::Session(state) = self else {
-            unreachable!();
-        };
-        let mut first = state.to_connection(seen.frame.conn(), kit);
-        first.go_on(seen, kit, out)?;
-        *self = Now::Connection(first);
-        Ok(())
-    }
-
-    /// Goes on from state Connection to Parameter, as `InConnection::load` does.
-    #[inline(never)]
-    fn load(&mut self, seen: &Seen<'_>, kit: &Kit, out: &mut FrameBuf) -> Result<(), Code>
-        requires phase { state_of self.old ≡ state.Connection }
-        requires whole { IsTrue (upload_is_whole self.old) }
-        requires under { IsUnder kit.now.settings self.old }
-        requires passed { HasPassed (receives (OfSlave kit.now.settings)) (chain_of self.old) seen.now.frame seen.now.link }
-        ensures next { or_reset result self.new ≡ next_state kit.now self.old seen.now.frame }
-        ensures sent { OnOk result (out.new ≡ reply kit.now self.old seen.now.frame) }
-        ensures unwritten { OnErr result (out.new ≡ out.old) }
-        ensures under { IsUnder kit.now.settings self.new }
-        ensures reset { OnErr result (is_reset self.new ≡ is_reset self.old) }
-    {
-        let Now::Connection(state) = self else {
-            unreachable!();
-        };
-        let mut first = state.to_parameter(kit);
-        first.go_on(seen, kit, out)?;
-        *self = Now::Parameter(first);
-        Ok(())
-    }
-
-    /// Goes on from state Parameter to Data, as `InParameter::run` does.
-    #[inline(never)]
-    fn run(&mut self, seen: &Seen<'_>, kit: &Kit, out: &mut FrameBuf) -> Result<(), Code>
-        requires command { IsTrue (is_data seen.now.frame.command) }
-        requires phase { state_of self.old ≡ state.Parameter }
-        requires whole { IsTrue (upload_is_whole self.old) }
-        requires under { IsUnder kit.now.settings self.old }
-        requires passed { HasPassed (receives (OfSlave kit.now.settings)) (chain_of self.old) seen.now.frame seen.now.link }
-        ensures next { or_reset result self.new ≡ next_state kit.now self.old seen.now.frame }
-        ensures sent { OnOk result (out.new ≡ reply kit.now self.old seen.now.frame) }
-        ensures unwritten { OnErr result (out.new ≡ out.old) }
-        ensures under { IsUnder kit.now.settings self.new }
-        ensures reset { OnErr result (is_reset self.new ≡ is_reset self.old) }
-    {
-        let Now::Parameter(state) = self else {
-            unreachable!();
-        };
-        let mut first = state.to_data(kit);
-        first.go_on(seen, kit, out)?;
-        *self = Now::Data(first);
-        Ok(())
-    }
-
-    /// Takes a frame that passed the tests in this state, in place. It begins the next phase where the payload of this one is
-    /// whole. After a refusal state Reset is as it was, and another state is only left.
+    /// Takes a frame that passed the tests in this state: a phase goes on in place until its payload is whole, and then the
+    /// next one begins. After a refusal the state is only left.
     #[tactic(auto, using(crate::proofs::Transitions::stays_in_session, crate::proofs::Transitions::stays_in_connection, crate::proofs::Transitions::stays_in_parameter, crate::proofs::Transitions::stays_in_data))]
     #[inline(never)]
-    pub(crate) fn go_on(
+    pub(crate) fn advance(
         &mut self,
         seen: &Seen<'_>,
         kit: &Kit,
@@ -242,34 +197,32 @@ impl Now {
         requires passed { HasPassed (receives (OfSlave kit.now.settings)) (chain_of self.old) seen.now.frame seen.now.link }
         ensures next { or_reset result self.new ≡ next_state kit.now self.old seen.now.frame }
         ensures sent { OnOk result (out.new ≡ reply kit.now self.old seen.now.frame) }
-        ensures unwritten { OnErr result (out.new ≡ out.old) }
         ensures under { IsUnder kit.now.settings self.new }
-        ensures reset { OnErr result (is_reset self.new ≡ is_reset self.old) }
     {
         match self {
-            Now::Reset(_) => self.start(seen, kit, out),
+            Now::Reset(_) => self.change(seen, kit, out),
             Now::Session(state) => {
                 if state.upload.is_whole() {
-                    self.connect(seen, kit, out)
+                    self.change(seen, kit, out)
                 } else {
-                    state.go_on(seen, kit, out)
+                    state.answer(seen, kit, out)
                 }
             }
             Now::Connection(state) => {
                 if state.upload.is_whole() {
-                    self.load(seen, kit, out)
+                    self.change(seen, kit, out)
                 } else {
-                    state.go_on(seen, kit, out)
+                    state.answer(seen, kit, out)
                 }
             }
             Now::Parameter(state) => {
                 if state.upload.is_whole() {
-                    self.run(seen, kit, out)
+                    self.change(seen, kit, out)
                 } else {
-                    state.go_on(seen, kit, out)
+                    state.answer(seen, kit, out)
                 }
             }
-            Now::Data(state) => state.go_on(seen, kit, out),
+            Now::Data(state) => state.answer(seen, kit, out),
         }
     }
 }

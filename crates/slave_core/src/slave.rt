@@ -32,14 +32,11 @@ impl Model for Slave {
 }
 
 impl Slave {
-    ghost use Rattle.std.specs.Prelude.{IsTrue, false, [], length, OnOk, OnErr, option_copied};
-    ghost use Rattle.failsafe_io.specs.Timer.{started};
-    ghost use Rattle.slave_core.specs.States.{or_reset};
+    ghost use Rattle.std.specs.Prelude.{IsTrue, [], length, None, OnOk, IfErr, option_copied};
     ghost use Rattle.seq_chain.specs.Session.{HasPassed};
     ghost use Rattle.param_load.specs.Profile.{allows_id};
-    ghost use Rattle.slave_core.specs.Now.{is_reset, allows, chain_of, limit_of, outputs_in};
-    ghost use Rattle.slave_core.specs.Slave.{fallen, falls, refuses, reset_by_peer, on_frame, tick_of};
-    ghost use Rattle.slave_core.specs.Taken.{next_state, reply};
+    ghost use Rattle.slave_core.specs.Now.{allows, chain_of, outputs_in};
+    ghost use Rattle.slave_core.specs.Slave.{fallen, falls, refuses, refuses_contents, reset_by_peer, taken, on_session, on_frame, tick_of};
     ghost use Rattle.param_load.specs.declared.entry.Move.TheVariants as event;
     ghost use Rattle.end_model.specs.Setup.{OfSlave, sends, receives};
     ghost use Rattle.end_model.specs.Readiness as model;
@@ -123,31 +120,38 @@ impl Slave {
         self.fall(false, Cause::Peer(code), Code::LOCAL_RESET, did, out);
     }
 
-    /// Takes a frame that passed the tests, in place. After a refusal state Reset is as it was, and another state is only left.
-    fn go_on(&mut self, seen: &Seen<'_>, out: &mut FrameBuf) -> Result<(), Code>
+    /// Takes a frame that passed the tests. After a refusal the session is forgotten; `true` says that there was none.
+    #[tactic(auto, using(crate::proofs::Transitions::taken_by, crate::proofs::Transitions::refused_by))]
+    fn advance(&mut self, seen: &Seen<'_>, out: &mut FrameBuf) -> Result<(), (bool, Code)>
         requires allowed { IsTrue (allows self.old.state seen.now.frame.command) }
         requires passed { HasPassed (receives (OfSlave self.old.kit.settings)) (chain_of self.old.state) seen.now.frame seen.now.link }
-        ensures next { or_reset result self.new.state ≡ next_state self.old.kit self.old.state seen.now.frame }
-        ensures sent { OnOk result (out.new ≡ reply self.old.kit self.old.state seen.now.frame) }
-        ensures restarted { OnOk result (self.new.timer ≡ started (limit_of self.old.kit.settings self.new.state)) }
-        ensures timer { OnErr result (self.new.timer ≡ self.old.timer) }
-        ensures reset { OnErr result (is_reset self.new.state ≡ is_reset self.old.state) }
+        ensures taken { OnOk result (taken self.new seen.now.frame out.new ≡ on_session self.old seen.now.frame None) }
+        ensures refused { IfErr result (λ e. refuses_contents self.new e.0 e.1 ≡ on_session self.old seen.now.frame None) }
         ensures kit { self.new.kit ≡ self.old.kit }
     {
         let Now::Data(state) = &mut self.state else {
-            self.state.go_on(seen, &self.kit, out)?;
+            let was_reset = self.state.is_reset();
+            if let Err(code) = self.state.advance(seen, &self.kit, out) {
+                // The state may be Reset by now, in which no tick is counted.
+                let hand = self.kit.settings().hand();
+                self.watchdog.restart(hand);
+                self.forget();
+                return Err((was_reset, code));
+            }
             let limit = self.state.limit(&self.kit);
             self.watchdog.restart(limit);
             return Ok(());
         };
-        state.go_on(seen, &self.kit, out)?;
+        if let Err(code) = state.answer(seen, &self.kit, out) {
+            self.forget();
+            return Err((false, code));
+        }
         let limit = state.terms.watchdog;
         self.watchdog.restart(limit);
         Ok(())
     }
 
     /// Tests a frame of the master, and takes it unless a test fails or its contents are wrong.
-    #[tactic(auto, using(crate::proofs::Transitions::refused_alike))]
     #[inline(never)]
     fn receive(&mut self, frame: &[u8], did: &mut Did, out: &mut FrameBuf)
         ensures slave { self.new ≡ (on_frame self.old frame.now).slave }
@@ -179,9 +183,10 @@ impl Slave {
             Ok(link) => link,
         };
         let seen = Seen { frame, link };
-        match self.go_on(&seen, out) {
-            Err(code) => self.refuse(true, code, did, out),
+        match self.advance(&seen, out) {
             Ok(()) => did.tell_taken(true),
+            Err((true, code)) => self.refuse(true, code, did, out),
+            Err((false, code)) => self.fall(true, Cause::Found(code), code, did, out),
         }
     }
 

@@ -5,7 +5,7 @@
 ghost use Rattle.std.specs.Prelude.{◌≡◌, IsTrue, IfOk, OnOk, OnErr, false};
 ghost use Rattle.param_load.specs.Upload.{is_whole};
 ghost use Rattle.seq_chain.specs.Chain.{fresh};
-ghost use Rattle.seq_chain.specs.Session.{HasPassed, first_session};
+ghost use Rattle.seq_chain.specs.Session.{HasPassed};
 ghost use Rattle.fsoe_base.specs.Data.{is_data};
 ghost use Rattle.slave_core.specs.declared.now.Now.TheVariants as now;
 ghost use Rattle.end_model.specs.Setup.{OfSlave, receives};
@@ -20,7 +20,6 @@ use failsafe_io::{Outputs, data_holds};
 use fsoe_base::{Code, Command, FrameBuf};
 use param_load::{Payload, Terms, Upload, padded};
 use seq_chain::Session;
-use std::mem;
 
 /// No session.
 #[derive(Debug, Drop)]
@@ -86,7 +85,12 @@ impl InReset {
         ensures goes_on { GoesOn (now.Reset self) kit.now seen.now.frame (as_now now.Session result) out.old out.new }
         ensures under { IfOk result (λ s. SessionUnder kit.now.settings s) }
     {
-        InSession::first(kit).more(seen, kit, out)
+        let begun = InSession {
+            session: Session::new(),
+            id: kit.nonce(),
+            upload: Upload::session(kit.settings().piece_len(), kit.profile()),
+        };
+        begun.more(seen, kit, out)
     }
 
     /// State Reset.
@@ -117,7 +121,7 @@ impl InSession {
         ensures goes_on { GoesOn (now.Session self) kit.now seen.now.frame (as_now now.Session result) out.old out.new }
         ensures under { IfOk result (λ s. SessionUnder kit.now.settings s) }
     {
-        match self.go_on(seen, kit, out) {
+        match self.answer(seen, kit, out) {
             Ok(()) => Ok(self),
             Err(code) => Err((self.into_reset(), code)),
         }
@@ -128,7 +132,7 @@ impl InSession {
     /// 06h for another slave address, then with 07h where the padding isn't zeros.
     #[tactic(auto, using(crate::proofs::Transitions::connect_goes))]
     pub fn connect(
-        mut self,
+        self,
         seen: &Seen<'_>,
         kit: &Kit,
         out: &mut FrameBuf,
@@ -144,39 +148,17 @@ impl InSession {
         ensures under { IfOk result (λ s. ConnectionUnder kit.now.settings s) }
     {
         let conn = seen.frame.conn();
-        self.to_connection(conn, kit).more(seen, kit, out)
-    }
-
-    /// A new session, of whose session id nothing has come.
-    pub(crate) fn first(kit: &Kit) -> InSession
-        ensures begun { result ≡ starting kit.now }
-        ensures under { SessionUnder kit.now.settings result }
-    {
-        InSession {
-            session: Session::new(),
-            id: kit.nonce(),
-            upload: Upload::session(kit.settings().piece_len(), kit.profile()),
-        }
-    }
-
-    /// State Connection of this session with this connection id, of whose payload nothing has come. This state is only
-    /// left.
-    pub(crate) fn to_connection(&mut self, conn: u16, kit: &Kit) -> InConnection
-        ensures begun { result ≡ connecting kit.now self.old conn }
-        ensures under { ConnectionUnder kit.now.settings result }
-        ensures kept { self.new ≡ record self.old { session = first_session } }
-    {
         let settings = kit.settings();
-        InConnection {
-            session: mem::replace(&mut self.session, Session::new()),
+        let begun = InConnection {
+            session: self.session,
             conn,
             upload: Upload::connection(settings.piece_len(), conn, settings.address()),
-        }
+        };
+        begun.more(seen, kit, out)
     }
 
-    /// The same in place: a Session frame is answered with the piece of the slave's own session id that has the same
-    /// number. After a refusal the state is only left.
-    pub(crate) fn go_on(
+    /// As `more`, in place. After a refusal the state is only left.
+    pub(crate) fn answer(
         &mut self,
         seen: &Seen<'_>,
         kit: &Kit,
@@ -230,7 +212,7 @@ impl InConnection {
         ensures goes_on { GoesOn (now.Connection self) kit.now seen.now.frame (as_now now.Connection result) out.old out.new }
         ensures under { IfOk result (λ s. ConnectionUnder kit.now.settings s) }
     {
-        match self.go_on(seen, kit, out) {
+        match self.answer(seen, kit, out) {
             Ok(()) => Ok(self),
             Err(code) => Err((self.into_reset(), code)),
         }
@@ -242,7 +224,7 @@ impl InConnection {
     /// parameters, and 0Bh where these break the rule, then with 07h where the padding isn't zeros.
     #[tactic(auto, using(crate::proofs::Transitions::load_goes))]
     pub fn load(
-        mut self,
+        self,
         seen: &Seen<'_>,
         kit: &Kit,
         out: &mut FrameBuf,
@@ -257,18 +239,9 @@ impl InConnection {
         ensures goes_on { GoesOn (now.Connection self) kit.now seen.now.frame (as_now now.Parameter result) out.old out.new }
         ensures under { IfOk result (λ s. ParameterUnder kit.now.settings s) }
     {
-        self.to_parameter(kit).more(seen, kit, out)
-    }
-
-    /// State Parameter of this session, of whose payload nothing has come. This state is only left.
-    pub(crate) fn to_parameter(&mut self, kit: &Kit) -> InParameter
-        ensures begun { result ≡ loading kit.now self.old }
-        ensures under { ParameterUnder kit.now.settings result }
-        ensures kept { self.new ≡ record self.old { session = first_session } }
-    {
         let settings = kit.settings();
-        InParameter {
-            session: mem::replace(&mut self.session, Session::new()),
+        let begun = InParameter {
+            session: self.session,
             conn: self.conn,
             address: settings.address(),
             upload: Upload::parameter(
@@ -277,11 +250,12 @@ impl InConnection {
                 settings.rule(),
                 settings.profile(),
             ),
-        }
+        };
+        begun.more(seen, kit, out)
     }
 
-    /// The same in place: a Connection frame is answered with its own piece. After a refusal the state is only left.
-    pub(crate) fn go_on(
+    /// As `more`, in place. After a refusal the state is only left.
+    pub(crate) fn answer(
         &mut self,
         seen: &Seen<'_>,
         kit: &Kit,
@@ -333,7 +307,7 @@ impl InParameter {
         ensures goes_on { GoesOn (now.Parameter self) kit.now seen.now.frame (as_now now.Parameter result) out.old out.new }
         ensures under { IfOk result (λ s. ParameterUnder kit.now.settings s) }
     {
-        match self.go_on(seen, kit, out) {
+        match self.answer(seen, kit, out) {
             Ok(()) => Ok(self),
             Err(code) => Err((self.into_reset(), code)),
         }
@@ -343,7 +317,7 @@ impl InParameter {
     /// zeros. Refused with 07h where a FailSafeData frame has a byte that isn't 0.
     #[tactic(auto, using(crate::proofs::Transitions::run_goes))]
     pub fn run(
-        mut self,
+        self,
         seen: &Seen<'_>,
         kit: &Kit,
         out: &mut FrameBuf,
@@ -358,19 +332,8 @@ impl InParameter {
         ensures goes_on { GoesOn (now.Parameter self) kit.now seen.now.frame (as_now now.Data result) out.old out.new }
         ensures under { IfOk result (λ s. DataUnder kit.now.settings s) }
     {
-        self.to_data(kit).more(seen, kit, out)
-    }
-
-    /// State Data of this session under the terms that the whole parameters give. This state is only left.
-    pub(crate) fn to_data(&mut self, kit: &Kit) -> InData
-        requires whole { IsTrue (is_whole self.old.upload) }
-        requires under { ParameterUnder kit.now.settings self.old }
-        ensures begun { result ≡ running kit.now self.old }
-        ensures under { DataUnder kit.now.settings result }
-        ensures kept { self.new ≡ record self.old { session = first_session } }
-    {
-        InData {
-            session: mem::replace(&mut self.session, Session::new()),
+        let begun = InData {
+            session: self.session,
             terms: Terms {
                 conn: self.conn,
                 address: self.address,
@@ -379,11 +342,12 @@ impl InParameter {
                 profile: kit.profile(),
             },
             outputs: Outputs::new(kit.settings().peer_len()),
-        }
+        };
+        begun.more(seen, kit, out)
     }
 
-    /// The same in place: a Parameter frame is answered with its own piece. After a refusal the state is only left.
-    pub(crate) fn go_on(
+    /// As `more`, in place. After a refusal the state is only left.
+    pub(crate) fn answer(
         &mut self,
         seen: &Seen<'_>,
         kit: &Kit,
@@ -433,14 +397,14 @@ impl InData {
         ensures goes_on { GoesOn (now.Data self) kit.now seen.now.frame (as_now now.Data result) out.old out.new }
         ensures under { IfOk result (λ s. DataUnder kit.now.settings s) }
     {
-        match self.go_on(seen, kit, out) {
+        match self.answer(seen, kit, out) {
             Ok(()) => Ok(self),
             Err(code) => Err((self.into_reset(), code)),
         }
     }
 
-    /// The same in place. After a refusal the state is as it was, and only left.
-    pub(crate) fn go_on(
+    /// As `more`, in place. After a refusal the state is only left.
+    pub(crate) fn answer(
         &mut self,
         seen: &Seen<'_>,
         kit: &Kit,
