@@ -93,120 +93,24 @@ goes old kit f before written w u = record {
   err = λ ss e bytes h. err-by ss e bytes f (reply kit old f) before written (next_state kit old f) (after (view_of ss e) (move.Deliver bytes)) u (settled ss e old kit f bytes h) (outcome-is ss e old kit f bytes h);
 }
 
--- what a transition wrote: this answer where it went on, and nothing else
-record Wrote {N : Type 0} (r : Result N (InReset × Code)) (answer before sent : List ℕ) : Type 0 where
-  written : OnOk r (sent ≡ answer)
-  unwritten : OnErr r (sent ≡ before)
+goes-by : (old : Now) (kit : KitView) (f : SessionFrameView) (r : Result Now (InReset × Code)) (before sent : List ℕ) → r ≡ next_state kit old f
+    → OnOk r (sent ≡ reply kit old f) → OnErr r (sent ≡ before) → GoesOn old kit f r before sent
+goes-by old kit f r before sent i = subst (λ (r : Result Now (InReset × Code)). OnOk r (sent ≡ reply kit old f) → OnErr r (sent ≡ before) → GoesOn old kit f r before sent) (sym i) (goes old kit f before sent)
 
-goes-by : (old : Now) (kit : KitView) (f : SessionFrameView) (r : Result Now (InReset × Code)) (answer before sent : List ℕ) → r ≡ next_state kit old f → answer ≡ reply kit old f → Wrote r answer before sent → GoesOn old kit f r before sent
-goes-by old kit f r answer before sent i j w =
-    subst (λ (r : Result Now (InReset × Code)). Wrote r answer before sent → GoesOn old kit f r before sent) (sym i)
-    (λ w. goes old kit f before sent (subst (λ (answer : List ℕ). OnOk (next_state kit old f) (sent ≡ answer)) j w.written) w.unwritten)
-    w
+pub goes_taken : (old : Now) (kit : KitView) (f : SessionFrameView) (next : Now) (before sent : List ℕ) → Ok next ≡ next_state kit old f → sent ≡ reply kit old f → GoesOn old kit f (Ok next) before sent
+goes_taken old kit f next before sent i w = goes-by old kit f (Ok next) before sent i w tt
 
-whole-then : {T : Type 0} (b : Bool) (x y r : T) → b ≡ true → r ≡ x → r ≡ (if b then x else y)
-whole-then true x y r h i = i
-whole-then false x y r h i = absurd (cc h)
+pub goes_refused : (old : Now) (kit : KitView) (f : SessionFrameView) (reset : InReset) (x : Code) (before sent : List ℕ) → Err (reset, x) ≡ next_state kit old f → sent ≡ before → GoesOn old kit f (Err (reset, x)) before sent
+goes_refused old kit f reset x before sent i u = goes-by old kit f (Err (reset, x)) before sent i tt u
 
-pub more-then : {T : Type 0} (b : Bool) (x y r : T) → b ≡ false → r ≡ y → r ≡ (if b then x else y)
+pub goes_by : {S : Type 0} (g : S → Now) (old : Now) (kit : KitView) (f : SessionFrameView) (r : Result S (InReset × Code)) (before sent : List ℕ) → as_now g r ≡ next_state kit old f
+    → OnOk r (sent ≡ reply kit old f) → OnErr r (sent ≡ before) → GoesOn old kit f (as_now g r) before sent
+goes_by g old kit f (Ok s) before sent i w u = goes_taken old kit f (g s) before sent i w
+goes_by g old kit f (Err e) before sent i w u = goes_refused old kit f e.0 e.1 before sent i u
+
+more-then : {T : Type 0} (b : Bool) (x y r : T) → b ≡ false → r ≡ y → r ≡ (if b then x else y)
 more-then false x y r h i = i
 more-then true x y r h i = absurd (cc h)
-
--- the same of the state as one of the machine's
-state-wrote : {S : Type 0} (g : S → Now) (r : Result S (InReset × Code)) (answer before sent : List ℕ) → OnOk r (sent ≡ answer) → OnErr r (sent ≡ before) → Wrote (as_now g r) answer before sent
-state-wrote g (Ok s) answer before sent w u = record { written = w; unwritten = tt }
-state-wrote g (Err x) answer before sent w u = record { written = tt; unwritten = u }
-
-pub start_goes : (s : InReset) (kit : KitView) (f : SessionFrameView) (r : Result InSession (InReset × Code)) (before sent : List ℕ)
-    → r ≡ states.session_next kit (states.starting kit) f
-    → OnOk r (sent ≡ states.session_reply kit (states.starting kit) f) → OnErr r (sent ≡ before)
-    → GoesOn (now.Reset s) kit f (as_now now.Session r) before sent
-start_goes s kit f r before sent i w u = goes-by (now.Reset s) kit f (as_now now.Session r) _ before sent (ap (as_now now.Session) i) refl (state-wrote now.Session r _ before sent w u)
-
-pub session_goes : (s : InSession) (kit : KitView) (f : SessionFrameView) (r : Result InSession (InReset × Code)) (before sent : List ℕ) → is_whole s.upload ≡ false
-    → r ≡ states.session_next kit s f → OnOk r (sent ≡ states.session_reply kit s f) → OnErr r (sent ≡ before)
-    → GoesOn (now.Session s) kit f (as_now now.Session r) before sent
-session_goes s kit f r before sent h i w u =
-    goes-by (now.Session s) kit f (as_now now.Session r) _ before sent (more-then (is_whole s.upload) _ _ (as_now now.Session r) h (ap (as_now now.Session) i)) (more-then (is_whole s.upload) _ _ _ h refl)
-    (state-wrote now.Session r _ before sent w u)
-
-pub connect_goes : (s : InSession) (kit : KitView) (f : SessionFrameView) (r : Result InConnection (InReset × Code)) (before sent : List ℕ) → IsTrue (is_whole s.upload)
-    → r ≡ states.connection_next kit (states.connecting kit s f.frame.conn) f
-    → OnOk r (sent ≡ states.connection_reply kit (states.connecting kit s f.frame.conn) f) → OnErr r (sent ≡ before)
-    → GoesOn (now.Session s) kit f (as_now now.Connection r) before sent
-connect_goes s kit f r before sent h i w u =
-    goes-by (now.Session s) kit f (as_now now.Connection r) _ before sent (whole-then (is_whole s.upload) _ _ (as_now now.Connection r) h (ap (as_now now.Connection) i)) (whole-then (is_whole s.upload) _ _ _ h refl)
-    (state-wrote now.Connection r _ before sent w u)
-
-pub connection_goes : (s : InConnection) (kit : KitView) (f : SessionFrameView) (r : Result InConnection (InReset × Code)) (before sent : List ℕ) → is_whole s.upload ≡ false
-    → r ≡ states.connection_next kit s f → OnOk r (sent ≡ states.connection_reply kit s f) → OnErr r (sent ≡ before)
-    → GoesOn (now.Connection s) kit f (as_now now.Connection r) before sent
-connection_goes s kit f r before sent h i w u =
-    goes-by (now.Connection s) kit f (as_now now.Connection r) _ before sent (more-then (is_whole s.upload) _ _ (as_now now.Connection r) h (ap (as_now now.Connection) i)) (more-then (is_whole s.upload) _ _ _ h refl)
-    (state-wrote now.Connection r _ before sent w u)
-
-pub load_goes : (s : InConnection) (kit : KitView) (f : SessionFrameView) (r : Result InParameter (InReset × Code)) (before sent : List ℕ) → IsTrue (is_whole s.upload)
-    → r ≡ states.parameter_next kit (states.loading kit s) f
-    → OnOk r (sent ≡ states.parameter_reply kit (states.loading kit s) f) → OnErr r (sent ≡ before)
-    → GoesOn (now.Connection s) kit f (as_now now.Parameter r) before sent
-load_goes s kit f r before sent h i w u =
-    goes-by (now.Connection s) kit f (as_now now.Parameter r) _ before sent (whole-then (is_whole s.upload) _ _ (as_now now.Parameter r) h (ap (as_now now.Parameter) i)) (whole-then (is_whole s.upload) _ _ _ h refl)
-    (state-wrote now.Parameter r _ before sent w u)
-
-pub parameter_goes : (s : InParameter) (kit : KitView) (f : SessionFrameView) (r : Result InParameter (InReset × Code)) (before sent : List ℕ) → is_whole s.upload ≡ false
-    → r ≡ states.parameter_next kit s f → OnOk r (sent ≡ states.parameter_reply kit s f) → OnErr r (sent ≡ before)
-    → GoesOn (now.Parameter s) kit f (as_now now.Parameter r) before sent
-parameter_goes s kit f r before sent h i w u =
-    goes-by (now.Parameter s) kit f (as_now now.Parameter r) _ before sent (more-then (is_whole s.upload) _ _ (as_now now.Parameter r) h (ap (as_now now.Parameter) i)) (more-then (is_whole s.upload) _ _ _ h refl)
-    (state-wrote now.Parameter r _ before sent w u)
-
-pub run_goes : (s : InParameter) (kit : KitView) (f : SessionFrameView) (r : Result InData (InReset × Code)) (before sent : List ℕ) → IsTrue (is_whole s.upload)
-    → r ≡ states.data_next kit (states.running kit s) f
-    → OnOk r (sent ≡ states.data_reply kit (states.running kit s) f) → OnErr r (sent ≡ before)
-    → GoesOn (now.Parameter s) kit f (as_now now.Data r) before sent
-run_goes s kit f r before sent h i w u =
-    goes-by (now.Parameter s) kit f (as_now now.Data r) _ before sent (whole-then (is_whole s.upload) _ _ (as_now now.Data r) h (ap (as_now now.Data) i)) (whole-then (is_whole s.upload) _ _ _ h refl)
-    (state-wrote now.Data r _ before sent w u)
-
-pub data_goes : (s : InData) (kit : KitView) (f : SessionFrameView) (next : InData) (before sent : List ℕ)
-    → Ok next ≡ states.data_next kit s f → sent ≡ states.data_reply kit s f
-    → GoesOn (now.Data s) kit f (Ok (now.Data next)) before sent
-data_goes s kit f next before sent i w = goes-by (now.Data s) kit f (Ok (now.Data next)) _ before sent (ap (as_now now.Data) i) refl (record { written = w; unwritten = tt })
-
-pub data_refused : (s : InData) (kit : KitView) (f : SessionFrameView) (reset : InReset) (x : Code) (before sent : List ℕ)
-    → Err (reset, x) ≡ states.data_next kit s f → sent ≡ before
-    → GoesOn (now.Data s) kit f (Err (reset, x)) before sent
-data_refused s kit f reset x before sent i u = goes-by (now.Data s) kit f (Err (reset, x)) (reply kit (now.Data s) f) before sent (ap (as_now now.Data) i) refl (record { written = tt; unwritten = u })
-
-pub session_taken : (s : InSession) (kit : KitView) (f : SessionFrameView) (next : InSession) (before sent : List ℕ) → is_whole s.upload ≡ false
-    → Ok next ≡ states.session_next kit s f → sent ≡ states.session_reply kit s f
-    → GoesOn (now.Session s) kit f (Ok (now.Session next)) before sent
-session_taken s kit f next before sent h i w = session_goes s kit f (Ok next) before sent h i w tt
-
-pub session_refused : (s : InSession) (kit : KitView) (f : SessionFrameView) (reset : InReset) (x : Code) (before sent : List ℕ) → is_whole s.upload ≡ false
-    → Err (reset, x) ≡ states.session_next kit s f → sent ≡ before
-    → GoesOn (now.Session s) kit f (Err (reset, x)) before sent
-session_refused s kit f reset x before sent h i u = session_goes s kit f (Err (reset, x)) before sent h i tt u
-
-pub connection_taken : (s : InConnection) (kit : KitView) (f : SessionFrameView) (next : InConnection) (before sent : List ℕ) → is_whole s.upload ≡ false
-    → Ok next ≡ states.connection_next kit s f → sent ≡ states.connection_reply kit s f
-    → GoesOn (now.Connection s) kit f (Ok (now.Connection next)) before sent
-connection_taken s kit f next before sent h i w = connection_goes s kit f (Ok next) before sent h i w tt
-
-pub connection_refused : (s : InConnection) (kit : KitView) (f : SessionFrameView) (reset : InReset) (x : Code) (before sent : List ℕ) → is_whole s.upload ≡ false
-    → Err (reset, x) ≡ states.connection_next kit s f → sent ≡ before
-    → GoesOn (now.Connection s) kit f (Err (reset, x)) before sent
-connection_refused s kit f reset x before sent h i u = connection_goes s kit f (Err (reset, x)) before sent h i tt u
-
-pub parameter_taken : (s : InParameter) (kit : KitView) (f : SessionFrameView) (next : InParameter) (before sent : List ℕ) → is_whole s.upload ≡ false
-    → Ok next ≡ states.parameter_next kit s f → sent ≡ states.parameter_reply kit s f
-    → GoesOn (now.Parameter s) kit f (Ok (now.Parameter next)) before sent
-parameter_taken s kit f next before sent h i w = parameter_goes s kit f (Ok next) before sent h i w tt
-
-pub parameter_refused : (s : InParameter) (kit : KitView) (f : SessionFrameView) (reset : InReset) (x : Code) (before sent : List ℕ) → is_whole s.upload ≡ false
-    → Err (reset, x) ≡ states.parameter_next kit s f → sent ≡ before
-    → GoesOn (now.Parameter s) kit f (Err (reset, x)) before sent
-parameter_refused s kit f reset x before sent h i u = parameter_goes s kit f (Err (reset, x)) before sent h i tt u
 
 -- a state that went on in place, as one of the machine's
 placed : {S : Type 0} (g : S → Now) (r : Result (Unit {0}) Code) (next : S) → states.or_reset r (g next) ≡ as_now g (states.or_reset r next)

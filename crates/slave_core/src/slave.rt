@@ -69,6 +69,8 @@ impl Slave {
         *did = Did::reset(passed, why);
     }
 
+    #[cold]
+    #[inline(never)]
     fn forget(&mut self)
         ensures { self.new ≡ fallen self.old }
     {

@@ -70,7 +70,7 @@ impl InReset {
 
     /// Begins a session by a Session frame. The slave's session id is its nonce at this moment. Refused with 07h
     /// where the padding isn't zeros.
-    #[tactic(auto, using(crate::proofs::Transitions::start_goes))]
+    #[tactic(auto, using(crate::proofs::Transitions::goes_by))]
     pub fn start(
         self,
         seen: &Seen<'_>,
@@ -104,7 +104,7 @@ impl InReset {
 impl InSession {
     /// Goes on by a Session frame, as long as the master's session id isn't whole: it is answered with the piece of the
     /// slave's own session id that has the same number. Refused with 07h where the padding isn't zeros.
-    #[tactic(auto, using(crate::proofs::Transitions::session_taken, crate::proofs::Transitions::session_refused))]
+    #[tactic(auto, using(crate::proofs::Transitions::goes_taken, crate::proofs::Transitions::goes_refused))]
     pub fn more(
         mut self,
         seen: &Seen<'_>,
@@ -130,7 +130,7 @@ impl InSession {
     /// Goes on by the first Connection frame, once the master's session id is whole. The connection id of the
     /// session is that of the frame. Refused, field by field as it comes, with 03h for another connection id and
     /// 06h for another slave address, then with 07h where the padding isn't zeros.
-    #[tactic(auto, using(crate::proofs::Transitions::connect_goes))]
+    #[tactic(auto, using(crate::proofs::Transitions::goes_by))]
     pub fn connect(
         self,
         seen: &Seen<'_>,
@@ -195,7 +195,7 @@ impl InSession {
 impl InConnection {
     /// Goes on by a Connection frame, as long as the connection id and the address aren't whole, with the refusals
     /// of the first one: it is answered with its own piece.
-    #[tactic(auto, using(crate::proofs::Transitions::connection_taken, crate::proofs::Transitions::connection_refused))]
+    #[tactic(auto, using(crate::proofs::Transitions::goes_taken, crate::proofs::Transitions::goes_refused))]
     pub fn more(
         mut self,
         seen: &Seen<'_>,
@@ -222,7 +222,7 @@ impl InConnection {
     /// field as it comes, with 08h for another length of the communication parameters, 09h for a watchdog of 0 or
     /// above the longest that is accepted and for another profile word, 0Ah for another number of application
     /// parameters, and 0Bh where these break the rule, then with 07h where the padding isn't zeros.
-    #[tactic(auto, using(crate::proofs::Transitions::load_goes))]
+    #[tactic(auto, using(crate::proofs::Transitions::goes_by))]
     pub fn load(
         self,
         seen: &Seen<'_>,
@@ -290,7 +290,7 @@ impl InConnection {
 impl InParameter {
     /// Goes on by a Parameter frame, as long as the parameters aren't whole, with the refusals of the first one: it is
     /// answered with its own piece.
-    #[tactic(auto, using(crate::proofs::Transitions::parameter_taken, crate::proofs::Transitions::parameter_refused))]
+    #[tactic(auto, using(crate::proofs::Transitions::goes_taken, crate::proofs::Transitions::goes_refused))]
     pub fn more(
         mut self,
         seen: &Seen<'_>,
@@ -315,7 +315,7 @@ impl InParameter {
 
     /// Goes on by the first data frame, once the parameters are whole: from now on the outputs may be other than
     /// zeros. Refused with 07h where a FailSafeData frame has a byte that isn't 0.
-    #[tactic(auto, using(crate::proofs::Transitions::run_goes))]
+    #[tactic(auto, using(crate::proofs::Transitions::goes_by))]
     pub fn run(
         self,
         seen: &Seen<'_>,
@@ -381,7 +381,7 @@ impl InParameter {
 
 impl InData {
     /// Goes on by a data frame. Refused with 07h where a FailSafeData frame has a byte that isn't 0.
-    #[tactic(auto, using(crate::proofs::Transitions::data_goes, crate::proofs::Transitions::data_refused))]
+    #[tactic(auto, using(crate::proofs::Transitions::goes_taken, crate::proofs::Transitions::goes_refused))]
     pub fn more(
         mut self,
         seen: &Seen<'_>,
