@@ -9,21 +9,15 @@
 #[cfg(test)]
 mod of_black_channel;
 #[cfg(test)]
-mod of_fb_lib;
-#[cfg(test)]
 mod of_fb_net;
 #[cfg(test)]
 mod of_fsoe_base;
 #[cfg(test)]
 mod of_fsoe_crc;
 #[cfg(test)]
-mod of_fsoe_frame;
-#[cfg(test)]
 mod of_fsoe_io;
 #[cfg(test)]
 mod of_param_load;
-#[cfg(test)]
-mod of_plant_conf;
 #[cfg(test)]
 mod of_schedule_file;
 #[cfg(test)]

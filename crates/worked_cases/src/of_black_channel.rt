@@ -15,25 +15,21 @@ fn window_of(pushed: u8) -> Window {
     window
 }
 
-/// What it gives so many frames back.
-fn byte_back(pushed: u8, back: u8) -> Option<u8> {
+/// Whether it gives the frame so many back, and this frame of one byte.
+fn is_back(pushed: u8, back: u8, byte: u8) -> (bool, bool) {
     let mut out = FrameBuf::new();
-    if !(1..=64).contains(&back) || !window_of(pushed).back(back, &mut out) {
-        return None;
-    }
-    out.bytes().first().copied()
+    let found = (1..=64).contains(&back) && window_of(pushed).back(back, &mut out);
+    (found, out.bytes() == [byte].as_slice())
 }
 
 #[test]
 fn a_window_gives_the_last_64_frames_back(rt: HostRuntime) {
-    for (pushed, back, byte) in [
-        (70, 64, Some(7)),
-        (70, 2, Some(69)),
-        (70, 1, Some(70)),
-        (1, 2, None),
-        (0, 1, None),
-    ] {
-        assert_eq!(rt; byte_back(pushed, back), byte, "{back} of {pushed}");
+    for (pushed, back, byte, found) in [(70, 64, 7, true), (70, 1, 70, true), (1, 2, 1, false)] {
+        assert_eq!(rt;
+            is_back(pushed, back, byte),
+            (found, found),
+            "{back} of {pushed}"
+        );
     }
     assert_eq!(rt; window_of(70).sent(), 70);
 }

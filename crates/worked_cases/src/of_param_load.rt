@@ -3,8 +3,7 @@ ghost use Rattle.param_load.specs.AppRule.{is_acceptable};
 
 use fsoe_base::{Code, Image, Lengths};
 use param_load::{
-    AppBytes, AppRule, BadSetting, Download, MasterSettings, Payload, Profile, Progress,
-    SlaveSettings, Upload,
+    AppBytes, AppRule, BadSetting, MasterSettings, Profile, Progress, SlaveSettings, Upload,
 };
 use std::test::Fail;
 
@@ -37,11 +36,6 @@ fn one_byte() -> AppRule
 
 fn parameters(profile: Profile, frames: &[[u8; 2]]) -> Result<Progress, Code> {
     let mut upload = Upload::parameter(2, 1000, &one_byte(), profile);
-    outcome(&mut upload, frames)
-}
-
-fn connection(frames: &[[u8; 2]]) -> Result<Progress, Code> {
-    let mut upload = Upload::connection(2, 1, 2);
     outcome(&mut upload, frames)
 }
 
@@ -120,17 +114,6 @@ fn parameters_are_tested_field_by_field(rt: HostRuntime) {
     }
 }
 
-#[test]
-fn a_connection_is_tested_field_by_field(rt: HostRuntime) {
-    for (frames, want) in [
-        ([[1, 0], [2, 0]].as_slice(), WHOLE),
-        (&[[1, 1]], Err(Code::WRONG_CONNECTION)),
-        (&[[1, 0], [3, 0]], Err(Code::WRONG_ADDRESS)),
-    ] {
-        assert_eq!(rt; connection(frames), want, "after {frames:?}");
-    }
-}
-
 /// The watchdog of a whole upload, its application parameters where there is one, and what answers its last frame.
 fn told(frames: &[[u8; 2]]) -> Option<(u16, Option<u8>, Image)> {
     let mut upload = Upload::parameter(2, 1000, &one_byte(), Profile::One);
@@ -146,71 +129,12 @@ fn told(frames: &[[u8; 2]]) -> Option<(u16, Option<u8>, Image)> {
     ))
 }
 
-/// The session id of a whole upload in profile Two.
-fn told_id(frames: &[[u8; 2]]) -> Option<u32> {
-    let mut upload = Upload::session(2, Profile::Two(7));
-    outcome(&mut upload, frames).ok()?;
-    if upload.is_whole() {
-        Some(upload.id())
-    } else {
-        None
-    }
-}
-
 #[test]
 fn a_whole_upload_tells_what_came(rt: HostRuntime) -> Result<(), Fail> {
     let (watchdog, app, echo) = told(&[[2, 0], [100, 0], [1, 0], [0x20, 0]]).ok_or("not whole")?;
     assert_eq!(rt; (watchdog, app), (100, Some(0x20)));
     assert_eq!(rt; echo.bytes(), [0x20, 0, 0, 0].as_slice());
-    assert_eq!(rt; told_id(&[[1, 2], [3, 4]]), Some(0x0403_0201));
     Ok(())
-}
-
-/// What the last of these answers gives to a download, or the first code; Whole also where answers are left.
-fn answered(download: &mut Download, answers: &[[u8; 4]]) -> Result<Progress, Code>
-    requires { download.old.piece ≡ 2 }
-    ensures { download.new.piece ≡ 2 }
-{
-    let mut last = Progress::More;
-    for answer in answers {
-        if download.is_whole() {
-            break;
-        }
-        last = download.check(answer)?;
-    }
-    Ok(last)
-}
-
-/// What the last of these answers gives to the download of a connection, which are to be its bytes or any, and the
-/// first byte of its piece in turn then, if there is one.
-fn download(echo: bool, answers: &[[u8; 4]]) -> (Result<Progress, Code>, Option<u8>) {
-    let mut download = Download::new(Payload::connection(1, 2), 2, echo);
-    let outcome = answered(&mut download, answers);
-    if download.is_whole() {
-        return (outcome, None);
-    }
-    (outcome, download.load(4).bytes().first().copied())
-}
-
-#[test]
-fn answers_to_a_download_are_tested(rt: HostRuntime) {
-    for (echo, answers, want, next) in [
-        (true, [].as_slice(), MORE, Some(1)),
-        (true, &[[1, 0, 0, 0]], MORE, Some(2)),
-        (true, &[[1, 0, 0, 0], [2, 0, 0, 0]], WHOLE, None),
-        (
-            true,
-            &[[1, 0, 0, 0], [3, 0, 0, 0]],
-            Err(Code::WRONG_DATA),
-            Some(2),
-        ),
-        (true, &[[1, 0, 0, 1]], Err(Code::WRONG_DATA), Some(1)),
-        (true, &[[0, 0, 0, 0]], Err(Code::WRONG_DATA), Some(1)),
-        (false, &[[9, 9, 0, 0], [9, 9, 0, 0]], WHOLE, None),
-        (false, &[[9, 9, 1, 0]], Err(Code::WRONG_DATA), Some(1)),
-    ] {
-        assert_eq!(rt; download(echo, answers), (want, next), "after {answers:?}");
-    }
 }
 
 /// Why a master of profile One and one of profile Two can't be set so.
@@ -259,19 +183,4 @@ fn bytes(b: u8) -> AppBytes {
     let mut bytes = AppBytes::new();
     bytes.push(b);
     bytes
-}
-
-#[test]
-fn payloads_are_laid_out(rt: HostRuntime) {
-    let session = Payload::session(0x0102_0304, Profile::Two(7));
-    assert_eq!(rt; session.bytes(), [4, 3, 2, 1].as_slice());
-    let session = Payload::session(0x0304, Profile::One);
-    assert_eq!(rt; session.bytes(), [4, 3].as_slice());
-    let parameter = Payload::parameter(100, Profile::Two(7), &bytes(0x30));
-    assert_eq!(rt;
-        parameter.bytes(),
-        [4, 0, 100, 0, 7, 0, 1, 0, 0x30].as_slice()
-    );
-    let connection = Payload::connection(1, 2);
-    assert_eq!(rt; connection.bytes(), [1, 0, 2, 0].as_slice());
 }

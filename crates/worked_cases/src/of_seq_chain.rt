@@ -1,6 +1,7 @@
-use fsoe_base::{Command, FrameBuf};
+use fsoe_base::{Code, Command, End, FrameBuf, Lengths};
 use fsoe_frame::view;
-use seq_chain::Chain;
+use seq_chain::{Chain, reset_frame, reset_view};
+use std::test::Fail;
 
 /// A frame with two safe data bytes: command, data, number and CRC.
 type Row = (Command, [u8; 2], u16, u16);
@@ -113,4 +114,92 @@ fn sessions(rt: HostRuntime) {
     ] {
         assert_eq!(rt; first_unlike(begun, then), None, "after {begun}");
     }
+}
+
+/// The chain of a session of which the data 01 00 were sealed with each number below 65,535.
+fn with_last_number() -> Chain {
+    let mut chain = Chain::new();
+    let mut out = FrameBuf::new();
+    for _ in 1..65_535u16 {
+        chain.seal(Command::ProcessData, 1, &[1, 0], &mut out);
+    }
+    chain
+}
+
+/// The frame that it seals of these data, and the number that comes after it.
+fn sealed_next(mut chain: Chain, load: [u8; 2]) -> (FrameBuf, u16) {
+    let mut out = FrameBuf::new();
+    chain.seal(Command::ProcessData, 1, &load, &mut out);
+    (out, chain.own_seq())
+}
+
+/// With the number 65,535 the second frame would have the CRC of the one before it, so it has the number 1.
+#[test]
+fn numbers_end_at_65_535(rt: HostRuntime) {
+    let chain = with_last_number();
+    assert_eq!(rt; chain.own_seq(), 65_535);
+    for (load, frame, next) in [
+        ([0x01, 0x00], [0x36, 0x01, 0x00, 0x1C, 0x32, 0x01, 0x00], 1),
+        ([0x87, 0xFB], [0x36, 0x87, 0xFB, 0xC5, 0x4A, 0x01, 0x00], 2),
+    ] {
+        let (out, after) = sealed_next(chain, load);
+        assert_eq!(rt; (out.bytes(), after), (frame.as_slice(), next));
+    }
+}
+
+/// A code, and its Reset frame.
+const RESETS: [(u8, &[u8]); 14] = [
+    (0x00, &[0x2A, 0x00, 0x00, 0xC4, 0x2D, 0x00, 0x00]),
+    (0x01, &[0x2A, 0x01, 0x00, 0x47, 0xB7, 0x00, 0x00]),
+    (0x02, &[0x2A, 0x02, 0x00, 0x75, 0x21, 0x00, 0x00]),
+    (0x03, &[0x2A, 0x03, 0x00, 0xF6, 0xBB, 0x00, 0x00]),
+    (0x04, &[0x2A, 0x04, 0x00, 0xA6, 0x34, 0x00, 0x00]),
+    (0x05, &[0x2A, 0x05, 0x00, 0x25, 0xAE, 0x00, 0x00]),
+    (0x06, &[0x2A, 0x06, 0x00, 0x17, 0x38, 0x00, 0x00]),
+    (0x07, &[0x2A, 0x07, 0x00, 0x94, 0xA2, 0x00, 0x00]),
+    (0x08, &[0x2A, 0x08, 0x00, 0x00, 0x1F, 0x00, 0x00]),
+    (0x09, &[0x2A, 0x09, 0x00, 0x83, 0x85, 0x00, 0x00]),
+    (0x0A, &[0x2A, 0x0A, 0x00, 0xB1, 0x13, 0x00, 0x00]),
+    (0x0B, &[0x2A, 0x0B, 0x00, 0x32, 0x89, 0x00, 0x00]),
+    (0x00, &[0x2A, 0x00, 0x86, 0xF8, 0x00, 0x00]),
+    (
+        0x00,
+        &[
+            0x2A, 0x00, 0x00, 0xC4, 0x2D, 0x00, 0x00, 0xB9, 0x14, 0x00, 0x00,
+        ],
+    ),
+];
+
+/// The same for four bytes of data, of which the last one isn't 0.
+const ALTERED: [u8; 11] = [
+    0x2A, 0x00, 0x00, 0xC4, 0x2D, 0x00, 0x01, 0xB9, 0x14, 0x00, 0x00,
+];
+
+/// The Reset frame with this code and so many bytes as these, and what is told of these.
+fn reset_like(code: u8, bytes: &[u8]) -> Option<(FrameBuf, Result<Code, Code>)> {
+    let l = if bytes.len() == 6 {
+        1
+    } else {
+        bytes.len().saturating_sub(3) / 2
+    };
+    let lengths = Lengths::new(l, l).ok()?;
+    let mut out = FrameBuf::new();
+    reset_frame(Code(code), lengths.of(End::Master), &mut out);
+    let frame = view(bytes, lengths.of(End::Master))?;
+    if frame.command_byte() != Command::Reset.byte() {
+        return None;
+    }
+    Some((out, reset_view(&frame)))
+}
+
+#[test]
+fn reset_frames_are_written_and_read(rt: HostRuntime) -> Result<(), Fail> {
+    for (code, bytes) in RESETS {
+        let (written, told) = reset_like(code, bytes).ok_or("no frame")?;
+        assert_eq!(rt; written.bytes(), bytes);
+        assert_eq!(rt; told, Ok(Code(code)));
+    }
+    let (_, told) = reset_like(0, &ALTERED).ok_or("no frame")?;
+    assert_eq!(rt; told, Err(Code::WRONG_CRC));
+    Ok(())
 }

@@ -3,7 +3,7 @@ ghost use Rattle.fb_net.specs.Mirror.{mirror_images};
 
 use entry_text::push_entry;
 use failsafe_io::{Application, Bit};
-use fb_net::Mirror;
+use fb_net::{AppKind, KindOf, Mirror};
 use fsoe_base::{Did, FrameBuf, Image, Lengths};
 use fsoe_io::LineText;
 use multi_master::{MultiMaster, NewFault};
@@ -24,6 +24,15 @@ fn settings(alloc: Global, conns: &[u16]) -> Result<Vec<MasterSettings>, Fail> {
         settings.push(MasterSettings::new(lengths, *conn, address, 5, AppBytes::new(), 1)?)?;
     }
     Ok(settings)
+}
+
+/// The master of connections with these ids, or why there is none.
+fn master_of<A: Application>(
+    alloc: Global,
+    conns: &[u16],
+    app: A,
+) -> Result<Result<MultiMaster<A>, NewFault>, Fail> {
+    Ok(MultiMaster::new(settings(alloc, conns)?, app))
 }
 
 /// Whether this is what a report says of a connection that did this and sent this frame.
@@ -82,7 +91,7 @@ const DROPPED: &str = "drop Length Reset 0000";
 
 #[test]
 fn a_connection_leaves_its_neighbour_alone(rt: HostRuntime) -> Result<(), Fail> {
-    let made = MultiMaster::new(settings(rt.alloc(), &[1, 2])?, Mirror);
+    let made = master_of(rt.alloc(), &[1, 2], Mirror)?;
     let mut multi = made.ok().ok_or("refused")?;
     assert!(rt; ticks(&mut multi, [RESET_SENT, RESET_SENT]));
     assert!(rt; delivers(&mut multi, 1, &RESET, SESSION_SENT));
@@ -105,7 +114,7 @@ fn fault_of_many(alloc: Global, count: u16) -> Result<Option<NewFault>, Fail> {
 }
 
 fn fault_of(alloc: Global, conns: &[u16]) -> Result<Option<NewFault>, Fail> {
-    Ok(MultiMaster::new(settings(alloc, conns)?, Mirror).err())
+    Ok(master_of(alloc, conns, Mirror)?.err())
 }
 
 #[test]
@@ -160,17 +169,29 @@ impl Application for Counts {
     }
 }
 
+/// A new one, handed in within a box.
+fn counting(alloc: Global) -> Result<AppKind, Fail> {
+    let app: Box<dyn Application> = Box::new(alloc, Counts { cycles: 0 })?;
+    Ok(KindOf::Handed(app))
+}
+
 /// Whether both connections offer this byte and a zero, and these are told as changed.
-fn offers(multi: &MultiMaster<Counts>, byte: u8, changed: &[u16]) -> bool {
+fn offers(multi: &MultiMaster<AppKind>, byte: u8, changed: &[u16]) -> bool {
     if multi.links() != 2 || multi.changed() != changed {
         return false;
     }
     multi.offer(1) == [byte, 0].as_slice() && multi.offer(2) == [byte, 0].as_slice()
 }
 
+/// Whether both connections offer the answers to the first cycle of another application.
+fn begins_anew(multi: &mut MultiMaster<AppKind>, app: AppKind) -> bool {
+    multi.change_app(app);
+    offers(multi, 1, &[1, 2])
+}
+
 #[test]
 fn another_application_begins_anew(rt: HostRuntime) -> Result<(), Fail> {
-    let made = MultiMaster::new(settings(rt.alloc(), &[1, 2])?, Counts { cycles: 0 });
+    let made = master_of(rt.alloc(), &[1, 2], counting(rt.alloc())?)?;
     let mut multi = made.ok().ok_or("refused")?;
     assert!(rt; offers(&multi, 0, &[]));
     assert!(rt; ticks(&mut multi, [RESET_SENT, RESET_SENT]));
@@ -179,7 +200,6 @@ fn another_application_begins_anew(rt: HostRuntime) -> Result<(), Fail> {
     // A frame that is dropped runs no cycle.
     assert!(rt; delivers(&mut multi, 2, &[0], DROPPED));
     assert!(rt; offers(&multi, 2, &[]));
-    multi.change_app(Counts { cycles: 0 });
-    assert!(rt; offers(&multi, 1, &[1, 2]));
+    assert!(rt; begins_anew(&mut multi, counting(rt.alloc())?));
     Ok(())
 }

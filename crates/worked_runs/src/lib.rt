@@ -1,6 +1,6 @@
-//! Worked cases of whole runs: of commands over an input at which the outside fails, of a pair over a schedule, and of
-//! a plant over its script; rows that were given from outside. A plain program judges whether the entries of a run are
-//! fair.
+//! Worked cases of whole runs: of a replay over an input, also where the outside fails, of a pair over a schedule, and
+//! of a plant and its script; rows that were given from outside. A plain program judges whether the entries of a run
+//! are fair.
 #![tactic(auto)]
 
 #[cfg(test)]
@@ -9,6 +9,8 @@ mod fairness;
 mod of_commands;
 #[cfg(test)]
 mod of_duo_run;
+#[cfg(test)]
+mod of_plant_conf;
 #[cfg(test)]
 mod of_plant_run;
 #[cfg(test)]

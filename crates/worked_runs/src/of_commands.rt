@@ -1,29 +1,35 @@
-//! Runs of commands over an input of few events, at which the outside fails.
-use duo_run::{run_bulk, run_convert, run_replay};
-use fsoe_base::End;
-use fsoe_io::{Ended, MemSink, MemSource, Status};
-use node_runner::run_node;
-use process_image::run_image;
+//! Runs of `replay` over an input in memory: where they end, also where the outside fails; and the events of a number.
+use duo_run::{run_bulk, run_replay};
+use fsoe_io::{Ended, MemSink, MemSource, Status, SureSink};
 use schedule_file::{LineBuf, Maker, write_event};
-use std::alloc::Global;
+use std::alloc::{AllocError, Global};
 use std::test::Fail;
-use trace_diag::run_diagnose;
 
-/// What is run over an input.
-#[derive(Clone, Copy)]
-enum Run {
-    Node(End),
-    Replay,
-    Convert,
-    Diagnose,
-    Image,
+/// The header of a pair file, of six lines.
+const HEADER: &str =
+    "fsoe 1 pair\nlengths 2 2\nmaster 1 2 100 1\nslave 2 200 1000 2\nrule any 0\ngo\n";
+
+/// The events up to the first data of both ends, after a whole handshake.
+pub(crate) const UNTIL_DATA: &str =
+    "pm 0100\nps 8000\ntm\nds -1\ndm -1\nds -1\ndm -1\nds -1\ndm -1\nds -1\ndm -1\nds -1\ndm -1\nds -1\ndm -1\nds -1\ndm -1\nds -1\ndm -1\n";
+
+/// The lines up to those data in a file of several pairs, of which there is one.
+const UNTIL_DATA_OF_PAIR: &str =
+    "fsoe 2 pairs\npair 1\nlengths 2 2\nmaster 1 2 100 1\nslave 2 200 1000 2\nrule any 0\ngo\n1 pm 0100\n1 ps 8000\n1 tm\n1 ds -1\n1 dm -1\n1 ds -1\n1 dm -1\n1 ds -1\n1 dm -1\n1 ds -1\n1 dm -1\n1 ds -1\n1 dm -1\n1 ds -1\n1 dm -1\n1 ds -1\n1 dm -1\n1 ds -1\n1 dm -1\n";
+
+/// These parts of a text, joined.
+fn joined(alloc: Global, parts: &[&str]) -> Result<Vec<u8>, AllocError> {
+    let mut text = Vec::new(alloc);
+    for part in parts {
+        text.extend_from_slice(part.as_bytes())?;
+    }
+    Ok(text)
 }
 
-/// Runs it over an input, of which `most` bytes come and go in a call; the read and the write of these numbers fail, of
-/// 0 none. None where there is no memory for it.
+/// Replays an input, of which `most` bytes come and go in a call; the read and the write of these numbers fail, of 0
+/// none. None where there is no memory for it.
 fn run_over(
     alloc: Global,
-    run: Run,
     input: &[u8],
     most: usize,
     read_fails: u64,
@@ -33,242 +39,133 @@ fn run_over(
     let bytes = input.to_vec(alloc).ok()?;
     let mut source = MemSource::new(bytes, most, vec![in alloc; read_fails].ok()?);
     let mut sink = MemSink::new(alloc, 100_000, most, vec![in alloc; write_fails].ok()?).ok()?;
-    let ended = match run {
-        Run::Node(end) => run_node(end, &mut source, &mut sink),
-        Run::Replay => run_replay(alloc, &mut source, &mut sink),
-        Run::Convert => run_convert(&mut source, &mut sink),
-        Run::Diagnose => run_diagnose(&mut source, &mut sink),
-        Run::Image => run_image(alloc, &mut source, &mut sink),
-    };
+    let ended = run_replay(alloc, &mut source, &mut sink);
     Some((ended, sink))
 }
 
-/// What runs, and the lines of a short input, each with what is written once it is read.
-type Short = (Run, &'static [(&'static str, &'static str)]);
+/// The parts of an input, and how its replay ends.
+type Row = (&'static [&'static str], Status, u64);
 
-const SHORTS: [Short; 7] = [
+const ROWS: [Row; 7] = [
+    (&[HEADER, "end\n"], Status::Ok, 0),
     (
-        Run::Node(End::Slave),
-        &[
-            ("fsoe 1 node slave\n", ""),
-            ("lengths 2 2\n", ""),
-            ("slave 2 200 1000 2\n", ""),
-            ("rule any 0\n", ""),
-            ("go\n", ""),
-            ("t\n", "1 quiet Reset 0000\n"),
-            ("h 1\n", "2 quiet Reset 0000\n"),
-            ("end\n", "events 2\n"),
-        ],
+        &[HEADER, UNTIL_DATA, "rs 36ff004ee90100\nend\n"],
+        Status::Other,
+        20,
     ),
     (
-        Run::Node(End::Master),
-        &[
-            ("fsoe 1 node master\n", ""),
-            ("lengths 2 2\n", ""),
-            ("master 1 2 100 1\n", ""),
-            ("go\n", ""),
-            ("t\n", "1 again Reset 0000 > 2a0000c42d0000\n"),
-            ("h 1\n", "2 quiet Reset 0000\n"),
-            ("end\n", "events 2\n"),
-        ],
+        &[HEADER, UNTIL_DATA, "zs\nds -8\nds -7\nend\n"],
+        Status::Other,
+        22,
     ),
     (
-        Run::Replay,
-        &[
-            ("fsoe 1 pair\n", ""),
-            ("lengths 2 2\n", ""),
-            ("master 1 2 100 1\n", ""),
-            ("slave 2 200 1000 2\n", ""),
-            ("rule any 0\n", ""),
-            ("go\n", ""),
-            ("pm 0100\n", "1 m quiet Reset 0000\n"),
-            ("ps 8000\n", "2 s quiet Reset 0000\n"),
-            ("tm\n", "3 m again Reset 0000 > 2a0000c42d0000\n"),
-            ("end\n", "events 3\nother none\n"),
-        ],
+        &[UNTIL_DATA_OF_PAIR, "1 rs 36ff004ee90100\nend\n"],
+        Status::Other,
+        20,
     ),
-    (
-        Run::Replay,
-        &[
-            ("fsoe 2 pairs\n", ""),
-            ("pair 1\n", ""),
-            ("lengths 2 2\n", ""),
-            ("master 1 2 100 1\n", ""),
-            ("slave 2 200 1000 2\n", ""),
-            ("rule any 0\n", ""),
-            ("pair 2\n", ""),
-            ("lengths 2 2\n", ""),
-            ("master 1 2 100 1\n", ""),
-            ("slave 2 200 1000 2\n", ""),
-            ("rule any 0\n", ""),
-            ("go\n", ""),
-            (
-                "t\n",
-                "1 1 s quiet Reset 0000\n1 2 s quiet Reset 0000\n1 1 m again Reset 0000 > 2a0000c42d0000\n1 2 m again Reset 0000 > 2a0000c42d0000\n",
-            ),
-            (
-                "1 ds -1\n",
-                "2 1 s took Reset Reset 0000 > 2a0000c42d0000\n",
-            ),
-            ("end\n", "events 2\npair 1 other none\npair 2 other none\n"),
-        ],
-    ),
-    (
-        Run::Convert,
-        &[
-            ("fsoe 1 pair\n", "fsoe 2 pairs\npair 1\n"),
-            ("lengths 2 2\n", "lengths 2 2\n"),
-            ("master 1 2 100 1\n", "master 1 2 100 1\n"),
-            ("slave 2 200 1000 2\n", "slave 2 200 1000 2\n"),
-            ("rule any 0\n", "rule any 0\n"),
-            ("go\n", "go\n"),
-            ("dm -1\n", "1 dm -1\n"),
-            ("end\n", "end\n"),
-        ],
-    ),
-    (
-        Run::Diagnose,
-        &[
-            ("fsoe 1 trace\n", ""),
-            ("lengths 2 2\n", ""),
-            ("go\n", ""),
-            ("m 2a0000c42d0000\n", ""),
-            ("s 2a0000c42d0000\n", ""),
-            ("end\n", "frames 2\nread - - - -\nconforms\n"),
-        ],
-    ),
-    (
-        Run::Image,
-        &[
-            ("fsoe 1 image\n", ""),
-            ("size 7 7\n", ""),
-            ("slot 1 0 0\n", ""),
-            ("lengths 2 2\n", ""),
-            ("slave 2 200 1000 2\n", ""),
-            ("rule any 0\n", ""),
-            ("go\n", ""),
-            ("w 0 2a0000c42d0000\n", ""),
-            ("s\n", "2 1 took Reset Reset 0000 > 2a0000c42d0000\n"),
-            ("s\n", ""),
-            ("end\n", "events 3\nout 2a0000c42d0000\n"),
-        ],
-    ),
+    (&[HEADER, "dm -65\nend\n"], Status::Line, 7),
+    (&[HEADER], Status::Line, 7),
+    (&["fsoe 1 pair\nlengths 3 2\nend\n"], Status::Line, 2),
 ];
 
-/// The whole lines of these bytes.
-pub(crate) fn whole_lines(bytes: &[u8]) -> usize {
-    bytes.iter().filter(|byte| **byte == b'\n').count()
-}
-
-/// The lines of a short input.
-pub(crate) fn input_of(alloc: Global, lines: &[(&str, &str)]) -> Result<Vec<u8>, Fail> {
-    let mut input = Vec::new(alloc);
-    for (line, _) in lines {
-        input.extend_from_slice(line.as_bytes())?;
+#[test]
+fn replays_end_at_their_places(rt: HostRuntime) -> Result<(), Fail> {
+    for (parts, status, place) in ROWS {
+        let input = joined(rt.alloc(), parts)?;
+        let (ended, _) = run_over(rt.alloc(), &input, 1000, 0, 0).ok_or("not run")?;
+        assert_eq!(rt; ended, Ended { status, place }, "{parts:?}");
     }
-    Ok(input)
+    Ok(())
 }
 
-/// What is written once the first so many lines are read.
-pub(crate) fn report_of(
-    alloc: Global,
-    lines: &[(&str, &str)],
-    count: usize,
-) -> Result<Vec<u8>, Fail> {
-    let mut report = Vec::new(alloc);
-    for (_, written) in lines.iter().take(count) {
-        report.extend_from_slice(written.as_bytes())?;
+/// How the replay of an input ends whose first read fails, and what it writes, to a sink that never fails.
+fn unread(alloc: Global, input: Vec<u8>) -> Option<(Ended, SureSink)> {
+    let mut source = MemSource::new(input, 1000, vec![in alloc; 1].ok()?);
+    let mut sink = SureSink::new(alloc, 1000).ok()?;
+    let ended = run_replay(alloc, &mut source, &mut sink);
+    Some((ended, sink))
+}
+
+#[test]
+fn a_call_that_fails_ends_a_replay(rt: HostRuntime) -> Result<(), Fail> {
+    let input = joined(rt.alloc(), &[HEADER, UNTIL_DATA, "end\n"])?;
+    let (ended, sink) = run_over(rt.alloc(), &input, 8, 0, 3).ok_or("not run")?;
+    let (status, place) = (Status::Write, 16);
+    assert_eq!(rt; ended, Ended { status, place });
+    assert_eq!(rt; sink.bytes(), b"1 m quiet Reset ".as_slice());
+    let (ended, sink) = unread(rt.alloc(), input).ok_or("not run")?;
+    let (status, place) = (Status::Read, 0);
+    assert_eq!(rt; ended, Ended { status, place });
+    assert_eq!(rt; sink.bytes(), b"".as_slice());
+    Ok(())
+}
+
+/// What is written once the first so many lines are read of an input with one tick or none.
+fn written(ticks: bool, lines: usize) -> &'static str {
+    match (ticks, lines) {
+        (false, 7) => "events 0\nother none\n",
+        (true, 7) => "1 m again Reset 0000 > 2a0000c42d0000\n",
+        (true, 8) => "1 m again Reset 0000 > 2a0000c42d0000\nevents 1\nother none\n",
+        _ => "",
     }
-    Ok(report)
 }
 
-/// Whether a run ends so, at which the read of this number fails: after the whole lines that were read, and what is
-/// written once they are.
-fn ends_with_read(alloc: Global, short: &Short, input: &[u8], read: usize) -> Result<bool, Fail> {
-    let (run, lines) = *short;
+/// Whether the replay of an input with one tick or none ends so, of which a byte comes in a call, and the read after so
+/// many bytes fails: after the whole lines that were read, with what is written once they are.
+fn ends_with_read(alloc: Global, ticks: bool, input: &[u8], read: usize) -> Option<bool> {
     let fails = (read as u64).saturating_add(1);
-    let (ended, sink) = run_over(alloc, run, input, 1, fails, 0).ok_or("not run")?;
-    let count = whole_lines(&input[..read.min(input.len())]);
-    let report = report_of(alloc, lines, count)?;
-    let (status, place) = (Status::Read, count as u64);
-    Ok(ended == Ended { status, place } && sink.bytes() == report.as_slice())
+    let (ended, sink) = run_over(alloc, input, 1, fails, 0)?;
+    let came = &input[..read.min(input.len())];
+    let lines = came.iter().filter(|byte| **byte == b'\n').count();
+    let (status, place) = if read < input.len() {
+        (Status::Read, lines as u64)
+    } else {
+        (Status::Ok, 0)
+    };
+    let report = written(ticks, lines).as_bytes();
+    Some(ended == Ended { status, place } && sink.bytes() == report)
 }
 
+/// With a byte in a call an input is read as a whole one is, up to the call that fails.
 #[test]
-fn each_read_that_fails_ends_a_run_after_the_whole_lines(rt: HostRuntime) -> Result<(), Fail> {
-    for short in &SHORTS {
-        let input = input_of(rt.alloc(), short.1)?;
-        for read in 0..input.len() {
-            assert!(rt;
-                ends_with_read(rt.alloc(), short, &input, read)?,
-                "read {read}"
-            );
+fn each_read_that_fails_ends_a_replay_after_the_whole_lines(rt: HostRuntime) -> Result<(), Fail> {
+    for (ticks, events) in [(false, "end\n"), (true, "tm\nend\n")] {
+        let input = joined(rt.alloc(), &[HEADER, events])?;
+        for read in 0..=input.len() {
+            let ends = ends_with_read(rt.alloc(), ticks, &input, read).ok_or("not run")?;
+            assert!(rt; ends, "read {read}");
         }
     }
     Ok(())
 }
 
-/// Whether a run ends so, at which the write after so many bytes of its report fails.
-fn ends_with_write(
-    alloc: Global,
-    short: &Short,
-    report: &[u8],
-    written: usize,
-) -> Result<bool, Fail> {
-    let (run, lines) = *short;
-    let input = input_of(alloc, lines)?;
-    let fails = (written as u64).saturating_add(1);
-    let (ended, sink) = run_over(alloc, run, &input, 1, 0, fails).ok_or("not run")?;
-    let (status, place) = (Status::Write, written as u64);
-    Ok(ended == Ended { status, place } && sink.bytes() == &report[..written.min(report.len())])
-}
-
-#[test]
-fn each_write_that_fails_ends_a_run_after_the_bytes_written(rt: HostRuntime) -> Result<(), Fail> {
-    for short in &SHORTS {
-        let report = report_of(rt.alloc(), short.1, short.1.len())?;
-        for written in 0..report.len() {
-            let ends = ends_with_write(rt.alloc(), short, &report, written)?;
-            assert!(rt; ends, "write {written}");
-        }
-    }
-    Ok(())
-}
-
-/// The header of a pair file with the settings of a number's schedule.
-const SETTINGS: &str = "fsoe 1 pair
-lengths 2 2
-master 1 2 100 1
-slave 2 100 1000 2
-rule any 0
-go
-";
-
-/// A pair file with the first 500 events of a number.
-fn events_of(alloc: Global, number: u64) -> Result<Vec<u8>, Fail> {
-    let mut input = SETTINGS.as_bytes().to_vec(alloc)?;
+/// The first so many events of a number, each a line.
+pub(crate) fn events_of(alloc: Global, number: u64, count: u16) -> Result<Vec<u8>, AllocError> {
+    let mut text = Vec::new(alloc);
     let mut maker = Maker::new(number);
     let mut line = LineBuf::new();
-    for _ in 0..500 {
+    for _ in 0..count {
         write_event(&maker.next(), &mut line);
-        input.extend_from_slice(line.bytes())?;
-        input.push(b'\n')?;
+        text.extend_from_slice(line.bytes())?;
+        text.push(b'\n')?;
     }
-    input.extend_from_slice(b"end\n")?;
-    Ok(input)
+    Ok(text)
 }
 
-/// How the run of the events of a number ends, and what it writes.
+/// How the run of the first 500 events of a number ends, and what it writes.
 fn run_number(alloc: Global, number: u64) -> Option<(Ended, MemSink)> {
-    let mut sink = MemSink::new(alloc, 100_000, 1000, Vec::new(alloc)).ok()?;
+    let mut sink = MemSink::new(alloc, 1000, 1000, Vec::new(alloc)).ok()?;
     let ended = run_bulk(number, 500, &mut sink);
     Some((ended, sink))
 }
 
 #[test]
 fn a_replay_of_the_events_of_a_number_ends_alike(rt: HostRuntime) -> Result<(), Fail> {
-    let input = events_of(rt.alloc(), 3)?;
-    let (ended, sink) = run_over(rt.alloc(), Run::Replay, &input, 1000, 0, 0).ok_or("not run")?;
+    let header = "fsoe 1 pair\nlengths 2 2\nmaster 1 2 100 1\nslave 2 100 1000 2\nrule any 0\ngo\n";
+    let mut input = joined(rt.alloc(), &[header])?;
+    input.extend_from_slice(&events_of(rt.alloc(), 3, 500)?)?;
+    input.extend_from_slice(b"end\n")?;
+    let (ended, sink) = run_over(rt.alloc(), &input, 1000, 0, 0).ok_or("not run")?;
     let (status, place) = (Status::Other, 154);
     assert_eq!(rt; ended, Ended { status, place });
     assert!(rt; sink.bytes().ends_with(b"\nevents 500\nother 154\n"));

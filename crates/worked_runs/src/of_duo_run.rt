@@ -2,6 +2,8 @@ ghost use Rattle.std.specs.Prelude.{◌≡◌, ◌<◌, ◌≤◌, ◌+◌, ◌^
 ghost use Rattle.duo_run.specs.Duo.{steps_done};
 
 use crate::fairness::first_unfair;
+use crate::of_commands::UNTIL_DATA;
+use crate::pairs::Played;
 use duo_run::Duo;
 use exchange_model::{ListMonitor, Monitor};
 use fsoe_base::{Command, Did, End, Image, Lengths};
@@ -10,20 +12,18 @@ use schedule_file::{ScheduleLine, read_event};
 use std::alloc::Global;
 use std::test::Fail;
 
-/// The events up to the first data of both ends, after a whole handshake.
-const UNTIL_DATA: [&str; 19] = [
-    "pm 0100", "ps 8000", "tm", "ds -1", "dm -1", "ds -1", "dm -1", "ds -1", "dm -1", "ds -1",
-    "dm -1", "ds -1", "dm -1", "ds -1", "dm -1", "ds -1", "dm -1", "ds -1", "dm -1",
-];
-
-/// Two new ends with two data bytes each way, connection 1, address 2, watchdog 100, no parameters, and nonces 1 and 2.
-fn pair() -> Result<Duo, Fail>
-    ensures { IfOk result (λ duo. steps_done duo ≡ 0) }
+/// Two new ends with two data bytes each way, connection 1, address 2, watchdog 100, no parameters, and nonces 1 and 2;
+/// the slave waits so many ticks in a handshake.
+fn pair(alloc: Global, hand: u16) -> Result<Played, Fail>
+    ensures { IfOk result (λ pair. steps_done pair.duo ≤ length pair.entries.items) }
 {
     let lengths = Lengths::new(2, 2)?;
     let master = MasterSettings::new(lengths, 1, 2, 100, AppBytes::new(), 1)?;
-    let slave = SlaveSettings::new(lengths, 2, 200, 1000, AppRule::Any(0), 2)?;
-    Ok(Duo::new(master, slave))
+    let slave = SlaveSettings::new(lengths, 2, hand, 1000, AppRule::Any(0), 2)?;
+    Ok(Played {
+        duo: Duo::new(master, slave),
+        entries: Vec::new(alloc),
+    })
 }
 
 /// Does the event of a line.
@@ -42,19 +42,12 @@ pub(crate) fn step(duo: &mut Duo, line: &[u8]) -> Option<Entry>
     }
 }
 
-/// The entries of two new ends over the events until the first data, and then over these.
-fn entries_after_first_data(alloc: Global, rows: &[&str]) -> Result<Vec<Entry>, Fail>
-    requires few { length rows.now ≤ 4 }
-{
-    let mut duo = pair()?;
-    let mut entries = Vec::new(alloc);
-    for event in &UNTIL_DATA {
-        entries.push(step(&mut duo, event.as_bytes()).ok_or("event")?)?;
-    }
-    for event in rows {
-        entries.push(step(&mut duo, event.as_bytes()).ok_or("event")?)?;
-    }
-    Ok(entries)
+/// Two new ends after the events until the first data and these.
+fn after_first_data(alloc: Global, events: &str) -> Result<Played, Fail> {
+    let mut pair = pair(alloc, 200)?;
+    pair.lines(UNTIL_DATA)?;
+    pair.lines(events)?;
+    Ok(pair)
 }
 
 /// One thing in the entries of a run that isn't as the ends did it.
@@ -86,40 +79,35 @@ fn make_untrue(entries: &mut Vec<Entry>, what: Untrue) -> Option<()> {
 }
 
 /// The first unfair entry of so many of a run after the first data.
-fn unfair_of(alloc: Global, rows: &[&str], count: usize) -> Result<Option<usize>, Fail>
-    requires few { length rows.now ≤ 4 }
-{
-    let entries = entries_after_first_data(alloc, rows)?;
-    first_unfair(alloc, entries.get(..count).ok_or("few entries")?)
+fn unfair_of(alloc: Global, events: &str, count: usize) -> Result<Option<usize>, Fail> {
+    let pair = after_first_data(alloc, events)?;
+    first_unfair(alloc, pair.entries.get(..count).ok_or("few entries")?)
 }
 
 #[test]
 fn worked_runs_are_fair_before_a_foreign_frame(rt: HostRuntime) -> Result<(), Fail> {
-    for (rows, fair) in [
-        (["ds -1", "zs", "dm -2", "dm -1"].as_slice(), 23),
-        (["zs", "ds -8", "ds -1"].as_slice(), 22),
-        (["rs 36ff004ee90100"].as_slice(), 19),
-        (["zs", "ds -8", "ds -7"].as_slice(), 21),
+    for (events, count, unfair) in [
+        ("ds -1\nzs\ndm -2\ndm -1", 23, None),
+        ("zs\nds -8\nds -1", 22, None),
+        ("rs 36ff004ee90100", 19, None),
+        ("rs 36ff004ee90100", 20, Some(20)),
+        ("zs\nds -8\nds -7", 21, None),
     ] {
-        assert_eq!(rt; unfair_of(rt.alloc(), rows, fair)?, None, "{fair} entries");
+        assert_eq!(rt; unfair_of(rt.alloc(), events, count)?, unfair, "{events}");
     }
     Ok(())
 }
 
 /// The first unfair entries of a run with two repeats, as it is and with one thing made untrue.
 fn unfair_by(alloc: Global, what: Untrue) -> Result<[Option<usize>; 2], Fail> {
-    let mut entries = entries_after_first_data(alloc, &["ds -2", "ds -2"])?;
-    let before = first_unfair(alloc, entries.as_slice())?;
-    make_untrue(&mut entries, what).ok_or("few entries")?;
-    Ok([before, first_unfair(alloc, entries.as_slice())?])
+    let mut pair = after_first_data(alloc, "ds -2\nds -2")?;
+    let before = first_unfair(alloc, pair.entries.as_slice())?;
+    make_untrue(&mut pair.entries, what).ok_or("few entries")?;
+    Ok([before, first_unfair(alloc, pair.entries.as_slice())?])
 }
 
 #[test]
 fn untrue_entries_are_unfair(rt: HostRuntime) -> Result<(), Fail> {
-    assert_eq!(rt;
-        unfair_of(rt.alloc(), &["rs 36ff004ee90100"], 20)?,
-        Some(20)
-    );
     for (what, unfair) in [
         (Untrue::Put, 18),
         (Untrue::Terms, 18),
@@ -135,12 +123,12 @@ fn untrue_entries_are_unfair(rt: HostRuntime) -> Result<(), Fail> {
     Ok(())
 }
 
-/// The first other entry, and the number of the item that each end awaits after the entries. None where the monitors of
-/// a run differ, or where memory ran out.
+/// The first other entry of these, and the number of the item that each end awaits after them. None where both monitors
+/// differ after one of them, or where memory ran out.
 fn judged(alloc: Global, entries: &[Entry]) -> Option<(Option<u64>, [Option<u64>; 2])> {
     let mut monitor = Monitor::new();
     let mut plain = ListMonitor::new(alloc);
-    if entries.len() > 1000 {
+    if entries.len() > 10_000 {
         return None;
     }
     for entry in entries {
@@ -154,37 +142,31 @@ fn judged(alloc: Global, entries: &[Entry]) -> Option<(Option<u64>, [Option<u64>
     Some((monitor.other(), awaited))
 }
 
-/// The same after the first data and these events.
-fn judged_after(
-    alloc: Global,
-    rows: &[&str],
-) -> Result<Option<(Option<u64>, [Option<u64>; 2])>, Fail>
-    requires few { length rows.now ≤ 4 }
-{
-    let entries = entries_after_first_data(alloc, rows)?;
-    Ok(judged(alloc, entries.as_slice()))
-}
-
 #[test]
-fn monitors_find_the_first_other_entry(rt: HostRuntime) -> Result<(), Fail> {
-    for (rows, other) in [
-        ([].as_slice(), None),
-        (&["ds -1", "dm -1", "ds -3"], None),
-        (&["ds -1", "zs", "dm -2", "dm -1"], None),
-        (&["zs", "ds -8", "ds -1"], None),
-        (&["hs 1", "ds -1", "dm -1"], None),
-        (&["rs 36ff004ee90100"], Some(20)),
-        (&["zs", "ds -8", "ds -7"], Some(22)),
+fn both_monitors_find_the_first_other_entry(rt: HostRuntime) -> Result<(), Fail> {
+    for (events, other) in [
+        ("", None),
+        ("ds -1\nzs\ndm -2\ndm -1", None),
+        ("rs 36ff004ee90100", Some(20)),
+        ("zs\nds -8\nds -7", Some(22)),
     ] {
-        let (found, _) = judged_after(rt.alloc(), rows)?.ok_or("not judged")?;
-        assert_eq!(rt; found, other, "{rows:?}");
+        let pair = after_first_data(rt.alloc(), events)?;
+        let (found, _) = judged(rt.alloc(), &pair.entries).ok_or("not judged")?;
+        assert_eq!(rt; found, other, "{events}");
     }
+    let mut pair = pair(rt.alloc(), 100)?;
+    pair.number(5, 5000)?;
+    let (found, _) = judged(rt.alloc(), &pair.entries).ok_or("not judged")?;
+    assert_eq!(rt; (found, pair.entries.len()), (Some(1668), 5000));
     Ok(())
 }
 
 #[test]
 fn an_answer_stays_awaited_when_its_sender_resets(rt: HostRuntime) -> Result<(), Fail> {
-    let told = judged_after(rt.alloc(), &["ds -1", "zs"])?;
-    assert_eq!(rt; told, Some((None, [Some(9), None])));
+    let pair = after_first_data(rt.alloc(), "ds -1\nzs")?;
+    assert_eq!(rt;
+        judged(rt.alloc(), &pair.entries),
+        Some((None, [Some(9), None]))
+    );
     Ok(())
 }

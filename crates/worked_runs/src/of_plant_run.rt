@@ -1,7 +1,6 @@
 use crate::fairness::first_unfair;
-use crate::of_commands::{input_of, report_of, whole_lines};
 use crate::pairs::{Played, play_pair};
-use crate::plants::{Outside, Ran, SURE, run_over, run_worked, set_worked};
+use crate::plants::{Ran, run_over, run_worked, set_worked};
 use crate::test_channels::Written;
 use duo_run::Duo;
 use fsoe_base::State;
@@ -65,7 +64,7 @@ fn counts(steps: &[JournalStep]) -> [usize; 3] {
 #[test]
 fn plants_report_worked_rows(rt: HostRuntime) -> Result<(), Fail> {
     for (channel, script, report, steps) in ROWS {
-        let ran = run_worked(rt.alloc(), channel, 1, script, SURE).ok_or("not run")?;
+        let ran = run_worked(rt.alloc(), channel, 1, script).ok_or("not run")?;
         let status = Status::Ok;
         assert_eq!(rt; ran.ended, Ended { status, place: 0 }, "{script}");
         assert_eq!(rt; ran.sink.bytes(), report.as_bytes(), "{script}");
@@ -78,83 +77,19 @@ fn plants_report_worked_rows(rt: HostRuntime) -> Result<(), Fail> {
 fn run_written(alloc: Global, script: &str) -> Option<(Written, Ran)> {
     let (conf, setup, _) = set_worked(alloc, "list", 0)?;
     let mut channel = Written::new(alloc)?;
-    let ran = run_over(alloc, conf, setup, &mut channel, script, SURE)?;
+    let ran = run_over(alloc, conf, setup, &mut channel, script)?;
     Some((channel, ran))
 }
 
+/// Both in the first tick.
 #[test]
 fn a_plant_pushes_each_masters_reset_once(rt: HostRuntime) -> Result<(), Fail> {
-    let (_, script, report, _) = ROWS[1];
-    let (channel, ran) = run_written(rt.alloc(), script).ok_or("not run")?;
-    assert_eq!(rt; ran.sink.bytes(), report.as_bytes());
-    assert_eq!(rt;
-        channel.pushed.bytes(),
-        b"1s 2a0000c42d0000\n2s 2a0000c42d0000\n".as_slice()
-    );
-    Ok(())
-}
-
-/// The lines of a short script, each with what is written once it is read.
-const SHORT: [(&str, &str); 5] = [
-    ("fsoe 1 plant\n", ""),
-    (
-        "t\n",
-        "tick 1\n1 Data 0000 Data 0000\n2 Data 0000 Data 0000\n",
-    ),
-    ("p 1 0300\n", ""),
-    (
-        "t\n",
-        "tick 2\n1 Data 0300 Data 0000\n2 Data 0000 Data 0100\n",
-    ),
-    ("end\n", "ticks 2\nother none\n"),
-];
-
-/// The short script, of which a byte comes and goes in a call, with the read and the write of these numbers failing, of
-/// 0 none: how it ends, and what it writes.
-fn run_short(alloc: Global, read_fails: u64, write_fails: u64) -> Result<Ran, Fail> {
-    let outside = Outside {
-        most: 1,
-        read_fails,
-        write_fails,
-    };
-    let script = "fsoe 1 plant\nt\np 1 0300\nt\nend\n";
-    Ok(run_worked(alloc, "perfect", 1, script, outside).ok_or("not run")?)
-}
-
-/// Whether the run ends so, at which the read of this number fails: after the whole lines that were read, and what is
-/// written once they are.
-fn ends_with_read(alloc: Global, script: &[u8], read: usize) -> Result<bool, Fail> {
-    let ran = run_short(alloc, (read as u64).saturating_add(1), 0)?;
-    let count = whole_lines(&script[..read.min(script.len())]);
-    let report = report_of(alloc, &SHORT, count)?;
-    let (status, place) = (Status::Read, count as u64);
-    Ok(ran.ended == Ended { status, place } && ran.sink.bytes() == report.as_slice())
-}
-
-#[test]
-fn each_read_that_fails_ends_a_run_after_the_whole_lines(rt: HostRuntime) -> Result<(), Fail> {
-    let script = input_of(rt.alloc(), &SHORT)?;
-    for read in 0..script.len() {
-        assert!(rt; ends_with_read(rt.alloc(), &script, read)?, "read {read}");
-    }
-    Ok(())
-}
-
-/// Whether the run ends so, at which the write after so many bytes of its report fails.
-fn ends_with_write(alloc: Global, report: &[u8], written: usize) -> Result<bool, Fail> {
-    let ran = run_short(alloc, 0, (written as u64).saturating_add(1))?;
-    let (status, place) = (Status::Write, written as u64);
-    let part = &report[..written.min(report.len())];
-    Ok(ran.ended == Ended { status, place } && ran.sink.bytes() == part)
-}
-
-#[test]
-fn each_write_that_fails_ends_a_run_after_the_bytes_written(rt: HostRuntime) -> Result<(), Fail> {
-    let report = report_of(rt.alloc(), &SHORT, 5)?;
-    for written in 0..report.len() {
-        assert!(rt;
-            ends_with_write(rt.alloc(), &report, written)?,
-            "write {written}"
+    for script in ["fsoe 1 plant\nt\nend\n", "fsoe 1 plant\nt\nt\nend\n"] {
+        let (channel, ran) = run_written(rt.alloc(), script).ok_or("not run")?;
+        assert_eq!(rt; ran.ended.status, Status::Ok);
+        assert_eq!(rt;
+            channel.pushed.bytes(),
+            b"1s 2a0000c42d0000\n2s 2a0000c42d0000\n".as_slice()
         );
     }
     Ok(())
@@ -210,7 +145,7 @@ fn run_both(
     change: bool,
 ) -> Result<Both, Fail> {
     let script = ticking(alloc, ticks, change)?;
-    let ran = run_worked(alloc, channel, seed, script.as_str(), SURE).ok_or("not run")?;
+    let ran = run_worked(alloc, channel, seed, script.as_str()).ok_or("not run")?;
     let one = pair_of(alloc, &ran, 1)?;
     let two = pair_of(alloc, &ran, 2)?;
     Ok(Both {

@@ -1,4 +1,4 @@
-//! The pairs of a plant, played anew by its journal.
+//! Pairs with their entries: over a schedule, and those of a plant, played anew by its journal.
 ghost use Rattle.std.specs.Prelude.{◌≡◌, ◌≤◌, length, IfOk};
 ghost use Rattle.plant_conf.specs.ConfView.{HasSameLengths};
 ghost use Rattle.duo_run.specs.Duo.{steps_done};
@@ -10,6 +10,7 @@ use fsoe_io::LineText;
 use param_load::Entry;
 use plant_conf::LinkConf;
 use plant_run::{JournalStep, PlantEvent};
+use schedule_file::{LineBuf, Maker, write_event};
 use std::alloc::Global;
 use std::test::Fail;
 
@@ -21,20 +22,56 @@ pub(crate) struct Played {
 }
 
 impl Played {
+    /// Does the event of a line.
+    fn line(&mut self, line: &[u8]) -> Result<(), Fail>
+        requires { steps_done self.old.duo ≤ length self.old.entries.items }
+        ensures { IfOk result (λ _. steps_done self.new.duo ≤ length self.new.entries.items) }
+    {
+        if self.entries.len() > 1_000_000 {
+            return Err("much".into());
+        }
+        self.entries
+            .push(step(&mut self.duo, line).ok_or("event")?)?;
+        Ok(())
+    }
+
+    /// Does the events of these lines.
+    pub(crate) fn lines(&mut self, lines: &str) -> Result<(), Fail>
+        requires { steps_done self.old.duo ≤ length self.old.entries.items }
+        ensures { IfOk result (λ _. steps_done self.new.duo ≤ length self.new.entries.items) }
+    {
+        for line in lines.lines() {
+            self.line(line.as_bytes())?;
+        }
+        Ok(())
+    }
+
+    /// Does the first so many events of a number.
+    pub(crate) fn number(&mut self, number: u64, count: u16) -> Result<(), Fail>
+        requires { steps_done self.old.duo ≤ length self.old.entries.items }
+        ensures { IfOk result (λ _. steps_done self.new.duo ≤ length self.new.entries.items) }
+    {
+        let mut maker = Maker::new(number);
+        let mut line = LineBuf::new();
+        for _ in 0..count {
+            write_event(&maker.next(), &mut line);
+            self.line(line.bytes())?;
+        }
+        Ok(())
+    }
+
     /// Does the event that this word says with these bytes.
     fn event(&mut self, word: &str, bytes: &[u8]) -> Result<(), Fail>
         requires { steps_done self.old.duo ≤ length self.old.entries.items }
         ensures { IfOk result (λ _. steps_done self.new.duo ≤ length self.new.entries.items) }
     {
-        if word.len() > 3 || bytes.len() > 255 || self.entries.len() > 1_000_000 {
+        if word.len() > 3 || bytes.len() > 255 {
             return Err("much".into());
         }
         let mut line = LineText::new();
         line.push_str(word);
         line.push_hex(bytes);
-        self.entries
-            .push(step(&mut self.duo, line.bytes()).ok_or("event")?)?;
-        Ok(())
+        self.line(line.bytes())
     }
 
     /// Does what a step of a journal means for connection k, where its script has ticks and puts alone.

@@ -3,7 +3,7 @@
 use crate::test_channels::Crossed;
 use black_channel::{Channel, HostileChannel, ListChannel, PerfectChannel};
 use fb_net::{AppEntry, Zeros};
-use fsoe_io::{Ended, MemSink, MemSource};
+use fsoe_io::{Ended, SureSink, SureSource};
 use plant_conf::{PlantConf, read_conf};
 use plant_run::{Journal, run_plant};
 use plant_setup::{Setup, set_up};
@@ -34,27 +34,12 @@ out = \"o2.0\"
 from = \"b1\"
 ";
 
-/// How many bytes come and go in a call, and the calls that fail, by their number from 1.
-#[derive(Clone, Copy)]
-pub(crate) struct Outside {
-    pub most: usize,
-    pub read_fails: u64,
-    pub write_fails: u64,
-}
-
-/// No call fails.
-pub(crate) const SURE: Outside = Outside {
-    most: 1000,
-    read_fails: 0,
-    write_fails: 0,
-};
-
 /// How a plant ran.
 #[derive(Drop)]
 pub(crate) struct Ran {
     pub conf: PlantConf,
     pub ended: Ended,
-    pub sink: MemSink,
+    pub sink: SureSink,
     pub journal: Journal,
 }
 
@@ -72,17 +57,21 @@ fn channels(alloc: Global) -> Option<Vec<Box<dyn Channel>>> {
     Some(channels)
 }
 
-/// The worked plant set up with the channel of this name and this seed, and the channels that were handed in. Its
-/// script may take the application `zeros`.
+/// The worked plant with the channel of this name and this seed.
+pub(crate) fn worked_conf(alloc: Global, channel: &str, seed: u64) -> Option<PlantConf> {
+    let text = format!(in alloc;
+        "[plant]\napp = \"net\"\nchannel = \"{channel}\"\nseed = {seed}\n{TABLES}"
+    ).ok()?;
+    read_conf(alloc, text.as_bytes()).ok()
+}
+
+/// The same set up, and the channels that were handed in. Its script may take the application `zeros`.
 pub(crate) fn set_worked(
     alloc: Global,
     channel: &str,
     seed: u64,
 ) -> Option<(PlantConf, Setup, Vec<Box<dyn Channel>>)> {
-    let text = format!(in alloc;
-        "[plant]\napp = \"net\"\nchannel = \"{channel}\"\nseed = {seed}\n{TABLES}"
-    ).ok()?;
-    let mut conf = read_conf(alloc, text.as_bytes()).ok()?;
+    let mut conf = worked_conf(alloc, channel, seed)?;
     let mut apps = Vec::new(alloc);
     let name = "zeros".to_string(alloc).ok()?;
     let app = Box::new(alloc, Zeros).ok()?;
@@ -99,18 +88,9 @@ pub(crate) fn run_over<C: Channel>(
     setup: Setup,
     channel: &mut C,
     script: &str,
-    outside: Outside,
 ) -> Option<Ran> {
-    let most = outside.most.max(1);
-    let bytes = script.as_bytes().to_vec(alloc).ok()?;
-    let mut source = MemSource::new(bytes, most, vec![in alloc; outside.read_fails].ok()?);
-    let mut sink = MemSink::new(
-        alloc,
-        20_000,
-        most,
-        vec![in alloc; outside.write_fails].ok()?,
-    )
-    .ok()?;
+    let mut source = SureSource::new(script.as_bytes().to_vec(alloc).ok()?);
+    let mut sink = SureSink::new(alloc, 20_000).ok()?;
     let mut journal = Journal::new(alloc);
     let Setup { app, spare, .. } = setup;
     let ended = run_plant(
@@ -133,14 +113,8 @@ pub(crate) fn run_over<C: Channel>(
 
 /// Runs it over a script, with the channel of this name and this seed. None where there is no memory for what it is
 /// handed.
-pub(crate) fn run_worked(
-    alloc: Global,
-    channel: &str,
-    seed: u64,
-    script: &str,
-    outside: Outside,
-) -> Option<Ran> {
+pub(crate) fn run_worked(alloc: Global, channel: &str, seed: u64, script: &str) -> Option<Ran> {
     let (conf, setup, mut channels) = set_worked(alloc, channel, seed)?;
     let channel = channels.get_mut(setup.channel)?;
-    run_over(alloc, conf, setup, channel, script, outside)
+    run_over(alloc, conf, setup, channel, script)
 }

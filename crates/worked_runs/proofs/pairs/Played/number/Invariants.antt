@@ -1,0 +1,7 @@
+use Rattle.std.proofs.Common.{◌≤◌, length}
+use Rattle.duo_run.specs.Duo.{steps_done}
+use Rattle.worked_runs.proofs.pairs.Played.number.Given as goal
+
+-- as many entries were kept as steps were done, at least
+abbrev pub invariant-loop : goal.invariant-loop
+invariant-loop l = steps_done l.self.duo ≤ length l.self.entries.items
