@@ -19,6 +19,4 @@ mod of_fsoe_io;
 #[cfg(test)]
 mod of_param_load;
 #[cfg(test)]
-mod of_schedule_file;
-#[cfg(test)]
 mod of_seq_chain;

@@ -1,9 +1,9 @@
 ghost use Rattle.std.specs.Prelude.{◌≤◌};
 
-use black_channel::{Channel, HostileChannel, ListChannel, Parcel, PerfectChannel, Place, Window};
+use black_channel::{Channel, HostileChannel, PerfectChannel, Place, Window};
 use fsoe_base::{End, FrameBuf};
 use fsoe_io::LineText;
-use std::alloc::{AllocError, Global};
+use std::alloc::Global;
 use std::test::Fail;
 
 /// A window to which the frames of one byte from 1 on were pushed.
@@ -145,31 +145,6 @@ fn a_hostile_channel_does_what_its_words_say(rt: HostRuntime) -> Result<(), Fail
         }
         push_parcels(&mut channel, most.min(12));
         assert_eq!(rt; first_unlike(&mut channel, row), None, "seed {seed:?}");
-    }
-    Ok(())
-}
-
-/// A channel that is to give the frame 01 to the master of connection 1, and 02 03 to the slave of connection 2.
-fn list_channel(alloc: Global) -> Result<Option<ListChannel>, AllocError> {
-    let mut gifts = Vec::new(alloc);
-    for (link, bytes) in [(1, [1].as_slice()), (2, [2, 3].as_slice())] {
-        let mut frame = FrameBuf::new();
-        frame.set(bytes);
-        gifts.push(Parcel {
-            to: place(link),
-            frame,
-        })?;
-    }
-    Ok(ListChannel::new(alloc, gifts, 1).ok())
-}
-
-#[test]
-fn a_list_channel_gives_its_parcels_in_order(rt: HostRuntime) -> Result<(), Fail> {
-    let mut channel = list_channel(rt.alloc())?.ok_or("no memory")?;
-    for want in ["1m:01", "2s:0203", "-", "-"] {
-        push_parcels(&mut channel, 1);
-        assert_eq!(rt; first_unlike(&mut channel, want), None);
-        channel.begin(1);
     }
     Ok(())
 }
