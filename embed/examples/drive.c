@@ -5,8 +5,8 @@
  * What stands under "The device" is what you replace. Here a list of frames stands for the bus: a master brings the
  * connection up, switches the motor on, and then is silent until the watchdog expires.
  *
- * This drive starts again by itself when data come again. Where a machine must not, keep the motor off after a reset until
- * somebody acknowledged it.
+ * When data come again the motor stays off until its bit was 0 and is 1 again, so a bit that is stuck starts nothing. That
+ * somebody acknowledged it is up to the master's application.
  */
 #include <gatepast.h>
 #include <stdio.h>
@@ -24,7 +24,8 @@ static const uint8_t coming[][7] = {
     {0x2A, 0x00, 0x00, 0xC4, 0x2D, 0x00, 0x00}, {0x4E, 0x01, 0x00, 0x12, 0x3E, 0x00, 0x00},
     {0x64, 0x01, 0x00, 0x64, 0x2A, 0x01, 0x00}, {0x64, 0x02, 0x00, 0x62, 0x5F, 0x01, 0x00},
     {0x52, 0x02, 0x00, 0xEE, 0x74, 0x01, 0x00}, {0x52, 0x64, 0x00, 0x58, 0xDA, 0x01, 0x00},
-    {0x52, 0x00, 0x00, 0x71, 0x99, 0x01, 0x00}, {0x36, 0x01, 0x00, 0xFC, 0x43, 0x01, 0x00},
+    {0x52, 0x00, 0x00, 0x71, 0x99, 0x01, 0x00}, {0x36, 0x00, 0x00, 0x7F, 0xD9, 0x01, 0x00},
+    {0x36, 0x01, 0x00, 0xBF, 0x61, 0x01, 0x00},
 };
 
 /* Waits for the next millisecond, or not where one was missed: each is ticked. False where the program is to end. */
@@ -106,12 +107,22 @@ static void look_at_terms(void) {
     if (terms.conn != CONNECTION && gp_slave_reset(&slave, &out, &did) != GP_OK) stop("no reset");
 }
 
+/* Holds the motor's bit at 0 until it came as 0 since data came. */
+static void interlock(uint8_t outputs[MASTER_LEN]) {
+    static bool released;
+    uint8_t state = GP_RESET;
+    if (gp_slave_state(&slave, &state) != GP_OK) stop("no slave");
+    released = state == GP_DATA && (released || (outputs[0] & 1) == 0);
+    if (!released) outputs[0] &= 0xFE;
+}
+
 /* After each step: first the outputs, then the frame, and last what may take its time. */
 static void follow(void) {
     static unsigned resets;
     uint8_t outputs[MASTER_LEN] = {0};
     look_at_terms();
     if (gp_slave_outputs(&slave, outputs, sizeof outputs) != GP_OK) stop("no outputs");
+    interlock(outputs);
     drive_motor(outputs);
     if (out.len != 0) bus_send(out.bytes, out.len);
     if (did.reset == GP_NO_RESET) return;

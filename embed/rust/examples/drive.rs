@@ -4,8 +4,8 @@
 //! `Device` is what you replace. Here a list of frames stands for the bus: a master brings the connection up, switches the motor on,
 //! and then is silent until the watchdog expires.
 //!
-//! This drive starts again by itself when data come again. Where a machine must not, keep the motor off after a reset until somebody
-//! acknowledged it.
+//! When data come again the motor stays off until its bit was 0 and is 1 again, so a bit that is stuck starts nothing. That somebody
+//! acknowledged it is up to the master's application.
 
 use std::num::NonZeroU16;
 use std::thread;
@@ -18,7 +18,7 @@ const MOST_FRAMES: usize = 4;
 /// After so many resets a person has to look.
 const MOST_RESETS: u32 = 100;
 
-const COMING: [[u8; 7]; 8] = [
+const COMING: [[u8; 7]; 9] = [
     [0x2A, 0x00, 0x00, 0xC4, 0x2D, 0x00, 0x00],
     [0x4E, 0x01, 0x00, 0x12, 0x3E, 0x00, 0x00],
     [0x64, 0x01, 0x00, 0x64, 0x2A, 0x01, 0x00],
@@ -26,7 +26,8 @@ const COMING: [[u8; 7]; 8] = [
     [0x52, 0x02, 0x00, 0xEE, 0x74, 0x01, 0x00],
     [0x52, 0x64, 0x00, 0x58, 0xDA, 0x01, 0x00],
     [0x52, 0x00, 0x00, 0x71, 0x99, 0x01, 0x00],
-    [0x36, 0x01, 0x00, 0xFC, 0x43, 0x01, 0x00],
+    [0x36, 0x00, 0x00, 0x7F, 0xD9, 0x01, 0x00],
+    [0x36, 0x01, 0x00, 0xBF, 0x61, 0x01, 0x00],
 ];
 
 /// Why the drive ends before its time.
@@ -110,6 +111,7 @@ struct Drive<'m> {
     device: Device,
     slave: Slave<'m, One, 2, 2>,
     looked: bool,
+    released: bool,
     resets: u32,
 }
 
@@ -128,6 +130,7 @@ impl<'m> Drive<'m> {
             device,
             slave,
             looked: false,
+            released: false,
             resets: 0,
         })
     }
@@ -158,10 +161,19 @@ impl<'m> Drive<'m> {
         }
     }
 
+    /// The outputs, with the motor's bit held at 0 until it came as 0 since data came.
+    fn interlocked(&mut self) -> [u8; 2] {
+        let [first, second] = self.slave.outputs();
+        let in_data = self.slave.state() == State::Data;
+        self.released = in_data && (self.released || first & 1 == 0);
+        [if self.released { first } else { first & 0xFE }, second]
+    }
+
     /// After each step: first the outputs, then the frame, and last what may take its time.
     fn follow(&mut self) -> Result<(), Stop> {
         self.look_at_terms();
-        self.device.drive_motor(self.slave.outputs());
+        let outputs = self.interlocked();
+        self.device.drive_motor(outputs);
         let step = self.slave.last_step();
         if let Some(frame) = step.send() {
             self.device.send(frame);
