@@ -1,4 +1,3 @@
 pub mod Forms
 pub mod Pulling
-pub mod Ringing
 pub mod Pushed

@@ -8,7 +8,7 @@ use Rattle.std.proofs.Math.Nat.{mod-eq_of_lt}
 use Rattle.std.proofs.Math.Seq.{drop-cons}
 use Rattle.black_channel.specs.Window.{back_th, WindowView, Pushes, Tells, newest_first}
 
-pub order : (a b : ℕ) → (a < b) ⊎ (b ≤ a)
+order : (a b : ℕ) → (a < b) ⊎ (b ≤ a)
 order zero zero = inr (omega arith)
 order zero (suc b) = inl (omega arith)
 order (suc a) zero = inr (omega arith)

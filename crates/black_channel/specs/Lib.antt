@@ -1,6 +1,5 @@
 pub mod Altered
 pub mod Holds
 pub mod Listed
-pub mod ParcelRing
 pub mod Told
 pub mod Window
