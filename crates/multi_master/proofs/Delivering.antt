@@ -15,9 +15,9 @@ use Rattle.master_core.specs.MasterView.{MasterView}
 use Rattle.master_core.specs.Now.{is_due}
 use Rattle.master_core.specs.Waiting.{Accepts, Replies, ShowsDue}
 use Rattle.multi_master.specs.Connection.{Connection, setup, next_deed, with_event, outputs_at, offer_at, offer_len, with_offers}
-use Rattle.multi_master.specs.Calls.{AppView, Call, Deliver, Meant, event_at, answer, is_heard, cycle_in, with_cycle, after, meant}
+use Rattle.multi_master.specs.Calls.{AppView, Call, Deliver, Meant, IsGuarded, event_at, answer, is_heard, cycle_in, with_cycle, after, meant}
 use Rattle.multi_master.specs.Puts.{own_len, PutsEach, RunsCycle}
-use Rattle.multi_master.specs.Standing.{MultiView, settings_in, IsWhere, StandsFor, Follows, Offers, IsGuarded, Guards, AnswersFrame, newest_at}
+use Rattle.multi_master.specs.Standing.{MultiView, settings_in, IsWhere, StandsFor, Follows, Offers, Guards, AnswersFrame, newest_at}
 use Rattle.multi_master.proofs.Following.{own_lens, cycle_answers, guards_alike}
 use Rattle.multi_master.proofs.Hearing.{replied}
 use Rattle.multi_master.proofs.Places.{at_place, map_set, set_there}

@@ -7,9 +7,9 @@ use Rattle.failsafe_io.specs.Application.{Answer, GuardsBy}
 use Rattle.param_load.specs.declared.master_settings.MasterSettings.{MasterSettings}
 use Rattle.master_core.specs.MasterView.{MasterView}
 use Rattle.multi_master.specs.Connection.{Connection, outputs_at, offer_at, offer_len, with_offers}
-use Rattle.multi_master.specs.Calls.{AppView, Call, Tick, ChangeApp, Meant, all_tick, answer, with_cycle, meant, changed_from}
+use Rattle.multi_master.specs.Calls.{AppView, Call, Tick, ChangeApp, Meant, IsGuarded, all_tick, answer, with_cycle, meant, changed_from}
 use Rattle.multi_master.specs.Puts.{own_len, PutsEach, Cycles, RunsCycle, TicksEach}
-use Rattle.multi_master.specs.Standing.{MultiView, IsWhere, StandsFor, Follows, Offers, IsGuarded, Guards, AnswersTick}
+use Rattle.multi_master.specs.Standing.{MultiView, IsWhere, StandsFor, Follows, Offers, Guards, AnswersTick}
 use Rattle.multi_master.proofs.Putting.{puts_where, all_shown, offers_put, all_outputs_put, puts_told}
 use Rattle.multi_master.proofs.Ticking.{ticks_where, ticks_read, ticks_did, ticks_sent, told_ticked}
 

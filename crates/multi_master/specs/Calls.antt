@@ -1,7 +1,7 @@
 -- What the calls of a master of many connections mean, newest first: what each connection's master did, and the application that runs.
 use Rattle.std.specs.Prelude.{ℕ, zero, suc, ◌-◌, Bool, true, false, List, [], ◌∷◌, map, slice_get, slice_set, Option, Some, None, option_map, if◌then◌else◌}
 use Rattle.failsafe_io.specs.declared.bit.Bit.{Bit}
-use Rattle.failsafe_io.specs.Application.{Answer}
+use Rattle.failsafe_io.specs.Application.{Answer, GuardsBy}
 use Rattle.param_load.specs.declared.entry.Move.{Move}
 use Rattle.param_load.specs.declared.entry.Move.TheVariants as move
 use Rattle.param_load.specs.declared.master_settings.MasterSettings.{MasterSettings}
@@ -66,6 +66,10 @@ cycle_in (Deliver link bytes) m =
 cycle_in Tick m = Some (answer true (all_tick m))
 cycle_in (Nonce link id) m = None
 cycle_in (ChangeApp app) m = Some (answer false (record m { app = app }))
+
+-- each output bit of an answer is 0 that the application that runs guards by an input bit that is 0
+abbrev pub IsGuarded : Meant → Answer → Type 0
+IsGuarded m a = GuardsBy m.app.guards (map outputs_at m.connections) a.outputs
 
 -- the answers of a cycle, if one is run, are put as all connections' offers, and the application holds then what its answer says
 abbrev pub with_cycle : Option Answer → Meant → Meant

@@ -4,7 +4,7 @@ use Rattle.std.specs.List.{AllZip}
 use Rattle.std.specs.Option.{option_map_or}
 use Rattle.fsoe_base.specs.declared.did.Did.{Did}
 use Rattle.failsafe_io.specs.declared.bit.Bit.{Bit}
-use Rattle.failsafe_io.specs.Application.{Answer, GuardsBy}
+use Rattle.failsafe_io.specs.Application.{Answer}
 use Rattle.param_load.specs.declared.entry.Move.TheVariants as move
 use Rattle.param_load.specs.declared.master_settings.MasterSettings.{MasterSettings}
 use Rattle.end_model.specs.Deed.{Deed}
@@ -12,7 +12,7 @@ use Rattle.master_core.specs.MasterView.{MasterView}
 use Rattle.master_core.specs.Standing.{MasterIsAfter}
 use Rattle.multi_master.specs.Connection.{Connection, next_deed, outputs_at, offer_at}
 use Rattle.multi_master.specs.Puts.{own_len, due_in}
-use Rattle.multi_master.specs.Calls.{Rule, AppView, Call, Deliver, Meant, connection, cycle_in, meant, changed}
+use Rattle.multi_master.specs.Calls.{Rule, AppView, Call, Deliver, Meant, IsGuarded, connection, cycle_in, meant, changed}
 
 -- what a master of many connections is, with an application of any type: the masters in the order of the connections, the application
 -- that runs, the inputs that it reads in a cycle, and the connections whose offers the last call changed
@@ -94,10 +94,6 @@ pub record Follows (old : MultiView) (call : Call) (new : MultiView) : Type 0 wh
 pub record Offers (old : MultiView) (call : Call) : Type 0 where
   pub offers : (settings : List MasterSettings) (app : AppView) (calls : List Call) → StandsFor settings app old calls
       → IfSome (cycle_in call (meant settings app calls)) (λ a. map offer_at (meant settings app (call ∷ calls)).connections ≡ a.outputs)
-
--- each output bit of an answer is 0 that the application that runs guards by an input bit that is 0
-abbrev pub IsGuarded : Meant → Answer → Type 0
-IsGuarded m a = GuardsBy m.app.guards (map outputs_at m.connections) a.outputs
 
 -- where a call runs a cycle, its answer keeps off what is guarded, by the application and the outputs after it
 pub record Guards (old : MultiView) (call : Call) : Type 0 where

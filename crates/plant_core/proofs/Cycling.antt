@@ -18,7 +18,7 @@ use Rattle.end_model.specs.Step.{step as next_step}
 use Rattle.exchange_model.specs.Ends.{peer}
 use Rattle.exchange_model.specs.Monitor.{HasParts}
 use Rattle.exchange_model.specs.World.{deeds, deed_in, frames_of}
-use Rattle.multi_master.specs.Calls.{AppView, Call, Deliver, Tick, ChangeApp, Meant, connection, cycle_in, meant, changed}
+use Rattle.multi_master.specs.Calls.{AppView, Call, Deliver, Tick, ChangeApp, Meant, IsGuarded, connection, cycle_in, meant, changed}
 use Rattle.multi_master.specs.Connection.{Connection, next_deed, offer_at}
 use Rattle.multi_master.specs.Standing as multi
 use Rattle.multi_master.specs.Standing.{MultiView, StandsFor, AnswersFrame, AnswersTick, newest_at}
@@ -234,9 +234,9 @@ called_answered b act done call e h =
     subst (λ (o : Option Call). IfSome (option_and_then (λ call. cycle_in call (masters b done)) o) (λ a. map offer_at (meant (settings b) b.app (option_to_list o ++ calls b done)).connections ≡ a.outputs)) (sym e) h
 
 called_guarded : (b : Beginning) (act : Act) (done : List Act) (call : Call) → call_of b act ≡ Some call
-    → IfSome (cycle_in call (masters b done)) (multi.IsGuarded (meant (settings b) b.app (call ∷ calls b done))) → GuardsAnswer b act done
+    → IfSome (cycle_in call (masters b done)) (IsGuarded (meant (settings b) b.app (call ∷ calls b done))) → GuardsAnswer b act done
 called_guarded b act done call e h =
-    subst (λ (o : Option Call). IfSome (option_and_then (λ call. cycle_in call (masters b done)) o) (multi.IsGuarded (meant (settings b) b.app (option_to_list o ++ calls b done)))) (sym e) h
+    subst (λ (o : Option Call). IfSome (option_and_then (λ call. cycle_in call (masters b done)) o) (IsGuarded (meant (settings b) b.app (option_to_list o ++ calls b done)))) (sym e) h
 
 -- the entry of the master has the parts that its call told
 frame_parts : (b : Beginning) (done : List Act) (old : MultiView) (n place : ℕ) (frame : List ℕ) (did : Did) (sent : List ℕ) (link : LinkConf) (steps : List JournalStep) → n ≡ suc place → slice_get b.links place ≡ Some link

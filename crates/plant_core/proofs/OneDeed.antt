@@ -14,7 +14,7 @@ use Rattle.black_channel.specs.declared.channel.Parcel.{Parcel}
 use Rattle.plant_conf.specs.declared.conf.LinkConf.{LinkConf}
 use Rattle.exchange_model.specs.Ends.{peer, same_end}
 use Rattle.exchange_model.specs.World.{frames_of}
-use Rattle.multi_master.specs.Calls.{Call, Nonce, Meant, connection, replaced, event_at, cycle_in, meant}
+use Rattle.multi_master.specs.Calls.{Call, Nonce, Meant, IsGuarded, connection, replaced, event_at, cycle_in, meant}
 use Rattle.multi_master.specs.Connection.{Connection, with_event, offer_at}
 use Rattle.multi_master.specs.Standing as multi
 use Rattle.multi_master.specs.Standing.{MultiView, StandsFor}
@@ -117,7 +117,7 @@ quiet_answered b act done none =
 
 pub quiet_guarded : (b : Beginning) (act : Act) (done : List Act) → call_of b act ≡ None → GuardsAnswer b act done
 quiet_guarded b act done none =
-    subst (λ (o : Option Call). IfSome (option_and_then (λ call. cycle_in call (masters b done)) o) (multi.IsGuarded (masters b (act ∷ done)))) (sym none) tt
+    subst (λ (o : Option Call). IfSome (option_and_then (λ call. cycle_in call (masters b done)) o) (IsGuarded (masters b (act ∷ done)))) (sym none) tt
 
 -- an act in which this happens to the slave of connection n
 pub record IsAtSlave (b : Beginning) (act : Act) (s : JournalStep) (n : ℕ) (what : Move) : Type 0 where

@@ -8,9 +8,8 @@ use Rattle.black_channel.specs.declared.channel.Parcel.{Parcel}
 use Rattle.plant_conf.specs.declared.conf.LinkConf.{LinkConf}
 use Rattle.master_core.specs.Calls.{tells_due}
 use Rattle.exchange_model.specs.World.{deeds}
-use Rattle.multi_master.specs.Calls.{connection}
+use Rattle.multi_master.specs.Calls.{IsGuarded, connection}
 use Rattle.multi_master.specs.Connection.{offer_at}
-use Rattle.multi_master.specs.Standing.{IsGuarded}
 use Rattle.plant_model.specs.declared.event.PlantEvent.{PlantEvent}
 use Rattle.plant_model.specs.declared.event.PlantEvent.TheVariants as event
 use Rattle.plant_model.specs.declared.journal.JournalStep.{JournalStep}
