@@ -6,8 +6,8 @@ use Rattle.std.specs.Io.KnownBytes.{Consumes}
 use Rattle.fsoe_io.specs.Line.{IsLine}
 use Rattle.schedule_file.specs.Header.{Heading, heading_new, heading_after, heading_is_whole}
 use Rattle.schedule_file.specs.Input.{AtEnd, InputCause, Line, TooMany, lines_of, said_after}
+use Rattle.schedule_file.specs.Limits.{max_events}
 use Rattle.schedule_file.specs.LinesLeft.{lines_left}
-use Rattle.schedule_file.specs.declared.event.TheConstants.{MAX_EVENTS}
 use Rattle.schedule_file.specs.declared.event.ScheduleLine.{ScheduleLine}
 use Rattle.schedule_file.specs.declared.event.ScheduleLine.TheVariants as said
 use Rattle.schedule_file.specs.declared.header_kind.HeaderKind.TheVariants as kind
@@ -59,7 +59,7 @@ full_taken r line = if bytes_eq line (codes "end") then Ok (end_taken r) else Er
 
 -- a line after the header
 abbrev pub later_taken : PairRead → List ℕ → Result LineTaken InputCause
-later_taken r line = if r.events == MAX_EVENTS then full_taken r line else event_taken r line (said_after kind.Pair r.heading line)
+later_taken r line = if r.events == max_events then full_taken r line else event_taken r line (said_after kind.Pair r.heading line)
 
 -- the line of this number
 abbrev pub line_taken : ℕ → PairRead → List ℕ → Result LineTaken InputCause
@@ -83,4 +83,4 @@ FindsTaken number r (Err (halt.Refused line why)) next text old new = IfSome old
 
 -- how many lines may still come before the last
 abbrev pub left_to_take : PairRead → ℕ
-left_to_take r = lines_left r.heading + (MAX_EVENTS - r.events)
+left_to_take r = lines_left r.heading + (max_events - r.events)

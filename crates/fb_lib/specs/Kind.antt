@@ -1,15 +1,18 @@
 -- The kinds of blocks.
 use Rattle.std.specs.Prelude.{ℕ, ◌==◌, nat_le, Bool, ◌&&◌}
-use Rattle.fb_lib.specs.declared.kind.TheConstants.{MOST_INPUTS}
 use Rattle.fb_lib.specs.declared.kind.BlockKind.{BlockKind}
 use Rattle.fb_lib.specs.declared.kind.BlockKind.TheVariants as kind
+
+-- the most inputs of a block
+abbrev pub most_inputs : ℕ
+most_inputs = 8
 
 -- whether a block of this kind may have so many inputs
 abbrev pub takes : BlockKind → ℕ → Bool
 takes kind.Const0 n = n == 0
 takes kind.Const1 n = n == 0
-takes kind.And n = nat_le 1 n && nat_le n MOST_INPUTS
-takes kind.Or n = nat_le 1 n && nat_le n MOST_INPUTS
+takes kind.And n = nat_le 1 n && nat_le n most_inputs
+takes kind.Or n = nat_le 1 n && nat_le n most_inputs
 takes kind.Latch n = n == 2
 takes kind.Estop n = n == 2
 takes kind.TwoHand n = n == 2

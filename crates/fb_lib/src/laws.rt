@@ -1,12 +1,19 @@
 //! What holds of all blocks. The calls do nothing: each law is a contract.
 ghost use Rattle.std.specs.Prelude.{◌≡◌, ℕ, true, false, Bool, List, [], ◌∷◌};
 ghost use Rattle.fb_lib.specs.declared.kind.BlockKind.{BlockKind};
+ghost use Rattle.fb_lib.specs.declared.kind.TheConstants.{MOST_INPUTS};
 ghost use Rattle.fb_lib.specs.Cycle.{Cycle};
+ghost use Rattle.fb_lib.specs.Kind.{most_inputs};
 ghost use Rattle.fb_lib.specs.Value.{value, values};
 ghost use Rattle.fb_lib.specs.Steps.{BlockView};
 ghost use Rattle.fb_lib.specs.Standing.{BlockStands, Stepped};
 ghost use Rattle.fb_lib.specs.Guarded.{is_guarded, AreOff};
 ghost use Rattle.fb_lib.specs.Rows.{EstopRow, OnDelayRow, OffDelayRow, TwoHandRow, FeedbackRow};
+
+/// The constant is the limit of the definitions.
+pub fn constants()
+    ensures { MOST_INPUTS ≡ most_inputs }
+{}
 
 /// Worked rows of single blocks: the inputs cycle by cycle, and the values.
 #[tactic(auto, unfolding(crate::specs::Rows::EstopRow, crate::specs::Rows::OnDelayRow, crate::specs::Rows::OffDelayRow, crate::specs::Rows::TwoHandRow, crate::specs::Rows::FeedbackRow))]

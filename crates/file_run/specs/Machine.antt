@@ -1,7 +1,7 @@
 -- What a machine does that runs over the events of an input. H is what a header says, L what a line after it says, and E an event.
 use Rattle.std.specs.Prelude.{◌≡◌, ℕ, ◌+◌, ◌≤◌, List, [], ◌∷◌, ◌++◌, length, Ok, Some}
 use Rattle.schedule_file.specs.Input.{InputFormat}
-use Rattle.schedule_file.specs.declared.event.TheConstants.{MAX_EVENTS}
+use Rattle.schedule_file.specs.Limits.{max_events}
 
 -- a line after a header says this event
 abbrev pub IsSaid : {H L E : Type 0} → InputFormat H L E → H → E → Type 0
@@ -15,7 +15,7 @@ pub record MayCome {H L E : Type 0} (old : H → List E → List ℕ → Type 0)
   pub stands : old heading log text
   pub said : IsSaid f heading event
   pub number_is : number ≡ length log + 1
-  pub few : number ≤ MAX_EVENTS
+  pub few : number ≤ max_events
 
 -- neither an event nor the end has more parts to write than this after the first part of its text
 abbrev pub most_parts : ℕ

@@ -9,7 +9,6 @@ mod event;
 mod format;
 mod halt;
 mod header;
-pub mod laws;
 mod line;
 mod machine;
 mod parts;

@@ -1,10 +1,17 @@
 -- The numbers of safe data bytes, and of the bytes of a frame. Which lengths there are is this profile's own.
 use Rattle.std.specs.Prelude.{ℕ, ◌+◌, ◌*◌, ◌/◌, ◌%◌, ◌==◌, nat_le, Bool, ◌&&◌, ◌||◌, if◌then◌else◌}
-use Rattle.fsoe_base.specs.declared.lengths.TheConstants.{MOST_DATA}
 
--- a number of safe data bytes is 1, or even and from 2 to 126
+-- the most safe data bytes of a frame
+abbrev pub most_data : ℕ
+most_data = 126
+
+-- the most bytes of a frame
+abbrev pub most_frame : ℕ
+most_frame = 255
+
+-- a number of safe data bytes is 1, or even and from 2 to the most
 abbrev pub is_length : ℕ → Bool
-is_length l = l == 1 || (l % 2 == 0 && nat_le 2 l && nat_le l MOST_DATA)
+is_length l = l == 1 || (l % 2 == 0 && nat_le 2 l && nat_le l most_data)
 
 -- the groups of a load: one byte alone, or pairs of bytes
 abbrev pub group_count : ℕ → ℕ

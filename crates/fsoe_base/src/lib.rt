@@ -6,6 +6,7 @@ mod byte_list;
 mod bytes;
 mod command;
 mod did;
+pub mod laws;
 mod lengths;
 mod memory;
 

@@ -4,6 +4,7 @@
 //! refused; a call that refuses changes nothing. `embed/gatepast.h` declares the calls, and says what C code owes.
 #![tactic(auto)]
 
+pub mod laws;
 pub mod master;
 mod master_calls;
 mod master_place;

@@ -4,7 +4,7 @@ use Rattle.std.specs.declared.option.Option.{Option}
 use Rattle.std.specs.Str.{bytes_eq}
 use Rattle.fsoe_base.specs.declared.command.End.TheVariants as side
 use Rattle.schedule_file.specs.Field.{number_said}
-use Rattle.schedule_file.specs.declared.event.TheConstants.{MAX_EVENTS}
+use Rattle.schedule_file.specs.Limits.{max_events}
 use Rattle.fsoe_tool.specs.declared.command.Command.{Command}
 use Rattle.fsoe_tool.specs.declared.command.Command.TheVariants as command
 
@@ -44,7 +44,7 @@ command_said [] = None
 command_said (word ∷ []) = command_alone word
 command_said (first ∷ word ∷ []) = command_of_two first word
 command_said (first ∷ number ∷ events ∷ []) =
-    if bytes_eq first (codes "bulk") then bulk_of (number_said (2 ^ 64 - 1) number) (number_said MAX_EVENTS events) else None
+    if bytes_eq first (codes "bulk") then bulk_of (number_said (2 ^ 64 - 1) number) (number_said max_events events) else None
 command_said (first ∷ second ∷ third ∷ fourth ∷ words) = None
 
 -- the file that words name: the second of two

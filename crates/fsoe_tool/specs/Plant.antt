@@ -23,7 +23,6 @@ use Rattle.plant_run.specs.Ran.{RanPlant}
 use Rattle.multi_master.specs.Calls.{AppView}
 use Rattle.plant_model.specs.Turns.{Named}
 use Rattle.fsoe_tool.specs.Handed.{DeskTold, Handed}
-use Rattle.fsoe_tool.specs.declared.plant.TheConstants.{MAX_CONFIG}
 
 -- the script wasn't read, no channel was used, and the journal is empty
 pub record BeganNothing {C : Type 0} (o : Outside) (h : Handed C) : Type 0 where
@@ -83,12 +82,16 @@ RanSaid (Err why) ended o h = WroteLine (config_line (setup.Conf why)) status.Co
 abbrev pub RanText : {C : Type 0} → List ℕ → Ended → Outside → Handed C → Type 0
 RanText text ended o h = (said : Result ConfView ConfFault) × Says text said × RanSaid said ended o h
 
+-- the most bytes of a configuration
+abbrev pub max_config : ℕ
+max_config = 262144
+
 -- what may be answered to a load of a configuration: where the desk tells it, the text under the name; that it is too long, only where it is; and
 -- a failure, only where the desk's count of failed loads of this name rose
 abbrev pub MayAnswer : DeskTold → Result (List ℕ) LoadFault → Type 0
-MayAnswer desk (Ok text) = IfSome desk.text (λ held. text ≡ held) × (length text ≤ MAX_CONFIG)
+MayAnswer desk (Ok text) = IfSome desk.text (λ held. text ≡ held) × (length text ≤ max_config)
 MayAnswer desk (Err load.Failed) = Rose desk.faults_before desk.faults_after
-MayAnswer desk (Err load.TooLong) = IfSome desk.text (λ held. MAX_CONFIG < length held)
+MayAnswer desk (Err load.TooLong) = IfSome desk.text (λ held. max_config < length held)
 MayAnswer desk (Err load.Memory) = Unit {0}
 
 -- what comes of an answer

@@ -1,6 +1,6 @@
 -- What contracts see of an upload.
 use Rattle.std.specs.Prelude.{◌≡◌, ℕ, ◌<◌, ◌≤◌, IsTrue, List, length}
-use Rattle.fsoe_base.specs.declared.lengths.TheConstants.{MOST_DATA}
+use Rattle.fsoe_base.specs.Lengths.{most_data}
 use Rattle.param_load.specs.declared.contents.Expected.{Expected}
 use Rattle.param_load.specs.declared.contents.Expected.TheVariants as expected
 use Rattle.param_load.specs.Contents.{is_expectable, expected_len, app_part}
@@ -20,7 +20,7 @@ HasWatchdog (expected.Parameter most rule profile) u = 4 ≤ length u → 0 < nu
 
 -- what holds of every upload: the application parameters of a whole one are those that are joined
 pub record IsUpload (v : UploadView) (app : List ℕ) : Type 0 where
-  pub piece_most : v.piece ≤ MOST_DATA
+  pub piece_most : v.piece ≤ most_data
   pub expectable : IsTrue (is_expectable v.expected)
   pub has_watchdog : HasWatchdog v.expected v.joined
   pub app_joined : expected_len v.expected ≤ length v.joined → app ≡ app_part v.expected v.joined

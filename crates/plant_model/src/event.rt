@@ -2,9 +2,6 @@
 use fsoe_base::{End, Image};
 use schedule_file::LineBuf;
 
-/// The most events of a script, its lines for applications among them.
-pub const MAX_SCRIPT: u64 = 2_000;
-
 /// What a script has happen in a plant. Connections are numbered from 1.
 #[derive(Debug, Drop)]
 pub enum PlantEvent {

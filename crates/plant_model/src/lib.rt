@@ -8,5 +8,5 @@ mod event;
 mod journal;
 pub mod laws;
 
-pub use event::{MAX_SCRIPT, PlantEvent, PlantLine};
+pub use event::{PlantEvent, PlantLine};
 pub use journal::JournalStep;

@@ -9,7 +9,6 @@ use Rattle.schedule_file.specs.declared.line_cause.LineCause.TheVariants as caus
 use Rattle.plant_run.specs.ScriptLine.{plant_line}
 use Rattle.plant_model.specs.declared.event.PlantLine.{PlantLine}
 use Rattle.plant_model.specs.declared.event.PlantLine.TheVariants as line
-use Rattle.plant_model.specs.declared.event.TheConstants.{MAX_SCRIPT}
 
 -- the header of a script: the lengths of the connections, which are known before, and whether its one line was read
 pub record ScriptHeading : Type 0 where
@@ -30,9 +29,9 @@ happening line.End = None
 happening (line.Step event) = Some (line.Step event)
 happening (line.App name) = Some (line.App name)
 
--- no event may come after so many
+-- no event may come after 2,000
 abbrev pub is_full : ScriptHeading → List PlantLine → Bool
-is_full h log = nat_le MAX_SCRIPT (length log)
+is_full h log = nat_le 2000 (length log)
 
 -- how scripts are read where the connections have these lengths
 abbrev pub script_format : List Lengths → InputFormat ScriptHeading PlantLine PlantLine

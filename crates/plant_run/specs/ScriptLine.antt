@@ -6,11 +6,11 @@ use Rattle.fsoe_base.specs.LengthsOf.{length_of}
 use Rattle.fsoe_base.specs.declared.command.End.{End}
 use Rattle.fsoe_base.specs.declared.command.End.TheVariants as side
 use Rattle.fsoe_base.specs.declared.lengths.Lengths.{Lengths}
-use Rattle.fsoe_base.specs.declared.lengths.TheConstants.{MOST_DATA}
+use Rattle.fsoe_base.specs.Lengths.{most_data}
 use Rattle.schedule_file.specs.EventLine.{switch_of}
 use Rattle.schedule_file.specs.Field.{fields_of, bytes_said}
 use Rattle.schedule_file.specs.Fields.{◌>>=◌, map_ok, value_or, next_field, no_field, one_field, number_16}
-use Rattle.schedule_file.specs.declared.line_buf.TheConstants.{MAX_LINE}
+use Rattle.schedule_file.specs.Limits.{max_line}
 use Rattle.schedule_file.specs.declared.line_cause.LineCause.{LineCause}
 use Rattle.schedule_file.specs.declared.line_cause.LineCause.TheVariants as cause
 use Rattle.plant_model.specs.declared.event.PlantEvent.TheVariants as event
@@ -56,7 +56,7 @@ put_line lengths fields = do
   digits ← one_field link.1
   number ← number_16 link.0
   ends ← existing lengths number
-  bytes ← value_or cause.Hex (bytes_said MOST_DATA digits)
+  bytes ← value_or cause.Hex (bytes_said most_data digits)
   if length bytes == length_of ends side.Slave then Ok (line.Step (event.Put number bytes)) else Err cause.Length
 
 -- a connection, and off or on
@@ -134,4 +134,4 @@ LineFits lengths line.End = Unit {0}
 
 -- each of these fields is no longer than a line may be
 abbrev pub FieldsFit : List (List ℕ) → Type 0
-FieldsFit fields = All (λ field. length field ≤ MAX_LINE) fields
+FieldsFit fields = All (λ field. length field ≤ max_line) fields

@@ -9,7 +9,8 @@ mod script;
 mod script_line;
 mod watching;
 
+pub use machine::MAX_SCRIPT;
 pub use plant_core::{Journal, Plant};
-pub use plant_model::{JournalStep, MAX_SCRIPT, PlantEvent, PlantLine};
+pub use plant_model::{JournalStep, PlantEvent, PlantLine};
 pub use run::run_plant;
 pub use script_line::read_plant_event;

@@ -32,10 +32,13 @@ use fsoe_base::{Memory, State};
 use fsoe_io::{Ended, LineText};
 use plant_conf::{BoundSpec, PlantConf};
 use plant_core::Plant;
-use plant_model::{MAX_SCRIPT, PlantEvent, PlantLine};
+use plant_model::{PlantEvent, PlantLine};
 use reaction_bound::Reaction;
 use std::alloc::Global;
 use std::marker::PhantomData;
+
+/// The most events of a script, its lines for applications among them.
+pub const MAX_SCRIPT: u64 = 2_000;
 
 /// What the run of a plant owns: the application that runs first, until the plant begins; those that its script may take, in their order; and,
 /// once it has begun, the plant, and a reaction for each bound of its configuration.

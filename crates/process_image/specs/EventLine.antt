@@ -2,7 +2,7 @@
 -- slot that doesn't exist, the hexadecimal bytes, a length, a position.
 use Rattle.std.specs.Prelude.{ℕ, ◌+◌, ◌==◌, nat_le, length, List, [], ◌∷◌, codes, Option, Some, None, Result, Ok, Err, if◌then◌else◌}
 use Rattle.std.specs.Str.{bytes_eq}
-use Rattle.fsoe_base.specs.declared.lengths.TheConstants.{MOST_DATA}
+use Rattle.fsoe_base.specs.Lengths.{most_data}
 use Rattle.param_load.specs.Profile.{allows_id}
 use Rattle.schedule_file.specs.EventLine.{switch_of}
 use Rattle.schedule_file.specs.Field.{bytes_said, fields_of}
@@ -13,7 +13,6 @@ use Rattle.process_image.specs.Standing.{numbered}
 use Rattle.process_image.specs.declared.event.ImageEvent.TheVariants as event
 use Rattle.process_image.specs.declared.event.ImageLine.{ImageLine}
 use Rattle.process_image.specs.declared.event.ImageLine.TheVariants as line
-use Rattle.process_image.specs.declared.event.TheConstants.{MOST_WRITTEN}
 use Rattle.process_image.specs.declared.event_line.SlotEnd.{SlotEnd}
 use Rattle.process_image.specs.declared.event_line.Word.{Word}
 use Rattle.process_image.specs.declared.event_line.Word.TheVariants as word
@@ -53,7 +52,7 @@ abbrev pub write_behind : ℕ → List ℕ → List (List ℕ) → Result ImageL
 write_behind size place fields = do
   digits ← one_field fields
   at ← number_16 place
-  bytes ← value_or cause.Hex (bytes_said MOST_WRITTEN digits)
+  bytes ← value_or cause.Hex (bytes_said 256 digits)
   written_at size bytes at
 
 -- bytes that are written
@@ -76,7 +75,7 @@ put_line ends fields = do
   digits ← one_field first.1
   slot ← number_16 first.0
   end ← end_at slot ends
-  bytes ← value_or cause.Hex (bytes_said MOST_DATA digits)
+  bytes ← value_or cause.Hex (bytes_said most_data digits)
   if length bytes == end.sends then Ok (line.Step (event.Put slot bytes)) else Err cause.Length
 
 -- fail-safe data on or off

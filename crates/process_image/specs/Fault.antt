@@ -1,6 +1,6 @@
 -- Why there are no images with these slots.
 use Rattle.std.specs.Prelude.{◌≡◌, ℕ, suc, nat_lt, List, [], ◌∷◌, length, Option, Some, None, if◌then◌else◌}
-use Rattle.process_image.specs.Places.{Place, Plan, lie_inside, overlap, spans_of}
+use Rattle.process_image.specs.Places.{Place, Plan, lie_inside, most_slots, overlap, spans_of}
 use Rattle.process_image.specs.declared.fault.SlotFault.{SlotFault}
 use Rattle.process_image.specs.declared.spans.Spans.{Spans}
 use Rattle.process_image.specs.declared.fault.SlotFault.TheVariants as fault
@@ -33,7 +33,7 @@ outside_or None later = later
 -- the first fault: more than 64 slots, then a slot that isn't inside both images, then two that share a byte
 abbrev pub first_fault : Plan → Option SlotFault
 first_fault plan =
-    if nat_lt 64 (length plan.places) then Some fault.TooMany
+    if nat_lt most_slots (length plan.places) then Some fault.TooMany
     else outside_or (first_outside plan.size_in plan.size_out plan.places) (first_pair plan.places)
 
 -- slots are numbered in their order, from n on

@@ -16,13 +16,11 @@ use Rattle.schedule_file.specs.declared.header_kind.HeaderKind.{HeaderKind}
 use Rattle.schedule_file.specs.declared.header_kind.HeaderKind.TheVariants as kind
 use Rattle.schedule_file.specs.declared.line_cause.LineCause.{LineCause}
 use Rattle.schedule_file.specs.declared.line_cause.LineCause.TheVariants as cause
-use Rattle.process_image.specs.Places.{lie_inside, overlap}
+use Rattle.process_image.specs.Places.{lie_inside, most_slots, overlap}
 use Rattle.process_image.specs.declared.header.SlotHeader.{SlotHeader}
 use Rattle.process_image.specs.declared.header.Stage.{Stage}
 use Rattle.process_image.specs.declared.header.Stage.TheVariants as stage
-use Rattle.process_image.specs.declared.header.TheConstants.{MOST_SIZE}
 use Rattle.process_image.specs.declared.spans.Spans.{Spans}
-use Rattle.process_image.specs.declared.spans.TheConstants.{MOST_SLOTS}
 
 -- a header after the lines that were read: the sizes of the images, the slots before the last one, and the last one; before the lines that
 -- say them, the sizes and the last slot stand for nothing
@@ -74,7 +72,7 @@ heading_spans s = record { at_in = s.at_in; len_in = delivered_len (own_length s
 
 -- an image has from 1 to 4,096 bytes
 abbrev pub is_size : ℕ → Bool
-is_size n = nat_le 1 n && nat_le n MOST_SIZE
+is_size n = nat_le 1 n && nat_le n 4096
 
 -- the sizes of both images
 abbrev pub size_line : List (List ℕ) → Result (ℕ × ℕ) LineCause
@@ -94,7 +92,7 @@ slot_line number fields = do
   n ← number_16 first.0
   at_in ← number_16 second.0
   at_out ← number_16 third
-  if n == number && nat_le n MOST_SLOTS then Ok (slot_begun at_in at_out) else Err cause.Range
+  if n == number && nat_le n most_slots then Ok (slot_begun at_in at_out) else Err cause.Range
 
 -- a header after its `size` line
 abbrev pub size_taken : ImageHeading → List (List ℕ) → Result ImageHeading LineCause

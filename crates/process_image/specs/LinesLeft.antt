@@ -2,10 +2,10 @@
 use Rattle.std.specs.Prelude.{ℕ, ◌+◌, ◌-◌, ◌*◌, length}
 use Rattle.schedule_file.specs.LinesLeft.{lines_left}
 use Rattle.process_image.specs.Header.{ImageHeading, slots_of}
+use Rattle.process_image.specs.Places.{most_slots}
 use Rattle.process_image.specs.declared.header.SlotHeader.{SlotHeader}
 use Rattle.process_image.specs.declared.header.Stage.{Stage}
 use Rattle.process_image.specs.declared.header.Stage.TheVariants as stage
-use Rattle.process_image.specs.declared.spans.TheConstants.{MOST_SLOTS}
 
 -- before the first slot, or of the last slot
 abbrev pub own_left : Stage → SlotHeader → ℕ
@@ -18,4 +18,4 @@ own_left stage.Refused last = 0
 
 -- at most 1,032 lines are those of each slot that is still to come
 abbrev pub image_lines_left : ImageHeading → ℕ
-image_lines_left h = own_left h.stage h.last + 1032 * (MOST_SLOTS - length (slots_of h))
+image_lines_left h = own_left h.stage h.last + 1032 * (most_slots - length (slots_of h))

@@ -6,6 +6,10 @@ use Rattle.end_core.specs.Core.{setup_of}
 use Rattle.process_image.specs.declared.slot.Slot.{Slot}
 use Rattle.process_image.specs.declared.spans.Spans.{Spans}
 
+-- the most slots
+abbrev pub most_slots : ℕ
+most_slots = 64
+
 -- whether the bytes that the frames of a slot take lie inside images of these sizes
 abbrev pub lie_inside : ℕ → ℕ → Spans → Bool
 lie_inside size_in size_out s = nat_le (s.at_in + s.len_in) size_in && nat_le (s.at_out + s.len_out) size_out

@@ -23,7 +23,6 @@ use Rattle.process_image.specs.Places.{Place, Plan}
 use Rattle.process_image.specs.declared.event.ImageEvent.{ImageEvent}
 use Rattle.process_image.specs.declared.event.ImageLine.{ImageLine}
 use Rattle.process_image.specs.declared.event.ImageLine.TheVariants as line
-use Rattle.process_image.specs.declared.event.TheConstants.{MOST_EVENTS}
 use Rattle.process_image.specs.declared.event_line.SlotEnd.{SlotEnd}
 use Rattle.process_image.specs.declared.header.SlotHeader.{SlotHeader}
 use Rattle.process_image.specs.declared.slot.Slot.{Slot}
@@ -43,7 +42,7 @@ said_after h text = image_line h.size_in (map end_terms (slots_of h)) text
 
 -- no event may come after 2,000
 abbrev pub is_full : ImageHeading → List ImageEvent → Bool
-is_full h events = nat_le MOST_EVENTS (length events)
+is_full h events = nat_le 2000 (length events)
 
 -- an end is set to what the lines of a slot say
 abbrev pub IsEndOf : SlotHeader → Setup → Type 0

@@ -3,6 +3,7 @@ use Rattle.std.specs.Prelude.{◌≡◌, ◌≤◌, ◌+◌, ℕ, length, replic
 use Rattle.fsoe_base.specs.Lengths.{frame_len}
 use Rattle.end_model.specs.Setup.{sends, receives}
 use Rattle.end_core.specs.Core.{setup_of, IsAtRest}
+use Rattle.process_image.specs.Places.{most_slots}
 use Rattle.process_image.specs.Standing.{ImagesView}
 use Rattle.process_image.specs.declared.seat.Seat.{Seat}
 use Rattle.process_image.specs.declared.slot.Slot.{Slot}
@@ -23,7 +24,7 @@ pub record IsSoundSeat (size_in size_out : ℕ) (seat : Seat) : Type 0 where
 -- so is each of at most 64 slots
 pub record IsSound (v : ImagesView) : Type 0 where
   pub seats : All (IsSoundSeat (length v.input) (length v.output)) v.seats
-  pub most : length v.seats ≤ 64
+  pub most : length v.seats ≤ most_slots
 
 -- a slot as it is made of its end, of which nothing is sampled yet
 pub record IsNewSeat (slot : Slot) (seat : Seat) : Type 0 where

@@ -10,9 +10,6 @@ use crate::text::Text;
 use duo_run::run_pair;
 use fsoe_io::{Ended, Status};
 
-/// The status of a replay that found the memory full. The statuses are those of the program; `embed/replay.h` names them.
-pub const CUT: u8 = 7;
-
 /// How a replay ended.
 #[repr(C)]
 #[derive(Drop)]
@@ -39,13 +36,13 @@ fn replay_into(text: &[u8], room: &mut Room<'_>) -> Ended
 }
 
 /// Runs both ends over the text of a pair file, as `replay` does, and writes their report to the front of `report`. Answers the status:
-/// 0, or 1 where an entry is other, or 4 where a line is refused, and then the whole report was written; or `CUT`, and then a first part
+/// 0, or 1 where an entry is other, or 4 where a line is refused, and then the whole report was written; or 7, and then a first part
 /// of it fills the memory. `ended` says where, and how many bytes are the report's. Bytes behind them stay.
 #[unsafe(no_mangle)]
 pub extern "C" fn gp_replay(text: &[u8], report: &mut [u8], ended: &mut GpEnded) -> u8
     ensures ended { EndedAs text.now result ended.new.place (take ended.new.len report.new) }
     ensures bound { ended.new.len ≤ length report.old }
-    ensures full { result ≡ CUT → ended.new.len ≡ length report.old }
+    ensures full { result ≡ 7 → ended.new.len ≡ length report.old }
     ensures past { drop ended.new.len report.new ≡ drop ended.new.len report.old }
     ensures fair { RunsFairly (input_of kind.Pair text.now) }
     ensures serves { ServesIfHonest (input_of kind.Pair text.now) }

@@ -2,15 +2,15 @@
 use Rattle.std.specs.Prelude.{◌≡◌, ℕ, ◌<◌, ◌≤◌, length, IsTrue}
 use Rattle.fsoe_base.specs.declared.command.End.{End}
 use Rattle.fsoe_base.specs.declared.lengths.Lengths.{Lengths}
-use Rattle.fsoe_base.specs.declared.lengths.TheConstants.{MOST_DATA, MOST_FRAME}
+use Rattle.fsoe_base.specs.Lengths.{most_data, most_frame}
 use Rattle.fsoe_base.specs.LengthsOf.{length_of}
 use Rattle.fsoe_base.specs.declared.command.End.TheVariants as side
 use Rattle.param_load.specs.declared.profile.Profile.{Profile}
 use Rattle.param_load.specs.declared.profile.Profiles.{Profiles}
 use Rattle.param_load.specs.Profile.{allows_id}
 use Rattle.schedule_file.specs.EventLine.{delivered_len}
+use Rattle.schedule_file.specs.Limits.{max_back}
 use Rattle.schedule_file.specs.declared.event.Event.{Event}
-use Rattle.schedule_file.specs.declared.event.TheConstants.{MAX_BACK}
 use Rattle.schedule_file.specs.declared.event.Event.TheVariants as event
 use Rattle.schedule_file.specs.declared.event.ScheduleLine.{ScheduleLine}
 use Rattle.schedule_file.specs.declared.event.ScheduleLine.TheVariants as line
@@ -22,10 +22,10 @@ profile_of profiles side.Slave = profiles.slave
 
 -- an event that a line can say: a reference is from 1 to 64, a frame has from 1 to 255 bytes, a put from 1 to 126
 abbrev pub IsWritable : Event → Type 0
-IsWritable (event.Deliver to back) = (0 < back) × (back ≤ MAX_BACK)
-IsWritable (event.Altered to back pos mask) = (0 < back) × (back ≤ MAX_BACK)
-IsWritable (event.Raw to frame) = (0 < length frame) × (length frame ≤ MOST_FRAME)
-IsWritable (event.Put at load) = (0 < length load) × (length load ≤ MOST_DATA)
+IsWritable (event.Deliver to back) = (0 < back) × (back ≤ max_back)
+IsWritable (event.Altered to back pos mask) = (0 < back) × (back ≤ max_back)
+IsWritable (event.Raw to frame) = (0 < length frame) × (length frame ≤ most_frame)
+IsWritable (event.Put at load) = (0 < length load) × (length load ≤ most_data)
 IsWritable other = Unit {0}
 
 -- an event that ends may have which send so many safe data bytes and have these profiles: an altered place is one of that
@@ -43,7 +43,7 @@ Fits sends profiles event = IsWritable event × Suits sends profiles event
 -- an event that the node at this end may have, which sends so many safe data bytes: it is at this end, a frame has from 1 to 255 bytes,
 -- a put has exactly as many bytes as the end sends, and the profile allows the session id
 abbrev pub FitsEnd : End → ℕ → Profile → Event → Type 0
-FitsEnd end count profile (event.Raw to frame) = (to ≡ end) × (0 < length frame) × (length frame ≤ MOST_FRAME)
+FitsEnd end count profile (event.Raw to frame) = (to ≡ end) × (0 < length frame) × (length frame ≤ most_frame)
 FitsEnd end count profile (event.Tick at) = at ≡ end
 FitsEnd end count profile (event.Put at load) = (at ≡ end) × (length load ≡ count)
 FitsEnd end count profile (event.Hold at failsafe) = at ≡ end

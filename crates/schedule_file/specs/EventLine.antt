@@ -2,16 +2,15 @@
 -- order: the number of fields, a number, a reference, the hexadecimal bytes, a length, a position.
 use Rattle.std.specs.Prelude.{ℕ, ◌==◌, nat_lt, length, slice_index, Bool, true, false, List, [], ◌∷◌, codes, Option, Some, None, Result, Ok, Err, if◌then◌else◌}
 use Rattle.std.specs.Str.{bytes_eq}
-use Rattle.fsoe_base.specs.Lengths.{frame_len}
-use Rattle.fsoe_base.specs.declared.lengths.TheConstants.{MOST_DATA, MOST_FRAME}
+use Rattle.fsoe_base.specs.Lengths.{frame_len, most_data, most_frame}
 use Rattle.fsoe_base.specs.declared.command.End.{End}
 use Rattle.fsoe_base.specs.declared.command.End.TheVariants as side
 use Rattle.param_load.specs.Profile.{allows_id}
 use Rattle.param_load.specs.declared.profile.Profile.{Profile}
 use Rattle.schedule_file.specs.Field.{number_said, bytes_said}
 use Rattle.schedule_file.specs.Fields.{◌>>=◌, map_ok, value_or, next_field, no_field, one_field, number_16, number_32, one_hex_field}
+use Rattle.schedule_file.specs.Limits.{max_back}
 use Rattle.schedule_file.specs.declared.event.Event.TheVariants as event
-use Rattle.schedule_file.specs.declared.event.TheConstants.{MAX_BACK}
 use Rattle.schedule_file.specs.declared.event.ScheduleLine.{ScheduleLine}
 use Rattle.schedule_file.specs.declared.event.ScheduleLine.TheVariants as line
 use Rattle.schedule_file.specs.declared.line_cause.LineCause.{LineCause}
@@ -32,7 +31,7 @@ not_zero (Some n) = if n == 0 then None else Some n
 -- a reference is a minus and a number from 1 to 64
 abbrev pub reference_of : List ℕ → Option ℕ
 reference_of [] = None
-reference_of (sign ∷ digits) = if sign == 45 then not_zero (number_said MAX_BACK digits) else None
+reference_of (sign ∷ digits) = if sign == 45 then not_zero (number_said max_back digits) else None
 
 -- the number of bytes of a frame that is delivered to an end, where the ends send so many safe data bytes: its peer sent it
 abbrev pub delivered_len : (End → ℕ) → End → ℕ
@@ -63,12 +62,12 @@ bare_line says fields = map_ok (λ none. says) (no_field fields)
 
 -- a frame of 1 to 255 bytes
 abbrev pub raw_line : End → List (List ℕ) → Result ScheduleLine LineCause
-raw_line to fields = map_ok (λ bytes. line.Step (event.Raw to bytes)) (one_hex_field MOST_FRAME fields)
+raw_line to fields = map_ok (λ bytes. line.Step (event.Raw to bytes)) (one_hex_field most_frame fields)
 
 -- safe data bytes, exactly as many as the end sends
 abbrev pub put_line : End → ℕ → List (List ℕ) → Result ScheduleLine LineCause
 put_line at count fields = do
-  bytes ← one_hex_field MOST_DATA fields
+  bytes ← one_hex_field most_data fields
   if length bytes == count then Ok (line.Step (event.Put at bytes)) else Err cause.Length
 
 -- fail-safe data on or off

@@ -4,8 +4,7 @@ use Rattle.std.specs.Prelude.{◌<◌, ◌≤◌, ℕ, ◌==◌, ◌&&◌, ◌||
 use Rattle.std.specs.Str.{bytes_eq}
 use Rattle.fsoe_base.specs.Lengths.{is_length}
 use Rattle.schedule_file.specs.Fields.{◌>>=◌, map_ok, next_field, no_field, one_field, number_16, number_32, one_hex_field}
-use Rattle.schedule_file.specs.declared.field.TheConstants.{MAX_HEX}
-use Rattle.schedule_file.specs.declared.header_part.TheConstants.{MAX_APP}
+use Rattle.schedule_file.specs.Limits.{max_app, max_hex}
 use Rattle.schedule_file.specs.declared.header_line.HeaderLine.{HeaderLine}
 use Rattle.schedule_file.specs.declared.header_line.HeaderLine.TheVariants as says
 use Rattle.schedule_file.specs.declared.header_line.LengthsLine.{LengthsLine}
@@ -63,7 +62,7 @@ abbrev pub any_line : List (List ℕ) → Result RuleLine LineCause
 any_line fields = do
   field ← one_field fields
   n ← number_16 field
-  if nat_le n MAX_APP then Ok (rule.Any n) else Err cause.Range
+  if nat_le n max_app then Ok (rule.Any n) else Err cause.Range
 
 -- any other rule is `exact` or `ranges`, and its bytes come in lines of their own
 abbrev pub listed_line : List ℕ → List (List ℕ) → Result RuleLine LineCause
@@ -82,7 +81,7 @@ rule_line fields = do
 -- a line of ranges has at least one low and its high
 abbrev pub range_line : List (List ℕ) → Result (List ℕ) LineCause
 range_line fields = do
-  pairs ← one_hex_field MAX_HEX fields
+  pairs ← one_hex_field max_hex fields
   if length pairs == 1 then Err cause.Hex else Ok pairs
 
 -- what the fields of a line say that begins with a word
@@ -90,16 +89,16 @@ abbrev pub header_line : Word → List (List ℕ) → Result HeaderLine LineCaus
 header_line word.Lengths fields = map_ok says.Lengths (lengths_line fields)
 header_line word.Master fields = map_ok says.Master (master_line fields)
 header_line word.Profile fields = map_ok says.Profile (profile_line fields)
-header_line word.App fields = map_ok says.App (one_hex_field MAX_HEX fields)
+header_line word.App fields = map_ok says.App (one_hex_field max_hex fields)
 header_line word.Slave fields = map_ok says.Slave (slave_line fields)
 header_line word.Rule fields = map_ok says.Rule (rule_line fields)
-header_line word.Bytes fields = map_ok says.Bytes (one_hex_field MAX_HEX fields)
+header_line word.Bytes fields = map_ok says.Bytes (one_hex_field max_hex fields)
 header_line word.Range fields = map_ok says.Range (range_line fields)
 header_line word.Go fields = map_ok (λ _. says.Go) (no_field fields)
 
 -- a rule for any bytes is for at most 512
 abbrev pub RuleInRange : RuleLine → Type 0
-RuleInRange (rule.Any n) = n ≤ MAX_APP
+RuleInRange (rule.Any n) = n ≤ max_app
 RuleInRange other = Unit {0}
 
 -- the numbers of a line are in their ranges, and a list has at least one byte or pair

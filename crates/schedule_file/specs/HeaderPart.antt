@@ -7,11 +7,11 @@ use Rattle.param_load.specs.declared.app_rule.AppRule.TheVariants as app_rule
 use Rattle.param_load.specs.declared.profile.Profile.{Profile}
 use Rattle.param_load.specs.declared.profile.Profile.TheVariants as profile
 use Rattle.schedule_file.specs.Fields.{map_ok}
+use Rattle.schedule_file.specs.Limits.{max_app}
 use Rattle.schedule_file.specs.declared.header_line.MasterLine.{MasterLine}
 use Rattle.schedule_file.specs.declared.header_line.RuleLine.{RuleLine}
 use Rattle.schedule_file.specs.declared.header_line.RuleLine.TheVariants as rule
 use Rattle.schedule_file.specs.declared.header_line.SlaveLine.{SlaveLine}
-use Rattle.schedule_file.specs.declared.header_part.TheConstants.{MAX_APP}
 use Rattle.schedule_file.specs.declared.line_cause.LineCause.{LineCause}
 use Rattle.schedule_file.specs.declared.line_cause.LineCause.TheVariants as cause
 
@@ -46,7 +46,7 @@ slave_begun line = record { line = line; profile = profile_for line.nonce; rule 
 
 -- a list of bytes with those of one more line, at most 512 in all
 abbrev pub list_with : List ℕ → List ℕ → Result (List ℕ) LineCause
-list_with list bytes = if nat_le (length list + length bytes) MAX_APP then Ok (list ++ bytes) else Err cause.Range
+list_with list bytes = if nat_le (length list + length bytes) max_app then Ok (list ++ bytes) else Err cause.Range
 
 -- the first of each pair of bytes
 abbrev pub lows_of : List ℕ → List ℕ
@@ -63,7 +63,7 @@ highs_of (low ∷ high ∷ pairs) = high ∷ highs_of pairs
 -- ranges with the pairs of one more line, at most 512 in all, in which no low is above its high
 abbrev pub ranges_with : List ℕ → List ℕ → List ℕ → Result AppRule LineCause
 ranges_with low high pairs =
-    if length pairs % 2 == 0 && pointwise nat_le (lows_of pairs) (highs_of pairs) && nat_le (length low + length pairs / 2) MAX_APP
+    if length pairs % 2 == 0 && pointwise nat_le (lows_of pairs) (highs_of pairs) && nat_le (length low + length pairs / 2) max_app
     then Ok (app_rule.Ranges (low ++ lows_of pairs) (high ++ highs_of pairs))
     else Err cause.Range
 

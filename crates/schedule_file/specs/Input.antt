@@ -7,15 +7,14 @@ use Rattle.fsoe_base.specs.declared.command.End.{End}
 use Rattle.fsoe_base.specs.declared.command.End.TheVariants as side
 use Rattle.param_load.specs.declared.profile.Profile.{Profile}
 use Rattle.schedule_file.specs.Header.{Heading, heading_new, heading_after, heading_is_whole}
+use Rattle.schedule_file.specs.Limits.{max_events, max_line}
 use Rattle.schedule_file.specs.NodeEvent.{node_line}
 use Rattle.schedule_file.specs.PairEvent.{pair_line}
 use Rattle.schedule_file.specs.declared.event.Event.{Event}
-use Rattle.schedule_file.specs.declared.event.TheConstants.{MAX_EVENTS}
 use Rattle.schedule_file.specs.declared.event.ScheduleLine.{ScheduleLine}
 use Rattle.schedule_file.specs.declared.event.ScheduleLine.TheVariants as line
 use Rattle.schedule_file.specs.declared.header_kind.HeaderKind.{HeaderKind}
 use Rattle.schedule_file.specs.declared.header_kind.HeaderKind.TheVariants.{Pair, Node}
-use Rattle.schedule_file.specs.declared.line_buf.TheConstants.{MAX_LINE}
 use Rattle.schedule_file.specs.declared.line_cause.LineCause.{LineCause}
 
 -- why an input goes no further: its next line is too long, has no newline, doesn't come, or comes after all events that
@@ -38,12 +37,12 @@ pub data Stop : Type 0 where
 
 -- a line of at most 640 bytes
 abbrev pub whole_line : List ℕ → Result (List ℕ) InputCause
-whole_line text = if nat_le (length text) MAX_LINE then Ok text else Err Long
+whole_line text = if nat_le (length text) max_line then Ok text else Err Long
 
 -- what stands after the last newline is no line
 abbrev pub open_line : List ℕ → List (Result (List ℕ) InputCause)
 open_line [] = []
-open_line (b ∷ text) = Err (if nat_le (length (b ∷ text)) MAX_LINE then NoNewline else Long) ∷ []
+open_line (b ∷ text) = Err (if nat_le (length (b ∷ text)) max_line then NoNewline else Long) ∷ []
 
 -- the parts between newlines are lines, but for the last
 abbrev pub lines_in : List (List ℕ) → List (Result (List ℕ) InputCause)
@@ -186,7 +185,7 @@ event_of line.End = None
 
 -- there may be no event after 200,000
 abbrev pub is_full : List Event → Bool
-is_full events = length events == MAX_EVENTS
+is_full events = length events == max_events
 
 -- how the lines of an input with a header of this kind are read
 abbrev pub schedule_format : HeaderKind → InputFormat Heading ScheduleLine Event

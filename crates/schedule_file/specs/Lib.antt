@@ -8,6 +8,7 @@ pub mod HeaderKind
 pub mod HeaderLine
 pub mod HeaderPart
 pub mod Input
+pub mod Limits
 pub mod LineCause
 pub mod LinesLeft
 pub mod Made

@@ -5,13 +5,13 @@ use Rattle.std.specs.Str.{bytes_eq}
 use Rattle.schedule_file.specs.Field.{fields_of}
 use Rattle.schedule_file.specs.Fields.{◌>>=◌, one_field, number_16}
 use Rattle.schedule_file.specs.Header.{Heading, heading_new, heading_after, heading_is_whole}
+use Rattle.schedule_file.specs.Limits.{most_pairs}
 use Rattle.schedule_file.specs.NodeHeader.{may_end}
 use Rattle.schedule_file.specs.declared.header_kind.HeaderKind.TheVariants as kind
 use Rattle.schedule_file.specs.declared.line_cause.LineCause.{LineCause}
 use Rattle.schedule_file.specs.declared.line_cause.LineCause.TheVariants as cause
 use Rattle.schedule_file.specs.declared.pairs_header.PairsStage.{PairsStage}
 use Rattle.schedule_file.specs.declared.pairs_header.PairsStage.TheVariants as stage
-use Rattle.schedule_file.specs.declared.pairs_header.TheConstants.{MOST_PAIRS}
 use Rattle.schedule_file.specs.declared.place.Place.TheVariants as place
 
 -- a header after the lines that were read: the pairs before the last one, and the last one; before the first `pair` line it stands for
@@ -52,7 +52,7 @@ abbrev pub next_pair : ℕ → List (List ℕ) → Result (Unit {0}) LineCause
 next_pair number fields = do
   field ← one_field fields
   n ← number_16 field
-  if n == number && nat_le n MOST_PAIRS then Ok tt else Err cause.Range
+  if n == number && nat_le n most_pairs then Ok tt else Err cause.Range
 
 -- a header after a `pair` line
 abbrev pub pair_taken : PairsHeading → List (List ℕ) → Result PairsHeading LineCause

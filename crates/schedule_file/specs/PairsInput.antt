@@ -1,10 +1,10 @@
 -- What the bytes of an input of several pairs say.
 use Rattle.std.specs.Prelude.{ℕ, ◌+◌, ◌*◌, nat_le, length, map, List, [], ◌∷◌, Bool, Result}
 use Rattle.schedule_file.specs.Input.{InputFormat, InputOf, input_read, own_length, heading_profile}
+use Rattle.schedule_file.specs.Limits.{max_events}
 use Rattle.schedule_file.specs.PairsEvent.{pairs_line}
 use Rattle.schedule_file.specs.PairsHeader.{PairsHeading, pairs_heading_new, pairs_heading_after, pairs_heading_is_whole, pairs_of}
 use Rattle.schedule_file.specs.PairsLine.{pairs_event_of}
-use Rattle.schedule_file.specs.declared.event.TheConstants.{MAX_EVENTS}
 use Rattle.schedule_file.specs.declared.line_cause.LineCause.{LineCause}
 use Rattle.schedule_file.specs.declared.pairs_line.PairsEvent.{PairsEvent}
 use Rattle.schedule_file.specs.declared.pairs_line.PairsEvent.TheVariants as event
@@ -26,7 +26,7 @@ entries_of pairs (event ∷ events) = entries_by pairs event + entries_of pairs 
 
 -- there may be no event after 200,000 entries
 abbrev pub pairs_are_full : PairsHeading → List PairsEvent → Bool
-pairs_are_full h events = nat_le MAX_EVENTS (entries_of (length (pairs_of h)) events)
+pairs_are_full h events = nat_le max_events (entries_of (length (pairs_of h)) events)
 
 -- how the lines of an input of several pairs are read
 abbrev pub pairs_format : InputFormat PairsHeading PairsLine PairsEvent

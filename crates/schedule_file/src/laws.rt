@@ -6,7 +6,12 @@ ghost use Rattle.param_load.specs.declared.master_settings.MasterSettings.{Maste
 ghost use Rattle.param_load.specs.declared.profile.Profile.{Profile};
 ghost use Rattle.param_load.specs.declared.slave_settings.SlaveSettings.{SlaveSettings};
 ghost use Rattle.schedule_file.specs.declared.event.Event.{Event};
-ghost use Rattle.schedule_file.specs.declared.event.TheConstants.{MAX_EVENTS};
+ghost use Rattle.schedule_file.specs.Limits.{max_app, max_back, max_events, max_hex, max_line, most_pairs};
+ghost use Rattle.schedule_file.specs.declared.event.TheConstants.{MAX_BACK, MAX_EVENTS};
+ghost use Rattle.schedule_file.specs.declared.field.TheConstants.{MAX_HEX};
+ghost use Rattle.schedule_file.specs.declared.header_part.TheConstants.{MAX_APP};
+ghost use Rattle.schedule_file.specs.declared.line_buf.TheConstants.{MAX_LINE};
+ghost use Rattle.schedule_file.specs.declared.pairs_header.TheConstants.{MOST_PAIRS};
 ghost use Rattle.schedule_file.specs.declared.event.ScheduleLine.TheVariants.{Step};
 ghost use Rattle.schedule_file.specs.Event.{Fits, FitsEnd};
 ghost use Rattle.schedule_file.specs.EventText.{IsOfTypes, event_text};
@@ -52,9 +57,19 @@ pub fn no_bytes_are_refused()
     ensures { (kind : HeaderKind) → input_of kind [] ≡ record { heading = None; lines = 0; events = []; stop = Refused 1 NoLine } }
 {}
 
+/// The constants are the limits of the definitions.
+pub fn constants()
+    ensures events { MAX_EVENTS ≡ max_events }
+    ensures back { MAX_BACK ≡ max_back }
+    ensures line { MAX_LINE ≡ max_line }
+    ensures hex { MAX_HEX ≡ max_hex }
+    ensures app { MAX_APP ≡ max_app }
+    ensures pairs { MOST_PAIRS ≡ most_pairs }
+{}
+
 /// An input has at most 200,000 events.
 pub fn inputs_have_few_events()
-    ensures { (kind : HeaderKind) (bytes : List ℕ) → length (input_of kind bytes).events ≤ MAX_EVENTS }
+    ensures { (kind : HeaderKind) (bytes : List ℕ) → length (input_of kind bytes).events ≤ max_events }
 {}
 
 /// The header of an input, where it is whole, gives settings of both ends; those of an end that it doesn't describe are such as

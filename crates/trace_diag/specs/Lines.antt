@@ -5,12 +5,12 @@ use Rattle.std.specs.Prelude.{ℕ, Bool, true, false, ◌==◌, List, [], ◌∷
 use Rattle.std.specs.Str.{bytes_eq}
 use Rattle.fsoe_base.specs.declared.command.End.{End}
 use Rattle.fsoe_base.specs.declared.command.End.TheVariants as end_name
-use Rattle.fsoe_base.specs.declared.lengths.TheConstants.{MOST_FRAME}
+use Rattle.fsoe_base.specs.Lengths.{most_frame}
 use Rattle.schedule_file.specs.Field.{fields_of}
 use Rattle.schedule_file.specs.Fields.{map_ok, no_field, one_hex_field}
 use Rattle.schedule_file.specs.HeaderLine.{lengths_line}
 use Rattle.schedule_file.specs.Input.{InputFormat}
-use Rattle.schedule_file.specs.declared.event.TheConstants.{MAX_EVENTS}
+use Rattle.schedule_file.specs.Limits.{max_events}
 use Rattle.schedule_file.specs.declared.header_line.LengthsLine.{LengthsLine}
 use Rattle.schedule_file.specs.declared.line_cause.LineCause.{LineCause}
 use Rattle.schedule_file.specs.declared.line_cause.LineCause.TheVariants as cause
@@ -76,7 +76,7 @@ trace_heading_after h text = line_taken h.stage h text
 
 -- a frame of 1 to 255 bytes
 abbrev pub frame_line : End → List (List ℕ) → Result TraceLine LineCause
-frame_line from fields = map_ok (λ bytes. says.Sent (record { from = from; frame = bytes })) (one_hex_field MOST_FRAME fields)
+frame_line from fields = map_ok (λ bytes. says.Sent (record { from = from; frame = bytes })) (one_hex_field most_frame fields)
 
 -- what a line says that begins with this word
 abbrev pub trace_said : List ℕ → List (List ℕ) → Result TraceLine LineCause
@@ -108,5 +108,5 @@ trace_format = record {
   is_whole = trace_is_whole;
   line = λ h. trace_line;
   event = frame_said;
-  is_full = λ h frames. length frames == MAX_EVENTS;
+  is_full = λ h frames. length frames == max_events;
 }
