@@ -123,7 +123,7 @@ pub(crate) fn copied(terms: Option<&Terms>) -> Option<Terms>
 }
 
 /// Takes the frame of a step into the window of its end, if one was sent.
-#[tactic(auto, using(crate::proofs::Heard::hears_frame, crate::proofs::Heard::hears_none))]
+#[tactic(auto, using(crate::proofs::Pair::Heard::hears_frame, crate::proofs::Pair::Heard::hears_none))]
 pub(crate) fn hear(window: &mut Window, sent: &FrameBuf)
     ensures { Hears window.old sent.now window.new }
 {

@@ -50,7 +50,7 @@ impl Duo {
     ghost use Rattle.duo_run.specs.Acts.{Happens};
 
     /// Two new ends with these settings, which have the same lengths.
-    #[tactic(auto, using(crate::proofs::Began::stands_new, crate::proofs::Began::is_duo))]
+    #[tactic(auto, using(crate::proofs::Pair::Began::stands_new, crate::proofs::Pair::Began::is_duo))]
     pub fn new(master: MasterSettings, slave: SlaveSettings) -> Duo
         requires { SameLengths master slave }
         ensures stands { DuoStands master slave result [] }
@@ -70,7 +70,7 @@ impl Duo {
 
     /// Does an event at its end, and tells the entry. `NoSuchFrame` exactly where the event names a frame further back than its peer
     /// sent; then nothing is changed. The event fits the lengths and the profiles, and fewer than 2^64 - 1 steps were done before.
-    #[tactic(auto, using(crate::proofs::Stepped::steps_by, crate::proofs::Stepped::misses_by))]
+    #[tactic(auto, using(crate::proofs::Pair::Stepped::steps_by, crate::proofs::Pair::Stepped::misses_by))]
     pub fn step(&mut self, event: &Event) -> Result<Entry, StepFault>
         requires fits { Fits (length_of (lengths_of self.old)) (profile_of (profiles_of self.old)) event.now }
         requires fewer { steps_done self.old + 1 < 2 ^ 64 }
@@ -114,7 +114,7 @@ impl Duo {
         }
     }
 
-    #[tactic(auto, using(crate::proofs::Moved::master_proper, crate::proofs::Stepped::master_happens))]
+    #[tactic(auto, using(crate::proofs::Pair::Moved::master_proper, crate::proofs::Pair::Stepped::master_happens))]
     fn advance_master(&mut self, event: &Event, answer: &mut Answer) -> Result<(), StepFault>
         requires here { end_of_event event.now ≡ end_name.Master }
         requires fits { Fits (length_of (lengths_of self.old)) (profile_of (profiles_of self.old)) event.now }
@@ -135,7 +135,7 @@ impl Duo {
         Ok(())
     }
 
-    #[tactic(auto, using(crate::proofs::Moved::slave_proper, crate::proofs::Stepped::slave_happens))]
+    #[tactic(auto, using(crate::proofs::Pair::Moved::slave_proper, crate::proofs::Pair::Stepped::slave_happens))]
     fn advance_slave(&mut self, event: &Event, answer: &mut Answer) -> Result<(), StepFault>
         requires here { end_of_event event.now ≡ end_name.Slave }
         requires fits { Fits (length_of (lengths_of self.old)) (profile_of (profiles_of self.old)) event.now }
@@ -167,7 +167,7 @@ impl Duo {
     }
 
     /// The state of an end.
-    #[tactic(auto, using(crate::proofs::Told::master_state, crate::proofs::Told::slave_state))]
+    #[tactic(auto, using(crate::proofs::Pair::Told::master_state, crate::proofs::Pair::Told::slave_state))]
     pub(crate) fn state_of(&self, at: End) -> State
         ensures { ShowsLast self.now at result (λ x. x.state) }
     {
@@ -178,7 +178,7 @@ impl Duo {
     }
 
     /// The outputs of an end.
-    #[tactic(auto, using(crate::proofs::Told::master_outputs, crate::proofs::Told::slave_outputs))]
+    #[tactic(auto, using(crate::proofs::Pair::Told::master_outputs, crate::proofs::Pair::Told::slave_outputs))]
     pub(crate) fn outputs_of(&self, at: End) -> &[u8]
         ensures shown { ShowsLast self.now at result.now (λ x. x.outputs) }
         ensures most { length result.now ≤ MOST_DATA }
@@ -190,7 +190,7 @@ impl Duo {
     }
 
     /// The terms of an end, exactly in state Data.
-    #[tactic(auto, using(crate::proofs::Told::master_terms, crate::proofs::Told::slave_terms))]
+    #[tactic(auto, using(crate::proofs::Pair::Told::master_terms, crate::proofs::Pair::Told::slave_terms))]
     fn terms_of(&self, at: End) -> Option<&Terms>
         ensures { ShowsLast self.now at (option_copied result) (λ x. x.terms) }
     {

@@ -87,7 +87,7 @@ impl Summary {
     }
 
     /// Counts the next entry by its end, what the end did and its state.
-    #[tactic(auto, using(crate::proofs::Counted::counted_at_master, crate::proofs::Counted::counted_at_slave))]
+    #[tactic(auto, using(crate::proofs::Numbers::Counted::counted_at_master, crate::proofs::Numbers::Counted::counted_at_slave))]
     pub(crate) fn note(&mut self, at: End, did: &Did, state: State)
         requires master { HasRoom self.old.master }
         requires slave { HasRoom self.old.slave }

@@ -1,7 +1,7 @@
 use Rattle.std.proofs.Common.{◌∙◌}
-use Rattle.duo_run.proofs.HonestNumber.{zero_serves}
-use Rattle.duo_run.proofs.Summed.{bulk_wrote, entries_fair}
-use Rattle.duo_run.proofs.WholeRuns.{is_whole}
+use Rattle.duo_run.proofs.Numbers.HonestNumber.{zero_serves}
+use Rattle.duo_run.proofs.Numbers.Summed.{bulk_wrote, entries_fair}
+use Rattle.duo_run.proofs.Numbers.WholeRuns.{is_whole}
 use Rattle.duo_run.proofs.bulk.run_bulk.Goals as goal
 
 pub returns : goal.returns

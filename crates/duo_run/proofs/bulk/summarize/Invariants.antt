@@ -1,4 +1,4 @@
-use Rattle.duo_run.proofs.Summarizing.{AfterEvents}
+use Rattle.duo_run.proofs.Numbers.Summarizing.{AfterEvents}
 use Rattle.duo_run.proofs.bulk.summarize.Given as goal
 
 abbrev pub invariant-loop : goal.invariant-loop

@@ -1,6 +1,6 @@
 use Rattle.std.proofs.Common.{◌+◌, ◌∙◌}
 use Rattle.file_run.specs.Refusal.{input_cause}
-use Rattle.duo_run.proofs.Converting.{next_refused}
+use Rattle.duo_run.proofs.Conversion.Converting.{next_refused}
 use Rattle.duo_run.proofs.convert.next_taken.Goals as goal
 
 pub returns-in-Err-take-clause-finds : goal.returns-in-Err-take-clause-finds

@@ -1,5 +1,5 @@
-use Rattle.duo_run.proofs.OnePair.{converts}
-use Rattle.duo_run.proofs.SameWorld.{same_world}
+use Rattle.duo_run.proofs.Conversion.OnePair.{converts}
+use Rattle.duo_run.proofs.Conversion.SameWorld.{same_world}
 use Rattle.duo_run.proofs.laws.conversions_say_the_same.Goals as goal
 
 pub returns-clause-world : goal.returns-clause-world

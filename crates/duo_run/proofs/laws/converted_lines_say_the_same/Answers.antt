@@ -1,5 +1,5 @@
 use Rattle.std.proofs.Common.{refl}
-use Rattle.duo_run.proofs.SameLines.{event_line_same, header_line_same, last_line_same}
+use Rattle.duo_run.proofs.Conversion.SameLines.{event_line_same, header_line_same, last_line_same}
 use Rattle.duo_run.proofs.laws.converted_lines_say_the_same.Goals as goal
 
 pub returns-clause-title : goal.returns-clause-title

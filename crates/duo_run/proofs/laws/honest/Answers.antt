@@ -1,4 +1,4 @@
-use Rattle.duo_run.proofs.Ran.{serves_honest, fair_honest}
+use Rattle.duo_run.proofs.Pair.Ran.{serves_honest, fair_honest}
 use Rattle.duo_run.proofs.laws.honest.Goals as goal
 
 pub returns-clause-serves : goal.returns-clause-serves

@@ -1,4 +1,4 @@
-use Rattle.duo_run.proofs.OneReplay.{one_text, one_ending, some_replay}
+use Rattle.duo_run.proofs.Pair.OneReplay.{one_text, one_ending, some_replay}
 use Rattle.duo_run.proofs.laws.one_replay.Goals as goal
 
 pub returns-clause-some : goal.returns-clause-some

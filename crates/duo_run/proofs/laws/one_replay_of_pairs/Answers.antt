@@ -1,5 +1,5 @@
-use Rattle.duo_run.proofs.OneReplayOfPairs.{one_text, one_ending}
-use Rattle.duo_run.proofs.PairsRunning.{some_report}
+use Rattle.duo_run.proofs.Pairs.OneReplay.{one_text, one_ending}
+use Rattle.duo_run.proofs.Pairs.Running.{some_report}
 use Rattle.duo_run.proofs.laws.one_replay_of_pairs.Goals as goal
 
 pub returns-clause-some : goal.returns-clause-some

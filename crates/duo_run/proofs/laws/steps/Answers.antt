@@ -1,4 +1,4 @@
-use Rattle.duo_run.proofs.Ran.{entries_are_world, stands_for_entries}
+use Rattle.duo_run.proofs.Pair.Ran.{entries_are_world, stands_for_entries}
 use Rattle.duo_run.proofs.laws.steps.Goals as goal
 
 pub returns-clause-world : goal.returns-clause-world

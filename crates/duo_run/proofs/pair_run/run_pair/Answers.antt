@@ -1,4 +1,4 @@
-use Rattle.duo_run.proofs.FairReplay.{told_fairly, told_serve}
+use Rattle.duo_run.proofs.Pair.FairReplay.{told_fairly, told_serve}
 use Rattle.duo_run.proofs.pair_run.run_pair.Goals as goal
 
 pub returns : goal.returns

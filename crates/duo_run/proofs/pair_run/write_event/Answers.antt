@@ -1,4 +1,4 @@
-use Rattle.duo_run.proofs.Replaying.{pair_fits, pair_goes_on, pair_unsent}
+use Rattle.duo_run.proofs.Pair.Replaying.{pair_fits, pair_goes_on, pair_unsent}
 use Rattle.duo_run.proofs.pair_run.write_event.Goals as goal
 
 pub advance-requires-clause-fits : goal.advance-requires-clause-fits

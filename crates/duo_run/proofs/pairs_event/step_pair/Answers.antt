@@ -3,8 +3,8 @@ use Rattle.std.specs.Prelude.{Some}
 use Rattle.std.proofs.lemmas.List.{length-set}
 use Rattle.std.proofs.lemmas.Option.{slice_get-get_or}
 use Rattle.duo_run.specs.Duo.{DuoView}
-use Rattle.duo_run.proofs.PairsFit.{one_fits}
-use Rattle.duo_run.proofs.PairsStepping.{few_entries, noted_each, one_counted, one_goes, one_unsent}
+use Rattle.duo_run.proofs.Pairs.Fit.{one_fits}
+use Rattle.duo_run.proofs.Pairs.Stepping.{few_entries, noted_each, one_counted, one_goes, one_unsent}
 use Rattle.duo_run.proofs.pairs_event.step_pair.Goals as goal
 
 pub overflow_sub-at : goal.overflow_sub-at

@@ -5,7 +5,7 @@ use Rattle.std.proofs.lemmas.List.{length-append}
 use Rattle.std.proofs.lemmas.Option.{slice_get-get_or}
 use Rattle.file_run.specs.Waiting.{WaitingText}
 use Rattle.duo_run.specs.PairsReport.{closing_line}
-use Rattle.duo_run.proofs.PairsClosing.{closing_more}
+use Rattle.duo_run.proofs.Pairs.Closing.{closing_more}
 use Rattle.duo_run.proofs.pairs_run.push_closing.Goals as goal
 
 pub loop-i-preserved : goal.loop-i-preserved

@@ -5,8 +5,8 @@ use Rattle.param_load.specs.declared.slave_settings.SlaveSettings.{SlaveSettings
 use Rattle.schedule_file.specs.Header.{IsMasterOf, IsSlaveOf}
 use Rattle.schedule_file.specs.PairsHeader.{pairs_of}
 use Rattle.duo_run.specs.Replay.{AreSetTo}
-use Rattle.duo_run.proofs.PairsAt.{of_named}
-use Rattle.duo_run.proofs.PairsBegun.{AreSettings, heading_at, settings_more}
+use Rattle.duo_run.proofs.Pairs.At.{of_named}
+use Rattle.duo_run.proofs.Pairs.Begun.{AreSettings, heading_at, settings_more}
 use Rattle.duo_run.proofs.pairs_run.settings_of.Goals as goal
 
 pub loop-before-preserved : goal.loop-before-preserved

@@ -1,6 +1,6 @@
 use Rattle.std.proofs.Common.{◌≡◌, take, vec_len}
 use Rattle.schedule_file.specs.PairsHeader.{pairs_of}
-use Rattle.duo_run.proofs.PairsBegun.{AreSettings}
+use Rattle.duo_run.proofs.Pairs.Begun.{AreSettings}
 use Rattle.duo_run.proofs.pairs_run.settings_of.Given as goal
 
 abbrev pub invariant-loop-before : goal.invariant-loop-before

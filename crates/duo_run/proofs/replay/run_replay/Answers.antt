@@ -1,4 +1,4 @@
-use Rattle.duo_run.proofs.EitherVersion.{ran_replay}
+use Rattle.duo_run.proofs.Pairs.EitherVersion.{ran_replay}
 use Rattle.duo_run.proofs.replay.run_replay.Goals as goal
 
 pub returns : goal.returns

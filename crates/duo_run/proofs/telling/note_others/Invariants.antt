@@ -1,4 +1,4 @@
-use Rattle.duo_run.proofs.PairsNoted.{NotedTo}
+use Rattle.duo_run.proofs.Pairs.Noted.{NotedTo}
 use Rattle.duo_run.proofs.telling.note_others.Given as goal
 
 abbrev pub invariant-loop-i : goal.invariant-loop-i

@@ -1,5 +1,5 @@
 use Rattle.std.proofs.Common.{refl}
-use Rattle.duo_run.proofs.PairsTold.{tells_next}
+use Rattle.duo_run.proofs.Pairs.Told.{tells_next}
 use Rattle.duo_run.proofs.telling.tell.Goals as goal
 
 pub returns-in-Ok-clause-tells : goal.returns-in-Ok-clause-tells

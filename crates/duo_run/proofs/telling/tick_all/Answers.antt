@@ -4,8 +4,8 @@ use Rattle.std.proofs.lemmas.List.{length-append}
 use Rattle.std.proofs.lemmas.Option.{slice_get-get_or}
 use Rattle.file_run.specs.Waiting.{WaitingText}
 use Rattle.duo_run.specs.Duo.{DuoView}
-use Rattle.duo_run.proofs.PairsTicking.{next_counted, next_ticks, ticked_all, ticked_more, ticked_none}
-use Rattle.duo_run.proofs.Summarizing.{never_err}
+use Rattle.duo_run.proofs.Pairs.Ticking.{next_counted, next_ticks, ticked_all, ticked_more, ticked_none}
+use Rattle.duo_run.proofs.Numbers.Summarizing.{never_err}
 use Rattle.duo_run.proofs.telling.tick_all.Goals as goal
 
 pub loop-i-init : goal.loop-i-init

@@ -1,5 +1,5 @@
 use Rattle.std.proofs.Common.{◌≤◌, ◌+◌, ◌*◌, length}
-use Rattle.duo_run.proofs.PairsTicking.{TickedTo}
+use Rattle.duo_run.proofs.Pairs.Ticking.{TickedTo}
 use Rattle.duo_run.proofs.telling.tick_all.Given as goal
 
 abbrev pub invariant-loop-i : goal.invariant-loop-i

@@ -1,6 +1,6 @@
 use Rattle.std.proofs.Common.{sym, ◌∙◌}
 use Rattle.fsoe_base.specs.declared.command.End.TheVariants as end_name
-use Rattle.duo_run.proofs.Stepped.{advances_on, misses_on}
+use Rattle.duo_run.proofs.Pair.Stepped.{advances_on, misses_on}
 use Rattle.duo_run.proofs.duo.Duo.advance.Goals as goal
 
 pub advance_master-requires-clause-here : goal.advance_master-requires-clause-here

@@ -1,7 +1,7 @@
 use Rattle.std.proofs.Common.{◌≡◌, ◌≤◌, ◌-◌, ℕ, length, slice_get, refl, sym, subst, arith}
 use Rattle.std.specs.Prelude.{Some}
 use Rattle.std.proofs.lemmas.Option.{slice_get_read}
-use Rattle.duo_run.proofs.PairsAt.{for_named, named}
+use Rattle.duo_run.proofs.Pairs.At.{for_named, named}
 use Rattle.duo_run.proofs.duos.Duos.other.Goals as goal
 
 pub returns : goal.returns

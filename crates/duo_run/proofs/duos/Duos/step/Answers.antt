@@ -6,7 +6,7 @@ use Rattle.fsoe_base.specs.LengthsOf.{length_of}
 use Rattle.schedule_file.specs.Event.{Fits, profile_of}
 use Rattle.schedule_file.specs.PairsEvent.{numbered}
 use Rattle.duo_run.specs.Duo.{lengths_of, profiles_of, steps_done}
-use Rattle.duo_run.proofs.PairsAt.{for_named, named, of_named, others_stay, steps_at, with_both}
+use Rattle.duo_run.proofs.Pairs.At.{for_named, named, of_named, others_stay, steps_at, with_both}
 use Rattle.duo_run.proofs.duos.Duos.step.Goals as goal
 
 pub step-requires-clause-fits : goal.step-requires-clause-fits

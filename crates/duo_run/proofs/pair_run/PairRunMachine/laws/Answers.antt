@@ -1,5 +1,5 @@
-use Rattle.duo_run.proofs.OneReplay.{some_replay}
-use Rattle.duo_run.proofs.Replaying.{pair_so_far}
+use Rattle.duo_run.proofs.Pair.OneReplay.{some_replay}
+use Rattle.duo_run.proofs.Pair.Replaying.{pair_so_far}
 use Rattle.duo_run.proofs.pair_run.PairRunMachine.laws.Goals as goal
 
 pub returns-clause-some : goal.returns-clause-some

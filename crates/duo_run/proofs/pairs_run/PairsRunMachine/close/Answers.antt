@@ -1,6 +1,6 @@
 use Rattle.std.proofs.Common.{ap, ◌∙◌}
 use Rattle.duo_run.specs.Pairs.{least}
-use Rattle.duo_run.proofs.PairsEnding.{pairs_end_whole}
+use Rattle.duo_run.proofs.Pairs.Ending.{pairs_end_whole}
 use Rattle.duo_run.proofs.pairs_run.PairsRunMachine.close.Goals as goal
 
 pub returns-clause-ends : goal.returns-clause-ends

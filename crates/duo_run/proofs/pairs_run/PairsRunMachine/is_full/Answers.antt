@@ -1,6 +1,6 @@
 use Rattle.std.proofs.Common.{arith, length}
 use Rattle.schedule_file.specs.PairsHeader.{pairs_of}
-use Rattle.duo_run.proofs.PairsLeast.{room_for_one}
+use Rattle.duo_run.proofs.Pairs.Least.{room_for_one}
 use Rattle.duo_run.proofs.pairs_run.PairsRunMachine.is_full.Goals as goal
 
 pub returns-else-self-ge-MAX_EVENTS-clause-full : goal.returns-else-self-ge-MAX_EVENTS-clause-full

@@ -1,4 +1,4 @@
-use Rattle.duo_run.proofs.PairsRunning.{pairs_so_far, some_report}
+use Rattle.duo_run.proofs.Pairs.Running.{pairs_so_far, some_report}
 use Rattle.duo_run.proofs.pairs_run.PairsRunMachine.laws.Goals as goal
 
 pub returns-clause-some : goal.returns-clause-some

@@ -11,7 +11,7 @@ use Rattle.exchange_model.specs.World.{entry_at}
 use Rattle.exchange_model.proofs.Worlds.Longer.{world_next}
 use Rattle.duo_run.specs.Duo.{DuoStands, DuoView, Misses, steps_done}
 use Rattle.duo_run.specs.Pairs.{Pair, entries_over, entry_after}
-use Rattle.duo_run.proofs.PairsAt.{set_at, set_beside}
+use Rattle.duo_run.proofs.Pairs.At.{set_at, set_beside}
 use Rattle.duo_run.specs.PairsReport.{line_if, pair_line, tick_lines, with_tick}
 use Rattle.duo_run.specs.PairsStanding.{AllStandOver, CanStep, StandsOver, TellsNext, Ticks, ToldNext}
 

@@ -23,7 +23,7 @@ use Rattle.duo_run.specs.Bulk.{entries_of}
 use Rattle.duo_run.specs.Duo.{DuoView, DuoStands, NextEntry, Advances, Misses, ShowsLast, lengths_of, profiles_of, steps_done}
 use Rattle.duo_run.specs.Summary.{has_reset, has_drop, counts_of, summary_of, CountsEntry, HasRoom}
 use Rattle.duo_run.specs.declared.summary.Summary.{Summary}
-use Rattle.duo_run.proofs.WholeRuns.{Goes, entry_goes, entries_more, is_whole}
+use Rattle.duo_run.proofs.Numbers.WholeRuns.{Goes, entry_goes, entries_more, is_whole}
 
 -- a maker, a pair and a summary after so many events of a number
 pub record AfterEvents (number count : ℕ) (maker : MakerView) (duo : DuoView) (summary : Summary) : Type 0 where

@@ -41,7 +41,7 @@ use Rattle.file_run.proofs.Taken.{halts_after, took_line, took_none}
 use Rattle.file_run.proofs.Unread.{nothing_held}
 use Rattle.duo_run.specs.Convert.{ConvertedAs, ConvertsReadLines, ConvertWrite, RanConvert, WroteAll, converted, ended_at_stop}
 use Rattle.duo_run.specs.Converting.{FindsTaken, LineTaken, PairRead, left_to_take, line_taken, read_none, taken_by}
-use Rattle.duo_run.proofs.Converted.{Lines, Whole, after_part, converted_whole, refused_whole, told, told_by, told_whole, two_parts}
+use Rattle.duo_run.proofs.Conversion.Converted.{Lines, Whole, after_part, converted_whole, refused_whole, told, told_by, told_whole, two_parts}
 
 -- of these bytes, which were taken of the input, this was written so far, and whatever comes after them gives the rest
 pub record Tells (left0 left : Option (List ℕ)) (text : List ℕ) (r : PairRead) (number : ℕ) : Type 0 where

@@ -11,8 +11,8 @@ use Rattle.exchange_model.specs.Other.{first_of_both, first_other}
 use Rattle.duo_run.specs.Duo.{DuoStands, DuoView}
 use Rattle.duo_run.specs.Pairs.{Pair, events_to, other_event, other_events, world_of}
 use Rattle.duo_run.specs.PairsStanding.{AllStandOver, NotesOthers}
-use Rattle.duo_run.proofs.PairsAt.{set_at, set_beside}
-use Rattle.duo_run.proofs.PairsTicking.{found_at, found_below, some_same}
+use Rattle.duo_run.proofs.Pairs.At.{set_at, set_beside}
+use Rattle.duo_run.proofs.Pairs.Ticking.{found_at, found_below, some_same}
 
 -- so many were noted
 pub record NotedTo (number i : ℕ) (duos : List DuoView) (old now : List (Option ℕ)) : Type 0 where

@@ -15,7 +15,7 @@ use Rattle.duo_run.specs.Duo.{DuoView}
 use Rattle.duo_run.specs.Pairs.{Pair, done_after, events_done, is_met}
 use Rattle.duo_run.specs.PairsReport.{PairsInput, PairsReports, event_lines, lines_of_events, pairs_ended, pairs_last_lines, pairs_reporting, pairs_stop}
 use Rattle.duo_run.specs.PairsStanding.{PairsStand}
-use Rattle.duo_run.proofs.PairsSound.{some_pairs}
+use Rattle.duo_run.proofs.Pairs.Sound.{some_pairs}
 
 -- where all events are done, the run goes on from there
 done_by : (met : Bool) (pairs : List Pair) (event : PairsEvent) (log more past : List PairsEvent) → (length (done_after pairs log (event ∷ past)) ≡ length (event ∷ past) + length log → done_after pairs (log ++ more) (event ∷ past) ≡ done_after pairs more (done_after pairs log (event ∷ past)))

@@ -23,8 +23,8 @@ use Rattle.duo_run.specs.Duo.{DuoView, lengths_of, profiles_of}
 use Rattle.duo_run.specs.Pairs.{Pair}
 use Rattle.duo_run.specs.PairsReport.{IsPairOf}
 use Rattle.duo_run.specs.PairsStanding.{PairsStand, StandsOver}
-use Rattle.duo_run.proofs.PairsTicking.{found_below, some_same}
-use Rattle.duo_run.proofs.Replaying.{fits_ends, same_word}
+use Rattle.duo_run.proofs.Pairs.Ticking.{found_below, some_same}
+use Rattle.duo_run.proofs.Pair.Replaying.{fits_ends, same_word}
 
 -- there is a header of this number, whose ends the event fits
 pub record FitsHeading (hs : List Heading) (k : ℕ) (event : Event) : Type 0 where

@@ -7,7 +7,7 @@ use Rattle.schedule_file.specs.PairsInput.{entries_by, entries_of}
 use Rattle.schedule_file.specs.declared.pairs_line.PairsEvent.{PairsEvent}
 use Rattle.schedule_file.specs.declared.pairs_line.PairsEvent.TheVariants as common
 use Rattle.duo_run.specs.Pairs.{least, less_of}
-use Rattle.duo_run.proofs.PairsTicking.{taken}
+use Rattle.duo_run.proofs.Pairs.Ticking.{taken}
 
 min_three : (a b c : ℕ) → min a (min b c) ≡ min (min a b) c
 min_three a b c = omega arith

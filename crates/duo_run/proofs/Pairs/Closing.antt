@@ -4,7 +4,7 @@ use Rattle.std.specs.Prelude.{Some}
 use Rattle.std.specs.declared.option.Option.{Option}
 use Rattle.std.proofs.lemmas.List.{append-nil}
 use Rattle.duo_run.specs.PairsReport.{closing_line, closing_lines}
-use Rattle.duo_run.proofs.PairsTicking.{found_below, taken, taken_length}
+use Rattle.duo_run.proofs.Pairs.Ticking.{found_below, taken, taken_length}
 
 closing-push : (k m : ℕ) (others : List (Option ℕ)) (other : Option ℕ) → m ≡ k + length others → closing_lines k (others ++ other ∷ []) ≡ closing_lines k others ++ closing_line m other
 closing-push k m [] other e =

@@ -19,9 +19,9 @@ use Rattle.duo_run.specs.Pairs.{Pair, other_events}
 use Rattle.duo_run.specs.PairsReport.{IsPairOf}
 use Rattle.duo_run.specs.PairsStanding.{PairsStand, StandsOver}
 use Rattle.duo_run.specs.Replay.{AreSetTo}
-use Rattle.duo_run.proofs.FairReplay.{same_lengths}
-use Rattle.duo_run.proofs.PairsAt.{named}
-use Rattle.duo_run.proofs.PairsTicking.{found_at, some_same, taken}
+use Rattle.duo_run.proofs.Pair.FairReplay.{same_lengths}
+use Rattle.duo_run.proofs.Pairs.At.{named}
+use Rattle.duo_run.proofs.Pairs.Ticking.{found_at, some_same, taken}
 
 -- the header of the pair after so many
 pub heading_at : (hs : List Heading) (place : ℕ) → place < length hs → (h : Heading) × (numbered (place + 1) hs ≡ Some h) × (slice_get hs place ≡ Some h)

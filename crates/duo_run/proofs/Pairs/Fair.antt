@@ -24,9 +24,9 @@ use Rattle.exchange_model.specs.World.{IsProperEvent}
 use Rattle.exchange_model.proofs.Fairness.Headline.{fair_before}
 use Rattle.duo_run.specs.Pairs.{Pair, done_after, events_by, events_done, events_to, is_met, world_of}
 use Rattle.duo_run.specs.PairsReport.{IsPairOf, PairsRunFairly}
-use Rattle.duo_run.proofs.FairReplay.{proper, same_lengths}
-use Rattle.duo_run.proofs.PairsFit.{FitsHeading, fits_heading}
-use Rattle.duo_run.proofs.PairsTicking.{some_same}
+use Rattle.duo_run.proofs.Pair.FairReplay.{proper, same_lengths}
+use Rattle.duo_run.proofs.Pairs.Fit.{FitsHeading, fits_heading}
+use Rattle.duo_run.proofs.Pairs.Ticking.{some_same}
 
 -- an event of all fits the pairs of a header
 abbrev FitsAll : PairsHeading → PairsEvent → Type 0

@@ -40,9 +40,9 @@ use Rattle.schedule_file.proofs.FewEvents.{few_events}
 use Rattle.schedule_file.proofs.Sound.{IfOk-every, IfOk-map, each}
 use Rattle.file_run.proofs.Lines.{lines_whole}
 use Rattle.duo_run.specs.Convert.{IsOnePair, converted, converted_by, event_text, header_text, last_text, line_text, only_pair, title_text}
-use Rattle.duo_run.proofs.SameLines.{event_line_same, header_line_same, last_line_same}
-use Rattle.duo_run.proofs.Short.{line_short}
-use Rattle.duo_run.proofs.Converted.{Lines}
+use Rattle.duo_run.proofs.Conversion.SameLines.{event_line_same, header_line_same, last_line_same}
+use Rattle.duo_run.proofs.Conversion.Short.{line_short}
+use Rattle.duo_run.proofs.Conversion.Converted.{Lines}
 use Rattle.schedule_file.specs.Input.{heading_profile, own_length}
 
 -- the lines of an input are lines

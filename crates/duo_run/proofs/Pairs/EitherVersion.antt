@@ -9,8 +9,8 @@ use Rattle.file_run.specs.Ran.{RanOver}
 use Rattle.duo_run.specs.PairsReport.{RanPairs, pairs_reporting}
 use Rattle.duo_run.specs.Replay.{RanPair, replay_reporting}
 use Rattle.duo_run.specs.Version.{RanReplay, pairs_title}
-use Rattle.duo_run.proofs.FairReplay.{told_fairly, told_serve}
-use Rattle.duo_run.proofs.PairsFair.{told_pairs_fairly}
+use Rattle.duo_run.proofs.Pair.FairReplay.{told_fairly, told_serve}
+use Rattle.duo_run.proofs.Pairs.Fair.{told_pairs_fairly}
 
 pairs_ran : (ended : Ended) (o : Outside) → RanOver pairs_reporting ended o → RanPairs ended o
 pairs_ran ended o ran = record { run = ran; fair = told_pairs_fairly o.source.before }

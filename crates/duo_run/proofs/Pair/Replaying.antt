@@ -31,7 +31,7 @@ use Rattle.exchange_model.proofs.Worlds.Longer.{world_next, world_missed}
 use Rattle.exchange_model.proofs.Worlds.Others.{number_of_first}
 use Rattle.duo_run.specs.Duo.{DuoView, lengths_of, profiles_of, DuoStands, NextEntry, Advances, Misses, ShowsLast}
 use Rattle.duo_run.specs.Replay.{line_of, entry_line, entry_lines, last_lines, ended_at, run_stop, ReplayReports, ReplayStands, replay_reporting}
-use Rattle.duo_run.proofs.EntryLines.{lines_begin}
+use Rattle.duo_run.proofs.Pair.EntryLines.{lines_begin}
 
 -- the lengths and the profiles of a pair are those of its header
 stood_lengths : (v : DuoView) (h : Heading) (log : List Event) (text : List ℕ) → ReplayStands v h log text → (end : End) → length_of (lengths_of v) end ≡ own_length h end

@@ -20,10 +20,10 @@ use Rattle.duo_run.specs.Duo.{DuoView, Misses, steps_done}
 use Rattle.duo_run.specs.Pairs.{Pair, entries_over, entry_after, events_by, events_to, is_met, is_met_by}
 use Rattle.duo_run.specs.PairsReport.{IsPairOf, event_lines, line_if, one_line, lines_of_events, pair_line, pairs_reporting, tick_lines, with_tick}
 use Rattle.duo_run.specs.PairsStanding.{AllStandOver, CanStep, NotesOthers, PairsStand, StandsOver, TellsNext, Ticks}
-use Rattle.duo_run.proofs.PairsAt.{others_stay, named, set_at}
-use Rattle.duo_run.proofs.PairsNoted.{others-length, others_after}
-use Rattle.duo_run.proofs.PairsRunning.{done_next, pairs_unsent}
-use Rattle.duo_run.proofs.PairsTicking.{counted_over, found_at, found_below, goes_over, some_same}
+use Rattle.duo_run.proofs.Pairs.At.{others_stay, named, set_at}
+use Rattle.duo_run.proofs.Pairs.Noted.{others-length, others_after}
+use Rattle.duo_run.proofs.Pairs.Running.{done_next, pairs_unsent}
+use Rattle.duo_run.proofs.Pairs.Ticking.{counted_over, found_at, found_below, goes_over, some_same}
 
 -- the entries that one event more makes
 entries-push : (n : ℕ) (log : List PairsEvent) (event : PairsEvent) → entries_of n (log ++ event ∷ []) ≡ entries_of n log + entries_by n event

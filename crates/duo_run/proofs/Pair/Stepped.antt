@@ -27,7 +27,7 @@ use Rattle.slave_core.specs.Standing as slave_core
 use Rattle.slave_core.specs.Standing.{SlaveIsAfter}
 use Rattle.duo_run.specs.Duo.{DuoView, sent_by, DuoStands, Steps, NextEntry, Advances, Misses, ShowsLast}
 use Rattle.duo_run.specs.Acts.{heard_at, move_at, Comes, Hears, MasterActs, SlaveActs, Acts, Happens}
-use Rattle.duo_run.proofs.Moved.{moved_within}
+use Rattle.duo_run.proofs.Pair.Moved.{moved_within}
 
 window-is : (at : End) (ms : MasterSettings) (ss : SlaveSettings) (v : DuoView) (w : List Entry) → DuoStands ms ss v w → sent_by at v ≡ window_of (frames_of at w)
 window-is end_name.Master ms ss v w h = h.master_sent
