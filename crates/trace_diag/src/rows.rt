@@ -5,6 +5,7 @@ ghost use Rattle.param_load.specs.Payload.{number_at, padded};
 ghost use Rattle.end_model.specs.Verdict.{is_slave_conn};
 ghost use Rattle.trace_diag.specs.Table.{is_of, conn_holds, id_holds, connection_holds, first_differing, first_failing, parameter_holds, payload_holds, piece_holds};
 
+use byteorder::{ByteOrder, LittleEndian};
 use fsoe_base::{Command, MOST_DATA, State};
 use fsoe_frame::FrameView;
 
@@ -58,7 +59,7 @@ pub(crate) fn number_at(bytes: &[u8], place: usize) -> u16
     requires { place < 6 }
     ensures { result ≡ number_at place bytes.now }
 {
-    u16::from_le_bytes([byte_at(bytes, place), byte_at(bytes, place + 1)])
+    LittleEndian::read_u16(&[byte_at(bytes, place), byte_at(bytes, place + 1)])
 }
 
 /// Whether a byte may stand at a place of a session id.
