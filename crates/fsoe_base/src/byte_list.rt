@@ -7,7 +7,7 @@ use crate::lengths::{MOST_DATA, MOST_FRAME};
 use arrayvec::ArrayVec;
 use std::marker::Model;
 
-/// At most `MOST` bytes, which lie in the value itself. Contracts see them as a list.
+/// At most `MOST` bytes, which lie in the value itself. In contracts the value is the list of these bytes.
 #[derive(Debug, Drop)]
 pub struct ByteList<const MOST: usize> {
     /// The bytes, and behind them what other bytes left there, so that none is blanked when the list gets shorter.
@@ -116,21 +116,21 @@ impl<const MOST: usize> ByteList<MOST> {
         }
     }
 
-    /// Forgets all but the first `len` bytes.
+    /// Drops all bytes after the first `len`.
     pub fn truncate(&mut self, len: usize)
         ensures { self.new ≡ take len self.old }
     {
         self.len = self.len.min(len);
     }
 
-    /// Forgets all bytes.
+    /// Clears the list.
     pub fn clear(&mut self)
         ensures { self.new ≡ [] }
     {
         self.len = 0;
     }
 
-    /// Appends a byte where fewer than `MOST` stand.
+    /// Appends a byte if the list has fewer than `MOST`.
     pub fn push(&mut self, b: u8)
         requires { length self.old < MOST }
         ensures { self.new ≡ self.old ++ b ∷ [] }
@@ -143,7 +143,7 @@ impl<const MOST: usize> ByteList<MOST> {
         self.len += 1;
     }
 
-    /// Appends bytes where there is room for them among `MOST`.
+    /// Appends bytes if there is room for them among `MOST`.
     pub fn push_all(&mut self, piece: &[u8])
         requires { length self.old + length piece.now ≤ MOST }
         ensures { self.new ≡ self.old ++ piece.now }
@@ -158,7 +158,7 @@ impl<const MOST: usize> ByteList<MOST> {
         self.len = end;
     }
 
-    /// Takes these bytes, at most `MOST`, in place of its own.
+    /// Replaces the bytes of this list with these, at most `MOST`.
     pub fn set(&mut self, from: &[u8])
         requires { length from.now ≤ MOST }
         ensures { self.new ≡ from.now }
@@ -167,7 +167,7 @@ impl<const MOST: usize> ByteList<MOST> {
         self.push_all(from);
     }
 
-    /// The same bytes again. It takes no memory.
+    /// Returns a copy. Doesn't allocate.
     pub fn copy(&self) -> Self
         ensures { result ≡ self.now }
     {

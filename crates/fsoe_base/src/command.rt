@@ -73,7 +73,7 @@ impl Command {
         }
     }
 
-    /// The command that a byte stands for, None exactly where it stands for none.
+    /// Returns the command with this byte, or None if no command has it.
     pub fn of(byte: u8) -> Option<Command>
         ensures { result ≡ command_of byte }
     {
@@ -114,21 +114,21 @@ impl Code {
     pub const COMMAND_NOT_ALLOWED: Code = Code(0x01);
     /// No command has this byte.
     pub const UNKNOWN_COMMAND: Code = Code(0x02);
-    /// Another connection id.
+    /// The connection id is wrong.
     pub const WRONG_CONNECTION: Code = Code(0x03);
     /// A CRC is wrong.
     pub const WRONG_CRC: Code = Code(0x04);
     /// The watchdog expired.
     pub const WATCHDOG_EXPIRED: Code = Code(0x05);
-    /// Another slave address.
+    /// The slave address is wrong.
     pub const WRONG_ADDRESS: Code = Code(0x06);
     /// Wrong safe data: padding that isn't 0, or an answer that doesn't repeat its piece.
     pub const WRONG_DATA: Code = Code(0x07);
-    /// Another length of the communication parameters.
+    /// The length of the communication parameters is wrong.
     pub const WRONG_COMMUNICATION_LENGTH: Code = Code(0x08);
     /// A communication parameter that isn't accepted: the watchdog or the profile word.
     pub const WRONG_COMMUNICATION: Code = Code(0x09);
-    /// Another length of the application parameters.
+    /// The length of the application parameters is wrong.
     pub const WRONG_APPLICATION_LENGTH: Code = Code(0x0A);
     /// Application parameters that the rule doesn't accept.
     pub const WRONG_APPLICATION: Code = Code(0x0B);

@@ -16,20 +16,20 @@ pub struct Took {
 /// Why an end went to state Reset.
 #[derive(Clone, Copy, Debug, PartialEq, Eq)]
 pub enum Cause {
-    /// It was told to.
+    /// The program reset the end.
     Local,
     /// Its peer sent a Reset frame with this code.
     Peer(Code),
-    /// It found a fault and sent a Reset frame with this code, 5 for its watchdog.
+    /// It found a fault and sent a Reset frame with this code, 05h for its watchdog.
     Found(Code),
 }
 
 /// Why a delivered frame was dropped without an answer.
 #[derive(Clone, Copy, Debug, PartialEq, Eq)]
 pub enum Dropped {
-    /// It hasn't the number of bytes that the peer's frames have.
+    /// Its number of bytes isn't that of the peer's frames.
     Length,
-    /// It equals the frame that is kept as the one taken last.
+    /// It equals the last accepted frame.
     Repeat,
     /// It fails a test in state Reset.
     InReset,
@@ -121,7 +121,7 @@ impl Did {
         }
     }
 
-    /// Nothing was taken, sent, reset or dropped, in place of what was told.
+    /// Overwrites the old contents: nothing was taken, sent, reset or dropped.
     pub fn clear(&mut self)
         ensures { self.new ≡ nothing }
     {
@@ -135,7 +135,8 @@ impl Did {
         self.dropped = None;
     }
 
-    /// The frame that stands in `took` was taken, and one was sent. `passed` says whether it passed the CRC test of a session.
+    /// Reports that the frame in `took` was taken, and that one was sent. `passed` says whether it passed the CRC test
+    /// of a session.
     pub fn tell_taken(&mut self, passed: bool)
         ensures { self.new ≡ record { took = self.old.took; passed = passed; sent = true; reset = None; dropped = None } }
     {

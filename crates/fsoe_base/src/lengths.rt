@@ -44,8 +44,8 @@ pub struct Lengths {
 impl Lengths {
     ghost use Rattle.fsoe_base.specs.LengthsOf.{length_of};
 
-    /// The lengths of a connection whose master sends `lm` safe data bytes, and whose slave sends `ls`.
-    /// `BadLength` exactly where one of them isn't valid.
+    /// Returns the lengths of a connection whose master sends `lm` safe data bytes, and whose slave sends `ls`, or
+    /// `BadLength` if one of them isn't valid.
     pub fn new(lm: usize, ls: usize) -> Result<Lengths, BadLength>
         ensures valid { IsOk result ↔ (IsTrue (is_length lm) × IsTrue (is_length ls)) }
         ensures lengths { IfOk result (λ lengths. (lengths.master ≡ lm) × (lengths.slave ≡ ls)) }

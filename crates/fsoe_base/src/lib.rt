@@ -1,5 +1,5 @@
-//! What every crate of the stack speaks of: commands, states and codes, the lengths of a connection,
-//! the bytes of a frame and of an image, and what one step of an end did.
+//! Basic types of the whole stack: states, commands and codes of the protocol, lengths of a connection, bytes of a
+//! frame, safe data, and the result of a step. Nothing here does a step.
 #![tactic(auto)]
 
 mod byte_list;

@@ -1,18 +1,18 @@
-//! What the CRC is sure to tell apart, and how it is made of the CRCs of parts.
+//! What the CRC always detects, and how it is made of the CRCs of parts.
 
 ghost use Rattle.std.specs.Prelude.{◌≡◌, ◌≢◌, ◌<◌, ◌≤◌, ℕ, ◌+◌, List, [], ◌∷◌, ◌++◌, length, replicate, bit_xor};
 ghost use Rattle.fsoe_crc.specs.Remainder.{rem};
 ghost use Rattle.fsoe_crc.specs.Turned.{turned_bits};
 
-/// Two lists of bytes of one length that differ only within two adjacent bytes, or within one
-/// byte, have the same CRC only where they are equal. The call does nothing: the law is its contract.
+/// Two lists of bytes of one length that differ only within two adjacent bytes, or within one byte, have different
+/// CRCs. The call does nothing: the law is its contract.
 pub fn adjacent_bytes()
     ensures two { (before after : List ℕ) (a b c d : ℕ) → a < 256 → b < 256 → c < 256 → d < 256 → rem (before ++ a ∷ b ∷ after) ≡ rem (before ++ c ∷ d ∷ after) → (a ≡ c) × (b ≡ d) }
     ensures one { (before after : List ℕ) (a c : ℕ) → a < 256 → c < 256 → rem (before ++ a ∷ after) ≡ rem (before ++ c ∷ after) → a ≡ c }
 {}
 
-/// The CRC is linear: that of two parts is the exclusive-or of two CRCs, that of the first part with zeros in place of the
-/// second, and that of the second alone. So it can be made of what each part decides by itself.
+/// The CRC is linear: that of two parts is the exclusive-or of two CRCs. One is that of the first part with zeros in
+/// place of the second, the other that of the second part only. So each part can be computed by itself.
 pub fn two_parts()
     ensures { (first second : List ℕ) → rem (first ++ second) ≡ bit_xor (rem (first ++ replicate (length second) 0)) (rem second) }
 {}

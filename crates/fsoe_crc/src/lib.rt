@@ -1,5 +1,5 @@
-//! The CRC of the frames: the remainder by the polynomial 139B7h of the bytes followed by
-//! sixteen zero bits, highest bit first, from the value 0.
+//! The 16-bit CRC of the frames: the remainder by the polynomial 139B7h of the bytes followed by sixteen zero bits,
+//! highest bit first, from the value 0.
 #![tactic(auto)]
 
 pub use bitwise::crc_bitwise;

@@ -6,7 +6,7 @@ ghost use Rattle.fsoe_crc.specs.Remainder.{rem};
 use crate::table::{step, step_pair, step_pair_and_zeros};
 use std::marker::Model;
 
-/// The CRC of the bytes that were fed so far. Contracts see it as that number.
+/// The CRC of the bytes that were fed so far. In contracts the value is that number.
 ///
 /// A register is copied where several lists of bytes begin alike: the common part is fed once.
 #[derive(Clone, Copy)]
@@ -58,7 +58,7 @@ impl Register {
         self.value
     }
 
-    /// A second register of the same bytes, which goes on by itself.
+    /// Returns a second register of the same bytes, which continues by itself.
     pub fn copy(&self) -> Register
         ensures { result ≡ self.now }
     {

@@ -8,8 +8,8 @@ use byteorder::{ByteOrder, LittleEndian};
 use fsoe_base::{Image, MOST_FRAME};
 use std::marker::Model;
 
-/// The bytes of a frame with a known number of safe data bytes, read in place. Contracts see it as the
-/// command byte, the load, the CRCs and the connection id that the bytes lay out.
+/// The bytes of a frame with a known number of safe data bytes, read in place. In contracts the value is the command
+/// byte, the load, the CRCs and the connection id that the bytes lay out.
 #[derive(Drop)]
 pub struct FrameView<'a> {
     bytes: &'a [u8],
@@ -28,8 +28,8 @@ impl<'a> Model for FrameView<'a> {
     ghost invariant = { λ v. IsTrue (is_length v.l) × (length v.bytes.now ≡ frame_len v.l) × AreBytes v.bytes.now };
 }
 
-/// The frame in these bytes with `l` safe data bytes, 1 or an even number from 2 to 126. None exactly
-/// where the number of bytes isn't that of such a frame.
+/// Returns the frame in these bytes, or None if `bytes` hasn't the length of a frame with `l` safe data bytes. `l` is 1
+/// or an even number from 2 to 126.
 pub fn view<'a>(bytes: &'a [u8], l: usize) -> Option<FrameView<'a>>
     requires { IsTrue (is_length l) }
     ensures some { IsSome result ↔ (length bytes.now ≡ frame_len l) }
@@ -44,15 +44,15 @@ pub fn view<'a>(bytes: &'a [u8], l: usize) -> Option<FrameView<'a>>
 }
 
 impl<'a> FrameView<'a> {
-    /// The byte that stands for the command, whether it stands for one or not.
+    /// Returns the first byte of the frame, unchecked: it may be that of no command.
     pub fn command_byte(&self) -> u8
         ensures { result ≡ self.now.cmd }
     {
         self.bytes[0]
     }
 
-    /// Copies the safe data into `out`, in place of what it held. They are as many as a frame can have,
-    /// and there is a CRC for each group of them.
+    /// Copies the safe data into `out`, whose old contents are lost. Their number is one that a frame can have, and
+    /// there is a CRC for each group of them.
     pub fn load_into(&self, out: &mut Image)
         ensures value { out.new ≡ self.now.load }
         ensures valid { IsTrue (is_length (length out.new)) }
@@ -62,7 +62,7 @@ impl<'a> FrameView<'a> {
         read_load(self.bytes, out.bytes_mut());
     }
 
-    /// The CRC of a group that exists.
+    /// Returns the CRC of this group, which must exist.
     #[tactic(auto, using(crate::proofs::Places::crc_within))]
     pub fn crc_at(&self, group: usize) -> u16
         requires { group < length self.now.crcs }

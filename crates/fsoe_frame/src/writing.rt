@@ -8,9 +8,8 @@ ghost use Rattle.fsoe_frame.specs.Layout.{groups, layout, with_crcs};
 use byteorder::{ByteOrder, LittleEndian};
 use fsoe_base::{Command, FrameBuf, frame_len};
 
-/// Writes into `out` the frame of a command with this load of safe data, these CRCs and this connection
-/// id, in place of what `out` held. The load has a valid number of bytes, 1 or an even number from
-/// 2 to 126, and `crcs` has one number for each group of it: one byte alone, or a pair of bytes.
+/// Writes a frame to `out`, whose old contents are lost. `load` must have 1 byte, or an even number from 2 to 126, and
+/// `crcs` one CRC for each group, which is a single byte or a pair of bytes.
 pub fn write(command: Command, load: &[u8], crcs: &[u16], conn: u16, out: &mut FrameBuf)
     requires valid { IsTrue (is_length (length load.now)) }
     requires one_each { length crcs.now ≡ group_count (length load.now) }

@@ -12,8 +12,8 @@ use arrayvec::ArrayVec;
 use fsoe_base::{Command, FrameBuf, Image};
 use fsoe_frame::FrameView;
 
-/// What an end notes of the last frame that it sent and of the last that it took in a session. Reset
-/// frames stand outside of it, so a session begins with a new chain.
+/// The sequence number and the CRC_0 of the last frame that an end sent in a session, and of the last that it took.
+/// Reset frames don't belong to it, so a session begins with a new chain.
 #[derive(Clone, Copy, Debug, PartialEq, Eq)]
 pub struct Chain {
     own: Option<Link>,
@@ -31,38 +31,36 @@ impl Chain {
         }
     }
 
-    /// The first CRC of the frame that this end sent last, None where it sent none.
+    /// Returns the CRC_0 of the last frame that this end sent, or None if it sent none.
     pub fn own_prev(&self) -> Option<u16>
         ensures { result ≡ crc_noted self.now.own }
     {
         crc_of(self.own)
     }
 
-    /// The first CRC of the frame that this end took last, None where it took none.
+    /// Returns the CRC_0 of the last frame that this end took, or None if it took none.
     pub fn taken_prev(&self) -> Option<u16>
         ensures { result ≡ crc_noted self.now.taken }
     {
         crc_of(self.taken)
     }
 
-    /// The number that the next frame of this end has, where it isn't stepped once more because the
-    /// frame would have the same first CRC as the one before it.
+    /// Returns the sequence number of the next frame of this end, without the extra increment for an equal CRC_0.
     pub fn own_seq(&self) -> u16
         ensures { result ≡ following self.now.own }
     {
         following_number(self.own)
     }
 
-    /// The number that the next frame of the peer has, where it isn't stepped once more because the
-    /// frame would have the same first CRC as the one before it.
+    /// Returns the sequence number of the next frame of the peer, without the extra increment for an equal CRC_0.
     pub fn peer_seq(&self) -> u16
         ensures { result ≡ following self.now.taken }
     {
         following_number(self.taken)
     }
 
-    /// The same chain as the peer has it, where each end took all that the other sent: the frames that this end sent are the
-    /// peer's taken ones.
+    /// Returns the mirrored chain, with sent and taken frames exchanged. It is the peer's chain if each end took all
+    /// that the other sent.
     pub fn turned(&self) -> Chain
         ensures { result ≡ turned self.now }
     {
@@ -72,8 +70,8 @@ impl Chain {
         }
     }
 
-    /// Seals the next frame of this end into `out`, in place of what that held, and notes its number
-    /// and its first CRC. The load has a valid number of bytes, 1 or an even number from 2 to 126.
+    /// Seals the next frame of this end into `out`, whose old contents are lost, and stores its sequence number and
+    /// CRC_0. The load has 1 byte, or an even number from 2 to 126.
     pub fn seal(&mut self, command: Command, conn: u16, load: &[u8], out: &mut FrameBuf)
         requires { IsTrue (is_length (length load.now)) }
         ensures frame { out.new ≡ frame_sent self.old conn command load.now }
@@ -90,8 +88,8 @@ impl Chain {
         });
     }
 
-    /// Whether a frame of the peer is its next one: all its CRCs are those that the peer's seal makes,
-    /// if it took the frame that this end sent last. `conn` is the connection id in the frame.
+    /// Returns true if `view` is the peer's next frame: each CRC is the one that the peer computes if it took the last
+    /// frame of this end. `conn` is the frame's connection id.
     pub fn test(&self, view: &FrameView<'_>, conn: u16) -> bool
         requires { conn ≡ view.now.conn }
         ensures { result ≡ fits_next self.now view.now }
@@ -101,7 +99,7 @@ impl Chain {
         self.link(view, conn, load.bytes()).is_some()
     }
 
-    /// Notes a frame of the peer that passed the test. `conn` is the connection id in the frame.
+    /// Stores the number and CRC_0 of a frame of the peer that passed the test. `conn` is the frame's connection id.
     pub fn take(&mut self, view: &FrameView<'_>, conn: u16)
         requires connection { conn ≡ view.now.conn }
         requires tested { IsTrue (fits_next self.old view.now) }
@@ -112,22 +110,22 @@ impl Chain {
         self.taken = self.link(view, conn, load.bytes());
     }
 
-    /// The same test of a frame whose safe data are at hand. It gives what is noted of the frame when it is taken, None where
-    /// a CRC is another.
+    /// Does the same test for a frame whose safe data are already copied. Returns the values to store when the frame is
+    /// taken, or None if a CRC is wrong.
     pub fn test_frame(&self, frame: &SessionFrame<'_>) -> Option<Link>
         ensures { result ≡ tested self.now frame.now.frame }
     {
         self.link(frame.view(), frame.conn(), frame.load())
     }
 
-    /// Notes a frame of the peer, by what the test of this chain gave for it.
+    /// Stores the values that the test of this chain gave for a frame of the peer.
     pub(crate) fn note(&mut self, link: Link)
         ensures { self.new ≡ record self.old { taken = Some link } }
     {
         self.taken = Some(link);
     }
 
-    /// What is noted of the next frame of the peer when it is taken, None where this frame isn't that one.
+    /// Returns the values to store when the next frame of the peer is taken, or None if this frame isn't that one.
     fn link(&self, view: &FrameView<'_>, conn: u16, load: &[u8]) -> Option<Link>
         requires connection { conn ≡ view.now.conn }
         requires load { load.now ≡ view.now.load }

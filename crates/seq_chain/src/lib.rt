@@ -1,4 +1,5 @@
-//! The chain of the CRCs of a session: how frames are sealed, tested and noted, in both directions.
+//! The CRC chain of a session, in both directions: how frames get their CRCs, how those of received frames are tested,
+//! and what is stored for the next frame. Both cores use it; it knows no states and no parameters.
 #![tactic(auto)]
 
 pub use chain::Chain;

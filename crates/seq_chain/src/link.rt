@@ -1,4 +1,4 @@
-//! What one direction of a session notes of its last frame, and the numbers of its frames.
+//! What one direction of a session stores of its last frame, and the numbers of its frames.
 
 ghost use Rattle.std.specs.Prelude.{◌≡◌, length, IsTrue};
 ghost use Rattle.fsoe_base.specs.Lengths.{is_length, group_count};
@@ -7,7 +7,7 @@ ghost use Rattle.seq_chain.specs.Numbers.{next, following, last_crc, crc_noted, 
 
 use crate::cover::{Crcs, crcs_into};
 
-/// What one direction of a session notes of its last frame. A seal or a passed test makes it, and nothing else.
+/// What one direction of a session stores of its last frame. Only a seal or a passed CRC test creates it.
 #[derive(Clone, Copy, Debug, PartialEq, Eq)]
 pub struct Link {
     /// The sequence number, 1 to 65,535, which isn't on the wire.
@@ -23,7 +23,7 @@ fn next_number(number: u16) -> u16
     if number == u16::MAX { 1 } else { number + 1 }
 }
 
-/// The number of the next frame where it isn't stepped once more: 1 where there was no frame.
+/// Returns the number of the next frame without the extra increment, 1 if there was no frame.
 pub(crate) fn following_number(before: Option<Link>) -> u16
     ensures { result ≡ following before }
 {
@@ -53,9 +53,8 @@ pub(crate) fn crc_of(before: Option<Link>) -> Option<u16>
     }
 }
 
-/// The number of the frame after `before`, with the CRCs of the frame in place of what `out` held. It is stepped once more
-/// where the frame would have the same first CRC as the one before it, so that these CRCs differ from frame to frame; only
-/// then the CRCs are made twice.
+/// Returns the number of the frame after `before`, and writes its CRCs to `out`, whose old contents are lost. If its
+/// CRC_0 would equal the one before, the number is incremented once more, and only then the CRCs are made twice.
 pub(crate) fn number_with_crcs(
     before: Option<Link>,
     last: u16,

@@ -11,23 +11,23 @@ use crate::session_frame::UnreadFrame;
 use fsoe_base::{Code, Command, Dropped};
 use fsoe_frame::FrameView;
 
-/// What the first tests of a delivered frame say of it.
+/// The result of the first tests of a received frame.
 #[derive(Drop)]
 pub enum Opened<'a> {
-    /// It is dropped.
+    /// The frame must be dropped, for this reason.
     Drop(Dropped),
     /// A test fails with this code.
     Refuse(Code),
     /// It is a valid Reset frame with this code.
     ResetFrame(Code, FrameView<'a>),
-    /// It is a frame of a session, of which the command alone was tested.
+    /// It is a frame of a session, of which only the command was tested.
     OfSession(UnreadFrame<'a>),
 }
 
-/// The first of these tests that a delivered frame fails: `Length` where it isn't a frame with `l` safe data bytes,
-/// `Repeat` where the caller says that it repeats the frame that was taken last, code 02h where its first byte stands
-/// for no command, and for a Reset frame 03h for another connection id than 0, 04h for a wrong CRC and 07h for a byte
-/// after the code that isn't 0.
+/// Does the first tests of a received frame, and returns the first that fails:
+/// - `Drop(Length)` if it isn't a frame with `l` safe data bytes, `Drop(Repeat)` if `repeats` is true;
+/// - code 02h if its first byte is that of no command;
+/// - for a Reset frame 03h if the connection id isn't 0, 04h if a CRC is wrong, 07h if a byte after the code isn't 0.
 pub fn open<'a>(frame: &'a [u8], l: usize, repeats: bool) -> Opened<'a>
     requires { IsTrue (is_length l) }
     ensures is { result ≡ opened l repeats frame.now }
@@ -46,7 +46,7 @@ pub fn open<'a>(frame: &'a [u8], l: usize, repeats: bool) -> Opened<'a>
     }
 }
 
-/// What a Reset frame says.
+/// Tests a Reset frame.
 #[cold]
 #[inline(never)]
 fn open_reset<'a>(view: FrameView<'a>) -> Opened<'a>

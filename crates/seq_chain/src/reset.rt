@@ -1,5 +1,4 @@
-//! Reset frames, which stand outside of the chain: no frame was taken before, the connection id is 0
-//! and the number is 1.
+//! Reset frames, which don't belong to the chain: no frame was taken before, the connection id is 0, the number 1.
 
 ghost use Rattle.std.specs.Prelude.{◌≡◌, ◌<◌, ◌≤◌, length, IsTrue};
 ghost use Rattle.fsoe_base.specs.Command.{command_byte};
@@ -13,8 +12,8 @@ use arrayvec::ArrayVec;
 use fsoe_base::{Code, Command, FrameBuf, Image, MOST_DATA, is_all_zero};
 use fsoe_frame::FrameView;
 
-/// Writes the Reset frame with this code and `l` safe data bytes, 1 or an even number from 2 to 126,
-/// into `out`, in place of what that held. The data are the code and zeros.
+/// Writes the Reset frame with this code and `l` safe data bytes, 1 or an even number from 2 to 126, to `out`, whose
+/// old contents are lost. The data are the code and zeros.
 pub fn reset_frame(code: Code, l: usize, out: &mut FrameBuf)
     requires { IsTrue (is_length l) }
     ensures { out.new ≡ reset.reset_frame code.0 l }
@@ -25,8 +24,8 @@ pub fn reset_frame(code: Code, l: usize, out: &mut FrameBuf)
     fsoe_frame::write(Command::Reset, load.bytes(), crcs.as_slice(), 0, out);
 }
 
-/// The code of a frame whose command is Reset. Refused, by the first of these that holds: code 3 where the
-/// connection id isn't 0, 4 where a CRC is wrong, 7 where a byte after the code isn't 0.
+/// Returns the code of a frame whose command is Reset. The first refusal counts: 03h if the connection id isn't 0, 04h
+/// if a CRC is wrong, 07h if a byte after the code isn't 0.
 pub fn reset_view(view: &FrameView<'_>) -> Result<Code, Code>
     requires { view.now.cmd ≡ command_byte Command.Reset }
     ensures { result ≡ reset.reset_view view.now }

@@ -11,7 +11,7 @@ use crate::link::Link;
 use crate::session_frame::SessionFrame;
 use fsoe_base::{Code, Command, FrameBuf};
 
-/// What an end keeps of a session: its chain, and the frame that was taken last, to know a repeat by.
+/// What an end keeps of a session: its chain, and the last frame that it took, to detect a repeat.
 #[derive(Debug, Drop)]
 pub struct Session {
     chain: Chain,
@@ -39,7 +39,7 @@ impl Session {
         }
     }
 
-    /// Takes a frame, by what the test of its CRCs in this session gave.
+    /// Takes a frame, with the result of its CRC test in this session.
     pub fn take(&mut self, frame: &SessionFrame<'_>, link: Link)
         requires { tested self.old.chain frame.now.frame ≡ Some link }
         ensures { self.new ≡ session_taken self.old frame.now }
@@ -48,8 +48,7 @@ impl Session {
         self.last.set(frame.bytes());
     }
 
-    /// Seals the next frame into `out`, in place of what that held. The load has a valid number of bytes, 1 or an even
-    /// number from 2 to 126.
+    /// Seals the next frame into `out`, whose old contents are lost. The load has 1 byte or an even number up to 126.
     pub fn seal(&mut self, command: Command, conn: u16, load: &[u8], out: &mut FrameBuf)
         requires { IsTrue (is_length (length load.now)) }
         ensures session { self.new ≡ session_sent self.old conn command load.now }
@@ -59,7 +58,7 @@ impl Session {
     }
 }
 
-/// Whether these bytes are those of the frame that was taken last in this session, if there is one.
+/// Returns true if these bytes are those of the last frame taken in this session, if there is one.
 pub fn is_repeat(session: Option<&Session>, frame: &[u8]) -> bool
     ensures { result ≡ words.is_repeat (last_in (option_copied session.entry)) frame.now }
 {
@@ -69,9 +68,9 @@ pub fn is_repeat(session: Option<&Session>, frame: &[u8]) -> bool
     }
 }
 
-/// Tests a frame at an end that has this session, or none yet: code 01h where its command isn't allowed, 03h where its
-/// connection id isn't right, 04h where a CRC isn't that of the peer's next frame. Where it passes, it gives what is noted of
-/// the frame when it is taken.
+/// Tests a frame with the session of the receiver, or with none. Returns the values to store when the frame is taken.
+/// The first refusal counts: 01h if the command isn't allowed, 03h if the connection id is wrong, 04h if a CRC is
+/// wrong.
 pub fn test_session(
     session: Option<&Session>,
     is_allowed: bool,

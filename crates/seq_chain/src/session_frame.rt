@@ -3,7 +3,7 @@ use fsoe_base::{Command, Did, Image, MOST_DATA, MOST_FRAME, Took};
 use fsoe_frame::FrameView;
 use std::marker::Model;
 
-/// A delivered frame of a session: its command is known, and its safe data are still to be read. Contracts see the
+/// A received frame of a session: its command is known, its safe data aren't read yet. In contracts the value is the
 /// command and the frame.
 #[derive(Drop)]
 pub struct UnreadFrame<'a> {
@@ -51,8 +51,8 @@ impl<'a> UnreadFrame<'a> {
         &self.view
     }
 
-    /// Copies the safe data into `out`, in place of what it held. They are as many as a frame can have, and there is a
-    /// CRC for each group of them.
+    /// Copies the safe data into `out`, whose old contents are lost. Their number is one that a frame can have, and
+    /// there is a CRC for each group of them.
     pub fn load_into(&self, out: &mut Image)
         ensures value { out.new ≡ self.now.frame.load }
         ensures valid { IsTrue (is_length (length out.new)) }
@@ -61,8 +61,7 @@ impl<'a> UnreadFrame<'a> {
         self.view.load_into(out);
     }
 
-    /// Writes the command and the safe data to `did` as those of a frame taken, in place of another frame's, and leaves the rest of it
-    /// as it was.
+    /// Writes the command and the safe data to `did.took`, whose old contents are lost, and changes no other field.
     pub fn took_into(&self, did: &mut Did)
         ensures value { did.new.took ≡ Some (record { command = self.now.command; load = self.now.frame.load }) }
         ensures valid { IsTrue (is_length (length self.now.frame.load)) }
@@ -82,8 +81,8 @@ impl<'a> UnreadFrame<'a> {
     }
 }
 
-/// A delivered frame of a session: its command is known, and its safe data are at hand. Contracts see the command
-/// and the frame, which is read where it was opened, so that it isn't moved.
+/// A received frame of a session with its safe data. In contracts the value is the command and the frame, which is read
+/// where it was opened, so that it isn't moved.
 #[derive(Drop)]
 pub struct SessionFrame<'a> {
     command: Command,
@@ -141,7 +140,7 @@ impl<'a> SessionFrame<'a> {
         self.view.conn()
     }
 
-    /// The safe data of the frame, as many as a frame can have, with a CRC for each group.
+    /// Returns the safe data: a number of bytes that a frame can have, with a CRC for each group.
     pub fn load(&self) -> &[u8]
         ensures value { result.now ≡ self.now.frame.load }
         ensures most { length result.now ≤ MOST_DATA }
