@@ -1,6 +1,5 @@
-//! One end of a connection, whichever it is: what runs either end alike stands on it.
-//!
-//! A program that runs one end alone takes `Master` or `Slave` themselves.
+//! One end of a connection, master or slave, for crates that treat both kinds in the same way. A program that runs only
+//! one kind uses `Master` or `Slave` directly.
 #![tactic(auto)]
 
 mod one_end;

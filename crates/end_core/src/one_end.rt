@@ -14,7 +14,7 @@ use master_core::Master;
 use param_load::{MasterSettings, Profile, SlaveSettings, Terms};
 use slave_core::Slave;
 
-/// One end of a connection. A master that accepted a frame has to have replied before it is called here: its `deliver` is one call.
+/// One end of a connection. A master that accepted a frame must have replied before; its `deliver` is one call here.
 #[derive(Drop)]
 pub enum Core {
     Master(Master),
@@ -82,8 +82,8 @@ impl Core {
         }
     }
 
-    /// A frame of the peer, of any number of bytes. What is done with it is written to `did`, and the frame that is sent to `out`,
-    /// which is empty where none is.
+    /// Processes a frame of the peer, of any number of bytes. Writes the result to `did`, and the frame to send to
+    /// `out`, which is empty if none is sent.
     #[tactic(auto, using(crate::proofs::Either::master_follows, crate::proofs::Either::slave_follows, crate::proofs::Either::master_answers, crate::proofs::Either::slave_answers))]
     pub fn deliver_into(&mut self, frame: &[u8], did: &mut Did, out: &mut FrameBuf)
         requires { IsAtRest self.old }
@@ -98,7 +98,7 @@ impl Core {
         }
     }
 
-    /// Counts a tick. What is done is written to `did`, and the frame that is sent to `out`, which is empty where none is.
+    /// Counts a tick. Writes the result to `did`, and the frame to send to `out`, which is empty if none is sent.
     #[tactic(auto, using(crate::proofs::Either::master_follows, crate::proofs::Either::slave_follows, crate::proofs::Either::master_answers, crate::proofs::Either::slave_answers))]
     pub fn tick_into(&mut self, did: &mut Did, out: &mut FrameBuf)
         requires { IsAtRest self.old }
@@ -128,7 +128,7 @@ impl Core {
         }
     }
 
-    /// Offers these safe data from now on, as many as the end's frames have. The offer outlasts resets.
+    /// Sets the safe data to send from now on, `own_len()` bytes. The offer outlasts resets.
     #[tactic(auto, using(crate::proofs::Either::master_follows, crate::proofs::Either::slave_follows))]
     pub fn put(&mut self, load: &[u8])
         requires len { length load.now ≡ sends (setup_of self.old) }
@@ -143,7 +143,7 @@ impl Core {
         }
     }
 
-    /// Whether zeros are sent in place of the offer from now on. It outlasts resets.
+    /// Switches fail-safe data on or off: while on, zeros are sent in place of the offer. It outlasts resets.
     #[tactic(auto, using(crate::proofs::Either::master_follows, crate::proofs::Either::slave_follows))]
     pub fn hold(&mut self, failsafe: bool)
         requires { IsAtRest self.old }
@@ -157,7 +157,7 @@ impl Core {
         }
     }
 
-    /// The session id of the sessions that begin from now on, at most 65,535 in profile One. It outlasts resets.
+    /// Sets the session id of all sessions that begin from now on, at most 65,535 in profile One. It outlasts resets.
     #[tactic(auto, using(crate::proofs::Either::master_follows, crate::proofs::Either::slave_follows))]
     pub fn nonce(&mut self, id: u32)
         requires allowed { IsTrue (allows_id (profile_of (setup_of self.old)) id) }
@@ -183,7 +183,7 @@ impl Core {
         }
     }
 
-    /// The outputs, as many bytes as the peer's frames have, and zeros in every state but Data.
+    /// Returns the outputs, as many bytes as the peer's frames have. They are zeros in every state except Data.
     #[tactic(auto, using(crate::proofs::Either::master_shows, crate::proofs::Either::slave_shows))]
     pub fn outputs(&self) -> &[u8]
         ensures shown { Shows self.now result.now looking_back.out }
@@ -196,7 +196,7 @@ impl Core {
         }
     }
 
-    /// The terms of the session, exactly in state Data.
+    /// Returns the terms of the session, or None in every state except Data.
     #[tactic(auto, using(crate::proofs::Either::master_shows, crate::proofs::Either::slave_shows))]
     pub fn terms(&self) -> Option<&Terms>
         ensures { Shows self.now (option_copied result) model.told_terms }

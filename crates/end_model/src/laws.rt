@@ -62,9 +62,9 @@ pub fn worked_refusals()
     ensures other_profile { MasterOfOtherProfile }
 {}
 
-/// Frames that fail several tests, at a slave and at a master in Data: the first of the tests decides. The connection ids
-/// that a slave refuses in a handshake, and the contents that a master refuses. Old frames, which both ends take again with their session
-/// ids as they were, and refuse with fresh ones.
+/// Frames that fail several tests, at a slave and at a master in Data: the first of the tests decides. The connection
+/// ids that a slave refuses in a handshake, and the contents that a master refuses. Old frames, which both ends take
+/// again with their session ids as they were, and refuse with fresh ones.
 #[tactic(auto, using(crate::proofs::WorkedRuns::slave_tests_in_order, crate::proofs::WorkedRuns::master_tests_in_order, crate::proofs::WorkedRuns::slave_tests_connection, crate::proofs::WorkedRuns::master_contents, crate::proofs::WorkedRuns::old_frames))]
 pub fn worked_verdicts()
     ensures slave { SlaveTestsInOrder }
@@ -93,8 +93,8 @@ pub fn reactions()
     ensures loaded { (ss : SlaveSettings) (e : List Deed) → IsRun (OfSlave ss) e → state_of (OfSlave ss) e ≡ state.Data → upload_is_whole ss state.Parameter e ≡ true }
 {}
 
-/// In every run of an end a deed tells of a sent frame exactly where one was sent, and of at most one of these: a frame
-/// that was taken, a reset and a drop.
+/// In every run of an end a deed reports a sent frame if and only if one was sent. It reports at most one of these: a
+/// frame that was taken, a reset, a drop.
 #[tactic(auto, using(crate::proofs::Told::told_sent, crate::proofs::Told::told_one))]
 pub fn told()
     ensures sent { (s : Setup) (e : List Deed) (event : Move) → IsRun s e → IsProper s event → (step s e event).did.sent ≡ not (is_empty (step s e event).sent) }
@@ -109,15 +109,15 @@ pub fn codes()
     ensures sent { (s : Setup) (e : List Deed) (event : Move) → IsRun s e → IsProper s event → has_command command.Reset (step s e event).sent ≡ true → IsOwnReset s (step s e event).sent }
 {}
 
-/// In every run the age of an end is below its limit, so that a watchdog expires exactly in the tick that reaches the
-/// limit. A slave in state Reset has age 0.
+/// In every run the age of an end is below its limit, so that a watchdog expires in the tick that reaches the limit. A
+/// slave in state Reset has age 0.
 #[tactic(auto, using(crate::proofs::AgeBelow::age_below, crate::proofs::AgeBelow::no_age_in_reset))]
 pub fn ages()
     ensures below_limit { (s : Setup) (e : List Deed) → IsRun s e → age s e < limit s e }
     ensures in_reset { (ss : SlaveSettings) (e : List Deed) → state_of (OfSlave ss) e ≡ state.Reset → age (OfSlave ss) e ≡ 0 }
 {}
 
-/// What is noted of the last frame that an end sent, and of the last that it took, has that frame's CRC_0; and the
+/// The values stored of the last frame that an end sent, and of the last that it took, have that frame's CRC_0. The
 /// frame that an end seals is read back as it was made.
 #[tactic(auto, using(crate::proofs::Links::own_crc, crate::proofs::Links::taken_crc, crate::proofs::ReadBack::read_back))]
 pub fn links()
@@ -126,17 +126,17 @@ pub fn links()
     ensures read_back { (s : Setup) (e : List Deed) (conn : ℕ) (c : Command) (load : List ℕ) → length load ≡ sends s → frame_of (sends s) (seal s e conn c load) ≡ sealed (newest_crc (receives s) (taken e)) (own_link s e) conn (command_byte c) load }
 {}
 
-/// In every run of an end its outputs are those that looking back gives: the load of the last frame taken, where that
-/// was ProcessData, no reset came after it and fewer ticks than the watchdog, and zeros in every other case. Outside
-/// Data they are zeros.
+/// In every run of an end its outputs are those that the definition gives. They are the load of the last frame taken,
+/// if that was ProcessData and neither a reset nor as many ticks as the watchdog came after it. In every other case,
+/// and outside Data, they are zeros.
 #[tactic(auto, using(crate::proofs::Shown::looking_back, crate::proofs::Shown::fail_safe))]
 pub fn outputs()
     ensures looking_back { (s : Setup) (e : List Deed) → IsRun s e → outputs s e ≡ out s e }
     ensures fail_safe { (s : Setup) (e : List Deed) → IsRun s e → state_of s e ≢ state.Data → outputs s e ≡ zeros s }
 {}
 
-/// In every run of a slave the parameters that it uploaded are whole where so many bytes came as its settings ask for:
-/// the number of application parameters that the master said is that of the rule.
+/// In every run of a slave the uploaded parameters are complete if and only if as many bytes came as its settings ask
+/// for. For the number of application parameters that the master sends is that of the rule.
 #[tactic(auto, using(crate::proofs::WholeUploads::whole_parameters))]
 pub fn uploads()
     ensures whole { (ss : SlaveSettings) (e : List Deed) → IsRun (OfSlave ss) e → whole ss.profile state.Parameter (uploaded ss state.Parameter e) ≡ nat_le (expected_len (expected.Parameter ss.most ss.rule ss.profile)) (length (uploaded ss state.Parameter e)) }

@@ -1,5 +1,5 @@
-//! What one end of a connection does, said by looking back over the list of its deeds. There is no code here to
-//! run: `specs` has the definitions, and the laws say what holds of them in all runs and in worked ones.
+//! What one end does, as a function of the list of its past steps (deeds); the cores are proved to do the same. There
+//! is no code to run here: `specs` has the definitions, the laws say what holds of them in all runs and in examples.
 #![tactic(auto)]
 
 pub mod laws;

@@ -27,8 +27,8 @@ pub trait Application: Drop {
         ensures guarded { GuardsBy (guards self.old) inputs.now outputs.new }
         ensures guards_stay { guards self.new ≡ guards self.old };
 
-    /// True only where the output bit is 0 after each cycle in which the input bit is 0; false promises nothing. An input bit that
-    /// doesn't exist counts as 0, and an output bit that doesn't exist is ignored.
+    /// Returns true only if the output bit is 0 after each cycle in which the input bit is 0; false promises nothing.
+    /// An input bit that doesn't exist counts as 0, and an output bit that doesn't exist is ignored.
     fn guards(&self, out: Bit, inp: Bit) -> bool
         ensures { result ≡ guards self.now out inp };
 }

@@ -1,5 +1,6 @@
-//! The fail-safe side of an end: the watchdog that leads to state Reset, the outputs that are zeros unless process
-//! data stand, and the offer that is zeros while the end is held; and what decides the outputs of all connections.
+//! The fail-safe part of an end. Its watchdog leads to state Reset, its outputs are zeros unless process data came
+//! last, and its data to send are zeros while fail-safe data are on. An `Application` computes the outputs of all
+//! connections.
 #![tactic(auto)]
 
 mod application;

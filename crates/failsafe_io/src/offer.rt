@@ -26,7 +26,7 @@ pub fn data_holds(command: Command, load: &[u8]) -> bool
     }
 }
 
-/// The safe data that an end offers, and whether it is held: then it sends zeros in their place.
+/// The safe data that an end offers, and whether fail-safe data are on (held): then it sends zeros in their place.
 #[derive(Debug, Drop)]
 pub struct Offer {
     image: Image,
@@ -50,7 +50,7 @@ impl Offer {
     ghost use Rattle.fsoe_base.specs.Lengths.{is_length};
     ghost use Rattle.failsafe_io.specs.Offer.{first_offer, data_command, data_load};
 
-    /// `l` zeros, 1 or an even number from 2 to 126, of an end that isn't held.
+    /// Creates an offer of `l` zeros, 1 or an even number from 2 to 126, with fail-safe data off.
     pub fn new(l: usize) -> Offer
         requires { IsTrue (is_length l) }
         ensures { result ≡ first_offer l }
@@ -68,7 +68,7 @@ impl Offer {
         self.image.bytes()
     }
 
-    /// Whether zeros are sent in place of the offer.
+    /// Returns true if zeros are sent in place of the offer.
     pub fn held(&self) -> bool
         ensures { result ≡ self.now.held }
     {
@@ -83,7 +83,7 @@ impl Offer {
         self.image.set(load);
     }
 
-    /// Whether the end is held from now on.
+    /// Switches fail-safe data on or off.
     pub fn hold(&mut self, failsafe: bool)
         ensures { self.new ≡ record self.old { held = failsafe } }
     {

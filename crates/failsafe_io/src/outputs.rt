@@ -7,8 +7,8 @@ use crate::offer::zeros;
 use fsoe_base::{Command, Image, MOST_DATA};
 use std::marker::Model;
 
-/// The outputs of an end: the load of the ProcessData frame taken last, or zeros. Contracts see them as a
-/// list of bytes.
+/// The outputs of an end: the load of the last ProcessData frame taken, or zeros. In contracts the value is the list of
+/// these bytes.
 #[derive(Debug, Drop)]
 pub struct Outputs {
     image: Image,
@@ -36,8 +36,8 @@ impl Outputs {
         }
     }
 
-    /// Takes the load of a data frame, which has as many bytes as there are outputs: ProcessData gives its
-    /// bytes, FailSafeData gives zeros.
+    /// Takes the load of a data frame, which must have the length of the outputs: ProcessData gives its bytes,
+    /// FailSafeData gives zeros.
     pub fn take(&mut self, command: Command, load: &[u8])
         requires { length load.now ≡ length self.old }
         ensures { self.new ≡ outputs_of command load.now }
@@ -48,7 +48,7 @@ impl Outputs {
         }
     }
 
-    /// Gives zeros.
+    /// Sets all outputs to zeros.
     pub fn fail(&mut self)
         ensures { self.new ≡ replicate (length self.old) 0 }
     {

@@ -41,7 +41,7 @@ impl Watchdog {
         self.age = 0;
     }
 
-    /// Counts a tick. True exactly where the age reached the limit with it; the age is then 0.
+    /// Counts a tick. Returns true if the age reached the limit with it; the age is then 0.
     pub fn tick(&mut self) -> bool
         ensures expired { result ≡ expires self.old }
         ensures counted { self.new ≡ ticked self.old }

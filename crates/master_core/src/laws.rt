@@ -10,10 +10,10 @@ ghost use Rattle.master_core.specs.MasterView.{MasterView};
 ghost use Rattle.master_core.specs.Standing.{MasterIsAfter};
 ghost use Rattle.master_core.specs.Waiting.{Waits};
 
-/// A master that is new and then called, in any order of calls and with deliveries in one call or in two, did and sent
-/// what the run of these events does and sends. Where no frame is due it is after that run, of which its readers show
-/// the state, the outputs, the terms, the age, the offer and the hold. Where one is due it waits after that run with the
-/// delivery, and its readers show those of the run and the delivery.
+/// Create a master and call its methods in any order, with deliveries in one call or in two. Then the calls did and
+/// sent exactly what the run of these events does and sends. If no frame is due, the master is after that run: its
+/// getters show the state, outputs, terms, age, offer and hold of the run. While a frame is due, the master waits in a
+/// delivery after that run, and its getters show the values after the run and this delivery.
 #[tactic(auto, using(crate::proofs::Calls::calls_run))]
 pub fn calls()
     ensures run { (settings : MasterSettings) (first last : MasterView) (calls : List Call) → MasterIsAfter settings first [] → Called first calls last → deeds_of calls ≡ run (OfMaster settings) (events_of (deeds_of calls)) }

@@ -1,14 +1,15 @@
-//! A master: its five states, the tests of the answers that are delivered to it, the frame that is due after each
-//! answer, its watchdog and its outputs.
+//! The FSoE master of one connection: its five states, the tests of received answers, the frame that is due after each
+//! answer, its watchdog and its outputs. `outputs()` are the data received from the slave (SafeInputs in ETG.5100),
+//! `put` sets the data to send (SafeOutputs).
 //!
-//! It has no clock and no line of its own. The program around it hands in frames and ticks, and sends what it writes; its
-//! first tick sends the Reset frame that a session begins with:
+//! It has no clock and no communication interface. The program passes in frames and ticks, and sends what the master
+//! writes; its first tick sends the Reset frame with which a session begins:
 //!
 //! ```text
 //! let mut master = Master::new(settings);
 //! let mut out = FrameBuf::new();
 //! loop {
-//!     master.put(&outputs);                               // what the next data frame is to carry: lengths().master() bytes
+//!     master.put(&commands);                              // the data to send next: settings().own_len() bytes
 //!     let did = match wait() {
 //!         Frame(bytes) => master.deliver(&bytes, &mut out), // any bytes that came, of any number
 //!         Tick => master.tick(&mut out),                    // the watchdog counts these
@@ -26,10 +27,11 @@
 //! }
 //! ```
 //!
-//! A program that answers by what has come calls `accept` and `reply` in place of `deliver`: between them the outputs are
-//! those of the frame that came, and what is `put` then is in the frame that `reply` writes, where one is `due`. `hold(true)`
-//! makes a master send zeros in place of what was put, until `hold(false)`; `nonce` sets the session id of the sessions that
-//! begin from then on, a new one for each. All three outlast resets.
+//! A program whose next data depend on the received frame calls `accept`, and then `reply` if a frame is `due`, in
+//! place of `deliver`. After `accept`, `outputs` has the data of that frame; what is `put` then is in the frame that
+//! `reply` writes. `hold(true)` makes the master send fail-safe data (zeros) in place of what was put, until
+//! `hold(false)`. `nonce` sets the session id of all sessions that begin after the call. The master never makes one
+//! itself: call `nonce` with a fresh id before each session. A reset changes none of the three.
 #![tactic(auto)]
 
 mod kit;

@@ -14,8 +14,8 @@ use param_load::{MasterSettings, Terms};
 use seq_chain::{Link, Opened, SessionFrame, open, reset_frame};
 use std::marker::Model;
 
-/// The master of a connection. It has no clock and no line of its own: frames and ticks are handed in, and the
-/// frames that it sends are handed out.
+/// The master of a connection. It has no clock and no communication interface: the caller passes in frames and ticks,
+/// and sends the frames that the master writes.
 #[derive(Debug, Drop)]
 pub struct Master {
     kit: Kit,
@@ -25,14 +25,14 @@ pub struct Master {
     watchdog: Watchdog,
 }
 
-/// Whether a Reset frame with this code begins a session in state Reset.
+/// Returns true if a Reset frame with this code begins a session in state Reset.
 fn begins(code: Code) -> bool
     ensures { result ≡ (code.0 == 0) }
 {
     code.0 == 0x00
 }
 
-/// The bytes of a Reset frame, which are kept as those of the frame taken last.
+/// Returns the bytes of a Reset frame, to keep as those of the last frame taken.
 fn kept(view: &FrameView<'_>) -> FrameBuf
     ensures { result ≡ bytes_of view.now }
 {
@@ -41,7 +41,7 @@ fn kept(view: &FrameView<'_>) -> FrameBuf
     last
 }
 
-/// Tells of a Reset frame that it was taken, and that nothing was sent yet.
+/// Reports that a Reset frame was taken, and that nothing was sent yet.
 fn tell_reset(view: &FrameView<'_>, did: &mut Did)
     ensures { did.new ≡ record (takes command.Reset view.now.load false) { sent = false } }
 {
@@ -82,8 +82,8 @@ impl Master {
     ghost use Rattle.master_core.specs.Standing.{MasterIsAfter, Follows, Answers, Shows};
     ghost use Rattle.master_core.specs.Waiting.{Delivery, Waits, Accepts, Keeps, Replies, ShowsDue};
 
-    /// A master with these settings: in state Reset, with zeros to offer and to give, and not held. Its first tick
-    /// reaches its limit.
+    /// Creates a master with these settings, in state Reset, with offer and outputs of zeros, and fail-safe data off.
+    /// At its first tick the watchdog expires, and it sends the Reset frame.
     #[tactic(auto, using(crate::proofs::Law::new_is_after))]
     pub fn new(settings: MasterSettings) -> Master
         ensures stands { MasterIsAfter settings result [] }
@@ -162,8 +162,8 @@ impl Master {
         tell_reset(view, did);
     }
 
-    /// Takes a frame that passed the tests, with what the chain notes of it, unless its contents are wrong. After a refusal
-    /// the phase is only left.
+    /// Takes a frame that passed the tests, with the values that the chain stores of it, unless its contents are wrong.
+    /// After a refusal the phase must only be left.
     #[tactic(auto, using(crate::proofs::Taken::master_taken, crate::proofs::Taken::did_taken, crate::proofs::Taken::refused))]
     fn take(&mut self, seen: &SessionFrame<'_>, link: Link) -> Result<(), Code>
         requires passed { HasPassed (receives (OfMaster self.old.kit.settings)) (chain_of self.old.state.phase) seen.now link }
@@ -216,11 +216,12 @@ impl Master {
         }
     }
 
-    /// Accepts a frame of the slave, of any number of bytes, while no frame is due. A frame of another length, or
-    /// that repeats the frame kept as taken last, is dropped. A valid Reset frame ends the session, and begins one in
-    /// state Reset where its code is 0; with another code it is dropped there. A frame that fails a test ends the
-    /// session with the test's code, and is dropped in state Reset. Every other frame is taken. Where a frame was
-    /// taken or the session ended, a frame is due then.
+    /// Accepts a frame of the slave, of any number of bytes. No frame may be due before. If a frame is taken or the
+    /// session ends, a frame is due after the call.
+    /// - A frame with a wrong length, or equal to the last accepted frame, is dropped.
+    /// - A valid Reset frame ends the session. In state Reset it begins a session if its code is 0, else it is dropped.
+    /// - A frame that fails a test ends the session with the code of this test; in state Reset it is dropped.
+    /// - Every other frame is taken.
     pub fn accept(&mut self, frame: &[u8]) -> Did
         requires { is_due self.old.state ≡ false }
         ensures accepts { Accepts self.old frame.now result self.new }
@@ -233,7 +234,7 @@ impl Master {
         did
     }
 
-    /// As `accept`, and writes what was done to `did`, in place of what it told: of a frame that is taken no data are moved.
+    /// Does the same as `accept` and overwrites `did`, so that the data of a taken frame aren't moved again.
     #[tactic(auto, using(crate::proofs::Accepting::due_told))]
     pub fn accept_into(&mut self, frame: &[u8], did: &mut Did)
         requires { is_due self.old.state ≡ false }
@@ -245,7 +246,7 @@ impl Master {
         self.receive(frame, did);
     }
 
-    /// Whether a frame is due: a frame was taken or a session ended, and nothing was sent since.
+    /// Returns true if a frame is due: a frame was taken or a session ended, and nothing was sent after that.
     pub fn due(&self) -> bool
         ensures { result ≡ is_due self.now.state }
     {
@@ -265,8 +266,8 @@ impl Master {
         }
     }
 
-    /// Writes the frame that is due to `out`, in place of what it held. It has the offer of this moment, and a first
-    /// Session frame the nonce of this moment.
+    /// Writes the due frame to `out`, whose old contents are lost. A data frame carries the offer of this moment, and
+    /// the first Session frame the session id (`nonce`) of this moment.
     #[tactic(auto, using(crate::proofs::Waiting::replies_by))]
     pub fn reply(&mut self, out: &mut FrameBuf)
         requires { IsTrue (is_due self.old.state) }
@@ -277,7 +278,7 @@ impl Master {
         self.send(out);
     }
 
-    /// Tests a frame, and sends the frame that is due then at once.
+    /// Tests a frame, and sends the frame that is then due at once.
     #[inline(never)]
     fn exchange(&mut self, frame: &[u8], did: &mut Did, out: &mut FrameBuf)
         requires { is_due self.old.state ≡ false }
@@ -292,8 +293,8 @@ impl Master {
         self.send(out);
     }
 
-    /// Accepts a frame while none is due, and writes the frame that is due then to `out`, in place of what it held;
-    /// `out` is empty where nothing is sent.
+    /// Accepts a frame, as `accept` does, and writes the frame that is then due to `out`. No frame may be due before.
+    /// The old contents of `out` are lost; it is empty if nothing is sent.
     pub fn deliver(&mut self, frame: &[u8], out: &mut FrameBuf) -> Did
         requires { is_due self.old.state ≡ false }
         ensures follows { Follows self.old (event.Deliver frame.now) self.new }
@@ -306,7 +307,7 @@ impl Master {
         did
     }
 
-    /// As `deliver`, and writes what was done to `did`, in place of what it told: of a frame that is taken no data are moved.
+    /// Does the same as `deliver` and overwrites `did`, so that the data of a taken frame aren't moved again.
     pub fn deliver_into(&mut self, frame: &[u8], did: &mut Did, out: &mut FrameBuf)
         requires { is_due self.old.state ≡ false }
         ensures follows { Follows self.old (event.Deliver frame.now) self.new }
@@ -354,9 +355,9 @@ impl Master {
         self.fall(Cause::Found(code), code, did, out);
     }
 
-    /// Counts a tick while no frame is due. Where the age reaches the watchdog the session ends with code 5: the
-    /// outputs are zeros from this tick on, and the Reset frame is written to `out`. In state Reset the Reset frame
-    /// with code 0 is written again.
+    /// Counts a tick; no frame may be due. If the age reaches the watchdog, the session ends with code 05h: the outputs
+    /// are zeros from this tick on, and the Reset frame is written to `out`. In state Reset the Reset frame with code 0
+    /// is written at each expiry.
     #[tactic(auto, using(crate::proofs::Law::follows_by, crate::proofs::Law::answers_by))]
     pub fn tick(&mut self, out: &mut FrameBuf) -> Did
         requires { is_due self.old.state ≡ false }
@@ -370,7 +371,7 @@ impl Master {
         did
     }
 
-    /// As `tick`, and writes what was done to `did`, in place of what it told.
+    /// Does the same as `tick`, and overwrites `did` with the result.
     #[tactic(auto, using(crate::proofs::Law::follows_by, crate::proofs::Law::answers_by))]
     pub fn tick_into(&mut self, did: &mut Did, out: &mut FrameBuf)
         requires { is_due self.old.state ≡ false }
@@ -396,8 +397,8 @@ impl Master {
         did
     }
 
-    /// Offers these safe data from now on, as many as the master's frames have, also in a frame that is due. The
-    /// offer outlasts resets.
+    /// Sets the safe data to send from now on, also in a frame that is due, `settings().own_len()` bytes. The offer
+    /// outlasts resets.
     #[tactic(auto, using(crate::proofs::Law::follows_by, crate::proofs::Waiting::put_keeps))]
     pub fn put(&mut self, load: &[u8])
         requires { length load.now ≡ sends (OfMaster self.old.kit.settings) }
@@ -409,7 +410,7 @@ impl Master {
         self.kit.put(load);
     }
 
-    /// Whether zeros are sent in place of the offer from now on, also in a frame that is due. It outlasts resets.
+    /// Switches fail-safe data on or off, also for a due frame: while on, zeros replace the offer. It outlasts resets.
     #[tactic(auto, using(crate::proofs::Law::follows_by, crate::proofs::Waiting::hold_keeps))]
     pub fn hold(&mut self, failsafe: bool)
         ensures follows { Follows self.old (event.Hold failsafe) self.new }
@@ -420,8 +421,8 @@ impl Master {
         self.kit.hold(failsafe);
     }
 
-    /// The session id of the sessions that begin from now on, also by a frame that is due. At most 65,535 in profile
-    /// One. It outlasts resets.
+    /// Sets the session id of all sessions that begin after this call, also of one that begins with a due frame. At
+    /// most 65,535 in profile One. It outlasts resets: give a fresh one before each session.
     #[tactic(auto, using(crate::proofs::Law::follows_by, crate::proofs::Waiting::nonce_keeps))]
     pub fn nonce(&mut self, id: u32)
         requires { IsTrue (allows_id self.old.kit.settings.profile id) }
@@ -440,8 +441,8 @@ impl Master {
         self.kit.settings()
     }
 
-    /// The state: the phase of the frame that was sent last in this session, Reset without a session. While a frame
-    /// is due it counts as sent.
+    /// Returns the state: the phase of the last frame sent in this session, or Reset if there is no session. A frame
+    /// that is due is treated as already sent.
     #[tactic(auto, using(crate::proofs::Law::state_shown, crate::proofs::ShownDue::state_due))]
     pub fn state(&self) -> State
         ensures shown { Shows self.now result model.state_of }
@@ -450,8 +451,8 @@ impl Master {
         self.phase.state()
     }
 
-    /// The outputs, as many bytes as the slave's frames have: those of the ProcessData frame that was taken last,
-    /// zeros after a FailSafeData frame, and zeros in every state but Data.
+    /// Returns the outputs, `settings().peer_len()` bytes that came from the slave. In state Data they are the data of
+    /// the last frame taken, which are zeros after a FailSafeData frame. In every other state they are zeros.
     #[tactic(auto, using(crate::proofs::Law::outputs_shown, crate::proofs::ShownDue::outputs_due))]
     pub fn outputs(&self) -> &[u8]
         ensures shown { Shows self.now result.now out }
@@ -462,7 +463,7 @@ impl Master {
         self.phase.outputs(&self.kit)
     }
 
-    /// The terms of the session, exactly in state Data.
+    /// Returns the terms of the session, or None in every state except Data.
     #[tactic(auto, using(crate::proofs::Law::terms_shown, crate::proofs::ShownDue::terms_due))]
     pub fn terms(&self) -> Option<&Terms>
         ensures shown { Shows self.now (option_copied result) model.told_terms }
@@ -471,7 +472,7 @@ impl Master {
         self.phase.terms()
     }
 
-    /// The ticks since the last frame was sent, 0 while a frame is due. That of a new master is its watchdog less 1.
+    /// Returns the ticks since the last frame was sent, 0 while a frame is due. A new master has its watchdog less 1.
     #[tactic(auto, using(crate::proofs::Law::age_shown, crate::proofs::ShownDue::age_due))]
     pub fn age(&self) -> u16
         ensures shown { Shows self.now result model.age }

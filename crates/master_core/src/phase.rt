@@ -98,8 +98,8 @@ impl Phase {
         }
     }
 
-    /// Tests a frame of a session: its command, its connection id, and its CRCs. It gives what is noted of the frame when
-    /// it is taken, or the code of the first test that fails.
+    /// Tests a frame of a session: its command, its connection id, and its CRCs. Returns the values to store when it is
+    /// taken, or the code of the first test that fails.
     pub(crate) fn test(
         &self,
         settings: &MasterSettings,
@@ -113,8 +113,8 @@ impl Phase {
         test_session(self.session(), is_allowed, has_conn, frame)
     }
 
-    /// Takes a frame that passed the tests in this phase, with what the chain notes of it, and goes on to what is to be sent
-    /// next, in place. After a refusal the phase is only left.
+    /// Takes a frame that passed the tests in this phase, with the values that the chain stores of it, and goes on to
+    /// what is sent next, in place. After a refusal the phase must only be left.
     pub(crate) fn take(
         &mut self,
         seen: &SessionFrame<'_>,
@@ -246,7 +246,7 @@ impl Due {
     ghost use Rattle.std.specs.Prelude.{◌≡◌};
     ghost use Rattle.master_core.specs.Phase.{IsUnder, sent_phase, due_frame};
 
-    /// Sends the frame that is due in this phase, in place of what `out` held.
+    /// Sends the frame that is due in this phase. The old contents of `out` are lost.
     pub(crate) fn send(self, phase: &mut Phase, kit: &Kit, out: &mut FrameBuf)
         requires under { IsUnder kit.now.settings phase.old }
         ensures next { phase.new ≡ sent_phase kit.now phase.old }

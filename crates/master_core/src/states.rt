@@ -1,6 +1,6 @@
-//! The five states of a master. A state is made by the transitions of this crate alone, and owns what it needs. It takes
-//! an answer that passed the tests in this state, with what the chain notes of it, or refuses it with the code of the test
-//! of the answer's contents that fails; and it sends the frame that follows.
+//! The five states of a master. Only the transitions of this crate make a state, which owns what it needs. A state
+//! takes an answer that passed its tests, with the values that the chain stores of it, or returns the code of the
+//! contents test that fails. Then it sends the next frame.
 ghost use Rattle.std.specs.Prelude.{◌≡◌, OnOk, OnErr};
 ghost use Rattle.fsoe_base.specs.declared.command.Command.TheVariants as command;
 ghost use Rattle.param_load.specs.Download.{outcome};
@@ -18,8 +18,8 @@ use seq_chain::{Link, Session, SessionFrame};
 use std::marker::Model;
 use std::mem;
 
-/// The frame of a phase is due: in state Reset the Reset frame with this code, which is 0 in the other states. It is made where
-/// a frame is accepted or a session ends, and spent by the sending of that frame, which needs it.
+/// A token: the master owes the frame of its phase. The code is that of the Reset frame in state Reset, and 0 in the
+/// other states. Accepting a frame or ending a session creates the token; sending the frame needs it and consumes it.
 #[derive(Debug, Drop)]
 pub struct Due {
     pub(crate) code: Code,
@@ -47,7 +47,7 @@ pub struct InParameter {
     pub(crate) exchange: Exchange,
 }
 
-/// A session in which data are exchanged under whole terms.
+/// A session in which data are exchanged under complete terms.
 #[derive(Debug, Drop)]
 pub struct InData {
     pub(crate) session: Session,
@@ -87,7 +87,7 @@ impl Model for InParameter {
 }
 
 impl Exchange {
-    /// Takes the answer to the piece in turn. Refused with 07h where it isn't one; then the exchange is as it was.
+    /// Takes the answer to the current piece. Refused with 07h if it isn't one; then the exchange is unchanged.
     pub(crate) fn take(
         &mut self,
         seen: &SessionFrame<'_>,
@@ -105,7 +105,7 @@ impl Exchange {
         Ok(progress)
     }
 
-    /// Sends the piece in turn.
+    /// Sends the current piece.
     fn send(&mut self, command: Command, conn: u16, kit: &Kit, out: &mut FrameBuf)
         requires { ExchangeUnder kit.now.settings self.old }
         ensures exchange { self.new ≡ piece_sent command conn kit.now self.old }
@@ -133,7 +133,7 @@ impl InSession {
         state
     }
 
-    /// Sends the piece in turn of the session id.
+    /// Sends the current piece of the session id.
     pub(crate) fn send(&mut self, kit: &Kit, out: &mut FrameBuf)
         requires { ExchangeUnder kit.now.settings self.old }
         ensures next { self.new ≡ piece_sent command.Session 0 kit.now self.old }
@@ -143,7 +143,7 @@ impl InSession {
         self.exchange.send(Command::Session, 0, kit, out);
     }
 
-    /// State Connection of this session, of whose payload nothing was sent. This state is only left.
+    /// State Connection of this session, before anything of its payload was sent. This state must only be left.
     pub(crate) fn to_connection(&mut self, kit: &Kit) -> InConnection
         ensures next { result ≡ with_download self.old (connection_download kit.now.settings) }
         ensures under { ExchangeUnder kit.now.settings result }
@@ -157,7 +157,7 @@ impl InSession {
 }
 
 impl InConnection {
-    /// Sends the piece in turn of the connection id and the address.
+    /// Sends the current piece of the connection id and the address.
     pub(crate) fn send(&mut self, kit: &Kit, out: &mut FrameBuf)
         requires { ExchangeUnder kit.now.settings self.old }
         ensures next { self.new ≡ piece_sent command.Connection kit.now.settings.conn kit.now self.old }
@@ -168,7 +168,7 @@ impl InConnection {
         self.exchange.send(Command::Connection, conn, kit, out);
     }
 
-    /// State Parameter of this session, of whose payload nothing was sent. This state is only left.
+    /// State Parameter of this session, before anything of its payload was sent. This state must only be left.
     pub(crate) fn to_parameter(&mut self, kit: &Kit) -> InParameter
         ensures next { result ≡ with_download self.old (parameter_download kit.now.settings) }
         ensures under { ExchangeUnder kit.now.settings result }
@@ -182,7 +182,7 @@ impl InConnection {
 }
 
 impl InParameter {
-    /// Sends the piece in turn of the parameters.
+    /// Sends the current piece of the parameters.
     pub(crate) fn send(&mut self, kit: &Kit, out: &mut FrameBuf)
         requires { ExchangeUnder kit.now.settings self.old }
         ensures next { self.new ≡ piece_sent command.Parameter kit.now.settings.conn kit.now self.old }
@@ -193,7 +193,7 @@ impl InParameter {
         self.exchange.send(Command::Parameter, conn, kit, out);
     }
 
-    /// State Data of this session as it is entered, with zeros as outputs. This state is only left.
+    /// State Data of this session as it is entered, with zeros as outputs. This state must only be left.
     pub(crate) fn to_data(&mut self, kit: &Kit) -> InData
         ensures next { result ≡ first_data kit.now self.old }
         ensures under { DataUnder kit.now.settings result }
@@ -207,7 +207,7 @@ impl InParameter {
 }
 
 impl InData {
-    /// Goes on by a data frame, in place. Refused with 07h where a FailSafeData frame has a byte that isn't 0; then
+    /// Accepts the next data frame, in place. Refused with 07h if a FailSafeData frame has a byte that isn't 0; then
     /// nothing is changed.
     pub(crate) fn take(
         &mut self,

@@ -8,17 +8,17 @@ use fsoe_base::ByteList;
 /// The most bytes of application parameters.
 const MOST_APPLICATION: usize = 512;
 
-/// Application parameters: at most 512 bytes that the application gives a meaning. Contracts see them as a list.
+/// At most 512 bytes that the application gives a meaning. In contracts the value is the list of these bytes.
 pub type AppBytes = ByteList<MOST_APPLICATION>;
 
 /// Which application parameters a slave accepts.
 #[derive(Debug, Drop)]
 pub enum AppRule {
-    /// Any bytes of this number.
+    /// Accepts any list of this many bytes.
     Any(u16),
-    /// These bytes alone.
+    /// Accepts only these bytes.
     Exact(AppBytes),
-    /// Bytes that lie, each at its place, from the lowest to the highest value.
+    /// Accepts a list if each byte is from the lowest to the highest value at its place.
     Ranges(AppBytes, AppBytes),
 }
 
@@ -63,8 +63,8 @@ impl AppRule {
         }
     }
 
-    /// Whether settings may have this rule: `Any` is at most 512, and the two lists of `Ranges` are as long as
-    /// each other, with no low above its high.
+    /// Returns true if settings may have this rule: `Any` is at most 512, and the two lists of `Ranges` have one
+    /// length, with no lowest value above its highest.
     pub fn is_acceptable(&self) -> bool
         ensures { result ≡ is_acceptable self.now }
     {
@@ -75,7 +75,7 @@ impl AppRule {
         }
     }
 
-    /// The same rule again. It takes no memory.
+    /// Returns a copy of the rule. Doesn't allocate.
     pub fn copy(&self) -> AppRule
         ensures { result ≡ self.now }
     {

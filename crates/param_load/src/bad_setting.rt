@@ -2,7 +2,7 @@
 
 use thiserror::Error;
 
-/// Why settings are refused. Where several apply, the first in this order counts.
+/// Why settings are refused. If there are several reasons, the first in this order is returned.
 #[derive(Clone, Copy, Debug, PartialEq, Eq, Error)]
 pub enum BadSetting {
     /// The connection id is 0.
@@ -11,13 +11,13 @@ pub enum BadSetting {
     /// The watchdog is 0.
     #[error("the watchdog is 0")]
     Watchdog,
-    /// The limit of a handshake is 0.
+    /// The handshake timeout is 0.
     #[error("the limit of a handshake is 0")]
     Hand,
     /// The longest watchdog that is accepted is 0.
     #[error("the longest watchdog that is accepted is 0")]
     Most,
-    /// The rule isn't one that settings may have (`AppRule::is_acceptable`).
+    /// Settings may not have this rule (`AppRule::is_acceptable`).
     #[error("the rule is for more than 512 bytes, or its ranges don't match")]
     Rule,
 }

@@ -1,4 +1,4 @@
-//! Connection ids that stand twice.
+//! Duplicate connection ids.
 ghost use Rattle.std.specs.Prelude.{◌≡◌, ◌≤◌, ◌+◌, drop, length, IfSome};
 ghost use Rattle.param_load.specs.SameConn.{place_of, same_conn};
 
@@ -16,8 +16,8 @@ fn place_of(ids: &[u16], id: u16, from: usize) -> Option<usize>
     None
 }
 
-/// The first place, counted from 1, whose connection id stands again at a later one, and the first such later place. None exactly where
-/// all ids differ. There are at most 65,535.
+/// Returns the first position, counted from 1, whose id occurs again later, and the position of its next occurrence.
+/// None if all ids differ. There are at most 65,535.
 pub fn same_conn(ids: &[u16]) -> Option<(u16, u16)>
     requires { length ids.now ≤ 65535 }
     ensures { result ≡ same_conn 1 ids.now }

@@ -18,7 +18,7 @@ pub(crate) enum Expected {
         conn: u16,
         address: u16,
     },
-    /// A watchdog of 1 to `most` ticks, the word of the profile, and application parameters after the rule.
+    /// A watchdog of 1 to `most` ticks, the profile word, and application parameters that follow the rule.
     Parameter {
         most: u16,
         rule: AppRule,
@@ -140,8 +140,8 @@ impl Expected {
         }
     }
 
-    /// The code of the first test of a frame's contents that fails: of the fields that come with it, then of the
-    /// padding, which is the joined bytes past the payload's end and the rest of the frame's data.
+    /// Returns the code of the first test of a frame's contents that fails. The fields that end in this frame are
+    /// tested first, then the padding: the joined bytes past the payload's end and the rest of the frame's data.
     pub(crate) fn contents_fault(&self, joined: &Joined, before: usize, rest: &[u8]) -> Option<Code>
         requires { IsTrue (is_expectable self.now) }
         ensures { result ≡ contents_fault self.now before joined.now rest.now }

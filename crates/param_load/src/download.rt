@@ -4,8 +4,8 @@ use crate::upload::Progress;
 use fsoe_base::{Code, Image, MOST_DATA, is_all_zero};
 use std::marker::Model;
 
-/// A payload that a master sends piece by piece, one a frame, until each piece is answered. Contracts see the
-/// payload, the bytes of a piece, whether the answers are echoes, and the place where the piece in turn begins.
+/// A payload that a master sends piece by piece, one a frame, until each is answered. In contracts the value is the
+/// payload, the bytes of a piece, whether the answers are echoes, and the place where the current piece begins.
 #[derive(Debug, Drop)]
 pub struct Download {
     payload: Payload,
@@ -31,8 +31,8 @@ impl Download {
     ghost use Rattle.param_load.specs.Payload.{padded};
     ghost use Rattle.param_load.specs.Download.{download, piece_in_turn, is_whole, is_answer, advanced, outcome};
 
-    /// The download of this payload in pieces of `piece` bytes, at most 126. With `echo` each answer repeats its
-    /// piece; without it the answers carry data of the slave's own.
+    /// Creates the download of this payload in pieces of `piece` bytes, at most 126. With `echo` each answer repeats
+    /// its piece; without it the answers carry data of the slave.
     pub fn new(payload: Payload, piece: usize, echo: bool) -> Download
         requires { piece ≤ MOST_DATA }
         ensures { result ≡ download payload piece echo }
@@ -52,7 +52,7 @@ impl Download {
         self.payload.bytes().len() <= self.from
     }
 
-    /// The piece in turn, then zeros up to `len` bytes, from a piece to 126. Of a whole download zeros alone.
+    /// Returns the current piece, padded with zeros to `len` bytes, from `piece` to 126; only zeros if none is left.
     pub fn load(&self, len: usize) -> Image
         requires piece { self.now.piece ≤ len }
         requires most { len ≤ MOST_DATA }
@@ -62,7 +62,7 @@ impl Download {
         padded(self.payload.piece_from(self.from, self.piece), len)
     }
 
-    /// Whether these bytes answer the piece in turn.
+    /// Returns true if these bytes answer the current piece.
     fn is_answer(&self, bytes: &[u8]) -> bool
         requires piece { self.now.piece ≤ length bytes.now }
         requires most { length bytes.now ≤ MOST_DATA }
@@ -75,9 +75,9 @@ impl Download {
         is_all_zero(&bytes[piece.len()..])
     }
 
-    /// Takes the data of a frame, from a piece to 126 bytes, as the answer to the piece in turn, as long as the
-    /// download isn't whole. Refused with 07h where they aren't the piece with zeros after it; of an answer that is
-    /// no echo the zeros alone are tested. After a refusal the download is as it was.
+    /// Takes the data of an answer to the current piece, from `piece` to 126 bytes. The download must be incomplete.
+    /// Refused with 07h if they aren't the piece followed by zeros; without `echo` only the zeros after the piece are
+    /// tested. After a refusal the download is unchanged.
     pub fn check(&mut self, bytes: &[u8]) -> Result<Progress, Code>
         requires more { is_whole self.old ≡ false }
         requires piece { self.old.piece ≤ length bytes.now }

@@ -1,4 +1,4 @@
-//! What may happen to an end, and what then did.
+//! The events at an end, and the report of a step.
 
 use crate::terms::Terms;
 use fsoe_base::{Did, End, FrameBuf, Image, State};
@@ -12,15 +12,15 @@ pub enum Move {
     Tick,
     /// The safe data that the end offers from now on.
     Put(Image),
-    /// Whether the end sends fail-safe data in place of its offer.
+    /// True switches fail-safe data on, false switches them off.
     Hold(bool),
-    /// The session id of the sessions that begin from now on.
+    /// The session id of all sessions that begin from now on.
     Nonce(u32),
-    /// A reset of the end's own.
+    /// A local reset.
     Local,
 }
 
-/// One step of an end.
+/// The report of one step of an end.
 #[derive(Drop)]
 pub struct Entry {
     /// Which end it is.
@@ -35,6 +35,6 @@ pub struct Entry {
     pub state: State,
     /// The outputs after it.
     pub outputs: Image,
-    /// The terms after it, which there are exactly in state Data.
+    /// The terms after it, which there are only in state Data.
     pub terms: Option<Terms>,
 }

@@ -1,5 +1,5 @@
-//! What the ends of a connection are set to, and how a master's parameters come to its slave: the settings, the
-//! payloads that the master sends piece by piece, and the upload that tests them.
+//! The settings of both ends, and the transfer of a master's parameters to its slave. The master sends payloads piece
+//! by piece; the slave receives and tests them. Frames are built and tested elsewhere.
 #![tactic(auto)]
 
 pub mod app_rule;

@@ -8,8 +8,7 @@ use crate::profile::Profile;
 use crate::terms::Terms;
 use fsoe_base::{End, Lengths, MOST_DATA};
 
-/// What a master is set to. The connection id and the watchdog aren't 0, and the nonce is one that the profile
-/// allows.
+/// The settings of a master. The connection id and the watchdog aren't 0, and the profile allows the session id.
 #[derive(Debug, Drop)]
 pub struct MasterSettings {
     lengths: Lengths,
@@ -30,9 +29,9 @@ impl MasterSettings {
     ghost use Rattle.param_load.specs.declared.profile.Profile.TheVariants as profile;
     ghost use Rattle.param_load.specs.MasterSettings.{IsMasterSetTo, terms_of};
 
-    /// Settings of profile One: the lengths, the connection id, the slave's address, the watchdog in ticks, the
-    /// application parameters, and the session id. `Conn` where the connection id is 0, else `Watchdog` where
-    /// the watchdog is 0.
+    /// Creates settings of profile One: the lengths, the connection id, the slave's address, the watchdog in ticks, the
+    /// application parameters, and the session id. Refused with `Conn` if the connection id is 0, else with `Watchdog`
+    /// if the watchdog is 0.
     pub fn new(
         lengths: Lengths,
         conn: u16,
@@ -58,7 +57,7 @@ impl MasterSettings {
         })
     }
 
-    /// Settings of profile Two with this profile word, with the refusals of `new`.
+    /// Creates settings of profile Two with this profile word, with the same refusals as `new`.
     pub fn two(
         lengths: Lengths,
         conn: u16,
@@ -165,7 +164,7 @@ impl MasterSettings {
         self.profile
     }
 
-    /// The terms of a connection with these settings. It takes no memory.
+    /// Returns the terms of a connection with these settings. Doesn't allocate.
     pub fn terms(&self) -> Terms
         ensures { result ≡ terms_of self.now }
     {
@@ -178,7 +177,7 @@ impl MasterSettings {
         }
     }
 
-    /// The same settings again. It takes no memory.
+    /// Returns a copy of the settings. Doesn't allocate.
     pub fn copy(&self) -> MasterSettings
         ensures { result ≡ self.now }
     {

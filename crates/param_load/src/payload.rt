@@ -11,7 +11,7 @@ use byteorder::{ByteOrder, LittleEndian};
 use fsoe_base::{ByteList, Image, MOST_DATA};
 use std::marker::Model;
 
-/// A payload of a handshake, at most 520 bytes, which is sent in pieces, one a frame. Contracts see it as a list.
+/// A payload of a handshake, at most 520 bytes, sent in pieces, one a frame. In contracts the value is its bytes.
 #[derive(Debug, Drop)]
 pub struct Payload {
     inner: ByteList<520>,
@@ -80,8 +80,8 @@ impl Payload {
         payload
     }
 
-    /// The length of the communication parameters, the watchdog, in profile Two its word, the number of
-    /// application parameters, each in 2 bytes, and the application parameters.
+    /// Creates the payload of parameters. In 2 bytes each: the length of the communication parameters, the watchdog, in
+    /// profile Two the profile word, the number of application parameters. Then these follow.
     pub fn parameter(watchdog: u16, profile: Profile, app: &AppBytes) -> Payload
         ensures { result ≡ parameter_payload watchdog profile app.now }
     {

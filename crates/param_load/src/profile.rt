@@ -12,8 +12,8 @@ pub enum Profile {
 }
 
 impl Profile {
-    /// The number of bytes of a session id, which is also that of the communication parameters: 2 in profile
-    /// One, 4 in profile Two.
+    /// Returns the number of bytes of a session id: 2 in profile One, 4 in profile Two. The communication parameters
+    /// have the same number.
     pub fn id_len(self) -> usize
         ensures { result ≡ id_len self }
     {

@@ -8,8 +8,8 @@ use crate::bad_setting::BadSetting;
 use crate::profile::Profile;
 use fsoe_base::{End, Lengths, MOST_DATA};
 
-/// What a slave is set to. The limits `hand` and `most` aren't 0, the rule is acceptable, and the nonce is one
-/// that the profile allows.
+/// The settings of a slave. The limits `hand` and `most` aren't 0, the rule is acceptable, and the profile allows the
+/// session id.
 #[derive(Debug, Drop)]
 pub struct SlaveSettings {
     lengths: Lengths,
@@ -31,9 +31,9 @@ impl SlaveSettings {
     ghost use Rattle.param_load.specs.declared.profile.Profile.TheVariants as profile;
     ghost use Rattle.param_load.specs.SlaveSettings.{IsSlaveSetTo};
 
-    /// Settings of profile One: the lengths, the slave's address, the limit of a handshake in ticks, the longest
-    /// watchdog that it accepts, the rule for application parameters, and the session id. `Hand` where `hand` is
-    /// 0, else `Most` where `most` is 0, else `Rule` where the rule isn't acceptable.
+    /// Creates settings of profile One: the lengths, the slave's address, the handshake timeout in ticks, the longest
+    /// watchdog that it accepts, the rule for application parameters, and the session id. The first refusal counts:
+    /// `Hand` if `hand` is 0, `Most` if `most` is 0, `Rule` if the rule isn't acceptable.
     pub fn new(
         lengths: Lengths,
         address: u16,
@@ -60,7 +60,7 @@ impl SlaveSettings {
         })
     }
 
-    /// Settings of profile Two with this profile word, with the refusals of `new`.
+    /// Creates settings of profile Two with this profile word, with the same refusals as `new`.
     pub fn two(
         lengths: Lengths,
         address: u16,
@@ -130,7 +130,7 @@ impl SlaveSettings {
         self.address
     }
 
-    /// The ticks after which a session expires as long as its watchdog isn't known.
+    /// Returns the handshake timeout in ticks. It applies until the slave knows the master's watchdog.
     pub fn hand(&self) -> u16
         ensures value { result ≡ self.now.hand }
         ensures some { 0 < result }
@@ -169,7 +169,7 @@ impl SlaveSettings {
         self.profile
     }
 
-    /// The same settings again. It takes no memory.
+    /// Returns a copy of the settings. Doesn't allocate.
     pub fn copy(&self) -> SlaveSettings
         ensures { result ≡ self.now }
     {

@@ -4,7 +4,7 @@ ghost use Rattle.std.specs.Prelude.{◌≡◌};
 use crate::app_rule::AppBytes;
 use crate::profile::Profile;
 
-/// What the ends of a connection agreed on in a handshake, and exchange data under.
+/// The parameters that both ends agreed on in the handshake, and that apply in state Data.
 #[derive(Debug, Drop)]
 pub struct Terms {
     /// The connection id.
@@ -20,7 +20,7 @@ pub struct Terms {
 }
 
 impl Terms {
-    /// The same terms again. It takes no memory.
+    /// Returns a copy of the terms. Doesn't allocate.
     pub fn copy(&self) -> Terms
         ensures { result ≡ self.now }
     {

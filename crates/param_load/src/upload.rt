@@ -17,8 +17,8 @@ pub enum Progress {
     Whole,
 }
 
-/// A payload that a slave takes piece by piece, one a frame, and tests against what it expects. Contracts see
-/// what is expected, the bytes of a piece, and the pieces so far, joined.
+/// A payload that a slave receives piece by piece, one in each frame, and tests against what it expects. In contracts
+/// the value is what is expected, the bytes of a piece, and the pieces so far, joined.
 #[derive(Debug, Drop)]
 pub struct Upload {
     expected: Expected,
@@ -70,8 +70,8 @@ impl Upload {
         }
     }
 
-    /// The upload of parameters of this profile, with a watchdog of 1 to `most` ticks and application parameters
-    /// after a rule that settings may have, in pieces of `piece` bytes, at most 126.
+    /// Creates the upload of parameters of this profile, with a watchdog of 1 to `most` ticks, in pieces of `piece`
+    /// bytes, at most 126. The application parameters must follow `rule`, which settings may have.
     pub fn parameter(piece: usize, most: u16, rule: &AppRule, profile: Profile) -> Upload
         requires most { piece ≤ MOST_DATA }
         requires acceptable { IsTrue (is_acceptable rule.now) }
@@ -89,7 +89,7 @@ impl Upload {
         }
     }
 
-    /// The number of bytes that have come, the padding of the last piece among them.
+    /// Returns the number of bytes received so far, including the padding of the last piece.
     pub fn len(&self) -> usize
         ensures { result ≡ length self.now.joined }
     {
@@ -103,12 +103,12 @@ impl Upload {
         self.expected.len() <= self.joined.len()
     }
 
-    /// Takes the data of a frame, at least a piece of them, as long as the upload isn't whole. The fields whose
-    /// last byte comes with the frame are tested in order, then the padding. The refusals: 03h for another
-    /// connection id, 06h for another slave address; 08h for another length of the communication parameters, 09h
-    /// for a watchdog of 0 or above `most` and for another profile word, 0Ah for another number of application
-    /// parameters, 0Bh for application parameters that break the rule; 07h for padding that isn't 0. After a
-    /// refusal the upload is as it was.
+    /// Takes the data of a frame, at least `piece` bytes. The upload must be incomplete; a refusal leaves it unchanged.
+    /// The fields whose last byte is in this frame are tested in order, then the padding:
+    /// - 03h for a wrong connection id, 06h for a wrong slave address;
+    /// - 08h for a wrong length of the communication parameters;
+    /// - 09h for a watchdog of 0 or above `most`, or a wrong profile word;
+    /// - 0Ah for a wrong number of application parameters, 0Bh if these break the rule, 07h for padding that isn't 0.
     #[tactic(auto, using(crate::proofs::Watchdog::joined_watchdog))]
     pub fn take(&mut self, bytes: &[u8]) -> Result<Progress, Code>
         requires more { is_whole self.old ≡ false }
@@ -134,7 +134,7 @@ impl Upload {
         Ok(Progress::Whole)
     }
 
-    /// The piece that came last, then zeros up to `len` bytes, from a piece to 126.
+    /// Returns the last received piece, padded with zeros to `len` bytes, from `piece` to 126.
     pub fn echo(&self, len: usize) -> Image
         requires piece { self.now.piece ≤ len }
         requires most { len ≤ MOST_DATA }
@@ -145,7 +145,7 @@ impl Upload {
         padded(past(self.joined.bytes(), from), len)
     }
 
-    /// The session id of a whole upload of one.
+    /// Returns the session id. The upload must be that of a session id, and complete.
     pub fn id(&self) -> u32
         requires whole { IsTrue (is_whole self.now) }
         requires session { IsTrue (is_session self.now.expected) }
@@ -158,7 +158,7 @@ impl Upload {
         }
     }
 
-    /// The watchdog of a whole upload of parameters, in ticks.
+    /// Returns the watchdog in ticks. The upload must be that of parameters, and complete.
     pub fn watchdog(&self) -> u16
         requires whole { IsTrue (is_whole self.now) }
         requires parameter { IsTrue (is_parameter self.now.expected) }
@@ -168,7 +168,7 @@ impl Upload {
         number_at(self.joined.bytes(), 2)
     }
 
-    /// The application parameters of a whole upload of parameters.
+    /// Returns the application parameters. The upload must be that of parameters, and complete.
     pub fn app(&self) -> &AppBytes
         requires whole { IsTrue (is_whole self.now) }
         requires parameter { IsTrue (is_parameter self.now.expected) }

@@ -8,9 +8,9 @@ ghost use Rattle.end_model.specs.Step.{run};
 ghost use Rattle.slave_core.specs.SlaveView.{SlaveView};
 ghost use Rattle.slave_core.specs.Standing.{SlaveIsAfter, Called};
 
-/// A slave that is new and then called, in any order of calls, did and sent what the run of these events does and
-/// sends; and it is after that run, of which its readers show the state, the outputs, the terms, the age, the
-/// offer and the hold.
+/// Create a slave and call its methods in any order. Then each call did and sent exactly what the run of these events
+/// does and sends. The slave is after that run: its getters show the state, outputs, terms, age, offer and hold of the
+/// run.
 #[tactic(auto, using(crate::proofs::Law::called_run))]
 pub fn calls()
     ensures run { (settings : SlaveSettings) (first last : SlaveView) (calls : List Deed) → SlaveIsAfter settings first [] → Called first calls last → calls ≡ run (OfSlave settings) (events_of calls) }

@@ -1,12 +1,12 @@
-//! A slave: its five states, the tests of the frames that are delivered to it, its watchdog and its outputs.
-//!
-//! It has no clock and no line of its own. The program around it hands in frames and ticks, and sends what it writes:
+//! The FSoE slave of one connection: its five states, the tests of received frames, its watchdog and its outputs.
+//! `outputs()` are the data received from the master (SafeOutputs in ETG.5100), `put` sets those to send (SafeInputs).
+//! It has no clock and no communication interface. The program passes in frames and ticks, and sends what it writes:
 //!
 //! ```text
 //! let mut slave = Slave::new(settings);
 //! let mut out = FrameBuf::new();
 //! loop {
-//!     slave.put(&inputs);                               // what the next data frame is to carry: lengths().slave() bytes
+//!     slave.put(&inputs);                               // the data to send next: settings().own_len() bytes
 //!     let did = match wait() {
 //!         Frame(bytes) => slave.deliver(&bytes, &mut out),  // any bytes that came, of any number
 //!         Tick => slave.tick(&mut out),                     // the watchdog counts these
@@ -24,8 +24,9 @@
 //! }
 //! ```
 //!
-//! `hold(true)` makes a slave send zeros in place of what was put, until `hold(false)`; `nonce` sets the session id of the
-//! sessions that begin from then on, a new one for each. All three outlast resets.
+//! `hold(true)` makes the slave send fail-safe data (zeros) in place of what was put, until `hold(false)`. `nonce` sets
+//! the session id of all sessions that begin after the call. The slave never makes one itself: call `nonce` with a
+//! fresh id before each session. A reset changes none of the three.
 #![tactic(auto)]
 
 mod kit;

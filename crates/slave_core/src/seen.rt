@@ -1,8 +1,8 @@
-//! A frame that passed the tests but for those of its contents.
+//! A frame that passed all tests except those of its contents.
 use seq_chain::{Link, SessionFrame};
 
-/// A delivered frame of a session that passed the tests up to the CRCs, with what the test of these gave. The slave alone
-/// makes it; that it passed in this very state is a condition of each transition.
+/// A received frame of a session that passed all tests up to and including the CRC test, with the result of that test.
+/// Only the slave makes it; each transition requires that it passed the tests in this same state.
 #[derive(Drop)]
 pub struct Seen<'a> {
     pub(crate) frame: SessionFrame<'a>,

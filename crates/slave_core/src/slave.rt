@@ -12,8 +12,8 @@ use param_load::{SlaveSettings, Terms};
 use seq_chain::{Opened, SessionFrame, open, reset_frame};
 use std::marker::Model;
 
-/// The slave of a connection. It has no clock and no line of its own: frames and ticks are handed in, and the
-/// frames that it sends are handed out.
+/// The slave of a connection. It has no clock and no communication interface: the caller passes in frames and ticks,
+/// and sends the frames that the slave writes.
 #[derive(Debug, Drop)]
 pub struct Slave {
     kit: Kit,
@@ -43,7 +43,7 @@ impl Slave {
     ghost use Rattle.end_model.specs.Outputs as looking_back;
     ghost use Rattle.slave_core.specs.Standing.{SlaveIsAfter, Follows, Answers, Shows};
 
-    /// A slave with these settings: in state Reset, with zeros to offer and to give, and not held.
+    /// Creates a slave with these settings, in state Reset, with offer and outputs of zeros, and fail-safe data off.
     #[tactic(auto, using(crate::proofs::Law::new_is_after))]
     pub fn new(settings: SlaveSettings) -> Slave
         ensures { SlaveIsAfter settings result [] }
@@ -192,11 +192,12 @@ impl Slave {
         }
     }
 
-    /// Takes a frame of the master, of any number of bytes, and writes the answer to `out`, in place of what it
-    /// held; `out` is empty where nothing is sent. A frame of another length, or that repeats the frame kept as
-    /// taken last, is dropped. A valid Reset frame ends the session; in state Reset it is taken and answered. A frame
-    /// that fails a test ends the session with the test's code, and is dropped in state Reset. Every other frame is
-    /// taken and answered.
+    /// Processes one frame of the master, of any number of bytes, and writes the answer to `out`. The old contents of
+    /// `out` are lost; it is empty if nothing is sent.
+    /// - A frame with a wrong length, or equal to the last accepted frame, is dropped.
+    /// - A valid Reset frame ends the session; in state Reset it is taken and answered.
+    /// - A frame that fails a test ends the session with the test's code, and is dropped in state Reset.
+    /// - Every other frame is taken and answered.
     pub fn deliver(&mut self, frame: &[u8], out: &mut FrameBuf) -> Did
         ensures follows { Follows self.old (event.Deliver frame.now) self.new }
         ensures answers { Answers self.old (event.Deliver frame.now) result out.new }
@@ -207,7 +208,7 @@ impl Slave {
         did
     }
 
-    /// As `deliver`, and writes what was done to `did`, in place of what it told: of a frame that is taken no data are moved.
+    /// Does the same as `deliver` and overwrites `did`, so that the data of a taken frame aren't moved again.
     pub fn deliver_into(&mut self, frame: &[u8], did: &mut Did, out: &mut FrameBuf)
         ensures follows { Follows self.old (event.Deliver frame.now) self.new }
         ensures answers { Answers self.old (event.Deliver frame.now) did.new out.new }
@@ -216,7 +217,7 @@ impl Slave {
         self.receive(frame, did, out);
     }
 
-    /// Counts a tick outside state Reset.
+    /// Counts a tick; in state Reset nothing is counted.
     fn count(&mut self, did: &mut Did, out: &mut FrameBuf)
         ensures slave { self.new ≡ (tick_of self.old).slave }
         ensures did { did.new ≡ (tick_of self.old).did }
@@ -237,8 +238,8 @@ impl Slave {
         );
     }
 
-    /// Counts a tick outside state Reset. Where the age reaches the limit the session ends with code 5: the
-    /// outputs are zeros from this tick on, and the Reset frame is written to `out`.
+    /// Counts a tick; in state Reset nothing is counted. If the age reaches the limit, the session ends with code 05h:
+    /// the outputs are zeros from this tick on, and the Reset frame is written to `out`.
     #[tactic(auto, using(crate::proofs::Law::follows_by, crate::proofs::Law::answers_by))]
     pub fn tick(&mut self, out: &mut FrameBuf) -> Did
         ensures follows { Follows self.old event.Tick self.new }
@@ -250,7 +251,7 @@ impl Slave {
         did
     }
 
-    /// As `tick`, and writes what was done to `did`, in place of what it told.
+    /// Does the same as `tick`, and overwrites `did` with the result.
     #[tactic(auto, using(crate::proofs::Law::follows_by, crate::proofs::Law::answers_by))]
     pub fn tick_into(&mut self, did: &mut Did, out: &mut FrameBuf)
         ensures follows { Follows self.old event.Tick self.new }
@@ -272,7 +273,7 @@ impl Slave {
         did
     }
 
-    /// Offers these safe data from now on, as many as the slave's frames have. The offer outlasts resets.
+    /// Sets the safe data to send from now on, `settings().own_len()` bytes. The offer outlasts resets.
     #[tactic(auto, using(crate::proofs::Law::follows_by))]
     pub fn put(&mut self, load: &[u8])
         requires { length load.now ≡ sends (OfSlave self.old.kit.settings) }
@@ -282,7 +283,7 @@ impl Slave {
         self.kit.put(load);
     }
 
-    /// Whether zeros are sent in place of the offer from now on. It outlasts resets.
+    /// Switches fail-safe data on or off: while on, zeros are sent in place of the offer. It outlasts resets.
     #[tactic(auto, using(crate::proofs::Law::follows_by))]
     pub fn hold(&mut self, failsafe: bool)
         ensures follows { Follows self.old (event.Hold failsafe) self.new }
@@ -291,7 +292,8 @@ impl Slave {
         self.kit.hold(failsafe);
     }
 
-    /// The session id of the sessions that begin from now on, at most 65,535 in profile One. It outlasts resets.
+    /// Sets the session id of all sessions that begin after this call, at most 65,535 in profile One. It outlasts
+    /// resets: give a fresh one before each session.
     #[tactic(auto, using(crate::proofs::Law::follows_by))]
     pub fn nonce(&mut self, id: u32)
         requires { IsTrue (allows_id self.old.kit.settings.profile id) }
@@ -308,7 +310,7 @@ impl Slave {
         self.kit.settings()
     }
 
-    /// The state: the phase of the frame that was taken last in this session, Reset without a session.
+    /// Returns the state: the phase of the last frame taken in this session, or Reset if there is no session.
     #[tactic(auto, using(crate::proofs::Law::state_shown))]
     pub fn state(&self) -> State
         ensures { Shows self.now result model.state_of }
@@ -316,8 +318,8 @@ impl Slave {
         self.state.state()
     }
 
-    /// The outputs, as many bytes as the master's frames have: those of the ProcessData frame that was taken last,
-    /// zeros after a FailSafeData frame, and zeros in every state but Data.
+    /// Returns the outputs, `settings().peer_len()` bytes. In state Data they are the data of the last frame taken,
+    /// which are zeros after a FailSafeData frame. In every other state they are zeros.
     #[tactic(auto, using(crate::proofs::Law::outputs_shown))]
     pub fn outputs(&self) -> &[u8]
         ensures shown { Shows self.now result.now looking_back.out }
@@ -340,7 +342,7 @@ impl Slave {
         }
     }
 
-    /// The terms of the session, exactly in state Data.
+    /// Returns the terms of the session, or None in every state except Data.
     #[tactic(auto, using(crate::proofs::Law::terms_shown))]
     pub fn terms(&self) -> Option<&Terms>
         ensures { Shows self.now (option_copied result) model.told_terms }
@@ -348,7 +350,7 @@ impl Slave {
         self.state.terms()
     }
 
-    /// The ticks since the last frame was sent, 0 in state Reset.
+    /// Returns the ticks since the last frame was sent, 0 in state Reset.
     #[tactic(auto, using(crate::proofs::Law::age_shown))]
     pub fn age(&self) -> u16
         ensures { Shows self.now result model.age }

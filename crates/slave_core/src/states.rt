@@ -1,7 +1,6 @@
-//! The five states of a slave. A state is made by the transitions of this crate alone, and owns what it needs.
-//! A transition takes a frame that passed the tests in this state, and gives the next state with the answer, or
-//! state Reset with the code of the first test of the frame's contents that fails; then nothing is written, and `out`
-//! keeps what it held.
+//! The five states of a slave. Only the transitions of this crate make a state, which owns what it needs. A transition
+//! takes a frame that passed the tests in this state. It gives the next state, with the answer in `out`. If a test of
+//! the contents fails, it gives state Reset with the code of the first such test, and `out` is unchanged.
 ghost use Rattle.std.specs.Prelude.{◌≡◌, IsTrue, IfOk, OnOk, OnErr, false};
 ghost use Rattle.param_load.specs.Upload.{is_whole};
 ghost use Rattle.seq_chain.specs.Chain.{fresh};
@@ -27,7 +26,7 @@ pub struct InReset {
     private: (),
 }
 
-/// A session in which session ids are exchanged, or are whole and the connection id is to come.
+/// State Session: session ids are being exchanged, or they are complete and the first Connection frame hasn't come yet.
 #[derive(Debug, Drop)]
 pub struct InSession {
     pub(crate) session: Session,
@@ -35,8 +34,8 @@ pub struct InSession {
     pub(crate) upload: Upload,
 }
 
-/// A session in which the connection id and the slave's address are exchanged, or are whole and the parameters
-/// are to come.
+/// State Connection: connection id and slave address are being exchanged, or they are complete and the first Parameter
+/// frame hasn't come yet.
 #[derive(Debug, Drop)]
 pub struct InConnection {
     pub(crate) session: Session,
@@ -44,7 +43,7 @@ pub struct InConnection {
     pub(crate) upload: Upload,
 }
 
-/// A session in which the parameters are exchanged, or are whole and data are to come.
+/// State Parameter: the parameters are being exchanged, or they are complete and the first data frame hasn't come yet.
 #[derive(Debug, Drop)]
 pub struct InParameter {
     pub(crate) session: Session,
@@ -53,7 +52,7 @@ pub struct InParameter {
     pub(crate) upload: Upload,
 }
 
-/// A session in which data are exchanged under whole terms.
+/// State Data: safe data are exchanged under complete terms.
 #[derive(Debug, Drop)]
 pub struct InData {
     pub(crate) session: Session,
@@ -68,8 +67,8 @@ impl InReset {
         InReset { private: () }
     }
 
-    /// Begins a session by a Session frame. The slave's session id is its nonce at this moment. Refused with 07h
-    /// where the padding isn't zeros.
+    /// Begins a session with a Session frame. The slave's session id is its nonce at this moment. Refused with 07h if a
+    /// padding byte isn't 0.
     #[tactic(auto, using(crate::proofs::Transitions::goes_by))]
     pub fn start(
         self,
@@ -93,7 +92,7 @@ impl InReset {
         begun.more(seen, kit, out)
     }
 
-    /// State Reset.
+    /// Returns state Reset.
     pub fn into_reset(self) -> InReset
         ensures { result ≡ no_session }
     {
@@ -102,8 +101,8 @@ impl InReset {
 }
 
 impl InSession {
-    /// Goes on by a Session frame, as long as the master's session id isn't whole: it is answered with the piece of the
-    /// slave's own session id that has the same number. Refused with 07h where the padding isn't zeros.
+    /// Accepts the next Session frame, while the master's session id is incomplete. The answer carries the piece of the
+    /// slave's session id with the same index. Refused with 07h if a padding byte isn't 0.
     #[tactic(auto, using(crate::proofs::Transitions::goes_taken, crate::proofs::Transitions::goes_refused))]
     pub fn more(
         mut self,
@@ -127,9 +126,9 @@ impl InSession {
         }
     }
 
-    /// Goes on by the first Connection frame, once the master's session id is whole. The connection id of the
-    /// session is that of the frame. Refused, field by field as it comes, with 03h for another connection id and
-    /// 06h for another slave address, then with 07h where the padding isn't zeros.
+    /// Accepts the first Connection frame, once the master's session id is complete. The connection id of the session
+    /// is that of the frame. Each field is tested when its last byte comes, then the padding. Refused with 03h for a
+    /// wrong connection id, 06h for a wrong slave address, 07h for padding that isn't 0.
     #[tactic(auto, using(crate::proofs::Transitions::goes_by))]
     pub fn connect(
         self,
@@ -157,7 +156,7 @@ impl InSession {
         begun.more(seen, kit, out)
     }
 
-    /// As `more`, in place. After a refusal the state is only left.
+    /// Does the same as `more`, in place. After a refusal the state must only be left.
     pub(crate) fn answer(
         &mut self,
         seen: &Seen<'_>,
@@ -184,7 +183,7 @@ impl InSession {
         Ok(())
     }
 
-    /// State Reset; the session is forgotten.
+    /// Ends the session and returns state Reset.
     pub fn into_reset(self) -> InReset
         ensures { result ≡ no_session }
     {
@@ -193,8 +192,8 @@ impl InSession {
 }
 
 impl InConnection {
-    /// Goes on by a Connection frame, as long as the connection id and the address aren't whole, with the refusals
-    /// of the first one: it is answered with its own piece.
+    /// Accepts the next Connection frame, while the connection id and the address are incomplete, with the refusals of
+    /// `connect`. The answer repeats the piece of the frame.
     #[tactic(auto, using(crate::proofs::Transitions::goes_taken, crate::proofs::Transitions::goes_refused))]
     pub fn more(
         mut self,
@@ -218,10 +217,10 @@ impl InConnection {
         }
     }
 
-    /// Goes on by the first Parameter frame, once the connection id and the address are whole. Refused, field by
-    /// field as it comes, with 08h for another length of the communication parameters, 09h for a watchdog of 0 or
-    /// above the longest that is accepted and for another profile word, 0Ah for another number of application
-    /// parameters, and 0Bh where these break the rule, then with 07h where the padding isn't zeros.
+    /// Accepts the first Parameter frame, once the connection id and the address are complete. Each field is tested
+    /// when its last byte comes, then the padding. Refused with 08h for a wrong length of the communication parameters.
+    /// Refused with 09h for a watchdog of 0 or above the longest accepted, or a wrong profile word. Refused with 0Ah
+    /// for a wrong number of application parameters, 0Bh if these break the rule, 07h for padding that isn't 0.
     #[tactic(auto, using(crate::proofs::Transitions::goes_by))]
     pub fn load(
         self,
@@ -254,7 +253,7 @@ impl InConnection {
         begun.more(seen, kit, out)
     }
 
-    /// As `more`, in place. After a refusal the state is only left.
+    /// Does the same as `more`, in place. After a refusal the state must only be left.
     pub(crate) fn answer(
         &mut self,
         seen: &Seen<'_>,
@@ -279,7 +278,7 @@ impl InConnection {
         Ok(())
     }
 
-    /// State Reset; the session is forgotten.
+    /// Ends the session and returns state Reset.
     pub fn into_reset(self) -> InReset
         ensures { result ≡ no_session }
     {
@@ -288,8 +287,8 @@ impl InConnection {
 }
 
 impl InParameter {
-    /// Goes on by a Parameter frame, as long as the parameters aren't whole, with the refusals of the first one: it is
-    /// answered with its own piece.
+    /// Accepts the next Parameter frame, while the parameters are incomplete, with the refusals of `load`. The answer
+    /// repeats the piece of the frame.
     #[tactic(auto, using(crate::proofs::Transitions::goes_taken, crate::proofs::Transitions::goes_refused))]
     pub fn more(
         mut self,
@@ -313,8 +312,8 @@ impl InParameter {
         }
     }
 
-    /// Goes on by the first data frame, once the parameters are whole: from now on the outputs may be other than
-    /// zeros. Refused with 07h where a FailSafeData frame has a byte that isn't 0.
+    /// Accepts the first data frame, once the parameters are complete. From now on the outputs can be other than zeros.
+    /// Refused with 07h if a FailSafeData frame has a byte that isn't 0.
     #[tactic(auto, using(crate::proofs::Transitions::goes_by))]
     pub fn run(
         self,
@@ -346,7 +345,7 @@ impl InParameter {
         begun.more(seen, kit, out)
     }
 
-    /// As `more`, in place. After a refusal the state is only left.
+    /// Does the same as `more`, in place. After a refusal the state must only be left.
     pub(crate) fn answer(
         &mut self,
         seen: &Seen<'_>,
@@ -371,7 +370,7 @@ impl InParameter {
         Ok(())
     }
 
-    /// State Reset; the session is forgotten.
+    /// Ends the session and returns state Reset.
     pub fn into_reset(self) -> InReset
         ensures { result ≡ no_session }
     {
@@ -380,7 +379,7 @@ impl InParameter {
 }
 
 impl InData {
-    /// Goes on by a data frame. Refused with 07h where a FailSafeData frame has a byte that isn't 0.
+    /// Accepts the next data frame. Refused with 07h if a FailSafeData frame has a byte that isn't 0.
     #[tactic(auto, using(crate::proofs::Transitions::goes_taken, crate::proofs::Transitions::goes_refused))]
     pub fn more(
         mut self,
@@ -403,7 +402,7 @@ impl InData {
         }
     }
 
-    /// As `more`, in place. After a refusal the state is only left.
+    /// Does the same as `more`, in place. After a refusal the state must only be left.
     pub(crate) fn answer(
         &mut self,
         seen: &Seen<'_>,
@@ -430,7 +429,7 @@ impl InData {
         Ok(())
     }
 
-    /// State Reset; the session is forgotten.
+    /// Ends the session and returns state Reset.
     pub fn into_reset(self) -> InReset
         ensures { result ≡ no_session }
     {
