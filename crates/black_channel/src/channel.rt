@@ -20,33 +20,33 @@ pub struct Parcel {
     pub frame: FrameBuf,
 }
 
-/// Brings the frames of all connections of a plant to their ends. Nobody trusts it: it may lose frames, alter them, change their order and
-/// bring them again, or elsewhere.
+/// A black channel: it brings the frames of all connections of a plant to their ends. It may lose frames, alter them,
+/// change their order, and bring them again or elsewhere.
 pub trait Channel: Drop {
     // Its name.
     ghost name: { Self → List ℕ };
 
-    // What it tells of itself.
+    // What is known of it.
     ghost told: { Self → Told };
 
     /// Its name, by which a configuration picks it. No call changes it.
     fn name(&self) -> &str
         ensures { result.now ≡ name self.now };
 
-    /// Begins anew, with the seed of what it leaves to chance.
+    /// Starts again, with this seed for what it leaves to chance.
     fn begin(&mut self, seed: u64)
         ensures name_stays { name self.new ≡ name self.old }
         ensures begins { Begins seed (told self.old) (told self.new) };
 
-    /// Takes a frame of 1 to 255 bytes that an end sent, and the place where it is to go.
+    /// Takes a frame of 1 to 255 bytes that an end sent, and the place where it goes.
     fn push(&mut self, to: Place, frame: &[u8])
         requires some { 1 ≤ length frame.now }
         requires fits { length frame.now ≤ MOST_FRAME }
         ensures name_stays { name self.new ≡ name self.old }
         ensures pushes { PushesParcel (record { to = to; frame = frame.now }) (told self.old) (told self.new) };
 
-    /// Writes a frame to `out`, in place of what it held, and says where it goes. None where nothing comes: only where the channel's count
-    /// of that rose in this call, or stands at 2^64 - 1.
+    /// Writes a frame to `out`, whose old contents are lost, and returns where it goes. Returns None if nothing comes,
+    /// only if the channel's count of that rose in this call or is 2^64 - 1.
     fn pull(&mut self, out: &mut FrameBuf) -> Option<Place>
         ensures name_stays { name self.new ≡ name self.old }
         ensures pulls { PullsParcel (parcel_of result out.new) (told self.old) (told self.new) };

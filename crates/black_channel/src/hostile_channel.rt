@@ -15,8 +15,8 @@ use rand_pcg::Pcg32;
 use std::alloc::Global;
 use std::marker::Model;
 
-/// A channel by the name `hostile` that loses frames, gives them again, in another order and with a bit turned, as the words of a generator
-/// say. The same seed gives the same words. Contracts see it as what it tells.
+/// A channel by the name `hostile` that loses frames, repeats them, changes their order and flips bits, by the words of
+/// a generator. The same seed gives the same words. In contracts the value is what is known of it.
 #[derive(Drop)]
 pub struct HostileChannel {
     ring: ParcelRing,
@@ -59,7 +59,7 @@ impl GivenLast {
         GivenLast { parcel: None }
     }
 
-    /// Notes the parcel that was given, if any, in place of the one that was given before.
+    /// Stores the parcel that was given, if any, in place of the one before.
     fn note(&mut self, place: Option<Place>, frame: &[u8])
         requires { length frame.now ≤ MOST_FRAME }
         ensures { self.new ≡ option_or (parcel_of place frame.now) self.old }
@@ -78,7 +78,7 @@ impl GivenLast {
         }
     }
 
-    /// Writes the frame of the parcel to `out` and says where it goes. None where there is no parcel.
+    /// Writes the frame of the parcel to `out` and returns where it goes, or None if there is no parcel.
     fn copy(&self, out: &mut FrameBuf) -> Option<Place>
         ensures { parcel_of result out.new ≡ self.now }
     {
@@ -92,7 +92,7 @@ impl GivenLast {
     }
 }
 
-/// Turns the bit of a frame of 1 to 255 bytes that a word names.
+/// Flips the bit of a frame of 1 to 255 bytes that a word names.
 fn turn(word: u32, frame: &mut FrameBuf)
     requires { 1 ≤ length frame.old }
     ensures { frame.new ≡ turned_frame word frame.old }
@@ -101,8 +101,8 @@ fn turn(word: u32, frame: &mut FrameBuf)
     altered(frame, place as u8, 1 << ((word >> 16) % 8));
 }
 
-/// Gives a parcel by a word, where one is under way: takes the oldest, throws it away, leaves it, moves it to the end and takes the next
-/// one, takes it with a bit turned, gives the last one again, or gives none.
+/// Gives a parcel by a word, if one is under way. It takes the oldest, throws it away, leaves it, or moves it to the
+/// end and takes the next one. Or it takes it with a flipped bit, gives the last one again, or gives none.
 fn give_by(word: u32, ring: &mut ParcelRing, last: &GivenLast, out: &mut FrameBuf) -> Option<Place>
     requires some { 1 ≤ length ring.old }
     requires frames { IsRing ring.old }
@@ -148,7 +148,7 @@ fn give(
 }
 
 impl HostileChannel {
-    /// A channel with nothing under way, as after a begin with seed 0. `Memory` where there is none for 1,024 frames.
+    /// Creates a channel as after a begin with seed 0, with nothing under way. `Memory` without room for 1,024 frames.
     pub fn new(alloc: Global) -> Result<HostileChannel, Memory>
         ensures { IfOk result (λ c. c ≡ holding (Chance [] None (generator_of 0)) 0) }
     {

@@ -1,6 +1,6 @@
-//! The channel that nobody trusts: it may bring the frames of one end to the other late, again, altered or
-//! not at all. A window has what one end may get of the other's frames; a channel of a plant carries the frames of all
-//! connections.
+//! The black channel between ends: it may delay, repeat, reorder, corrupt or lose frames. A `Window` has the last
+//! frames of one end, any of which may reach the other; a `Channel` carries the frames of all connections of a plant.
+//! Nothing here tests a frame.
 #![tactic(auto)]
 
 mod altering;

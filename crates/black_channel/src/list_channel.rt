@@ -8,7 +8,7 @@ use fsoe_base::{FrameBuf, MOST_FRAME, Memory};
 use std::alloc::Global;
 use std::marker::Model;
 
-/// A channel by the name `list` that gives listed parcels in order, whatever is pushed, and tells what was pushed and what was given.
+/// A channel by the name `list` that gives listed parcels in order. What was pushed and what was given is known.
 #[derive(Drop)]
 pub struct ListChannel {
     gifts: Vec<Parcel>,
@@ -38,8 +38,8 @@ impl Model for ListChannel {
 }
 
 impl ListChannel {
-    /// A channel that is to give these parcels, and tells what was pushed as long as at most `room` parcels were. `Memory` where there is
-    /// none for so many.
+    /// Creates a channel that gives these parcels. What is pushed is known as long as it is at most `room` parcels.
+    /// `Memory` if there is none for so many.
     pub fn new(alloc: Global, gifts: Vec<Parcel>, room: usize) -> Result<ListChannel, Memory>
         ensures { IfOk result (λ c. c ≡ listing gifts.items room) }
     {

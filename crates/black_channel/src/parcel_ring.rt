@@ -12,7 +12,7 @@ use std::marker::Model;
 /// How many parcels may be under way.
 const MOST_PARCELS: usize = 1024;
 
-/// At most 1,024 parcels in their order. Contracts see them as a list, oldest first. Each lies in a box that is
+/// At most 1,024 parcels in their order. In contracts the value is their list, oldest first. Each lies in a box that is
 /// kept, so that none is moved.
 #[derive(Drop)]
 pub(crate) struct ParcelRing {
@@ -90,7 +90,7 @@ impl ParcelRing {
         self.ring.is_empty()
     }
 
-    /// Writes the frame of the oldest parcel to `out` and says where it goes. None where there is no parcel.
+    /// Writes the frame of the oldest parcel to `out` and returns where it goes, or None if there is no parcel.
     pub(crate) fn copy_oldest(&self, out: &mut FrameBuf) -> Option<Place>
         ensures { parcel_of result out.new ≡ slice_get self.now 0 }
     {
@@ -109,7 +109,7 @@ impl ParcelRing {
         }
     }
 
-    /// Writes the frame of the oldest parcel to `out`, says where it goes, and forgets it. None where there is no parcel.
+    /// Writes the frame of the oldest parcel to `out`, returns where it goes, and forgets it. None if there is none.
     pub(crate) fn take(&mut self, out: &mut FrameBuf) -> Option<Place>
         ensures gift { parcel_of result out.new ≡ (taken self.old).gift }
         ensures left { self.new ≡ (taken self.old).left }

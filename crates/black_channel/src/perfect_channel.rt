@@ -9,8 +9,8 @@ use fsoe_base::{FrameBuf, Memory};
 use std::alloc::Global;
 use std::marker::Model;
 
-/// A channel by the name `perfect` that gives each frame once, unaltered and in order, and loses none while at most 1,024 are under way.
-/// Contracts see it as what it tells.
+/// A channel by the name `perfect` that gives each frame once, unaltered and in order, and loses none while at most
+/// 1,024 are under way. In contracts the value is what is known of it.
 #[derive(Drop)]
 pub struct PerfectChannel {
     ring: ParcelRing,
@@ -29,7 +29,7 @@ impl Model for PerfectChannel {
 }
 
 impl PerfectChannel {
-    /// A channel with nothing under way. `Memory` where there is none for 1,024 frames.
+    /// Creates a channel with nothing under way. `Memory` if there is none for 1,024 frames.
     pub fn new(alloc: Global) -> Result<PerfectChannel, Memory>
         ensures { IfOk result (λ c. c ≡ holding (Ring []) 0) }
     {

@@ -6,11 +6,11 @@ use arrayvec::ArrayVec;
 use fsoe_base::{FrameBuf, MOST_FRAME};
 use std::marker::Model;
 
-/// The last 64 frames of one end, of which a channel may bring any again. It takes no memory.
+/// The last 64 frames of one end, of which a channel may bring any again. Doesn't allocate.
 #[derive(Debug, Drop)]
 pub struct Window {
     ring: ArrayVec<FrameBuf, 64>,
-    /// The place of the oldest frame, where the next one goes once all 64 places are taken.
+    /// The place of the oldest frame, where the next one goes after all 64 places are used.
     next: usize,
     sent: u64,
 }
@@ -38,7 +38,7 @@ impl Window {
         }
     }
 
-    /// Takes the next frame, of at most 255 bytes, and forgets the oldest one where it has 64.
+    /// Stores the next frame, of at most 255 bytes, and forgets the oldest one if there are 64.
     #[tactic(auto, using(crate::proofs::Pushed::pushes_by))]
     pub fn push(&mut self, frame: &[u8])
         requires { length frame.now ≤ MOST_FRAME }
@@ -72,7 +72,7 @@ impl Window {
         self.sent
     }
 
-    /// The `j`-th frame back: the newest for 1, the oldest that may be asked for 64. None exactly where fewer than `j` were pushed.
+    /// Returns the `j`-th frame back, the newest for `j` = 1, at most 64 back, or None if fewer than `j` were pushed.
     #[tactic(auto, using(crate::proofs::Pushed::tells_by))]
     pub fn look_back(&self, j: u8) -> Option<&FrameBuf>
         requires some { 1 ≤ j }
@@ -104,8 +104,8 @@ impl Window {
         Some(&self.ring[place])
     }
 
-    /// Writes the `j`-th frame back to `out`, in place of what it held, as `look_back` gives it.
-    /// False exactly where fewer than `j` were pushed; then `out` is as it was.
+    /// Writes the `j`-th frame back, as `look_back` gives it, to `out`, whose old contents are lost. Returns false if
+    /// fewer than `j` were pushed; then `out` is unchanged.
     pub fn back(&self, j: u8, out: &mut FrameBuf) -> bool
         requires some { 1 ≤ j }
         requires within { j ≤ 64 }

@@ -14,8 +14,8 @@ use param_load::Terms;
 use schedule_file::Event;
 use slave_core::Slave;
 
-/// What an end did at an event, and the frame that it sent, no bytes where it sent none. It is kept from one event to the next, so
-/// that no frame is made anew.
+/// What an end did at an event, and the frame that it sent, no bytes if it sent none. It is kept from one event to the
+/// next, so that no frame is made anew.
 #[derive(Drop)]
 pub(crate) struct Answer {
     pub(crate) did: Did,
@@ -122,7 +122,7 @@ pub(crate) fn copied(terms: Option<&Terms>) -> Option<Terms>
     }
 }
 
-/// Takes the frame of a step into the window of its end, if one was sent.
+/// Stores the frame of a step in the window of its end, if one was sent.
 #[tactic(auto, using(crate::proofs::Pair::Heard::hears_frame, crate::proofs::Pair::Heard::hears_none))]
 pub(crate) fn hear(window: &mut Window, sent: &FrameBuf)
     ensures { Hears window.old sent.now window.new }

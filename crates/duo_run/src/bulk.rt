@@ -1,4 +1,4 @@
-//! The summary of a number's schedule.
+//! The summary of a seed's schedule.
 ghost use Rattle.std.specs.Prelude.{◌≡◌, ◌≤◌, ◌+◌, ◌++◌, length};
 ghost use Rattle.schedule_file.specs.Made.{made_master, made_slave};
 ghost use Rattle.exchange_model.specs.Other.{first_other};
@@ -16,7 +16,7 @@ use fsoe_base::{End, State};
 use fsoe_io::{Ended, LineText, Sink};
 use schedule_file::{Event, Maker};
 
-/// Does the first so many events of a number with a new pair: what is told of their entries, and the number of the first other one.
+/// Runs a new pair on the first `events` events of a seed: the summary, and the number of the first `other` event.
 fn summarize(number: u64, events: u64) -> (Summary, Option<u64>)
     ensures summary { result.0 ≡ summary_of (entries_of number events) }
     ensures other { result.1 ≡ first_other (entries_of number events) }
@@ -37,7 +37,7 @@ fn summarize(number: u64, events: u64) -> (Summary, Option<u64>)
     (summary, duo.other())
 }
 
-/// Appends a line that tells a number of each end.
+/// Appends a line with a number of each end.
 fn push_ends(word: &str, master: u64, slave: u64, text: &mut LineText)
     requires word { length word.now ≤ 10 }
     requires room { length text.old ≤ 500 }
@@ -52,7 +52,7 @@ fn push_ends(word: &str, master: u64, slave: u64, text: &mut LineText)
     text.push(b"\n");
 }
 
-/// Appends the line that tells the state of each end.
+/// Appends the line with the state of each end.
 fn push_states(master: State, slave: State, text: &mut LineText)
     requires { length text.old ≤ 500 }
     ensures text { text.new ≡ text.old ++ state_line master slave }
@@ -77,7 +77,7 @@ fn push_summary(summary: &Summary, text: &mut LineText)
     push_states(master.state, slave.state, text);
 }
 
-/// Appends the first line, which tells the number and how many of its events were done.
+/// Appends the first line, with the seed and the number of events done.
 fn push_title(number: u64, events: u64, text: &mut LineText)
     requires { length text.old ≤ 10 }
     ensures text { text.new ≡ text.old ++ number_line number events }
@@ -106,12 +106,13 @@ fn write_summary(
     push_other(other, text);
 }
 
-/// Does the first so many events of a number with a new pair, and writes a summary of six lines: the number and how many
-/// of its events were done; of each end the data frames that it took, the events with a reset and those with a dropped frame, and its last state; and
-/// the number of the first other event, if there is one. No event names a frame that wasn't sent, so all are done.
+/// Makes the schedule of the seed `number`, runs a new pair on its first `events` events, and writes a summary of six
+/// lines. The first has both numbers, the last that of the first `other` event, if any. The others have, of each end,
+/// the data frames that it took, the events with a reset, those with a dropped frame, and the last state. No event
+/// names a frame that wasn't sent, so all are done. Doesn't allocate.
 ///
-/// The status is `Ok` with place 0; `Other` with the number of the first other event; or `Write` with the bytes written, only where the
-/// sink failed. It takes no memory.
+/// The status is `Ok` with place 0, or `Other` with the number of the first `other` event. `Write` has the bytes
+/// written, only if the sink failed.
 pub fn run_bulk<K: Sink>(number: u64, events: u64, sink: &mut K) -> Ended
     ensures { RanBulk number events result (record {
       before = K.written sink.old;

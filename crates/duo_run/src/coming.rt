@@ -24,7 +24,7 @@ pub(crate) fn end_of(event: &Event) -> End
     }
 }
 
-/// Writes the frame as it comes to `copy`, where the event alters one and it was sent.
+/// Writes the frame as it comes to `copy`, if the event alters one and it was sent.
 pub(crate) fn alter(event: &Event, heard: &Window, copy: &mut FrameBuf)
     requires { IsWritable event.now }
     ensures { IsAltered heard.now.frames event.now copy.new }
@@ -38,14 +38,14 @@ pub(crate) fn alter(event: &Event, heard: &Window, copy: &mut FrameBuf)
         && let Some(frame) = heard.look_back(*back)
     {
         copy.set(frame.bytes());
-        // The frame has this place, since the event fits; a window doesn't tell how long its frames are.
+        // The frame has this place, since the event fits; a window doesn't know how long its frames are.
         if usize::from(*pos) < copy.len() {
             altered(copy, *pos, *mask);
         }
     }
 }
 
-/// The bytes that come at an event, none where nothing does: a frame of the window of those that the peer sent, or its altered copy.
+/// The bytes that come at an event, none if nothing does: a frame in the peer's window, or its altered copy.
 pub(crate) fn came<'a>(
     event: &'a Event,
     heard: &'a Window,

@@ -81,7 +81,7 @@ impl PairReading {
         }
     }
 
-    /// Takes the line of this number, from 1, and writes what it is converted to: whether it is the last. Or tells why it is refused.
+    /// Takes a line, with its number from 1, and converts it. Returns whether it is the last, or why it is refused.
     fn take(&mut self, number: u64, line: &[u8], text: &mut LineText) -> Result<bool, Refusal>
         requires { length line.now ≤ MAX_LINE }
         ensures takes { Takes result self.new text.new (line_taken number self.old line.now) }
@@ -154,7 +154,7 @@ impl PairReading {
     }
 }
 
-/// Takes the next line, and writes what it is converted to: whether it is the last. Or tells why there is none.
+/// Takes the next line, and writes what it is converted to. Returns whether it is the last, or why there is none.
 fn next_taken<S: Source>(
     reader: &mut LineReader,
     source: &mut S,
@@ -182,13 +182,14 @@ fn next_taken<S: Source>(
     }
 }
 
-/// Writes a pair file as a file of several pairs, of which it is the only one: its first line gives the lines `fsoe 2 pairs` and
-/// `pair 1`, its header lines from the second on stand as they are, each event line gets `1 ` before it, and `end` stands. Where a line is refused,
-/// as a replay refuses it that looks at no frame that was sent, it writes `refused <line> <cause>` in its place. What waits for output is sent
-/// before a read that may block, and when the run ends. It takes no memory.
+/// Converts a pair file into a file of several pairs with this single pair. The first line becomes the lines
+/// `fsoe 2 pairs` and `pair 1`. The other header lines and `end` are copied, and each event line gets `1 ` before it.
+/// If a replay would refuse a line without looking at the frames that were sent, it writes `refused <line> <cause>` in
+/// its place. Buffered output is flushed before each read that may block, and at the end of the run. Doesn't allocate.
 ///
-/// The status is `Ok` exactly where the input stops by `end` and neither the source nor the sink failed; `Line` with the number of the refused
-/// line; `Read` with the whole lines read, only where the source failed; or `Write` with the bytes written, only where the sink failed.
+/// The status is `Ok` if and only if the input ends with `end` and neither the source nor the sink failed. `Line` has
+/// the number of the refused line. `Read` has the complete lines read, only if the source failed; `Write` has the bytes
+/// written, only if the sink failed.
 pub fn run_convert<S: Source, K: Sink>(source: &mut S, sink: &mut K) -> Ended
     ensures { RanConvert result (record {
       source = record { before = S.left source.old; after = S.left source.new; faults_before = S.faults source.old; faults_after = S.faults source.new };

@@ -13,8 +13,8 @@ use schedule_file::Event;
 use slave_core::Slave;
 use std::marker::Model;
 
-/// Both ends of a connection, with the channel between them: the last frames of each end, of which any may come to the other, again
-/// too. A monitor judges the run. No call takes memory.
+/// Both ends of a connection, with a channel that stores the last frames of each end: any of these can be delivered to
+/// the other end, also repeatedly. A monitor judges the run. No call allocates.
 #[derive(Debug, Drop)]
 pub struct Duo {
     master: Master,
@@ -49,7 +49,7 @@ impl Duo {
     ghost use Rattle.duo_run.specs.Duo.{sent_by, lengths_of, profiles_of, steps_done, DuoStands, Steps, Advances, Misses, ShowsLast};
     ghost use Rattle.duo_run.specs.Acts.{Happens};
 
-    /// Two new ends with these settings, which have the same lengths.
+    /// Creates two new ends with these settings, which have the same lengths.
     #[tactic(auto, using(crate::proofs::Pair::Began::stands_new, crate::proofs::Pair::Began::is_duo))]
     pub fn new(master: MasterSettings, slave: SlaveSettings) -> Duo
         requires { SameLengths master slave }
@@ -68,8 +68,8 @@ impl Duo {
         }
     }
 
-    /// Does an event at its end, and tells the entry. `NoSuchFrame` exactly where the event names a frame further back than its peer
-    /// sent; then nothing is changed. The event fits the lengths and the profiles, and fewer than 2^64 - 1 steps were done before.
+    /// Does one event, and returns the entry. `NoSuchFrame` if and only if it names a frame further back than the peer
+    /// sent; then nothing changes. It must fit the lengths and the profiles, after fewer than 2^64 - 1 steps.
     #[tactic(auto, using(crate::proofs::Pair::Stepped::steps_by, crate::proofs::Pair::Stepped::misses_by))]
     pub fn step(&mut self, event: &Event) -> Result<Entry, StepFault>
         requires fits { Fits (length_of (lengths_of self.old)) (profile_of (profiles_of self.old)) event.now }
@@ -96,8 +96,8 @@ impl Duo {
         })
     }
 
-    /// Does an event at its end, as `step` does, and makes no entry: what the end did and the frame that it sent are written to
-    /// `answer`, and the rest of the entry is read from the end.
+    /// Does one event, as `step` does, and makes no entry. What the end did and the frame that it sent are written to
+    /// `answer`; the rest of the entry is read from the end.
     pub(crate) fn advance(&mut self, event: &Event, answer: &mut Answer) -> Result<(), StepFault>
         requires fits { Fits (length_of (lengths_of self.old)) (profile_of (profiles_of self.old)) event.now }
         requires fewer { steps_done self.old + 1 < 2 ^ 64 }
@@ -189,7 +189,7 @@ impl Duo {
         }
     }
 
-    /// The terms of an end, exactly in state Data.
+    /// The terms of an end, None in every state except Data.
     #[tactic(auto, using(crate::proofs::Pair::Told::master_terms, crate::proofs::Pair::Told::slave_terms))]
     fn terms_of(&self, at: End) -> Option<&Terms>
         ensures { ShowsLast self.now at (option_copied result) (λ x. x.terms) }
@@ -200,21 +200,21 @@ impl Duo {
         }
     }
 
-    /// The number of the first other entry, from 1; None exactly where no entry so far is other.
+    /// Returns the number, from 1, of the first `other` entry so far, or None if there is none.
     pub fn other(&self) -> Option<u64>
         ensures { (ms : MasterSettings) (ss : SlaveSettings) (w : List Entry) → DuoStands ms ss self.now w → result ≡ first_other w }
     {
         self.monitor.other()
     }
 
-    /// The master, to be read.
+    /// Returns the master, to read it.
     pub fn master(&self) -> &Master
         ensures { result.now ≡ self.now.master }
     {
         &self.master
     }
 
-    /// The slave, to be read.
+    /// Returns the slave, to read it.
     pub fn slave(&self) -> &Slave
         ensures { result.now ≡ self.now.slave }
     {

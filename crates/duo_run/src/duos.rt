@@ -9,7 +9,7 @@ use param_load::{Entry, MasterSettings, SlaveSettings};
 use schedule_file::Event;
 use std::marker::Model;
 
-/// From 1 to 16 pairs, numbered from 1 in their order, each with its own channel and its own monitor. No call but `new` takes memory.
+/// From 1 to 16 pairs, numbered from 1, each with its own channel and its own monitor. Only `new` allocates.
 #[derive(Drop)]
 pub struct Duos {
     pub(crate) pairs: Vec<Duo>,
@@ -37,7 +37,7 @@ impl Duos {
     ghost use Rattle.duo_run.specs.Duo.{DuoStands, Misses, lengths_of, profiles_of, steps_done};
     ghost use Rattle.duo_run.specs.PairsStanding.{StepsAt};
 
-    /// Pairs of new ends with these settings, in this order: the ends of each have the same lengths.
+    /// Creates pairs of new ends with these settings, in this order: the ends of each have the same lengths.
     pub fn new(pairs: Vec<(MasterSettings, SlaveSettings)>) -> Result<Duos, Memory>
         requires some { 1 ≤ vec_len pairs }
         requires most { vec_len pairs ≤ 16 }
@@ -55,9 +55,9 @@ impl Duos {
         Ok(Duos { pairs: duos })
     }
 
-    /// Does an event at its end of the pair of this number, as `Duo::step` does, and tells the entry. `NoSuchFrame` exactly where the event
-    /// names a frame further back than its peer sent; then nothing is changed. The other pairs stay as they are. The event fits the
-    /// lengths and the profiles of the pair, of which fewer than 2^64 - 1 steps were done before.
+    /// Does one event of the pair of this number, as `Duo::step` does, and returns the entry. `NoSuchFrame` if and only
+    /// if it names a frame further back than the peer sent; then nothing changes. The remaining pairs don't change. The
+    /// event must fit the lengths and the profiles of the pair, after fewer than 2^64 - 1 steps of it.
     pub fn step(&mut self, pair: u16, event: &Event) -> Result<Entry, StepFault>
         requires first { 1 ≤ pair }
         requires last { pair ≤ length self.old }
@@ -72,8 +72,8 @@ impl Duos {
         self.pairs[usize::from(pair) - 1].step(event)
     }
 
-    /// The number of the first other entry of the pair of this number, among its own, from 1; None exactly where no entry of it so far is
-    /// other.
+    /// Returns the number, from 1, of the first `other` entry among those of this pair, or None if there is none so
+    /// far.
     pub fn other(&self, pair: u16) -> Option<u64>
         requires first { 1 ≤ pair }
         requires last { pair ≤ length self.now }

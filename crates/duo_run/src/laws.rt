@@ -35,46 +35,46 @@ ghost use Rattle.duo_run.specs.PairsReport.{PairsInput, PairsReports};
 ghost use Rattle.duo_run.specs.Ran.{Ran};
 ghost use Rattle.duo_run.specs.Replay.{ReplayReports};
 
-/// The entries of a new pair over any list of events are the world of that schedule, for which it stands then.
+/// The entries of a new pair over any list of events are the world of that schedule, which the pair then represents.
 pub fn steps()
     ensures world { (ms : MasterSettings) (ss : SlaveSettings) (first last : DuoView) (events : List Event) (w : List Entry) → DuoStands ms ss first [] → Ran first events [] last w → w ≡ world ms ss events }
     ensures stands { (ms : MasterSettings) (ss : SlaveSettings) (first last : DuoView) (events : List Event) (w : List Entry) → DuoStands ms ss first [] → Ran first events [] last w → DuoStands ms ss last w }
 {}
 
-/// The entries of a pair before the first other one, all where there is none, are fair.
+/// The entries of a pair before the first `other` entry, all if there is none, are fair.
 pub fn fair()
     ensures { (ms : MasterSettings) (ss : SlaveSettings) (v : DuoView) (w : List Entry) → SameLengths ms ss → DuoStands ms ss v w → Fair ms.lengths (before_other w) }
 {}
 
-/// Over an honest schedule of proper events between matching ends a new pair refuses no event, and its entries serve and are
-/// fair.
+/// Over an honest schedule of proper events between matching ends a new pair refuses no event, and its entries fulfil
+/// `Serves` and `Fair`.
 pub fn honest()
     ensures serves { (ms : MasterSettings) (ss : SlaveSettings) (first last : DuoView) (events : List Event) (w : List Entry) → Match ms ss → All (IsProperEvent ms ss) events → IsHonest ms ss events → DuoStands ms ss first [] → Ran first events [] last w → Serves ms events w }
     ensures fair { (ms : MasterSettings) (ss : SlaveSettings) (first last : DuoView) (events : List Event) (w : List Entry) → Match ms ss → All (IsProperEvent ms ss) events → IsHonest ms ss events → DuoStands ms ss first [] → Ran first events [] last w → Fair ms.lengths w }
 {}
 
-/// The entries of one end of a pair are those of the run of that end's own events alone.
+/// The entries of one end of a pair are those of the run of only that end's own events.
 pub fn projection()
     ensures { (ms : MasterSettings) (ss : SlaveSettings) (which : End) (v : DuoView) (w : List Entry) → DuoStands ms ss v w → of_end which w ≡ entries (setup_of ms ss which) (run (setup_of ms ss which) (moves which w)) }
 {}
 
-/// An input has one report of both ends, and a run that writes it ends in one way: its header, where it is whole, says all that the
-/// ends are set to, and no more than they may be set to.
+/// For each input there is exactly one report of both ends and exactly one status with its place. A complete header has
+/// all settings of both ends, and all of them are valid.
 pub fn one_replay()
     ensures some { (bytes : List ℕ) → (report : List ℕ) × (ended : Ended) × ReplayReports (input_of kind.Pair bytes) ended report }
     ensures one_text { (input : Input) (a b : Ended) (x y : List ℕ) → ReplayReports input a x → ReplayReports input b y → x ≡ y }
     ensures one_ending { (input : Input) (a b : Ended) (x y : List ℕ) → ReplayReports input a x → ReplayReports input b y → a ≡ b }
 {}
 
-/// An input has one report of several pairs, and a run that writes it ends in one way.
+/// For each input there is exactly one report of several pairs, and exactly one status with its place.
 pub fn one_replay_of_pairs()
     ensures some { (bytes : List ℕ) → (report : List ℕ) × (ended : Ended) × PairsReports (pairs_input bytes) ended report }
     ensures one_text { (input : PairsInput) (a b : Ended) (x y : List ℕ) → PairsReports input a x → PairsReports input b y → x ≡ y }
     ensures one_ending { (input : PairsInput) (a b : Ended) (x y : List ℕ) → PairsReports input a x → PairsReports input b y → a ≡ b }
 {}
 
-/// Line by line, what a pair file is converted to says the same of the only pair: the lines that its first line gives, each later line of its
-/// header, each event line, and the last line.
+/// Line by line, a converted file means the same as the pair file. That holds for the lines that its first line gives,
+/// each later header line, each event line, and the last line.
 pub fn converted_lines_say_the_same()
     ensures title { heading_after (heading_new kind.Pair) (codes "fsoe 1 pair") ≡ Ok pair_begun }
     ensures first { pairs_heading_after pairs_heading_new (codes "fsoe 2 pairs") ≡ Ok (record pairs_heading_new { stage = stage.Title }) }
@@ -84,15 +84,15 @@ pub fn converted_lines_say_the_same()
     ensures last { (h : Heading) → pairs_said_after (only_pair h) (codes "end") ≡ Ok pairs_said.End }
 {}
 
-/// What a pair file that stops by `end` is converted to is read as a file of one pair, with the same header, the same events and the same stop;
-/// and this pair's entries over these events, as they are done among those of all, are those of the pair by itself.
+/// If a pair file ends with `end`, the converted file is read as a file of one pair, with the same header, the same
+/// events and the same end. The entries of this pair are the same in both runs.
 pub fn conversions_say_the_same()
     ensures world { (p : Pair) (events : List Event) → world_of 1 p (events_done (p ∷ []) (map (λ event. pairs_event.One 1 event) events)) ≡ world p.master p.slave events }
     ensures input { (bytes : List ℕ) → (input_of kind.Pair bytes).stop ≡ AtEnd → IfSome (input_of kind.Pair bytes).heading (λ h. IsOnePair h (input_of kind.Pair bytes).events (pairs_input (converted bytes))) }
 {}
 
-/// What pair files are converted to: one with an event, which names a frame that wasn't sent, and two that are refused, in the header and
-/// after an event.
+/// What pair files are converted to. One has an event that names a frame that wasn't sent; two are refused, in the
+/// header and after an event.
 pub fn worked_conversions()
     ensures whole { converted (codes "fsoe 1 pair\nlengths 2 2\nmaster 1 2 100 1\nslave 2 200 1000 2\nrule any 0\ngo\ndm -1\nend\n") ≡ codes "fsoe 2 pairs\npair 1\nlengths 2 2\nmaster 1 2 100 1\nslave 2 200 1000 2\nrule any 0\ngo\n1 dm -1\nend\n" }
     ensures header { converted (codes "fsoe 1 pair\nlengths 2 2\ngo\n") ≡ codes "fsoe 2 pairs\npair 1\nlengths 2 2\n" ++ refused_line 3 (Line cause.Header) }

@@ -1,7 +1,7 @@
-//! Both ends of a connection over a schedule: each event happens at one of them, and a frame that comes is one of those that its peer
-//! sent, as it was or with one byte altered, or is invented. `specs` says what the definitions of a world have to do with it.
-//! `run_pair` does so over a pair file, from bytes to bytes; `run_replay` also over a file of several pairs with common ticks, as its
-//! first line says; `run_bulk` over the schedule of a number. `run_convert` writes a pair file as a file of several pairs.
+//! Runs both ends of a connection on a schedule of events, each at one end. A delivered frame is one that the peer
+//! sent, unchanged or with one altered byte, or an invented one. The commands `replay`, `bulk` and `convert` run here,
+//! over pair files, files of several pairs, and schedules of seeds. `specs` ties all of it to the definition of a
+//! world.
 #![tactic(auto)]
 
 mod acting;

@@ -19,7 +19,7 @@ use fsoe_base::{End, MOST_DATA, Memory, State};
 use fsoe_io::{Ended, LineText, Sink, Source};
 use schedule_file::{Event, Header, HeaderKind, MAX_EVENTS, end_letter};
 
-/// Appends what the line of an entry tells after its numbers, of an end with this state and these outputs.
+/// Appends what the line of an entry has after its numbers, of an end with this state and these outputs.
 pub(crate) fn push_told(at: End, state: State, outputs: &[u8], answer: &Answer, text: &mut LineText)
     requires outputs { length outputs.now ≤ MOST_DATA }
     requires room { length text.old ≤ 60 }
@@ -50,7 +50,7 @@ fn write_entry(
     push_told(at, state, outputs, answer, text);
 }
 
-/// Writes the last lines of a run of so many entries, of which the first other one has this number.
+/// Writes the last lines of a run of `events` entries, with the number of the first `other` entry.
 fn write_closing(events: u64, other: Option<u64>, text: &mut LineText)
     ensures { text.new ≡ events_line events ++ other_line other }
 {
@@ -147,14 +147,15 @@ impl Machine for PairRun {
     }
 }
 
-/// Runs both ends over a pair file: reads its header, then an event a line up to `end`, and writes a line for each entry,
-/// `<n> <m or s> <did> <state> <outputs>` and ` > <frame>` where a frame was sent, and at the end `events <n>` and `other none` or
-/// `other <n>`, with the number of the first other entry. Where a line is refused, also as it names a frame that wasn't sent, it
-/// writes `refused <line> <cause>`. What waits for output is sent before a read that may block, and when the run ends.
+/// Runs both ends over a pair file: reads its header, then an event from each line up to `end`. For each entry it
+/// writes a line `<n> <m or s> <did> <state> <outputs>`, with ` > <frame>` if a frame was sent. At the end it writes
+/// `events <n>`, and `other none` or `other <n>` with the number of the first `other` entry. If a line is refused, also
+/// because it names a frame that wasn't sent, it writes `refused <line> <cause>`. Buffered output is flushed before
+/// each read that may block, and at the end of the run.
 ///
-/// The status is `Ok` with place 0 where no entry is other; `Other` with the number of the first other entry; `Line` with the
-/// number of the refused line; `Read` with the whole lines read, only where the source failed; or `Write` with the bytes written,
-/// only where the sink failed.
+/// The status is `Ok` with place 0, or `Other` with the number of the first `other` entry. `Line` has the number of the
+/// refused line. `Read` has the complete lines read, only if the source failed; `Write` has the bytes written, only if
+/// the sink failed.
 pub fn run_pair<S: Source, K: Sink>(source: &mut S, sink: &mut K) -> Ended
     ensures { RanPair result (record {
       source = record { before = S.left source.old; after = S.left source.new; faults_before = S.faults source.old; faults_after = S.faults source.new };

@@ -19,7 +19,7 @@ use fsoe_base::End;
 use fsoe_io::LineText;
 use schedule_file::Event;
 
-/// Ticks all slaves, in the order of pairs, and then all masters. Their lines wait.
+/// Ticks all slaves, in the order of pairs, and then all masters. Their lines are buffered.
 fn tick_pairs(
     duos: &mut [Duo],
     others: &mut [Option<u64>],

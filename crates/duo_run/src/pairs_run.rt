@@ -94,7 +94,7 @@ fn settings_of(
     Ok(settings)
 }
 
-/// That no event has an other entry of any of so many pairs.
+/// The list for `count` pairs without an `other` entry.
 fn no_others(count: usize, alloc: Global) -> Result<Vec<Option<u64>>, Memory>
     ensures { IfOk result (λ others. others.items ≡ replicate count None) }
 {
@@ -126,7 +126,7 @@ fn least(numbers: &[Option<u64>]) -> Option<u64>
     least
 }
 
-/// Appends the closing line of each pair to what waits.
+/// Appends the closing line of each pair to the pending text.
 fn push_closing(others: &[Option<u64>], telling: &mut Telling)
     requires few { length others.now ≤ 16 }
     requires empty { telling.old.waiting.text ≡ [] }
@@ -143,11 +143,11 @@ fn push_closing(others: &[Option<u64>], telling: &mut Telling)
     }
 }
 
-/// Several pairs over the lines of a source. All memory is taken before the first event.
+/// Several pairs over the lines of a source. All memory is allocated before the first event.
 #[derive(Drop)]
 pub(crate) struct PairsRun {
     duos: Duos,
-    /// The number of the event with the first other entry of each pair.
+    /// The number of the event with the first `other` entry of each pair.
     others: Vec<Option<u64>>,
     /// How many entries were made.
     entries: u64,

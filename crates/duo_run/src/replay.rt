@@ -10,15 +10,16 @@ use std::alloc::Global;
 /// The first line of an input of several pairs.
 const TITLE: &[u8] = b"fsoe 2 pairs";
 
-/// Runs the pairs of an input, of whichever version it is. Where the first line is `fsoe 2 pairs`, the input has several pairs with common
-/// ticks: for each event it writes a line of each entry, `<n> <k> <m or s> <did> <state> <outputs>` and ` > <frame>` where a frame was
-/// sent, with the numbers of the event and of the pair, of a tick first those of all slaves and then those of all masters, and at the end
-/// `events <n>` and for each pair `pair <k> other none` or `pair <k> other <n>`, with the number of the event with its first other entry.
-/// Any other input is run as `run_pair` runs it. Where a line is refused, also as it names a frame that wasn't sent, it writes
-/// `refused <line> <cause>`. What waits for output is sent before a read that may block, and when the run ends.
+/// Runs the pairs of an input of either version. If the first line is `fsoe 2 pairs`, the input has several pairs with
+/// common ticks; any other input is run as `run_pair` does.
 ///
-/// The status is as of `run_pair`, with the least number of an event with an other entry at `Other`; or `Memory` with place 0, only of
-/// several pairs, where there was none before the first event: then nothing was written.
+/// For each event it writes a line of each entry, `<n> <k> <m or s> <did> <state> <outputs>`, with ` > <frame>` if a
+/// frame was sent: `n` is the event, `k` the pair. For a tick the lines of all slaves come first, then those of all
+/// masters. At the end it writes `events <n>`, and for each pair `pair <k> other none` or `pair <k> other <n>`, with
+/// the event of its first `other` entry. Refused lines and the output are handled as in `run_pair`.
+///
+/// The status is that of `run_pair`, and the place of `Other` is the smallest event with an `other` entry. For several
+/// pairs it is `Memory` with place 0 if there was none before the first event; then nothing was written.
 pub fn run_replay<S: Source, K: Sink>(mut alloc: Global, source: &mut S, sink: &mut K) -> Ended
     ensures { RanReplay result (record {
       source = record { before = S.left source.old; after = S.left source.new; faults_before = S.faults source.old; faults_after = S.faults source.new };

@@ -1,10 +1,10 @@
-//! What is told of both ends over their entries.
+//! What is counted of both ends over their entries.
 ghost use Rattle.std.specs.Prelude.{◌≡◌, ◌+◌, is_some, if◌then◌else◌};
 ghost use Rattle.exchange_model.specs.Fair.{data_taken};
 
 use fsoe_base::{Command, Did, End, State};
 
-/// What a summary tells of an end: in how many entries it took a data frame, was reset and dropped a frame, and the state that it told last.
+/// What a summary has of an end: how many entries took a data frame, reset it and dropped a frame; its last state.
 #[derive(Clone, Copy)]
 pub(crate) struct Counts {
     pub(crate) taken: u64,

@@ -23,7 +23,7 @@ use std::alloc::Global;
 pub(crate) struct Telling {
     /// What an end did last.
     pub(crate) answer: Answer,
-    /// A line on its way to those that wait.
+    /// A line on its way to the buffered ones.
     pub(crate) line: LineText,
     /// The lines of an event, or of the end, that aren't written where they are handed out.
     pub(crate) waiting: Waiting,
@@ -74,7 +74,7 @@ pub(crate) fn tell(
     }
 }
 
-/// Ticks this end of each pair, in their order, and appends the lines to what waits.
+/// Ticks this end of each pair, in their order, and appends the lines to the pending text.
 pub(crate) fn tick_all(duos: &mut [Duo], at: End, number: u64, telling: &mut Telling)
     requires stand { CanStep duos.old }
     requires few { length duos.old ≤ 16 }
@@ -94,8 +94,8 @@ pub(crate) fn tick_all(duos: &mut [Duo], at: End, number: u64, telling: &mut Tel
     }
 }
 
-/// The number of the event with the first other entry of a pair, by that of before, and by its first other entry at the event of this
-/// number.
+/// The number of the event with the first `other` entry of a pair, by the one before, and by the pair's first `other`
+/// entry at this event.
 fn noted(before: Option<u64>, other: Option<u64>, number: u64) -> Option<u64>
     ensures { result ≡ first_of_both before (is_some other) number }
 {
@@ -106,7 +106,7 @@ fn noted(before: Option<u64>, other: Option<u64>, number: u64) -> Option<u64>
     }
 }
 
-/// Notes this event for each pair that has an other entry and had none before.
+/// Notes this event for each pair that has an `other` entry and had none before.
 pub(crate) fn note_others(duos: &[Duo], number: u64, others: &mut [Option<u64>])
     requires { length others.old ≡ length duos.now }
     ensures { NotesOthers number duos.now others.old others.new }

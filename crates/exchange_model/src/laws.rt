@@ -30,8 +30,8 @@ ghost use Rattle.exchange_model.specs.WorkedItems.{Answering, AnsweringLate, Car
 ghost use Rattle.exchange_model.specs.WorkedSchedules.{Mismatches, NotPlain, OutOfTurn, TickedLate};
 ghost use Rattle.exchange_model.specs.WorkedRuns.{FirstData, ByteByByte, LongestFrames, ProfileTwo, NumberStepped, NoFrame, OtherAddress, LongWatchdog, NoParameters, HighParameter, ForgedWatchdog, OtherWord, OtherProfile, OtherProfileLater, Repeated, AlteredGroup, OldData, FiveTicks, AnswerUnderWay, OldSession, ForgedData, HeldSlave, OldConnection, EqualIds, FreshId, FirstDataFair, AnswerUnderWayFair, OldSessionFair, HeldSlaveFair, ProfileTwoFair, ForgedDataFair, OldConnectionFair, Honest, HonestTicks, Exchanges};
 
-/// A schedule of proper events makes a world, each of whose entries is the next one of its end; and in each world the
-/// entries of an end are those of the run of that end's own events alone.
+/// A schedule of proper events makes a world, each of whose entries is the next one of its end. In each world the
+/// entries of an end are those of the run of only that end's own events.
 #[tactic(auto, using(crate::proofs::Worlds::Projection::world_is_world, crate::proofs::Worlds::Projection::projection))]
 pub fn worlds()
     ensures schedule { (ms : MasterSettings) (ss : SlaveSettings) (events : List Event) → All (IsProperEvent ms ss) events → IsWorld ms ss (world ms ss events) }
@@ -44,27 +44,27 @@ pub fn frames()
     ensures { (which : End) (w : List Entry) → map (λ i. i.bytes) (items_of which (items w)) ≡ frames_of which w }
 {}
 
-/// In each world of ends with equal lengths the outputs after each entry are those that looking back gives, whatever
-/// comes: this part of a fair run rests on no premise. Looking back over the entries that a run of an end tells is looking
-/// back over its deeds.
+/// In each world of ends with equal lengths the outputs after each entry are those that the definition gives, whatever
+/// comes: this part of a fair run needs no premise. The definition gives the same from the entries of an end as from
+/// its deeds.
 #[tactic(auto, using(crate::proofs::Fairness::Shown::outputs_are_due, crate::proofs::Fairness::Shown::due_is_out))]
 pub fn outputs()
     ensures shown { (ms : MasterSettings) (ss : SlaveSettings) (w : List Entry) → SameLengths ms ss → IsWorld ms ss w → OutputsAreDue ms.lengths w }
     ensures of_deeds { (s : Setup) (e : List Deed) → IsRun s e → outputs_due (receives s) (entries s e) ≡ out s e }
 {}
 
-/// In each world no item is awaited at two entries in which its awaiter takes data, whatever comes: this part of a fair run
-/// rests on no premise either.
+/// In each world no item is awaited at two entries in which its awaiter takes data, whatever comes: this part of a fair
+/// run needs no premise either.
 #[tactic(auto, using(crate::proofs::Fairness::Once::at_most_once))]
 pub fn data_once()
     ensures { (ms : MasterSettings) (ss : SlaveSettings) (which : End) (w : List Entry) → IsWorld ms ss w → IsDistinct nat_eq (numbers_taken which w) }
 {}
 
-/// The law of the pair, for both ends' settings with equal lengths and every schedule of proper events. Where no guarded
-/// frame but the awaited one passes a receiver's test of the CRCs, the run is fair: the data that an end takes are those that
-/// its peer put into its answer to that end's last frame, under equal terms and once, and all other outputs are fail-safe.
-/// Without that premise the entries before the first other one are fair. In each world without another entry data are taken
-/// from the awaited item alone.
+/// The law of the pair, for both ends' settings with equal lengths and every schedule of proper events. If the awaited
+/// frame is the only guarded frame that passes a receiver's CRC test, the run is fair. Then an end takes only data that
+/// its peer put into its answer to the last frame of this end, under equal terms and once. All other outputs are
+/// fail-safe. Without that premise the entries before the first `other` entry are fair. In each world without an
+/// `other` entry data are taken only from the awaited item.
 #[tactic(auto, using(crate::proofs::Fairness::Headline::fair_run, crate::proofs::Fairness::Headline::fair_before, crate::proofs::Fairness::Headline::takes_awaited))]
 pub fn headline()
     ensures fair { (ms : MasterSettings) (ss : SlaveSettings) (events : List Event) → SameLengths ms ss → All (IsProperEvent ms ss) events → NoOther (world ms ss events) → Fair ms.lengths (world ms ss events) }
@@ -72,19 +72,19 @@ pub fn headline()
     ensures from_awaited { (ms : MasterSettings) (ss : SlaveSettings) (w : List Entry) → SameLengths ms ss → IsWorld ms ss w → NoOther w → TakesAwaited ms.lengths w }
 {}
 
-/// What the outputs of an end rest on, for both ends' settings with equal lengths and each world without another entry, with no
-/// clock that both ends share. Where a bit of the outputs is 1, the end's peer sent a data frame while it offered that bit as 1
-/// and wasn't held, and at most twice the master's watchdog, less 2, of the end's own ticks came since: fewer than the watchdog from
-/// the end's frame, which that one answers, until it took the answer, and fewer from then on. The terms that the end tells
-/// have the master's watchdog.
+/// What the outputs of an end rest on, for equal lengths and each world without an `other` entry. If a bit of the
+/// outputs is 1, the peer sent a data frame while it offered that bit as 1 and wasn't held. After that came at most
+/// twice the master's watchdog, less 2, of the end's own ticks. Fewer than the watchdog came from the end's frame,
+/// which that one answers, until the end took the answer, and fewer after that. The terms of the end have the master's
+/// watchdog. Both ends share no clock.
 #[tactic(auto, using(crate::proofs::Offering::Offered::was_offered, crate::proofs::Offering::Offered::told_watchdog))]
 pub fn offers()
     ensures lately { (ms : MasterSettings) (ss : SlaveSettings) (which : End) (bit : ℕ) (w : List Entry) → SameLengths ms ss → IsWorld ms ss w → NoOther w → IsTrue (bit_of (outputs_due (received_len ms.lengths which) (of_end which w)) bit) → WasOffered which bit (2 * ms.watchdog - 2) w }
     ensures watchdog { (ms : MasterSettings) (ss : SlaveSettings) (which : End) (bit : ℕ) (w : List Entry) → SameLengths ms ss → IsWorld ms ss w → NoOther w → IsTrue (bit_of (outputs_due (received_len ms.lengths which) (of_end which w)) bit) → IsSomeAnd (told_terms (setup_of ms ss which) (deeds which w)) (λ terms. terms.watchdog ≡ ms.watchdog) }
 {}
 
-/// No entry before the first other one is other, which is the whole run where there is none; they are a world where the
-/// run is one; and the first other entry has the next number.
+/// No entry before the first `other` entry is `other`; if there is none, these are all entries. They are a world if the
+/// run is one, and the first `other` entry has the next number.
 #[tactic(auto, using(crate::proofs::Worlds::Others::before_is_clean, crate::proofs::Worlds::Others::clean_is_before, crate::proofs::Worlds::Others::before_is_world, crate::proofs::Worlds::Others::number_of_first))]
 pub fn others()
     ensures none_before { (w : List Entry) → NoOther (before_other w) }
@@ -100,17 +100,17 @@ pub fn exchanges_before_data()
     ensures { (ms : MasterSettings) (id : ℕ) → exchanges ms ≡ 1 + pieces (pay ms id state.Session) (piece_len (OfMaster ms)) + pieces (pay ms id state.Connection) (piece_len (OfMaster ms)) + pieces (pay ms id state.Parameter) (piece_len (OfMaster ms)) }
 {}
 
-/// Over an honest schedule of proper events the run of matching ends is whole, no entry is other, no session ends and each
-/// delivery is taken. The master is in Data from the last of the exchanges before the first data on, the
-/// slave from the next delivery on, and neither is before; from then on each delivery takes data. These are those that the
-/// peer put, as the run is fair.
+/// Over an honest schedule of proper events the run of matching ends is complete, no entry is `other`, no session ends
+/// and each delivery is taken. The master is in Data from the last of the exchanges before the first data, the slave
+/// from the next delivery, and neither before. From then on each delivery takes data, which the peer put, as the run is
+/// fair.
 pub fn honest_schedules()
     ensures serves { (ms : MasterSettings) (ss : SlaveSettings) (events : List Event) → Match ms ss → All (IsProperEvent ms ss) events → IsHonest ms ss events → Serves ms events (world ms ss events) }
     ensures fair { (ms : MasterSettings) (ss : SlaveSettings) (events : List Event) → Match ms ss → All (IsProperEvent ms ss) events → IsHonest ms ss events → Fair ms.lengths (world ms ss events) }
 {}
 
-/// Worked handshakes of both ends, over frames of several lengths and in both profiles: the lines of the report, and the number
-/// of the first other entry.
+/// Worked handshakes of both ends, over frames of several lengths and in both profiles: the lines of the report, and
+/// the number of the first `other` entry.
 pub fn worked_handshakes()
     ensures first_data { FirstData }
     ensures byte_by_byte { ByteByByte }
@@ -145,8 +145,8 @@ pub fn worked_data()
     ensures old_connection { OldConnection }
 {}
 
-/// A whole old session, whose frames come to the slave again after its reset: with its session id as it was it is taken, and other; with
-/// a fresh one it is refused at its first Connection frame.
+/// An old session, whose frames come to the slave again after its reset. With the same session id as before it is
+/// taken, and `other`; with a fresh one it is refused at its first Connection frame.
 pub fn worked_old_sessions()
     ensures equal_ids { EqualIds }
     ensures fresh_id { FreshId }
@@ -161,14 +161,14 @@ pub fn worked_items()
     ensures taking { Taking }
 {}
 
-/// Worked runs in which each end shows its peer's offer for as many ticks after the peer's last frame as the law of offers allows, and no
-/// longer.
+/// Worked runs in which each end shows its peer's offer for as many ticks after the peer's last frame as the law of
+/// offers allows, and no longer.
 pub fn worked_offers()
     ensures slave { SlaveShowsLongest }
     ensures master { MasterShowsLongest }
 {}
 
-/// Worked runs that are fair, those with an other entry before it.
+/// Worked runs that are fair, those with an `other` entry before it.
 pub fn fair_runs()
     ensures first_data { FirstDataFair }
     ensures answer_under_way { AnswerUnderWayFair }
@@ -187,7 +187,7 @@ pub fn honest_runs()
     ensures reaches_data { ReachesData }
 {}
 
-/// Settings that don't match and schedules that aren't honest, each by one thing alone.
+/// Settings that don't match and schedules that aren't honest, each for only one reason.
 pub fn dishonest_runs()
     ensures mismatches { Mismatches }
     ensures not_plain { NotPlain }

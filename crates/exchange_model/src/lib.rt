@@ -1,5 +1,5 @@
-//! What a run of both ends is, and what it is judged by: `specs` has the definitions, and the laws say what holds of them in all
-//! runs and in worked ones. Two monitors find the first other entry while a run goes on.
+//! Definitions of a run of both ends and of what it is judged by, with the laws on all runs and on examples, among them
+//! the main theorem. Two monitors find the first `other` entry during a run. Nothing here runs an end.
 #![tactic(auto)]
 
 mod kept;

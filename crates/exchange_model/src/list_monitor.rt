@@ -71,8 +71,8 @@ fn side(mine: &[Listed], theirs: &[Listed]) -> Side
     }
 }
 
-/// Appends the item of an entry of the end with the first of these lists, where it sent a frame. True exactly where the entry
-/// is other. Unchanged after `Memory`.
+/// Appends the item of an entry of the end with the first of these lists, if it sent a frame. Returns true if the entry
+/// is `other`. Nothing is changed after `Memory`.
 #[tactic(auto, using(crate::proofs::Monitors::ListNoted::last_sent_more))]
 fn add(mine: &mut Vec<Listed>, theirs: &[Listed], entry: &Entry) -> Result<bool, Memory>
     requires { next_number (last_sent mine.old.items) < 2 ^ 64 }
@@ -99,8 +99,8 @@ fn add(mine: &mut Vec<Listed>, theirs: &[Listed], entry: &Entry) -> Result<bool,
     Ok(own.is_other(entry.did.passed, came))
 }
 
-/// Finds the first other entry of a run of both ends, by lists of all frames that they sent: the plain program that `Monitor`
-/// is compared with.
+/// Finds the first `other` entry of a run of both ends, by lists of all frames that they sent: the plain program that
+/// `Monitor` is compared with.
 #[derive(Drop)]
 pub struct ListMonitor {
     noted: u64,
@@ -127,7 +127,7 @@ impl ListMonitor {
     ghost use Rattle.exchange_model.specs.Other.{first_other};
     ghost use Rattle.exchange_model.specs.ListMonitor.{list_of, listed_next, ListsEntry};
 
-    /// A monitor that noted no entry.
+    /// Creates a monitor that noted no entry.
     pub fn new(alloc: Global) -> ListMonitor
         ensures { result ≡ list_of [] }
     {
@@ -139,8 +139,8 @@ impl ListMonitor {
         }
     }
 
-    /// Notes the next entry of the run. Fewer than 2^64 - 1 entries were noted before. `Memory` where there is none for
-    /// another item; the monitor is then unchanged.
+    /// Notes the next entry of the run, after fewer than 2^64 - 1 others. `Memory` if there is none for one more item;
+    /// the monitor is then unchanged.
     #[tactic(auto, using(crate::proofs::Monitors::ListNoted::lists_by))]
     pub fn note(&mut self, entry: &Entry) -> Result<(), Memory>
         requires { self.old.noted + 1 < 2 ^ 64 }
@@ -167,7 +167,7 @@ impl ListMonitor {
         Ok(())
     }
 
-    /// The number of the first other entry, from 1; None exactly where no entry that was noted is other.
+    /// Returns the number, from 1, of the first `other` entry noted so far, or None if there is none.
     pub fn other(&self) -> Option<u64>
         ensures { (w : List Entry) → self.now ≡ list_of w → result ≡ first_other w }
     {

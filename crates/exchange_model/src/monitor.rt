@@ -7,8 +7,8 @@ use fsoe_base::{Did, End, FrameBuf};
 use param_load::Entry;
 use std::marker::Model;
 
-/// Finds the first other entry of a run of both ends. It keeps of each end its newest item and the item that it awaits,
-/// and takes no memory.
+/// Finds the first `other` entry of a run of both ends. It keeps of each end its newest item and the item that it
+/// awaits. Doesn't allocate.
 #[derive(Debug, Drop)]
 pub struct Monitor {
     noted: u64,
@@ -35,7 +35,7 @@ impl Monitor {
     ghost use Rattle.exchange_model.specs.Other.{is_other, first_other};
     ghost use Rattle.exchange_model.specs.Monitor.{item_number, noted_next, view_of, HasParts, NotesEntry, NotesParts};
 
-    /// A monitor that noted no entry.
+    /// Creates a monitor that noted no entry.
     pub fn new() -> Monitor
         ensures { result ≡ view_of [] }
     {
@@ -57,8 +57,8 @@ impl Monitor {
         self.note_parts(entry.end, delivered(&entry.what), &entry.did, &entry.sent);
     }
 
-    /// Notes the next entry of the run by what is read of it: its end, the bytes that came, none where nothing did, what the end did,
-    /// and the frame that it sent. Fewer than 2^64 - 1 entries were noted before.
+    /// Notes the next entry of the run by its parts: its end, the bytes that came, none if nothing did, what the end
+    /// did, and the frame that it sent. Fewer than 2^64 - 1 entries were noted before.
     #[tactic(auto, using(crate::proofs::Monitors::Noted::notes_by))]
     pub fn note_parts(&mut self, at: End, came: &[u8], did: &Did, sent: &FrameBuf)
         requires { self.old.noted + 1 < 2 ^ 64 }
@@ -82,15 +82,15 @@ impl Monitor {
         }
     }
 
-    /// The number of the first other entry, from 1; None exactly where no entry that was noted is other.
+    /// Returns the number, from 1, of the first `other` entry noted so far, or None if there is none.
     pub fn other(&self) -> Option<u64>
         ensures { (w : List Entry) → self.now ≡ view_of w → result ≡ first_other w }
     {
         self.other
     }
 
-    /// Whether the next entry of the run would be other, by what is read of it: its end, the bytes that came, none where nothing did,
-    /// and what the end did.
+    /// Returns true if the next entry of the run would be `other`, by its parts: its end, the bytes that came, none if
+    /// nothing did, and what the end did.
     #[tactic(auto, using(crate::proofs::Monitors::Noted::tells_other))]
     pub fn is_other(&self, at: End, came: &[u8], did: &Did) -> bool
         ensures { (w : List Entry) (x : Entry) (sent : List ℕ) → self.now ≡ view_of w → HasParts x at came.now did.now sent → result ≡ is_other (items w) x }
@@ -101,7 +101,7 @@ impl Monitor {
         }
     }
 
-    /// The number of the item that an end awaits, among those of its peer, from 1; None exactly where it awaits none.
+    /// Returns the number, from 1, of the item that an end awaits, among those of its peer, or None if it awaits none.
     #[tactic(auto, using(crate::proofs::Monitors::Noted::awaited_number))]
     pub fn awaited(&self, by: End) -> Option<u64>
         ensures { (w : List Entry) → self.now ≡ view_of w → result ≡ item_number (awaited (items w) by) }

@@ -7,7 +7,7 @@ ghost use Rattle.end_model.specs.Deed.{delivered};
 use fsoe_base::Command;
 use param_load::Move;
 
-/// The bytes that came, none where nothing did.
+/// The bytes that came, none if nothing did.
 pub fn delivered(what: &Move) -> &[u8]
     ensures { result.now ≡ delivered what.now }
 {

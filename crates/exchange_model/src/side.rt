@@ -21,7 +21,7 @@ pub struct Side {
 }
 
 impl Sent {
-    /// The same again.
+    /// Returns a copy.
     pub(crate) fn copy(&self) -> Sent
         ensures { result ≡ self.now }
     {
@@ -43,7 +43,7 @@ impl Side {
         }
     }
 
-    /// Whether an entry of the end is other at which these bytes came, by whether they passed the test of their CRCs.
+    /// Returns true if an entry of the end is `other` at which these bytes came, by whether they passed their CRC test.
     pub(crate) fn is_other(&self, passed: bool, came: &[u8]) -> bool
         ensures { result ≡ is_other_to self.now passed came.now }
     {
@@ -72,8 +72,8 @@ impl Side {
     }
 }
 
-/// The end sends a frame: it has a newest item, and awaits none. Its peer awaits this item where it answers the
-/// peer's newest one and isn't a Reset frame.
+/// The end sends a frame: it has a newest item, and awaits none. Its peer awaits this item if it answers the peer's
+/// newest one and isn't a Reset frame.
 fn send(own: &mut Side, peer: &mut Side, frame: &FrameBuf, answer: Option<u64>)
     requires { next_number own.old.newest < 2 ^ 64 }
     ensures own { own.new ≡ sent_next own.old frame.now }
@@ -87,8 +87,8 @@ fn send(own: &mut Side, peer: &mut Side, frame: &FrameBuf, answer: Option<u64>)
     own.awaited.clear();
 }
 
-/// Notes an entry of an end at what is kept of it and of its peer: the bytes that came, what the end did, and the frame that it
-/// sent. True exactly where the entry is other.
+/// Notes an entry in what is kept of its end and of the peer: the bytes that came, what the end did, and the frame that
+/// it sent. Returns true if the entry is `other`.
 pub(crate) fn note(own: &mut Side, peer: &mut Side, came: &[u8], did: &Did, sent: &FrameBuf) -> bool
     requires { next_number own.old.newest < 2 ^ 64 }
     ensures other { result ≡ is_other_to own.old did.now.passed came.now }

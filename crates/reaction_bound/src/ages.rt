@@ -1,4 +1,4 @@
-//! The ages of both ends' outputs, told while a run goes on.
+//! The ages of both ends' outputs, reported while a run goes on.
 ghost use Rattle.std.specs.Prelude.{◌≡◌};
 ghost use Rattle.exchange_model.specs.Honest.{is_tick};
 ghost use Rattle.reaction_bound.specs.Ages.{watchdog_in};
@@ -9,9 +9,8 @@ use fsoe_base::{Did, End, FrameBuf};
 use param_load::{Entry, Move, Terms};
 use std::marker::Model;
 
-/// Tells how old the outputs of both ends of a connection are: the ticks of an end since its peer sent the item from which its
-/// outputs are. It is also the connection's monitor, which tells the first other entry. It keeps a few numbers of each end, and
-/// takes no memory.
+/// Counts how old the outputs of both ends of a connection are: the ticks of an end since its peer sent the item of
+/// these outputs. It is also the connection's monitor, which finds the first `other` entry. Doesn't allocate.
 #[derive(Debug, Drop)]
 pub struct Ages {
     monitor: Monitor,
@@ -35,7 +34,7 @@ impl Ages {
     ghost use Rattle.reaction_bound.specs.Age.{age_of, worst_of, told_age};
     ghost use Rattle.reaction_bound.specs.Ages.{view_of, NotesEntry, NotesParts};
 
-    /// Ages that noted no entry.
+    /// Creates ages that noted no entry.
     pub fn new() -> Ages
         ensures { result ≡ view_of [] }
     {
@@ -65,9 +64,9 @@ impl Ages {
         );
     }
 
-    /// Notes the next entry of the run by what is read of it: its end, whether it is a tick, the bytes that came, none where nothing
-    /// did, what the end did, the frame that it sent, and where it took ProcessData, the watchdog, in ticks, in the terms that the end
-    /// tells after it; at another entry the watchdog isn't read. Fewer than 2^64 - 1 entries were noted before.
+    /// Notes the next entry of the run by its parts, as `Monitor::note_parts` does, and whether it is a tick. If the
+    /// end took ProcessData, `watchdog` is that of its terms after the entry, in ticks; at any different entry it isn't
+    /// read. Fewer than 2^64 - 1 entries were noted before.
     pub fn note_parts(
         &mut self,
         at: End,
@@ -102,8 +101,8 @@ impl Ages {
         }
     }
 
-    /// The age of an end's outputs, in its ticks, told as 2^32 - 1 where it is above that; None exactly where they are from no item: they
-    /// are zeros, or were taken in an other entry or where no item was awaited.
+    /// Returns the age of an end's outputs in its ticks, 2^32 - 1 for all greater ones. Returns None if they are from
+    /// no item: they are zeros, or were taken in an `other` entry or while no item was awaited.
     #[tactic(auto, using(crate::proofs::Noted::age_is))]
     pub fn age(&self, at: End) -> Option<u32>
         ensures { (w : List Entry) → self.now ≡ view_of w → result ≡ told_age (age_of at w) }
@@ -114,7 +113,7 @@ impl Ages {
         }
     }
 
-    /// The greatest age of an end's outputs after any entry that was noted; None exactly where there was no age.
+    /// Returns the greatest age of an end's outputs after any entry that was noted, or None if there was no age.
     #[tactic(auto, using(crate::proofs::Noted::worst_is))]
     pub fn worst(&self, at: End) -> Option<u32>
         ensures { (w : List Entry) → self.now ≡ view_of w → result ≡ told_age (worst_of at w) }
@@ -125,7 +124,7 @@ impl Ages {
         }
     }
 
-    /// The number of the first other entry, from 1; None exactly where no entry that was noted is other.
+    /// Returns the number, from 1, of the first `other` entry noted so far, or None if there is none.
     pub fn other(&self) -> Option<u64>
         ensures tells { (w : List Entry) → self.now ≡ view_of w → result ≡ first_other w }
         ensures monitor { (w : List Entry) → self.now.monitor ≡ monitor.view_of w → result ≡ first_other w }

@@ -1,4 +1,4 @@
-//! What is kept of one end to tell the age of its outputs.
+//! What is kept of one end to count the age of its outputs.
 ghost use Rattle.std.specs.Prelude.{◌≡◌};
 ghost use Rattle.reaction_bound.specs.Age.{greater};
 ghost use Rattle.reaction_bound.specs.Ages.{first_kept, age_in, waited_next, counted, standing_ticked, standing_counted, standing_from, standing_taken, standing_next, acted_next, heard_next};
@@ -12,8 +12,8 @@ pub struct Standing {
     pub(crate) age: u32,
 }
 
-/// The ticks since the item that the end awaits was sent, 0 where it awaits none; its outputs, where they are from an item; and the
-/// greatest age that they had. Ticks are those of the end, and their counts stop at 2^32 - 1.
+/// The ticks since the awaited item was sent, 0 if none is; the outputs, if they are from an item; and the greatest age
+/// that they had. Ticks are those of the end, and their counts stop at 2^32 - 1.
 #[derive(Debug, Drop)]
 pub struct EndAge {
     pub(crate) waited: u32,
@@ -50,8 +50,8 @@ impl EndAge {
         self.waited = waited(before, after, self.waited);
     }
 
-    /// Notes an entry of the end: whether it is a tick and whether it is other, what the end did, the watchdog in the terms that it
-    /// tells after it, and the numbers of the items that it awaits before it and after it.
+    /// Notes an entry of the end: whether it is a tick, whether it is `other`, what the end did, and the watchdog in
+    /// its terms after it. Before and after it the end awaits the items of these numbers.
     pub(crate) fn act(
         &mut self,
         tick: bool,
@@ -111,8 +111,8 @@ fn counted(tick: bool, ticks: u32) -> u32
     if tick { ticks.saturating_add(1) } else { ticks }
 }
 
-/// The ticks since the item that an end awaits was sent, after an entry before which and after which it awaits the items of these
-/// numbers: an item that wasn't awaited before was sent in the entry.
+/// The ticks since the awaited item was sent, after an entry before and after which the end awaits the items of these
+/// numbers. An item that wasn't awaited before was sent in the entry.
 fn waited(before: Option<u64>, after: Option<u64>, ticks: u32) -> u32
     ensures { result ≡ waited_next before after ticks }
 {

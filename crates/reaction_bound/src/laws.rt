@@ -14,9 +14,9 @@ ghost use Rattle.exchange_model.specs.Other.{NoOther};
 ghost use Rattle.reaction_bound.specs.Age.{age_of, worst_of};
 ghost use Rattle.reaction_bound.specs.WorkedAge.{SlaveIsOldest, MasterIsOldest, ForgedHaveNone};
 
-/// The law of the age, for both ends' settings with equal lengths and each world in which no entry is other: outputs are at most
-/// twice the watchdog less two ticks old, the watchdog being that in the terms that the end tells then. So is the greatest age, by
-/// the master's watchdog, since all terms have that one. The ticks are the end's own: no clock is common to both ends.
+/// The law of the age, for both ends' settings with equal lengths and each world without an `other` entry. Outputs are
+/// at most twice the watchdog in the end's terms, less 2, ticks old. The greatest age has this limit with the master's
+/// watchdog, which all terms have. The ticks are the end's own: both ends share no clock.
 #[tactic(auto, using(crate::proofs::Bounded::age_bounded, crate::proofs::Bounded::worst_bounded))]
 pub fn bounded_ages()
     ensures age { (ms : MasterSettings) (ss : SlaveSettings) (which : End) (w : List Entry) → SameLengths ms ss → IsWorld ms ss w → NoOther w → IfSome (age_of which w) (λ n. IsSomeAnd (told_terms (setup_of ms ss which) (deeds which w)) (λ terms. n ≤ 2 * terms.watchdog - 2)) }
@@ -29,7 +29,7 @@ pub fn aged_outputs()
     ensures { (ms : MasterSettings) (ss : SlaveSettings) (which : End) (bit : ℕ) (w : List Entry) → SameLengths ms ss → IsWorld ms ss w → NoOther w → IsTrue (bit_of (outputs_due (received_len ms.lengths which) (of_end which w)) bit) → IsSome (age_of which w) }
 {}
 
-/// Worked runs in which the outputs of each end get as old as the law of the age allows, and no older, and one in which they have no age.
+/// Worked runs in which the outputs of each end get as old as the law allows and no older, and one without an age.
 pub fn worked_ages()
     ensures slave { SlaveIsOldest }
     ensures master { MasterIsOldest }

@@ -1,5 +1,5 @@
-//! How old the outputs of both ends of a connection are, and whether an emergency stop switches a drive off in time. `specs`
-//! has the definitions, and the laws say how old outputs get.
+//! How old the outputs of both ends of a connection are, and whether an emergency stop switches a drive off in time.
+//! The laws give the greatest age of outputs. Plants use both; times are ticks of an end, no clock is read.
 #![tactic(auto)]
 
 mod ages;

@@ -1,7 +1,7 @@
 //! Whether a drive was switched off in time.
 use std::marker::Model;
 
-/// Finds the first tick at which a drive is on though its stop was quiet for `limit` ticks. It takes no memory.
+/// Finds the first tick at which a drive is on although its stop was quiet (off) for `limit` ticks. Doesn't allocate.
 #[derive(Debug, Drop)]
 pub struct Reaction {
     limit: u32,
@@ -22,8 +22,8 @@ impl Reaction {
     ghost use Rattle.std.specs.Prelude.{◌≡◌, ◌<◌, ◌+◌, ◌^◌, ℕ, List, []};
     ghost use Rattle.reaction_bound.specs.Reaction.{Said, Quiet, Tick, Hears, is_late, first_late, broken_of, view_of};
 
-    /// A reaction to which nothing was said. The drive is to be off at the tick of this number, counted from the first one with which
-    /// the stop is quiet.
+    /// Creates a reaction that observed nothing. The drive must be off at the tick of number `limit`, counted from the
+    /// first one with which the stop is quiet.
     pub fn new(limit: u32) -> Reaction
         ensures { result ≡ view_of limit [] }
     {
@@ -35,7 +35,7 @@ impl Reaction {
         }
     }
 
-    /// Whether the stop is quiet from now on. That it is again changes nothing.
+    /// Sets whether the stop is quiet from now on. To set it again changes nothing.
     pub fn quiet(&mut self, is: bool)
         ensures hears { Hears self.old (Quiet is) self.new }
         ensures ticks { self.new.ticks ≡ self.old.ticks }
@@ -47,7 +47,7 @@ impl Reaction {
         }
     }
 
-    /// A tick ended with the drive on, or off. Fewer than 2^64 - 1 ticks were said before.
+    /// Notes a tick that ended with the drive on, or off. Fewer than 2^64 - 1 ticks were noted before.
     pub fn tick(&mut self, on: bool)
         requires { self.old.ticks + 1 < 2 ^ 64 }
         ensures hears { Hears self.old (Tick on) self.new }
@@ -57,7 +57,7 @@ impl Reaction {
         self.broken = self.first_late(on);
     }
 
-    /// The number of the first late tick, where the newest one ended with the drive on, or off.
+    /// The number of the first late tick, if the newest one ended with the drive on, or off.
     fn first_late(&self, on: bool) -> Option<u64>
         ensures { result ≡ first_late self.now.broken (is_late self.now.limit on self.now.ticks self.now.quiet_from) self.now.ticks }
     {
@@ -78,8 +78,8 @@ impl Reaction {
         }
     }
 
-    /// The number from 1 of the first tick with the drive on at which at least the limit of ticks, itself counted, came since the
-    /// stop was quiet, without a break; None exactly where there is none.
+    /// Returns the number, from 1, of the first late tick, or None if there is none. A tick is late if the drive is on,
+    /// and at least `limit` ticks, itself counted, came since the stop was quiet without a break.
     pub fn broken(&self) -> Option<u64>
         ensures { (limit : ℕ) (said : List Said) → self.now ≡ view_of limit said → result ≡ broken_of limit said }
     {

@@ -24,8 +24,8 @@ pub fn worked_traces()
     ensures stepped_number { SteppedNumber }
 {}
 
-/// No row of the table applies to any frame of a trace exactly where the trace is what two ends send that are set to what is read off it. Else
-/// the first frame to which a row applies is the first with which it isn't.
+/// No row of the table applies to any frame of a trace if and only if two ends, set to what is read off the trace, send
+/// it. Else the first frame to which a row applies is the first that differs.
 #[tactic(auto, using(crate::proofs::Theorem::none_where_conforms, crate::proofs::Theorem::differs_first))]
 pub fn table()
     ensures conforms { (lengths : Lengths) (t : List Noted) → AreOfBytes t → first_difference lengths t ≡ None → Conforms lengths t }

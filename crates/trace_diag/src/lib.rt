@@ -1,5 +1,5 @@
-//! A verdict on a recorded trace: whether the frames of two ends are what such ends send in lock step, and else which frame is the first
-//! that differs, and in which field. It is judged from the frames alone.
+//! A verdict on a recorded trace of one connection: whether two ends send these frames if none is lost, else the first
+//! frame that differs, and in which field. The command `diagnose` uses it. It judges only the frames, and runs no end.
 #![tactic(auto)]
 
 mod diagnosis;

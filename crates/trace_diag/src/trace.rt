@@ -45,7 +45,7 @@ impl Trace {
         }
     }
 
-    /// Notes the next frame, of 1 to 255 bytes, and the end that it came from. Once a frame differs the frames after it are counted alone.
+    /// Notes the next frame, of 1 to 255 bytes, and its end. After a frame that differs, frames are only counted.
     pub fn note(&mut self, from: End, frame: &[u8])
         requires frame { (0 < length frame.now) × (length frame.now ≤ 255) }
         requires few { self.old.frames < 2 ^ 64 - 1 }
@@ -77,7 +77,7 @@ impl Trace {
     }
 }
 
-/// A clone goes on by itself, so that several frames that may come next can be judged each. It takes no memory.
+/// A clone continues by itself, so that several possible next frames can each be judged. Doesn't allocate.
 impl Clone for Trace {
     ghost is_clone = { λ trace clone. clone ≡ trace };
 
