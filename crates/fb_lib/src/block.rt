@@ -9,7 +9,7 @@ use crate::held::Held;
 use crate::kind::{BlockKind, MOST_INPUTS};
 use std::marker::Model;
 
-/// A function block. It keeps no cycles, but the few values that its output depends on, and takes no memory.
+/// A function block. It keeps no cycles, only the few values that its output depends on, and doesn't allocate.
 #[derive(Debug, Drop)]
 pub struct Block {
     n: u16,

@@ -1,4 +1,5 @@
-//! Function blocks of a safety application: each is stepped once a cycle with its inputs, and gives one output.
+//! Function blocks of a safety application, which `fb_net` connects to nets. Each is stepped once per cycle with its
+//! inputs, and gives one output. A block has no clock: a cycle says whether it counts as one unit of time.
 #![tactic(auto)]
 
 mod block;

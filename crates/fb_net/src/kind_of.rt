@@ -1,4 +1,4 @@
-//! A net, or an application that was handed in.
+//! A net, or an application of the caller.
 use crate::net::Net;
 use failsafe_io::{Application, Bit};
 use fsoe_base::Image;
@@ -8,11 +8,11 @@ use fsoe_base::Image;
 pub enum KindOf<H: Application> {
     /// A net.
     Net(Net),
-    /// An application that was handed in.
+    /// An application of the caller.
     Handed(H),
 }
 
-/// A net, or an application that was handed in within a box.
+/// A net, or a boxed application of the caller.
 pub type AppKind = KindOf<Box<dyn Application>>;
 
 /// An application under its name.

@@ -1,5 +1,6 @@
-//! Nets of function blocks: an application that steps its blocks in order, each with input bits and the values of earlier blocks,
-//! and drives output bits. Also two simple applications, and a type that is a net or an application that was handed in.
+//! Nets of function blocks: an application that steps its blocks in order, each with input bits and the values of
+//! earlier blocks, and drives output bits. Also two simple applications, and an enum of a net or an application of the
+//! caller.
 #![tactic(auto)]
 
 mod cycle;

@@ -15,7 +15,7 @@ use failsafe_io::{Application, Bit};
 use fsoe_base::Image;
 use std::marker::Model;
 
-/// A net: blocks that are stepped in order in each cycle, and output bits that are driven. It takes no memory in a cycle.
+/// A net: blocks that are stepped in order in each cycle, and output bits that are driven. A cycle doesn't allocate.
 #[derive(Debug, Drop)]
 pub struct Net {
     blocks: Vec<BlockSpec>,

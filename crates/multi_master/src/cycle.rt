@@ -1,4 +1,4 @@
-//! All masters tick, and the answers of a cycle are put.
+//! All masters tick, and the results of a cycle are put.
 ghost use Rattle.std.specs.Prelude.{◌≡◌, ◌≤◌, false, length, map, All};
 ghost use Rattle.master_core.specs.Now.{is_due};
 ghost use Rattle.multi_master.specs.Standing.{app_view, settings_in, AreNumbers};
@@ -10,7 +10,7 @@ use failsafe_io::Application;
 use fsoe_base::{Did, FrameBuf, Image};
 use master_core::Master;
 
-/// Puts an answer as the offer of a master where it isn't the offer already, and tells whether it wasn't.
+/// Puts a result as the offer of a master if it isn't the offer already. Returns true if it wasn't.
 fn put_answer(master: &mut Master, answer: &[u8]) -> bool
     requires { length answer.now ≡ own_len master.old }
     ensures { PutsAnswer master.old answer.now master.new result }
@@ -22,7 +22,7 @@ fn put_answer(master: &mut Master, answer: &[u8]) -> bool
     true
 }
 
-/// Puts each answer as the offer of its master where it isn't the offer already, and lists the connections where it wasn't.
+/// Puts each result as the offer of its master if it isn't already, and lists the connections where it wasn't.
 fn put_answers(masters: &mut [Master], answers: &[Image], changed: &mut ArrayVec<u16, MOST_LINKS>)
     requires fits { map length answers.now ≡ map own_len masters.old }
     requires most { length masters.old ≤ MOST_LINKS }
@@ -37,8 +37,8 @@ fn put_answers(masters: &mut [Master], answers: &[Image], changed: &mut ArrayVec
     }
 }
 
-/// Has the application run one cycle over the inputs, and puts its answers as the offers of the masters; the connections that have
-/// another offer then are listed.
+/// Runs one cycle of the application over the inputs, and puts its results as the offers of the masters. The
+/// connections with a changed offer are listed.
 pub(crate) fn run_cycle<A: Application>(
     app: &mut A,
     ticked: bool,
@@ -59,7 +59,7 @@ pub(crate) fn run_cycle<A: Application>(
     put_answers(masters, answers, changed);
 }
 
-/// Counts a tick at a master, and reads its outputs where its session ended.
+/// Counts a tick at a master, and reads its outputs if its session ended.
 fn tick_one(master: &mut Master, input: &mut Image, did: &mut Did, out: &mut FrameBuf)
     requires { is_due master.old.state ≡ false }
     ensures { IsTickStep (record { old = master.old; new = master.new; did = did.new; sent = out.new; before = input.old; after = input.new }) }
@@ -70,8 +70,8 @@ fn tick_one(master: &mut Master, input: &mut Image, did: &mut Did, out: &mut Fra
     }
 }
 
-/// Counts a tick at each master: what it did and the frame that it sent, empty where it sent none, are written to its places. Its
-/// outputs are read where its session ended, since a tick changes none else.
+/// Counts a tick at each master, and writes its result and its frame, empty if it sent none, to its places. Outputs are
+/// read only where a session ended, since a tick changes no others.
 pub(crate) fn tick_all(
     masters: &mut [Master],
     inputs: &mut [Image],

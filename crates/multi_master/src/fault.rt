@@ -8,8 +8,8 @@ pub enum NewFault {
     /// There are more than 64 connections.
     #[error("there are more than 64 connections")]
     TooMany,
-    /// Two connections have the same connection id: `a` is the least place whose id stands again later, and `b` the least such later
-    /// place, both counted from 1.
+    /// Two connections have the same connection id: `a` is the first position whose id occurs again later, `b` the next
+    /// one with this id, both counted from 1.
     #[error("connections {a} and {b} have the same connection id")]
     SameConn { a: u16, b: u16 },
     /// There was no memory.

@@ -11,18 +11,18 @@ ghost use Rattle.multi_master.specs.Calls.{AppView, Call, connection, meant};
 ghost use Rattle.multi_master.specs.Own.{own_events, without_puts};
 ghost use Rattle.multi_master.specs.Standing.{IsWhere};
 
-/// Nothing enters a connection from its neighbours: over every list of calls its deeds are the run of events of its own, which
-/// are its deliveries, ticks and session ids among these calls, in their order, and offers that were put to it in between. Its
-/// settings are those that it was made with.
+/// A connection is independent of its neighbours: over every list of calls its deeds are the run of its own events.
+/// These are its deliveries, ticks and session ids, in the order of the calls, and the offers that were put between
+/// them. Its settings don't change.
 pub fn neighbours()
     ensures run { (settings : List MasterSettings) (app : AppView) (calls : List Call) (link : ℕ) → IfSome (connection link (meant settings app calls)) (λ c. c.deeds ≡ run (setup c) (events_of c.deeds)) }
     ensures events { (settings : List MasterSettings) (app : AppView) (calls : List Call) (link : ℕ) → IfSome (connection link (meant settings app calls)) (λ c. without_puts (events_of c.deeds) ≡ own_events link calls) }
     ensures settings { (settings : List MasterSettings) (app : AppView) (calls : List Call) → map (λ c. c.settings) (meant settings app calls).connections ≡ settings }
 {}
 
-/// When another application comes, all offers are zeros until its first answers are put. No frame is made in between and no call
-/// ends there, so that nothing tells it: a master to which zeros were put, and then an answer, is where the answer alone leaves it,
-/// where that isn't the offer from before.
+/// While the application is changed, all offers are zeros until its first results are put. No frame is built and no
+/// call ends in between, so this can't be observed. A master to which zeros were put and then a result is as after only
+/// the result, which is put unless it was the offer already.
 pub fn change()
     ensures { (c : Connection) (m : MasterView) (load : List ℕ) → IsWhere (with_event (event.Put load) (with_event (event.Put (replicate (offer_len c) 0)) c)) m → IsWhere (with_offer load c) m }
 {}

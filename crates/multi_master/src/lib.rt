@@ -1,8 +1,7 @@
-//! A master of up to 64 connections, whose outputs one application decides from all their inputs.
-//!
-//! Each connection has a master of its own, and nothing passes from one to another but through the application: it is run once
-//! in each tick, and once for each frame that is taken or ends a session, before the reply is made, so that the reply carries what
-//! it answered. A program hands in frames and ticks, and sends what is written:
+//! The FSoE masters of up to 64 connections, with one application that computes the data to send of all from the
+//! received data of all (SafeInputs in ETG.5100). It runs once per tick, and for each frame that is taken or ends a
+//! session, before the reply is built. Nothing else passes from one connection to another. The program passes in frames
+//! and ticks, and sends what is written:
 //!
 //! ```text
 //! let mut multi = MultiMaster::new(settings, app)?;

@@ -81,7 +81,7 @@ pub(crate) fn inputs_of(alloc: Global, masters: &[Master]) -> Result<Vec<Image>,
     Ok(images)
 }
 
-/// Room for the answers of an application to these masters.
+/// Room for the results of an application for these masters.
 pub(crate) fn answers_of(alloc: Global, masters: &[Master]) -> Result<Vec<Image>, NewFault>
     ensures fit { IfOk result (λ images. map length images.items ≡ map own_len masters.now) }
     ensures memory { IfErr result (λ found. found ≡ fault.Memory) }

@@ -14,15 +14,15 @@ use master_core::Master;
 use param_load::{MasterSettings, Terms};
 use std::marker::Model;
 
-/// The master of up to 64 connections. The application decides the offers of all of them from the outputs of all, in one
-/// cycle at a time; what comes for one connection changes no other in any other way. No call but `new` takes memory.
+/// The masters of up to 64 connections. In each cycle the application computes the offers of all of them from the
+/// outputs of all. An event of one connection changes another one only in this way. Only `new` allocates.
 #[derive(Drop)]
 pub struct MultiMaster<A> {
     masters: Vec<Master>,
     app: A,
-    /// The outputs of each master, as a cycle reads them: one is written where they changed, and stays for later cycles.
+    /// The outputs of each master, as a cycle reads them: one is written when it changes, and stays for later cycles.
     inputs: Vec<Image>,
-    /// Where the application writes its answers.
+    /// Where the application writes its results.
     answers: Vec<Image>,
     /// The connections whose offers the last call changed.
     changed: ArrayVec<u16, MOST_LINKS>,
@@ -49,10 +49,10 @@ impl<A: Application> MultiMaster<A> {
     ghost use Rattle.multi_master.specs.New.{first_fault};
     ghost use Rattle.multi_master.specs.Standing.{app_view, seen, links, HasLink, StandsFor, Follows, Offers, Guards, AnswersFrame, AnswersTick, ShowsAt, ShowsApp, ShowsChanged, AreNumbers, settings_of};
 
-    /// The masters of connections with these settings, in this order, each in state Reset, and this application. No cycle is
-    /// run: the offers are zeros until the first one. There may be no connection at all. Refused are more than 64 connections; then
-    /// a connection id that stands twice, with its places; then want of memory. Settings and application are dropped
-    /// then.
+    /// Creates the masters of connections with these settings, in this order, each in state Reset, and this
+    /// application. No cycle is run: the offers are zeros until the first one. There may be no connection. The first
+    /// refusal is returned: more than 64 connections, a duplicate connection id with its positions, no memory. Then
+    /// settings and application are dropped.
     pub fn new(settings: Vec<MasterSettings>, app: A) -> Result<MultiMaster<A>, NewFault>
         ensures refused { IfSome (first_fault settings.items) (λ found. result_err result ≡ Some found) }
         ensures memory_alone { IfErr result (λ found. first_fault settings.items ≡ None → found ≡ fault.Memory) }
@@ -76,10 +76,10 @@ impl<A: Application> MultiMaster<A> {
         })
     }
 
-    /// A frame of the slave of this connection, of any number of bytes. Where it is taken, or ends the session, the application has a
-    /// cycle over all outputs with this frame, which isn't ticked, and its answers are the offers of all connections before the
-    /// frame that is due is written to `out`; so it carries the connection's new offer where it carries process data. A dropped frame
-    /// changes nothing, and `out` is empty.
+    /// Processes a frame, of any number of bytes, of the slave of this connection. If the frame is taken or ends the
+    /// session, the application runs one unticked cycle over all outputs, with those of this frame. Its results become
+    /// the offers of all connections, and then the due frame is written to `out`. If it carries process data, it
+    /// carries the new offer. If the frame is dropped, nothing changes and `out` is empty.
     pub fn deliver(&mut self, link: u16, frame: &[u8], out: &mut FrameBuf) -> Did
         requires { HasLink self.old link }
         ensures follows { let seen = seen A.rule A.holds A.guards in Follows (seen self.old) (Deliver link frame.now) (seen self.new) }
@@ -94,7 +94,7 @@ impl<A: Application> MultiMaster<A> {
         did
     }
 
-    /// As `deliver`, and writes what was done to `did`, in place of what it told: of a frame that is taken no data are moved.
+    /// Does the same as `deliver` and overwrites `did`, so that the data of a taken frame aren't moved again.
     pub fn deliver_into(&mut self, link: u16, frame: &[u8], did: &mut Did, out: &mut FrameBuf)
         requires { HasLink self.old link }
         ensures follows { let seen = seen A.rule A.holds A.guards in Follows (seen self.old) (Deliver link frame.now) (seen self.new) }
@@ -124,9 +124,9 @@ impl<A: Application> MultiMaster<A> {
         did.sent = true;
     }
 
-    /// Counts a tick at each connection, in their order, and writes what each did to its place in `dids`, and the frame that it sent
-    /// to its place in `outs`, empty where it sent none. Then the application has one cycle, which is ticked, and its answers are the
-    /// offers of all connections. Both have a place for each connection.
+    /// Counts a tick at each master, in the order of the connections. Writes the result of each to `dids` and its frame
+    /// to `outs`, empty if none is sent; both have one place for each connection. Then the application runs one ticked
+    /// cycle, and its results become the offers of all connections.
     pub fn tick(&mut self, outs: &mut [FrameBuf], dids: &mut [Did])
         requires outs { length outs.old ≡ links self.old }
         requires dids { length dids.old ≡ links self.old }
@@ -153,8 +153,8 @@ impl<A: Application> MultiMaster<A> {
         );
     }
 
-    /// Drops the application that runs, and has this one in its place. It has its first cycle at once, which isn't ticked, and its
-    /// answers are the offers of all connections. No frame is made in between, so none carries an offer of the old one.
+    /// Replaces the running application with `app`, which runs its first cycle at once, unticked. Its results become
+    /// the offers of all connections. No frame is built in between, so none carries an offer of the old one.
     pub fn change_app(&mut self, app: A)
         ensures follows { let seen = seen A.rule A.holds A.guards in Follows (seen self.old) (ChangeApp (app_view A.rule A.holds A.guards app)) (seen self.new) }
         ensures offers { Offers (seen A.rule A.holds A.guards self.old) (ChangeApp (app_view A.rule A.holds A.guards app)) }
@@ -173,7 +173,8 @@ impl<A: Application> MultiMaster<A> {
         );
     }
 
-    /// The session id of the sessions of this connection that begin from now on, which is one in both profiles.
+    /// Sets the session id of all sessions of this connection that begin after this call. A 16-bit id is allowed in
+    /// both profiles. Give a fresh one before each session.
     pub fn nonce(&mut self, link: u16, id: u16)
         requires { HasLink self.old link }
         ensures follows { let seen = seen A.rule A.holds A.guards in Follows (seen self.old) (Nonce link id) (seen self.new) }
@@ -199,8 +200,8 @@ impl<A: Application> MultiMaster<A> {
         self.masters[usize::from(link) - 1].state()
     }
 
-    /// The outputs of the master of this connection, which are the application's inputs: as many bytes as its slave's frames have,
-    /// and zeros in every state but Data.
+    /// Returns the outputs of the master of this connection, which are inputs of the application (SafeInputs): as many
+    /// bytes as its slave's frames have. They are zeros in every state except Data.
     pub fn outputs(&self, link: u16) -> &[u8]
         requires { HasLink self.now link }
         ensures shown { ShowsAt (seen A.rule A.holds A.guards self.now) link result.now outputs_at }
@@ -209,7 +210,7 @@ impl<A: Application> MultiMaster<A> {
         self.masters[usize::from(link) - 1].outputs()
     }
 
-    /// The terms of this connection's session, exactly in state Data.
+    /// Returns the terms of this connection's session, or None in every state except Data.
     pub fn terms(&self, link: u16) -> Option<&Terms>
         requires { HasLink self.now link }
         ensures { ShowsAt (seen A.rule A.holds A.guards self.now) link (option_copied result) (λ c. model.told_terms (setup c) c.deeds) }
@@ -217,8 +218,8 @@ impl<A: Application> MultiMaster<A> {
         self.masters[usize::from(link) - 1].terms()
     }
 
-    /// The safe data that this connection's next data frame carries, as many bytes as its master's frames have: what the application
-    /// answered last, and zeros before the first cycle.
+    /// Returns the safe data that this connection's next data frame carries: the last result of the application, or
+    /// zeros before the first cycle. They have as many bytes as its master's frames.
     pub fn offer(&self, link: u16) -> &[u8]
         requires { HasLink self.now link }
         ensures shown { ShowsAt (seen A.rule A.holds A.guards self.now) link result.now offer_at }
@@ -230,8 +231,8 @@ impl<A: Application> MultiMaster<A> {
         master.offer()
     }
 
-    /// The connections whose offers the last call changed, in their order, by their numbers: those to which its cycle put another
-    /// offer. None after a call that ran no cycle.
+    /// Returns the numbers of the connections whose offers the last call changed, in ascending order. None is listed if
+    /// that call ran no cycle.
     pub fn changed(&self) -> &[u16]
         ensures changed { ShowsChanged (seen A.rule A.holds A.guards self.now) result.now }
         ensures numbers { AreNumbers (links self.now) result.now }
@@ -239,7 +240,7 @@ impl<A: Application> MultiMaster<A> {
         self.changed.as_slice()
     }
 
-    /// What `guards` of the application that runs says.
+    /// Returns the result of `guards` of the running application.
     pub fn guards(&self, out: Bit, inp: Bit) -> bool
         ensures { ShowsApp (seen A.rule A.holds A.guards self.now) result (λ app. app.guards out inp) }
     {

@@ -30,7 +30,7 @@ pub(crate) trait FromTable: Sized {
     // What holds of each value that is read.
     ghost Holds: { Self → Type 0 };
 
-    // What the table with this number says, or its first fault.
+    // What the table with this number means, or its first fault.
     ghost says: { ℕ → Members → Result Values ConfFault };
 
     /// Reads the table, which is the one with this number among those of its name.

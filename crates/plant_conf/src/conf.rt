@@ -7,7 +7,7 @@ use param_load::{MasterSettings, SlaveSettings};
 use std::marker::Model;
 use std::mem;
 
-/// What both ends of a connection are set to, in profile One.
+/// The settings of both ends of a connection, in profile One.
 #[derive(Debug, Drop)]
 pub struct LinkConf {
     /// The master.
@@ -123,7 +123,7 @@ impl PlantConf {
         self.channel.as_str()
     }
 
-    /// What the channel begins with.
+    /// The seed with which the channel begins.
     pub fn seed(&self) -> u64
         ensures { result ≡ self.now.seed }
     {

@@ -1,5 +1,5 @@
-//! Reads the configuration of a plant: its connections, its net of function blocks, and the bounds that are watched. A text has one
-//! meaning, or one first fault with the table, its number and the key.
+//! Reads the configuration of a plant: its connections, its net of function blocks, and the bounds that are watched.
+//! The result is one configuration, or the first fault with its table, number and key.
 #![tactic(auto)]
 
 mod arrays;

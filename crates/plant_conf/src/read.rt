@@ -45,7 +45,7 @@ fn whole(table: KeyTable) -> Key
     }
 }
 
-/// How many tables of a name there are. What is no array of tables counts as none.
+/// How many tables of a name there are. A value that is no array of tables counts as none.
 fn count(document: &Table, of: KeyTable) -> usize
     ensures { result ≡ count_of of (table_view document.now) }
 {
@@ -68,7 +68,7 @@ fn has_too_many(document: &Table) -> bool
         || count(document, KeyTable::Bound) > MOST_BOUNDS
 }
 
-/// What the table `plant` says, which has to be there.
+/// Reads the table `plant`, which must exist.
 fn plant_keys(alloc: Global, document: &Table) -> Result<PlantTable, ConfFault>
     ensures reads { IfOk result (λ p. plant_keys (table_view document.now) ≡ Ok (plant_said p)) }
     ensures refuses { IfErr result (λ e. e ≢ fault.Memory → plant_keys (table_view document.now) ≡ Err e) }
@@ -83,7 +83,7 @@ fn plant_keys(alloc: Global, document: &Table) -> Result<PlantTable, ConfFault>
     }
 }
 
-/// The connections, of which there has to be one.
+/// Reads the connections, of which there must be at least one.
 fn connections(alloc: Global, document: &Table) -> Result<Vec<LinkConf>, ConfFault>
     requires { count_of KeyTable.Connection (table_view document.now) ≤ 1024 }
     ensures reads { IfOk result (λ v. connections (table_view document.now) ≡ Ok (map link_values v.items)) }
@@ -142,7 +142,7 @@ fn ids_of(links: &[LinkConf]) -> ArrayVec<u16, MOST_LINKS>
     ids
 }
 
-/// `SameConn` where two connections have one id.
+/// `SameConn` if two connections have one id.
 fn apart(links: &[LinkConf]) -> Result<(), ConfFault>
     requires { length links.now ≤ 64 }
     ensures { result ≡ apart (same_conn 1 (map (λ link. link.master.conn) links.now)) }
@@ -153,8 +153,8 @@ fn apart(links: &[LinkConf]) -> Result<(), ConfFault>
     }
 }
 
-/// Reads the configuration of a plant: UTF-8 that is a TOML document. Refused with the first fault: `Syntax`, `TooMany`, those of the
-/// keys, table by table and key by key, and `SameConn`. `Memory` where there was none; nothing is then kept.
+/// Reads the configuration of a plant: UTF-8 that is a TOML document. The first fault is returned: `Syntax`, `TooMany`,
+/// those of the keys, table by table and key by key, then `SameConn`. `Memory` if there was none; then nothing is kept.
 pub fn read_conf(alloc: Global, text: &[u8]) -> Result<PlantConf, ConfFault>
     ensures reads { IfOk result (λ conf. Means text.now (Ok (conf_values conf))) }
     ensures refuses { IfErr result (λ e. e ≢ fault.Memory → Means text.now (Err e)) }

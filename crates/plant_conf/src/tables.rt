@@ -186,7 +186,7 @@ fn read_slave(table: &Table, number: u16, link: &LinkKeys) -> Result<SlaveKeys, 
     })
 }
 
-/// What both ends of the connection with this number are set to. It takes no memory.
+/// Reads the settings of both ends of the connection with this number. Doesn't allocate.
 fn read_connection(table: &Table, number: u16) -> Result<LinkConf, ConfFault>
     ensures reads { IfOk result (λ link. connection number (table_view table.now) ≡ Ok (link_values link)) }
     ensures holds { IfOk result (λ link. HasSameLengths link × IsProfileOne link) }
@@ -246,7 +246,7 @@ pub(crate) struct PlantTable {
     pub app: String,
     /// The name of the channel.
     pub channel: String,
-    /// What the channel begins with.
+    /// The seed of the channel.
     pub seed: u64,
 }
 

@@ -16,7 +16,7 @@ use plant_model::{JournalStep, PlantEvent};
 /// The most parcels that are pulled in a tick.
 pub(crate) const MOST_PULLS: u8 = 64;
 
-/// The master of all connections, what is kept of each beside its master, and where the masters write in a tick what they did and sent.
+/// The masters of all connections, what is kept of each beside its master, and places for what masters do in a tick.
 #[derive(Drop)]
 pub(crate) struct Ends<A> {
     pub(crate) master: MultiMaster<A>,
@@ -56,7 +56,7 @@ impl<A: Application> Ends<A> {
     ghost use Rattle.plant_model.specs.FairPairs.{Fits, lengths_at};
     ghost use Rattle.plant_model.specs.declared.event.PlantEvent.TheVariants as event;
 
-    /// The time of all ends goes on by one tick, and the offers that the cycle changed are noted.
+    /// Counts a tick at all ends, and notes the offers that the cycle changed.
     fn tick<C: Channel>(&mut self, steps: &mut Vec<JournalStep>, channel: &mut C)
         requires ready { IsPlant self.old.master self.old.links.items self.old.dids.items self.old.outs.items (vec_len steps.old) }
         requires room { vec_len steps.old + 1 + vec_len self.old.links ≤ vec_capacity steps.old }
@@ -79,8 +79,8 @@ impl<A: Application> Ends<A> {
         note_offers(&self.master, self.links.as_mut_slice(), steps);
     }
 
-    /// A frame that was pulled comes to the master of this connection: the offers that its cycle changed are noted before it, and its
-    /// answer is pushed.
+    /// Delivers a pulled frame to the master of this connection. The offers that its cycle changed are noted before it,
+    /// and its answer is pushed.
     fn deliver_to_master<C: Channel>(
         &mut self,
         link: u16,
@@ -118,7 +118,7 @@ impl<A: Application> Ends<A> {
         );
     }
 
-    /// A frame that was pulled comes to the slave of this connection, and its answer is pushed.
+    /// Delivers a pulled frame to the slave of this connection, and pushes its answer.
     fn deliver_to_slave<C: Channel>(
         &mut self,
         link: u16,
@@ -152,7 +152,7 @@ impl<A: Application> Ends<A> {
         );
     }
 
-    /// A parcel that was pulled is noted, and comes to its end, if there is one.
+    /// Notes a pulled parcel, and delivers it to its end, if there is one.
     fn deliver<C: Channel>(
         &mut self,
         to: Place,
@@ -207,7 +207,7 @@ impl<A: Application> Ends<A> {
         self.pull_all(steps, channel);
     }
 
-    /// The slave of this connection sends these safe data from now on.
+    /// Sets the safe data that the slave of this connection sends from now on.
     fn put(&mut self, link: u16, load: &Image, steps: &mut Vec<JournalStep>)
         requires first { 1 ≤ link }
         requires last { link ≤ vec_len self.old.links }
@@ -226,7 +226,7 @@ impl<A: Application> Ends<A> {
         self.links[usize::from(link) - 1].put(load.bytes());
     }
 
-    /// The slave of this connection sends fail-safe data from now on, or no longer.
+    /// Switches fail-safe data of the slave of this connection on or off.
     fn hold(&mut self, link: u16, failsafe: bool, steps: &mut Vec<JournalStep>)
         requires first { 1 ≤ link }
         requires last { link ≤ vec_len self.old.links }
@@ -257,7 +257,7 @@ impl<A: Application> Ends<A> {
         reset_slave(link, &mut self.links[usize::from(link) - 1], channel);
     }
 
-    /// The slave of this connection begins its next session with this id.
+    /// Sets the session id with which the slave of this connection begins its next session.
     fn slave_nonce(&mut self, link: u16, id: u16, steps: &mut Vec<JournalStep>)
         requires first { 1 ≤ link }
         requires last { link ≤ vec_len self.old.links }
@@ -276,7 +276,7 @@ impl<A: Application> Ends<A> {
         self.links[usize::from(link) - 1].nonce(u32::from(id));
     }
 
-    /// The master of this connection begins its next session with this id.
+    /// Sets the session id with which the master of this connection begins its next session.
     fn master_nonce(&mut self, link: u16, id: u16, steps: &mut Vec<JournalStep>)
         requires first { 1 ≤ link }
         requires last { link ≤ vec_len self.old.links }
@@ -301,7 +301,7 @@ impl<A: Application> Ends<A> {
         );
     }
 
-    /// The connection is cut, or joined again.
+    /// Cuts the connection, or joins it again.
     fn cut(&mut self, link: u16, cut: bool, steps: &mut Vec<JournalStep>)
         requires first { 1 ≤ link }
         requires last { link ≤ vec_len self.old.links }
@@ -315,7 +315,7 @@ impl<A: Application> Ends<A> {
         self.links[usize::from(link) - 1].set_cut(cut);
     }
 
-    /// What an event of the script says happens; at a tick the channel brings what it does.
+    /// Does an event of the script; at a tick the channel brings what it does.
     pub(crate) fn happen<C: Channel>(
         &mut self,
         event: &PlantEvent,
@@ -348,7 +348,7 @@ impl<A: Application> Ends<A> {
         }
     }
 
-    /// The first cycle of another application, which runs from now on: the offers that it changed are noted.
+    /// Changes to another application, runs its first cycle, and notes the offers that it changed.
     pub(crate) fn start(&mut self, app: A, steps: &mut Vec<JournalStep>)
         requires ready { IsPlant self.old.master self.old.links.items self.old.dids.items self.old.outs.items (vec_len steps.old) }
         requires room { vec_len steps.old + vec_len self.old.links ≤ vec_capacity steps.old }
@@ -363,7 +363,7 @@ impl<A: Application> Ends<A> {
         note_offers(&self.master, self.links.as_mut_slice(), steps);
     }
 
-    /// Another application runs from now on, and the offers that its first cycle changed are noted.
+    /// Changes to another application, and notes the offers that its first cycle changed.
     pub(crate) fn change_app(&mut self, app: A, steps: &mut Vec<JournalStep>)
         requires ready { IsPlant self.old.master self.old.links.items self.old.dids.items self.old.outs.items (vec_len steps.old) }
         requires room { vec_len steps.old + 1 + vec_len self.old.links ≤ vec_capacity steps.old }
@@ -376,7 +376,7 @@ impl<A: Application> Ends<A> {
     }
 }
 
-/// The most steps that an event may note, where there are so many connections.
+/// The most steps that an event may note with this number of connections.
 pub(crate) fn room_for(event: &PlantEvent, links: usize) -> usize
     requires { links ≤ 64 }
     ensures { result ≡ room_for event.now links }

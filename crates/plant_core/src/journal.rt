@@ -6,7 +6,7 @@ use plant_model::JournalStep;
 use std::alloc::Global;
 use std::marker::Model;
 
-/// The steps of a plant, oldest first. It is seen as their list.
+/// The steps of a plant, oldest first. In contracts the value is their list.
 #[derive(Drop)]
 pub struct Journal {
     pub(crate) steps: Vec<JournalStep>,
@@ -24,7 +24,7 @@ impl Model for Journal {
 impl Journal {
     ghost use Rattle.std.specs.Prelude.{◌≡◌, []};
 
-    /// No steps. It takes no memory.
+    /// Creates an empty journal. Doesn't allocate.
     pub fn new(alloc: Global) -> Journal
         ensures { result ≡ [] }
     {
@@ -41,7 +41,7 @@ impl Journal {
     }
 }
 
-/// Takes room for so many steps more. After `Memory` nothing is changed.
+/// Allocates room for `count` more steps. After `Memory` nothing is changed.
 pub(crate) fn take_room(steps: &mut Vec<JournalStep>, count: usize) -> Result<(), Memory>
     ensures steps { steps.new.items ≡ steps.old.items }
     ensures room { OnOk result (vec_len steps.new + count ≤ vec_capacity steps.new) }
@@ -52,7 +52,7 @@ pub(crate) fn take_room(steps: &mut Vec<JournalStep>, count: usize) -> Result<()
     }
 }
 
-/// Notes a step where there is room for it.
+/// Notes a step if there is room for it.
 pub(crate) fn note(steps: &mut Vec<JournalStep>, step: JournalStep)
     requires room { vec_len steps.old + 1 ≤ vec_capacity steps.old }
     ensures noted { steps.new.items ≡ steps.old.items ++ step ∷ [] }

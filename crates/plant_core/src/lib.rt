@@ -1,6 +1,5 @@
-//! The machine of a plant: many connections and an application over a channel that nobody trusts. `Plant` does what each
-//! event of a script says, and notes it in a `Journal`. Its contracts say that it does what the definitions of
-//! `plant_model` mean.
+//! A plant: many connections with both ends, and an application, over a black channel. `Plant` does each event of a
+//! script, as `plant_model` defines it, and records it in a `Journal`. It reads no scripts and writes no reports.
 #![tactic(auto)]
 
 mod ends;

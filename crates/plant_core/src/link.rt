@@ -21,8 +21,8 @@ use plant_conf::LinkConf;
 use slave_core::Slave;
 use std::marker::Model;
 
-/// The slave of a connection, what notes the entries of its pair, the watchdog that its master is set to, and whether the connection is
-/// cut. Each call that has the slave do something notes what it did; of the master it is told.
+/// The slave of a connection, what notes the entries of its pair, the watchdog that its master is set to, and whether
+/// the connection is cut. Each call in which the slave acts notes what it did; the acts of the master are passed in.
 #[derive(Drop)]
 pub(crate) struct Link {
     slave: Slave,
@@ -71,7 +71,7 @@ impl Link {
     ghost use Rattle.param_load.specs.Profile.{allows_id};
     ghost use Rattle.end_model.specs.Setup.{OfSlave, sends};
 
-    /// A new slave of this connection, which isn't cut. The ages of the outputs are told or not.
+    /// Creates the slave of this connection, which isn't cut. With `aged` the ages of the outputs are counted.
     #[tactic(auto, using(crate::proofs::Linked::is_new))]
     pub(crate) fn new(conf: &LinkConf, aged: bool) -> Link
         ensures { result ≡ new_link aged conf.now }
@@ -95,7 +95,7 @@ impl Link {
         note_slave(&self.slave, &mut self.watch, true, &[], did, out);
     }
 
-    /// A frame comes to the slave: writes what it did and the frame that it sent.
+    /// Delivers a frame to the slave, and writes what it did and the frame that it sent.
     #[tactic(auto, using(crate::proofs::Linked::slave_goes, crate::proofs::Linked::notes_one))]
     pub(crate) fn deliver(&mut self, frame: &[u8], did: &mut Did, out: &mut FrameBuf)
         requires few { self.old.monitor.noted + 1 < 2 ^ 64 }
@@ -106,7 +106,7 @@ impl Link {
         note_slave(&self.slave, &mut self.watch, false, frame, did, out);
     }
 
-    /// The slave is reset: writes what it did and the frame that it sent.
+    /// Resets the slave, and writes what it did and the frame that it sent.
     #[tactic(auto, using(crate::proofs::Linked::slave_goes, crate::proofs::Linked::notes_one))]
     pub(crate) fn reset(&mut self, did: &mut Did, out: &mut FrameBuf)
         requires few { self.old.monitor.noted + 1 < 2 ^ 64 }
@@ -117,7 +117,7 @@ impl Link {
         note_slave(&self.slave, &mut self.watch, false, &[], did, out);
     }
 
-    /// The slave sends these safe data from now on, exactly as many bytes as it sends.
+    /// Sets the safe data that the slave sends from now on, exactly as many bytes as it sends.
     #[tactic(auto, using(slave_core::proofs::Law::set_answers, crate::proofs::Linked::slave_goes, crate::proofs::Linked::notes_one))]
     pub(crate) fn put(&mut self, load: &[u8])
         requires few { self.old.monitor.noted + 1 < 2 ^ 64 }
@@ -129,7 +129,7 @@ impl Link {
         note_setting(&self.slave, &mut self.watch);
     }
 
-    /// The slave sends fail-safe data from now on, or no longer.
+    /// Switches fail-safe data of the slave on or off.
     #[tactic(auto, using(slave_core::proofs::Law::set_answers, crate::proofs::Linked::slave_goes, crate::proofs::Linked::notes_one))]
     pub(crate) fn hold(&mut self, failsafe: bool)
         requires few { self.old.monitor.noted + 1 < 2 ^ 64 }
@@ -140,7 +140,7 @@ impl Link {
         note_setting(&self.slave, &mut self.watch);
     }
 
-    /// The session id of the slave's sessions that begin from now on, one that its profile allows.
+    /// Sets the session id of all sessions of the slave that begin from now on, one that its profile allows.
     #[tactic(auto, using(slave_core::proofs::Law::set_answers, crate::proofs::Linked::slave_goes, crate::proofs::Linked::notes_one))]
     pub(crate) fn nonce(&mut self, id: u32)
         requires few { self.old.monitor.noted + 1 < 2 ^ 64 }
@@ -193,21 +193,21 @@ impl Link {
         self.slave.outputs()
     }
 
-    /// Whether the slave offers this bit as 1 and isn't held. A bit that its offer doesn't have is 0.
+    /// Returns true if the slave sends this bit as 1 with fail-safe data off. A bit that its offer doesn't have is 0.
     pub(crate) fn offers(&self, bit: u16) -> bool
         ensures { Shows self.now.slave result (λ s e. not (model.held e) && bit_of (model.offer s e) bit) }
     {
         !self.slave.held() && bit_of(self.slave.offer(), bit)
     }
 
-    /// Whether an entry of the pair is other.
+    /// Returns true if an entry of the pair is `other`.
     pub(crate) fn has_other(&self) -> bool
         ensures { (w : List Entry) → self.now.monitor ≡ view_of w → result ≡ is_some (first_other w) }
     {
         self.watch.has_other()
     }
 
-    /// The greatest age of an end's outputs, where ages are told.
+    /// The greatest age of an end's outputs, if ages are counted.
     pub(crate) fn worst(&self, at: End) -> Option<u32>
         requires { IsSome self.now.ages }
         ensures { (w : List Entry) → IfSome self.now.ages (λ a. a ≡ ages.view_of w) → result ≡ told_age (worst_of at w) }

@@ -42,8 +42,8 @@ fn is_named(bounds: &[BoundSpec], link: u16) -> bool
     false
 }
 
-/// What is kept of these connections beside their masters, in their order, before anything happened. Ages are told of those that a bound
-/// names.
+/// What is kept of these connections beside their masters, in their order, before anything happened. Ages are counted
+/// of those that a bound names.
 fn links_made(alloc: Global, confs: &[LinkConf], bounds: &[BoundSpec]) -> Result<Vec<Link>, Memory>
     requires { length confs.now ≤ 64 }
     ensures { IfOk result (λ links. links.items ≡ links_made 1 bounds.now confs.now) }

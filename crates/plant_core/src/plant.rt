@@ -33,8 +33,8 @@ use std::alloc::Global;
 use std::marker::Model;
 use std::mem;
 
-/// Up to 64 connections, each with both its ends, and an application that decides the offers of all masters. Their frames go through a
-/// channel that is handed in with each call. What was done is noted in a journal.
+/// Up to 64 connections, each with both its ends, and an application that computes the offers of all masters. Their
+/// frames go through a channel that is passed in with each call. What was done is recorded in a journal.
 #[derive(Drop)]
 pub struct Plant<A> {
     ends: Ends<A>,
@@ -61,9 +61,9 @@ impl<H: Application> Plant<KindOf<H>> {
     ghost use Rattle.plant_core.specs.Standing.{seen, fixed_in, lengths_kept, PlantStands};
     ghost use Rattle.plant_model.specs.Uses.{Trace};
 
-    /// A plant of this configuration's connections with this application, which has its first cycle, not ticked. All memory is taken
-    /// first, and then the channel begins with the seed. The greatest ages of the outputs are kept of the connections that a bound names.
-    /// After `Memory` the channel is unchanged, and the application is dropped.
+    /// Creates a plant of this configuration's connections with this application, which runs its first (unticked)
+    /// cycle. All memory is allocated first, then the channel begins with the seed. The greatest ages of outputs are
+    /// kept of connections that a bound names. After `Memory` the channel is unchanged, and the application is dropped.
     #[tactic(auto, using(crate::proofs::Made::lengths_made))]
     pub fn new<C: Channel>(
         alloc: Global,
@@ -81,7 +81,7 @@ impl<H: Application> Plant<KindOf<H>> {
         Plant::begun(alloc, conf, &mut app, channel)
     }
 
-    /// The same, with an application that stays where it is after `Memory`; else an empty net is left in its place.
+    /// Does the same with a borrowed application: `Memory` leaves it unchanged, success replaces it with an empty net.
     pub fn begun<C: Channel>(
         alloc: Global,
         conf: &PlantConf,
@@ -109,8 +109,8 @@ fn empty_net<H: Application>(alloc: Global) -> Result<KindOf<H>, Memory> {
     }
 }
 
-/// A plant of this configuration's connections, in which this application runs, and another one ran before its first cycle. A third one is
-/// left in its place.
+/// Creates a plant of this configuration's connections in which this application runs. Before its first cycle `before`
+/// ran, and `after` is left in its place.
 fn begin<A: Application, C: Channel>(
     alloc: Global,
     conf: &PlantConf,
@@ -141,9 +141,9 @@ impl<A: Application> Plant<A> {
     ghost use Rattle.plant_core.specs.Standing.{TellsStill, seen, fixed_in, kept_at, lengths_kept, HasLink, Follows, ShowsPair, TellsOther, IsAged, ShowsOn, ShowsWorst};
     ghost use Rattle.plant_model.specs.FairPairs.{Fits};
 
-    /// What an event of the script says happens, one that fits the connections. In a tick the channel brings what it does: at most 64
-    /// parcels are pulled, until none comes. All room in the journal is taken first; after `Memory` the plant and the channel are
-    /// unchanged.
+    /// Does one event of the script, which must fit the connections. At a tick up to 64 parcels are pulled from the
+    /// channel, until it gives none. All room in the journal is allocated first; after `Memory` the plant and the
+    /// channel are unchanged.
     pub fn step<C: Channel>(&mut self, event: &PlantEvent, channel: &mut C) -> Result<(), Memory>
         requires fits { Fits (lengths_kept self.old.links) event.now }
         ensures follows { let seen = seen A.rule A.holds A.guards in OnOk result (Follows (seen self.old) (Event event.now) (seen self.new) (C.told channel.old) (C.told channel.new)) }
@@ -157,8 +157,8 @@ impl<A: Application> Plant<A> {
         Ok(())
     }
 
-    /// Drops the application that runs, and has this one in its place, which has its first cycle, not ticked. After `Memory` this one is
-    /// dropped, and nothing is changed.
+    /// Replaces the running application with `app`, which runs its first (unticked) cycle, and drops the old one. After
+    /// `Memory` `app` is dropped, and the plant is unchanged.
     pub fn change_app(&mut self, app: A) -> Result<(), Memory>
         ensures follows { let seen = seen A.rule A.holds A.guards in OnOk result ((told : Told) → Follows (seen self.old) (App (app_view A.rule A.holds A.guards app)) (seen self.new) told told) }
         ensures fixed { fixed_in self.new.links ≡ fixed_in self.old.links }
@@ -176,7 +176,7 @@ impl<A: Application> Plant<A> {
         &self.journal
     }
 
-    /// The same, of a plant that isn't needed any longer.
+    /// Consumes the plant and returns its journal.
     pub fn into_journal(self) -> Journal
         ensures { result ≡ self.journal }
     {
@@ -191,7 +191,7 @@ impl<A: Application> Plant<A> {
         self.ends.links.len() as u16
     }
 
-    /// The lowest connection whose pair has an other entry.
+    /// Returns the lowest connection whose pair has an `other` entry.
     #[tactic(auto, using(crate::proofs::Others::other_told))]
     pub fn other(&self) -> Option<u16>
         ensures { TellsOther (seen A.rule A.holds A.guards self.now) result }
@@ -199,9 +199,9 @@ impl<A: Application> Plant<A> {
         lowest_other(self.ends.links.as_slice())
     }
 
-    /// The greatest age of the outputs of an end of this connection, in ticks of that end, after anything that it did: how long before its
-    /// peer sent the data from which the outputs were. A bound of the configuration names the connection, if there is one. None exactly where
-    /// no age was ever told; 2^32 - 1 where it was above that.
+    /// Returns the greatest age of the outputs of this end, over all its steps: the ticks of this end since its peer
+    /// sent the data of the outputs. If the connection exists, a bound of the configuration must name it. Returns None
+    /// if there was no age, and 2^32 - 1 for all greater ones.
     #[tactic(auto, using(crate::proofs::Watchdogs::worst_shown, crate::proofs::Watchdogs::no_worst))]
     pub fn worst(&self, link: u16, end: End) -> Option<u32>
         requires { IsAged self.now.links link }
@@ -213,7 +213,7 @@ impl<A: Application> Plant<A> {
         }
     }
 
-    /// Whether the output bit is 1 at the slave of its connection; it isn't where there is no such connection or no such bit.
+    /// Returns true if the output bit is 1 at the slave of its connection, false if there is no such bit.
     #[tactic(auto, using(crate::proofs::Watchdogs::on_shown, crate::proofs::Watchdogs::not_on))]
     pub fn is_on(&self, out: Bit) -> bool
         ensures { ShowsOn (seen A.rule A.holds A.guards self.now) out result }
@@ -224,7 +224,7 @@ impl<A: Application> Plant<A> {
         }
     }
 
-    /// Whether this bound is still, as `quiet` says; the e-stop of a connection that there isn't is off.
+    /// Returns true if the bound's stop is active, as `quiet` says. An e-stop at no existing connection is off.
     pub fn is_still(&self, bound: BoundSpec) -> bool
         ensures { TellsStill (seen A.rule A.holds A.guards self.now) bound result }
     {
@@ -281,8 +281,9 @@ impl<A: Application> Plant<A> {
         self.ends.master.outputs(link)
     }
 
-    /// Whether the bound of these bits is still: the slave of the input bit's connection, which there is, offers that bit as 0 or is held, and
-    /// the application that runs guards the output bit by it. An input bit that its offer doesn't have is 0.
+    /// Returns true if the stop of these bits is active. Then the slave sends the input bit as 0 or sends fail-safe
+    /// data, and the running application guards the output bit by it. The input bit's connection must exist; a bit that
+    /// isn't there is 0.
     pub fn quiet(&self, inp: Bit, out: Bit) -> bool
         requires { HasLink self.now inp.link }
         ensures { TellsStill (seen A.rule A.holds A.guards self.now) (record { estop = inp; drive = out }) result }
@@ -302,8 +303,8 @@ impl<H: Application> Plant<KindOf<H>> {
     ghost use Rattle.plant_model.specs.Acts.{App};
     ghost use Rattle.plant_core.specs.Standing.{seen, fixed_in, Follows};
 
-    /// Has the first spare application of this name run in the place of the one that runs, as `change_app` does. All room is taken first;
-    /// after an error nothing is changed: `NoApp` where there is none of this name, or `Memory`.
+    /// Replaces the running application with the first unused one of this name, as `change_app` does. `NoApp` if there
+    /// is none of this name, or `Memory`; then nothing is changed.
     pub fn take_spare(&mut self, name: &[u8], spare: &mut Vec<EntryOf<H>>) -> Result<(), Stopped>
         ensures follows { let K = ⟦<KindOf<H> as Application>⟧ in let seen = seen K.rule K.holds K.guards in
             OnOk result ((entry : EntryOf H) × IsTaken (λ e. string_bytes e.name) name.now spare.old.items entry spare.new.items
@@ -327,7 +328,7 @@ impl<H: Application> Plant<KindOf<H>> {
     }
 }
 
-/// The lowest of these connections whose pair has an other entry.
+/// The lowest of these connections whose pair has an `other` entry.
 #[tactic(auto, using(crate::proofs::Others::all_left))]
 fn lowest_other(links: &[Link]) -> Option<u16>
     requires { length links.now ≤ 64 }

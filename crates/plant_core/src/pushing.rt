@@ -10,7 +10,7 @@ use crate::link::Link;
 use black_channel::{Channel, Place};
 use fsoe_base::{Did, End, FrameBuf};
 
-/// Pushes a frame that is for this end of a connection, if there is one and the connection isn't cut.
+/// Pushes a frame for this end of a connection, if there is one and the connection isn't cut.
 pub(crate) fn push_sent<C: Channel>(
     channel: &mut C,
     link: u16,

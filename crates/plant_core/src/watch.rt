@@ -13,8 +13,8 @@ use exchange_model::Monitor;
 use fsoe_base::{Did, End, FrameBuf};
 use reaction_bound::Ages;
 
-/// What notes the entries of a pair: a monitor alone, or what tells the ages of the outputs too. A connection that no bound names has no
-/// use for ages.
+/// What notes the entries of a pair: only a monitor, or also the ages of the outputs. A connection that no bound names
+/// needs no ages.
 #[derive(Drop)]
 pub(crate) enum Watch {
     Plain(Monitor),
@@ -24,7 +24,7 @@ pub(crate) enum Watch {
 impl Watch {
     ghost use Rattle.std.specs.Prelude.{[]};
 
-    /// One that noted nothing yet, and tells ages or not.
+    /// Creates one that noted nothing yet, with ages or without.
     pub(crate) fn new(aged: bool) -> Watch
         ensures monitor { monitor_in result ≡ monitor.view_of [] }
         ensures ages { ages_in result ≡ new_ages aged }
@@ -36,8 +36,8 @@ impl Watch {
         }
     }
 
-    /// Notes the next entry of the pair by what is read of it: its end, whether it is a tick, the bytes that came, what the end did, the
-    /// frame that it sent, and the watchdog in the terms that it tells after it, which is used only where it took ProcessData.
+    /// Notes the next entry of the pair by its parts: its end, whether it is a tick, the bytes that came, what the end
+    /// did, the frame sent. The watchdog in the terms after it is used only if the end took ProcessData.
     pub(crate) fn note_parts(
         &mut self,
         at: End,
@@ -59,7 +59,7 @@ impl Watch {
         }
     }
 
-    /// Whether an entry of the pair is other.
+    /// Returns true if an entry of the pair is `other`.
     pub(crate) fn has_other(&self) -> bool
         ensures { (w : List Entry) → monitor_in self.now ≡ monitor.view_of w → result ≡ is_some (first_other w) }
     {
@@ -69,7 +69,7 @@ impl Watch {
         }
     }
 
-    /// The greatest age of an end's outputs, where ages are told.
+    /// The greatest age of an end's outputs, if ages are counted.
     pub(crate) fn worst(&self, at: End) -> Option<u32>
         requires { IsSome (ages_in self.now) }
         ensures { (w : List Entry) → IfSome (ages_in self.now) (λ a. a ≡ ages.view_of w) → result ≡ told_age (worst_of at w) }

@@ -20,20 +20,20 @@ pub fn pulls()
     ensures { (b : Beginning) (turns : List Turn) → All (IsTurn b.links) turns → PullsFit 0 (journal b (acts turns)) }
 {}
 
-/// The lines of the script in a journal are what was said, in order.
+/// The lines of the script in a journal are the parsed ones, in order.
 #[tactic(auto, using(crate::proofs::Lines::lines_are_said))]
 pub fn lines()
     ensures { (b : Beginning) (turns : List Turn) → line_steps (journal b (acts turns)) ≡ map line_step (said_by_turns turns) }
 {}
 
-/// The applications that a script takes are among those that were handed in, each an entry that no earlier line took.
+/// The applications that a script takes are among those of the caller, each an entry that no earlier line took.
 #[tactic(auto, using(crate::proofs::SpareApps::apps_are_spare))]
 pub fn apps()
     ensures { (spare : List Named) (lines : List PlantLine) → AppsAreSpare spare (said spare lines) }
 {}
 
-/// Exactly these acts run a cycle of the application: the start, each tick, each change of the application, and each parcel that a master
-/// takes or resets on.
+/// Exactly these acts run a cycle of the application: the start, each tick, each change of the application, and each
+/// parcel that a master takes or resets on.
 #[tactic(auto, using(crate::proofs::Cycled::cycles))]
 pub fn cycles()
     ensures { (b : Beginning) (act : Act) (acts : List Act) → Cycles b act acts }

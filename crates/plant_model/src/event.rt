@@ -1,8 +1,8 @@
-//! The events of a plant's script, and what one of its lines says.
+//! The events of a plant's script, and what one of its lines means.
 use fsoe_base::{End, Image};
 use schedule_file::LineBuf;
 
-/// What a script has happen in a plant. Connections are numbered from 1.
+/// An event of a plant's script. Connections are numbered from 1.
 #[derive(Debug, Drop)]
 pub enum PlantEvent {
     /// The time of all ends goes on by one tick, and the channel brings what it does.
@@ -19,12 +19,12 @@ pub enum PlantEvent {
     Cut { link: u16, cut: bool },
 }
 
-/// What a line of a script says.
+/// What a line of a script means.
 #[derive(Drop)]
 pub enum PlantLine {
     /// An event.
     Step(PlantEvent),
-    /// Another application runs from now on: the first of this name that was handed in and isn't yet used.
+    /// Another application runs from now on: the first of this name among those of the caller that isn't used yet.
     App(LineBuf),
     /// The end of the script.
     End,

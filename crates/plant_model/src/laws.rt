@@ -9,8 +9,8 @@ ghost use Rattle.plant_model.specs.FairPairs.{StepFits, PairsAreFair};
 ghost use Rattle.plant_model.specs.Uses.{Use, Trace, ToldLists, ToldHolds, EmptiesRose};
 ghost use Rattle.plant_model.specs.WorkedPlant.{SevenTicks, StopLines};
 
-/// What a channel tells goes by its uses, whatever channel it is: of the parcels that were pushed and given, where it tells them; of what
-/// it holds and gives, where it tells that; and its count of pulls that gave nothing.
+/// What is known of any channel follows from its uses: the parcels pushed and given, and what it holds and gives, each
+/// if known. So does its count of pulls that gave nothing.
 #[tactic(auto, using(crate::proofs::Traces::told_lists, crate::proofs::Traces::told_holds, crate::proofs::Traces::empties_rose))]
 pub fn traces()
     ensures lists { (uses : List Use) (old new : Told) → Trace uses old new → ToldLists uses old new }
@@ -18,8 +18,8 @@ pub fn traces()
     ensures empties { (uses : List Use) (old new : Told) → Trace uses old new → EmptiesRose uses old new }
 {}
 
-/// The law of the pair holds of each connection of a plant: whatever parcels its channel gave, the entries of its pair before the first
-/// other one, all where there is none, are fair.
+/// The law of the pair holds of each connection of a plant, whatever parcels its channel gave. The entries of its pair
+/// before the first `other` entry, all if there is none, are fair.
 #[tactic(auto, using(crate::proofs::Proper::pairs_are_fair))]
 pub fn pairs()
     ensures fair { (links : List LinkConf) (journal : List JournalStep) → All HasSameLengths links → All (StepFits links) journal → PairsAreFair links journal }

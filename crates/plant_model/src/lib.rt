@@ -1,6 +1,6 @@
-//! What a plant of many connections and an application does, said by looking back over its acts and its journal. There is no
-//! code here to run: `specs` has the definitions, beside the types of its events and steps. The laws say what holds of them
-//! in all plants and in worked ones.
+//! What a plant of many connections and an application does, as a function of its past acts and its journal;
+//! `plant_core` is proved to do the same. There is no code to run here: `specs` has the definitions, beside the types
+//! of events and steps. The laws say what holds of them in all plants and in examples.
 #![tactic(auto)]
 
 pub mod act_laws;

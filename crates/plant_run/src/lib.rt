@@ -1,5 +1,5 @@
-//! The run of a plant over its script. `run_plant` reads the lines of a source, has a plant do what each says, and writes its
-//! report to a sink. It watches the bounds of the configuration, and writes a line for each.
+//! Runs a plant over its script, for the command `plant`. `run_plant` reads the lines of a source, executes each with a
+//! plant, and writes its report to a sink. It watches the bounds of the configuration, and writes a line for each.
 #![tactic(auto)]
 
 pub mod laws;

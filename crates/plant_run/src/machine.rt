@@ -40,8 +40,8 @@ use std::marker::PhantomData;
 /// The most events of a script, its lines for applications among them.
 pub const MAX_SCRIPT: u64 = 2_000;
 
-/// What the run of a plant owns: the application that runs first, until the plant begins; those that its script may take, in their order; and,
-/// once it has begun, the plant, and a reaction for each bound of its configuration.
+/// What the run of a plant owns: the application that runs first, until the plant begins; those that its script may
+/// take, in their order. Once it has begun: the plant, and a reaction for each bound of its configuration.
 #[derive(Drop)]
 pub(crate) struct Owned<H: Application> {
     pub app: KindOf<H>,
@@ -50,7 +50,7 @@ pub(crate) struct Owned<H: Application> {
     pub reactions: Vec<Reaction>,
 }
 
-/// What a plant is run with. What a run owns is lent for a time of its own.
+/// What a plant is run with. What a run owns is borrowed for a lifetime of its own.
 #[derive(Drop)]
 pub(crate) struct PlantRun<'a, 'o, H: Application, C> {
     pub alloc: Global,
@@ -148,7 +148,7 @@ impl<H: Application> Owned<H> {
         Ok(())
     }
 
-    /// What an event of the script says happens in the plant, and the reactions of these bounds are told. After `Memory` nothing is changed.
+    /// Does an event of the script, and updates the reactions of these bounds. After `Memory` nothing is changed.
     fn step<C: Channel>(
         &mut self,
         event: &PlantEvent,
@@ -177,8 +177,8 @@ impl<H: Application> Owned<H> {
         Ok(())
     }
 
-    /// Has the first spare application of this name run in the plant, and the reactions of these bounds are told. After an error nothing is
-    /// changed.
+    /// Changes to the first unused application of this name in the plant, and updates the reactions of these bounds.
+    /// After an error nothing is changed.
     fn take(&mut self, name: &[u8], bounds: &[BoundSpec]) -> Result<(), Stopped>
         requires { CanHear self.old.plant self.old.reactions.items bounds.now }
         ensures follows { let K = ⟦<KindOf<H> as Application>⟧ in OnOk result ((entry : EntryOf H) × IsTaken (λ e. string_bytes e.name) name.now self.old.spare.items entry self.new.spare.items
@@ -206,7 +206,7 @@ impl<H: Application> Owned<H> {
         }
     }
 
-    /// The lowest connection whose pair has an other entry.
+    /// The lowest connection whose pair has an `other` entry.
     fn other(&self) -> Option<u64>
         ensures { let K = ⟦<KindOf<H> as Application>⟧ in IfSome self.now.plant (λ plant. TellsOther (seen K.rule K.holds K.guards plant) result) }
     {

@@ -55,22 +55,23 @@ fn run_owned<H: Application, C: Channel, S: Source, K: Sink>(
     run_given(&mut given, source, sink)
 }
 
-/// Runs a plant of this configuration's connections over its script: reads its first line, begins the plant, and then does an event a line up
-/// to `end`, at most 2,000. After each tick it writes `tick <n>` and a line `<k> <state> <outputs> <state> <outputs>` for each connection, its
-/// master first, and at the end `ticks <n>` and `other none`, or `other <k>` with the lowest connection that has an other entry, and a line for
-/// each bound of the configuration: `bound <estop> <drive> <limit> worst <master> <slave> kept`, or `broken <tick>` in place of `kept`. Where a
-/// line is refused, it writes `refused <line> <cause>`: with `NoApp` where no spare application of the name that it takes is left. What waits
-/// for output is sent before a read that may block, and when the run ends.
+/// Runs a plant of this configuration's connections over its script: reads its first line, begins the plant, and does
+/// an event from each line up to `end`, at most 2,000. After each tick it writes `tick <n>`, and for each connection
+/// `<k> <state> <outputs> <state> <outputs>`, its master first. At the end it writes `ticks <n>`, and `other none` or
+/// `other <k>` with the lowest connection that has an `other` entry. For each bound it writes
+/// `bound <estop> <drive> <limit> worst <master> <slave> kept`, or `broken <tick>` in place of `kept`. If a line is
+/// refused, it writes `refused <line> <cause>`, with `NoApp` if no unused application has the name. Buffered output is
+/// flushed before each read that may block, and at the end of the run.
 ///
-/// The line of a bound has its limit in ticks, twice the watchdogs of both its connections; the greatest age of the outputs of the e-stop's
-/// master and that of the drive's slave, `-` where there was none; and the first tick after which the drive was on though at least the limit
-/// of ticks, itself counted, came since the bound was still, without a break. A
-/// bound of a connection that there isn't has the limit 0, and is never broken by a drive that there isn't.
+/// The line of a bound has its limit in ticks, twice the watchdogs of both its connections. It has the greatest ages of
+/// the outputs of the e-stop's master and of the drive's slave, `-` if there was none. The bound is broken at the first
+/// tick that leaves the drive on although at least the limit of ticks, itself counted, came since the stop became
+/// active. A bound without a connection has the limit 0, and without a drive it is never broken.
 ///
-/// The status is `Ok` with place 0; `Other` with the lowest connection that has an other entry; `Line` with the number of the refused line;
-/// `Read` with the whole lines read, only where the source failed; `Write` with the bytes written, only where the sink failed; or `Memory`
-/// with place 0. Whatever it is, the journal has then the steps that were done: also those of lines whose text wasn't written yet as a write
-/// failed, and, from the script's first line on, the offers of the cycle at the start.
+/// The status is `Ok` with place 0, or `Other` with the lowest connection that has an `other` entry. `Line` has the
+/// number of the refused line. `Read` has the complete lines read, only if the source failed; `Write` has the bytes
+/// written, only if the sink failed; `Memory` has place 0. In every case the journal has the steps that were done, also
+/// of lines whose text a failed write left out. From the script's first line on it has the first cycle's offers.
 pub fn run_plant<H: Application, C: Channel, S: Source, K: Sink>(
     alloc: Global,
     conf: &PlantConf,

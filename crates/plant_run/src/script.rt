@@ -1,4 +1,4 @@
-//! How the lines of a plant's script are read.
+//! How the lines of a plant's script are parsed.
 ghost use Rattle.std.specs.Prelude.{◌≡◌, ◌≤◌, ◌<◌, [], ◌∷◌, ◌++◌, map, length};
 ghost use Rattle.file_run.specs.Event.{what_says};
 ghost use Rattle.plant_conf.specs.declared.conf.LinkConf.{LinkConf};
@@ -34,7 +34,7 @@ impl Model for LengthsTable {
 }
 
 impl LengthsTable {
-    /// None. Its places hold some lengths that aren't seen.
+    /// None. Its places hold some lengths, which contracts don't see.
     fn none() -> LengthsTable
         ensures { result ≡ [] }
     {
@@ -86,7 +86,7 @@ impl LengthsTable {
     }
 }
 
-/// How the lines of a plant's script are read.
+/// How the lines of a plant's script are parsed.
 pub struct ScriptFormat;
 
 /// The header of a script: the lengths of the connections, which are known before, and whether its one line was read.

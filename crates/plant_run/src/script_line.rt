@@ -1,4 +1,4 @@
-//! What a line of a plant's script says.
+//! What a line of a plant's script means.
 ghost use Rattle.std.specs.Prelude.{◌≡◌, ◌≤◌, List, length, Some, IfOk, IsSome};
 ghost use Rattle.fsoe_base.specs.declared.lengths.Lengths.{Lengths};
 ghost use Rattle.schedule_file.specs.declared.line_buf.TheConstants.{MAX_LINE};
@@ -152,7 +152,7 @@ fn read_nonce(fields: Option<&[u8]>, lengths: &[Lengths]) -> Result<PlantLine, L
     Ok(PlantLine::Step(PlantEvent::Nonce { link, end, id }))
 }
 
-/// No field: a word says this by itself.
+/// No field: a word means this by itself.
 fn read_bare(fields: Option<&[u8]>, says: PlantLine) -> Result<PlantLine, LineCause>
     ensures value { result ≡ bare_line says (fields_after fields.entry) }
     ensures says { IfOk result (λ said. said ≡ says) }
@@ -174,11 +174,12 @@ fn read_app(fields: Option<&[u8]>) -> Result<PlantLine, LineCause>
     Ok(PlantLine::App(name))
 }
 
-/// What a line of a script says, without its newline, where the connections have these lengths: an event, another application, or the
-/// end of the script. The lines are `t` (a tick), `p <k> <hex>` (exactly as many safe data bytes as slave `k` sends), `h <k> 0` and
-/// `h <k> 1` (fail-safe data of slave `k` off and on), `z <k>` (a local reset of slave `k`), `n <k> m <id>` and `n <k> s <id>` (a
-/// session id of 16 bits of the master or the slave of connection `k`), `cut <k> 1` and `cut <k> 0`, `app <name>`, and `end`. An error
-/// is the first of these causes that applies: `Word`, `Fields`, `Number`, `NoLink`, `Hex`, `Length`.
+/// Parses a line of a script without its newline; the connections have these lengths. An error is the first cause that
+/// applies of `Word`, `Fields`, `Number`, `NoLink`, `Hex`, `Length`. The lines:
+/// - `t`: a tick; `z <k>`: a local reset of slave `k`; `cut <k> 1`, `cut <k> 0`, `app <name>`, and `end`;
+/// - `p <k> <hex>`: data of slave `k`, exactly as many bytes as it sends; `h <k> 0`, `h <k> 1`: its fail-safe data off,
+///   on;
+/// - `n <k> m <id>`, `n <k> s <id>`: a session id of 16 bits of the master or the slave of connection `k`.
 #[tactic(auto, using(crate::proofs::Names::fields_fit))]
 pub fn read_plant_event(line: &[u8], lengths: &[Lengths]) -> Result<PlantLine, LineCause>
     requires most { length line.now ≤ MAX_LINE }

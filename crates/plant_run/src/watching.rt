@@ -26,7 +26,7 @@ fn watchdog_at(links: &[LinkConf], link: u16) -> Option<u16>
     }
 }
 
-/// The limit of a bound in ticks: twice the watchdogs of the masters of both its connections; 0 where there isn't one of them.
+/// The limit of a bound in ticks: twice both master watchdogs, or 0 if one of the connections doesn't exist.
 #[tactic(auto, using(crate::proofs::Watched::limit_both, crate::proofs::Watched::limit_none, crate::proofs::Watched::limit_less))]
 pub(crate) fn limit_of(links: &[LinkConf], bound: BoundSpec) -> u32
     ensures { result ≡ limit_of links.now bound }
@@ -39,7 +39,7 @@ pub(crate) fn limit_of(links: &[LinkConf], bound: BoundSpec) -> u32
     }
 }
 
-/// A reaction for each of these bounds, to which nothing was said.
+/// Creates a reaction for each of these bounds, which has observed nothing.
 pub(crate) fn reactions_made(
     alloc: Global,
     links: &[LinkConf],
@@ -62,7 +62,8 @@ pub(crate) fn reactions_made(
     Ok(made)
 }
 
-/// Tells a reaction of a line of the script: if it was a tick, whether the drive is on after it; and whether the bound is still then.
+/// Updates a reaction after a line of the script, by whether the stop is active, and after a tick by whether the drive
+/// is on.
 #[tactic(auto, using(crate::proofs::Watched::tick_heard, crate::proofs::Watched::other_heard))]
 fn hear_one<A: Application>(
     plant: &Plant<A>,
@@ -82,7 +83,7 @@ fn hear_one<A: Application>(
     }
 }
 
-/// Tells each reaction of these bounds of a line of the script.
+/// Updates each reaction of these bounds after a line of the script.
 fn hear_each<A: Application>(
     plant: &Plant<A>,
     bounds: &[BoundSpec],
@@ -99,7 +100,7 @@ fn hear_each<A: Application>(
     }
 }
 
-/// Tells the reactions of these bounds of a line of the script, which may be a tick. The plant did it.
+/// Updates the reactions of these bounds after a line of the script, which may be a tick. The plant did it.
 pub(crate) fn hear<A: Application>(
     plant: &Plant<A>,
     bounds: &[BoundSpec],
@@ -124,7 +125,7 @@ fn push_bit(bit: Bit, text: &mut LineText)
     text.push_decimal(u64::from(bit.bit));
 }
 
-/// Appends an age, or that there was none.
+/// Appends an age, or `-` if there was none.
 fn push_age(age: Option<u32>, text: &mut LineText)
     requires { length text.old ≤ 200 }
     ensures text { text.new ≡ text.old ++ age_text age }

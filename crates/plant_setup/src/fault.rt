@@ -1,4 +1,4 @@
-//! Why a configuration can't be run, and the line that says so.
+//! Why a configuration can't be run, and the line that reports it.
 ghost use Rattle.std.specs.Prelude.{◌≡◌, ◌+◌, ◌≤◌, ◌++◌, length};
 ghost use Rattle.plant_setup.specs.ConfigLine.{numbered, at_bit, conf_text, net_text, setup_text, config_line};
 ghost use Rattle.plant_conf.specs.Names.{key_text};
@@ -15,7 +15,7 @@ pub enum SetupFault {
     TooLong,
     /// The text is no configuration.
     Conf(ConfFault),
-    /// The net can't be made; or a bound names a bit that no image has, which is told as it is of a net.
+    /// The net can't be made; or a bound names a bit that no image has, which is reported like that of a net.
     Net(NetFault),
     /// No application has the name.
     NoApp,
@@ -92,7 +92,7 @@ fn push_net(why: NetFault, text: &mut LineText)
     }
 }
 
-/// Writes the line that says why a configuration can't be run.
+/// Writes the line that reports why a configuration can't be run.
 pub fn write_config_line(why: SetupFault, text: &mut LineText)
     ensures { text.new ≡ config_line why }
 {

@@ -1,5 +1,5 @@
-//! What a plant is set up with: by the names in its configuration, the application that runs first and the channel; or the first reason
-//! for which the configuration can't be run, and the line that says so.
+//! Selects, by the names in a plant's configuration, the application that runs first and the channel. If the
+//! configuration can't be run, it gives the first reason and the line that reports it. It runs nothing.
 #![tactic(auto)]
 
 mod apps;

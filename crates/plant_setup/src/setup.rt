@@ -19,14 +19,14 @@ use plant_conf::PlantConf;
 pub struct Setup {
     /// The application that runs first.
     pub app: AppKind,
-    /// Those that its script may take later, in their order.
+    /// The applications that its script may take later, in their order.
     pub spare: Vec<AppEntry>,
-    /// The place of its channel among those that were handed in, from 0.
+    /// The place of its channel among those of the caller, from 0.
     pub channel: usize,
 }
 
-/// The application that runs first: the net, where the configuration names that, else the first of its name, which is taken out of
-/// those that are left.
+/// Returns the application that runs first: the net if the configuration names it, else the first of its name, which is
+/// taken out of those that are left.
 fn choose_app(wanted: &str, net: Net, left: &mut Vec<AppEntry>) -> Option<AppKind>
     ensures { MatchOption result
         (app_fault wanted.now (map (λ entry. string_bytes entry.name) left.old.items) ≡ Some setup.NoApp)
@@ -42,9 +42,9 @@ fn choose_app(wanted: &str, net: Net, left: &mut Vec<AppEntry>) -> Option<AppKin
     }
 }
 
-/// Sets a plant up by its configuration, with these applications and one of these channels, or tells the first fault: of the net, of the
-/// bounds, that no application has the name, that no channel has it. The net is looked at even where another application runs, and taken out
-/// of the configuration. Where there is a fault, all applications are dropped. It takes no memory.
+/// Sets a plant up by its configuration, with these applications and one of these channels. Doesn't allocate. The first
+/// fault is returned: of the net, of the bounds, that no application has the name, that no channel has it. The net is
+/// taken out of the configuration, and tested even if it doesn't run. After a fault all applications are dropped.
 pub fn set_up(
     conf: &mut PlantConf,
     apps: Vec<AppEntry>,
