@@ -1,4 +1,4 @@
-//! The text of one entry, which every report has after the entry's number.
+//! The text of one step in the reports of `replay`, `node` and `image`: what the end did, state, outputs, sent frame.
 #![tactic(auto)]
 
 ghost use Rattle.std.specs.Prelude.{◌≡◌, ◌+◌, ◌*◌, ◌≤◌, ◌++◌, length, codes};

@@ -15,8 +15,8 @@ use crate::header::read_header;
 use crate::machine::Machine;
 use fsoe_io::{LineReader, Source};
 
-/// Reads a header, whose first line the reader lends, and begins a machine that is set to what it says, with what lines after it are read
-/// by; or tells why there is none.
+/// Reads a header, whose first line the reader lends, and begins a machine with its settings. Also returns what lines
+/// after it are parsed by, or why there is no machine.
 pub(crate) fn begin_over<M: Machine, S: Source>(
     handed: &mut M::Handed,
     reader: &mut LineReader,

@@ -11,9 +11,9 @@ use crate::machine::Machine;
 use crate::run::{end_unread, run_on};
 use fsoe_io::{Ended, LineReader, Sink, Source};
 
-/// Runs the machine `T` over an input whose first line is `title`, which is then the first line of its header, and else the machine
-/// `M`: also where the first line doesn't come, or is too long. The run is that of `run_over`, and what was handed for the other machine
-/// stays as it was.
+/// If the first line of the input is `title`, runs the machine `T`; this line is then the first of its header. Else,
+/// also if the first line is too long or doesn't come, it runs the machine `M`. The run is that of `run_over`, and what
+/// was handed for the other machine stays unchanged.
 pub fn run_either<T: Machine, M: Machine, S: Source, K: Sink>(
     title: &[u8],
     titled: &mut T::Handed,

@@ -1,4 +1,4 @@
-//! How the lines of an input are read.
+//! How the lines of an input are parsed.
 ghost use Rattle.std.specs.Prelude.{◌≡◌, ◌<◌, ◌≤◌, ℕ, Bool, List, Result, IsTrue, MatchOption, OnOk, Some, None, length};
 ghost use Rattle.schedule_file.specs.Input.{InputFormat};
 ghost use Rattle.schedule_file.specs.declared.line_buf.TheConstants.{MAX_LINE};
@@ -9,8 +9,8 @@ ghost use Rattle.file_run.specs.Header.{TakesLine};
 use crate::stopped::Untaken;
 use schedule_file::LineCause;
 
-/// How the lines of an input are read: those of its header, and then those of its events, up to a line that is the last. A new kind of
-/// input brings one of these.
+/// How the lines of an input are parsed: those of its header, and then those of its events, up to a line that is the
+/// last. Implement this for a new kind of input.
 pub trait Format {
     /// What the lines of a header said so far.
     type Header: Drop;
@@ -42,13 +42,13 @@ pub trait Format {
     // Whether the lines of a header may take memory.
     ghost takes: { Bool };
 
-    /// Takes the next line of a header: whether it is the last; or why the line is refused, after which the header isn't read on.
+    /// Takes the next header line, and returns whether it is the last, or why it is refused; then don't read further.
     fn line(header: &mut Self::Header, line: &[u8]) -> Result<bool, Untaken>
         ensures next { TakesLine takes (format (kind header.old)).is_whole result header.new ((format (kind header.old)).header_line header.old line.now) }
         ensures kind { kind header.new ≡ kind header.old }
         ensures fewer { OnOk result (lines_left header.new < lines_left header.old) };
 
-    /// How the lines after a header are read that is done.
+    /// How the lines after a complete header are parsed.
     fn grammar(header: &Self::Header) -> Self::Grammar
         requires { IsTrue ((format (kind header.now)).is_whole header.now) }
         ensures { (text : List ℕ) → says result text ≡ (format (kind header.now)).line header.now text };
@@ -57,7 +57,7 @@ pub trait Format {
     fn end() -> Self::Line
         ensures { (k : Kind) → (format k).event result ≡ None };
 
-    /// What a line after the header says, written over `said`, or why it is refused.
+    /// Parses a line after the header, and writes its meaning over `said`, or returns why it is refused.
     fn read(grammar: &Self::Grammar, line: &[u8], said: &mut Self::Line) -> Result<(), LineCause>
         requires { length line.now ≤ MAX_LINE }
         ensures { what_says result said.new ≡ says grammar.now line.now };

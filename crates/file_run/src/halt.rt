@@ -1,4 +1,4 @@
-//! Why an input goes no further.
+//! Why reading of an input stopped.
 ghost use Rattle.std.specs.Prelude.{◌≡◌, ◌-◌, ◌^◌, ◌<◌};
 ghost use Rattle.file_run.specs.HaltOf.{halt_of, halt_stopped};
 
@@ -6,18 +6,18 @@ use crate::refusal::Refusal;
 use crate::stopped::Stopped;
 use fsoe_io::LineFault;
 
-/// Why the input goes no further.
+/// Why reading of the input stopped.
 #[derive(Clone, Copy)]
 pub enum Halt {
-    /// The source failed after this many whole lines.
+    /// The source failed after this many complete lines.
     Read(u64),
     /// The line of this number, from 1, is refused.
     Refused(u64, Refusal),
-    /// There is no memory to go on.
+    /// There is no memory to continue.
     Memory,
 }
 
-/// Why an input goes no further where an event of the line of this number isn't done.
+/// Why reading stops if an event of the line of this number isn't done.
 pub(crate) fn halt_stopped(why: Stopped, line: u64) -> Halt
     ensures { result ≡ halt_stopped why line }
 {
@@ -28,7 +28,7 @@ pub(crate) fn halt_stopped(why: Stopped, line: u64) -> Halt
     }
 }
 
-/// Why there is no next line after so many whole lines.
+/// Why there is no next line after `before` complete lines.
 pub(crate) fn halt_of(fault: LineFault, before: u64) -> Halt
     requires { before < 2 ^ 64 - 1 }
     ensures { result ≡ halt_of fault before }

@@ -1,6 +1,6 @@
-//! What every command does with its input: reads the header and the events, line by line, and closes the report of a run over them.
-//! How lines are read is the input's: its kind is a `Format`. What an event does, and what is written of it, is the command's: it brings a
-//! `Machine`. A command that writes of each line, also of those of its header, has a loop of its own over the pieces that are exported here.
+//! Runs a command over its input: reads the header and the events line by line, and closes the report. A `Format` of
+//! the input says how lines are parsed; a `Machine` of the command says what an event does and what is written of it. A
+//! command that writes for each line, also of the header, has its own loop over the functions exported here.
 #![tactic(auto)]
 
 mod begin;

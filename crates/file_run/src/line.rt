@@ -9,7 +9,7 @@ use crate::halt::{Halt, halt_of};
 use crate::refusal::Refusal;
 use fsoe_io::{LineReader, Source};
 
-/// Takes the next line, which the reader lends then, or tells why there is none.
+/// Reads the next line, which `LineReader::line` returns then, or returns why there is none.
 #[inline(always)]
 pub fn next_line<S: Source>(reader: &mut LineReader, source: &mut S) -> Result<(), Halt>
     requires { reader.old.lines < 2 ^ 64 - 1 }

@@ -14,12 +14,12 @@ use crate::stopped::Stopped;
 use fsoe_base::Memory;
 use fsoe_io::{Ended, LineText};
 
-/// What a command runs over the events of its input: a new command brings one of these.
+/// What a command runs over the events of its input: implement this for a new command.
 pub trait Machine: Drop {
-    /// How its inputs are read.
+    /// How its inputs are parsed.
     type Format: Format;
 
-    /// What the command is handed beside its input, and has back after the run.
+    /// The command's other parameters, which it has back after the run.
     type Handed;
 
     // What the command reports of its inputs, by what it was handed.
@@ -38,7 +38,7 @@ pub trait Machine: Drop {
     // Handed this first and now that, it did these events after this header: then this is the whole report, and the run ends so.
     ghost closes: { Self.Handed → Self.Handed → Self.Format.Header → List Self.Format.Event → List ℕ → Ended → Type 0 };
 
-    /// What holds of the reports. The call does nothing: the laws are its contract.
+    /// States the laws of the reports, which each machine proves. The call does nothing: the laws are its contract.
     fn laws()
         // Each input has a report; without a whole header it is one line.
         ensures some { (handed : Self.Handed) (bytes : List ℕ) → (report : List ℕ) × (ended : Ended) × (reporting handed).reports (input_read (reporting handed).format bytes) ended report }
@@ -55,7 +55,7 @@ pub trait Machine: Drop {
         ensures few { IfOk result (λ h. Self.Format.lines_left h ≤ most_lines) }
         ensures memory { OnErr result (TakesMemory (reporting handed.now).memory) };
 
-    /// A new one, set to what a header says that is done.
+    /// Creates a machine from a complete header.
     fn begin(
         header: &<Self::Format as Format>::Header,
         handed: &mut Self::Handed,
@@ -66,13 +66,13 @@ pub trait Machine: Drop {
         ensures memory { OnErr result (TakesMemory (reporting handed.old).memory) }
         ensures kept { OnErr result (handed.new ≡ handed.old) };
 
-    /// Whether there may be no event after those that were done, which are so many. No input has more than 200,000.
+    /// Returns true if no event is allowed after `events` events. No input has more than 200,000.
     fn is_full(&self, handed: &Self::Handed, events: u64) -> bool
         requires { events ≤ MAX_EVENTS }
         ensures full { (first : Self.Handed) (h : Self.Format.Header) (log : List Self.Format.Event) (text : List ℕ) → length log ≡ events → stands first self.now handed.now h log text → result ≡ (reporting first).format.is_full h log }
         ensures few { result ≡ false → events < MAX_EVENTS };
 
-    /// Does the event of this number, from 1, and writes the first part of its text; or tells why it isn't done, which ends the run.
+    /// Does the event of this number, from 1, and writes the first part of its text, or returns why the run stops here.
     fn report(
         &mut self,
         handed: &mut Self::Handed,
@@ -86,14 +86,14 @@ pub trait Machine: Drop {
         ensures stopped { IfErr result (λ why. (first : Self.Handed) (h : Self.Format.Header) (log : List Self.Format.Event) (text : List ℕ) → stands first self.old handed.old h log text → EndsStopped (reporting first) h log text event.now why) }
         ensures kept { OnErr result ((first : Self.Handed) → Keeps (stands first self.old handed.old) (stands first self.new handed.new)) };
 
-    /// Writes the last lines after all events, which are so many, up to their first part, and tells how the run ends.
+    /// Writes the first part of the last lines, after `events` events, and returns how the run ends.
     fn close(&mut self, handed: &Self::Handed, events: u64, text: &mut LineText) -> Ended
         ensures closes { (first : Self.Handed) (h : Self.Format.Header) (log : List Self.Format.Event) (lines : List ℕ) → length log ≡ events → stands first self.old handed.now h log lines → closes first handed.now h log (lines ++ (text.new ++ waits self.new handed.now)) result }
         ensures ends { (first : Self.Handed) (h : Self.Format.Header) (log : List Self.Format.Event) (lines : List ℕ) → stands first self.old handed.now h log lines → EndsWhole (reporting first).judges result.status result.place }
         ensures most { parts self.new handed.now ≤ most_parts }
         ensures kept { (first : Self.Handed) → Keeps (stands first self.old handed.now) (stands first self.new handed.now) };
 
-    /// Writes the next part of what waits; nothing only where nothing waits.
+    /// Writes the next part of the pending text, and nothing only if none is pending.
     fn more(&mut self, handed: &Self::Handed, text: &mut LineText)
         requires { (first : Self.Handed) × IsStanding (stands first self.old handed.now) }
         ensures part { waits self.old handed.now ≡ text.new ++ waits self.new handed.now }

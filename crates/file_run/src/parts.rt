@@ -9,7 +9,7 @@ use crate::machine::Machine;
 use crate::stop::{close, write_failed};
 use fsoe_io::{Ended, Failed, LineText, Output, Sink};
 
-/// Writes what waits, part by part.
+/// Writes the pending text, part by part.
 fn put_waiting<M: Machine, K: Sink>(
     machine: &mut M,
     handed: &M::Handed,
@@ -36,7 +36,7 @@ fn put_waiting<M: Machine, K: Sink>(
     }
 }
 
-/// Writes a first part, and then what waits.
+/// Writes a first part, and then the pending text.
 pub(crate) fn put_text<M: Machine, K: Sink>(
     machine: &mut M,
     handed: &M::Handed,
@@ -57,7 +57,7 @@ pub(crate) fn put_text<M: Machine, K: Sink>(
     }
 }
 
-/// Writes the last lines from their first part on, and sends all that waits. Where that fails, the run ends so.
+/// Writes the last lines from their first part on, and flushes the output. If that fails, the run ends so.
 pub(crate) fn close_run<M: Machine, K: Sink>(
     machine: &mut M,
     handed: &M::Handed,

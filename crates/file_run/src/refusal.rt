@@ -11,15 +11,15 @@ pub enum Refusal {
     Long,
     /// The input ends inside it.
     NoNewline,
-    /// The input ends where it would begin.
+    /// The input ends before this line.
     NoLine,
-    /// There were as many events as an input may have, and it isn't `end`.
+    /// The input has as many events as it may, and this line isn't `end`.
     TooMany,
     /// It names a frame that wasn't sent.
     NoFrame,
-    /// It names an application of which none is left.
+    /// It names an application, and all of this name are used.
     NoApp,
-    /// It says what no line there may say.
+    /// Its content isn't allowed there, for this cause.
     Line(LineCause),
 }
 

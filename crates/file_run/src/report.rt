@@ -1,4 +1,4 @@
-//! The closing lines of a report, and how a run ends that looks for other entries.
+//! The closing lines of a report, and how a run ends that looks for `other` entries.
 ghost use Rattle.std.specs.Prelude.{◌≡◌, ◌≤◌, ◌+◌, ◌++◌, length};
 ghost use Rattle.file_run.specs.Refusal.{input_cause};
 ghost use Rattle.file_run.specs.Report.{ended_with, events_line, other_line, refused_line};
@@ -29,7 +29,7 @@ pub fn write_refusal(line: u64, refusal: Refusal, text: &mut LineText)
     text.push_str("\n");
 }
 
-/// Appends the line that tells the number of the first other entry, or that there is none.
+/// Appends the line `other <n>` with the number of the first `other` entry, or `other none`.
 pub fn push_other(other: Option<u64>, text: &mut LineText)
     requires { length text.old ≤ 500 }
     ensures text { text.new ≡ text.old ++ other_line other }
@@ -45,7 +45,7 @@ pub fn push_other(other: Option<u64>, text: &mut LineText)
     }
 }
 
-/// How a whole run ends, by the number of its first other entry.
+/// How a complete run ends, by the number of its first `other` entry.
 pub fn ended_with(other: Option<u64>) -> Ended
     ensures { result ≡ ended_with other }
 {

@@ -79,13 +79,14 @@ pub(crate) fn run_on<M: Machine, S: Source, K: Sink>(
     }
 }
 
-/// Runs a machine over an input: reads its header, then an event a line up to the last, and writes what the machine reports. Where a line
-/// is refused, also as it names what the run so far hasn't, it writes `refused <line> <cause>`. What waits for output is sent before a
-/// read that may block, and when the run ends.
+/// Runs a machine over an input: reads its header, then an event from each line up to the last, and writes what the
+/// machine reports. If a line is refused, it writes `refused <line> <cause>`; so is a line that names a frame or an
+/// application that isn't there at this point. Buffered output is flushed before each read that may block, and at the
+/// end of the run.
 ///
-/// The status is `Ok` or `Other` as the machine says; `Line` with the number of the refused line; `Read` with the whole lines
-/// read, only where the source failed; `Write` with the bytes written, only where the sink failed; or `Memory`, only of a command that
-/// takes memory, with nothing written where it takes all of it before its first event.
+/// The status is `Ok` or `Other` as the machine says. `Line` has the number of the refused line. `Read` has the
+/// complete lines read, only if the source failed; `Write` has the bytes written, only if the sink failed. `Memory`
+/// comes only from a command that allocates. If all is allocated before the first event, nothing was written then.
 pub fn run_over<M: Machine, S: Source, K: Sink>(
     handed: &mut M::Handed,
     source: &mut S,

@@ -1,4 +1,4 @@
-//! How the lines of a schedule are read, of a node or of a pair.
+//! How the lines of a schedule are parsed, of a node or of a pair.
 ghost use Rattle.std.specs.Prelude.{◌≡◌};
 ghost use Rattle.file_run.specs.Event.{what_says};
 ghost use Rattle.file_run.specs.Schedule.{grammar_says};
@@ -12,11 +12,11 @@ use schedule_file::{
     read_node_event_into,
 };
 
-/// How the lines of a schedule are read.
+/// How the lines of a schedule are parsed.
 pub struct Schedule;
 
-/// How lines are read that stand after the header of a schedule: for which ends, and with which lengths and profiles. For a node, only
-/// those of its own end count.
+/// How the lines after the header of a schedule are parsed: for which ends, and with which lengths and profiles. For a
+/// node, only those of its own end count.
 #[derive(Clone, Copy)]
 pub struct Grammar {
     pub kind: HeaderKind,

@@ -10,7 +10,7 @@ use crate::halt::Halt;
 use crate::report::write_refusal;
 use fsoe_io::{Ended, Failed, LineReader, LineText, Output, Sink, Status, put_all};
 
-/// Sends what waits where the next line needs a read, which may block.
+/// Flushes the output if the next line needs a read, which may block.
 pub fn send_before_read<K: Sink>(
     reader: &LineReader,
     output: &mut Output,
@@ -41,7 +41,7 @@ pub fn write_failed(output: &Output) -> Ended
     }
 }
 
-/// Sends the last piece and all that waits. Where that fails, the run ends so.
+/// Sends the last piece and flushes the output. If that fails, the run ends so.
 pub fn close<K: Sink>(output: &mut Output, sink: &mut K, last: &[u8], ended: Ended) -> Ended
     requires short { length last.now ≤ 1024 }
     requires count { output.old.sent + length output.old.bytes < 2 ^ 63 }
@@ -59,7 +59,7 @@ pub fn close<K: Sink>(output: &mut Output, sink: &mut K, last: &[u8], ended: End
     }
 }
 
-/// Ends a run whose input goes no further.
+/// Ends a run of whose input no more is read.
 pub fn halt<K: Sink>(output: &mut Output, sink: &mut K, why: Halt) -> Ended
     requires { output.old.sent + length output.old.bytes < 2 ^ 63 }
     ensures writes { Writes output.old.sent (output.old.bytes ++ last_of why) (halted_by why) result (record {

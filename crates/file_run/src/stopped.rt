@@ -6,7 +6,7 @@ use schedule_file::LineCause;
 pub enum Stopped {
     /// The frame that it names wasn't sent.
     NoFrame,
-    /// No application of the name that it names is left.
+    /// All applications of the name are used.
     NoApp,
     /// There is no memory for it.
     Memory,

@@ -1,4 +1,4 @@
-//! What waits of the text of an event, or of the end, and how much of it was handed out: for a machine whose events have many lines.
+//! The pending text of an event or of the end, and how much was handed out: for machines with many lines an event.
 ghost use Rattle.std.specs.Prelude.{◌≡◌, ◌≤◌, ◌+◌, ◌++◌, [], IfOk, length, take, drop};
 ghost use Rattle.file_run.specs.Waiting.{waits};
 
@@ -7,7 +7,7 @@ use fsoe_io::LineText;
 use std::alloc::Global;
 use std::marker::Model;
 
-/// The most bytes of such a text: 64 lines of at most 1,024 bytes each.
+/// The maximum length of a pending text: 64 lines of at most 1,024 bytes each.
 pub const MOST_TEXT: usize = 65_536;
 
 /// Writes these bytes over those from a place on.
@@ -18,7 +18,7 @@ fn overwrite(room: &mut [u8], at: usize, bytes: &[u8])
     room[at..at + bytes.len()].copy_from_slice(bytes);
 }
 
-/// A text of at most `MOST_TEXT` bytes, of which so many were handed out.
+/// A text of at most `MOST_TEXT` bytes, and how many of them were handed out.
 #[derive(Drop)]
 pub struct Waiting {
     bytes: Vec<u8>,
@@ -53,7 +53,7 @@ impl Waiting {
         }
     }
 
-    /// Forgets the text.
+    /// Clears the text.
     pub fn clear(&mut self)
         ensures { self.new ≡ record { text = []; given = 0 } }
     {

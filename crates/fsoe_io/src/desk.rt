@@ -1,4 +1,4 @@
-//! Where texts lie under names.
+//! Texts under names, as files are.
 ghost use Rattle.std.specs.Prelude.{◌≡◌, ◌≢◌, ◌≤◌, ◌<◌, List, ℕ, length, IfOk, IfSome};
 ghost use Rattle.std.specs.declared.option.Option.{Option};
 ghost use Rattle.std.specs.Io.KnownBytes.{Keeps};
@@ -7,25 +7,24 @@ ghost use Rattle.fsoe_io.specs.Faults.{Rose};
 /// Why a text wasn't loaded.
 #[derive(Clone, Copy, Debug, PartialEq, Eq)]
 pub enum LoadFault {
-    /// The desk failed, or has no such name.
+    /// Loading failed, or the name doesn't exist.
     Failed,
-    /// The name holds more bytes than the limit.
+    /// The text under this name is longer than the limit.
     TooLong,
     /// Memory ran out.
     Memory,
 }
 
-/// Where texts lie under names.
+/// A store of texts by name, as a directory of files is.
 pub trait Desk {
-    /// The bytes under a name, where it tells them. Once told they stay told.
+    /// The bytes under a name, if known. Once known they stay known.
     ghost holds: { Self → List ℕ → Option (List ℕ) };
 
     /// How often loads of a name failed. The count never falls, and only a load of this name changes it.
     ghost faults: { Self → List ℕ → ℕ };
 
-    /// The bytes under the name. `TooLong` comes exactly where the load didn't fail and they are more than `limit`.
-    /// `Failed` comes only where the count of this name rose, or stands at 2^64 - 1. `Memory` comes where there is none
-    /// for the bytes.
+    /// Returns the bytes under the name. `TooLong` if and only if loading didn't fail and they are more than `limit`.
+    /// `Failed` only if the count of this name rose or is 2^64 - 1. `Memory` if there is none for the bytes.
     fn load(&mut self, name: &str, limit: usize) -> Result<Vec<u8>, LoadFault>
         ensures bytes { IfOk result (λ text. IfSome (holds self.old name.now) (λ held. text.items ≡ held)) }
         ensures within { IfOk result (λ text. length text.items ≤ limit) }

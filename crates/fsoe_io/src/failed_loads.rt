@@ -7,7 +7,7 @@ use fsoe_base::Memory;
 use std::alloc::Global;
 use std::marker::Model;
 
-/// The names of the loads that failed, in order. Room for the next name is taken before its load.
+/// The names of the loads that failed, in order. Room for the next name is allocated before its load.
 #[derive(Drop)]
 pub struct FailedLoads {
     names: Vec<String>,
@@ -35,7 +35,7 @@ impl FailedLoads {
         }
     }
 
-    /// Takes room for one name more, and copies the name for it. `Memory` where there is none.
+    /// Allocates room for one more name, and copies the name for it. `Memory` if there is none.
     pub fn room_for(&mut self, name: &str) -> Result<String, Memory>
         ensures names { self.new.names ≡ self.old.names }
         ensures room { OnOk result (0 < self.new.room) }
@@ -51,7 +51,7 @@ impl FailedLoads {
         }
     }
 
-    /// Notes the name of a load that failed: the count of this name rises, and no other.
+    /// Records the name of a load that failed: the count of this name rises, and no other.
     #[tactic(auto, using(crate::proofs::Shelves::failed_rose))]
     pub fn note(&mut self, name: String)
         requires { 0 < self.old.room }

@@ -47,8 +47,8 @@ fn read_file<R: Files + AllocGlobal>(rt: &R, name: &str, limit: usize) -> Result
     }
 }
 
-/// The files of the system as a desk, each under its path. A load fails where the file is absent or can't be read. It
-/// tells no content, and keeps the names of the loads that failed.
+/// The files of the system as a desk, each under its path. A load fails if the file doesn't exist or can't be read. The
+/// contents are unknown in contracts; the names of failed loads are recorded.
 #[derive(Drop)]
 pub struct FileDesk<R> {
     rt: R,

@@ -1,4 +1,5 @@
-//! The outside: sources and sinks of bytes, lines read from a source, and text written to a sink.
+//! Input and output of all commands: byte sources and sinks, texts by name, lines read from a source, and text written
+//! to a sink. There are implementations in memory and on `std`. Nothing here knows frames or ends.
 #![tactic(auto)]
 
 mod desk;

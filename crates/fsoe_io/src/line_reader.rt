@@ -59,15 +59,15 @@ fn begins(bytes: &[u8]) -> Front
     }
 }
 
-/// Lines from a source, which is read in large pieces. It is seen as the bytes that it holds, which were read and
-/// stand in no line yet, the number of lines that it gave, and the last of these, until the next one is asked for.
+/// Reads lines from a source in large blocks. In contracts the value is the bytes read that belong to no returned line
+/// yet, the number of returned lines, and the last of these, until the next is requested.
 #[derive(Drop)]
 pub struct LineReader {
     buffer: [u8; 4096],
     start: usize,
     end: usize,
     lines: u64,
-    /// Where the last line begins and ends. It stays in the buffer until the next one is asked for.
+    /// Where the last line begins and ends. It stays in the buffer until the next one is requested.
     line_start: usize,
     line_end: usize,
     /// How what is held begins: a newline is sought once.
@@ -104,7 +104,7 @@ impl LineReader {
         }
     }
 
-    /// How many lines it gave.
+    /// Returns how many lines it gave.
     pub fn lines(&self) -> u64
         ensures { result ≡ self.now.lines }
     {
@@ -130,8 +130,8 @@ impl LineReader {
         self.front
     }
 
-    /// Whether the next line, or that it is too long, stands in the bytes that are held, so that `next` answers
-    /// without a read of the source.
+    /// Returns true if the buffer has the next complete line, or so many bytes that this line is too long. Then `next`
+    /// doesn't read from the source.
     pub fn holds_line(&self) -> bool
         ensures whole { IsTrue result → ¬ IsLine self.now.bytes }
         ensures open_line { result ≡ false → IsLine self.now.bytes }
@@ -142,7 +142,7 @@ impl LineReader {
         }
     }
 
-    /// Takes a line of this length, and its newline, from what is held.
+    /// Takes a line of this length, and its newline, from the buffer.
     fn take_line(&mut self, len: usize)
         requires held { len < length self.old.bytes }
         requires lines { self.old.lines < 2 ^ 64 - 1 }
@@ -175,8 +175,8 @@ impl LineReader {
         Ok(count)
     }
 
-    /// Takes the next line of what is held and of the source: `line` lends it. False exactly at the end of the input
-    /// where a line would begin. It may be called until it gives a fault, for at most 2^64 - 1 lines.
+    /// Reads the next line, which `line` returns then. Returns false if and only if the input ends where a line would
+    /// begin. Don't call it after a fault, or after 2^64 - 1 lines.
     pub fn advance<S: Source>(&mut self, source: &mut S) -> Result<bool, LineFault>
         requires { self.old.lines < 2 ^ 64 - 1 }
         ensures bytes { Reads (given result (last_line self.new))
@@ -184,7 +184,7 @@ impl LineReader {
             (prepend_known self.new.bytes (S.left source.new)) }
         ensures lines { Counts (given result (last_line self.new)) self.old.lines self.new.lines }
         ensures stalls { Stalls (given result (last_line self.new)) self.new.bytes }
-        // The source is read only where more bytes have to come.
+        // The source is read only if more bytes must come.
         ensures unread { ¬ IsLine self.old.bytes → source.new ≡ source.old }
         ensures later { S.faults source.old ≤ S.faults source.new }
         ensures cause { Blames (given result (last_line self.new)) (S.faults source.old) (S.faults source.new) }
@@ -207,7 +207,7 @@ impl LineReader {
         }
     }
 
-    /// The same, with the line written over `line`.
+    /// Does the same, and writes the line over `line`.
     pub fn next_into<S: Source>(
         &mut self,
         source: &mut S,
@@ -219,7 +219,7 @@ impl LineReader {
             (prepend_known self.new.bytes (S.left source.new)) }
         ensures lines { Counts (given result line.new) self.old.lines self.new.lines }
         ensures stalls { Stalls (given result line.new) self.new.bytes }
-        // The source is read only where more bytes have to come.
+        // The source is read only if more bytes must come.
         ensures unread { ¬ IsLine self.old.bytes → source.new ≡ source.old }
         ensures later { S.faults source.old ≤ S.faults source.new }
         ensures cause { Blames (given result line.new) (S.faults source.old) (S.faults source.new) }
@@ -233,8 +233,8 @@ impl LineReader {
         }
     }
 
-    /// The next line of what is held and of the source. None exactly at the end of the input where a line would
-    /// begin. It may be called until it gives a fault, for at most 2^64 - 1 lines.
+    /// Returns the next line, or None if and only if the input ends where a line would begin. Don't call it after a
+    /// fault, or after 2^64 - 1 lines.
     pub fn next<S: Source>(&mut self, source: &mut S) -> Result<Option<Line>, LineFault>
         requires { self.old.lines < 2 ^ 64 - 1 }
         ensures bytes { Reads result
@@ -242,7 +242,7 @@ impl LineReader {
             (prepend_known self.new.bytes (S.left source.new)) }
         ensures lines { Counts result self.old.lines self.new.lines }
         ensures stalls { Stalls result self.new.bytes }
-        // The source is read only where more bytes have to come.
+        // The source is read only if more bytes must come.
         ensures unread { ¬ IsLine self.old.bytes → source.new ≡ source.old }
         ensures later { S.faults source.old ≤ S.faults source.new }
         ensures cause { Blames result (S.faults source.old) (S.faults source.new) }

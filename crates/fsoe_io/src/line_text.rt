@@ -5,7 +5,7 @@ ghost use Rattle.hex.specs.Hex.{encode_lower};
 use crate::numeral::Numeral;
 use std::marker::Model;
 
-/// A line of text as it is made, of at most 1,024 bytes. It is seen as its bytes.
+/// A line of text as it is made, of at most 1,024 bytes. In contracts the value is its bytes.
 #[derive(Drop)]
 pub struct LineText {
     bytes: [u8; 1024],
@@ -44,7 +44,7 @@ impl LineText {
         &self.bytes[..self.len]
     }
 
-    /// Takes all bytes away.
+    /// Clears the text.
     pub fn clear(&mut self)
         ensures { self.new ≡ [] }
     {
@@ -81,8 +81,8 @@ impl LineText {
         self.len += count;
     }
 
-    /// Appends a number in decimal digits that is mostly small, as that of a slot or a pair. The numeral is left to the numbers of
-    /// events, of which the next one mostly costs little.
+    /// Appends a number in decimal digits that is mostly small, as that of a slot or a pair. The cached numeral is left
+    /// to event numbers, since the next of these is mostly cheap to make from it.
     #[tactic(auto, using(std::proofs::lemmas::Fmt::decimal_digit, crate::proofs::Numbers::two_digits))]
     pub fn push_small(&mut self, n: u16)
         requires { length self.old + 20 ≤ 1024 }

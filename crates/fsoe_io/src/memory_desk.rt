@@ -26,7 +26,7 @@ fn copy_of(text: &Vec<u8>, limit: usize) -> Result<Vec<u8>, LoadFault>
     }
 }
 
-/// A desk in memory that never fails. It holds one text under every name, and is seen as that text.
+/// A desk in memory that never fails. It has the same text under every name; in contracts the value is that text.
 #[derive(Drop)]
 pub struct SureDesk {
     text: Vec<u8>,
@@ -76,8 +76,8 @@ fn find_text<'a>(files: &'a [(String, Vec<u8>)], name: &str) -> Option<&'a Vec<u
     }
 }
 
-/// A desk in memory whose listed calls fail, and the loads of names that it doesn't have: a load of an absent name is
-/// `Failed`, unless memory runs out. It keeps the names of the loads that failed.
+/// A desk in memory for tests. A load fails if its call is listed or the name is absent, unless memory runs out. It
+/// records the names of the loads that failed.
 #[derive(Drop)]
 pub struct MemDesk {
     files: Vec<(String, Vec<u8>)>,
@@ -95,8 +95,8 @@ impl Model for MemDesk {
 }
 
 impl MemDesk {
-    /// A desk of these texts under their names, of which the first under a name counts. It fails at the calls that
-    /// `fails` lists by their number from 1.
+    /// Creates a desk of these texts under their names; if a name occurs twice, the first one is used. It fails at the
+    /// calls that `fails` lists by their number from 1.
     pub fn new(files: Vec<(String, Vec<u8>)>, fails: Vec<u64>) -> MemDesk
         ensures files { result.files ≡ map named files.items }
         ensures fails { result.planned.fails ≡ fails.items }

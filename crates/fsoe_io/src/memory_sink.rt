@@ -12,9 +12,8 @@ use fsoe_base::Memory;
 use std::alloc::Global;
 use std::marker::Model;
 
-/// A sink in memory whose listed calls fail, and those with a byte to take once its room is used up. Its count of
-/// faults is the number of listed calls so far and that of the others that found no room, up to 2^64 - 1: a call that is
-/// both counts once.
+/// A sink in memory for tests. A call fails if it is listed, or if its piece isn't empty and no room is left. Its count
+/// of faults counts each listed call so far and each other call that found no room once, up to 2^64 - 1.
 #[derive(Drop)]
 pub struct MemSink {
     room: Vec<u8>,
@@ -82,8 +81,8 @@ impl Sink for MemSink {
         ensures bound { TakesSome result piece.now }
         ensures bytes { WriteGrows (Some self.old.written) (Some self.new.written) result piece.now }
         ensures cause { HasCause (store_faults self.old) (store_faults self.new) result }
-        // Each call counts. It fails exactly where it is listed or finds no room, and else takes as much as it may. A call
-        // that is listed and finds no room counts once, as listed.
+        // Each call counts. It fails if and only if it is listed or finds no room, and else takes as much as it may. A
+        // call that is listed and finds no room counts once, as listed.
         ensures counts { self.new.planned ≡ with_one_more self.old.planned }
         ensures fails { is_err result ≡ (is_next_listed self.old.planned || finds_no_room self.old piece.now) }
         ensures count { IfOk result (λ n. n ≡ min (min (length piece.now) (self.old.room - length self.old.written)) self.old.most) }
@@ -105,8 +104,8 @@ impl Sink for MemSink {
     }
 }
 
-/// A sink in memory that never fails. It tells what was written until a piece doesn't fit into its room; from then on
-/// it takes bytes and tells nothing.
+/// A sink in memory that never fails. What was written is known until a piece doesn't fit; from then on it accepts
+/// bytes, and its contents are unknown.
 #[derive(Drop)]
 pub struct SureSink {
     room: Vec<u8>,
@@ -144,7 +143,7 @@ impl SureSink {
         }
     }
 
-    /// What was written, and nothing once a piece didn't fit into the room.
+    /// Returns what was written, or nothing after a piece that didn't fit.
     pub fn bytes(&self) -> &[u8]
         ensures told { IfSome self.now.written (λ written. result.now ≡ written) }
         ensures untold { IsNone self.now.written → result.now ≡ [] }
@@ -165,7 +164,7 @@ impl Sink for SureSink {
         ensures bound { TakesSome result piece.now }
         ensures bytes { WriteGrows self.old.written self.new.written result piece.now }
         ensures cause { HasCause 0 0 result }
-        // It takes the whole piece, and goes on to tell what was written exactly where the piece fits into the room.
+        // It takes the whole piece, and what was written stays known if and only if the piece fits into the room.
         ensures count { result ≡ Ok (length piece.now) }
         ensures tells { IfSome self.old.written (λ written.
             SomeIff self.new.written (length written + length piece.now ≤ self.old.room) (written ++ piece.now)) }

@@ -9,7 +9,7 @@ use crate::planned::PlannedCalls;
 use crate::source::{Failed, Source};
 use std::marker::Model;
 
-/// A source in memory that never fails. It is seen as the bytes that are left.
+/// A source in memory that never fails. In contracts the value is the bytes that are left.
 #[derive(Drop)]
 pub struct SureSource {
     bytes: Vec<u8>,
@@ -54,7 +54,7 @@ impl Source for SureSource {
     }
 }
 
-/// A source in memory whose listed calls fail. Its count of faults is the number of listed calls so far.
+/// A source in memory for tests, whose listed calls fail. Its count of faults is the number of listed calls so far.
 #[derive(Drop)]
 pub struct MemSource {
     whole: SureSource,

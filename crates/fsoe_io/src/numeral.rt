@@ -4,7 +4,7 @@ ghost use Rattle.std.specs.Prelude.{◌≡◌, ◌≤◌, take, decimal};
 use itoa::Buffer;
 use std::marker::Model;
 
-/// A number with its decimal digits, which cost little where the next number is the same, or one more. It is seen as the number.
+/// A number with its decimal digits, cheap if the next number is the same or one more. In contracts it is the number.
 #[derive(Drop)]
 pub(crate) struct Numeral {
     value: u64,

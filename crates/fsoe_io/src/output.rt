@@ -8,8 +8,8 @@ use crate::sink::Sink;
 use crate::source::Failed;
 use std::marker::Model;
 
-/// A buffer of 4,096 bytes in front of a sink. It is seen as the bytes that wait, and the number of bytes that it
-/// sent. After `Failed` it is only asked for that number.
+/// A buffer of 4,096 bytes in front of a sink. In contracts the value is the bytes not written yet, and the number of
+/// bytes that went to the sink. After `Failed` call only `sent`.
 #[derive(Drop)]
 pub struct Output {
     bytes: [u8; 4096],
@@ -57,7 +57,7 @@ impl Output {
         self.len += piece.len();
     }
 
-    /// Sends all that waits.
+    /// Sends all buffered bytes.
     pub fn flush<K: Sink>(&mut self, sink: &mut K) -> Result<(), Failed>
         requires { self.old.sent + length self.old.bytes < 2 ^ 64 }
         ensures puts { Puts result self.old self.new (K.written sink.old) (K.written sink.new) [] }
@@ -77,7 +77,7 @@ impl Output {
         }
     }
 
-    /// Takes a piece of at most 1,024 bytes, and sends what waited where there is no room for it.
+    /// Appends a piece of at most 1,024 bytes, and sends the buffered bytes before if there is no room for it.
     pub fn put<K: Sink>(&mut self, sink: &mut K, piece: &[u8]) -> Result<(), Failed>
         requires short { length piece.now ≤ 1024 }
         requires count { self.old.sent + length self.old.bytes < 2 ^ 63 }
@@ -92,7 +92,7 @@ impl Output {
         Ok(())
     }
 
-    /// Takes a last piece of at most 1,024 bytes, and sends all that waits.
+    /// Appends a last piece of at most 1,024 bytes, and sends all buffered bytes.
     pub fn finish<K: Sink>(&mut self, sink: &mut K, piece: &[u8]) -> Result<(), Failed>
         requires short { length piece.now ≤ 1024 }
         requires count { self.old.sent + length self.old.bytes < 2 ^ 63 }

@@ -4,7 +4,7 @@ ghost use Rattle.fsoe_io.specs.Planned.{is_next_listed, planned_faults, with_one
 
 use std::marker::Model;
 
-/// The calls of an end in memory, of which those fail that are listed by their number from 1.
+/// Counts the calls of a source or sink in memory; those fail that are listed by their number from 1.
 #[derive(Drop)]
 pub struct PlannedCalls {
     fails: Vec<u64>,
@@ -28,7 +28,7 @@ impl PlannedCalls {
         PlannedCalls { fails, calls: 0 }
     }
 
-    /// Counts a call, and says whether it fails. After 2^64 - 1 calls none fails, and the count stands.
+    /// Counts a call, and returns true if it fails. After 2^64 - 1 calls none fails, and the count doesn't change.
     pub fn next_fails(&mut self) -> bool
         ensures listed { result ≡ is_next_listed self.old }
         ensures counts { self.new ≡ with_one_more self.old }

@@ -1,4 +1,4 @@
-//! Where bytes come from.
+//! A byte input.
 ghost use Rattle.std.specs.Prelude.{List, ℕ};
 ghost use Rattle.std.specs.declared.option.Option.{Option};
 ghost use Rattle.std.specs.Io.{ReadsAtMost};
@@ -9,16 +9,16 @@ ghost use Rattle.fsoe_io.specs.Faults.{HasCause};
 #[derive(Clone, Copy, Debug, PartialEq, Eq)]
 pub struct Failed;
 
-/// Where bytes come from.
+/// A byte input, like `io::Read`.
 pub trait Source {
-    /// The bytes that are still to come, where it tells them. Once told they stay told.
+    /// The bytes not read yet, if known. Once known they stay known.
     ghost left: { Self → Option (List ℕ) };
 
     /// How often it failed. The count never falls.
     ghost faults: { Self → ℕ };
 
-    /// Reads bytes into the front of the buffer and says how many. Where the buffer has room, 0 is the end of the
-    /// input. `Failed` comes only where the count of faults rose, or stands at 2^64 - 1; then no byte is consumed.
+    /// Reads bytes into the front of the buffer and returns how many. If the buffer has room, 0 is the end of the
+    /// input. `Failed` only if the count of faults rose or is 2^64 - 1; then no byte is consumed.
     fn read(&mut self, buffer: &mut [u8]) -> Result<usize, Failed>
         ensures bound { ReadsAtMost result buffer.new }
         ensures bytes { ReadConsumes (left self.old) (left self.new) result buffer.new }

@@ -5,11 +5,11 @@ ghost use Rattle.fsoe_io.specs.Status.{status_number};
 /// How a command ended.
 #[derive(Clone, Copy, Debug, PartialEq, Eq)]
 pub enum Status {
-    /// The input was read up to its `end` line, or all events were run, and no entry was other.
+    /// The input was read up to its `end` line, or all events were run, and no entry was `other`.
     Ok,
-    /// As `Ok`, but an entry was other.
+    /// As `Ok`, but an entry was `other`: a guarded frame that wasn't the awaited one passed a CRC test.
     Other,
-    /// The words name no command.
+    /// The arguments name no command.
     Usage,
     /// The configuration was refused.
     Config,
@@ -26,7 +26,7 @@ pub enum Status {
 }
 
 impl Status {
-    /// The number that a program ends with, from 0 for `Ok` to 8 for `Memory`, in the order of the variants.
+    /// Returns the number that a program ends with, from 0 for `Ok` to 8 for `Memory`, in the order of the variants.
     pub fn number(self) -> u8
         ensures { result ≡ status_number self }
     {
@@ -49,7 +49,7 @@ impl Status {
 pub struct Ended {
     /// How it ended.
     pub status: Status,
-    /// The number of the other entry with `Other` or of the refused line with `Line`, the whole lines read with `Read`,
-    /// the bytes written with `Write`; 0 where the status has no place.
+    /// With `Other` the number of the `other` entry, with `Line` that of the refused line. With `Read` the complete
+    /// lines read, with `Write` the bytes written. With every other status 0.
     pub place: u64,
 }

@@ -5,7 +5,7 @@ use crate::sink::Sink;
 use crate::source::{Failed, Source};
 use std::io::{Read, Write};
 
-/// A reader of std as a source. It tells no content, and counts its failures up to 2^64 - 1.
+/// A reader of std as a source. Its content is unknown in contracts; it counts its failures up to 2^64 - 1.
 #[derive(Drop)]
 pub struct StdSource<R> {
     inner: R,
@@ -37,8 +37,8 @@ impl<R: Read> Source for StdSource<R> {
     }
 }
 
-/// A writer of std as a sink. It tells no content, and counts its failures up to 2^64 - 1: calls that failed, and
-/// those that took nothing of a piece with a byte.
+/// A writer of std as a sink. Its content is unknown in contracts. It counts its failures up to 2^64 - 1: calls that
+/// failed, and calls that took nothing of a piece that isn't empty.
 #[derive(Drop)]
 pub struct StdSink<W> {
     inner: W,

@@ -1,7 +1,7 @@
-//! The events of a schedule, and what one of its lines says.
+//! The events of a schedule, and what one of its lines means.
 use fsoe_base::{End, FrameBuf, Image};
 
-/// The most events of an input, and of the schedule of a number that a command is asked to run.
+/// The most events of an input, and of the schedule of a seed that a command is asked to run.
 pub const MAX_EVENTS: u64 = 200_000;
 
 /// The furthest back that an event may name a frame: this many of those that the peer sent, 1 being the last.

@@ -27,8 +27,8 @@ pub struct MasterLine {
     pub nonce: u32,
 }
 
-/// The numbers of a `slave` line: its address, the limit in ticks until a watchdog is downloaded, the longest watchdog in ticks
-/// that it accepts, and the session id.
+/// The numbers of a `slave` line: its address, the handshake timeout in ticks, the longest watchdog in ticks that it
+/// accepts, and the session id.
 #[derive(Clone, Copy, Debug)]
 pub struct SlaveLine {
     pub address: u16,

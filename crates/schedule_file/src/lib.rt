@@ -1,6 +1,6 @@
-//! Reads the lines of a schedule: its header, which says what the ends are set to, and then its events.
-//! A line is read without its newline. It takes no memory, and a line that is refused has one cause.
-//! A `Maker` makes the schedule of a number, without lines.
+//! Parses the lines of a schedule, without their newlines: its header, with the settings of the ends, and then its
+//! events. Only the header of several pairs allocates, and a refused line has one cause. A `Maker` makes the schedule
+//! of a seed, without lines.
 #![tactic(auto)]
 
 mod event;

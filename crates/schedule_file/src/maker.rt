@@ -1,4 +1,4 @@
-//! A schedule from a number.
+//! A schedule from a seed.
 ghost use Rattle.std.specs.Prelude.{◌≡◌, if◌then◌else◌};
 ghost use Rattle.schedule_file.specs.Made.{FitsMade, event_of_word, is_switch_on, load_of, mask_of, place_of};
 ghost use Rattle.fsoe_base.specs.declared.command.End.TheVariants as side;
@@ -23,7 +23,7 @@ enum Turn {
     ToMaster,
 }
 
-/// Makes the events of a number's schedule, one after another, without an end.
+/// Makes the events of a seed's schedule, one after another, without an end.
 #[derive(Debug, Drop)]
 pub struct Maker {
     turn: Turn,
@@ -73,7 +73,7 @@ impl Maker {
     ghost use Rattle.schedule_file.specs.Made.{FitsMade, event_in_turn, made_master, made_slave};
     ghost use Rattle.schedule_file.specs.Maker.{IsMaker, Makes, turn_after};
 
-    /// The maker of a number's events, of which none is made.
+    /// Creates the maker of a seed's events, of which none is made yet.
     pub fn new(number: u64) -> Maker
         ensures { IsMaker number 0 result }
     {
@@ -84,7 +84,7 @@ impl Maker {
         }
     }
 
-    /// The next event of the number, which goes on without an end. It fits ends that are set to `settings`.
+    /// Returns the next event of the seed, whose schedule has no end. It fits ends that are set to `settings`.
     pub fn next(&mut self) -> Event
         ensures makes { Makes self.old result self.new }
         ensures fits { FitsMade result }
@@ -94,7 +94,7 @@ impl Maker {
         event
     }
 
-    /// Writes the next event of the number to `out`, in place of what it held. It fits ends that are set to `settings`.
+    /// Writes the next event of the seed to `out`, whose old contents are lost. It fits ends with these `settings`.
     pub fn next_into(&mut self, out: &mut Event)
         ensures makes { Makes self.old out.new self.new }
         ensures fits { FitsMade out.new }
@@ -120,8 +120,8 @@ impl Maker {
         self.turn = self.turn.next();
     }
 
-    /// What both ends of each number's schedule are set to: two safe data bytes each way, connection 1, address 2, watchdog 100, at most
-    /// 100 ticks without a frame in a handshake, watchdogs up to 1000, no application parameters, and session ids 1 and 2.
+    /// Returns the settings of both ends in each seed's schedule. Two safe data bytes each way, connection 1, address
+    /// 2, watchdog 100, handshake timeout 100, watchdogs up to 1000, no application parameters, session ids 1 and 2.
     pub fn settings() -> (MasterSettings, SlaveSettings)
         ensures master { result.0 ≡ made_master }
         ensures slave { result.1 ≡ made_slave }

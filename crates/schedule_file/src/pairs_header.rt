@@ -47,7 +47,7 @@ pub enum PairsStage {
 ///   pair has from `lengths` to before `go`;
 /// - `go`.
 ///
-/// Room for all pairs is taken when the header is made, so that no line takes memory.
+/// Room for all pairs is allocated when the header is made, so that no line allocates.
 #[derive(Drop)]
 pub struct PairsHeader {
     stage: PairsStage,
