@@ -11,3 +11,4 @@ pub mod Mirroring
 pub mod CallsOf
 pub mod Ruled
 pub mod Driven
+pub mod Acknowledging

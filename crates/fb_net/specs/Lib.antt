@@ -11,3 +11,4 @@ pub mod Fault
 pub mod New
 pub mod Mirror
 pub mod Calls
+pub mod Acknowledged

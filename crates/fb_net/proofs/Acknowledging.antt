@@ -1,0 +1,145 @@
+-- The drive of an emergency stop whose acknowledgement comes as two bits.
+use Rattle.std.proofs.Common.{◌≡◌, inl, inr, ℕ, Bool, true, false, not, ◌&&◌, ◌||◌, List, [], ◌∷◌, take, if◌then◌else◌, refl, sym, ap, ap₂, ◌∙◌, eq-eqb}
+use Rattle.std.specs.List.{list_any}
+use Rattle.std.proofs.lemmas.Bool.{cases_Bool}
+use Rattle.failsafe_io.specs.declared.bit.Bit.{Bit}
+use Rattle.failsafe_io.specs.Bits.{at_number, bit_at, has_bit, is_same_bit}
+use Rattle.fb_lib.specs.Cycle.{second}
+use Rattle.fb_lib.specs.LookBack.{is_now, run}
+use Rattle.fb_net.specs.declared.wire.Wire.TheVariants as wire
+use Rattle.fb_net.specs.Values.{NetCycle, block_cycles, block_values}
+use Rattle.fb_net.specs.Outputs.{driven_images}
+use Rattle.fb_net.specs.Acknowledged.{stop_blocks, stop_drives, is_on, in_order, is_acknowledged, is_let_go}
+use Rattle.fb_net.proofs.Driven.{driven_bit}
+
+-- what was seen, after one more cycle
+seen-more : (p : NetCycle → Bool) (ps : List (NetCycle → Bool)) (q : NetCycle → Bool) (c : NetCycle) (e : List NetCycle)
+    → in_order (p ∷ ps) (run q (c ∷ e)) ≡ (q c && ((p c && in_order ps (run q (c ∷ e))) || in_order (p ∷ ps) (run q e)))
+seen-more p ps q c e = by (q c)
+  where
+    by : (b : Bool) → in_order (p ∷ ps) (if b then c ∷ run q e else []) ≡ (b && ((p c && in_order ps (if b then c ∷ run q e else [])) || in_order (p ∷ ps) (run q e)))
+    by true = refl
+    by false = refl
+
+-- the first block: the acknowledgement was seen released
+released-seen : (s p r : Bit) (e : List NetCycle) → at_number (block_values (stop_blocks s p r) e) 1 false ≡ in_order (is_on r ∷ []) (run (is_on s) e)
+released-seen s p r [] = refl
+released-seen s p r (c ∷ e) =
+    ap (λ (x : Bool). is_on s c && (is_on r c || x)) (released-seen s p r e) ∙ set (is_on s c) (is_on r c) _ ∙ sym (seen-more (is_on r) [] (is_on s) c e)
+  where
+    set : (s r old : Bool) → (s && (r || old)) ≡ (s && ((r && true) || old))
+    set s true old = refl
+    set s false old = refl
+
+-- the third: and pressed after that
+pressed-seen : (s p r : Bit) (e : List NetCycle)
+    → at_number (block_values (stop_blocks s p r) e) 3 false ≡ in_order (is_on p ∷ is_on r ∷ []) (run (is_on s) e)
+pressed-seen s p r [] = refl
+pressed-seen s p r (c ∷ e) =
+    ap₂ (λ (x y : Bool). is_on s c && ((x && (is_on p c && true)) || y)) (released-seen s p r (c ∷ e)) (pressed-seen s p r e)
+    ∙ set (is_on s c) (is_on p c) _ _ ∙ sym (seen-more (is_on p) (is_on r ∷ []) (is_on s) c e)
+  where
+    set : (s p seen old : Bool) → (s && ((seen && (p && true)) || old)) ≡ (s && ((p && seen) || old))
+    set s true true old = refl
+    set s true false old = refl
+    set s false true old = refl
+    set s false false old = refl
+
+-- the fourth, in the cycle before: and is released again
+abbrev was : Bit → Bit → Bit → List NetCycle → Bool
+was s p r e = is_now second (block_cycles (block_values (take 4 (stop_blocks s p r))) (wire.Input s ∷ wire.Block 4 ∷ []) e)
+
+was-released : (s p r : Bit) (e : List NetCycle) → was s p r e ≡ (in_order (is_on p ∷ is_on r ∷ []) (run (is_on s) e) && (is_now (is_on r) e && true))
+was-released s p r [] = refl
+was-released s p r (c ∷ e) = ap (λ (x : Bool). x && (is_on r c && true)) (pressed-seen s p r (c ∷ e))
+
+released-again : (s p r : Bit) (e : List NetCycle)
+    → (in_order (is_on p ∷ is_on r ∷ []) (run (is_on s) e) && (is_now (is_on r) e && true)) ≡ true → is_acknowledged s p r e ≡ true
+released-again s p r [] on = absurd (cc)
+released-again s p r (c ∷ e) on =
+    seen-more (is_on r) (is_on p ∷ is_on r ∷ []) (is_on s) c e
+    ∙ both _ (is_on s c) (is_on r c) _ (is_acknowledged s p r e) (seen-more (is_on p) (is_on r ∷ []) (is_on s) c e) on
+  where
+    both : (seen s r some old : Bool) → seen ≡ (s && some) → (seen && (r && true)) ≡ true → (s && ((r && seen) || old)) ≡ true
+    both false s r some old is on = absurd (cc)
+    both true true true some old is on = refl
+    both true true false some old is on = absurd (cc)
+    both true false r some old is on = absurd (cc)
+
+-- the last: it rises where that was first seen, and stays on
+stop-is : (s p r : Bit) (e : List NetCycle) → at_number (block_values (stop_blocks s p r) e) 5 false ≡ is_acknowledged s p r e
+stop-is s p r [] = refl
+stop-is s p r (c ∷ e) =
+    ap₂ (λ (x y : Bool). is_on s c && (((x && (is_on r c && true)) && not (was s p r e)) || y)) (pressed-seen s p r (c ∷ e)) (stop-is s p r e)
+    ∙ rises (is_on s c) (is_on r c) _ _ _ (λ on. released-again s p r e (sym (was-released s p r e) ∙ on)) ∙ sym (seen-more (is_on r) (is_on p ∷ is_on r ∷ []) (is_on s) c e)
+  where
+    rises : (s r seen was old : Bool) → (was ≡ true → old ≡ true) → (s && (((seen && (r && true)) && not was) || old)) ≡ (s && ((r && seen) || old))
+    rises false r seen was old again = refl
+    rises true false false was old again = refl
+    rises true false true was old again = refl
+    rises true true false was old again = refl
+    rises true true true false old again = refl
+    rises true true true true old again = again refl
+
+same-bit : (b : Bit) → is_same_bit b b ≡ true
+same-bit b = ap₂ (λ (x y : Bool). x && y) (eq-eqb b.link b.link refl) (eq-eqb b.bit b.bit refl)
+
+pub drive_is : (s p r d : Bit) (lens : List ℕ) (c : NetCycle) (e : List NetCycle) → has_bit lens d ≡ true
+    → bit_at (driven_images (stop_drives d) (block_values (stop_blocks s p r) (c ∷ e)) c.inputs lens) d ≡ is_acknowledged s p r (c ∷ e)
+drive_is s p r d lens c e there =
+    driven_bit (stop_drives d) (block_values (stop_blocks s p r) (c ∷ e)) c.inputs lens d there
+    ∙ ap (λ (x : Bool). (x && at_number (block_values (stop_blocks s p r) (c ∷ e)) 5 false) || false) (same-bit d)
+    ∙ alone (at_number (block_values (stop_blocks s p r) (c ∷ e)) 5 false) ∙ stop-is s p r (c ∷ e)
+  where
+    alone : (x : Bool) → (x || false) ≡ x
+    alone true = refl
+    alone false = refl
+
+-- it goes on at a release
+pub goes_on : (s p r : Bit) (c : NetCycle) (e : List NetCycle) → is_acknowledged s p r (c ∷ e) ≡ true → is_acknowledged s p r e ≡ false
+    → is_let_go p r (c ∷ e) ≡ true
+goes_on s p r c e on off =
+    let_go _ (is_on r c) (is_on p c) (is_now (is_on r) e) _ (is_on s c) _ _ (sym (seen-more (is_on r) (is_on p ∷ is_on r ∷ []) (is_on s) c e) ∙ on) off
+    (seen-more (is_on p) (is_on r ∷ []) (is_on s) c e) (released-again s p r e)
+  where
+    let_go : (old r p was before s some seen : Bool) → (s && ((r && seen) || old)) ≡ true → old ≡ false → seen ≡ (s && ((p && some) || before))
+        → ((before && (was && true)) ≡ true → old ≡ true) → (r && (p || not was)) ≡ true
+    let_go true r p was before s some seen on off is again = absurd (cc)
+    let_go false true true was before s some seen on off is again = refl
+    let_go false true false false before s some seen on off is again = refl
+    let_go false true false true true s some seen on off is again = let h : false ≡ true = again refl in absurd (cc)
+    let_go false true false true false true some true on off is again = absurd (cc)
+    let_go false true false true false true some false on off is again = absurd (cc)
+    let_go false true false true false false some seen on off is again = on
+    let_go false false p was before true some seen on off is again = on
+    let_go false false p was before false some seen on off is again = on
+
+-- what was never seen wasn't seen first, nor second
+neither : (a b : Bool) → (a || b) ≡ false → (a ≡ false) × (b ≡ false)
+neither true b h = absurd (cc)
+neither false b h = (refl, h)
+
+not-first : (p : NetCycle → Bool) (ps : List (NetCycle → Bool)) (e : List NetCycle) → list_any p e ≡ false → in_order (p ∷ ps) e ≡ false
+not-first p ps [] h = refl
+not-first p ps (c ∷ e) h =
+    let t = neither (p c) (list_any p e) h in
+    ap (λ (x : Bool). (x && in_order ps (c ∷ e)) || in_order (p ∷ ps) e) t.0 ∙ not-first p ps e t.1
+
+not-second : (q p : NetCycle → Bool) (ps : List (NetCycle → Bool)) (e : List NetCycle) → list_any p e ≡ false → in_order (q ∷ p ∷ ps) e ≡ false
+not-second q p ps [] h = refl
+not-second q p ps (c ∷ e) h =
+    ap₂ (λ (x y : Bool). (q c && x) || y) (not-first p ps (c ∷ e) h) (not-second q p ps e ((neither (p c) (list_any p e) h).1)) ∙ none (q c)
+  where
+    none : (a : Bool) → ((a && false) || false) ≡ false
+    none true = refl
+    none false = refl
+
+pub stays_off : (s p r : Bit) (e : List NetCycle) → (list_any (is_on p) (run (is_on s) e) && list_any (is_on r) (run (is_on s) e)) ≡ false
+    → is_acknowledged s p r e ≡ false
+stays_off s p r e h =
+    elim (cases_Bool (list_any (is_on p) (run (is_on s) e))) [
+      | inl some ↦
+          not-first (is_on r) (is_on p ∷ is_on r ∷ []) (run (is_on s) e)
+          (sym (ap (λ (x : Bool). x && list_any (is_on r) (run (is_on s) e)) some) ∙ h)
+      | inr none ↦ not-second (is_on r) (is_on p) (is_on r ∷ []) (run (is_on s) e) none
+    ]

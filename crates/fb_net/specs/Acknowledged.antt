@@ -1,0 +1,65 @@
+-- An emergency stop whose acknowledgement comes as two bits: the net of examples/emergency_stop.toml, and when its
+-- drive is on.
+use Rattle.std.specs.Prelude.{◌≡◌, ℕ, ◌-◌, Bool, true, false, not, ◌&&◌, ◌||◌, List, [], ◌∷◌, reverse, map, codes, if◌then◌else◌}
+use Rattle.failsafe_io.specs.declared.bit.Bit.{Bit}
+use Rattle.failsafe_io.specs.Bits.{at_number, bit_at}
+use Rattle.fb_lib.specs.declared.kind.BlockKind.{BlockKind}
+use Rattle.fb_lib.specs.declared.kind.BlockKind.TheVariants as kind
+use Rattle.fb_lib.specs.LookBack.{is_now, run}
+use Rattle.fb_net.specs.declared.spec.Drive.{Drive}
+use Rattle.fb_net.specs.declared.wire.Wire.{Wire}
+use Rattle.fb_net.specs.declared.wire.Wire.TheVariants as wire
+use Rattle.fb_net.specs.Values.{NetCycle, NetBlock, block_values}
+
+-- a block of two inputs
+abbrev pub of_two : BlockKind → Wire → Wire → NetBlock
+of_two k a b = record { kind = k; n = 0; ins = a ∷ b ∷ [] }
+
+-- the blocks, by three bits: 1 while the stop is released, while the acknowledgement is pressed, and while that is
+-- released
+abbrev pub stop_blocks : Bit → Bit → Bit → List NetBlock
+stop_blocks stop pressed released =
+    of_two kind.Latch (wire.Input released) (wire.Input stop)
+    ∷ of_two kind.And (wire.Block 1) (wire.Input pressed)
+    ∷ of_two kind.Latch (wire.Block 2) (wire.Input stop)
+    ∷ of_two kind.And (wire.Block 3) (wire.Input released)
+    ∷ of_two kind.Estop (wire.Input stop) (wire.Block 4)
+    ∷ []
+
+abbrev pub stop_drives : Bit → List Drive
+stop_drives drive = record { out = drive; from = wire.Block 5 } ∷ []
+
+-- an input bit is 1 in a cycle
+abbrev pub is_on : Bit → NetCycle → Bool
+is_on bit c = bit_at c.inputs bit
+
+-- these were seen in this order, each where the one before it was, or later; the newest stands first in both lists
+abbrev pub in_order : List (NetCycle → Bool) → List NetCycle → Bool
+in_order [] e = true
+in_order (p ∷ ps) [] = false
+in_order (p ∷ ps) (c ∷ e) = (p c && in_order ps (c ∷ e)) || in_order (p ∷ ps) e
+
+-- since the stop was last pressed, or since the first cycle, the acknowledgement was seen released, then pressed, then
+-- released again
+abbrev pub is_acknowledged : Bit → Bit → Bit → List NetCycle → Bool
+is_acknowledged stop pressed released e = in_order (is_on released ∷ is_on pressed ∷ is_on released ∷ []) (run (is_on stop) e)
+
+-- the acknowledgement is released now, and wasn't in the cycle before, or is pressed as well
+abbrev pub is_let_go : Bit → Bit → List NetCycle → Bool
+is_let_go pressed released [] = false
+is_let_go pressed released (c ∷ e) = is_on released c && (is_on pressed c || not (is_now (is_on released) e))
+
+-- the cycles that a text lists, the newest first: each digit is an input byte
+abbrev pub cycles : List ℕ → List NetCycle
+cycles text = map (λ digit. record { ticked = true; inputs = ((digit - 48) ∷ []) ∷ [] }) (reverse text)
+
+-- the value of the last block in each cycle, where bit 0 is the stop and bits 1 and 2 the acknowledgement
+abbrev pub last_values : List NetCycle → List ℕ
+last_values [] = []
+last_values (c ∷ e) =
+    let bit : ℕ → Bit = λ b. record { link = 1; bit = b } in
+    (if at_number (block_values (stop_blocks (bit 0) (bit 1) (bit 2)) (c ∷ e)) 5 false then 49 else 48) ∷ last_values e
+
+-- on at the release; after a break a stuck acknowledgement that comes loose isn't enough, and a press and a release are
+unfoldable pub StopRow : Type 0
+StopRow = reverse (last_values (cycles (codes "553535033535"))) ≡ codes "000111000001"
