@@ -9,7 +9,7 @@ use Rattle.fb_lib.specs.LookBack.{is_now, run}
 use Rattle.fb_net.specs.declared.wire.Wire.TheVariants as wire
 use Rattle.fb_net.specs.Values.{NetCycle, block_cycles, block_values}
 use Rattle.fb_net.specs.Outputs.{driven_images}
-use Rattle.fb_net.specs.Acknowledged.{stop_blocks, stop_drives, is_on, in_order, is_acknowledged, is_let_go}
+use Rattle.fb_net.specs.Acknowledged.{stop_blocks, stop_drives, is_on, may_run, in_order, is_acknowledged, is_let_go}
 use Rattle.fb_net.proofs.Driven.{driven_bit}
 
 -- what was seen, after one more cycle
@@ -21,23 +21,23 @@ seen-more p ps q c e = by (q c)
     by true = refl
     by false = refl
 
--- the first block: the acknowledgement was seen released
-released-seen : (s p r : Bit) (e : List NetCycle) → at_number (block_values (stop_blocks s p r) e) 1 false ≡ in_order (is_on r ∷ []) (run (is_on s) e)
-released-seen s p r [] = refl
-released-seen s p r (c ∷ e) =
-    ap (λ (x : Bool). is_on s c && (is_on r c || x)) (released-seen s p r e) ∙ set (is_on s c) (is_on r c) _ ∙ sym (seen-more (is_on r) [] (is_on s) c e)
+-- the second block: the acknowledgement was seen released
+released-seen : (s t p r : Bit) (e : List NetCycle) → at_number (block_values (stop_blocks s t p r) e) 2 false ≡ in_order (is_on r ∷ []) (run (may_run s t) e)
+released-seen s t p r [] = refl
+released-seen s t p r (c ∷ e) =
+    ap (λ (x : Bool). may_run s t c && (is_on r c || x)) (released-seen s t p r e) ∙ set (may_run s t c) (is_on r c) _ ∙ sym (seen-more (is_on r) [] (may_run s t) c e)
   where
     set : (s r old : Bool) → (s && (r || old)) ≡ (s && ((r && true) || old))
     set s true old = refl
     set s false old = refl
 
--- the third: and pressed after that
-pressed-seen : (s p r : Bit) (e : List NetCycle)
-    → at_number (block_values (stop_blocks s p r) e) 3 false ≡ in_order (is_on p ∷ is_on r ∷ []) (run (is_on s) e)
-pressed-seen s p r [] = refl
-pressed-seen s p r (c ∷ e) =
-    ap₂ (λ (x y : Bool). is_on s c && ((x && (is_on p c && true)) || y)) (released-seen s p r (c ∷ e)) (pressed-seen s p r e)
-    ∙ set (is_on s c) (is_on p c) _ _ ∙ sym (seen-more (is_on p) (is_on r ∷ []) (is_on s) c e)
+-- the fourth: and pressed after that
+pressed-seen : (s t p r : Bit) (e : List NetCycle)
+    → at_number (block_values (stop_blocks s t p r) e) 4 false ≡ in_order (is_on p ∷ is_on r ∷ []) (run (may_run s t) e)
+pressed-seen s t p r [] = refl
+pressed-seen s t p r (c ∷ e) =
+    ap₂ (λ (x y : Bool). may_run s t c && ((x && (is_on p c && true)) || y)) (released-seen s t p r (c ∷ e)) (pressed-seen s t p r e)
+    ∙ set (may_run s t c) (is_on p c) _ _ ∙ sym (seen-more (is_on p) (is_on r ∷ []) (may_run s t) c e)
   where
     set : (s p seen old : Bool) → (s && ((seen && (p && true)) || old)) ≡ (s && ((p && seen) || old))
     set s true true old = refl
@@ -45,20 +45,20 @@ pressed-seen s p r (c ∷ e) =
     set s false true old = refl
     set s false false old = refl
 
--- the fourth, in the cycle before: and is released again
-abbrev was : Bit → Bit → Bit → List NetCycle → Bool
-was s p r e = is_now second (block_cycles (block_values (take 4 (stop_blocks s p r))) (wire.Input s ∷ wire.Block 4 ∷ []) e)
+-- the fifth, in the cycle before: and is released again
+abbrev was : Bit → Bit → Bit → Bit → List NetCycle → Bool
+was s t p r e = is_now second (block_cycles (block_values (take 5 (stop_blocks s t p r))) (wire.Block 1 ∷ wire.Block 5 ∷ []) e)
 
-was-released : (s p r : Bit) (e : List NetCycle) → was s p r e ≡ (in_order (is_on p ∷ is_on r ∷ []) (run (is_on s) e) && (is_now (is_on r) e && true))
-was-released s p r [] = refl
-was-released s p r (c ∷ e) = ap (λ (x : Bool). x && (is_on r c && true)) (pressed-seen s p r (c ∷ e))
+was-released : (s t p r : Bit) (e : List NetCycle) → was s t p r e ≡ (in_order (is_on p ∷ is_on r ∷ []) (run (may_run s t) e) && (is_now (is_on r) e && true))
+was-released s t p r [] = refl
+was-released s t p r (c ∷ e) = ap (λ (x : Bool). x && (is_on r c && true)) (pressed-seen s t p r (c ∷ e))
 
-released-again : (s p r : Bit) (e : List NetCycle)
-    → (in_order (is_on p ∷ is_on r ∷ []) (run (is_on s) e) && (is_now (is_on r) e && true)) ≡ true → is_acknowledged s p r e ≡ true
-released-again s p r [] on = absurd (cc)
-released-again s p r (c ∷ e) on =
-    seen-more (is_on r) (is_on p ∷ is_on r ∷ []) (is_on s) c e
-    ∙ both _ (is_on s c) (is_on r c) _ (is_acknowledged s p r e) (seen-more (is_on p) (is_on r ∷ []) (is_on s) c e) on
+released-again : (s t p r : Bit) (e : List NetCycle)
+    → (in_order (is_on p ∷ is_on r ∷ []) (run (may_run s t) e) && (is_now (is_on r) e && true)) ≡ true → is_acknowledged s t p r e ≡ true
+released-again s t p r [] on = absurd (cc)
+released-again s t p r (c ∷ e) on =
+    seen-more (is_on r) (is_on p ∷ is_on r ∷ []) (may_run s t) c e
+    ∙ both _ (may_run s t c) (is_on r c) _ (is_acknowledged s t p r e) (seen-more (is_on p) (is_on r ∷ []) (may_run s t) c e) on
   where
     both : (seen s r some old : Bool) → seen ≡ (s && some) → (seen && (r && true)) ≡ true → (s && ((r && seen) || old)) ≡ true
     both false s r some old is on = absurd (cc)
@@ -67,11 +67,11 @@ released-again s p r (c ∷ e) on =
     both true false r some old is on = absurd (cc)
 
 -- the last: it rises where that was first seen, and stays on
-stop-is : (s p r : Bit) (e : List NetCycle) → at_number (block_values (stop_blocks s p r) e) 5 false ≡ is_acknowledged s p r e
-stop-is s p r [] = refl
-stop-is s p r (c ∷ e) =
-    ap₂ (λ (x y : Bool). is_on s c && (((x && (is_on r c && true)) && not (was s p r e)) || y)) (pressed-seen s p r (c ∷ e)) (stop-is s p r e)
-    ∙ rises (is_on s c) (is_on r c) _ _ _ (λ on. released-again s p r e (sym (was-released s p r e) ∙ on)) ∙ sym (seen-more (is_on r) (is_on p ∷ is_on r ∷ []) (is_on s) c e)
+stop-is : (s t p r : Bit) (e : List NetCycle) → at_number (block_values (stop_blocks s t p r) e) 6 false ≡ is_acknowledged s t p r e
+stop-is s t p r [] = refl
+stop-is s t p r (c ∷ e) =
+    ap₂ (λ (x y : Bool). may_run s t c && (((x && (is_on r c && true)) && not (was s t p r e)) || y)) (pressed-seen s t p r (c ∷ e)) (stop-is s t p r e)
+    ∙ rises (may_run s t c) (is_on r c) _ _ _ (λ on. released-again s t p r e (sym (was-released s t p r e) ∙ on)) ∙ sym (seen-more (is_on r) (is_on p ∷ is_on r ∷ []) (may_run s t) c e)
   where
     rises : (s r seen was old : Bool) → (was ≡ true → old ≡ true) → (s && (((seen && (r && true)) && not was) || old)) ≡ (s && ((r && seen) || old))
     rises false r seen was old again = refl
@@ -84,23 +84,23 @@ stop-is s p r (c ∷ e) =
 same-bit : (b : Bit) → is_same_bit b b ≡ true
 same-bit b = ap₂ (λ (x y : Bool). x && y) (eq-eqb b.link b.link refl) (eq-eqb b.bit b.bit refl)
 
-pub drive_is : (s p r d : Bit) (lens : List ℕ) (c : NetCycle) (e : List NetCycle) → has_bit lens d ≡ true
-    → bit_at (driven_images (stop_drives d) (block_values (stop_blocks s p r) (c ∷ e)) c.inputs lens) d ≡ is_acknowledged s p r (c ∷ e)
-drive_is s p r d lens c e there =
-    driven_bit (stop_drives d) (block_values (stop_blocks s p r) (c ∷ e)) c.inputs lens d there
-    ∙ ap (λ (x : Bool). (x && at_number (block_values (stop_blocks s p r) (c ∷ e)) 5 false) || false) (same-bit d)
-    ∙ alone (at_number (block_values (stop_blocks s p r) (c ∷ e)) 5 false) ∙ stop-is s p r (c ∷ e)
+pub drive_is : (s t p r d : Bit) (lens : List ℕ) (c : NetCycle) (e : List NetCycle) → has_bit lens d ≡ true
+    → bit_at (driven_images (stop_drives d) (block_values (stop_blocks s t p r) (c ∷ e)) c.inputs lens) d ≡ is_acknowledged s t p r (c ∷ e)
+drive_is s t p r d lens c e there =
+    driven_bit (stop_drives d) (block_values (stop_blocks s t p r) (c ∷ e)) c.inputs lens d there
+    ∙ ap (λ (x : Bool). (x && at_number (block_values (stop_blocks s t p r) (c ∷ e)) 6 false) || false) (same-bit d)
+    ∙ alone (at_number (block_values (stop_blocks s t p r) (c ∷ e)) 6 false) ∙ stop-is s t p r (c ∷ e)
   where
     alone : (x : Bool) → (x || false) ≡ x
     alone true = refl
     alone false = refl
 
 -- it goes on at a release
-pub goes_on : (s p r : Bit) (c : NetCycle) (e : List NetCycle) → is_acknowledged s p r (c ∷ e) ≡ true → is_acknowledged s p r e ≡ false
+pub goes_on : (s t p r : Bit) (c : NetCycle) (e : List NetCycle) → is_acknowledged s t p r (c ∷ e) ≡ true → is_acknowledged s t p r e ≡ false
     → is_let_go p r (c ∷ e) ≡ true
-goes_on s p r c e on off =
-    let_go _ (is_on r c) (is_on p c) (is_now (is_on r) e) _ (is_on s c) _ _ (sym (seen-more (is_on r) (is_on p ∷ is_on r ∷ []) (is_on s) c e) ∙ on) off
-    (seen-more (is_on p) (is_on r ∷ []) (is_on s) c e) (released-again s p r e)
+goes_on s t p r c e on off =
+    let_go _ (is_on r c) (is_on p c) (is_now (is_on r) e) _ (may_run s t c) _ _ (sym (seen-more (is_on r) (is_on p ∷ is_on r ∷ []) (may_run s t) c e) ∙ on) off
+    (seen-more (is_on p) (is_on r ∷ []) (may_run s t) c e) (released-again s t p r e)
   where
     let_go : (old r p was before s some seen : Bool) → (s && ((r && seen) || old)) ≡ true → old ≡ false → seen ≡ (s && ((p && some) || before))
         → ((before && (was && true)) ≡ true → old ≡ true) → (r && (p || not was)) ≡ true
@@ -134,12 +134,12 @@ not-second q p ps (c ∷ e) h =
     none true = refl
     none false = refl
 
-pub stays_off : (s p r : Bit) (e : List NetCycle) → (list_any (is_on p) (run (is_on s) e) && list_any (is_on r) (run (is_on s) e)) ≡ false
-    → is_acknowledged s p r e ≡ false
-stays_off s p r e h =
-    elim (cases_Bool (list_any (is_on p) (run (is_on s) e))) [
+pub stays_off : (s t p r : Bit) (e : List NetCycle) → (list_any (is_on p) (run (may_run s t) e) && list_any (is_on r) (run (may_run s t) e)) ≡ false
+    → is_acknowledged s t p r e ≡ false
+stays_off s t p r e h =
+    elim (cases_Bool (list_any (is_on p) (run (may_run s t) e))) [
       | inl some ↦
-          not-first (is_on r) (is_on p ∷ is_on r ∷ []) (run (is_on s) e)
-          (sym (ap (λ (x : Bool). x && list_any (is_on r) (run (is_on s) e)) some) ∙ h)
-      | inr none ↦ not-second (is_on r) (is_on p) (is_on r ∷ []) (run (is_on s) e) none
+          not-first (is_on r) (is_on p ∷ is_on r ∷ []) (run (may_run s t) e)
+          (sym (ap (λ (x : Bool). x && list_any (is_on r) (run (may_run s t) e)) some) ∙ h)
+      | inr none ↦ not-second (is_on r) (is_on p) (is_on r ∷ []) (run (may_run s t) e) none
     ]

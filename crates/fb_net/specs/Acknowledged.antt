@@ -1,6 +1,7 @@
 -- An emergency stop whose acknowledgement comes as two bits: the net of examples/emergency_stop.toml, and when its
 -- drive is on.
-use Rattle.std.specs.Prelude.{◌≡◌, ℕ, ◌-◌, Bool, true, false, not, ◌&&◌, ◌||◌, List, [], ◌∷◌, reverse, map, codes, if◌then◌else◌}
+use Rattle.std.specs.Prelude.{◌≡◌, ℕ, ◌-◌, Bool, true, false, not, ◌&&◌, ◌||◌, List, [], ◌∷◌, reverse, codes, if◌then◌else◌}
+use Rattle.std.specs.List.{list_all}
 use Rattle.failsafe_io.specs.declared.bit.Bit.{Bit}
 use Rattle.failsafe_io.specs.Bits.{at_number, bit_at}
 use Rattle.fb_lib.specs.declared.kind.BlockKind.{BlockKind}
@@ -15,23 +16,28 @@ use Rattle.fb_net.specs.Values.{NetCycle, NetBlock, block_values}
 abbrev pub of_two : BlockKind → Wire → Wire → NetBlock
 of_two k a b = record { kind = k; n = 0; ins = a ∷ b ∷ [] }
 
--- the blocks, by three bits: 1 while the stop is released, while the acknowledgement is pressed, and while that is
--- released
-abbrev pub stop_blocks : Bit → Bit → Bit → List NetBlock
-stop_blocks stop pressed released =
-    of_two kind.Latch (wire.Input released) (wire.Input stop)
-    ∷ of_two kind.And (wire.Block 1) (wire.Input pressed)
-    ∷ of_two kind.Latch (wire.Block 2) (wire.Input stop)
-    ∷ of_two kind.And (wire.Block 3) (wire.Input released)
-    ∷ of_two kind.Estop (wire.Input stop) (wire.Block 4)
+-- the blocks, by four bits: 1 while the stop is released, while the drive is there, while the acknowledgement is pressed,
+-- and while that is released
+abbrev pub stop_blocks : Bit → Bit → Bit → Bit → List NetBlock
+stop_blocks stop there pressed released =
+    of_two kind.And (wire.Input stop) (wire.Input there)
+    ∷ of_two kind.Latch (wire.Input released) (wire.Block 1)
+    ∷ of_two kind.And (wire.Block 2) (wire.Input pressed)
+    ∷ of_two kind.Latch (wire.Block 3) (wire.Block 1)
+    ∷ of_two kind.And (wire.Block 4) (wire.Input released)
+    ∷ of_two kind.Estop (wire.Block 1) (wire.Block 5)
     ∷ []
 
 abbrev pub stop_drives : Bit → List Drive
-stop_drives drive = record { out = drive; from = wire.Block 5 } ∷ []
+stop_drives drive = record { out = drive; from = wire.Block 6 } ∷ []
 
 -- an input bit is 1 in a cycle
 abbrev pub is_on : Bit → NetCycle → Bool
 is_on bit c = bit_at c.inputs bit
+
+-- the stop is released, and the drive is there
+abbrev pub may_run : Bit → Bit → NetCycle → Bool
+may_run stop there c = list_all (λ bit. is_on bit c) (stop ∷ there ∷ [])
 
 -- these were seen in this order, each where the one before it was, or later; the newest stands first in both lists
 abbrev pub in_order : List (NetCycle → Bool) → List NetCycle → Bool
@@ -39,27 +45,31 @@ in_order [] e = true
 in_order (p ∷ ps) [] = false
 in_order (p ∷ ps) (c ∷ e) = (p c && in_order ps (c ∷ e)) || in_order (p ∷ ps) e
 
--- since the stop was last pressed, or since the first cycle, the acknowledgement was seen released, then pressed, then
--- released again
-abbrev pub is_acknowledged : Bit → Bit → Bit → List NetCycle → Bool
-is_acknowledged stop pressed released e = in_order (is_on released ∷ is_on pressed ∷ is_on released ∷ []) (run (is_on stop) e)
+-- since the stop was last pressed or the drive last lost, or since the first cycle, the acknowledgement was seen released,
+-- then pressed, then released again
+abbrev pub is_acknowledged : Bit → Bit → Bit → Bit → List NetCycle → Bool
+is_acknowledged stop there pressed released e =
+    in_order (is_on released ∷ is_on pressed ∷ is_on released ∷ []) (run (may_run stop there) e)
 
 -- the acknowledgement is released now, and wasn't in the cycle before, or is pressed as well
 abbrev pub is_let_go : Bit → Bit → List NetCycle → Bool
 is_let_go pressed released [] = false
 is_let_go pressed released (c ∷ e) = is_on released c && (is_on pressed c || not (is_now (is_on released) e))
 
--- the cycles that a text lists, the newest first: each digit is an input byte
-abbrev pub cycles : List ℕ → List NetCycle
-cycles text = map (λ digit. record { ticked = true; inputs = ((digit - 48) ∷ []) ∷ [] }) (reverse text)
+-- the cycles that two texts list, the oldest first: each digit is the input byte of the stop's connection, or the drive's
+abbrev pub cycles : List ℕ → List ℕ → List NetCycle
+cycles (s ∷ stops) (d ∷ drives) = record { ticked = true; inputs = ((s - 48) ∷ []) ∷ ((d - 48) ∷ []) ∷ [] } ∷ cycles stops drives
+cycles [] drives = []
+cycles (s ∷ stops) [] = []
 
--- the value of the last block in each cycle, where bit 0 is the stop and bits 1 and 2 the acknowledgement
+-- the value of the last block in each cycle, where bit 0 is the stop, or the drive's, and bits 1 and 2 the acknowledgement
 abbrev pub last_values : List NetCycle → List ℕ
 last_values [] = []
 last_values (c ∷ e) =
-    let bit : ℕ → Bit = λ b. record { link = 1; bit = b } in
-    (if at_number (block_values (stop_blocks (bit 0) (bit 1) (bit 2)) (c ∷ e)) 5 false then 49 else 48) ∷ last_values e
+    let bit : ℕ → ℕ → Bit = λ link b. record { link = link; bit = b } in
+    (if at_number (block_values (stop_blocks (bit 1 0) (bit 2 0) (bit 1 1) (bit 1 2)) (c ∷ e)) 6 false then 49 else 48) ∷ last_values e
 
--- on at the release; after a break a stuck acknowledgement that comes loose isn't enough, and a press and a release are
+-- on at the release; after a press of the stop a stuck acknowledgement that comes loose isn't enough, and a press and a
+-- release are; so it is after a loss of the drive
 unfoldable pub StopRow : Type 0
-StopRow = reverse (last_values (cycles (codes "553535033535"))) ≡ codes "000111000001"
+StopRow = reverse (last_values (reverse (cycles (codes "5535350335355535") (codes "1111111111110111")))) ≡ codes "0001110000010001"

@@ -13,7 +13,7 @@ ghost use Rattle.fb_net.specs.Standing.{NetStands};
 ghost use Rattle.fb_net.specs.Ready.{AllReady};
 ghost use Rattle.fb_net.specs.Meaning.{rule_of, net_holds};
 ghost use Rattle.fb_net.specs.Calls.{Call, Called, cycles_of, all_outputs, held_after};
-ghost use Rattle.fb_net.specs.Acknowledged.{stop_blocks, stop_drives, is_on, is_acknowledged, is_let_go, StopRow};
+ghost use Rattle.fb_net.specs.Acknowledged.{stop_blocks, stop_drives, is_on, may_run, is_acknowledged, is_let_go, StopRow};
 
 /// A new net that has any calls gives in each what looking back over its cycles says, and stands for them all.
 #[tactic(auto, using(crate::proofs::CallsOf::outputs_are, crate::proofs::CallsOf::stands))]
@@ -49,18 +49,19 @@ pub fn outputs()
         ≡ list_any (λ d. is_same_bit d.out o && wire_value values inputs d.from) ds }
 {}
 
-/// The drive of an emergency stop whose acknowledgement comes as two bits is on exactly where, since the stop was last
-/// pressed or since the first cycle, the acknowledgement was seen released, then pressed, then released again. So it
-/// goes on at a release, and an acknowledgement that wasn't seen pressed, or wasn't seen released, leaves it off.
+/// The drive of an emergency stop whose acknowledgement comes as two bits is on exactly where the acknowledgement was seen
+/// released, then pressed, then released again since the stop was last pressed or the drive last lost, or since the first
+/// cycle. So it goes on at a release, and an acknowledgement that wasn't seen pressed, or wasn't seen released, leaves it
+/// off.
 #[tactic(auto, unfolding(crate::specs::Acknowledged::StopRow))]
 pub fn acknowledged()
-    ensures on { (stop pressed released drive : Bit) (lens : List ℕ) (c : NetCycle) (e : List NetCycle) → has_bit lens drive ≡ true
-        → bit_at (driven_images (stop_drives drive) (block_values (stop_blocks stop pressed released) (c ∷ e)) c.inputs lens) drive
-        ≡ is_acknowledged stop pressed released (c ∷ e) }
-    ensures at_release { (stop pressed released : Bit) (c : NetCycle) (e : List NetCycle)
-        → is_acknowledged stop pressed released (c ∷ e) ≡ true → is_acknowledged stop pressed released e ≡ false
+    ensures on { (stop there pressed released drive : Bit) (lens : List ℕ) (c : NetCycle) (e : List NetCycle) → has_bit lens drive ≡ true
+        → bit_at (driven_images (stop_drives drive) (block_values (stop_blocks stop there pressed released) (c ∷ e)) c.inputs lens) drive
+        ≡ is_acknowledged stop there pressed released (c ∷ e) }
+    ensures at_release { (stop there pressed released : Bit) (c : NetCycle) (e : List NetCycle)
+        → is_acknowledged stop there pressed released (c ∷ e) ≡ true → is_acknowledged stop there pressed released e ≡ false
         → is_let_go pressed released (c ∷ e) ≡ true }
-    ensures stuck { (stop pressed released : Bit) (e : List NetCycle) → let since : List NetCycle = run (is_on stop) e in
-        (list_any (is_on pressed) since && list_any (is_on released) since) ≡ false → is_acknowledged stop pressed released e ≡ false }
+    ensures stuck { (stop there pressed released : Bit) (e : List NetCycle) → let since : List NetCycle = run (may_run stop there) e in
+        (list_any (is_on pressed) since && list_any (is_on released) since) ≡ false → is_acknowledged stop there pressed released e ≡ false }
     ensures row { StopRow }
 {}
