@@ -8,7 +8,8 @@ use fsoe_base::{FrameBuf, MOST_FRAME, Memory};
 use std::alloc::Global;
 use std::marker::Model;
 
-/// A channel by the name `list` that gives listed parcels in order. What was pushed and what was given is known.
+/// A channel by the name `list` that gives listed parcels in order, whatever is pushed. What was pushed and what was
+/// given is known.
 #[derive(Drop)]
 pub struct ListChannel {
     gifts: Vec<Parcel>,

@@ -1,4 +1,5 @@
-//! What holds of a pair over all its steps, and of the reports of its runs. The calls do nothing: each law is a contract.
+//! What holds of a pair over all its steps, and of the reports of its runs. The calls do nothing: each law is a
+//! contract.
 
 ghost use Rattle.std.specs.Prelude.{◌≡◌, ◌++◌, ◌∷◌, ℕ, List, [], All, IfSome, codes, false, map};
 ghost use Rattle.std.specs.declared.result.Result.TheVariants.{Ok};

@@ -82,9 +82,9 @@ pub fn runs()
     ensures proper { (s : Setup) (moves : List Move) → All (IsProper s) moves → IsRun s (run s moves) }
 {}
 
-/// In every run of an end, what it did at each event, and what it does at the next, is one of the reactions: each says
+/// In every run of an end, what it did at each event, and what it does at the next, is one of the reactions. Each says
 /// in which state, at which age and after which tests of a frame it comes, and what the end does and sends then. In
-/// state Reset nothing is of a session, and in state Data a slave has the whole parameters.
+/// state Reset nothing is of a session, and in state Data a slave has the complete parameters.
 #[tactic(auto, using(crate::proofs::SoundRuns::reacts, crate::proofs::SoundRuns::reacted, crate::proofs::SoundRuns::outside_session, crate::proofs::SoundRuns::loaded))]
 pub fn reactions()
     ensures complete { (s : Setup) (e : List Deed) (what : Move) → IsRun s e → IsProper s what → IsReaction s e (step s e what) }
@@ -101,8 +101,8 @@ pub fn told()
     ensures one { (s : Setup) (e : List Deed) (event : Move) → IsRun s e → IsProper s event → at_most_one (step s e event).did ≡ true }
 {}
 
-/// In every run of an end what it finds has a code of at most 0Bh, and each Reset frame that it sends has such a code,
-/// with zeros after it.
+/// In every run of an end what it finds has a code of at most 0Bh. Each Reset frame that it sends has such a code, with
+/// zeros after it.
 #[tactic(auto, using(crate::proofs::Codes::sent_low))]
 pub fn codes()
     ensures found { (s : Setup) (e : List Deed) (event : Move) (found : Code) → IsRun s e → IsProper s event → (step s e event).did.reset ≡ Some (cause.Found found) → found.0 ≤ 0x0B }
@@ -136,7 +136,7 @@ pub fn outputs()
 {}
 
 /// In every run of a slave the uploaded parameters are complete if and only if as many bytes came as its settings ask
-/// for. For the number of application parameters that the master sends is that of the rule.
+/// for. The reason: the number of application parameters that the master sends is that of the rule.
 #[tactic(auto, using(crate::proofs::WholeUploads::whole_parameters))]
 pub fn uploads()
     ensures whole { (ss : SlaveSettings) (e : List Deed) → IsRun (OfSlave ss) e → whole ss.profile state.Parameter (uploaded ss state.Parameter e) ≡ nat_le (expected_len (expected.Parameter ss.most ss.rule ss.profile)) (length (uploaded ss state.Parameter e)) }

@@ -67,8 +67,8 @@ pub fn condition_is_needed()
 {}
 
 /// What a fresh session id excludes at a master. In two sessions let a master have sent its first Session frame and
-/// taken no answer yet. Let a frame come that one of them would take as this answer, as it took an old one. The other
-/// refuses it with code 04h, if their session ids differ in their low 16 bits (low 8 if a length is 1).
+/// taken no answer yet. Let a frame of a session come that one of them would take as this answer, as it took an old
+/// one. The other refuses it with code 04h, if their session ids differ in their low 16 bits (low 8 if a length is 1).
 pub fn old_answers()
     ensures { (ms : MasterSettings) (e e' : List Deed) (bytes load : List ℕ) (c : Command) → IsRun (OfMaster ms) e → IsRun (OfMaster ms) e' → state_of (OfMaster ms) e ≡ state.Session → state_of (OfMaster ms) e' ≡ state.Session → taken (since e) ≡ [] → taken (since e') ≡ [] → DifferInFront (OfMaster ms) (session_id (OfMaster ms) e) (session_id (OfMaster ms) e') → c ≢ command.Reset → verdict (OfMaster ms) e bytes ≡ Valid c load → EndsByCrcs (OfMaster ms) e' bytes }
 {}

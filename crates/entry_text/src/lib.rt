@@ -75,8 +75,8 @@ fn push_did(did: &Did, text: &mut LineText)
     }
 }
 
-/// Appends the name of a state between two spaces. Each is a piece by itself, as `push_took`'s are, since a copy whose length is known is
-/// made of few instructions.
+/// Appends the name of a state between two spaces. Each is a piece by itself, as `push_took`'s are, since a copy whose
+/// length is known is made of few instructions.
 fn push_state(state: State, text: &mut LineText)
     requires { length text.old ≤ 100 }
     ensures text { text.new ≡ text.old ++ (codes " " ++ state_name state ++ codes " ") }

@@ -75,8 +75,8 @@ pub fn headline()
 /// What the outputs of an end rest on, for equal lengths and each world without an `other` entry. If a bit of the
 /// outputs is 1, the peer sent a data frame while it offered that bit as 1 and wasn't held. After that came at most
 /// twice the master's watchdog, less 2, of the end's own ticks. Fewer than the watchdog came from the end's frame,
-/// which that one answers, until the end took the answer, and fewer after that. The terms of the end have the master's
-/// watchdog. Both ends share no clock.
+/// which the data frame answers, until the end took the answer, and fewer after that. The terms of the end have the
+/// master's watchdog. Both ends share no clock.
 #[tactic(auto, using(crate::proofs::Offering::Offered::was_offered, crate::proofs::Offering::Offered::told_watchdog))]
 pub fn offers()
     ensures lately { (ms : MasterSettings) (ss : SlaveSettings) (which : End) (bit : ℕ) (w : List Entry) → SameLengths ms ss → IsWorld ms ss w → NoOther w → IsTrue (bit_of (outputs_due (received_len ms.lengths which) (of_end which w)) bit) → WasOffered which bit (2 * ms.watchdog - 2) w }

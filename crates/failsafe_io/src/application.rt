@@ -11,14 +11,15 @@ pub trait Application: Drop {
     // What it holds between cycles.
     ghost holds: { Self → List ℕ };
 
-    // The answer of a cycle, by what is held before it, whether it is ticked, the inputs, and the lengths of the outputs.
+    // The answer of a cycle, by what is held before it, whether it is ticked, the inputs, and the lengths of the
+    // outputs.
     ghost rule: { Self → List ℕ → Bool → List (List ℕ) → List ℕ → Answer };
 
     // Which output bits it guards by which input bits: a guarded bit is 0 whenever the input bit is.
     ghost guards: { Self → Bit → Bit → Bool };
 
-    /// One cycle: each output image becomes the answer to the inputs and keeps its length. `ticked` says whether the cycle
-    /// counts as one unit of time. There may be any number of images, of any lengths.
+    /// One cycle: each output image becomes the answer to the inputs and keeps its length. `ticked` says whether the
+    /// cycle counts as one unit of time. There may be any number of images, of any lengths.
     fn cycle(&mut self, ticked: bool, inputs: &[Image], outputs: &mut [Image])
         ensures answers { outputs.new ≡ (rule self.old (holds self.old) ticked inputs.now (map length outputs.old)).outputs }
         ensures holds { holds self.new ≡ (rule self.old (holds self.old) ticked inputs.now (map length outputs.old)).holds }

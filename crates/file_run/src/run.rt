@@ -80,8 +80,8 @@ pub(crate) fn run_on<M: Machine, S: Source, K: Sink>(
 }
 
 /// Runs a machine over an input: reads its header, then an event from each line up to the last, and writes what the
-/// machine reports. If a line is refused, it writes `refused <line> <cause>`; so is a line that names a frame or an
-/// application that isn't there at this point. Buffered output is flushed before each read that may block, and at the
+/// machine reports. If a line is refused, also because it names a frame or an application that isn't there at this
+/// point, it writes `refused <line> <cause>`. Buffered output is flushed before each read that may block, and at the
 /// end of the run.
 ///
 /// The status is `Ok` or `Other` as the machine says. `Line` has the number of the refused line. `Read` has the

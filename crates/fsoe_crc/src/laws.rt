@@ -17,8 +17,9 @@ pub fn two_parts()
     ensures { (first second : List ℕ) → rem (first ++ second) ≡ bit_xor (rem (first ++ replicate (length second) 0)) (rem second) }
 {}
 
-/// Two data bytes with their CRC are 32 bits. Two other data bytes with theirs differ from these in at least six bits, whatever
-/// comes before both; and so do one data byte and another. Three zeros follow the data, as in a frame's cover. Some reach six.
+/// Two data bytes with their CRC are 32 bits. Two other data bytes with theirs differ from these in at least six bits,
+/// whatever comes before both; and so do one data byte and another. Three zeros follow the data, as in a frame's cover.
+/// Some reach six.
 #[tactic(auto, using(crate::proofs::Weight::pair_turned, crate::proofs::Weight::byte_turned, crate::proofs::Weight::six_reached))]
 pub fn six_turned_bits()
     ensures pair { (before : List ℕ) (a b c d : ℕ) → a < 256 → b < 256 → c < 256 → d < 256 → (a ≡ c → b ≢ d) → 6 ≤ turned_bits a c + turned_bits b d + turned_bits (rem (before ++ a ∷ b ∷ 0 ∷ 0 ∷ 0 ∷ [])) (rem (before ++ c ∷ d ∷ 0 ∷ 0 ∷ 0 ∷ [])) }

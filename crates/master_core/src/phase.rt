@@ -132,7 +132,8 @@ impl Phase {
         state.take(seen, link, kit)
     }
 
-    // A function clears the room of all its locals, so that each change of phase, which makes a state, has one of its own.
+    // A function clears the room of all its locals, so that each change of phase, which makes a state, has one of its
+    // own.
 
     /// Goes on to state Connection after the last answer in state Session.
     #[inline(never)]

@@ -71,7 +71,7 @@ impl Upload {
     }
 
     /// Creates the upload of parameters of this profile, with a watchdog of 1 to `most` ticks, in pieces of `piece`
-    /// bytes, at most 126. The application parameters must follow `rule`, which settings may have.
+    /// bytes, at most 126. The application parameters must follow `rule`, which must be acceptable.
     pub fn parameter(piece: usize, most: u16, rule: &AppRule, profile: Profile) -> Upload
         requires most { piece ≤ MOST_DATA }
         requires acceptable { IsTrue (is_acceptable rule.now) }

@@ -25,8 +25,8 @@ pub struct BoundSpec {
     pub drive: Bit,
 }
 
-/// The configuration of a plant: at least one connection and at most 64, no two of which have one id, and at most 256 blocks, 1,024
-/// driven output bits and 16 bounds. Whether its net can be made, and whether its bounds name bits that there are, isn't tested here.
+/// The configuration of a plant: from 1 to 64 connections with different ids, and at most 256 blocks, 1,024 driven
+/// output bits and 16 bounds. Whether its net can be made, and whether the bits of its bounds exist, isn't tested here.
 #[derive(Debug, Drop)]
 pub struct PlantConf {
     pub(crate) links: Vec<LinkConf>,

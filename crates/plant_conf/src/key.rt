@@ -139,7 +139,8 @@ impl Key {
         }
     }
 
-    /// Appends the key as a refusal writes it: `plant seed`, `connection 2 watchdog`, and a whole table by its name alone.
+    /// Appends the key as a refusal writes it: `plant seed`, `connection 2 watchdog`, and a whole table by its name
+    /// alone.
     pub fn push(self, text: &mut LineText)
         requires { length text.old ≤ 900 }
         ensures text { text.new ≡ text.old ++ key_text self }

@@ -23,7 +23,8 @@ pub(crate) struct Ends<A> {
     pub(crate) links: Vec<Link>,
     pub(crate) dids: Vec<Did>,
     pub(crate) outs: Vec<FrameBuf>,
-    /// Where an end writes what it did at the last frame that was pulled. Its place for data stays, since ticks have places of their own.
+    /// Where an end writes what it did at the last frame that was pulled. Its place for data stays, since ticks have
+    /// places of their own.
     pub(crate) heard: Did,
     /// Where an end writes what it sent then.
     pub(crate) sent: FrameBuf,

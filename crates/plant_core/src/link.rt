@@ -39,7 +39,8 @@ impl Model for Link {
     ghost view = { λ l. record { slave = l.slave; monitor = monitor_in l.watch; ages = ages_in l.watch; watchdog = l.watchdog; cut = l.cut } };
 }
 
-/// Notes an entry of a slave, by whether it is a tick, the bytes that came, what the slave did and the frame that it sent.
+/// Notes an entry of a slave, by whether it is a tick, the bytes that came, what the slave did and the frame that it
+/// sent.
 fn note_slave(slave: &Slave, watch: &mut Watch, tick: bool, came: &[u8], did: &Did, sent: &FrameBuf)
     requires few { (monitor_in watch.old).noted + 1 < 2 ^ 64 }
     ensures noted { NotesParts (monitor_in watch.old) side.Slave came.now did.now sent.now (monitor_in watch.new) }
@@ -152,7 +153,8 @@ impl Link {
         note_setting(&self.slave, &mut self.watch);
     }
 
-    /// Notes an entry of the master, by whether it is a tick, the bytes that came, what it did and the frame that it sent.
+    /// Notes an entry of the master, by whether it is a tick, the bytes that came, what it did and the frame that it
+    /// sent.
     #[tactic(auto, using(crate::proofs::Linked::master_noted, crate::proofs::Linked::notes_one))]
     pub(crate) fn note_master(&mut self, tick: bool, came: &[u8], did: &Did, sent: &FrameBuf)
         requires few { self.old.monitor.noted + 1 < 2 ^ 64 }

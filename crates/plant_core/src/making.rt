@@ -61,7 +61,7 @@ fn links_made(alloc: Global, confs: &[LinkConf], bounds: &[BoundSpec]) -> Result
     Ok(links)
 }
 
-/// Places for what so many masters do in a tick.
+/// Places for what `count` masters do in a tick.
 fn dids_made(alloc: Global, count: usize) -> Result<Vec<Did>, Memory>
     ensures { IfOk result (λ dids. vec_len dids ≡ count) }
 {
@@ -77,7 +77,7 @@ fn dids_made(alloc: Global, count: usize) -> Result<Vec<Did>, Memory>
     Ok(dids)
 }
 
-/// Places for the frames that so many masters send in a tick.
+/// Places for the frames that `count` masters send in a tick.
 fn outs_made(alloc: Global, count: usize) -> Result<Vec<FrameBuf>, Memory>
     ensures { IfOk result (λ outs. vec_len outs ≡ count) }
 {

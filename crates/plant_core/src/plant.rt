@@ -281,9 +281,9 @@ impl<A: Application> Plant<A> {
         self.ends.master.outputs(link)
     }
 
-    /// Returns true if the stop of these bits is active. Then the slave sends the input bit as 0 or sends fail-safe
-    /// data, and the running application guards the output bit by it. The input bit's connection must exist; a bit that
-    /// isn't there is 0.
+    /// Returns true if these bits' stop is active: the slave sends the input bit as 0 or fail-safe data, and the
+    /// running application guards the output bit by it. The input bit's connection must exist; a bit that isn't there
+    /// is 0.
     pub fn quiet(&self, inp: Bit, out: Bit) -> bool
         requires { HasLink self.now inp.link }
         ensures { TellsStill (seen A.rule A.holds A.guards self.now) (record { estop = inp; drive = out }) result }

@@ -77,7 +77,8 @@ pub(crate) fn reset_slave<C: Channel>(number: u16, link: &mut Link, channel: &mu
     push_sent(channel, number, End::Master, &out, link.is_cut());
 }
 
-/// Notes what the master of this connection did, by whether it was in a tick and by the bytes that came, and pushes its frame.
+/// Notes what the master of this connection did, by whether it was in a tick and by the bytes that came, and pushes its
+/// frame.
 #[tactic(auto, using(crate::proofs::Acting::master_acts))]
 pub(crate) fn master_acted<C: Channel>(
     number: u16,

@@ -39,8 +39,8 @@ pub fn cycles()
     ensures { (b : Beginning) (act : Act) (acts : List Act) → Cycles b act acts }
 {}
 
-/// The parcels that the channel gave are those in the journal, in their order. Its pulls that gave nothing are as many as the ticks after
-/// which fewer than 64 parcels were pulled.
+/// The parcels that the channel gave are those in the journal, in their order. Its pulls that gave nothing are as many
+/// as the ticks after which fewer than 64 parcels were pulled.
 #[tactic(auto, using(crate::proofs::Given::given, crate::proofs::Given::empties))]
 pub fn given()
     ensures gifts { (b : Beginning) (acts : List Act) → gifts (uses b acts) ≡ pulled_in (journal b acts) }

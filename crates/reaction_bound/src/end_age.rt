@@ -5,7 +5,8 @@ ghost use Rattle.reaction_bound.specs.Ages.{first_kept, age_in, waited_next, cou
 
 use fsoe_base::{Command, Did};
 
-/// Outputs from an item: the ticks that are left until the watchdog expires, not 0, and the ticks since the item was sent.
+/// Outputs from an item: the ticks that are left until the watchdog expires, not 0, and the ticks since the item was
+/// sent.
 #[derive(Clone, Copy, Debug)]
 pub struct Standing {
     pub(crate) left: u16,
@@ -135,7 +136,7 @@ fn ticked(standing: Option<Standing>) -> Option<Standing>
     }
 }
 
-/// Outputs by a frame of this command that was taken, where the item that was awaited before was sent so many ticks ago.
+/// Outputs by a frame of this command that was taken; the item awaited before was sent `sent_ago` ticks ago.
 fn taken(
     command: Command,
     other: bool,
@@ -151,7 +152,7 @@ fn taken(
     }
 }
 
-/// Outputs from the item of this number, which was sent so many ticks ago, under this watchdog.
+/// Outputs from the item of this number, which was sent `sent_ago` ticks ago, under this watchdog.
 fn from_item(number: Option<u64>, watchdog: Option<u16>, sent_ago: u32) -> Option<Standing>
     ensures { result ≡ standing_from number watchdog sent_ago }
 {

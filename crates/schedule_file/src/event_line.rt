@@ -1,5 +1,5 @@
-//! What the fields of an event's line say that stand after its word: one reader for each kind of event. Each writes the event over
-//! `event`, which is as it was after an error. So what a line says is made in its place.
+//! What the fields of an event's line say that stand after its word: one reader for each kind of event. Each writes the
+//! event over `event`, which is as it was after an error. So what a line says is made in its place.
 ghost use Rattle.std.specs.Prelude.{◌≡◌, ◌≤◌, ◌<◌, [], ◌∷◌, IfSome, OnOk, OnErr, option_map};
 ghost use Rattle.fsoe_base.specs.LengthsOf.{length_of};
 ghost use Rattle.fsoe_base.specs.declared.command.End.{End};
@@ -105,7 +105,8 @@ pub fn read_altered(
     Ok(())
 }
 
-/// No field: a tick. It's written over a tick alone where `event` is one: to write an event of another kind blanks a frame's room.
+/// No field: a tick. It's written over a tick alone where `event` is one: to write an event of another kind blanks a
+/// frame's room.
 pub fn read_tick(at: End, fields: Option<&[u8]>, event: &mut Event) -> Result<(), LineCause>
     ensures value { Becomes result (ScheduleLine.Step event.new) (bare_line (ScheduleLine.Step (Event.Tick at)) (fields_after fields.entry)) }
     ensures unwritten { OnErr result (event.new ≡ event.old) }

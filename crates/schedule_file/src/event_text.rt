@@ -63,8 +63,8 @@ fn push_switch(on: bool, out: &mut LineBuf)
     out.push(if on { b'1' } else { b'0' });
 }
 
-/// Writes the line of an event in a schedule of both ends, without its newline, in place of what `out` held. A
-/// reference is from 1 to 64, a frame has from 1 to 255 bytes and a put from 1 to 126. `read_event` reads the line as
+/// Writes the line of an event in a schedule of both ends, without its newline, to `out`, whose old contents are lost.
+/// A reference is from 1 to 64, a frame has from 1 to 255 bytes and a put from 1 to 126. `read_event` reads the line as
 /// the same event under all lengths and profiles that the event fits.
 pub fn write_event(event: &Event, out: &mut LineBuf)
     requires { IsWritable event.now }

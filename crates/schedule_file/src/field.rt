@@ -153,8 +153,8 @@ pub fn one_field(fields: Option<&[u8]>) -> Result<&[u8], LineCause>
     }
 }
 
-/// The bytes of the only field, from one to `most`. `Fields` where there is no field or more than one, else `Hex`. Digits
-/// have no space among them, so one is sought only where they aren't digits.
+/// The bytes of the only field, from one to `most`. `Fields` where there is no field or more than one, else `Hex`.
+/// Digits have no space among them, so one is sought only where they aren't digits.
 #[tactic(auto, using(crate::proofs::HexAlone::hex_said, crate::proofs::HexAlone::hex_unsaid))]
 pub fn one_hex_field(fields: Option<&[u8]>, most: usize) -> Result<HexBytes, LineCause>
     requires { most ≤ MAX_HEX }
@@ -170,8 +170,8 @@ pub fn one_hex_field(fields: Option<&[u8]>, most: usize) -> Result<HexBytes, Lin
     }
 }
 
-/// Writes to `bytes` those that a field says in digits of either case, from one to as many as there is room for. `Hex` where it says no such
-/// bytes; they are then as they were.
+/// Writes to `bytes` those that a field says in digits of either case, from one to as many as there is room for. `Hex`
+/// where it says no such bytes; they are then as they were.
 #[inline(always)]
 pub fn read_bytes<const MOST: usize>(
     text: &[u8],
@@ -191,8 +191,8 @@ pub fn read_bytes<const MOST: usize>(
     }
 }
 
-/// The same of the only field. `Fields` where there is no field or more than one. Digits have no space among them, so one is sought only
-/// where they aren't digits.
+/// The same of the only field. `Fields` where there is no field or more than one. Digits have no space among them, so
+/// one is sought only where they aren't digits.
 #[inline(always)]
 #[tactic(auto, using(crate::proofs::HexAlone::said_alone, crate::proofs::HexAlone::unsaid_alone))]
 pub fn bytes_field<const MOST: usize>(

@@ -29,9 +29,9 @@ use std::marker::Model;
 /// - `lengths <master> <slave>`, the numbers of safe data bytes that the ends send;
 /// - of a pair or a master, `master <conn> <address> <watchdog> <nonce>`, at most one `profile <word>`, and any
 ///   number of `app <hex>`, which have 512 bytes in all at most;
-/// - of a pair or a slave, `slave <address> <hand> <most> <nonce>`, at most one `profile <word>`, and
-///   `rule any <n>`, or `rule exact` and any number of `bytes <hex>`, or `rule ranges` and any number of
-///   `range <hex>`, pairs of a lowest and a highest value;
+/// - of a pair or a slave, `slave <address> <hand> <most> <nonce>`, at most one `profile <word>`, and a rule. That is
+///   `rule any <n>`, `rule exact` and any number of `bytes <hex>`, or `rule ranges` and any number of `range <hex>`,
+///   pairs of a lowest and a highest value;
 /// - `go`.
 ///
 /// A nonce above 65,535 is one of profile Two, so the `profile` of its end has to come next.
@@ -116,10 +116,10 @@ impl Header {
         self.place.is_last()
     }
 
-    /// Reads the next line: true exactly at `go`, which ends the header. An error is the first of these causes
-    /// that applies to the line: `Header` where its first word may not stand here, `Fields`, `Number`, `Hex`,
-    /// `Length`, and `Range`, also where a `profile` line had to come. Every line after a refused one, and after
-    /// `go`, is refused as `Header`. Each line leaves fewer to come: a header has at most 1,032.
+    /// Reads the next line. Returns true if and only if it is `go`, which ends the header. An error is the first of
+    /// these causes that applies: `Header` if its first word isn't allowed here, `Fields`, `Number`, `Hex`, `Length`,
+    /// `Range`. `Range` also if a `profile` line had to come. Every line after a refused one, and after `go`, is
+    /// refused as `Header`. Each line leaves fewer to come: a header has at most 1,032.
     pub fn line(&mut self, line: &[u8]) -> Result<bool, LineCause>
         ensures next { Becomes result self.new (heading_after self.old line.now) }
         ensures done { IfOk result (λ done. done ≡ heading_is_whole self.new) }
@@ -136,7 +136,8 @@ impl Header {
         }
     }
 
-    /// Reads the next line of a header that is `begun`, as `line` does: its `master` or `slave` line says of which end the node is.
+    /// Reads the next line of a header that is `begun`, as `line` does: its `master` or `slave` line says of which end
+    /// the node is.
     pub fn node_line(&mut self, line: &[u8]) -> Result<bool, LineCause>
         ensures next { Becomes result self.new (node_heading_after self.old line.now) }
         ensures done { IfOk result (λ done. done ≡ heading_is_whole self.new) }
@@ -168,7 +169,8 @@ impl Header {
         matches!(self.place, Place::Master | Place::Slave)
     }
 
-    /// Whether the lines may end here, so that `go` may come next. Where `wants_profile` holds, the line after them is refused as `Range`.
+    /// Whether the lines may end here, so that `go` may come next. Where `wants_profile` holds, the line after them is
+    /// refused as `Range`.
     pub fn may_end(&self) -> bool
         ensures { result ≡ may_end self.now }
     {
@@ -204,7 +206,8 @@ impl Header {
         }
     }
 
-    /// Whether the end whose line was read last is in profile Two for its nonce, so that its `profile` has to come next.
+    /// Whether the end whose line was read last is in profile Two for its nonce, so that its `profile` has to come
+    /// next.
     pub fn wants_profile(&self) -> bool
         ensures { result ≡ wants_profile self.now.place self.now.master self.now.slave }
     {
@@ -310,7 +313,8 @@ impl Header {
         Lengths::new(usize::from(master), usize::from(slave)).unwrap()
     }
 
-    /// What the master is set to, where the header describes one. Until its lines are read, settings hold values that no line says.
+    /// What the master is set to, where the header describes one. Until its lines are read, settings hold values that
+    /// no line says.
     pub fn master(&self) -> MasterSettings
         requires { IsTrue (has_end self.now.kind End.Master) }
         ensures { IsMasterOf self.now result }
@@ -318,7 +322,8 @@ impl Header {
         self.master.settings(self.lengths())
     }
 
-    /// What the slave is set to, where the header describes one. Until its lines are read, settings hold values that no line says.
+    /// What the slave is set to, where the header describes one. Until its lines are read, settings hold values that no
+    /// line says.
     pub fn slave(&self) -> SlaveSettings
         requires { IsTrue (has_end self.now.kind End.Slave) }
         ensures { IsSlaveOf self.now result }

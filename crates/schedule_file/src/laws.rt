@@ -38,15 +38,15 @@ pub fn written_is_read()
     ensures { (sends : End → ℕ) (profiles : End → Profile) (event : Event) → IsOfTypes event → Fits sends profiles event → pair_line sends profiles (event_text event) ≡ Ok (Step event) }
 {}
 
-/// An event line of a pair that is written with the number of another pair before it says the same of this one, where its ends send as
-/// many bytes and have the same profiles.
+/// An event line of a pair, written with the number of another pair before it, means the same for that one, if the
+/// lengths and the profiles of their ends are equal.
 pub fn numbered_lines_say_the_same()
     ensures { (sends : List (End → ℕ)) (profiles : List (End → Profile)) (pair : ℕ) (own : End → ℕ) (profile : End → Profile) (text : List ℕ) (event : Event) → pair < 65536
         → numbered pair sends ≡ Some own → numbered pair profiles ≡ Some profile → pair_line own profile text ≡ Ok (Step event) → pairs_line sends profiles (with_pair pair text) ≡ Ok (One pair event) }
 {}
 
-/// The line that is written of an event with the number of its pair before it is read as the same event of this pair, at all pairs that the
-/// event fits.
+/// The line of an event, written with the number of its pair before it, is read as the same event of this pair, at all
+/// pairs that the event fits.
 pub fn written_of_pair_is_read()
     ensures { (sends : List (End → ℕ)) (profiles : List (End → Profile)) (pair : ℕ) (event : Event) → pair < 65536 → IsOfTypes event → FitsPair sends profiles pair event
         → pairs_line sends profiles (with_pair pair (event_text event)) ≡ Ok (One pair event) }
@@ -72,15 +72,15 @@ pub fn inputs_have_few_events()
     ensures { (kind : HeaderKind) (bytes : List ℕ) → length (input_of kind bytes).events ≤ max_events }
 {}
 
-/// The header of an input, where it is whole, gives settings of both ends; those of an end that it doesn't describe are such as
-/// no line says.
+/// The header of an input, where it is whole, gives settings of both ends; those of an end that it doesn't describe are
+/// such as no line says.
 pub fn whole_headers_give_settings()
     ensures master { (kind : HeaderKind) (bytes : List ℕ) → IfSome (input_of kind bytes).heading (λ h. (settings : MasterSettings) × IsMasterOf h settings) }
     ensures slave { (kind : HeaderKind) (bytes : List ℕ) → IfSome (input_of kind bytes).heading (λ h. (settings : SlaveSettings) × IsSlaveOf h settings) }
 {}
 
-/// The events of an input, where its header is whole, fit the ends that this describes: both of a pair, that of a node, or those of the
-/// pair that an event of several pairs names.
+/// The events of an input with a complete header fit the ends that it describes. These are both ends of a pair, that of
+/// a node, or those of the pair that an event of several pairs names.
 pub fn events_fit()
     ensures pair { (bytes : List ℕ) → IfSome (input_of Pair bytes).heading (λ h. All (Fits (own_length h) (heading_profile h)) (input_of Pair bytes).events) }
     ensures node { (end : End) (bytes : List ℕ) → IfSome (input_of (Node end) bytes).heading (λ h. All (FitsEnd end (own_length h end) (heading_profile h end)) (input_of (Node end) bytes).events) }
@@ -92,8 +92,8 @@ pub fn nothing_after_the_end_counts()
     ensures { (kind : HeaderKind) (bytes more : List ℕ) → (input_of kind bytes).stop ≡ AtEnd → input_of kind (bytes ++ more) ≡ input_of kind bytes }
 {}
 
-/// What inputs of a slave's node say that have a header of five lines: two events and the end; an id with a leading
-/// zero; a line without its newline; and no line where one has to be.
+/// What inputs of a slave's node mean whose header has five lines: two events and the end, an id with a leading zero, a
+/// line without newline, a missing line.
 pub fn worked_inputs()
     ensures events { (input_with (codes "t\nh 1\nend\n")).events ≡ event.Tick side.Slave ∷ event.Hold side.Slave true ∷ [] }
     ensures end { (input_with (codes "t\nh 1\nend\n")).stop ≡ AtEnd }
@@ -102,7 +102,8 @@ pub fn worked_inputs()
     ensures no_end { (input_with (codes "t\n")).stop ≡ Refused 7 NoLine }
 {}
 
-/// What inputs of two pairs say: a tick of both, an event of one, and the end; a pair that doesn't exist; and headers that are refused.
+/// What inputs of two pairs say: a tick of both, an event of one, and the end; a pair that doesn't exist; and headers
+/// that are refused.
 pub fn worked_pairs()
     ensures events { (pairs_with (codes "t\n1 ds -1\nend\n")).events ≡ pairs_event.Tick ∷ pairs_event.One 1 (event.Deliver side.Slave 1) ∷ [] }
     ensures end { (pairs_with (codes "t\n1 ds -1\nend\n")).stop ≡ AtEnd }

@@ -8,7 +8,7 @@ use std::marker::Model;
 /// The most bytes of a line, without its newline.
 pub const MAX_LINE: usize = 640;
 
-/// A line of a schedule as it is made, without its newline: at most 640 bytes. It is seen as its bytes.
+/// A line of a schedule as it is made, without its newline, of at most 640 bytes. In contracts the value is its bytes.
 #[derive(Drop)]
 pub struct LineBuf {
     text: LineText,

@@ -27,7 +27,7 @@ enum Turn {
 #[derive(Debug, Drop)]
 pub struct Maker {
     turn: Turn,
-    /// How many events in turn come before those by words; None where all are in turn.
+    /// How many events in turn come before those by the generator; None if all are in turn.
     left: Option<u8>,
     words: Pcg32,
 }
@@ -134,8 +134,8 @@ impl Maker {
     }
 }
 
-/// Writes to `out` that a frame so many back of the peer comes to an end. Most events are such, so where `out` has one its fields are
-/// written alone, and not the room for the longest event.
+/// Writes to `out` that an end gets the peer's frame `back` frames back. Most events are such: if `out` has one, only
+/// its fields are written, and not the room for the longest event.
 fn deliver(to: End, back: u8, out: &mut Event)
     ensures { out.new ≡ event.Deliver to back }
 {

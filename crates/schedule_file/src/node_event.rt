@@ -50,11 +50,11 @@ fn read_word(text: &[u8]) -> Option<Word>
     }
 }
 
-/// What a line after the header says to the node at `end`, without its newline: an event there, or the end of the
-/// schedule. The lines are `d <hex>` (a frame of 1 to 255 bytes), `t` (a tick), `p <hex>` (exactly the end's own number
-/// of safe data bytes), `h 0` and `h 1` (fail-safe data off and on), `n <id>` (a session id that the profile allows),
-/// `z` (a local reset), and `end`. An error is the first of these causes that applies: `Word`, `Fields`, `Number`,
-/// `Hex`, `Length`.
+/// Parses a line after the header, without its newline: an event at the node at `end`, or the end of the schedule. An
+/// error is the first of these causes that applies: `Word`, `Fields`, `Number`, `Hex`, `Length`. The lines are:
+/// - `d <hex>`, a frame of 1 to 255 bytes; `t`, a tick; `z`, a local reset; and `end`;
+/// - `p <hex>`, exactly the end's own number of safe data bytes; `h 0` and `h 1`, fail-safe data off and on;
+/// - `n <id>`, a session id that the profile allows.
 pub fn read_node_event(
     line: &[u8],
     end: End,
@@ -108,8 +108,8 @@ fn read_over(
     }
 }
 
-/// The same where no event was said before. A function clears the room of all its locals, so that this one, which makes an event, stands
-/// by itself.
+/// The same where no event was said before. A function clears the room of all its locals, so that this one, which makes
+/// an event, stands by itself.
 #[inline(never)]
 fn read_first(
     word: Word,

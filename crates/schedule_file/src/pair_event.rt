@@ -93,13 +93,13 @@ pub fn profile_of(profiles: &Profiles, at: End) -> Profile
     }
 }
 
-/// What a line after the header says to both ends, without its newline: an event at one of them, or the end of the
-/// schedule. The word's second letter is `m` for the master and `s` for the slave: `dm -<back>` (the frame 1 to 64
-/// back of those that the peer sent), `am -<back> <place> <mask>` (the same with one byte altered by a mask of two
-/// digits), `rm <hex>` (a frame of 1 to 255 bytes), `tm` (a tick), `pm <hex>` (exactly the end's own number of safe
-/// data bytes), `hm 0` and `hm 1` (fail-safe data off and on), `nm <id>` (a session id that the end's profile allows),
-/// `zm` (a local reset), and `end`. An error is the first of these causes that applies: `Word`, `Fields`, `Number`,
-/// `Reference`, `Hex`, `Length`, `Position`.
+/// Parses a line after the header, without its newline: an event at one of both ends, or the end of the schedule. An
+/// error is the first of these causes that applies: `Word`, `Fields`, `Number`, `Reference`, `Hex`, `Length`,
+/// `Position`. The lines for the master, with `s` for `m` those for the slave, and `end`:
+/// - `dm -<back>`, the frame 1 to 64 back of those that the peer sent; `rm <hex>`, a frame of 1 to 255 bytes;
+/// - `am -<back> <place> <mask>`, the frame back with one byte altered by a mask of two digits;
+/// - `tm`, a tick; `zm`, a local reset; `pm <hex>`, exactly the end's own number of safe data bytes;
+/// - `hm 0` and `hm 1`, fail-safe data off and on; `nm <id>`, a session id that the end's profile allows.
 pub fn read_event(
     line: &[u8],
     lengths: &Lengths,
@@ -150,8 +150,8 @@ fn read_over(
     }
 }
 
-/// The same where no event was said before. A function clears the room of all its locals, so that this one, which makes an event, stands
-/// by itself.
+/// The same where no event was said before. A function clears the room of all its locals, so that this one, which makes
+/// an event, stands by itself.
 #[inline(never)]
 fn read_first(
     word: PairWord,

@@ -125,10 +125,11 @@ fn read_common(first: &[u8], fields: Option<&[u8]>, said: &mut PairsSaid) -> Res
     }
 }
 
-/// What a line after the header of several pairs says, without its newline: `t` (a tick of all pairs), `<k> <event>` (an event of pair
-/// `k`, from 1: a line as `read_event` reads it, but for `end`), or `end`. The lists have the lengths and the profiles of the pairs, in
-/// their order. An error is the first of these causes that applies to the whole line: `Word`, also where the first field is digits alone
-/// and the second is there and no word of an event, `Fields`, `Number`, `NoLink`, `Reference`, `Hex`, `Length`, `Position`.
+/// Parses a line after the header of several pairs, without its newline: `t` (a tick of all pairs), `<k> <event>` (an
+/// event of pair `k`, from 1), or `end`. An event is a line that `read_event` reads, except `end`. The lists have the
+/// lengths and the profiles of the pairs, in their order. An error is the first of these causes that applies to the
+/// whole line: `Word`, `Fields`, `Number`, `NoLink`, `Reference`, `Hex`, `Length`, `Position`. `Word` also if the first
+/// field is only digits and the second is there and no word of an event.
 pub fn read_pairs_event(
     line: &[u8],
     lengths: &[Lengths],

@@ -39,12 +39,12 @@ pub enum PairsStage {
     Refused,
 }
 
-/// A header that is read line by line, without newlines, from its first line to `go`. The fields of a line are separated by exactly one
-/// space. The lines stand in this order:
+/// A header that is read line by line, without newlines, from its first line to `go`. The fields of a line are
+/// separated by exactly one space. The lines stand in this order:
 ///
 /// - `fsoe 2 pairs`;
-/// - from 1 to 16 pairs, each with `pair <k>`, its number, from 1 in their order without a gap, and then the lines that the header of a
-///   pair has from `lengths` to before `go`;
+/// - from 1 to 16 pairs, each with `pair <k>`, its number, from 1 in their order without a gap. Then come the lines
+///   that the header of a pair has from `lengths` to before `go`;
 /// - `go`.
 ///
 /// Room for all pairs is allocated when the header is made, so that no line allocates.
@@ -112,10 +112,11 @@ impl PairsHeader {
         matches!(self.stage, PairsStage::Done)
     }
 
-    /// Reads the next line: true exactly at `go`, which ends the header. An error is the first of these causes that applies to the line:
-    /// `Header` where its first word may not stand here, as `pair` and `go` before the lines of a pair may end, `Fields`, `Number`, `Hex`,
-    /// `Length`, and `Range`, also at a `pair` line whose number isn't the next or is above 16. Every line after a refused one, and after
-    /// `go`, is refused as `Header`. Each line leaves fewer to come: a header has at most 16,513.
+    /// Reads the next line. Returns true if and only if it is `go`, which ends the header. An error is the first of
+    /// these causes that applies: `Header` if its first word isn't allowed here, `Fields`, `Number`, `Hex`, `Length`,
+    /// `Range`. `Header` also at `pair` and `go` before the lines of a pair may end, `Range` also at a `pair` line
+    /// whose number isn't the next or is above 16. Every line after a refused one, and after `go`, is refused as
+    /// `Header`. Each line leaves fewer to come: a header has at most 16,513.
     pub fn line(&mut self, line: &[u8]) -> Result<bool, LineCause>
         ensures next { Becomes result self.new (pairs_heading_after self.old line.now) }
         ensures done { IfOk result (λ done. done ≡ pairs_heading_is_whole self.new) }
@@ -230,7 +231,8 @@ impl PairsHeader {
         }
     }
 
-    /// What the master of the pair of this number, from 1, is set to. Until its lines are read, settings hold values that no line says.
+    /// What the master of the pair of this number, from 1, is set to. Until its lines are read, settings hold values
+    /// that no line says.
     pub fn master(&self, pair: u16) -> MasterSettings
         requires first { 0 < pair }
         requires last { pair ≤ length (pairs_of self.now) }
@@ -239,7 +241,8 @@ impl PairsHeader {
         self.pair(pair).master()
     }
 
-    /// What the slave of the pair of this number, from 1, is set to. Until its lines are read, settings hold values that no line says.
+    /// What the slave of the pair of this number, from 1, is set to. Until its lines are read, settings hold values
+    /// that no line says.
     pub fn slave(&self, pair: u16) -> SlaveSettings
         requires first { 0 < pair }
         requires last { pair ≤ length (pairs_of self.now) }

@@ -35,8 +35,8 @@ pub enum PairsEvent {
     One { pair: u16, event: Event },
 }
 
-/// What a line after the header says, a `PairsLine`, in room that is kept from one line to the next: an event of a pair is written over
-/// that of the line before, where this has one.
+/// The meaning of a line after the header, a `PairsLine`, in room that is kept from one line to the next. An event of a
+/// pair is written over that of the line before, if this has one.
 #[derive(Drop)]
 pub struct PairsSaid {
     ended: bool,

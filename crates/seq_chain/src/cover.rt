@@ -13,8 +13,8 @@ use fsoe_crc::Register;
 /// The CRCs of a frame, one for each group.
 pub(crate) type Crcs = ArrayVec<u16, 63>;
 
-/// The CRCs of the groups of a load, in place of what `out` held. The part that they cover in common
-/// is fed once for all of them.
+/// Writes the CRCs of the groups of a load to `out`, whose old contents are lost. The part that they cover in common is
+/// fed once for all of them.
 pub(crate) fn crcs_into(last: u16, conn: u16, number: u16, command: u8, load: &[u8], out: &mut Crcs)
     requires { IsTrue (is_length (length load.now)) }
     ensures items { out.new.items ≡ crcs last conn number command load.now }
@@ -75,7 +75,8 @@ fn common_and_zeros(common: &Register) -> u16
     register.value()
 }
 
-/// The CRC of a later group of two bytes at this place, after the common part, of which `advanced` is the CRC with zeros.
+/// The CRC of a later group of two bytes at this place, after the common part, of which `advanced` is the CRC with
+/// zeros.
 fn later_crc(advanced: u16, index: usize, first: u8, second: u8) -> u16
     requires later { 0 < index }
     requires place { index < 63 }
