@@ -1,7 +1,7 @@
-//! Both ends for callers in C, in memory that these hand in.
-//!
-//! A handle says where the memory of an end lies and whether the end is there. Each call takes one, and answers by a number: `OK`, or why it
-//! refused; a call that refuses changes nothing. `embed/gatepast.h` declares the calls, and says what C code owes.
+//! FSoE master and slave as a library for C, in memory of the caller; nothing here allocates. A handle says where the
+//! memory of an end is and whether the end is there. Each function has a handle as parameter and returns a status:
+//! `OK`, or why it refused; a refused call changes nothing. `embed/gatepast.h` declares the functions, and says what C
+//! code owes.
 #![tactic(auto)]
 
 pub mod laws;

@@ -68,7 +68,7 @@ pub extern "C" fn gp_master_init(master: &mut GpMaster, set: &GpMasterSettings, 
     }
 }
 
-/// Lets the master go. The memory is the caller's again.
+/// Ends the use of the master. The memory is the caller's again.
 #[unsafe(no_mangle)]
 pub extern "C" fn gp_master_end(master: &mut GpMaster) -> u8
     requires { IsSoundMaster master.old }
@@ -86,8 +86,8 @@ pub extern "C" fn gp_master_end(master: &mut GpMaster) -> u8
     OK
 }
 
-/// Hands over a frame of the slave, of any number of bytes. `did` says what was done, and `out` is the frame to send, of no bytes
-/// where none is.
+/// Delivers a frame of the slave, of any number of bytes. Writes the result to `did`, and the frame to send to `out`,
+/// empty if none is sent.
 #[unsafe(no_mangle)]
 #[tactic(auto, using(crate::proofs::Places::vacuous))]
 pub extern "C" fn gp_master_deliver(
@@ -120,8 +120,8 @@ pub extern "C" fn gp_master_deliver(
     OK
 }
 
-/// Accepts a frame of the slave, of any number of bytes, in the first half of a delivery: where a frame is due then, `reply` writes it.
-/// `did` says what was done.
+/// Accepts a frame of the slave, of any number of bytes, in the first half of a delivery. Writes the result to `did`.
+/// If a frame is due then, `reply` writes it.
 #[unsafe(no_mangle)]
 #[tactic(auto, using(crate::proofs::Places::vacuous))]
 pub extern "C" fn gp_master_accept(master: &mut GpMaster, frame: &[u8], did: &mut GpDid) -> u8
@@ -148,7 +148,7 @@ pub extern "C" fn gp_master_accept(master: &mut GpMaster, frame: &[u8], did: &mu
     OK
 }
 
-/// 1 where a frame is due, else 0.
+/// Writes 1 if a frame is due, else 0.
 #[unsafe(no_mangle)]
 #[tactic(auto, using(crate::proofs::Places::vacuous))]
 pub extern "C" fn gp_master_due(master: &mut GpMaster, due: &mut u8) -> u8
@@ -166,7 +166,7 @@ pub extern "C" fn gp_master_due(master: &mut GpMaster, due: &mut u8) -> u8
     OK
 }
 
-/// Writes the frame that is due to `out`, in the second half of a delivery. It carries what was put last.
+/// Writes the due frame to `out`, in the second half of a delivery. It carries what was put last.
 #[unsafe(no_mangle)]
 #[tactic(auto, using(crate::proofs::Places::vacuous))]
 pub extern "C" fn gp_master_reply(master: &mut GpMaster, out: &mut GpFrame) -> u8
@@ -192,7 +192,7 @@ pub extern "C" fn gp_master_reply(master: &mut GpMaster, out: &mut GpFrame) -> u
     OK
 }
 
-/// Hands over a tick. `did` says what was done, and `out` is the frame to send, of no bytes where none is.
+/// Counts a tick. Writes the result to `did`, and the frame to send to `out`, empty if none is sent.
 #[unsafe(no_mangle)]
 #[tactic(auto, using(crate::proofs::Places::vacuous))]
 pub extern "C" fn gp_master_tick(master: &mut GpMaster, out: &mut GpFrame, did: &mut GpDid) -> u8
@@ -220,7 +220,7 @@ pub extern "C" fn gp_master_tick(master: &mut GpMaster, out: &mut GpFrame, did: 
     OK
 }
 
-/// Ends the session, if there is one. `did` says what was done, and `out` is the Reset frame to send.
+/// Ends the session, if there is one. Writes the result to `did`, and the Reset frame to send to `out`.
 #[unsafe(no_mangle)]
 #[tactic(auto, using(crate::proofs::Places::vacuous))]
 pub extern "C" fn gp_master_reset(master: &mut GpMaster, out: &mut GpFrame, did: &mut GpDid) -> u8
@@ -248,7 +248,7 @@ pub extern "C" fn gp_master_reset(master: &mut GpMaster, out: &mut GpFrame, did:
     OK
 }
 
-/// Offers these safe data from now on, as many bytes as the master's frames carry. The offer outlasts resets.
+/// Sets the safe data to send from now on, as many bytes as the master's frames carry. The offer outlasts resets.
 #[unsafe(no_mangle)]
 #[tactic(auto, using(crate::proofs::Places::vacuous))]
 pub extern "C" fn gp_master_put(master: &mut GpMaster, load: &[u8]) -> u8
@@ -274,7 +274,7 @@ pub extern "C" fn gp_master_put(master: &mut GpMaster, load: &[u8]) -> u8
     OK
 }
 
-/// Whether zeros are sent in place of the offer from now on. It outlasts resets.
+/// Switches fail-safe data on or off: while on, zeros are sent in place of the offer. It outlasts resets.
 #[unsafe(no_mangle)]
 #[tactic(auto, using(crate::proofs::Places::vacuous))]
 pub extern "C" fn gp_master_hold(master: &mut GpMaster, failsafe: bool) -> u8
@@ -295,7 +295,8 @@ pub extern "C" fn gp_master_hold(master: &mut GpMaster, failsafe: bool) -> u8
     OK
 }
 
-/// The session id of the sessions that begin from now on, at most 65,535 in profile One. It outlasts resets.
+/// Sets the session id of all sessions that begin after this call, at most 65,535 in profile One. It outlasts resets:
+/// give a fresh one before each session.
 #[unsafe(no_mangle)]
 #[tactic(auto, using(crate::proofs::Places::vacuous))]
 pub extern "C" fn gp_master_nonce(master: &mut GpMaster, id: u32) -> u8

@@ -115,7 +115,7 @@ pub(crate) fn put(place: &mut MasterPlace, load: &[u8])
     place.lend().put(load);
 }
 
-/// Whether zeros are sent in place of the offer.
+/// Switches fail-safe data on or off.
 pub(crate) fn hold(place: &mut MasterPlace, failsafe: bool)
     requires { IsSome place.old.master }
     ensures there { IsSome place.new.master }
@@ -135,7 +135,7 @@ pub(crate) fn allows(place: &mut MasterPlace, id: u32) -> bool
     place.lend().master().settings().profile().allows_id(id)
 }
 
-/// The session id of the sessions that begin from now on.
+/// Sets the session id of all sessions that begin from now on.
 pub(crate) fn nonce(place: &mut MasterPlace, id: u32)
     requires there { IsSome place.old.master }
     requires allowed { IfThere place.old.master (λ old. IsTrue (allows_id old.kit.settings.profile id)) }
@@ -157,7 +157,7 @@ pub(crate) fn state(place: &mut MasterPlace) -> u8
     state_number(place.lend().master().state())
 }
 
-/// Copies the outputs to bytes of their number, and does nothing where these have another. Answers whether they have it.
+/// Copies the outputs if `out` has their number of bytes. Returns whether it has.
 pub(crate) fn outputs(place: &mut MasterPlace, out: &mut [u8]) -> bool
     requires { IsSome place.old.master }
     ensures unchanged { place.new ≡ place.old }
@@ -169,7 +169,7 @@ pub(crate) fn outputs(place: &mut MasterPlace, out: &mut [u8]) -> bool
     copied(place.lend().master().outputs(), out)
 }
 
-/// Copies the offer to bytes of its number, and does nothing where these have another. Answers whether they have it.
+/// Copies the offer if `out` has its number of bytes. Returns whether it has.
 pub(crate) fn offer(place: &mut MasterPlace, out: &mut [u8]) -> bool
     requires { IsSome place.old.master }
     ensures unchanged { place.new ≡ place.old }
@@ -181,7 +181,7 @@ pub(crate) fn offer(place: &mut MasterPlace, out: &mut [u8]) -> bool
     copied(place.lend().master().offer(), out)
 }
 
-/// Tells the terms, in state Data alone. Answers whether the master is in it.
+/// Writes the terms, only in state Data. Returns whether the master is in it.
 pub(crate) fn terms(place: &mut MasterPlace, told: &mut GpTerms) -> bool
     requires { IsSome place.old.master }
     ensures unchanged { place.new ≡ place.old }
@@ -205,7 +205,7 @@ pub(crate) fn age(place: &mut MasterPlace) -> u16
     place.lend().master().age()
 }
 
-/// 1 where zeros are sent in place of the offer, else 0.
+/// Returns 1 if zeros are sent in place of the offer, else 0.
 pub(crate) fn held(place: &mut MasterPlace) -> u8
     requires { IsSome place.old.master }
     ensures unchanged { place.new ≡ place.old }

@@ -1,4 +1,4 @@
-//! A master, with room for what its steps tell.
+//! A master, with room for the results of its steps.
 ghost use Rattle.std.specs.Prelude.{◌≡◌, [], IsTrue, false, drop, length};
 ghost use Rattle.param_load.specs.Profile.{allows_id};
 ghost use Rattle.param_load.specs.declared.entry.Move.TheVariants as event;
@@ -14,8 +14,8 @@ use master_core::Master;
 use param_load::MasterSettings;
 use std::marker::Model;
 
-/// A master, and where its steps write what they tell before C code is told it, so that nothing is blanked for a step. Contracts see
-/// the master alone.
+/// A master, and where its steps write their results before C code gets them, so that nothing is blanked for a step.
+/// Contracts see only the master.
 #[derive(Drop)]
 pub struct MasterRoom {
     master: Master,
@@ -54,7 +54,7 @@ impl MasterRoom {
         &self.master
     }
 
-    /// A frame of the slave, and what is told of it.
+    /// Delivers a frame of the slave, and reports the result.
     #[tactic(auto, using(crate::proofs::Places::master_tells))]
     pub(crate) fn deliver(&mut self, frame: &[u8], out: &mut GpFrame, did: &mut GpDid)
         requires { is_due self.old.state ≡ false }
@@ -70,7 +70,7 @@ impl MasterRoom {
         did.set(&self.heard);
     }
 
-    /// Accepts a frame of the slave, and says what is told of it. What is sent is to be asked for by `reply`.
+    /// Accepts a frame of the slave, and reports the result. `reply` writes what is sent.
     #[tactic(auto, using(crate::proofs::Places::master_accepts))]
     pub(crate) fn accept(&mut self, frame: &[u8], did: &mut GpDid)
         requires { is_due self.old.state ≡ false }
@@ -94,7 +94,7 @@ impl MasterRoom {
         out.set(&self.sent);
     }
 
-    /// A tick, and what is told of it.
+    /// Counts a tick, and reports the result.
     #[tactic(auto, using(crate::proofs::Places::master_tells))]
     pub(crate) fn tick(&mut self, out: &mut GpFrame, did: &mut GpDid)
         requires { is_due self.old.state ≡ false }
@@ -109,7 +109,7 @@ impl MasterRoom {
         did.set(&self.ticked);
     }
 
-    /// Ends the session, if there is one, and says what is told of it.
+    /// Ends the session, if there is one, and reports the result.
     #[tactic(auto, using(crate::proofs::Places::master_tells))]
     pub(crate) fn reset(&mut self, out: &mut GpFrame, did: &mut GpDid)
         requires { is_due self.old.state ≡ false }
@@ -124,7 +124,7 @@ impl MasterRoom {
         did.set(&done);
     }
 
-    /// Offers these safe data, as many as the master's frames carry.
+    /// Sets the safe data to send, as many as the master's frames carry.
     pub(crate) fn put(&mut self, load: &[u8])
         requires { length load.now ≡ sends (OfMaster self.old.kit.settings) }
         ensures follows { Follows self.old (event.Put load.now) self.new }
@@ -134,7 +134,7 @@ impl MasterRoom {
         self.master.put(load);
     }
 
-    /// Whether zeros are sent in place of the offer.
+    /// Switches fail-safe data on or off.
     pub(crate) fn hold(&mut self, failsafe: bool)
         ensures follows { Follows self.old (event.Hold failsafe) self.new }
         ensures keeps { Keeps self.old (event.Hold failsafe) self.new }
@@ -143,7 +143,7 @@ impl MasterRoom {
         self.master.hold(failsafe);
     }
 
-    /// The session id of the sessions that begin from now on, which the profile allows.
+    /// Sets the session id of all sessions that begin from now on, which the profile allows.
     pub(crate) fn nonce(&mut self, id: u32)
         requires { IsTrue (allows_id self.old.kit.settings.profile id) }
         ensures follows { Follows self.old (event.Nonce id) self.new }

@@ -15,7 +15,7 @@ use crate::master_calls as calls;
 use crate::numbers::{BAD_LENGTH, NO_END, NOT_IN_DATA, OK};
 use crate::told::GpTerms;
 
-/// The number of the state, from 0 for Reset to 4 for Data. While a frame is due it counts as sent.
+/// Writes the number of the state, from 0 for Reset to 4 for Data. A frame that is due is treated as already sent.
 #[unsafe(no_mangle)]
 #[tactic(auto, using(crate::proofs::Places::vacuous))]
 pub extern "C" fn gp_master_state(master: &mut GpMaster, state: &mut u8) -> u8
@@ -34,7 +34,7 @@ pub extern "C" fn gp_master_state(master: &mut GpMaster, state: &mut u8) -> u8
     OK
 }
 
-/// Copies the outputs, as many bytes as the slave's frames carry.
+/// Copies the outputs, which came from the slave: as many bytes as its frames carry.
 #[unsafe(no_mangle)]
 #[tactic(auto, using(crate::proofs::Places::vacuous))]
 pub extern "C" fn gp_master_outputs(master: &mut GpMaster, outputs: &mut [u8]) -> u8
@@ -78,7 +78,7 @@ pub extern "C" fn gp_master_offer(master: &mut GpMaster, offer: &mut [u8]) -> u8
     OK
 }
 
-/// The terms of the session, in state Data alone.
+/// Writes the terms of the session, only in state Data.
 #[unsafe(no_mangle)]
 #[tactic(auto, using(crate::proofs::Places::vacuous))]
 pub extern "C" fn gp_master_terms(master: &mut GpMaster, terms: &mut GpTerms) -> u8
@@ -102,7 +102,7 @@ pub extern "C" fn gp_master_terms(master: &mut GpMaster, terms: &mut GpTerms) ->
     OK
 }
 
-/// The ticks since the last frame was sent, 0 while a frame is due. That of a new master is its watchdog less 1.
+/// Writes the ticks since the last frame was sent, 0 while a frame is due. A new master has its watchdog less 1.
 #[unsafe(no_mangle)]
 #[tactic(auto, using(crate::proofs::Places::vacuous))]
 pub extern "C" fn gp_master_age(master: &mut GpMaster, age: &mut u16) -> u8
@@ -121,7 +121,7 @@ pub extern "C" fn gp_master_age(master: &mut GpMaster, age: &mut u16) -> u8
     OK
 }
 
-/// 1 where zeros are sent in place of the offer, else 0.
+/// Writes 1 if zeros are sent in place of the offer, else 0.
 #[unsafe(no_mangle)]
 #[tactic(auto, using(crate::proofs::Places::vacuous))]
 pub extern "C" fn gp_master_held(master: &mut GpMaster, held: &mut u8) -> u8

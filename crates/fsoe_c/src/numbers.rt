@@ -1,4 +1,4 @@
-//! The numbers by which C code is answered. `embed/gatepast.h` has the same as `GP_OK` and so on.
+//! The statuses that C code gets. `embed/gatepast.h` has the same as `GP_OK` and so on.
 ghost use Rattle.std.specs.Prelude.{◌≡◌};
 ghost use Rattle.fsoe_c.specs.Numbers.{state_number, flag};
 ghost use Rattle.fsoe_c.specs.Settings.{bad_number};
@@ -9,10 +9,10 @@ use param_load::BadSetting;
 /// The call was done.
 pub const OK: u8 = 0;
 
-/// No end lies behind the handle.
+/// No end is behind the handle.
 pub const NO_END: u8 = 1;
 
-/// An end lies behind the handle already.
+/// An end is behind the handle already.
 pub const BUSY: u8 = 2;
 
 /// A number of safe data bytes isn't valid, or isn't that of this end.
@@ -21,7 +21,7 @@ pub const BAD_LENGTH: u8 = 3;
 /// The profile is neither 1 nor 2.
 pub const BAD_PROFILE: u8 = 4;
 
-/// The session id isn't one that the profile allows.
+/// The profile doesn't allow the session id.
 pub const BAD_NONCE: u8 = 5;
 
 /// The connection id is 0.
@@ -30,7 +30,7 @@ pub const BAD_CONN: u8 = 6;
 /// The watchdog is 0.
 pub const BAD_WATCHDOG: u8 = 7;
 
-/// The limit of a handshake is 0.
+/// The handshake timeout is 0.
 pub const BAD_HAND: u8 = 8;
 
 /// The longest watchdog that is accepted is 0.
@@ -39,7 +39,7 @@ pub const BAD_MOST: u8 = 9;
 /// The application parameters are more than 512 bytes, or the ranges of the rule don't match.
 pub const BAD_APP: u8 = 10;
 
-/// A frame is due, and only `reply` leads on.
+/// A frame is due, and only `reply` may follow.
 pub const FRAME_DUE: u8 = 11;
 
 /// No frame is due.

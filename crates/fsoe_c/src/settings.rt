@@ -1,4 +1,4 @@
-//! What C code sets an end to.
+//! The settings that C code gives to an end.
 ghost use Rattle.std.specs.Prelude.{◌≡◌, ◌≤◌, ◌<◌, ◌==◌, ◌&&◌, Some, None, is_some, length, IfOk, IfErr, IfSome};
 ghost use Rattle.fsoe_base.specs.Lengths.{is_length};
 ghost use Rattle.fsoe_c.specs.Settings.{IsMasterSetBy, IsSlaveSetBy, master_refusal, slave_refusal};
@@ -7,7 +7,7 @@ use crate::numbers::{BAD_LENGTH, BAD_NONCE, BAD_PROFILE, bad_number};
 use fsoe_base::Lengths;
 use param_load::{AppBytes, AppRule, MasterSettings, SlaveSettings};
 
-/// What a slave is set to, but for its rule for application parameters.
+/// The settings of a slave, except its rule for application parameters.
 #[repr(C)]
 #[derive(Drop)]
 pub struct GpSlaveSettings {
@@ -17,7 +17,7 @@ pub struct GpSlaveSettings {
     pub slave_len: u16,
     /// The slave's address.
     pub address: u16,
-    /// The limit of a handshake in ticks.
+    /// The handshake timeout in ticks.
     pub hand: u16,
     /// The longest watchdog that is accepted, in ticks.
     pub most: u16,
@@ -25,11 +25,11 @@ pub struct GpSlaveSettings {
     pub profile: u16,
     /// The session id of the sessions that begin before another one is set.
     pub nonce: u32,
-    /// The word of profile Two. Profile One has none.
+    /// The profile word of profile Two. Profile One has none.
     pub word: u16,
 }
 
-/// What a master is set to, but for the application parameters.
+/// The settings of a master, except the application parameters.
 #[repr(C)]
 #[derive(Drop)]
 pub struct GpMasterSettings {
@@ -47,7 +47,7 @@ pub struct GpMasterSettings {
     pub profile: u16,
     /// The session id of the sessions that begin before another one is set.
     pub nonce: u32,
-    /// The word of profile Two. Profile One has none.
+    /// The profile word of profile Two. Profile One has none.
     pub word: u16,
 }
 

@@ -38,7 +38,7 @@ pub extern "C" fn gp_slave_align() -> usize {
     align_of::<SlaveRoom>()
 }
 
-/// Makes a slave with this rule where none is there. Answers the number of the first fault of the settings, else 0.
+/// Makes a slave with this rule if none is there. Returns the number of the first fault of the settings, else 0.
 fn start(slave: &mut GpSlave, set: &GpSlaveSettings, rule: AppRule) -> u8
     requires sound { IsSoundSlave slave.old }
     requires free { slave.old.live ≡ false }
@@ -58,7 +58,7 @@ fn start(slave: &mut GpSlave, set: &GpSlaveSettings, rule: AppRule) -> u8
     }
 }
 
-/// Makes a slave that accepts any application parameters of so many bytes.
+/// Makes a slave that accepts any list of `app_len` application parameters.
 #[unsafe(no_mangle)]
 pub extern "C" fn gp_slave_init(slave: &mut GpSlave, set: &GpSlaveSettings, app_len: u16) -> u8
     requires { IsSoundSlave slave.old }
@@ -75,7 +75,7 @@ pub extern "C" fn gp_slave_init(slave: &mut GpSlave, set: &GpSlaveSettings, app_
     start(slave, set, AppRule::Any(app_len))
 }
 
-/// Makes a slave that accepts these application parameters alone.
+/// Makes a slave that accepts only these application parameters.
 #[unsafe(no_mangle)]
 pub extern "C" fn gp_slave_init_exact(slave: &mut GpSlave, set: &GpSlaveSettings, app: &[u8]) -> u8
     requires { IsSoundSlave slave.old }
@@ -96,7 +96,7 @@ pub extern "C" fn gp_slave_init_exact(slave: &mut GpSlave, set: &GpSlaveSettings
     start(slave, set, AppRule::Exact(want))
 }
 
-/// Makes a slave that accepts application parameters each of which lies, at its place, from the lowest to the highest value.
+/// Makes a slave that accepts application parameters if each is from the lowest to the highest value at its place.
 #[unsafe(no_mangle)]
 pub extern "C" fn gp_slave_init_ranges(
     slave: &mut GpSlave,
@@ -126,7 +126,7 @@ pub extern "C" fn gp_slave_init_ranges(
     start(slave, set, AppRule::Ranges(lowest, highest))
 }
 
-/// Lets the slave go. The memory is the caller's again.
+/// Ends the use of the slave. The memory is the caller's again.
 #[unsafe(no_mangle)]
 pub extern "C" fn gp_slave_end(slave: &mut GpSlave) -> u8
     requires { IsSoundSlave slave.old }
@@ -144,8 +144,8 @@ pub extern "C" fn gp_slave_end(slave: &mut GpSlave) -> u8
     OK
 }
 
-/// Hands over a frame of the master, of any number of bytes. `did` says what was done, and `out` is the frame to send, of no bytes
-/// where none is.
+/// Delivers a frame of the master, of any number of bytes. Writes the result to `did`, and the frame to send to `out`,
+/// empty if none is sent.
 #[unsafe(no_mangle)]
 #[tactic(auto, using(crate::proofs::Places::vacuous))]
 pub extern "C" fn gp_slave_deliver(
@@ -172,7 +172,7 @@ pub extern "C" fn gp_slave_deliver(
     OK
 }
 
-/// Hands over a tick. `did` says what was done, and `out` is the frame to send, of no bytes where none is.
+/// Counts a tick. Writes the result to `did`, and the frame to send to `out`, empty if none is sent.
 #[unsafe(no_mangle)]
 #[tactic(auto, using(crate::proofs::Places::vacuous))]
 pub extern "C" fn gp_slave_tick(slave: &mut GpSlave, out: &mut GpFrame, did: &mut GpDid) -> u8
@@ -194,7 +194,7 @@ pub extern "C" fn gp_slave_tick(slave: &mut GpSlave, out: &mut GpFrame, did: &mu
     OK
 }
 
-/// Ends the session, if there is one. `did` says what was done, and `out` is the Reset frame to send.
+/// Ends the session, if there is one. Writes the result to `did`, and the Reset frame to send to `out`.
 #[unsafe(no_mangle)]
 #[tactic(auto, using(crate::proofs::Places::vacuous))]
 pub extern "C" fn gp_slave_reset(slave: &mut GpSlave, out: &mut GpFrame, did: &mut GpDid) -> u8
@@ -216,7 +216,7 @@ pub extern "C" fn gp_slave_reset(slave: &mut GpSlave, out: &mut GpFrame, did: &m
     OK
 }
 
-/// Offers these safe data from now on, as many bytes as the slave's frames carry. The offer outlasts resets.
+/// Sets the safe data to send from now on, as many bytes as the slave's frames carry. The offer outlasts resets.
 #[unsafe(no_mangle)]
 #[tactic(auto, using(crate::proofs::Places::vacuous))]
 pub extern "C" fn gp_slave_put(slave: &mut GpSlave, load: &[u8]) -> u8
@@ -240,7 +240,7 @@ pub extern "C" fn gp_slave_put(slave: &mut GpSlave, load: &[u8]) -> u8
     OK
 }
 
-/// Whether zeros are sent in place of the offer from now on. It outlasts resets.
+/// Switches fail-safe data on or off: while on, zeros are sent in place of the offer. It outlasts resets.
 #[unsafe(no_mangle)]
 #[tactic(auto, using(crate::proofs::Places::vacuous))]
 pub extern "C" fn gp_slave_hold(slave: &mut GpSlave, failsafe: bool) -> u8
@@ -259,7 +259,8 @@ pub extern "C" fn gp_slave_hold(slave: &mut GpSlave, failsafe: bool) -> u8
     OK
 }
 
-/// The session id of the sessions that begin from now on, at most 65,535 in profile One. It outlasts resets.
+/// Sets the session id of all sessions that begin after this call, at most 65,535 in profile One. It outlasts resets:
+/// give a fresh one before each session.
 #[unsafe(no_mangle)]
 #[tactic(auto, using(crate::proofs::Places::vacuous))]
 pub extern "C" fn gp_slave_nonce(slave: &mut GpSlave, id: u32) -> u8

@@ -70,7 +70,7 @@ pub(crate) fn put(place: &mut SlavePlace, load: &[u8])
     place.lend().put(load);
 }
 
-/// Whether zeros are sent in place of the offer.
+/// Switches fail-safe data on or off.
 pub(crate) fn hold(place: &mut SlavePlace, failsafe: bool)
     requires { IsSome place.old.slave }
     ensures there { IsSome place.new.slave }
@@ -88,7 +88,7 @@ pub(crate) fn allows(place: &mut SlavePlace, id: u32) -> bool
     place.lend().slave().settings().profile().allows_id(id)
 }
 
-/// The session id of the sessions that begin from now on.
+/// Sets the session id of all sessions that begin from now on.
 pub(crate) fn nonce(place: &mut SlavePlace, id: u32)
     requires there { IsSome place.old.slave }
     requires allowed { IfThere place.old.slave (λ old. IsTrue (allows_id old.kit.settings.profile id)) }
@@ -107,7 +107,7 @@ pub(crate) fn state(place: &mut SlavePlace) -> u8
     state_number(place.lend().slave().state())
 }
 
-/// Copies the outputs to bytes of their number, and does nothing where these have another. Answers whether they have it.
+/// Copies the outputs if `out` has their number of bytes. Returns whether it has.
 pub(crate) fn outputs(place: &mut SlavePlace, out: &mut [u8]) -> bool
     requires { IsSome place.old.slave }
     ensures unchanged { place.new ≡ place.old }
@@ -118,7 +118,7 @@ pub(crate) fn outputs(place: &mut SlavePlace, out: &mut [u8]) -> bool
     copied(place.lend().slave().outputs(), out)
 }
 
-/// Copies the offer to bytes of its number, and does nothing where these have another. Answers whether they have it.
+/// Copies the offer if `out` has its number of bytes. Returns whether it has.
 pub(crate) fn offer(place: &mut SlavePlace, out: &mut [u8]) -> bool
     requires { IsSome place.old.slave }
     ensures unchanged { place.new ≡ place.old }
@@ -129,7 +129,7 @@ pub(crate) fn offer(place: &mut SlavePlace, out: &mut [u8]) -> bool
     copied(place.lend().slave().offer(), out)
 }
 
-/// Tells the terms, in state Data alone. Answers whether the slave is in it.
+/// Writes the terms, only in state Data. Returns whether the slave is in it.
 pub(crate) fn terms(place: &mut SlavePlace, told: &mut GpTerms) -> bool
     requires { IsSome place.old.slave }
     ensures unchanged { place.new ≡ place.old }
@@ -150,7 +150,7 @@ pub(crate) fn age(place: &mut SlavePlace) -> u16
     place.lend().slave().age()
 }
 
-/// 1 where zeros are sent in place of the offer, else 0.
+/// Returns 1 if zeros are sent in place of the offer, else 0.
 pub(crate) fn held(place: &mut SlavePlace) -> u8
     requires { IsSome place.old.slave }
     ensures unchanged { place.new ≡ place.old }

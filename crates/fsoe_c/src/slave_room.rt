@@ -1,4 +1,4 @@
-//! A slave, with room for what its steps tell.
+//! A slave, with room for the results of its steps.
 ghost use Rattle.std.specs.Prelude.{◌≡◌, [], IsTrue, drop, length};
 ghost use Rattle.param_load.specs.Profile.{allows_id};
 ghost use Rattle.param_load.specs.declared.entry.Move.TheVariants as event;
@@ -12,8 +12,8 @@ use param_load::SlaveSettings;
 use slave_core::Slave;
 use std::marker::Model;
 
-/// A slave, and where its steps write what they tell before C code is told it, so that nothing is blanked for a step. Contracts see
-/// the slave alone.
+/// A slave, and where its steps write their results before C code gets them, so that nothing is blanked for a step.
+/// Contracts see only the slave.
 #[derive(Drop)]
 pub struct SlaveRoom {
     slave: Slave,
@@ -51,7 +51,7 @@ impl SlaveRoom {
         &self.slave
     }
 
-    /// A frame of the master, and what is told of it.
+    /// Delivers a frame of the master, and reports the result.
     #[tactic(auto, using(crate::proofs::Places::slave_tells))]
     pub(crate) fn deliver(&mut self, frame: &[u8], out: &mut GpFrame, did: &mut GpDid)
         ensures follows { Follows self.old (event.Deliver frame.now) self.new }
@@ -65,7 +65,7 @@ impl SlaveRoom {
         did.set(&self.heard);
     }
 
-    /// A tick, and what is told of it.
+    /// Counts a tick, and reports the result.
     #[tactic(auto, using(crate::proofs::Places::slave_tells))]
     pub(crate) fn tick(&mut self, out: &mut GpFrame, did: &mut GpDid)
         ensures follows { Follows self.old event.Tick self.new }
@@ -78,7 +78,7 @@ impl SlaveRoom {
         did.set(&self.ticked);
     }
 
-    /// Ends the session, if there is one, and says what is told of it.
+    /// Ends the session, if there is one, and reports the result.
     #[tactic(auto, using(crate::proofs::Places::slave_tells))]
     pub(crate) fn reset(&mut self, out: &mut GpFrame, did: &mut GpDid)
         ensures follows { Follows self.old event.Local self.new }
@@ -91,7 +91,7 @@ impl SlaveRoom {
         did.set(&done);
     }
 
-    /// Offers these safe data, as many as the slave's frames carry.
+    /// Sets the safe data to send, as many as the slave's frames carry.
     pub(crate) fn put(&mut self, load: &[u8])
         requires { length load.now ≡ sends (OfSlave self.old.kit.settings) }
         ensures { Follows self.old (event.Put load.now) self.new }
@@ -99,14 +99,14 @@ impl SlaveRoom {
         self.slave.put(load);
     }
 
-    /// Whether zeros are sent in place of the offer.
+    /// Switches fail-safe data on or off.
     pub(crate) fn hold(&mut self, failsafe: bool)
         ensures { Follows self.old (event.Hold failsafe) self.new }
     {
         self.slave.hold(failsafe);
     }
 
-    /// The session id of the sessions that begin from now on, which the profile allows.
+    /// Sets the session id of all sessions that begin from now on, which the profile allows.
     pub(crate) fn nonce(&mut self, id: u32)
         requires { IsTrue (allows_id self.old.kit.settings.profile id) }
         ensures { Follows self.old (event.Nonce id) self.new }

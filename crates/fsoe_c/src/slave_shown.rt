@@ -14,7 +14,7 @@ use crate::slave::GpSlave;
 use crate::slave_calls as calls;
 use crate::told::GpTerms;
 
-/// The number of the state, from 0 for Reset to 4 for Data.
+/// Writes the number of the state, from 0 for Reset to 4 for Data.
 #[unsafe(no_mangle)]
 #[tactic(auto, using(crate::proofs::Places::vacuous))]
 pub extern "C" fn gp_slave_state(slave: &mut GpSlave, state: &mut u8) -> u8
@@ -74,7 +74,7 @@ pub extern "C" fn gp_slave_offer(slave: &mut GpSlave, offer: &mut [u8]) -> u8
     OK
 }
 
-/// The terms of the session, in state Data alone.
+/// Writes the terms of the session, only in state Data.
 #[unsafe(no_mangle)]
 #[tactic(auto, using(crate::proofs::Places::vacuous))]
 pub extern "C" fn gp_slave_terms(slave: &mut GpSlave, terms: &mut GpTerms) -> u8
@@ -96,7 +96,7 @@ pub extern "C" fn gp_slave_terms(slave: &mut GpSlave, terms: &mut GpTerms) -> u8
     OK
 }
 
-/// The ticks since the last frame was sent, 0 in state Reset.
+/// Writes the ticks since the last frame was sent, 0 in state Reset.
 #[unsafe(no_mangle)]
 #[tactic(auto, using(crate::proofs::Places::vacuous))]
 pub extern "C" fn gp_slave_age(slave: &mut GpSlave, age: &mut u16) -> u8
@@ -114,7 +114,7 @@ pub extern "C" fn gp_slave_age(slave: &mut GpSlave, age: &mut u16) -> u8
     OK
 }
 
-/// 1 where zeros are sent in place of the offer, else 0.
+/// Writes 1 if zeros are sent in place of the offer, else 0.
 #[unsafe(no_mangle)]
 #[tactic(auto, using(crate::proofs::Places::vacuous))]
 pub extern "C" fn gp_slave_held(slave: &mut GpSlave, held: &mut u8) -> u8

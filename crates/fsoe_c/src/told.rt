@@ -1,4 +1,4 @@
-//! What C code is told: frames, what a step did, and the terms of a session.
+//! What C code gets: frames, what a step did, and the terms of a session.
 ghost use Rattle.std.specs.Prelude.{◌≡◌, ◌≢◌, IsTrue, IsSomeAnd, None, false, drop, length, option_copied};
 ghost use Rattle.fsoe_c.specs.Told.{frame_of, ShowsDid, ShowsTerms};
 
@@ -6,7 +6,7 @@ use crate::numbers::flag;
 use fsoe_base::{Cause, Did, Dropped, FrameBuf, Took};
 use param_load::{Profile, Terms};
 
-/// A frame: the first `len` of these bytes. It has none where none is sent.
+/// A frame: the first `len` of these bytes, none if no frame is sent.
 #[repr(C)]
 #[derive(Drop)]
 pub struct GpFrame {
@@ -20,11 +20,11 @@ pub struct GpFrame {
 pub struct GpDid {
     /// The byte of the command of the frame that was taken, 0 for none.
     pub took: u8,
-    /// 1 where a frame that is no Reset frame passed the test of its CRCs.
+    /// 1 if a frame that is no Reset frame passed its CRC test.
     pub passed: u8,
-    /// 1 where a frame was sent.
+    /// 1 if a frame was sent.
     pub sent: u8,
-    /// Why the end went to state Reset: 0 it didn't, 1 it was told to, 2 its peer, 3 a fault.
+    /// Why the end went to state Reset: 0 it didn't, 1 a local reset, 2 its peer, 3 a fault.
     pub reset: u8,
     /// The code of that reset.
     pub code: u8,
@@ -45,7 +45,7 @@ pub struct GpTerms {
     pub address: u16,
     /// The watchdog in ticks.
     pub watchdog: u16,
-    /// The word of profile Two, 0 in profile One.
+    /// The profile word of profile Two, 0 in profile One.
     pub word: u16,
     /// The application parameters are the first `app_len` bytes of `app`.
     pub app_len: u16,
@@ -135,7 +135,7 @@ impl GpTerms {
     }
 }
 
-/// Copies these bytes to others of their number, and does nothing where these have another. Answers whether they have it.
+/// Copies these bytes to `to` if that has their number of bytes. Returns whether it has.
 pub(crate) fn copied(bytes: &[u8], to: &mut [u8]) -> bool
     ensures copied { IsTrue result → to.new ≡ bytes.now }
     ensures other { result ≡ false → length to.old ≢ length bytes.now }
@@ -148,7 +148,7 @@ pub(crate) fn copied(bytes: &[u8], to: &mut [u8]) -> bool
     true
 }
 
-/// Tells the terms, where there are some. Answers whether there are.
+/// Writes the terms, if there are some. Returns whether there are.
 pub(crate) fn tells(terms: Option<&Terms>, told: &mut GpTerms) -> bool
     ensures some { IsTrue result → IsSomeAnd (option_copied terms.entry) (ShowsTerms told.new) }
     ensures none { result ≡ false → option_copied terms.entry ≡ None }

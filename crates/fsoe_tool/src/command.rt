@@ -1,4 +1,4 @@
-//! The words that name a command.
+//! The arguments that name a command.
 ghost use Rattle.std.specs.Prelude.{◌≡◌, ◌-◌, ◌^◌, map, string_bytes};
 ghost use Rattle.schedule_file.specs.Field.{number_said};
 ghost use Rattle.fsoe_tool.specs.Command.{bulk_of, command_alone, command_said, file_named, node_at};
@@ -6,14 +6,14 @@ ghost use Rattle.fsoe_tool.specs.Command.{bulk_of, command_alone, command_said, 
 use fsoe_base::End;
 use schedule_file::{MAX_EVENTS, read_number};
 
-/// What the program is to do.
+/// What the program must do.
 #[derive(Clone, Copy)]
 pub enum Command {
     /// To run this end over a node file.
     Node(End),
     /// To run both ends over a schedule.
     Replay,
-    /// To run both ends over the first so many events of the schedule of this number.
+    /// To run both ends over the first `events` events of the schedule of this seed.
     Bulk { number: u64, events: u64 },
     /// To run ends on fixed places of a cyclic image.
     Image,
@@ -21,11 +21,11 @@ pub enum Command {
     Diagnose,
     /// To write a pair file as a file of several pairs.
     Convert,
-    /// To run a plant by its configuration, which lies under the second word.
+    /// To run a plant by its configuration, whose file the second argument names.
     Plant,
 }
 
-/// The command of one word.
+/// The command of one argument.
 fn command_alone(word: &str) -> Option<Command>
     ensures { result ≡ command_alone word.now }
 {
@@ -42,7 +42,7 @@ fn command_alone(word: &str) -> Option<Command>
     }
 }
 
-/// The node at the end that a word names.
+/// The node at the end that an argument names.
 fn node_at(word: &str) -> Option<Command>
     ensures { result ≡ node_at word.now }
 {
@@ -55,7 +55,7 @@ fn node_at(word: &str) -> Option<Command>
     }
 }
 
-/// The schedule of a number for so many events, as two words tell them.
+/// The schedule of a seed and its number of events, by two arguments.
 fn bulk_of(number: &str, events: &str) -> Option<Command>
     ensures { result ≡ bulk_of (number_said (2 ^ 64 - 1) number.now) (number_said MAX_EVENTS events.now) }
 {
@@ -68,8 +68,9 @@ fn bulk_of(number: &str, events: &str) -> Option<Command>
     }
 }
 
-/// The command that words name, which are those after the program's name: `node master`, `node slave`, `replay`, `image`, `diagnose`,
-/// `convert`, `plant <file>`, or `bulk <number> <events>` with a number of at most 64 bits and from 1 to 200,000 events.
+/// Returns the command that the arguments after the program's name give. They are `node master`, `node slave`,
+/// `replay`, `image`, `diagnose`, `convert`, `plant <file>`, or `bulk <number> <events>` with a seed of at most 64 bits
+/// and from 1 to 200,000 events.
 pub fn command_said(words: &[String]) -> Option<Command>
     ensures { result ≡ command_said (map string_bytes words.now) }
 {
@@ -95,7 +96,7 @@ pub fn command_said(words: &[String]) -> Option<Command>
     }
 }
 
-/// The file that words name: the second of two, and no name else.
+/// Returns the file that the arguments name: the second of two, or else an empty name.
 pub fn file_named(words: &[String]) -> &str
     ensures { result.now ≡ file_named (map string_bytes words.now) }
 {

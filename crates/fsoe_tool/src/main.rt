@@ -1,4 +1,4 @@
-//! Runs one of the commands over standard input, standard output and files, and ends with the number of its status.
+//! The command-line program: runs a command over standard input, standard output and files, and exits by its status.
 #![tactic(auto)]
 
 mod command;
@@ -13,8 +13,8 @@ use run::run;
 use std::process::ExitCode;
 use std::{env, io};
 
-/// The words after the program's name. A word that isn't UTF-8 is no command's, so there are none then, and the usage
-/// line is shown.
+/// The arguments after the program's name. An argument that isn't UTF-8 belongs to no command, so there are none then,
+/// and the usage line is written.
 fn words_of(rt: &HostRuntime) -> io::Result<Vec<String>> {
     let mut words = Vec::new(rt.alloc());
     match env::args(rt) {
@@ -29,8 +29,8 @@ fn words_of(rt: &HostRuntime) -> io::Result<Vec<String>> {
     Ok(words)
 }
 
-/// Runs the command that the program's words name, with the applications and the channels that it has for plants. None where there is no
-/// memory for these.
+/// Runs the command of the program's arguments, with the applications and the channels that the program has for plants.
+/// None if there is no memory for these.
 fn run_program(rt: HostRuntime) -> Option<Status> {
     let alloc = rt.alloc();
     let words = words_of(&rt).ok()?;

@@ -26,7 +26,7 @@ const NO_MEMORY: Ended = Ended {
     place: 0,
 };
 
-/// Writes the line that says why a configuration can't be run. The run ends so, unless the write fails.
+/// Writes the line that reports why a configuration can't be run. The run ends so, unless the write fails.
 fn refuse<K: Sink>(why: SetupFault, sink: &mut K) -> Ended
     ensures writes { Writes 0 (config_line why) (record { status = status.Config; place = 0 }) result (record {
       before = K.written sink.old;
@@ -45,7 +45,7 @@ fn refuse<K: Sink>(why: SetupFault, sink: &mut K) -> Ended
     write_report(sink, line.bytes(), ended)
 }
 
-/// Writes the line that says why a text is no configuration; nothing where there was no memory to read it.
+/// Writes the line that reports why a text is no configuration; nothing if there was no memory to read it.
 fn refuse_text<K: Sink>(why: ConfFault, sink: &mut K) -> Ended
     ensures memory { why ≡ fault.Memory → (result ≡ record { status = status.Memory; place = 0 }) × (sink.new ≡ sink.old) }
     ensures writes { why ≢ fault.Memory → Writes 0 (config_line (setup.Conf why)) (record { status = status.Config; place = 0 }) result (record {
@@ -62,8 +62,8 @@ fn refuse_text<K: Sink>(why: ConfFault, sink: &mut K) -> Ended
     }
 }
 
-/// Runs a plant of this configuration over its script, with the application and the channel that it names; or writes the line that says why it
-/// can't be run with what was handed in.
+/// Runs a plant of this configuration over its script, with the application and the channel that it names. If it can't
+/// be run with those of the caller, the line that reports why is written.
 fn run_conf<S: Source, K: Sink>(
     alloc: Global,
     mut conf: PlantConf,

@@ -17,7 +17,7 @@ use process_image::run_image;
 use std::alloc::Global;
 use trace_diag::run_diagnose;
 
-/// What is written where the words name no command.
+/// What is written if the arguments name no command.
 const USAGE: &[u8] =
     b"usage: fsoe_tool node master|slave, replay, bulk <number> <events>, plant <file>, image, diagnose, convert\n";
 
@@ -26,7 +26,7 @@ const USAGE: &[u8] =
 pub struct Outcome {
     /// The status, by whose number the program ends.
     pub status: Status,
-    /// The place that is told with it, or 0.
+    /// The place that is reported with it, or 0.
     pub place: u64,
     /// What a plant did. It is empty where none ran.
     pub journal: Journal,
@@ -44,20 +44,22 @@ fn without_journal(alloc: Global, ended: Ended) -> Outcome
     }
 }
 
-/// Runs the command that the words after the program's name are, over what the source gives, and writes its
-/// report to the sink.
+/// Runs the command of the arguments after the program's name over what the source gives, and writes its report to the
+/// sink.
 ///
-/// `node master` and `node slave` run this end over a node file, `replay` runs both ends of a pair over a schedule, or of several pairs with
-/// common ticks, as the first line of its input says, `image` runs ends on fixed places of a cyclic image, and `diagnose` judges a recorded trace. `bulk <number> <events>` runs both ends over the first events of the schedule of that
-/// number. It doesn't read the source, nor do words that name no command: these write the usage line, with status `Usage`.
+/// - `node master`, `node slave`: runs this end over a node file. `image`: runs ends on fixed places of a cyclic image.
+/// - `diagnose`: judges a recorded trace. `convert`: writes a pair file as a file of several pairs.
+/// - `replay`: runs both ends of a pair over a schedule, or of several pairs with common ticks, as the first line says.
+/// - `bulk <number> <events>`: runs both ends over the first events of the schedule of this seed, without the source.
+/// - `plant <file>`: runs a plant over a script, by the configuration that the desk has under this name, of at most
+///   262,144 bytes. If loading fails, it writes `desk failed`, with status `Desk`. If the plant can't be run with what
+///   the caller gives, it writes `config <fault>`, with status `Config`. Then the source isn't read.
+/// - If the arguments name no command, it writes the usage line, with status `Usage`, without the source.
 ///
-/// `plant <file>` runs a plant over a script, by the configuration that the desk has under the name of the file, of at most 262,144 bytes.
-/// Where the load failed it writes `desk failed`, with status `Desk`, and where a plant can't be run with what is handed in a line
-/// `config <fault>`, with status `Config`; neither reads the source. The application that runs first is the net of the configuration, where it
-/// names `net`, or else the first of `apps` that has the name; the script takes others, and those that are left are dropped. The channel is the
-/// first of `channels` that has the name; all others are unchanged. What the plant did stands in the journal.
-///
-/// Only `image`, `plant`, and `replay` of several pairs take memory, and so have the status `Memory`.
+/// The application of a plant that runs first is the net of the configuration if that names `net`, else the first of
+/// `apps` of the name. The script takes others; the rest is dropped. The channel is the first of `channels` of the
+/// name; all others are unchanged. The journal has what the plant did. Only `image`, `plant`, and `replay` of several
+/// pairs allocate, and so can have the status `Memory`.
 pub fn run<D: Desk, S: Source, K: Sink>(
     alloc: Global,
     words: &[String],
@@ -67,7 +69,7 @@ pub fn run<D: Desk, S: Source, K: Sink>(
     apps: Vec<AppEntry>,
     channels: &mut Vec<Box<dyn Channel>>,
 ) -> Outcome
-    // The words name a command, of which all holds that its own call says, or none.
+    // The arguments name a command, of which all holds that its own call promises, or none.
     ensures runs { Runs (command_said (map string_bytes words.now)) (record { status = result.status; place = result.place })
         (record {
           source = record { before = S.left source.old; after = S.left source.new; faults_before = S.faults source.old; faults_after = S.faults source.new };

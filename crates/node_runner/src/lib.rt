@@ -1,4 +1,5 @@
-//! Runs one end of a connection over a node file: its header, then an event a line, and a report line for each.
+//! Runs one FSoE master or slave over a node file, for the command `node`: its header, then an event a line, and a
+//! report line for each. It needs no bus and no clock: ticks are lines too.
 #![tactic(auto)]
 
 pub mod laws;

@@ -16,8 +16,8 @@ use fsoe_base::{Did, End, FrameBuf, MOST_DATA, Memory, State};
 use fsoe_io::{Ended, LineText, Status};
 use schedule_file::{Event, Header, HeaderKind, MAX_EVENTS};
 
-/// The node at one end, with what it did last and the frame that it sent. Both are kept from one event to the next, so that neither is
-/// made anew.
+/// The node at one end, with what it did last and the frame that it sent. Both are kept from one event to the next, so
+/// that neither is made anew.
 #[derive(Drop)]
 pub(crate) struct Node {
     core: Core,
@@ -25,7 +25,7 @@ pub(crate) struct Node {
     sent: FrameBuf,
 }
 
-/// This end, set to what a header says that describes it.
+/// This end, with the settings of a header that describes it.
 fn new_core(end: End, header: &Header) -> Core
     requires { header.now.kind ≡ kind.Node end }
     ensures { NodeStands end result header.now [] [] }
@@ -36,7 +36,7 @@ fn new_core(end: End, header: &Header) -> Core
     }
 }
 
-/// One event at an end. What it does is written to `did`, and the frame that it sends to `sent`, which is empty where it sends none.
+/// Does one event at an end. Writes the result to `did`, and the frame to send to `sent`, empty if none is sent.
 #[tactic(auto, using(end_core::proofs::Either::set_answers))]
 fn step(core: &mut Core, event: &Event, did: &mut Did, sent: &mut FrameBuf)
     requires fits { FitsCore core.old event.now }
@@ -87,7 +87,7 @@ fn write_entry(
     text.push(b"\n");
 }
 
-/// Writes the last line of so many events.
+/// Writes the last line after `events` events.
 fn write_end(events: u64, text: &mut LineText) -> Ended
     ensures text { text.new ≡ events_line events }
     ensures ended { result ≡ record { status = status.Ok; place = 0 } }

@@ -6,13 +6,13 @@ use file_run::run_over;
 use fsoe_base::End;
 use fsoe_io::{Ended, Sink, Source};
 
-/// Runs the node at this end over a node file: reads its header, then an event a line up to `end`, and writes a line
-/// for each event, `<n> <did> <state> <outputs>` and ` > <frame>` where a frame was sent, and at the end `events <n>`.
-/// Where a line is refused, it writes `refused <line> <cause>`. What waits for output is sent before a read that may
-/// block, and when the run ends.
+/// Runs the node at this end over a node file: reads its header, then an event from each line up to `end`. For each
+/// event it writes a line `<n> <did> <state> <outputs>`, with ` > <frame>` if a frame was sent, and at the end
+/// `events <n>`. If a line is refused, it writes `refused <line> <cause>`. Buffered output is flushed before each read
+/// that may block, and at the end of the run.
 ///
-/// The status is `Ok` with place 0; `Line` with the number of the refused line; `Read` with the whole lines read,
-/// only where the source failed; or `Write` with the bytes written, only where the sink failed.
+/// The status is `Ok` with place 0. `Line` has the number of the refused line. `Read` has the complete lines read, only
+/// if the source failed; `Write` has the bytes written, only if the sink failed.
 pub fn run_node<S: Source, K: Sink>(mut end: End, source: &mut S, sink: &mut K) -> Ended
     ensures { RanNode end result (record {
       source = record { before = S.left source.old; after = S.left source.new; faults_before = S.faults source.old; faults_after = S.faults source.new };

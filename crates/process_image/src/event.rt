@@ -1,4 +1,4 @@
-//! What may happen to images: a call of them, as a line of a file says it.
+//! The events of images: each is a call, as a line of a file gives it.
 
 use fsoe_base::{ByteList, Image};
 
@@ -25,12 +25,12 @@ pub enum ImageEvent {
         slot: u16,
         load: Image,
     },
-    /// Whether the end of a slot sends fail-safe data in place of its offer.
+    /// Switches fail-safe data of the end of a slot on or off.
     Hold {
         slot: u16,
         failsafe: bool,
     },
-    /// The session id of the sessions of a slot that begin from now on.
+    /// Sets the session id of all sessions of a slot that begin from now on.
     Nonce {
         slot: u16,
         id: u32,

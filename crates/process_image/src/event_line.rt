@@ -186,11 +186,12 @@ fn read_reset(ends: &[SlotEnd], fields: Option<&[u8]>, says: &mut Said) -> Resul
     Ok(())
 }
 
-/// What a line after the header says, without its newline, where the input image has this size and the slots have these ends: an event,
-/// or that there are no more. It is written over `says`. The lines are `w <at> <hex>` (from 1 to 256 bytes inside the input image), `s` (a
-/// sample), `t` (a tick), `p <k> <hex>` (exactly as many safe data bytes as the end of slot `k` sends), `h <k> 0` and `h <k> 1` (fail-safe
-/// data off and on), `n <k> <id>` (a session id that its profile allows), `z <k>` (a local reset), and `end`. An error is the first of these
-/// causes that applies: `Word`, `Fields`, `Number`, `NoLink`, `Hex`, `Length`, `Position`.
+/// Parses a line after the header, without its newline, where the input image has this size and the slots have these
+/// ends. Writes its meaning over `says`. An error is the first of these causes that applies: `Word`, `Fields`,
+/// `Number`, `NoLink`, `Hex`, `Length`, `Position`. Lines:
+/// - `w <at> <hex>`, from 1 to 256 bytes inside the input image; `s`, a sample; `t`, a tick; and `end`;
+/// - for slot `k`: `p <k> <hex>`, exactly as many safe data bytes as its end sends; `z <k>`, a local reset;
+/// - `h <k> 0` and `h <k> 1`, fail-safe data off and on; `n <k> <id>`, a session id that its profile allows.
 pub(crate) fn read_image_line(
     line: &[u8],
     size: u16,

@@ -10,7 +10,7 @@ use crate::images::Images;
 use fsoe_base::Did;
 use fsoe_io::LineText;
 
-/// Writes bytes into the input image. Nothing is told of it.
+/// Writes bytes into the input image. Nothing is reported.
 #[tactic(auto, using(crate::proofs::Events::write_tells))]
 pub(crate) fn write(images: &mut Images, at: u16, bytes: &[u8], number: u64, text: &LineText)
     requires inside { at + length bytes.now ≤ length images.old.input }
@@ -20,7 +20,7 @@ pub(crate) fn write(images: &mut Images, at: u16, bytes: &[u8], number: u64, tex
     images.write(at, bytes);
 }
 
-/// The end of a slot offers these safe data from now on.
+/// Sets the safe data that the end of a slot sends from now on.
 #[tactic(auto, using(crate::proofs::Events::put_tells))]
 pub(crate) fn put(
     images: &mut Images,
@@ -39,7 +39,7 @@ pub(crate) fn put(
     images.write_line(slot, number, did, text);
 }
 
-/// Whether the end of a slot sends fail-safe data from now on.
+/// Switches fail-safe data of the end of a slot on or off.
 #[tactic(auto, using(crate::proofs::Events::hold_tells))]
 pub(crate) fn hold(
     images: &mut Images,
@@ -57,7 +57,7 @@ pub(crate) fn hold(
     images.write_line(slot, number, did, text);
 }
 
-/// The session id of the sessions of a slot that begin from now on.
+/// Sets the session id of all sessions of a slot that begin from now on.
 #[tactic(auto, using(crate::proofs::Events::nonce_tells))]
 pub(crate) fn nonce(
     images: &mut Images,

@@ -123,16 +123,16 @@ impl SlotHeader {
     }
 }
 
-/// A header that is read line by line, without newlines, from its first line to `go`. The fields of a line are separated by exactly one
-/// space. The lines stand in this order:
+/// A header that is read line by line, without newlines, from its first line to `go`. The fields of a line are
+/// separated by exactly one space. This is the order of the lines:
 ///
 /// - `fsoe 1 image`;
 /// - `size <in> <out>`, the bytes of both images, from 1 to 4,096 each;
-/// - from 1 to 64 slots, each with `slot <k> <at_in> <at_out>`, its number, from 1 in their order, and where its frames begin in both
-///   images; and then the lines that the header of a node has from `lengths` to before `go`;
+/// - from 1 to 64 slots, each with `slot <k> <at_in> <at_out>`: its number, from 1 in their order, and where its frames
+///   begin in both images. Then come the lines that the header of a node has from `lengths` to before `go`;
 /// - `go`.
 ///
-/// Room for all slots is taken when the header is made, so that no line takes memory.
+/// Room for all slots is allocated when the header is made, so that no line allocates.
 #[derive(Drop)]
 pub struct ImageHeader {
     stage: Stage,
@@ -240,9 +240,10 @@ impl ImageHeader {
         matches!(self.stage, Stage::Done)
     }
 
-    /// Reads the next line: true exactly at `go`, which ends the header. An error is the first of these causes that applies to the line:
-    /// `Header` where its first word may not stand here, `Fields`, `Number`, `Hex`, `Length`, and `Range`, also at the `master` or `slave`
-    /// line of a slot that doesn't lie inside both images or shares a byte with a slot before it. After an error no line is to be read.
+    /// Reads the next line. Returns true if and only if it is `go`, the last one. An error is the first of these causes
+    /// that applies: `Header` if its first word isn't allowed here, `Fields`, `Number`, `Hex`, `Length`, `Range`.
+    /// `Range` also if the slot of a `master` or `slave` line isn't inside both images or shares a byte with one
+    /// before. Read no line after an error.
     pub fn line(&mut self, line: &[u8]) -> Result<bool, LineCause>
         ensures next { Becomes result self.new (image_heading_after self.old line.now) }
         ensures done { IfOk result (λ done. done ≡ image_heading_is_whole self.new) }
@@ -384,8 +385,8 @@ impl ImageHeader {
         ends
     }
 
-    /// The slots, in their order, each with a new end that is set to what its lines say. Those of a whole header have no fault: each was tested
-    /// at its `master` or `slave` line.
+    /// Returns the slots, in their order, each with a new end with the settings of its lines. Those of a complete
+    /// header have no fault: each was tested at its `master` or `slave` line.
     pub(crate) fn slots(&self, alloc: Global) -> Result<Vec<Slot>, Memory>
         ensures made { IfOk result (λ slots. AllZip IsMadeOf (slots_of self.now) slots.items) }
         ensures most { IfOk result (λ slots. length slots.items ≤ MOST_SLOTS) }

@@ -20,7 +20,7 @@ use fsoe_base::{Did, FrameBuf, MOST_DATA, MOST_FRAME, State};
 use fsoe_io::LineText;
 use std::marker::Model;
 
-/// An input image and an output image of up to 64 slots, no two of which share a byte. No call but `new` takes memory.
+/// An input image and an output image of up to 64 slots, no two of which share a byte. Only `new` allocates.
 #[derive(Drop)]
 pub struct Images {
     seats: Vec<Seat>,
@@ -49,9 +49,9 @@ impl Images {
     ghost use Rattle.process_image.specs.SlotLines.{told_line};
     ghost use Rattle.process_image.specs.Telling.{DoesEvent};
 
-    /// Images of these sizes with these slots, in this order. Both hold zeros, and so does what was sampled last. There may be no slot
-    /// at all. Refused are more than 64 slots; then the first whose frames don't lie inside both images; then the first two that share
-    /// a byte of one image; then want of memory. The slots are dropped then. Each end is as its `new` left it.
+    /// Creates images of these sizes with these slots, in this order. Both images and the last sample are zeros. There
+    /// may be no slot. The first refusal is returned: more than 64 slots, a slot that isn't inside both images, two
+    /// slots that share a byte of one image, no memory. The slots are dropped then. Each end is as its `new` left it.
     pub fn new(size_in: u16, size_out: u16, slots: Vec<Slot>) -> Result<Images, SlotFault>
         requires { All (λ slot. IsNew slot.core) slots.items }
         ensures refused { IfSome (first_fault (plan_of size_in size_out slots.items)) (λ found. result_err result ≡ Some found) }
@@ -76,7 +76,7 @@ impl Images {
         })
     }
 
-    /// Writes these bytes into the input image from this place on, and changes no other. No end is told of them before a sample.
+    /// Writes these bytes into the input image from this place on, and changes no other. They wait there for a sample.
     pub fn write(&mut self, at: u16, bytes: &[u8])
         requires { at + length bytes.now ≤ length self.old.input }
         ensures follows { Follows self.old (event.Write at bytes.now) self.new }
@@ -87,13 +87,13 @@ impl Images {
         overwrite(self.input.as_mut_slice(), usize::from(at), bytes);
     }
 
-    /// Samples the input image: in their order, each slot whose contents aren't those of the last sample gets them delivered, what its
-    /// end did is written to its place in `dids`, and a frame that it sent is put in its place in the output image. Every other slot
-    /// has None there, and stays as it is. `dids` has a place for each slot.
+    /// Samples the input image. Each slot whose contents differ from those of the last sample gets them delivered, in
+    /// the order of slots. The result of its end is written to its place in `dids`, and a frame that it sent to its
+    /// place in the output image. Every other slot gets None, and stays as it is. `dids` has a place for each slot.
     ///
-    /// A frame that is equal to the one before it in its place isn't seen: where an end is to get the same bytes again, as a Reset frame
-    /// that answers another, other bytes have to be sampled between them. After the first sample zeros are contents as any other, and a
-    /// frame that is overwritten before a sample is lost.
+    /// A frame that equals the one before it in its place isn't seen. If an end must get the same bytes again, as a
+    /// Reset frame that answers another, other bytes must be sampled between them. After the first sample zeros are
+    /// contents as any other, and a frame that is overwritten before a sample is lost.
     pub fn sample(&mut self, dids: &mut [Option<Did>])
         requires { length dids.old ≡ slots_in self.old }
         ensures follows { Follows self.old event.Sample self.new }
@@ -111,8 +111,8 @@ impl Images {
         );
     }
 
-    /// Counts a tick at the end of each slot, in their order, and writes what each did to its place in `dids`, and a frame that it sent
-    /// to its place in the output image. `dids` has a place for each slot.
+    /// Counts a tick at the end of each slot, in their order. Writes the result of each to `dids`, which has a place
+    /// for each slot, and a frame that it sent to its place in the output image.
     pub fn tick(&mut self, dids: &mut [Did])
         requires { length dids.old ≡ slots_in self.old }
         ensures follows { Follows self.old event.Tick self.new }
@@ -129,7 +129,7 @@ impl Images {
         );
     }
 
-    /// The end of this slot offers these safe data from now on, as many as its frames have. The offer outlasts resets.
+    /// Sets the safe data that this slot's end sends from now on, as many as its frames have. They outlast resets.
     pub fn put(&mut self, slot: u16, load: &[u8])
         requires slot { HasSlot self.old slot }
         requires len { IfSome (numbered slot (setups_of self.old)) (λ s. length load.now ≡ sends s) }
@@ -141,7 +141,7 @@ impl Images {
         self.seats[usize::from(slot) - 1].core.put(load);
     }
 
-    /// Whether the end of this slot sends zeros in place of its offer from now on. It outlasts resets.
+    /// Switches fail-safe data of this slot's end on or off: while on, zeros replace its offer. It outlasts resets.
     pub fn hold(&mut self, slot: u16, failsafe: bool)
         requires { HasSlot self.old slot }
         ensures follows { Follows self.old (event.Hold slot failsafe) self.new }
@@ -152,7 +152,8 @@ impl Images {
         self.seats[usize::from(slot) - 1].core.hold(failsafe);
     }
 
-    /// The session id of the sessions of this slot that begin from now on, at most 65,535 in profile One. It outlasts resets.
+    /// Sets the session id of all sessions of this slot that begin after this call, at most 65,535 in profile One. It
+    /// outlasts resets: give a fresh one before each session.
     pub fn nonce(&mut self, slot: u16, id: u32)
         requires slot { HasSlot self.old slot }
         requires allowed { IfSome (numbered slot (setups_of self.old)) (λ s. IsTrue (allows_id (profile_of s) id)) }
@@ -187,7 +188,7 @@ impl Images {
         self.seats[usize::from(slot) - 1].core.state()
     }
 
-    /// The outputs of the end of this slot, as many bytes as its peer's frames have, and zeros in every state but Data.
+    /// Returns the outputs of this slot's end, as many as its peer's frames have, zeros in every state except Data.
     pub fn outputs(&self, slot: u16) -> &[u8]
         requires { HasSlot self.now slot }
         ensures shown { ShowsAt self.now slot result.now out }
@@ -197,7 +198,7 @@ impl Images {
         self.seats[usize::from(slot) - 1].core.outputs()
     }
 
-    /// The last frame that the end of this slot sent, zeros where it sent none: what stands in its place in the output image.
+    /// Returns the last frame that the end of this slot sent, zeros if none: what is in its place in the output image.
     pub fn frame(&self, slot: u16) -> &[u8]
         requires { HasSlot self.now slot }
         ensures shown { ShowsAt self.now slot result.now last_frame }
@@ -217,7 +218,7 @@ impl Images {
         self.output.as_slice()
     }
 
-    /// Samples as `sample` does at the event of this number, and tells of each slot to which something is delivered.
+    /// Samples as `sample` does at the event of this number, and reports each slot to which something is delivered.
     pub(crate) fn sample_telling(&mut self, number: u64, telling: &mut Telling, text: &mut LineText)
         requires empty { text.old ≡ [] }
         requires fresh { telling.old.waiting.text ≡ [] }
@@ -233,7 +234,7 @@ impl Images {
         );
     }
 
-    /// Counts a tick as `tick` does at the event of this number, and tells of each slot.
+    /// Counts a tick as `tick` does at the event of this number, and reports each slot.
     pub(crate) fn tick_telling(&mut self, number: u64, telling: &mut Telling, text: &mut LineText)
         requires empty { text.old ≡ [] }
         requires fresh { telling.old.waiting.text ≡ [] }

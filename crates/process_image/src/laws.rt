@@ -1,4 +1,4 @@
-//! What holds of images over all their calls, and runs of them that were worked out. The calls do nothing: each law is a contract.
+//! What holds of images over all their calls, and of example runs. The calls do nothing: each law is a contract.
 ghost use Rattle.std.specs.Prelude.{◌≡◌, ℕ, [], ◌∷◌, ◌++◌, List, Some, None, Ok, Err, codes, false, length, replicate, take};
 ghost use Rattle.fsoe_base.specs.Lengths.{frame_len};
 ghost use Rattle.param_load.specs.declared.entry.Move.{Move};
@@ -24,8 +24,8 @@ pub fn frames_fill()
     ensures { (s : Setup) (e : List Deed) (what : Move) → IsProper s what → IsRun s e → is_empty (step s e what).sent ≡ false → length (step s e what).sent ≡ frame_len (sends s) }
 {}
 
-/// Worked reports of images: a slot is delivered where its bytes changed alone; half of a frame is dropped in state Reset, where the whole
-/// frame is taken after it; a master and a slave side by side.
+/// Worked reports of images. A slot is delivered only if its bytes changed. Half of a frame is dropped in state Reset,
+/// and the whole frame then taken. A master and a slave are side by side.
 pub fn worked_reports()
     ensures changes_alone { ChangesAlone }
     ensures half_written { HalfWritten }
@@ -48,13 +48,13 @@ pub fn worked_lines()
     ensures length { one_said (codes "p 1 010203") ≡ Err cause.Length }
 {}
 
-/// The frames that are delivered to a slot are its contents at the samples, in their order, without those that equal the contents at
-/// the sample before, and at the first one without zeros.
+/// The frames that are delivered to a slot are its contents at the samples, in their order, except those that equal the
+/// sample before, and zeros at the first one.
 pub fn distinct()
     ensures { (size : ℕ) (p : Place) (calls : List ImageEvent) → frames_in (moves size p calls) ≡ distinct_after (contents p (replicate size 0)) (at_samples size p calls) }
 {}
 
-/// A sample with no write since the last tells nothing and changes nothing, whatever comes after it.
+/// A sample with no write after the last one reports nothing and changes nothing, whatever comes after it.
 pub fn quiet_samples()
     ensures moves { (size : ℕ) (p : Place) (calls later : List ImageEvent) → Unwritten calls → moves size p (later ++ event.Sample ∷ calls) ≡ moves size p (later ++ calls) }
     ensures output { (plan : Plan) (calls later : List ImageEvent) → Unwritten calls → output plan (later ++ event.Sample ∷ calls) ≡ output plan (later ++ calls) }

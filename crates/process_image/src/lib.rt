@@ -1,8 +1,7 @@
-//! Ends of connections whose frames lie at fixed places of a cyclic process image.
-//!
-//! A fieldbus copies an image in and an image out at each of its cycles. A frame that is new there is known by its bytes alone: a
-//! sample delivers the contents of a slot exactly where they aren't those of the sample before. A program writes what came, samples,
-//! and hands the output image out:
+//! Masters and slaves whose frames are at fixed places (slots) of a cyclic process image, which a fieldbus copies in
+//! and out at each of its cycles. A new frame is recognized only by a change of its bytes: `sample` delivers a slot's
+//! contents if and only if they differ from the sample before. The program writes what came, samples, and passes on the
+//! output image:
 //!
 //! ```text
 //! let mut images = Images::new(size_in, size_out, slots)?;
@@ -16,13 +15,15 @@
 //! }
 //! ```
 //!
-//! What follows from knowing frames by their bytes alone, and isn't refused:
+//! What follows from this, and isn't refused:
 //!
-//! - Two equal frames in a row are one. A slave that reset itself answers the master's Reset(0) with the bytes that it sent before, so the
-//!   master isn't told, and waits. The way out is to write other bytes at its place, to sample, and to write the frame again.
+//! - Two equal frames one after the other are one. A slave that reset itself answers the master's Reset(0) with the
+//!   same bytes as before, so the master gets nothing and waits. To solve this, write different bytes into the slot,
+//!   sample, and write the frame again.
 //! - After the first sample zeros are a frame too. A bus that blanks its image ends each session.
-//! - What is written over before a sample is lost, and what is sent before the output image was handed out too: hand it out after each sample
-//!   and after each tick. Half of a frame, sampled, is another frame, and ends the session in every state but Reset.
+//! - What is overwritten before a sample is lost. So is what is sent before the output image was passed on: do that
+//!   after each sample and each tick. Half of a frame, if sampled, is a different frame, and ends the session except
+//!   in state Reset.
 #![tactic(auto)]
 
 mod event;

@@ -26,10 +26,10 @@ use std::marker::Model;
 /// The most bytes of an image whose digits are made in one piece.
 const PIECE: usize = 512;
 
-/// How the lines of an input of images are read.
+/// How the lines of an input of images are parsed.
 pub(crate) struct ImageFormat;
 
-/// How lines are read that stand after the header of images: by the size of the input image, and by the ends of the slots.
+/// How the lines after the header of images are parsed: by the size of the input image, and by the ends of the slots.
 #[derive(Drop)]
 pub(crate) struct ImageGrammar {
     size_in: u16,
@@ -90,7 +90,7 @@ impl Format for ImageFormat {
     }
 }
 
-/// Images that run over the events of an input, with what is told of their slots. All memory is taken before the first event.
+/// Images that run over the events of an input, and their report. All memory is allocated before the first event.
 #[derive(Drop)]
 pub(crate) struct ImageRun {
     images: Images,
@@ -109,7 +109,7 @@ impl Model for ImageRun {
     ghost invariant = { λ r. length r.images.output ≤ MOST_SIZE };
 }
 
-/// Appends an image as hexadecimal digits to what waits.
+/// Appends an image as hexadecimal digits to the pending text.
 fn push_image(image: &[u8], line: &mut LineText, waiting: &mut Waiting)
     requires { length waiting.old.text + 2 * length image.now ≤ MOST_TEXT }
     ensures { waiting.new ≡ record { text = waiting.old.text ++ encode_lower image.now; given = waiting.old.given } }
@@ -136,7 +136,7 @@ fn push_last(image: &[u8], line: &mut LineText, waiting: &mut Waiting)
 }
 
 impl ImageRun {
-    /// Does the event of this number, from 1. Its text is then `text`, and what waits behind it.
+    /// Does the event of this number, from 1. Its text is then `text` and the pending text behind it.
     #[tactic(auto, using(crate::proofs::Events::alone))]
     fn take(&mut self, event: &ImageEvent, number: u64, text: &mut LineText)
         requires fits { FitsImages self.old.images event.now }
@@ -243,15 +243,16 @@ impl Machine for ImageRun {
     }
 }
 
-/// Runs images over an input: reads their header, then an event a line up to `end`, at most 2,000. For each event it writes a line of each
-/// slot of which the event is a move, `<n> <k> <did> <state> <outputs>` and ` > <frame>` where a frame was sent: at a sample of each slot
-/// whose contents changed, at a tick of every slot, at a put, a hold, a nonce and a reset of the slot that it names, and none for a write. At
-/// the end come `events <n>` and `out <hex>`, the output image. Where a line is refused, it writes `refused <line> <cause>`. What waits for
-/// output is sent before a read that may block, and when the run ends.
+/// Runs images over an input: reads their header, then an event from each line up to `end`, at most 2,000. For each
+/// event it writes a line of each slot that it concerns, `<n> <k> <did> <state> <outputs>`, with ` > <frame>` if a
+/// frame was sent. A sample concerns each slot whose contents changed, a tick every slot, a write none, each other
+/// event the slot that it names. At the end it writes `events <n>` and `out <hex>`, the output image. If a line is
+/// refused, it writes `refused <line> <cause>`. Buffered output is flushed before each read that may block, and at the
+/// end of the run.
 ///
-/// The status is `Ok` with place 0; `Line` with the number of the refused line; `Read` with the whole lines read, only where the source
-/// failed; `Write` with the bytes written, only where the sink failed; or `Memory` with place 0, where there was none before the first
-/// event: then nothing was written.
+/// The status is `Ok` with place 0. `Line` has the number of the refused line. `Read` has the complete lines read, only
+/// if the source failed; `Write` has the bytes written, only if the sink failed. `Memory` has place 0, if there was
+/// none before the first event; then nothing was written.
 pub fn run_image<S: Source, K: Sink>(mut alloc: Global, source: &mut S, sink: &mut K) -> Ended
     ensures { RanImage result (record {
       source = record { before = S.left source.old; after = S.left source.new; faults_before = S.faults source.old; faults_after = S.faults source.new };

@@ -17,8 +17,8 @@ pub(crate) enum Kind {
     End,
 }
 
-/// What a line says after the header, an `ImageLine`. An event that is made anew is blanked in full, so a write has a place of its own, where it
-/// stays while other events are said, and where the next one is written over it.
+/// The meaning of a line after the header, an `ImageLine`. An event that is made anew is blanked in full. So a write
+/// has its own place, which other events leave, and where the next write is written over it.
 #[derive(Drop)]
 pub(crate) struct Said {
     kind: Kind,
@@ -82,8 +82,9 @@ impl Said {
         }
     }
 
-    /// Says that the bytes of these digits, from 1 to 256, are written from this place on, where they lie inside an input image of this size.
-    /// Digits have no space among them, so one is sought only where they aren't digits. What is said after an error is left open.
+    /// Says that the bytes of these digits, from 1 to 256, are written from this place on, where they lie inside an
+    /// input image of this size. Digits have no space among them, so one is sought only where they aren't digits. What
+    /// is said after an error is left open.
     #[tactic(auto, using(crate::proofs::Written::written, crate::proofs::Written::beyond, crate::proofs::Written::unplaced, crate::proofs::Written::unsaid))]
     pub(crate) fn read_write(
         &mut self,

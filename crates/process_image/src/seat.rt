@@ -16,7 +16,7 @@ pub(crate) fn overwrite(image: &mut [u8], at: usize, bytes: &[u8])
     image[at..at + bytes.len()].copy_from_slice(bytes);
 }
 
-/// A slot, with its contents at the last sample, by which a new frame is known.
+/// A slot, with its contents at the last sample, by which a new frame is recognized.
 #[derive(Drop)]
 pub(crate) struct Seat {
     pub(crate) at_in: usize,
@@ -47,7 +47,7 @@ impl Seat {
         }
     }
 
-    /// Puts a frame that the end sent in its place in the output image. Where it sent none `sent` has no bytes, and the image stays.
+    /// Writes a frame that the end sent to its place in the output image. If `sent` is empty, the image doesn't change.
     pub(crate) fn give(&self, sent: &FrameBuf, output: &mut [u8])
         requires { self.now.at_out + self.now.len_out ≤ length output.old }
         ensures { output.new ≡ with_sent self.now sent.now output.old }
@@ -65,8 +65,8 @@ impl Seat {
         self.seen.bytes() == &input[self.at_in..self.at_in + self.seen.len()]
     }
 
-    /// Delivers the slot's contents, which aren't those that it saw last. What its end did is written to `did`, and the frame that it sent
-    /// to `sent`.
+    /// Delivers the slot's contents, which differ from those that it saw last. Writes the result of its end to `did`,
+    /// and the frame that it sent to `sent`.
     pub(crate) fn deliver(
         &mut self,
         input: &[u8],
@@ -84,7 +84,7 @@ impl Seat {
         self.give(sent, output);
     }
 
-    /// Delivers the slot's contents where they aren't those that it saw last, and tells what its end did then.
+    /// Delivers the slot's contents if they differ from those that it saw last, and writes what its end did to `told`.
     fn sample(
         &mut self,
         input: &[u8],
@@ -103,7 +103,7 @@ impl Seat {
         self.deliver(input, output, sent, did);
     }
 
-    /// Counts a tick at the slot. What its end did is written to `did`, and the frame that it sent to `sent`.
+    /// Counts a tick at the slot. Writes the result of its end to `did`, and the frame that it sent to `sent`.
     pub(crate) fn tick(&mut self, output: &mut [u8], sent: &mut FrameBuf, did: &mut Did)
         requires { MaySend (length output.old) self.old }
         ensures { Does IsTickStep answer_in self.old output.old self.new output.new (did.new, sent.new) }
@@ -113,7 +113,7 @@ impl Seat {
     }
 }
 
-/// Samples each slot, one after another, and tells of each what its end did, if its contents were delivered.
+/// Samples each slot, one after another, and writes what each end did whose contents were delivered.
 pub(crate) fn sample_all(
     seats: &mut [Seat],
     input: &[u8],
@@ -131,7 +131,7 @@ pub(crate) fn sample_all(
     }
 }
 
-/// Counts a tick at each slot, one after another, and tells what its end did.
+/// Counts a tick at each slot, one after another, and writes what its end did.
 pub(crate) fn tick_all(seats: &mut [Seat], output: &mut [u8], sent: &mut FrameBuf, dids: &mut [Did])
     requires send { All (MaySend (length output.old)) seats.old }
     requires dids { length dids.old ≡ length seats.old }

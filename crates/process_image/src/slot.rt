@@ -2,8 +2,8 @@
 
 use end_core::Core;
 
-/// One end, and where its frames lie: those that come to it in the input image, those that it sends in the output image. Both count
-/// from 0.
+/// One end, and where its frames lie: those that come to it in the input image, those that it sends in the output
+/// image. Both count from 0.
 #[derive(Drop)]
 pub struct Slot {
     /// Where a frame that comes to the end begins in the input image.

@@ -10,8 +10,8 @@ use fsoe_base::frame_len;
 /// The most slots.
 pub const MOST_SLOTS: usize = 64;
 
-/// The bytes that the frames of a slot take: of the input image those of a frame that comes to its end, of the output image those of
-/// a frame that its end sends. Both images count from 0.
+/// The bytes of a slot's frames: in the input image those of a frame that its end gets, in the output image those of
+/// one that it sends. Both images count from 0.
 #[derive(Clone, Copy)]
 pub(crate) struct Spans {
     pub(crate) at_in: u16,
@@ -20,7 +20,7 @@ pub(crate) struct Spans {
     pub(crate) len_out: u16,
 }
 
-/// Whether so many bytes from one place on and so many from another share a byte.
+/// Returns true if `len` bytes from `at` and `more` bytes from `other` share a byte.
 fn share(at: u16, len: u16, other: u16, more: u16) -> bool
     ensures { result ≡ share at len other more }
 {
@@ -28,7 +28,7 @@ fn share(at: u16, len: u16, other: u16, more: u16) -> bool
         && u32::from(other) < u32::from(at) + u32::from(len)
 }
 
-/// Whether so many bytes from a place on lie inside an image of this size.
+/// Returns true if `len` bytes from `at` on are inside an image of this size.
 fn reaches_into(size: u16, at: u16, len: u16) -> bool
     ensures { result ≡ nat_le (at + len) size }
 {

@@ -1,4 +1,4 @@
-//! What is written of an event: a line for each slot of which it is a move.
+//! What is written of an event: a line for each slot that it concerns.
 ghost use Rattle.std.specs.Prelude.{◌≡◌, ◌≤◌, ◌<◌, ◌+◌, ◌++◌, [], All, decimal, false, length, nat_eq};
 ghost use Rattle.std.specs.Cmp.Lexicographic.{pointwise};
 ghost use Rattle.end_core.specs.Standing.{Shows};
@@ -14,16 +14,16 @@ use fsoe_base::{Did, FrameBuf, MOST_FRAME, Memory};
 use fsoe_io::LineText;
 use std::alloc::Global;
 
-/// What a run keeps to tell of its slots, so that nothing of it is made anew.
+/// What a run keeps to report its slots, so that nothing of it is made anew.
 #[derive(Drop)]
 pub(crate) struct Telling {
     /// What the end of a slot did last.
     pub(crate) did: Did,
     /// The frame that it sent then.
     sent: FrameBuf,
-    /// A line on its way to those that wait.
+    /// A line on its way to the pending ones.
     pub(crate) line: LineText,
-    /// The lines of an event but its first one, which is written where it is handed out.
+    /// The lines of an event except its first one, which is written where it is handed out.
     pub(crate) waiting: Waiting,
 }
 
@@ -39,8 +39,8 @@ impl Telling {
     }
 }
 
-/// Writes over `text` what the end of this slot did at the event of this number, with its state and its outputs after it, and the frame
-/// that it sent.
+/// Writes over `text` what the end of this slot did at the event of this number, with its state and its outputs after
+/// it, and the frame that it sent.
 pub(crate) fn write_line(
     core: &Core,
     slot: u16,
@@ -63,7 +63,7 @@ pub(crate) fn write_line(
     text.push(b"\n");
 }
 
-/// Tells of this slot what was done: its line is the text, where nothing is told yet, and else it waits behind it.
+/// Reports what was done at this slot: its line is the text if that is the first one, and else pending behind it.
 fn tell(core: &Core, slot: u16, number: u64, telling: &mut Telling, text: &mut LineText)
     requires first { text.old ≡ [] → telling.old.waiting.text ≡ [] }
     requires room { length telling.old.waiting.text + 1024 ≤ MOST_TEXT }
@@ -85,7 +85,7 @@ fn tell(core: &Core, slot: u16, number: u64, telling: &mut Telling, text: &mut L
     waiting.push(line.bytes());
 }
 
-/// Delivers the contents of a slot, and tells of it.
+/// Delivers the contents of a slot, and reports it.
 #[inline(never)]
 fn deliver(
     seat: &mut Seat,
@@ -108,7 +108,7 @@ fn deliver(
     tell(&seat.core, slot, number, telling, text);
 }
 
-/// Samples a slot, and tells of it where its contents are delivered.
+/// Samples a slot, and reports it if its contents are delivered.
 #[inline(always)]
 fn sample(
     seat: &mut Seat,
@@ -131,7 +131,7 @@ fn sample(
     }
 }
 
-/// Counts a tick at a slot, and tells of it.
+/// Counts a tick at a slot, and reports it.
 fn tick(
     seat: &mut Seat,
     slot: u16,
@@ -151,7 +151,7 @@ fn tick(
     tell(&seat.core, slot, number, telling, text);
 }
 
-/// Samples each slot, one after another, and tells of those to which something is delivered.
+/// Samples each slot, one after another, and reports those to which something is delivered.
 pub(crate) fn sample_telling(
     seats: &mut [Seat],
     number: u64,
@@ -180,7 +180,7 @@ pub(crate) fn sample_telling(
     }
 }
 
-/// Counts a tick at each slot, one after another, and tells of it.
+/// Counts a tick at each slot, one after another, and reports it.
 pub(crate) fn tick_telling(
     seats: &mut [Seat],
     number: u64,

@@ -1,5 +1,5 @@
-//! What `replay` says of a pair file, for callers in C: one call over a text in memory, which writes the report into memory of the caller's.
-//! It takes no memory and keeps none. `embed/replay.h` declares the call, and says what C code owes.
+//! The command `replay` for a pair file as a function for C: a text in memory gives a report in memory of the caller.
+//! It allocates and keeps nothing. `embed/replay.h` declares it, and says what C code owes.
 #![tactic(auto)]
 
 pub mod replay;

@@ -14,8 +14,8 @@ use fsoe_io::{Ended, Status};
 #[repr(C)]
 #[derive(Drop)]
 pub struct GpEnded {
-    /// With status 1 the number of the first other entry, with 4 that of the refused line, with 7 the bytes of the report that were
-    /// written, else 0.
+    /// With status 1 the number of the first `other` entry, with 4 that of the refused line, with 7 the bytes of the
+    /// report that were written, else 0.
     pub place: u64,
     /// The bytes of the report that were written.
     pub len: usize,
@@ -35,9 +35,9 @@ fn replay_into(text: &[u8], room: &mut Room<'_>) -> Ended
     run_pair(&mut Text::new(text), room)
 }
 
-/// Runs both ends over the text of a pair file, as `replay` does, and writes their report to the front of `report`. Answers the status:
-/// 0, or 1 where an entry is other, or 4 where a line is refused, and then the whole report was written; or 7, and then a first part
-/// of it fills the memory. `ended` says where, and how many bytes are the report's. Bytes behind them stay.
+/// Runs both ends over the text of a pair file, as `replay` does, and writes their report to the front of `report`. The
+/// status is 0, 1 if an entry is `other`, 4 if a line is refused, or 7 if only a first part of the report fitted into the
+/// memory. `ended` has the place and the bytes of the report; those behind don't change.
 #[unsafe(no_mangle)]
 pub extern "C" fn gp_replay(text: &[u8], report: &mut [u8], ended: &mut GpEnded) -> u8
     ensures ended { EndedAs text.now result ended.new.place (take ended.new.len report.new) }

@@ -7,9 +7,9 @@ use fsoe_io::{Failed, Sink};
 
 /// Memory that is written from its front, and fails once it is full.
 ///
-/// Of a sink that was handed to a call no more is known after it than what the sink tells. So this one tells, before the bytes that were
-/// written, which memory it is and what that held: then it is known to be the same after the call, and the bytes behind those written to
-/// be as they were.
+/// In contracts no more is known of a sink after a call than its own list of written bytes. So this one also puts
+/// before these bytes which memory it is and what that held. Then it is known to be the same after the call, and the
+/// bytes behind those written to be unchanged.
 #[derive(Drop)]
 pub(crate) struct Room<'a> {
     pub(crate) memory: &'a mut [u8],

@@ -1,4 +1,4 @@
-//! What some bytes were, which proofs alone read.
+//! What some bytes were, which only proofs read.
 ghost use Rattle.std.specs.Prelude.{◌≡◌, List, ℕ};
 ghost use Rattle.std.specs.Borrow.{ftrue};
 

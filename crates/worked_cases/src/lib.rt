@@ -1,9 +1,9 @@
-//! Worked cases of the public calls of the crates below the ends, each module those of one crate: rows that were given
-//! from outside, and desks and sinks that fail. What the program shows stands in `runs/`, and what a clause says needs
-//! no case.
+//! Tests of the public functions of the crates below the ends, one module per crate: expected values from external
+//! sources, and files and sinks in memory that fail. Behaviour of the program is tested in `runs/`; behaviour that a
+//! contract states needs no test.
 //!
-//! They stand in crates of their own, since a crate with tests is proved twice; those of the ends and of what runs them
-//! stand in `worked_ends`.
+//! The tests have their own crates, since a crate with tests is proved twice; those of the ends and of what runs them
+//! are in `worked_ends`.
 #![tactic(auto)]
 
 #[cfg(test)]

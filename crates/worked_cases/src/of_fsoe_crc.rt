@@ -1,7 +1,7 @@
 use fsoe_crc::{Register, crc, crc_bitwise};
 
-/// Bytes and their CRC: each byte that is one bit, and a byte of two; what is covered by the CRC of a data frame with
-/// number 65,535, and of the same with number 1, the next one.
+/// Bytes and their CRC: each byte with one bit, and a byte with two. Then the CRC's input of a data frame with number
+/// 65,535, and of the same with number 1, the next one.
 const ROWS: [(&[u8], u16); 11] = [
     (&[0x01], 0x39B7),
     (&[0x02], 0x736E),

@@ -28,8 +28,8 @@ fn streams_of_std_are_ends(rt: HostRuntime) {
     assert_eq!(rt; put_twice(), [Ok(()), Err(Partial { done: 1 })]);
 }
 
-/// What a sink holds that takes three bytes in a call and fails at the third, once a text was put and another finished;
-/// and how many bytes the output tells as sent. None where a text was written at once, or nothing failed.
+/// What a sink has that takes three bytes in a call and fails at the third, after a text was put and another finished.
+/// Also how many bytes the output reports as sent. None if a text was written at once, or nothing failed.
 fn sent_before_fault(alloc: Global) -> Option<(MemSink, u64)> {
     let mut sink = MemSink::new(alloc, 100, 3, vec![in alloc; 3].ok()?).ok()?;
     let mut output = Output::new();

@@ -1,6 +1,6 @@
-//! Worked cases of the public calls of the ends and of what holds or judges several of them, each module those of one
-//! crate: rows that were given from outside. What the program shows stands in `runs/`, and what a clause says needs no
-//! case. Those of the crates below stand in `worked_cases`.
+//! Tests of the public functions of the ends and of the crates that hold or judge several of them, one module per
+//! crate: expected values from external sources. Behaviour of the program is tested in `runs/`; behaviour that a
+//! contract states needs no test. Tests of the crates below are in `worked_cases`.
 #![tactic(auto)]
 
 #[cfg(test)]

@@ -33,7 +33,7 @@ fn slave_in_data() -> Option<Slave> {
     Some(slave)
 }
 
-/// The age after a tick and the frame that came last, which is dropped; after the next one, at which the slave is held;
+/// The age after a tick and a dropped repeat of the last frame, after the next frame, at which fail-safe data are on,
 /// and after a reset and a tick.
 fn ages(slave: &mut Slave) -> [u16; 3] {
     let mut out = FrameBuf::new();

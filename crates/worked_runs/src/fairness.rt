@@ -52,8 +52,8 @@ fn last_sent(entries: &[Entry], which: End) -> Option<usize> {
 }
 
 impl Before<'_> {
-    /// The place of the entry whose frame an end awaits: the last one in which its peer sent a frame other than a Reset
-    /// frame as the answer to the end's last one.
+    /// The place of the entry whose frame an end awaits. It is the last one in which the peer sent a frame, except a
+    /// Reset frame, as the answer to the end's last one.
     fn awaited(&self, which: End) -> Option<usize> {
         let mine = last_sent(self.entries, which)?;
         let mut last = None;
@@ -80,8 +80,8 @@ impl Before<'_> {
         is_that.then_some(place)
     }
 
-    /// The place of the entry whose frame gave these data to the next entry; None where they aren't those that the peer
-    /// put into the awaited answer, or both ends told other terms.
+    /// The place of the entry whose frame gave these data to the next entry. None if they aren't those that the peer
+    /// put into the awaited answer, or both ends have different terms.
     fn source(&self, entry: &Entry, took: &Took) -> Option<usize> {
         let place = self.awaited(entry.end)?;
         is_from(self.entries, place, took, &entry.terms).then_some(place)
@@ -122,8 +122,8 @@ fn is_from(entries: &[Entry], place: usize, took: &Took, terms: &Option<Terms>) 
     equal_terms && has_put(before, item.end, took)
 }
 
-/// Whether outputs are those by looking back over these entries of an end: the data taken last where no reset came
-/// after them and fewer ticks than the watchdog of the terms told then, else zeros.
+/// Whether outputs are those by the definition over these entries of an end. They are the data taken last if no reset
+/// came after them and fewer ticks than the watchdog of the terms then, else zeros.
 fn are_due(entries: &[Entry], which: End, outputs: &[u8]) -> bool {
     let mut last = None;
     let mut ticks: u16 = 0;

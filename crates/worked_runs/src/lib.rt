@@ -1,6 +1,6 @@
-//! Worked cases of whole runs: of a replay over an input, also where the outside fails, of a pair over a schedule, and
-//! of a plant and its script; rows that were given from outside. A plain program judges whether the entries of a run
-//! are fair. Cases of `plant_conf` and `schedule_file` stand here too, since each crate of tests loads what it names.
+//! Tests of complete runs: a replay (also with failing input or output), a pair on a schedule, and a plant with its
+//! script; expected values are from external sources. A plain program judges whether the entries of a run are fair.
+//! Tests of `plant_conf` and `schedule_file` are here too, since each crate of tests loads what it names.
 #![tactic(auto)]
 
 #[cfg(test)]

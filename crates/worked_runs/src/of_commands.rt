@@ -1,4 +1,4 @@
-//! Runs of `replay` over an input in memory: where they end, also where the outside fails; and the events of a number.
+//! Runs of `replay` over an input in memory, also with failing input or output; and the events of a seed.
 use duo_run::{run_bulk, run_replay};
 use fsoe_io::{Ended, MemSink, MemSource, Status, SureSink};
 use schedule_file::{LineBuf, Maker, write_event};
@@ -100,7 +100,7 @@ fn a_call_that_fails_ends_a_replay(rt: HostRuntime) -> Result<(), Fail> {
     Ok(())
 }
 
-/// What is written once the first so many lines are read of an input with one tick or none.
+/// What is written after the first `lines` lines of an input with one tick or none.
 fn written(ticks: bool, lines: usize) -> &'static str {
     match (ticks, lines) {
         (false, 7) => "events 0\nother none\n",
@@ -110,8 +110,8 @@ fn written(ticks: bool, lines: usize) -> &'static str {
     }
 }
 
-/// Whether the replay of an input with one tick or none ends so, of which a byte comes in a call, and the read after so
-/// many bytes fails: after the whole lines that were read, with what is written once they are.
+/// Whether the replay of an input with one tick or none ends as it must: one byte comes in a call, and the read after
+/// `read` bytes fails. It ends after the complete lines that were read, with what is written then.
 fn ends_with_read(alloc: Global, ticks: bool, input: &[u8], read: usize) -> Option<bool> {
     let fails = (read as u64).saturating_add(1);
     let (ended, sink) = run_over(alloc, input, 1, fails, 0)?;
@@ -139,7 +139,7 @@ fn each_read_that_fails_ends_a_replay_after_the_whole_lines(rt: HostRuntime) -> 
     Ok(())
 }
 
-/// The first so many events of a number, each a line.
+/// The first `count` events of a seed, each a line.
 pub(crate) fn events_of(alloc: Global, number: u64, count: u16) -> Result<Vec<u8>, AllocError> {
     let mut text = Vec::new(alloc);
     let mut maker = Maker::new(number);
@@ -152,7 +152,7 @@ pub(crate) fn events_of(alloc: Global, number: u64, count: u16) -> Result<Vec<u8
     Ok(text)
 }
 
-/// How the run of the first 500 events of a number ends, and what it writes.
+/// How the run of the first 500 events of a seed ends, and what it writes.
 fn run_number(alloc: Global, number: u64) -> Option<(Ended, MemSink)> {
     let mut sink = MemSink::new(alloc, 1000, 1000, Vec::new(alloc)).ok()?;
     let ended = run_bulk(number, 500, &mut sink);

@@ -12,8 +12,8 @@ use schedule_file::{ScheduleLine, read_event};
 use std::alloc::Global;
 use std::test::Fail;
 
-/// Two new ends with two data bytes each way, connection 1, address 2, watchdog 100, no parameters, and nonces 1 and 2;
-/// the slave waits so many ticks in a handshake.
+/// Two new ends with two data bytes each way, connection 1, address 2, watchdog 100, no parameters, and nonces 1 and 2.
+/// The slave has the handshake timeout `hand`.
 fn pair(alloc: Global, hand: u16) -> Result<Played, Fail>
     ensures { IfOk result (λ pair. steps_done pair.duo ≤ length pair.entries.items) }
 {
@@ -78,7 +78,7 @@ fn make_untrue(entries: &mut Vec<Entry>, what: Untrue) -> Option<()> {
     Some(())
 }
 
-/// The first unfair entry of so many of a run after the first data.
+/// The first unfair entry among the first `count` of a run after the first data.
 fn unfair_of(alloc: Global, events: &str, count: usize) -> Result<Option<usize>, Fail> {
     let pair = after_first_data(alloc, events)?;
     first_unfair(alloc, pair.entries.get(..count).ok_or("few entries")?)
@@ -123,8 +123,8 @@ fn untrue_entries_are_unfair(rt: HostRuntime) -> Result<(), Fail> {
     Ok(())
 }
 
-/// The first other entry of these, and the number of the item that each end awaits after them. None where both monitors
-/// differ after one of them, or where memory ran out.
+/// The first `other` entry of these, and the number of the item that each end awaits after them. None if the monitors
+/// differ after one of them, or memory ran out.
 fn judged(alloc: Global, entries: &[Entry]) -> Option<(Option<u64>, [Option<u64>; 2])> {
     let mut monitor = Monitor::new();
     let mut plain = ListMonitor::new(alloc);

@@ -95,7 +95,7 @@ fn a_plant_pushes_each_masters_reset_once(rt: HostRuntime) -> Result<(), Fail> {
     Ok(())
 }
 
-/// A script of so many ticks, before each of which the first slave puts other data where they are to change.
+/// A script of `ticks` ticks. If data change, the first slave puts other ones before each tick.
 fn ticking(alloc: Global, ticks: u8, change: bool) -> Result<String, Fail> {
     let mut script = "fsoe 1 plant\n".to_string(alloc)?;
     for tick in 0..ticks {

@@ -53,8 +53,7 @@ fn writes_events(rt: HostRuntime) -> Result<(), Fail> {
     Ok(())
 }
 
-/// The first of these events that isn't the next one of a number, from its first event on, as a line. None where each
-/// is.
+/// The first of these events that isn't the next one of a seed, from its first event on, as a line. None if each is.
 fn first_unlike(number: u64, events: &'static str) -> Option<&'static str> {
     let mut maker = Maker::new(number);
     let mut out = LineBuf::new();

@@ -46,7 +46,7 @@ impl Played {
         Ok(())
     }
 
-    /// Does the first so many events of a number.
+    /// Does the first `count` events of a seed.
     pub(crate) fn number(&mut self, number: u64, count: u16) -> Result<(), Fail>
         requires { steps_done self.old.duo ≤ length self.old.entries.items }
         ensures { IfOk result (λ _. steps_done self.new.duo ≤ length self.new.entries.items) }

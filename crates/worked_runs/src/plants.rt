@@ -1,5 +1,5 @@
-//! The worked plant, in which an emergency stop at the first connection drives a bit of the second: set up and run as a
-//! command does it, over a script in memory.
+//! The worked plant, in which an emergency stop at the first connection drives a bit of the second. It is set up and
+//! run as a command does it, over a script in memory.
 use crate::test_channels::Crossed;
 use black_channel::{Channel, HostileChannel, ListChannel, PerfectChannel};
 use fb_net::{AppEntry, Zeros};

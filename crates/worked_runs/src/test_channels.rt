@@ -7,8 +7,8 @@ use fsoe_base::{End, FrameBuf};
 use fsoe_io::LineText;
 use std::alloc::Global;
 
-/// A channel by the name `crossed` between two connections, which keeps order: what is for the slave of one comes to
-/// the master of the other, and what is for a master to the slave of the other. It tells nothing of itself.
+/// A channel by the name `crossed` between two connections, which keeps order. What is for the slave of one comes to
+/// the master of the other, and what is for a master to the slave of the other. Nothing is known of it.
 #[derive(Drop)]
 pub(crate) struct Crossed {
     channel: PerfectChannel,
