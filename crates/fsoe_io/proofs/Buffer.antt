@@ -1,11 +1,10 @@
 -- Parts of a buffer after a read into its end, and after a line was taken from its front.
-use Rattle.std.proofs.Common.{◌≡◌, ℕ, ◌+◌, subst, slice_index, ◌-◌, ◌≤◌, ◌<◌, List, ◌++◌, length, take, drop, refl, arith, ap, ◌∙◌, sym}
+use Rattle.std.proofs.Common.{◌≡◌, ℕ, ◌+◌, ◌-◌, ◌≤◌, List, ◌++◌, length, take, drop, refl, arith, ap, ◌∙◌, sym}
 use Rattle.std.specs.List.{copy_within}
-use Rattle.std.proofs.lemmas.List.{take-append-le, drop_at, length-take-le, length-take, length-drop, take-take, get_or-take, drop-take, drop-drop, take_at}
+use Rattle.std.proofs.lemmas.List.{take-append-le, drop_at, length-take-le, length-take, length-drop, drop-take, drop-drop, take_at}
 use Rattle.std.proofs.lemmas.Slice.{take-put_mid_below}
 use Rattle.std.proofs.Math.Seq.{take-add}
 use borrow.Rule.Slice.PartMut.{put_mid, post_of}
-use Rattle.fsoe_io.specs.Line.{HasNoNewline}
 
 pub filled : (n m k : ℕ) (xs ys : List ℕ) → n ≤ length xs → m ≤ length ys → take (n + m) (put_mid n k xs ys) ≡ take n xs ++ take m ys
 filled n m k xs ys h j =
@@ -28,11 +27,3 @@ shifted s e xs h j =
     let part : take (e - s) (drop s xs) ≡ take (e - s) (drop s xs) = refl in
     let size : length (take (e - s) (drop s xs)) ≡ e - s = omega (arith, length-take (e - s) (drop s xs), length-drop s xs) in
     take_at (take (e - s) (drop s xs)) (drop (0 + (e - s)) xs) (e - s) size
-
-pub front_line : (n at : ℕ) (bytes : List ℕ) → n ≤ 641 → at < length (take n bytes) → HasNoNewline (take at (take n bytes)) → slice_index (take n bytes) at ≡ 10
-    → (at ≤ 640) × (at < length bytes) × HasNoNewline (take at bytes) × (slice_index bytes at ≡ 10)
-front_line n at bytes small lt none is =
-    let below : at < n = omega (arith, length-take n bytes) in
-    let le : at ≤ n = omega arith in
-    let same : take at (take n bytes) ≡ take at bytes = take-take at n bytes le in
-    (omega arith, omega (arith, length-take n bytes), subst HasNoNewline same none, sym (get_or-take n bytes at 0 below) ∙ is)

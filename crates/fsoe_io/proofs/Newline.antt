@@ -1,49 +1,30 @@
 -- A search for the byte that ends a line.
-use lib.Count.{count_trailing_zeros}
-use lib.Lanes.{mask_l}
-use Rattle.std.proofs.Common.{◌≡◌, ℕ, ◌+◌, ◌≤◌, ◌<◌, List, length, take, get_or, map, not, inl, inr, arith, ap, ◌∙◌}
+use Rattle.std.proofs.Common.{◌≡◌, ℕ, ◌≤◌, ◌<◌, List, length, take, get_or, arith, ap, ◌∙◌}
 use Rattle.std.specs.Prelude.{None, Some}
-use Rattle.std.specs.declared.option.Option.{Option}
-use Rattle.std.specs.List.{prefix_len}
-use Rattle.std.proofs.lemmas.List.{get_or-take, get_or_default, length-take, length-take-le}
-use Rattle.std.proofs.lemmas.Bool.{cases_eq, false_from_ne_true, eqb-true}
-use Rattle.std.proofs.lemmas.Simd.{trailing_mask_l, run_in_chunk_fails, run_in_chunk_stops}
+use Rattle.std.proofs.lemmas.List.{get_or-take, get_or_default, length-take}
+use Rattle.std.proofs.lemmas.Bool.{false_from_ne_true, eqb-true}
 use Rattle.memchr.specs.Find.{Nowhere, Passes, IsFirstByte, is_byte}
-use Rattle.fsoe_io.specs.Line.{is_newline, HasNoNewline}
-use Rattle.fsoe_io.specs.LineReader.{Finds}
+use Rattle.fsoe_io.specs.Line.{is_newline, HasNoNewline, IsLine}
+use Rattle.fsoe_io.specs.LineReader.{BeginsAs, IsTooLong}
+use Rattle.fsoe_io.specs.declared.line_reader.Front.TheVariants as front_as
 
--- the lanes before the first that is a newline
-counted : (near : List ℕ) (marks : ℕ) → length near ≡ 32 → marks ≡ mask_l (map is_newline near) → count_trailing_zeros 64 marks < 32 → count_trailing_zeros 64 marks ≡ prefix_len (λ b. not (is_newline b)) near
-unfolding count_trailing_zeros
-counted near marks long is short =
-    elim (cases_eq marks 0) [
-      | inl none ↦ absurd (omega (arith, ap (count_trailing_zeros 64) none, short))
-      | inr some ↦ ap (count_trailing_zeros 64) is ∙ trailing_mask_l is_newline 64 near (omega arith) (omega (arith, is))
-    ]
-
--- the lowest mark of 32 lanes is at the first newline
-pub near_found : (bytes : List ℕ) (marks : ℕ) → 32 ≤ length bytes → marks ≡ mask_l (map is_newline (take 32 bytes)) → count_trailing_zeros 64 marks < 32 → Finds (Some (count_trailing_zeros 64 marks)) bytes
-near_found bytes marks room is short =
-    let at : ℕ = count_trailing_zeros 64 marks in
-    let first = counted (take 32 bytes) marks (length-take-le 32 bytes room) is short in
-    let within : 0 + 32 ≤ length bytes = omega (arith, room) in
-    let from_0 : at ≡ 0 + at = omega arith in (
-      omega (arith, room, short),
-      λ k d lt.
-          let below : k < at = omega (arith, lt, length-take at bytes) in
-          ap is_newline (get_or-take at bytes k d below) ∙ run_in_chunk_fails is_newline bytes 0 32 at d within first k (omega arith) (omega (arith, below)),
-      eqb-true _ _ (ap (λ (n : ℕ). is_newline (get_or bytes n 0)) from_0 ∙ run_in_chunk_stops is_newline bytes 0 32 at 0 within first short),
-    )
-
--- none of the first n bytes is found
 none_found : (bytes : List ℕ) (n : ℕ) → n ≤ length bytes → Nowhere (Passes (is_byte 10) bytes) 0 n → HasNoNewline (take n bytes)
 none_found bytes n fits none =
     λ k d lt.
-    let below : k < n = omega (arith, length-take n bytes) in
-    let within : k < length bytes = omega arith in
-    let same : get_or (take n bytes) k d ≡ get_or bytes k 0 = get_or-take n bytes k d below ∙ get_or_default bytes k d 0 within in
+    let below : k < n = omega (arith, lt, length-take n bytes) in
+    let same : get_or (take n bytes) k d ≡ get_or bytes k 0 = get_or-take n bytes k d below ∙ get_or_default bytes k d 0 (omega arith) in
     ap is_newline same ∙ false_from_ne_true _ (none k (omega arith) below)
 
-pub first_found : (found : Option ℕ) (bytes : List ℕ) → IsFirstByte (is_byte 10) bytes found → Finds found bytes
-first_found None bytes none = λ k d lt. ap is_newline (get_or_default bytes k d 0 lt) ∙ false_from_ne_true _ (none k (omega arith) lt)
-first_found (Some at) bytes first = (first.0.high, none_found bytes at (omega (arith, first.0.high)) first.0.before, eqb-true _ _ first.1)
+pub near : (at : ℕ) (bytes : List ℕ) → IsFirstByte (is_byte 10) bytes (Some at) → at ≤ 640 → BeginsAs (front_as.Line at) bytes
+near at bytes first small = (small, first.0.high, none_found bytes at (omega (arith, first.0.high)) first.0.before, eqb-true _ _ first.1)
+
+pub far : (at : ℕ) (bytes : List ℕ) → IsFirstByte (is_byte 10) bytes (Some at) → 640 < at → IsTooLong bytes
+far at bytes first past =
+    (omega (arith, first.0.high), none_found bytes 641 (omega (arith, first.0.high)) (λ k low lt. first.0.before k low (omega arith)))
+
+pub nowhere : (bytes : List ℕ) → IsFirstByte (is_byte 10) bytes None → 640 < length bytes → IsTooLong bytes
+nowhere bytes none long = (omega arith, none_found bytes 641 (omega arith) (λ k low lt. none k low (omega arith)))
+
+pub nowhere_yet : (bytes : List ℕ) → IsFirstByte (is_byte 10) bytes None → length bytes ≤ 640 → IsLine bytes
+nowhere_yet bytes none short =
+    (short, λ k d lt. ap is_newline (get_or_default bytes k d 0 lt) ∙ false_from_ne_true _ (none k (omega arith) lt))

@@ -56,11 +56,6 @@ Blames (Err Long) before now = Unit {0}
 Blames (Err NoNewline) before now = Unit {0}
 Blames (Ok line) before now = Unit {0}
 
--- the first newline, if there is one
-abbrev pub Finds : Option ℕ → List ℕ → Type 0
-Finds (Some at) bytes = (at < length bytes) × HasNoNewline (take at bytes) × (slice_index bytes at ≡ 10)
-Finds None bytes = HasNoNewline bytes
-
 -- held bytes begin with a line of this length, with more than a line may have, or with neither
 abbrev pub BeginsAs : front.Front → List ℕ → Type 0
 BeginsAs (front_as.Line len) bytes = (len ≤ 640) × (len < length bytes) × HasNoNewline (take len bytes) × (slice_index bytes len ≡ 10)

@@ -3,13 +3,12 @@ ghost use Rattle.std.specs.Prelude.{◌≡◌, ◌+◌, ◌-◌, ◌^◌, ◌≤
 ghost use Rattle.std.specs.Io.KnownBytes.{prepend_known};
 ghost use Rattle.fsoe_io.specs.Faults.{HasCause};
 ghost use Rattle.fsoe_io.specs.Line.{IsLine};
-ghost use Rattle.fsoe_io.specs.LineReader.{Reads, given, last_line, BeginsAs, Finds, Fills, Counts, Blames, Stalls};
+ghost use Rattle.fsoe_io.specs.LineReader.{Reads, given, last_line, BeginsAs, Fills, Counts, Blames, Stalls};
 
 use crate::line::{Line, LineFault};
 use crate::source::{Failed, Source};
 use memchr::memchr;
 use std::marker::Model;
-use std::simd::prelude::*;
 
 /// The most bytes of a line, without its newline.
 const MOST: usize = 640;
@@ -25,36 +24,14 @@ enum Front {
     Open,
 }
 
-/// The first newline, where there is one among the first 32 bytes.
-fn near_newline(bytes: &[u8]) -> Option<usize>
-    requires { 32 ≤ length bytes.now }
-    ensures { IfSome result (λ at. Finds (Some at) bytes.now) }
-{
-    let near = u8x32::from_slice(bytes);
-    let newlines = near.simd_eq(u8x32::splat(b'\n')).to_bitmask();
-    let at = newlines.trailing_zeros() as usize;
-    if at < 32 { Some(at) } else { None }
-}
-
-/// The first newline, which is mostly near.
-fn newline(bytes: &[u8]) -> Option<usize>
-    ensures { Finds result bytes.now }
-{
-    if bytes.len() >= 32 {
-        if let Some(at) = near_newline(bytes) {
-            return Some(at);
-        }
-    }
-    memchr(b'\n', bytes)
-}
-
+#[tactic(auto, using(crate::proofs::Newline::near, crate::proofs::Newline::nowhere_yet))]
 fn begins(bytes: &[u8]) -> Front
     ensures { BeginsAs result bytes.now }
 {
-    let seen = &bytes[..bytes.len().min(MOST + 1)];
-    match newline(seen) {
-        Some(at) => Front::Line(at),
-        None if seen.len() > MOST => Front::Long,
+    match memchr(b'\n', bytes) {
+        Some(at) if at <= MOST => Front::Line(at),
+        Some(_) => Front::Long,
+        None if bytes.len() > MOST => Front::Long,
         None => Front::Open,
     }
 }
