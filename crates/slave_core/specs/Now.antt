@@ -1,14 +1,15 @@
 -- What the tests of a frame, the watchdog and the readers ask of the state of a slave.
-use Rattle.std.specs.Prelude.{ℕ, ◌==◌, Bool, true, false, not, List, replicate, Option, Some, None, if◌then◌else◌}
+use Rattle.std.specs.Prelude.{◌≡◌, ℕ, ◌==◌, Bool, true, false, not, IsTrue, List, replicate, Option, Some, None, if◌then◌else◌}
 use Rattle.fsoe_base.specs.declared.command.Command.{Command}
 use Rattle.fsoe_base.specs.declared.command.Command.TheVariants as command
 use Rattle.fsoe_base.specs.declared.command.State.{State}
 use Rattle.fsoe_base.specs.declared.command.State.TheVariants as state
 use Rattle.fsoe_base.specs.declared.command.Code.{Code}
 use Rattle.seq_chain.specs.declared.chain.Chain.{Chain}
+use Rattle.seq_chain.specs.declared.link.Link.{Link}
 use Rattle.seq_chain.specs.declared.session.Session.{Session}
 use Rattle.seq_chain.specs.Chain.{fits_next}
-use Rattle.seq_chain.specs.Session.{chain_in, last_in, session_fault}
+use Rattle.seq_chain.specs.Session.{HasPassed, chain_in, last_in, session_fault}
 use Rattle.seq_chain.specs.SessionFrame.{SessionFrameView}
 use Rattle.param_load.specs.declared.slave_settings.SlaveSettings.{SlaveSettings}
 use Rattle.param_load.specs.declared.terms.Terms.{Terms}
@@ -105,3 +106,11 @@ outputs_in settings _ = replicate (receives (OfSlave settings)) 0
 abbrev pub terms_shown_in : Now → Option Terms
 terms_shown_in (now.Data s) = Some s.terms
 terms_shown_in _ = None
+
+-- a frame that passed the tests in a state of this name, where no payload is still to come: it begins the next phase
+pub record BeginsNext (settings : SlaveSettings) (name : State) (now : Now) (f : SessionFrameView) (link : Link) : Type 0 where
+  pub name_is : state_of now ≡ name
+  pub begins : IsTrue (begins now)
+  pub allowed : IsTrue (allows now f.command)
+  pub under : IsUnder settings now
+  pub passed : HasPassed (receives (OfSlave settings)) (chain_of now) f link

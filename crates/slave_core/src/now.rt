@@ -23,9 +23,10 @@ impl Now {
     ghost use Rattle.seq_chain.specs.Chain.{tested};
     ghost use Rattle.seq_chain.specs.Session.{HasPassed, is_repeat};
     ghost use Rattle.end_model.specs.Setup.{OfSlave, receives};
-    ghost use Rattle.slave_core.specs.Now.{IsUnder, state_of, is_reset, begins, session_of, chain_of, kept_in, allows, has_conn, limit_of, terms_shown_in, fault};
+    ghost use Rattle.fsoe_base.specs.declared.command.State.TheVariants as state;
+    ghost use Rattle.slave_core.specs.Now.{IsUnder, BeginsNext, state_of, is_reset, session_of, chain_of, kept_in, allows, has_conn, limit_of, terms_shown_in, fault};
     ghost use Rattle.slave_core.specs.States.{or_reset};
-    ghost use Rattle.slave_core.specs.Taken.{next_state, reply};
+    ghost use Rattle.slave_core.specs.Taken.{Advances, next_state, reply};
 
     pub(crate) fn state(&self) -> State
         ensures { result ≡ state_of self.now }
@@ -139,46 +140,74 @@ impl Now {
         }
     }
 
-    /// The state that begins with this frame, which passed the tests, by the transition to it.
-    fn begin(self, seen: &Seen<'_>, kit: &Kit, out: &mut FrameBuf) -> Result<Now, (InReset, Code)>
-        requires allowed { IsTrue (allows self seen.now.frame.command) }
-        requires begins { IsTrue (begins self) }
-        requires under { IsUnder kit.now.settings self }
-        requires passed { HasPassed (receives (OfSlave kit.now.settings)) (chain_of self) seen.now.frame seen.now.link }
-        ensures next { result ≡ next_state kit.now self seen.now.frame }
-        ensures sent { OnOk result (out.new ≡ reply kit.now self seen.now.frame) }
-        ensures under { IfOk result (λ next. IsUnder kit.now.settings next) }
-    {
-        Ok(match self {
-            Now::Reset(state) => Now::Session(state.start(seen, kit, out)?),
-            Now::Session(state) => Now::Connection(state.connect(seen, kit, out)?),
-            Now::Connection(state) => Now::Parameter(state.load(seen, kit, out)?),
-            Now::Parameter(state) => Now::Data(state.run(seen, kit, out)?),
-            Now::Data(state) => Now::Data(state.more(seen, kit, out)?),
-        })
-    }
+    // A function clears the room of all its locals: each change of phase, which moves states, has one of its own.
 
-    /// Begins the next state in place of this one, or state Reset after a refusal.
-    // A function clears the room of all its locals: what moves a state isn't to burden what goes on in place.
+    /// Begins state Session in place of Reset, by `InReset::start`.
     #[inline(never)]
-    fn change(&mut self, seen: &Seen<'_>, kit: &Kit, out: &mut FrameBuf) -> Result<(), Code>
-        requires allowed { IsTrue (allows self.old seen.now.frame.command) }
-        requires begins { IsTrue (begins self.old) }
-        requires under { IsUnder kit.now.settings self.old }
-        requires passed { HasPassed (receives (OfSlave kit.now.settings)) (chain_of self.old) seen.now.frame seen.now.link }
-        ensures next { or_reset result self.new ≡ next_state kit.now self.old seen.now.frame }
-        ensures sent { OnOk result (out.new ≡ reply kit.now self.old seen.now.frame) }
-        ensures under { IsUnder kit.now.settings self.new }
+    fn start(&mut self, seen: &Seen<'_>, kit: &Kit, out: &mut FrameBuf) -> Result<(), Code>
+        requires { BeginsNext kit.now.settings state.Reset self.old seen.now.frame seen.now.link }
+        ensures { Advances kit.now self.old seen.now.frame result self.new out.new }
     {
-        match mem::replace(self, Now::Reset(InReset::new())).begin(seen, kit, out) {
+        match InReset::new().start(seen, kit, out) {
             Ok(next) => {
-                *self = next;
+                *self = Now::Session(next);
                 Ok(())
             }
-            Err((reset, code)) => {
-                *self = Now::Reset(reset);
-                Err(code)
+            Err((_, code)) => Err(code),
+        }
+    }
+
+    /// Begins state Connection in place of Session, by `InSession::connect`.
+    #[inline(never)]
+    fn connect(&mut self, seen: &Seen<'_>, kit: &Kit, out: &mut FrameBuf) -> Result<(), Code>
+        requires { BeginsNext kit.now.settings state.Session self.old seen.now.frame seen.now.link }
+        ensures { Advances kit.now self.old seen.now.frame result self.new out.new }
+    {
+        let Now::Session(state) = mem::replace(self, Now::Reset(InReset::new())) else {
+            unreachable!();
+        };
+        match state.connect(seen, kit, out) {
+            Ok(next) => {
+                *self = Now::Connection(next);
+                Ok(())
             }
+            Err((_, code)) => Err(code),
+        }
+    }
+
+    /// Begins state Parameter in place of Connection, by `InConnection::load`.
+    #[inline(never)]
+    fn load(&mut self, seen: &Seen<'_>, kit: &Kit, out: &mut FrameBuf) -> Result<(), Code>
+        requires { BeginsNext kit.now.settings state.Connection self.old seen.now.frame seen.now.link }
+        ensures { Advances kit.now self.old seen.now.frame result self.new out.new }
+    {
+        let Now::Connection(state) = mem::replace(self, Now::Reset(InReset::new())) else {
+            unreachable!();
+        };
+        match state.load(seen, kit, out) {
+            Ok(next) => {
+                *self = Now::Parameter(next);
+                Ok(())
+            }
+            Err((_, code)) => Err(code),
+        }
+    }
+
+    /// Begins state Data in place of Parameter, by `InParameter::run`.
+    #[inline(never)]
+    fn run(&mut self, seen: &Seen<'_>, kit: &Kit, out: &mut FrameBuf) -> Result<(), Code>
+        requires { BeginsNext kit.now.settings state.Parameter self.old seen.now.frame seen.now.link }
+        ensures { Advances kit.now self.old seen.now.frame result self.new out.new }
+    {
+        let Now::Parameter(state) = mem::replace(self, Now::Reset(InReset::new())) else {
+            unreachable!();
+        };
+        match state.run(seen, kit, out) {
+            Ok(next) => {
+                *self = Now::Data(next);
+                Ok(())
+            }
+            Err((_, code)) => Err(code),
         }
     }
 
@@ -200,24 +229,24 @@ impl Now {
         ensures under { IsUnder kit.now.settings self.new }
     {
         match self {
-            Now::Reset(_) => self.change(seen, kit, out),
+            Now::Reset(_) => self.start(seen, kit, out),
             Now::Session(state) => {
                 if state.upload.is_whole() {
-                    self.change(seen, kit, out)
+                    self.connect(seen, kit, out)
                 } else {
                     state.answer(seen, kit, out)
                 }
             }
             Now::Connection(state) => {
                 if state.upload.is_whole() {
-                    self.change(seen, kit, out)
+                    self.load(seen, kit, out)
                 } else {
                     state.answer(seen, kit, out)
                 }
             }
             Now::Parameter(state) => {
                 if state.upload.is_whole() {
-                    self.change(seen, kit, out)
+                    self.run(seen, kit, out)
                 } else {
                     state.answer(seen, kit, out)
                 }

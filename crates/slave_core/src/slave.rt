@@ -36,7 +36,10 @@ impl Slave {
     ghost use Rattle.seq_chain.specs.Session.{HasPassed};
     ghost use Rattle.param_load.specs.Profile.{allows_id};
     ghost use Rattle.slave_core.specs.Now.{allows, chain_of, outputs_in};
-    ghost use Rattle.slave_core.specs.Slave.{fallen, falls, refuses, refuses_contents, reset_by_peer, taken, on_session, on_frame, tick_of};
+    ghost use Rattle.failsafe_io.specs.Timer.{started};
+    ghost use Rattle.slave_core.specs.declared.now.Now.TheVariants as now;
+    ghost use Rattle.slave_core.specs.States.{no_session};
+    ghost use Rattle.slave_core.specs.Slave.{falls, refuses, refuses_contents, reset_by_peer, taken, on_session, on_frame, tick_of};
     ghost use Rattle.param_load.specs.declared.entry.Move.TheVariants as event;
     ghost use Rattle.end_model.specs.Setup.{OfSlave, sends, receives};
     ghost use Rattle.end_model.specs.Readiness as model;
@@ -64,21 +67,23 @@ impl Slave {
         ensures did { did.new ≡ (falls self.old passed why code).did }
         ensures sent { out.new ≡ (falls self.old passed why code).sent }
     {
-        self.forget();
+        Slave::forget(&mut self.state, &mut self.watchdog, &self.kit);
         reset_frame(code, self.kit.settings().own_len(), out);
         *did = Did::reset(passed, why);
     }
 
+    /// Leaves the session, if there is one.
     #[cold]
     #[inline(never)]
-    fn forget(&mut self)
-        ensures { self.new ≡ fallen self.old }
+    fn forget(state: &mut Now, watchdog: &mut Watchdog, kit: &Kit)
+        ensures state { state.new ≡ now.Reset no_session }
+        ensures timer { watchdog.new ≡ started kit.now.settings.hand }
     {
-        if !self.state.is_reset() {
-            self.state = Now::Reset(InReset::new());
+        if !state.is_reset() {
+            *state = Now::Reset(InReset::new());
         }
-        let hand = self.kit.settings().hand();
-        self.watchdog.restart(hand);
+        let hand = kit.settings().hand();
+        watchdog.restart(hand);
     }
 
     /// A test of a frame failed with this code: in state Reset the frame is dropped. `passed` says whether it was one of the
@@ -114,7 +119,7 @@ impl Slave {
                 load: Image::new(),
             };
             view.load_into(&mut took.load);
-            self.forget();
+            Slave::forget(&mut self.state, &mut self.watchdog, &self.kit);
             reset_frame(Code::LOCAL_RESET, self.kit.settings().own_len(), out);
             *did = Did::taken(took, false);
             return;
@@ -134,10 +139,7 @@ impl Slave {
         let Now::Data(state) = &mut self.state else {
             let was_reset = self.state.is_reset();
             if let Err(code) = self.state.advance(seen, &self.kit, out) {
-                // The state may be Reset by now, in which no tick is counted.
-                let hand = self.kit.settings().hand();
-                self.watchdog.restart(hand);
-                self.forget();
+                Slave::forget(&mut self.state, &mut self.watchdog, &self.kit);
                 return Err((was_reset, code));
             }
             let limit = self.state.limit(&self.kit);
@@ -145,7 +147,7 @@ impl Slave {
             return Ok(());
         };
         if let Err(code) = state.answer(seen, &self.kit, out) {
-            self.forget();
+            Slave::forget(&mut self.state, &mut self.watchdog, &self.kit);
             return Err((false, code));
         }
         let limit = state.terms.watchdog;
