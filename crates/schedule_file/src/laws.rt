@@ -38,8 +38,8 @@ pub fn written_is_read()
     ensures { (sends : End → ℕ) (profiles : End → Profile) (event : Event) → IsOfTypes event → Fits sends profiles event → pair_line sends profiles (event_text event) ≡ Ok (Step event) }
 {}
 
-/// An event line of a pair, written with the number of another pair before it, means the same for that one, if the
-/// lengths and the profiles of their ends are equal.
+/// An event line of a pair, written with the number of another pair before it, means the same for that one, if its ends
+/// have equal lengths and profiles.
 pub fn numbered_lines_say_the_same()
     ensures { (sends : List (End → ℕ)) (profiles : List (End → Profile)) (pair : ℕ) (own : End → ℕ) (profile : End → Profile) (text : List ℕ) (event : Event) → pair < 65536
         → numbered pair sends ≡ Some own → numbered pair profiles ≡ Some profile → pair_line own profile text ≡ Ok (Step event) → pairs_line sends profiles (with_pair pair text) ≡ Ok (One pair event) }
