@@ -56,8 +56,8 @@ impl Block {
         }
     }
 
-    /// Takes the next cycle, with as many inputs as a block of this kind may have, and gives the block's output in it. `ticked` says
-    /// whether the cycle counts as one unit of time.
+    /// Takes the next cycle, with as many inputs as a block of this kind may have, and returns the block's output in
+    /// it. `ticked` says whether the cycle counts as one unit of time.
     #[tactic(auto, using(crate::proofs::Looking::follows_by, crate::proofs::Looking::gives_by))]
     pub fn step(&mut self, ticked: bool, ins: &[bool]) -> bool
         requires { IsTrue (takes self.old.kind (length ins.now)) }

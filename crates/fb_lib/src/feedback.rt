@@ -4,7 +4,7 @@ ghost use Rattle.fb_lib.specs.Steps.{next_feedback};
 
 use crate::delays::risen;
 
-/// Whether the output is on, for how many ticked cycles the contactor hasn't followed it, and whether that was too long.
+/// Whether the output is on, for how many ticked cycles the contactor hasn't followed, and whether that was too long.
 #[derive(Debug, Drop)]
 pub(crate) struct Feedback {
     on: bool,
@@ -23,7 +23,7 @@ impl Feedback {
         }
     }
 
-    /// Tells whether the contactor is switched on: where `cmd` is true, and it hasn't been late since it was last released
+    /// Returns true if the contactor is switched on: `cmd` is true, and it hasn't been late since it was last released
     /// without `cmd`. `fb` is true while it is released.
     pub(crate) fn step(&mut self, n: u16, ticked: bool, cmd: bool, fb: bool) -> bool
         ensures next { self.new ≡ next_feedback n self.old ticked cmd fb }

@@ -18,14 +18,14 @@ pub enum BlockKind {
     Latch,
     /// Inputs `input` and `ack`. True from a rise of `ack` on, while `input` is true.
     Estop,
-    /// Inputs `a` and `b`, the buttons of a two-hand control. True while both are pressed, where neither was before, and then
-    /// exactly one was for at most `n` ticked cycles.
+    /// Inputs `a` and `b`, the buttons of a two-hand control. True while both are pressed, if neither was before, and
+    /// then exactly one was for at most `n` ticked cycles.
     TwoHand,
     /// Input `x`. True where `x` has been true for at least `n` ticked cycles.
     OnDelay,
     /// Input `x`. True where `x` is, and until the `n`-th ticked cycle after.
     OffDelay,
-    /// Inputs `cmd` and `fb`, the feedback of a contactor, true while it is released. True where `cmd` is, unless the contactor
-    /// didn't follow the output for more than `n` ticked cycles and hasn't been released without `cmd` since.
+    /// Inputs `cmd` and `fb`, the feedback of a contactor, true while it is released. True if `cmd` is, unless the
+    /// contactor didn't follow the output for more than `n` ticked cycles and hasn't been released without `cmd` since.
     Feedback,
 }

@@ -6,8 +6,8 @@ use failsafe_io::Bit;
 pub enum NetFault {
     /// The block may not have so many inputs. Blocks are numbered from 1.
     Arity { block: u16 },
-    /// A wire of this block reads the block itself, a later one, or one that doesn't exist. Block 0 stands for a drive, whose wire
-    /// reads a block that doesn't exist.
+    /// A wire of this block reads the block itself, a later one, or one that doesn't exist. Block 0 stands for a drive,
+    /// whose wire reads a block that doesn't exist.
     Later { block: u16 },
     /// A wire names a bit that no input image has.
     NoInput { bit: Bit },

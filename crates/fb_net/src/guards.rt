@@ -1,5 +1,5 @@
-//! Which output bits of a net are guarded by which input bits, by cases on the blocks. A guarded bit is 0 whenever its input bit is;
-//! not every such bit is guarded.
+//! Which output bits of a net are guarded by which input bits, by cases on the blocks. A guarded bit is 0 whenever its
+//! input bit is; not every such bit is guarded.
 ghost use Rattle.std.specs.Prelude.{◌≡◌, ◌≤◌, false, not, ◌||◌, map, length, get_or};
 ghost use Rattle.std.specs.List.{list_all, list_any};
 ghost use Rattle.fb_lib.specs.Guarded.{is_guarded};

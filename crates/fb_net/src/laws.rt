@@ -25,8 +25,8 @@ pub fn calls()
         → NetStands first [] → Called first e outputs last → NetStands last (cycles_of e) }
 {}
 
-/// The rule of a new net says the same: from what it holds, after any calls, its answer to one more is what looking back over the
-/// cycles says.
+/// The rule of a new net gives the same: from what it holds after any calls, its answer to one more is that of the
+/// definition over the cycles.
 pub fn rule()
     ensures { (v : NetView) (a : Call) (e : List Call) → AllReady v.blocks → NetStands v []
         → (rule_of v (held_after (rule_of v) (net_holds v) e) a.cycle.ticked a.cycle.inputs a.lens).outputs

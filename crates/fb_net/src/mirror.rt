@@ -6,7 +6,7 @@ use crate::guards::is_same_bit;
 use failsafe_io::{Application, Bit};
 use fsoe_base::Image;
 
-/// Gives each connection its input bytes as its outputs where both are there, and 0 elsewhere. It guards each output bit by
+/// Gives each connection its input bytes as its outputs where both exist, and 0 elsewhere. It guards each output bit by
 /// the same input bit.
 #[derive(Debug, Drop)]
 pub struct Mirror;

@@ -44,10 +44,10 @@ impl Net {
     ghost use Rattle.fb_net.specs.Ready.{AllReady};
     ghost use Rattle.fb_net.specs.Standing.{NetStands};
 
-    /// A net of at most 256 blocks, which have had no cycle yet, and of drives, where `ins` and `outs` are the lengths in bytes of
-    /// the input and output images of each connection. Refused with the first fault: of the blocks in their order, each by its
-    /// number of inputs and then wire by wire; then of the drives in their order, each by its bit (that there is one, that no
-    /// earlier drive sets it) and then by its wire. It takes no memory.
+    /// Creates a net of at most 256 blocks, which have had no cycle yet, and of drives. `ins` and `outs` are the
+    /// lengths in bytes of the input and output images of each connection. The first fault is returned: first of the
+    /// blocks in their order, each by its number of inputs and then wire by wire. Then of the drives in their order:
+    /// the bit doesn't exist, an earlier drive sets it, or the wire is wrong. Doesn't allocate.
     pub fn new(
         blocks: Vec<BlockSpec>,
         drives: Vec<Drive>,

@@ -25,8 +25,8 @@ pub trait Machine: Drop {
     // What the command reports of its inputs, by what it was handed.
     ghost reporting: { Self.Handed → Reporting Self.Format.Header Self.Format.Line Self.Format.Event };
 
-    // Handed this first and now that, it was set to what a header says, and did these events, of which this is the whole text: what it wrote
-    // and what waits.
+    // Handed this first and now that, it has the settings of a header and did these events. This is their whole text:
+    // what it wrote and what is pending.
     ghost stands: { Self.Handed → Self → Self.Handed → Self.Format.Header → List Self.Format.Event → List ℕ → Type 0 };
 
     // What is still to be written of the last event, or of the end.
@@ -35,7 +35,8 @@ pub trait Machine: Drop {
     // In how many parts that comes at most.
     ghost parts: { Self → Self.Handed → ℕ };
 
-    // Handed this first and now that, it did these events after this header: then this is the whole report, and the run ends so.
+    // Handed this first and now that, it did these events after this header: then this is the whole report and the
+    // ending.
     ghost closes: { Self.Handed → Self.Handed → Self.Format.Header → List Self.Format.Event → List ℕ → Ended → Type 0 };
 
     /// States the laws of the reports, which each machine proves. The call does nothing: the laws are its contract.

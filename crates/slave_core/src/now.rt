@@ -99,8 +99,8 @@ impl Now {
         }
     }
 
-    /// Tests a frame of a session: its command, its connection id, and its CRCs. It gives what is noted of the frame when
-    /// it is taken, or the code of the first test that fails.
+    /// Tests a frame of a session: its command, its connection id, and its CRCs. Returns the values to store when it is
+    /// taken, or the code of the first test that fails.
     pub(crate) fn test(&self, frame: &SessionFrame<'_>) -> Result<Link, Code>
         ensures code { result_err result ≡ fault self.now frame.now }
         ensures link { IfOk result (λ link. tested (chain_of self.now) frame.now.frame ≡ Some link) }
@@ -211,8 +211,8 @@ impl Now {
         }
     }
 
-    /// Takes a frame that passed the tests in this state: a phase goes on in place until its payload is whole, and then the
-    /// next one begins. After a refusal the state is only left.
+    /// Takes a frame that passed the tests in this state: a phase goes on in place until its payload is complete, and
+    /// then the next one begins. After a refusal the state must only be left.
     #[tactic(auto, using(crate::proofs::Transitions::stays_in_session, crate::proofs::Transitions::stays_in_connection, crate::proofs::Transitions::stays_in_parameter, crate::proofs::Transitions::stays_in_data))]
     #[inline(never)]
     pub(crate) fn advance(

@@ -86,8 +86,8 @@ impl Slave {
         watchdog.restart(hand);
     }
 
-    /// A test of a frame failed with this code: in state Reset the frame is dropped. `passed` says whether it was one of the
-    /// contents.
+    /// A test of a frame failed with this code: in state Reset the frame is dropped. `passed` says whether it was a
+    /// test of the contents.
     #[cold]
     #[inline(never)]
     fn refuse(&mut self, passed: bool, code: Code, did: &mut Did, out: &mut FrameBuf)

@@ -23,8 +23,8 @@ pub enum Stage {
     Done,
 }
 
-/// A header that is read line by line, without newlines: `fsoe 1 trace`, `lengths <master> <slave>` and `go`. The fields of a line are
-/// separated by exactly one space.
+/// A header that is read line by line, without newlines: `fsoe 1 trace`, `lengths <master> <slave>` and `go`. The
+/// fields of a line are separated by exactly one space.
 #[derive(Drop)]
 pub struct TraceHeader {
     stage: Stage,
@@ -81,8 +81,9 @@ impl TraceHeader {
         self.lengths
     }
 
-    /// Reads the next line: true exactly at `go`, which ends the header. An error is the first of these causes that applies to the line:
-    /// `Header` where its first word may not stand here, `Fields`, `Number`, `Length`. After an error no line is to be read.
+    /// Reads the next line. Returns true if and only if it is `go`, which ends the header. An error is the first of
+    /// these causes that applies: `Header` if its first word isn't allowed here, `Fields`, `Number`, `Length`. Read no
+    /// line after an error.
     pub fn line(&mut self, line: &[u8]) -> Result<bool, LineCause>
         ensures next { Becomes result self.new (trace_heading_after self.old line.now) }
         ensures done { IfOk result (λ done. done ≡ trace_is_whole self.new) }

@@ -24,7 +24,8 @@ use std::marker::Model;
 /// The first bytes of a payload, with room for one more piece.
 type Head = ByteList<132>;
 
-/// Room for what is made of a frame while it is judged, kept from one frame to the next: its safe data, and the frame that is due in its place.
+/// Room for what is made of a frame while it is judged: its safe data, and the frame that is due in its place. It is
+/// kept from one frame to the next.
 #[derive(Drop)]
 pub(crate) struct Room {
     load: Image,
@@ -231,7 +232,8 @@ impl Known {
         )
     }
 
-    /// The first group whose CRC isn't that of the chain. Where none is, the chain goes on. The frame that is due is made in `made`.
+    /// The first group whose CRC isn't that of the chain; if none is, the chain goes on. The due frame is made in
+    /// `made`.
     #[tactic(auto, using(crate::proofs::DueMade::due_long, crate::proofs::DueMade::due_same_many, crate::proofs::DueMade::due_crcs, crate::proofs::DueMade::own_frame, crate::proofs::DueMade::chain_same))]
     fn take_crcs(
         &mut self,

@@ -8,9 +8,9 @@ ghost use Rattle.trace_diag.specs.Trace.{Noted};
 ghost use Rattle.trace_diag.specs.Verdicts.{DiffersFirst};
 ghost use Rattle.trace_diag.specs.WorkedTraces.{FirstData, FirstFrames, Altered, LockStep, Rows, OtherLengths, EachByte, LaterGroups, CutWords, SteppedNumber};
 
-/// Worked traces: a handshake with the first data, its first frames, and altered ones; each row of the table; frames of another
-/// length; each byte of the handshake altered; what ends send in lock step over frames of other lengths; and rows in frames of several
-/// groups, in words that are cut between frames, and at a number that is stepped once more.
+/// Worked traces: a handshake with the first data, its first frames, altered ones, and each byte of it altered. Each
+/// row of the table, and frames of other lengths, also as ends send them in lock step. Rows in frames of several
+/// groups, in parameters that are cut between frames, and at a number with the extra increment.
 pub fn worked_traces()
     ensures first_data { FirstData }
     ensures first_frames { FirstFrames }

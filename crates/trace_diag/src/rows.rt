@@ -24,7 +24,7 @@ pub(crate) fn is_of(phase: State, command: Option<Command>) -> bool
     }
 }
 
-/// Whether a connection id is as it must be in a phase, where the first Connection frame had this one, if there was one.
+/// Returns true if a connection id is as it must be in a phase; `first` is that of the first Connection frame, if any.
 pub(crate) fn conn_holds(phase: State, first: Option<u16>, conn: u16) -> bool
     ensures { result ≡ conn_holds phase first conn }
 {
@@ -108,8 +108,8 @@ fn payload_holds(phase: State, conn: u16, parameters: &[u8], place: usize, byte:
     }
 }
 
-/// The first place of a frame's safe data where a byte isn't as it must be, which carries a piece of c bytes of a payload, from a place of that
-/// on. The parameters are those up to the frame's last byte.
+/// The first wrong byte of a frame's safe data. They carry a piece of `c` bytes of a payload, from its place `from` on.
+/// The parameters are those up to the frame's last byte.
 pub(crate) fn wrong_in_piece(
     c: usize,
     phase: State,

@@ -12,7 +12,7 @@ use fsoe_base::{End, Lengths};
 use std::alloc::AllocError;
 use std::marker::Model;
 
-/// Judges a recorded trace frame by frame, as they come: no frame is kept. It judges from the frames alone, and runs no end.
+/// Judges a recorded trace frame by frame, as they come; no frame is kept. It judges only the frames, and runs no end.
 #[derive(Drop)]
 pub struct Trace {
     lengths: Lengths,

@@ -62,8 +62,8 @@ fn set_first(from: End, frame: &[u8], said: &mut TraceLine)
     *said = TraceLine::Sent(Noted { from, frame: first });
 }
 
-/// `<hex>`: a frame of 1 to 255 bytes from this end, written over `said`. Digits have no space among them, so one is sought only
-/// where they aren't digits.
+/// `<hex>`: a frame of 1 to 255 bytes from this end, written over `said`. Digits have no space among them, so one is
+/// sought only if they aren't digits.
 #[tactic(auto, using(schedule_file::proofs::HexAlone::hex_said, schedule_file::proofs::HexAlone::hex_unsaid))]
 fn read_frame(from: End, fields: Option<&[u8]>, said: &mut TraceLine) -> Result<(), LineCause>
     ensures { Becomes result said.new (frame_line from (fields_after fields.entry)) }
@@ -80,8 +80,9 @@ fn read_frame(from: End, fields: Option<&[u8]>, said: &mut TraceLine) -> Result<
     }
 }
 
-/// What a line says after the header, written over `said`: `m <hex>` or `s <hex>`, a frame of 1 to 255 bytes of the master or the slave, or
-/// `end`. An error is the first of these causes that applies: `Word`, `Fields`, `Hex`.
+/// Parses a line after the header, and writes its meaning over `said`: `m <hex>` or `s <hex>`, a frame of 1 to 255
+/// bytes of the master or the slave, or `end`. An error is the first of these causes that applies: `Word`, `Fields`,
+/// `Hex`.
 pub(crate) fn read_trace_line(line: &[u8], said: &mut TraceLine) -> Result<(), LineCause>
     ensures { Becomes result said.new (trace_line line.now) }
 {

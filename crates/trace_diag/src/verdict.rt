@@ -1,8 +1,8 @@
 //! What is said of a trace.
 use crate::field::Field;
 
-/// What the handshake of a trace tells of the settings: each number where its last payload byte has come. So with pieces of one byte the
-/// connection id isn't told after the first Connection frame, though its field has it.
+/// What the handshake of a trace says of the settings: each number after its last payload byte has come. So with pieces
+/// of one byte the connection id is unknown after the first Connection frame, though its field has it.
 #[derive(Clone, Copy, Debug, PartialEq, Eq)]
 pub struct ReadOff {
     /// The connection id.
