@@ -1,7 +1,8 @@
 -- A line that a header doesn't take.
-use Rattle.std.proofs.Common.{◌≡◌, ℕ, ◌+◌, List, ◌∙◌}
+use Rattle.std.proofs.Common.{◌≡◌, ℕ, ◌+◌, List, subst, ◌∙◌}
 use Rattle.std.specs.Prelude.{Result, Ok, Err}
 use Rattle.std.specs.declared.option.Option.{Option}
+use Rattle.fsoe_io.specs.Faults.{Rose}
 use Rattle.file_run.specs.Halt.{Blames, Declines, Goes, Stalls}
 use Rattle.file_run.specs.declared.halt.Halt.{Halt}
 use Rattle.file_run.specs.declared.halt.Halt.TheVariants as halt
@@ -18,8 +19,14 @@ declines_stalls (Err (halt.Read count)) lines held d = absurd d
 declines_stalls (Err halt.Memory) lines held d = tt
 declines_stalls (Err (halt.Refused line cause)) lines held d = tt
 
-pub declines_blames : {T : Type 0} (result : Result T Halt) (lines before now : ℕ) → Declines result lines → Blames result before now
-declines_blames (Ok taken) lines before now d = tt
-declines_blames (Err (halt.Read count)) lines before now d = absurd d
-declines_blames (Err halt.Memory) lines before now d = tt
-declines_blames (Err (halt.Refused line cause)) lines before now d = tt
+pub declines_blames : {T : Type 0} (result : Result T Halt) (lines before now : ℕ) → Declines result lines → now ≡ before → Blames result before now
+declines_blames (Ok taken) lines before now d same = same
+declines_blames (Err (halt.Read count)) lines before now d same = absurd d
+declines_blames (Err halt.Memory) lines before now d same = same
+declines_blames (Err (halt.Refused line cause)) lines before now d same = same
+
+-- it is blamed likewise since an earlier moment from which on the count stayed
+pub blames_since : (T U : Type 0) (why : Halt) (first before now : ℕ) → before ≡ first → Blames {T = T} (Err why) before now → Blames {T = U} (Err why) first now
+blames_since T U (halt.Read count) first before now same h = subst (λ (n : ℕ). Rose n now) same h
+blames_since T U halt.Memory first before now same h = h ∙ same
+blames_since T U (halt.Refused line cause) first before now same h = h ∙ same

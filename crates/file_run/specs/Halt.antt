@@ -32,7 +32,7 @@ Stalls (Err (halt.Refused line cause)) held = Unit {0}
 
 -- only a failed read is blamed on the source
 abbrev pub Blames : {T : Type 0} → Result T Halt → ℕ → ℕ → Type 0
-Blames (Ok says) before now = Unit {0}
+Blames (Ok says) before now = now ≡ before
 Blames (Err (halt.Read lines)) before now = Rose before now
-Blames (Err halt.Memory) before now = Unit {0}
-Blames (Err (halt.Refused line cause)) before now = Unit {0}
+Blames (Err halt.Memory) before now = now ≡ before
+Blames (Err (halt.Refused line cause)) before now = now ≡ before

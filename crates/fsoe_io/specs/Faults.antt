@@ -1,12 +1,13 @@
 -- What a count of faults says of a call that failed.
-use Rattle.std.specs.Prelude.{◌≢◌, ℕ, ◌-◌, ◌^◌, ◌<◌, ◌≤◌, OnErr}
+use Rattle.std.specs.Prelude.{◌≡◌, ◌≢◌, ℕ, ◌-◌, ◌^◌, ◌<◌, ◌≤◌, OnErr, OnOk}
 use Rattle.std.specs.declared.result.Result.{Result}
 
 -- the count is greater than before, unless it is 2^64 - 1, where a count of 64 bits stays
 abbrev pub Rose : ℕ → ℕ → Type 0
 Rose before now = now ≢ 2 ^ 64 - 1 → before < now
 
--- the count didn't fall, and where the call failed it rose
+-- the count didn't fall; where the call failed it rose, and else it stayed
 pub record HasCause {T E : Type 0} (before now : ℕ) (result : Result T E) : Type 0 where
   pub later : before ≤ now
   pub failed : OnErr result (Rose before now)
+  pub stayed : OnOk result (now ≡ before)

@@ -52,9 +52,9 @@ Counts (Err fault) old new = new ≡ old
 -- only a failed read is blamed on the source
 abbrev pub Blames : Result (Option Numbered) LineFault → ℕ → ℕ → Type 0
 Blames (Err Read) before now = Rose before now
-Blames (Err Long) before now = Unit {0}
-Blames (Err NoNewline) before now = Unit {0}
-Blames (Ok line) before now = Unit {0}
+Blames (Err Long) before now = now ≡ before
+Blames (Err NoNewline) before now = now ≡ before
+Blames (Ok line) before now = now ≡ before
 
 -- held bytes begin with a line of this length, with more than a line may have, or with neither
 abbrev pub BeginsAs : front.Front → List ℕ → Type 0

@@ -14,7 +14,7 @@ pub returns-in-Ok-clause-stalls : goal.returns-in-Ok-clause-stalls
 returns-in-Ok-clause-stalls g c = declines_stalls c.take_heading.result _ _ c.take_heading.ensures.declines
 
 pub returns-in-Ok-clause-cause : goal.returns-in-Ok-clause-cause
-returns-in-Ok-clause-cause g c = declines_blames c.take_heading.result _ _ _ c.take_heading.ensures.declines
+returns-in-Ok-clause-cause g c = declines_blames c.take_heading.result _ _ _ c.take_heading.ensures.declines c.in-Ok.ensures.cause
 
 pub returns-in-Err-clause-finds : goal.returns-in-Err-clause-finds
 returns-in-Err-clause-finds g c =

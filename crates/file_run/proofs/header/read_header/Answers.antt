@@ -1,8 +1,8 @@
-use Rattle.std.proofs.Common.{◌≡◌, ◌+◌, arith, ap, sym, ◌∙◌}
+use Rattle.std.proofs.Common.{◌≡◌, ◌+◌, arith, refl, ap, sym, ◌∙◌}
 use Rattle.std.specs.Io.KnownBytes.{prepend_known}
 use Rattle.std.specs.Prelude.{Bool, Err}
 use Rattle.file_run.specs.NextLine.{from_line}
-use Rattle.file_run.proofs.Declined.{declines_goes, declines_stalls}
+use Rattle.file_run.proofs.Declined.{blames_since, declines_goes, declines_stalls}
 use Rattle.file_run.proofs.HeaderSeen.{header_none, header_line, header_done, header_halts, heading_as}
 use Rattle.file_run.proofs.Taken.{halts_after, line_taken, took_none, took_line}
 use Rattle.file_run.proofs.header.read_header.Goals as goal
@@ -38,13 +38,20 @@ loop-why-init g c =
       took_line 0 _ _ _ _ c.args.reader.now.line (took_none _) c.requires.line goes (omega (arith, c.requires.lines)),
       omega (arith, c.requires.few, c.requires.lines, c.in-Ok-false.ensures.fewer),
       c.take_heading.ensures.kind,
-      omega arith,
+      refl,
       header_line (g.F.Format.format (g.F.Format.kind c.args.header.now)) c.args.header.now c.take_heading.new.header 0 _ _ _ _ finds.0 (header_none _ _ _ c.requires.start) finds.1 finds.2 finds.3
           (sym c.in-Ok-false.ensures.done ∙ c.in-Ok-false.field-0-test) (omega (arith, c.requires.lines)),
     )
 
 pub returns-in-Ok-true-next_header_line-clause-kind : goal.returns-in-Ok-true-next_header_line-clause-kind
 returns-in-Ok-true-next_header_line-clause-kind g c = c.next_header_line.ensures.kind ∙ c.loop-why.invariant.2
+
+pub returns-in-Ok-true-next_header_line-clause-cause : goal.returns-in-Ok-true-next_header_line-clause-cause
+returns-in-Ok-true-next_header_line-clause-cause g c = c.in-Ok-true-next_header_line.ensures.cause ∙ c.loop-why.invariant.3
+
+pub returns-in-Err-next_header_line-clause-cause : goal.returns-in-Err-next_header_line-clause-cause
+returns-in-Err-next_header_line-clause-cause g c =
+    blames_since Bool (Unit {0}) c.in-Err-next_header_line.why _ _ _ c.loop-why.invariant.3 c.in-Err-next_header_line.ensures.cause
 
 pub returns-in-Ok-true-next_header_line-clause-took : goal.returns-in-Ok-true-next_header_line-clause-took
 returns-in-Ok-true-next_header_line-clause-took g c =
@@ -68,7 +75,7 @@ loop-why-preserved g c =
       took_line _ _ _ _ _ finds.0 c.loop-why.invariant.0 finds.1 finds.2 goes,
       omega (arith, goes, c.in-Ok-false-next_header_line.ensures.fewer, c.loop-why.invariant.1),
       c.next_header_line.ensures.kind ∙ c.loop-why.invariant.2,
-      omega (arith, c.next_header_line.ensures.later, c.loop-why.invariant.3),
+      c.in-Ok-false-next_header_line.ensures.cause ∙ c.loop-why.invariant.3,
       header_line (g.F.Format.format (g.F.Format.kind c.args.header.now)) c.loop-why.header c.next_header_line.new.header _ _ _ _ _ finds.0 c.loop-why.invariant.4 finds.1 finds.2 finds.3
           (sym (rw c.loop-why.invariant.2 at c.in-Ok-false-next_header_line.ensures.done) ∙ c.in-Ok-false-next_header_line.field-0-test) goes,
     )

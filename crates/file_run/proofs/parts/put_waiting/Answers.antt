@@ -1,4 +1,4 @@
-use Rattle.std.proofs.Common.{◌∙◌, arith, sym}
+use Rattle.std.proofs.Common.{◌∙◌, arith, refl, sym}
 use Rattle.file_run.proofs.Putting.{is_none, not_none, putting_all, putting_lost, putting_more, putting_none}
 use Rattle.file_run.proofs.Taking.{still_stands}
 use Rattle.file_run.proofs.Sending.{rose_since}
@@ -9,7 +9,7 @@ loop-part-init g c = record {
   putting = putting_none c.args.output.now (g.K.Sink.written c.args.sink.now) (g.M.Machine.waits c.args.machine.now c.args.handed.now);
   kept = λ first h log text stood. stood;
   room = omega arith;
-  later = omega arith;
+  stays = refl;
 }
 
 pub more-requires : goal.more-requires
@@ -28,7 +28,7 @@ pub returns-then-is_empty-clause-kept : goal.returns-then-is_empty-clause-kept
 returns-then-is_empty-clause-kept g c = λ first h log text stood. c.more.ensures.kept first h log text (c.loop-part.invariant.kept first h log text stood)
 
 pub returns-then-is_empty-clause-cause : goal.returns-then-is_empty-clause-cause
-returns-then-is_empty-clause-cause g c = record { later = c.loop-part.invariant.later; failed = tt }
+returns-then-is_empty-clause-cause g c = record { later = omega (arith, c.loop-part.invariant.stays); failed = tt; stayed = c.loop-part.invariant.stays }
 
 pub put-requires-clause-count : goal.put-requires-clause-count
 put-requires-clause-count g c = omega (arith, c.loop-part.invariant.room, c.requires.room)
@@ -43,7 +43,7 @@ loop-part-preserved g c = record {
   room =
       let fewer = c.more.ensures.fewer (not_none c.more.new.text c.bytes-part.result.now c.bytes-part.ensures.value (sym c.if-is_empty.false ∙ c.is_empty.ensures)) in
       omega (arith, fewer, c.loop-part.invariant.room, c.in_default.ensures.count, c.bytes-part.ensures.most);
-  later = omega (arith, c.loop-part.invariant.later, c.in_default.ensures.cause.later);
+  stays = c.in_default.ensures.cause.stayed ∙ c.loop-part.invariant.stays;
 }
 
 pub returns-in-Err-clause-puts : goal.returns-in-Err-clause-puts
@@ -56,6 +56,7 @@ returns-in-Err-clause-kept g c = λ first h log text stood. c.more.ensures.kept 
 
 pub returns-in-Err-clause-cause : goal.returns-in-Err-clause-cause
 returns-in-Err-clause-cause g c = record {
-  later = omega (arith, c.loop-part.invariant.later, c.in-Err.ensures.cause.later);
-  failed = rose_since _ _ _ c.loop-part.invariant.later c.in-Err.ensures.cause.failed;
+  later = omega (arith, c.loop-part.invariant.stays, c.in-Err.ensures.cause.later);
+  failed = rose_since _ _ _ (omega (arith, c.loop-part.invariant.stays)) c.in-Err.ensures.cause.failed;
+  stayed = tt;
 }

@@ -25,8 +25,8 @@ returns-in-Long-clause-bytes g c = too_long _ _ _ c.loop-len.invariant.3 c.in-Lo
 pub returns-in-Line-clause-unread : goal.returns-in-Line-clause-unread
 returns-in-Line-clause-unread g c = λ h. (c.loop-len.invariant.0 h).0
 
-pub returns-in-Line-clause-later : goal.returns-in-Line-clause-later
-returns-in-Line-clause-later g c = c.loop-len.invariant.2
+pub returns-in-Line-clause-cause : goal.returns-in-Line-clause-cause
+returns-in-Line-clause-cause g c = c.loop-len.invariant.2
 
 pub returns-in-Long-clause-lines : goal.returns-in-Long-clause-lines
 returns-in-Long-clause-lines g c = c.loop-len.invariant.1
@@ -34,14 +34,20 @@ returns-in-Long-clause-lines g c = c.loop-len.invariant.1
 pub returns-in-Long-clause-unread : goal.returns-in-Long-clause-unread
 returns-in-Long-clause-unread g c = λ h. (c.loop-len.invariant.0 h).0
 
-pub returns-in-Long-clause-later : goal.returns-in-Long-clause-later
-returns-in-Long-clause-later g c = c.loop-len.invariant.2
+pub returns-in-Long-clause-cause : goal.returns-in-Long-clause-cause
+returns-in-Long-clause-cause g c = c.loop-len.invariant.2
 
 pub returns-in-Ok-eq0-clause-bytes : goal.returns-in-Ok-eq0-clause-bytes
 returns-in-Ok-eq0-clause-bytes g c =
     let gave = c.in-Ok-eq0.ensures.bytes in
     let none = ap (λ (bytes : List ℕ). length bytes == 0) (sym c.held.ensures) ∙ sym c.is_empty.ensures ∙ c.if-is_empty.true in
     ended _ _ _ (filled _ _ _ _ _ gave.0 c.loop-len.invariant.3 gave.1 gave.3) (none_held _ none) (gave.4 c.in-Ok-eq0.field-0-test)
+
+pub returns-in-Ok-eq0-clause-cause : goal.returns-in-Ok-eq0-clause-cause
+returns-in-Ok-eq0-clause-cause g c = c.in-Ok-eq0.ensures.cause.stayed ∙ c.loop-len.invariant.2
+
+pub returns-in-Ok-eq0-2-clause-cause : goal.returns-in-Ok-eq0-2-clause-cause
+returns-in-Ok-eq0-2-clause-cause g c = c.in-Ok-eq0.ensures.cause.stayed ∙ c.loop-len.invariant.2
 
 pub returns-in-Ok-eq0-2-clause-bytes : goal.returns-in-Ok-eq0-2-clause-bytes
 returns-in-Ok-eq0-2-clause-bytes g c =
@@ -55,7 +61,7 @@ loop-len-preserved g c =
     let gave = c.in-Ok.ensures.bytes in (
       λ h. absurd (h (subst IsLine (before.0 h).1 c.in-Open.ensures)),
       c.in-Ok.ensures.lines ∙ before.1,
-      omega (arith, before.2, c.in-Ok.ensures.cause.later),
+      c.in-Ok.ensures.cause.stayed ∙ before.2,
       filled _ _ _ _ _ gave.0 before.3 gave.1 gave.3,
     )
 
