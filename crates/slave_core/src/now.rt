@@ -140,7 +140,17 @@ impl Now {
         }
     }
 
-    // A function clears the room of all its locals: each change of phase, which moves states, has one of its own.
+    /// Enters the state that this constructor makes of `next`.
+    // Inlined, it clears the room of what it makes right before it fills it, and the compiler drops that clear.
+    fn enter<S, F: FnOnce(S) -> Now>(&mut self, next: S, state: F)
+        requires { F.pre state next }
+        ensures { F.post state next self.new }
+    {
+        *self = state(next);
+    }
+
+    // A function clears the room of all its locals where it begins, so that each change of phase, which moves states, has one
+    // of its own. What a transition refuses leaves state Reset.
 
     /// Begins state Session in place of Reset, by `InReset::start`.
     #[inline(never)]
@@ -150,7 +160,7 @@ impl Now {
     {
         match InReset::new().start(seen, kit, out) {
             Ok(next) => {
-                *self = Now::Session(next);
+                self.enter(next, Now::Session);
                 Ok(())
             }
             Err((_, code)) => Err(code),
@@ -168,7 +178,7 @@ impl Now {
         };
         match state.connect(seen, kit, out) {
             Ok(next) => {
-                *self = Now::Connection(next);
+                self.enter(next, Now::Connection);
                 Ok(())
             }
             Err((_, code)) => Err(code),
@@ -186,7 +196,7 @@ impl Now {
         };
         match state.load(seen, kit, out) {
             Ok(next) => {
-                *self = Now::Parameter(next);
+                self.enter(next, Now::Parameter);
                 Ok(())
             }
             Err((_, code)) => Err(code),
@@ -204,7 +214,7 @@ impl Now {
         };
         match state.run(seen, kit, out) {
             Ok(next) => {
-                *self = Now::Data(next);
+                self.enter(next, Now::Data);
                 Ok(())
             }
             Err((_, code)) => Err(code),
