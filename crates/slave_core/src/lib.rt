@@ -27,6 +27,18 @@
 //! `hold(true)` makes the slave send fail-safe data (zeros) in place of what was put, until `hold(false)`. `nonce` sets
 //! the session id of all sessions that begin after the call. The slave never makes one itself: call `nonce` with a
 //! fresh id before each session. A reset changes none of the three.
+//!
+//! ```rust
+//! use fsoe_base::{FrameBuf, Lengths, State};
+//! use param_load::{AppRule, SlaveSettings};
+//! use slave_core::Slave;
+//! let settings = SlaveSettings::new(Lengths::new(2, 2)?, 2, 200, 1000, AppRule::Any(0), 2)?;
+//! let mut slave = Slave::new(settings);
+//! let mut out = FrameBuf::new();
+//! slave.deliver(&[0x4E, 0x01, 0x00, 0x12, 0x3E, 0x00, 0x00], &mut out);
+//! assert_eq!(rt; out.bytes(), [0x4E, 0x02, 0x00, 0x90, 0x47, 0x00, 0x00].as_slice());
+//! assert_eq!(rt; slave.state(), State::Session);
+//! ```
 #![tactic(auto)]
 
 mod kit;
