@@ -1,5 +1,12 @@
 //! Basic types of the whole stack: states, commands and codes of the protocol, lengths of a connection, bytes of a
 //! frame, safe data, and the result of a step. Nothing here does a step.
+//!
+//! ```rust
+//! use fsoe_base::{End, Lengths};
+//! let lengths = Lengths::new(1, 126)?;
+//! assert_eq!(rt; lengths.frame_len(End::Master), 6);
+//! assert_eq!(rt; lengths.frame_len(End::Slave), 255);
+//! ```
 #![tactic(auto)]
 
 mod byte_list;

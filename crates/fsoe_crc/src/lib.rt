@@ -1,5 +1,11 @@
 //! The 16-bit CRC of the frames: the remainder by the polynomial 139B7h of the bytes followed by sixteen zero bits,
 //! highest bit first, from the value 0.
+//!
+//! ```rust
+//! use fsoe_crc::crc;
+//! let covered = [0x00, 0x00, 0x00, 0x00, 0x01, 0x00, 0x4E, 0x01, 0x00, 0x00, 0x00, 0x00];
+//! assert_eq!(rt; crc(&covered), 0x3E12);
+//! ```
 #![tactic(auto)]
 
 pub use bitwise::crc_bitwise;
