@@ -32,6 +32,19 @@
 //! `reply` writes. `hold(true)` makes the master send fail-safe data (zeros) in place of what was put, until
 //! `hold(false)`. `nonce` sets the session id of all sessions that begin after the call. The master never makes one
 //! itself: call `nonce` with a fresh id before each session. A reset changes none of the three.
+//!
+//! ```rust
+//! use fsoe_base::{FrameBuf, Lengths};
+//! use master_core::Master;
+//! use param_load::{AppBytes, MasterSettings};
+//! let settings = MasterSettings::new(Lengths::new(2, 2)?, 1, 2, 100, AppBytes::new(), 1)?;
+//! let mut master = Master::new(settings);
+//! let mut out = FrameBuf::new();
+//! master.tick(&mut out);
+//! assert_eq!(rt; out.bytes(), [0x2A, 0x00, 0x00, 0xC4, 0x2D, 0x00, 0x00].as_slice());
+//! master.deliver(&[0x2A, 0x00, 0x00, 0xC4, 0x2D, 0x00, 0x00], &mut out);
+//! assert_eq!(rt; out.bytes(), [0x4E, 0x01, 0x00, 0x12, 0x3E, 0x00, 0x00].as_slice());
+//! ```
 #![tactic(auto)]
 
 mod kit;

@@ -1,5 +1,14 @@
 //! The settings of both ends, and the transfer of a master's parameters to its slave. The master sends payloads piece
 //! by piece; the slave receives and tests them. Frames are built and tested elsewhere.
+//!
+//! ```rust
+//! use fsoe_base::Lengths;
+//! use param_load::{AppBytes, BadSetting, MasterSettings, Payload};
+//! let refused = MasterSettings::new(Lengths::new(2, 2)?, 0, 2, 100, AppBytes::new(), 1).err();
+//! assert_eq!(rt; refused, Some(BadSetting::Conn));
+//! let payload = Payload::connection(1, 2);
+//! assert_eq!(rt; payload.piece_from(2, 2), [0x02, 0x00].as_slice());
+//! ```
 #![tactic(auto)]
 
 pub mod app_rule;
