@@ -1,6 +1,17 @@
 //! The black channel between ends: it may delay, repeat, reorder, corrupt or lose frames. A `Window` has the last
 //! frames of one end, any of which may reach the other; a `Channel` carries the frames of all connections of a plant.
 //! Nothing here tests a frame.
+//!
+//! ```rust
+//! use black_channel::{Channel, PerfectChannel, Place};
+//! use fsoe_base::{End, FrameBuf};
+//! let mut channel = PerfectChannel::new(rt.alloc())?;
+//! let to = Place { link: 1, end: End::Slave };
+//! channel.push(to, &[0x2A, 0x00, 0x00, 0xC4, 0x2D, 0x00, 0x00]);
+//! let mut out = FrameBuf::new();
+//! assert_eq!(rt; channel.pull(&mut out), Some(to));
+//! assert_eq!(rt; channel.pull(&mut out), None);
+//! ```
 #![tactic(auto)]
 
 mod altering;

@@ -2,6 +2,17 @@
 //! sent, unchanged or with one altered byte, or an invented one. The commands `replay`, `bulk` and `convert` run here,
 //! over pair files, files of several pairs, and schedules of seeds. `specs` ties all of it to the definition of a
 //! world.
+//!
+//! ```rust
+//! use duo_run::Duo;
+//! use fsoe_base::End;
+//! use schedule_file::{Event, Maker};
+//! let (master, slave) = Maker::settings();
+//! let mut duo = Duo::new(master, slave);
+//! duo.step(&Event::Tick { at: End::Master })?;
+//! let entry = duo.step(&Event::Deliver { to: End::Slave, back: 1 })?;
+//! assert_eq!(rt; entry.sent.bytes(), [0x2A, 0x00, 0x00, 0xC4, 0x2D, 0x00, 0x00].as_slice());
+//! ```
 #![tactic(auto)]
 
 mod acting;

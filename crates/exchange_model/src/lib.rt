@@ -1,5 +1,14 @@
 //! Definitions of a run of both ends and of what it is judged by, with the laws on all runs and on examples, among them
 //! the main theorem. Two monitors find the first `other` entry during a run. Nothing here runs an end.
+//!
+//! ```rust
+//! use exchange_model::Monitor;
+//! use fsoe_base::{Command, Did, End, FrameBuf};
+//! let mut monitor = Monitor::new();
+//! let did = Did::took(Command::ProcessData, &[0xFF, 0x00], true);
+//! monitor.note_parts(End::Slave, &[0x36, 0xFF, 0x00, 0x4E, 0xE9, 0x01, 0x00], &did, &FrameBuf::new());
+//! assert_eq!(rt; monitor.other(), Some(1));
+//! ```
 #![tactic(auto)]
 
 mod kept;

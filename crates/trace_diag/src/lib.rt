@@ -1,5 +1,15 @@
 //! A verdict on a recorded trace of one connection: whether two ends send these frames if none is lost, else the first
 //! frame that differs, and in which field. The command `diagnose` uses it. It judges only the frames, and runs no end.
+//!
+//! ```rust
+//! use fsoe_base::{End, Lengths};
+//! use trace_diag::{Field, Trace, Verdict};
+//! let mut trace = Trace::new(Lengths::new(2, 2)?);
+//! trace.note(End::Master, &[0x2A, 0x00, 0x00, 0xC4, 0x2D, 0x00, 0x00]);
+//! trace.note(End::Slave, &[0x2A, 0x00, 0x00, 0xC4, 0x2D, 0x00, 0x00]);
+//! trace.note(End::Master, &[0x4E, 0x01, 0x00, 0x12, 0x3F, 0x00, 0x00]);
+//! assert_eq!(rt; trace.verdict(), Verdict::Differs { frame: 3, field: Field::Crc(0) });
+//! ```
 #![tactic(auto)]
 
 mod diagnosis;
