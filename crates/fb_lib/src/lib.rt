@@ -1,5 +1,12 @@
 //! Function blocks of a safety application, which `fb_net` connects to nets. Each is stepped once per cycle with its
 //! inputs, and gives one output. A block has no clock: a cycle says whether it counts as one unit of time.
+//!
+//! ```rust
+//! use fb_lib::{Block, BlockKind};
+//! let mut stop = Block::new(BlockKind::Estop, 0);
+//! assert!(rt; !stop.step(true, &[true, false]));
+//! assert!(rt; stop.step(true, &[true, true]));
+//! ```
 #![tactic(auto)]
 
 mod block;

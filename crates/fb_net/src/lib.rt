@@ -1,6 +1,17 @@
 //! Nets of function blocks: an application that steps its blocks in order, each with input bits and the values of
 //! earlier blocks, and drives output bits. Also two simple applications, and an enum of a net or an application of the
 //! caller.
+//!
+//! ```rust
+//! use failsafe_io::{Application, Bit};
+//! use fb_lib::BlockKind;
+//! use fb_net::{BlockSpec, Drive, Net, Wire, Wires};
+//! let [stop, ack, out] = [Bit { link: 1, bit: 0 }, Bit { link: 1, bit: 1 }, Bit { link: 2, bit: 0 }];
+//! let ins = Wires::new(vec![in rt.alloc(); Wire::Input(stop), Wire::Input(ack)]?);
+//! let blocks = vec![in rt.alloc(); BlockSpec::new(BlockKind::Estop, 0, ins)]?;
+//! let net = Net::new(blocks, vec![in rt.alloc(); Drive { out, from: Wire::Block(1) }]?, &[1, 1], &[1, 1])?;
+//! assert!(rt; net.guards(out, stop) && !net.guards(out, ack));
+//! ```
 #![tactic(auto)]
 
 mod cycle;

@@ -27,6 +27,18 @@
 //!     }
 //! }
 //! ```
+//!
+//! ```rust
+//! use fb_net::Mirror;
+//! use fsoe_base::{Did, FrameBuf, Lengths};
+//! use multi_master::MultiMaster;
+//! use param_load::{AppBytes, MasterSettings};
+//! let settings = MasterSettings::new(Lengths::new(2, 2)?, 1, 2, 100, AppBytes::new(), 1)?;
+//! let mut multi = MultiMaster::new(vec![in rt.alloc(); settings]?, Mirror)?;
+//! let mut outs = [FrameBuf::new()];
+//! multi.tick(&mut outs, &mut [Did::nothing()]);
+//! assert_eq!(rt; outs[0].bytes(), [0x2A, 0x00, 0x00, 0xC4, 0x2D, 0x00, 0x00].as_slice());
+//! ```
 #![tactic(auto)]
 
 mod cycle;

@@ -1,5 +1,14 @@
 //! Reads the configuration of a plant: its connections, its net of function blocks, and the bounds that are watched.
 //! The result is one configuration, or the first fault with its table, number and key.
+//!
+//! ```rust
+//! use plant_conf::read_conf;
+//! let text = b"plant = { app = 'zeros', channel = 'perfect' }
+//!     connection = [{ id = 1, address = 11, watchdog = 5, master_length = 2, slave_length = 2 }]";
+//! let conf = read_conf(rt.alloc(), text)?;
+//! assert_eq!(rt; conf.channel(), "perfect");
+//! assert_eq!(rt; conf.links()[0].slave.hand(), 5);
+//! ```
 #![tactic(auto)]
 
 mod arrays;

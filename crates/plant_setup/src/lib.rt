@@ -1,5 +1,16 @@
 //! Selects, by the names in a plant's configuration, the application that runs first and the channel. If the
 //! configuration can't be run, it gives the first reason and the line that reports it. It runs nothing.
+//!
+//! ```rust
+//! use black_channel::{Channel, PerfectChannel};
+//! let text = b"plant = { app = 'net', channel = 'perfect' }
+//!     connection = [{ id = 1, address = 11, watchdog = 5, master_length = 2, slave_length = 2 }]";
+//! let mut conf = plant_conf::read_conf(rt.alloc(), text)?;
+//! let mut channels: Vec<Box<dyn Channel>> = Vec::new(rt.alloc());
+//! channels.push(Box::new(rt.alloc(), PerfectChannel::new(rt.alloc())?)?)?;
+//! let setup = plant_setup::set_up(&mut conf, Vec::new(rt.alloc()), channels.as_slice())?;
+//! assert_eq!(rt; setup.channel, 0);
+//! ```
 #![tactic(auto)]
 
 mod apps;
