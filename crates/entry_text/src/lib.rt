@@ -1,4 +1,14 @@
 //! The text of one step in the reports of `replay`, `node` and `image`: what the end did, state, outputs, sent frame.
+//!
+//! ```rust
+//! use entry_text::push_entry;
+//! use fsoe_base::{Command, Did, State};
+//! use fsoe_io::LineText;
+//! let mut text = LineText::new();
+//! let did = Did::took(Command::Session, &[0x01, 0x00], true);
+//! push_entry(&did, State::Session, &[0x00, 0x00], &[0x4E, 0x02, 0x00, 0x90, 0x47, 0x00, 0x00], &mut text);
+//! assert_eq!(rt; text.bytes(), b"took Session Session 0000 > 4e020090470000".as_slice());
+//! ```
 #![tactic(auto)]
 
 ghost use Rattle.std.specs.Prelude.{◌≡◌, ◌+◌, ◌*◌, ◌≤◌, ◌++◌, length, codes};

@@ -1,6 +1,17 @@
 //! Runs a command over its input: reads the header and the events line by line, and closes the report. A `Format` of
 //! the input says how lines are parsed; a `Machine` of the command says what an event does and what is written of it. A
 //! command that writes for each line, also of the header, has its own loop over the functions exported here.
+//!
+//! ```rust
+//! use file_run::{halt_run, next_line};
+//! use fsoe_io::{LineReader, Output, SureSink, SureSource};
+//! let mut source = SureSource::new(Vec::new(rt.alloc()));
+//! let mut sink = SureSink::new(rt.alloc(), 100)?;
+//! if let Err(why) = next_line(&mut LineReader::new(), &mut source) {
+//!     halt_run(&mut Output::new(), &mut sink, why);
+//! }
+//! assert_eq!(rt; sink.bytes(), b"refused 1 End\n".as_slice());
+//! ```
 #![tactic(auto)]
 
 mod begin;

@@ -1,5 +1,14 @@
 //! Input and output of all commands: byte sources and sinks, texts by name, lines read from a source, and text written
 //! to a sink. There are implementations in memory and on `std`. Nothing here knows frames or ends.
+//!
+//! ```rust
+//! use fsoe_io::{LineReader, SureSource};
+//! let mut source = SureSource::new(b"go\nend\n".to_vec(rt.alloc())?);
+//! let mut reader = LineReader::new();
+//! reader.advance(&mut source)?;
+//! reader.advance(&mut source)?;
+//! assert_eq!(rt; (reader.lines(), reader.line()), (2, b"end".as_slice()));
+//! ```
 #![tactic(auto)]
 
 mod desk;

@@ -1,6 +1,17 @@
 //! Parses the lines of a schedule, without their newlines: its header, with the settings of the ends, and then its
 //! events. Only the header of several pairs allocates, and a refused line has one cause. A `Maker` makes the schedule
 //! of a seed, without lines.
+//!
+//! ```rust
+//! use fsoe_base::End;
+//! use schedule_file::{Header, HeaderKind};
+//! let mut header = Header::new(HeaderKind::Node(End::Slave));
+//! for line in ["fsoe 1 node slave", "lengths 2 2", "slave 2 200 1000 2", "rule any 0"] {
+//!     header.line(line.as_bytes())?;
+//! }
+//! assert_eq!(rt; header.line(b"go"), Ok(true));
+//! assert_eq!(rt; header.slave().most(), 1000);
+//! ```
 #![tactic(auto)]
 
 mod event;
