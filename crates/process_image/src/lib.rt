@@ -24,6 +24,17 @@
 //! - What is overwritten before a sample is lost. So is what is sent before the output image was passed on: do that
 //!   after each sample and each tick. Half of a frame, if sampled, is a different frame, and ends the session except
 //!   in state Reset.
+//!
+//! ```rust
+//! use fsoe_base::Lengths;
+//! use param_load::{AppRule, SlaveSettings};
+//! use process_image::{Core, Images, Slot};
+//! let core = Core::new_slave(SlaveSettings::new(Lengths::new(2, 2)?, 2, 200, 1000, AppRule::Any(0), 2)?);
+//! let mut images = Images::new(7, 7, vec![in rt.alloc(); Slot { at_in: 0, at_out: 0, core }]?)?;
+//! images.write(0, &[0x4E, 0x01, 0x00, 0x12, 0x3E, 0x00, 0x00]);
+//! images.sample(&mut [None]);
+//! assert_eq!(rt; images.out(), [0x4E, 0x02, 0x00, 0x90, 0x47, 0x00, 0x00].as_slice());
+//! ```
 #![tactic(auto)]
 
 mod event;
