@@ -1,11 +1,16 @@
 -- Acts in which one end of one connection does something, and no cycle is run.
-use Rattle.std.proofs.Common.{◌≡◌, ◌≢◌, ℕ, zero, suc, ◌-◌, ◌==◌, Bool, true, false, List, [], ◌∷◌, ◌++◌, map, slice_get, slice_set, Option, Some, None, option_map, if◌then◌else◌, refl, sym, ap, ap₂, subst, ◌∙◌, arith}
-use Rattle.std.specs.Prelude.{IfSome, option_to_list, option_and_then}
-use Rattle.std.proofs.lemmas.Bool.{eq-eqb}
+use Rattle.std.proofs.Common.{◌≡◌, ◌≢◌, ◌≤◌, length, ℕ, zero, suc, ◌-◌, ◌==◌, Bool, true, false, List, [], ◌∷◌, ◌++◌, map, slice_get, slice_set, Option, Some, None, option_map, if◌then◌else◌, refl, sym, ap, ap₂, subst, ◌∙◌, arith}
+use Rattle.std.specs.Prelude.{IfSome, IsTrue, option_to_list, option_and_then}
+use Rattle.std.proofs.lemmas.Bool.{eq-eqb, le-leb}
 use Rattle.std.proofs.lemmas.List.{append-nil}
 use Rattle.fsoe_base.specs.Did.{nothing}
 use Rattle.fsoe_base.specs.declared.command.End.{End}
 use Rattle.fsoe_base.specs.declared.command.End.TheVariants as side
+use Rattle.end_model.specs.Setup.{OfSlave}
+use Rattle.end_model.specs.Step.{IsProper}
+use Rattle.param_load.specs.Profile.{allows_id}
+use Rattle.param_load.specs.declared.profile.Profile.{Profile}
+use Rattle.param_load.specs.declared.profile.Profile.TheVariants as profile
 use Rattle.param_load.specs.declared.entry.Entry.{Entry}
 use Rattle.param_load.specs.declared.entry.Move.{Move}
 use Rattle.param_load.specs.declared.entry.Move.TheVariants as move
@@ -26,12 +31,14 @@ use Rattle.plant_model.specs.declared.journal.JournalStep.{JournalStep}
 use Rattle.plant_model.specs.declared.journal.JournalStep.TheVariants as step
 use Rattle.plant_model.specs.Acts.{Beginning, Event, Act, Happen, PullFrom, settings, event_call, delivery_call, call_of, calls, offer_step, offers_by, steps_of, journal, cut_after, is_cut, pushes_of, all_pushes, masters}
 use Rattle.plant_model.specs.Uses.{place_of, sent_uses, Use, Trace}
+use Rattle.plant_model.specs.FairPairs.{Fits}
 use Rattle.plant_model.specs.Pair.{next_of, pair, link_at, pairs_by}
-use Rattle.plant_core.specs.Doing.{next_uses, SlaveActs, GoesOn, Delivers}
+use Rattle.plant_core.specs.Doing.{next_uses, slave_move, SlaveActs, GoesOn, Delivers}
 use Rattle.plant_core.specs.Link.{LinkView, LinkStands, MasterNoted}
 use Rattle.plant_model.specs.Promises.{OffersAnswer, GuardsAnswer}
-use Rattle.plant_core.specs.Standing.{PlantView, LinkIs, LinksAre, HasDone}
+use Rattle.plant_core.specs.Standing.{PlantView, LinkIs, LinksAre, HasDone, lengths_kept}
 use Rattle.plant_model.proofs.Growing.{no_entry, IsOne, pair_one, pair_own, pair_other, with_frame, sent_in, frames_next, pushes_each, each_none, each_one}
+use Rattle.plant_core.proofs.Acting.{Placed, kept_fits}
 use Rattle.plant_core.proofs.Linking.{from_one, each_at, each_map, each_set}
 use Rattle.plant_model.proofs.Masters.{not_same}
 
@@ -172,19 +179,46 @@ slave_acted b act done old new s n what before after a c h =
       pushed = subst (λ (us : List Use). Trace us before after) (sym uses) (c.acts.acts beside.link (pair beside.link n steps) beside.holds.stands).channel;
     }
 
+-- each profile allows a session id of 16 bits
+short_id : (profile : Profile) (id : ℕ) → id ≤ 65535 → IsTrue (allows_id profile id)
+short_id profile.One id le = le-leb id 65535 le
+short_id (profile.Two word) id le = refl
+
 -- an event of the script at a slave
-pub record SlaveEvent (e : PlantEvent) (n : ℕ) (what : Move) : Type 0 where
+record SlaveEvent (e : PlantEvent) (n : ℕ) (what : Move) : Type 0 where
   pub call : event_call e ≡ None
   pub one : IsOne (step.Script e) n side.Slave what
   pub cuts : (k : ℕ) (before : Bool) → cut_after k e before ≡ before
 
-pub slave_event : (old new : PlantView) (e : PlantEvent) (n : ℕ) (what : Move) (before after : Told) → SlaveEvent e n what → SlaveChange old new (step.Script e) n what before after
+-- so is each that has something happen to a slave
+slave_events : (e : PlantEvent) → IfSome (slave_move e) (λ to. SlaveEvent e to.0 to.1)
+slave_events (event.Put link load) = record { call = refl; one = record { part = λ k. refl }; cuts = λ k before. refl }
+slave_events (event.Hold link failsafe) = record { call = refl; one = record { part = λ k. refl }; cuts = λ k before. refl }
+slave_events (event.Local link) = record { call = refl; one = record { part = λ k. refl }; cuts = λ k before. refl }
+slave_events (event.Nonce link side.Slave id) = record { call = refl; one = record { part = λ k. refl }; cuts = λ k before. refl }
+slave_events _ = tt
+
+-- and is proper for it
+proper_moves : (vs : List LinkView) (place : ℕ) (v : LinkView) (e : PlantEvent) → Fits (lengths_kept vs) e → IfSome (slave_move e) (λ to. Placed vs to.0 place v → IsProper (OfSlave v.slave.kit.settings) to.1)
+proper_moves vs place v (event.Put link load) fits = λ p. kept_fits vs link place v (length load) p fits
+proper_moves vs place v (event.Hold link failsafe) fits = λ p. tt
+proper_moves vs place v (event.Local link) fits = λ p. tt
+proper_moves vs place v (event.Nonce link side.Slave id) fits = λ p. short_id v.slave.kit.settings.profile id fits.1
+proper_moves vs place v _ fits = tt
+
+pub proper_move : (vs : List LinkView) (place : ℕ) (v : LinkView) (e : PlantEvent) (n : ℕ) (what : Move) → slave_move e ≡ Some (n, what) → Fits (lengths_kept vs) e → Placed vs n place v → IsProper (OfSlave v.slave.kit.settings) what
+proper_move vs place v e n what is fits =
+    subst (λ (o : Option (ℕ × Move)). IfSome o (λ to. Placed vs to.0 place v → IsProper (OfSlave v.slave.kit.settings) to.1)) is (proper_moves vs place v e fits)
+
+pub slave_event : (old new : PlantView) (e : PlantEvent) (n : ℕ) (what : Move) (before after : Told) → slave_move e ≡ Some (n, what) → SlaveChange old new (step.Script e) n what before after
     → GoesOn old (Happen (Event e) ∷ []) new before after
-slave_event old new e n what before after s c = record {
-  goes = λ b done h.
-      let acted = slave_acted b (Happen (Event e)) done old new (step.Script e) n what before after (record { call = s.call; steps = refl; one = s.one; cuts = λ k done. s.cuts k (is_cut k done) }) c h in
-      record { has_done = acted.has_done; channel = acted.pushed };
-}
+slave_event old new e n what before after is c =
+    let s : SlaveEvent e n what = subst (λ (o : Option (ℕ × Move)). IfSome o (λ to. SlaveEvent e to.0 to.1)) is (slave_events e) in
+    record {
+      goes = λ b done h.
+          let acted = slave_acted b (Happen (Event e)) done old new (step.Script e) n what before after (record { call = s.call; steps = refl; one = s.one; cuts = λ k done. s.cuts k (is_cut k done) }) c h in
+          record { has_done = acted.has_done; channel = acted.pushed };
+    }
 
 -- a parcel for a slave
 delivery_to_slave : (o : Option LinkConf) (n : ℕ) (frame : List ℕ) → delivery_call o side.Slave n frame ≡ None
@@ -202,19 +236,6 @@ slave_delivered old new n frame before after c = record {
         record { has_done = acted.has_done; channel = (before, pulled, acted.pushed) };
   };
 }
-
--- a setting sends nothing, so that nothing is done with the channel
-pub put_acts : (k : ℕ) (load : List ℕ) (old new : LinkView) (t : Told) → ((link : LinkConf) (w : List Entry) → LinkStands link old w → LinkStands link new (next_of side.Slave (move.Put load) link w ∷ w))
-    → SlaveActs k (move.Put load) old new t t
-put_acts k load old new t h = record { acts = λ link w s. record { stands = h link w s; channel = refl } }
-
-pub hold_acts : (k : ℕ) (failsafe : Bool) (old new : LinkView) (t : Told) → ((link : LinkConf) (w : List Entry) → LinkStands link old w → LinkStands link new (next_of side.Slave (move.Hold failsafe) link w ∷ w))
-    → SlaveActs k (move.Hold failsafe) old new t t
-hold_acts k failsafe old new t h = record { acts = λ link w s. record { stands = h link w s; channel = refl } }
-
-pub nonce_acts : (k id : ℕ) (old new : LinkView) (t : Told) → ((link : LinkConf) (w : List Entry) → LinkStands link old w → LinkStands link new (next_of side.Slave (move.Nonce id) link w ∷ w))
-    → SlaveActs k (move.Nonce id) old new t t
-nonce_acts k id old new t h = record { acts = λ link w s. record { stands = h link w s; channel = refl } }
 
 -- a session id changes no offer
 same_offers : (m : Meant) (link id : ℕ) (o : Option Connection) → connection link m ≡ o → map offer_at (replaced link (option_map (with_event (move.Nonce id)) o) m).connections ≡ map offer_at m.connections

@@ -1,6 +1,6 @@
 -- How the parts of a plant do an act, step by step. Contracts of private functions alone rest on these words. Entries and acts are listed
 -- newest first, steps oldest first.
-use Rattle.std.specs.Prelude.{◌≡◌, ◌≤◌, ◌+◌, ◌*◌, nat_lt, ℕ, suc, Bool, true, List, [], ◌∷◌, ◌++◌, map, take, length, slice_get, Some, if◌then◌else◌}
+use Rattle.std.specs.Prelude.{◌≡◌, ◌≤◌, ◌+◌, ◌*◌, nat_lt, ℕ, suc, Bool, true, List, [], ◌∷◌, ◌++◌, map, take, length, slice_get, Option, Some, None, if◌then◌else◌}
 use Rattle.fsoe_base.specs.declared.command.End.{End}
 use Rattle.fsoe_base.specs.declared.command.End.TheVariants as side
 use Rattle.fsoe_base.specs.declared.did.Did.{Did}
@@ -91,6 +91,14 @@ pub record OffersNoted (master : MultiView) (old new : List LinkView) (before af
 -- what contracts see of these parts of a plant
 abbrev pub sees : {A : Type 0} → (A → Rule) → (A → List ℕ) → (A → Bit → Bit → Bool) → MultiValue A → List LinkView → List JournalStep → PlantView
 sees rule holds guards master links journal = record { master = multi.seen rule holds guards master; links = links; journal = journal }
+
+-- what an event of the script has happen to the slave of a connection, with the number of this, if it does
+abbrev pub slave_move : PlantEvent → Option (ℕ × Move)
+slave_move (event.Put link load) = Some (link, move.Put load)
+slave_move (event.Hold link failsafe) = Some (link, move.Hold failsafe)
+slave_move (event.Local link) = Some (link, move.Local)
+slave_move (event.Nonce link side.Slave id) = Some (link, move.Nonce id)
+slave_move _ = None
 
 -- the most steps that an event may note, where there are so many connections: at a tick its own and those of the offers of its cycle, and
 -- as many again for each of 64 parcels

@@ -1,16 +1,19 @@
 //! Both ends of all connections of a plant.
 ghost use Rattle.std.specs.Prelude.{◌≡◌, ◌≤◌, ◌<◌, ◌+◌, ◌*◌, [], ◌∷◌, ◌++◌, Some, None, length, vec_len, vec_capacity};
 ghost use Rattle.plant_model.specs.declared.journal.JournalStep.TheVariants as step;
-ghost use Rattle.plant_core.specs.Doing.{room_for};
+ghost use Rattle.plant_core.specs.Doing.{room_for, slave_move};
 
 use crate::journal::note;
 use crate::link::Link;
 use crate::offers::note_offers;
-use crate::pushing::{deliver_to_slave, master_acted, masters_ticked, reset_slave, tick_slaves};
+use crate::pushing::{
+    deliver_to_slave, happen_at_slave, master_acted, masters_ticked, tick_slaves,
+};
 use black_channel::{Channel, Parcel, Place};
 use failsafe_io::Application;
-use fsoe_base::{Did, End, FrameBuf, Image};
+use fsoe_base::{Did, End, FrameBuf};
 use multi_master::MultiMaster;
+use param_load::Move;
 use plant_model::{JournalStep, PlantEvent};
 
 /// The most parcels that are pulled in a tick.
@@ -23,8 +26,8 @@ pub(crate) struct Ends<A> {
     pub(crate) links: Vec<Link>,
     pub(crate) dids: Vec<Did>,
     pub(crate) outs: Vec<FrameBuf>,
-    /// Where an end writes what it did at the last frame that was pulled. Its place for data stays, since ticks have
-    /// places of their own.
+    /// Where an end writes what it did at the last frame that was pulled, or at the last event at a slave. Its place for
+    /// data stays, since ticks have places of their own.
     pub(crate) heard: Did,
     /// Where an end writes what it sent then.
     pub(crate) sent: FrameBuf,
@@ -44,6 +47,36 @@ fn note_pulled(to: Place, frame: &FrameBuf, steps: &mut Vec<JournalStep>)
     note(steps, JournalStep::Pulled(parcel));
 }
 
+/// Notes an event of the script in the journal.
+fn note_event(event: &PlantEvent, steps: &mut Vec<JournalStep>)
+    requires room { vec_len steps.old + 1 ≤ vec_capacity steps.old }
+    ensures noted { steps.new.items ≡ steps.old.items ++ step.Script event.now ∷ [] }
+    ensures count { vec_len steps.new ≡ vec_len steps.old + 1 }
+{
+    let event = match event {
+        PlantEvent::Tick => PlantEvent::Tick,
+        PlantEvent::Put { link, load } => PlantEvent::Put {
+            link: *link,
+            load: load.copy(),
+        },
+        PlantEvent::Hold { link, failsafe } => PlantEvent::Hold {
+            link: *link,
+            failsafe: *failsafe,
+        },
+        PlantEvent::Local { link } => PlantEvent::Local { link: *link },
+        PlantEvent::Nonce { link, end, id } => PlantEvent::Nonce {
+            link: *link,
+            end: *end,
+            id: *id,
+        },
+        PlantEvent::Cut { link, cut } => PlantEvent::Cut {
+            link: *link,
+            cut: *cut,
+        },
+    };
+    note(steps, JournalStep::Script(event));
+}
+
 impl<A: Application> Ends<A> {
     ghost use Rattle.fsoe_base.specs.declared.command.End.TheVariants as side;
     ghost use Rattle.multi_master.specs.Calls.{ChangeApp};
@@ -52,9 +85,8 @@ impl<A: Application> Ends<A> {
     ghost use Rattle.plant_model.specs.Acts.{Event, App, Happen};
     ghost use Rattle.plant_core.specs.Doing.{GoesOn, Delivers, OffersNoted, PullsAll, Turns, sees};
     ghost use Rattle.plant_core.specs.Standing.{IsPlant, fixed_in, lengths_kept};
-    ghost use Rattle.std.specs.Prelude.{IsSomeAnd};
     ghost use Rattle.black_channel.specs.Told.{Told};
-    ghost use Rattle.plant_model.specs.FairPairs.{Fits, lengths_at};
+    ghost use Rattle.plant_model.specs.FairPairs.{Fits};
     ghost use Rattle.plant_model.specs.declared.event.PlantEvent.TheVariants as event;
 
     /// Counts a tick at all ends, and notes the offers that the cycle changed.
@@ -208,73 +240,28 @@ impl<A: Application> Ends<A> {
         self.pull_all(steps, channel);
     }
 
-    /// Sets the safe data that the slave of this connection sends from now on.
-    fn put(&mut self, link: u16, load: &Image, steps: &mut Vec<JournalStep>)
+    /// An event of the script happens at the slave of this connection, and its frame is pushed.
+    fn happen_at_slave<C: Channel>(
+        &mut self,
+        event: &PlantEvent,
+        link: u16,
+        what: &Move,
+        steps: &mut Vec<JournalStep>,
+        channel: &mut C,
+    )
+        requires is { slave_move event.now ≡ Some (link, what.now) }
         requires first { 1 ≤ link }
         requires last { link ≤ vec_len self.old.links }
-        requires fits { IsSomeAnd (lengths_at (lengths_kept self.old.links.items) link) (λ ends. length load.now ≡ ends.slave) }
+        requires fits { Fits (lengths_kept self.old.links.items) event.now }
         requires ready { IsPlant self.old.master self.old.links.items self.old.dids.items self.old.outs.items (vec_len steps.old) }
         requires room { vec_len steps.old + 1 ≤ vec_capacity steps.old }
-        ensures goes { let seen = sees A.rule A.holds A.guards in (told : Told) → GoesOn (seen self.old.master self.old.links.items steps.old.items) (Happen (Event (event.Put link load.now)) ∷ []) (seen self.new.master self.new.links.items steps.new.items) told told }
+        ensures goes { let seen = sees A.rule A.holds A.guards in GoesOn (seen self.old.master self.old.links.items steps.old.items) (Happen (Event event.now) ∷ []) (seen self.new.master self.new.links.items steps.new.items) (C.told channel.old) (C.told channel.new) }
         ensures ready { IsPlant self.new.master self.new.links.items self.new.dids.items self.new.outs.items (vec_len steps.new) }
         ensures fixed { fixed_in self.new.links.items ≡ fixed_in self.old.links.items }
     {
-        let event = PlantEvent::Put {
-            link,
-            load: load.copy(),
-        };
-        note(steps, JournalStep::Script(event));
-        self.links[usize::from(link) - 1].put(load.bytes());
-    }
-
-    /// Switches fail-safe data of the slave of this connection on or off.
-    fn hold(&mut self, link: u16, failsafe: bool, steps: &mut Vec<JournalStep>)
-        requires first { 1 ≤ link }
-        requires last { link ≤ vec_len self.old.links }
-        requires ready { IsPlant self.old.master self.old.links.items self.old.dids.items self.old.outs.items (vec_len steps.old) }
-        requires room { vec_len steps.old + 1 ≤ vec_capacity steps.old }
-        ensures goes { let seen = sees A.rule A.holds A.guards in (told : Told) → GoesOn (seen self.old.master self.old.links.items steps.old.items) (Happen (Event (event.Hold link failsafe)) ∷ []) (seen self.new.master self.new.links.items steps.new.items) told told }
-        ensures ready { IsPlant self.new.master self.new.links.items self.new.dids.items self.new.outs.items (vec_len steps.new) }
-        ensures fixed { fixed_in self.new.links.items ≡ fixed_in self.old.links.items }
-    {
-        note(
-            steps,
-            JournalStep::Script(PlantEvent::Hold { link, failsafe }),
-        );
-        self.links[usize::from(link) - 1].hold(failsafe);
-    }
-
-    /// The slave of this connection is reset, and its frame is pushed.
-    fn reset<C: Channel>(&mut self, link: u16, steps: &mut Vec<JournalStep>, channel: &mut C)
-        requires first { 1 ≤ link }
-        requires last { link ≤ vec_len self.old.links }
-        requires ready { IsPlant self.old.master self.old.links.items self.old.dids.items self.old.outs.items (vec_len steps.old) }
-        requires room { vec_len steps.old + 1 ≤ vec_capacity steps.old }
-        ensures goes { let seen = sees A.rule A.holds A.guards in GoesOn (seen self.old.master self.old.links.items steps.old.items) (Happen (Event (event.Local link)) ∷ []) (seen self.new.master self.new.links.items steps.new.items) (C.told channel.old) (C.told channel.new) }
-        ensures ready { IsPlant self.new.master self.new.links.items self.new.dids.items self.new.outs.items (vec_len steps.new) }
-        ensures fixed { fixed_in self.new.links.items ≡ fixed_in self.old.links.items }
-    {
-        note(steps, JournalStep::Script(PlantEvent::Local { link }));
-        reset_slave(link, &mut self.links[usize::from(link) - 1], channel);
-    }
-
-    /// Sets the session id with which the slave of this connection begins its next session.
-    fn slave_nonce(&mut self, link: u16, id: u16, steps: &mut Vec<JournalStep>)
-        requires first { 1 ≤ link }
-        requires last { link ≤ vec_len self.old.links }
-        requires ready { IsPlant self.old.master self.old.links.items self.old.dids.items self.old.outs.items (vec_len steps.old) }
-        requires room { vec_len steps.old + 1 ≤ vec_capacity steps.old }
-        ensures goes { let seen = sees A.rule A.holds A.guards in (told : Told) → GoesOn (seen self.old.master self.old.links.items steps.old.items) (Happen (Event (event.Nonce link side.Slave id)) ∷ []) (seen self.new.master self.new.links.items steps.new.items) told told }
-        ensures ready { IsPlant self.new.master self.new.links.items self.new.dids.items self.new.outs.items (vec_len steps.new) }
-        ensures fixed { fixed_in self.new.links.items ≡ fixed_in self.old.links.items }
-    {
-        let event = PlantEvent::Nonce {
-            link,
-            end: End::Slave,
-            id,
-        };
-        note(steps, JournalStep::Script(event));
-        self.links[usize::from(link) - 1].nonce(u32::from(id));
+        note_event(event, steps);
+        let kept = &mut self.links[usize::from(link) - 1];
+        happen_at_slave(link, kept, what, channel, &mut self.heard, &mut self.sent);
     }
 
     /// Sets the session id with which the master of this connection begins its next session.
@@ -332,19 +319,29 @@ impl<A: Application> Ends<A> {
     {
         match event {
             PlantEvent::Tick => self.tick_and_pull(steps, channel),
-            PlantEvent::Put { link, load } => self.put(*link, load, steps),
-            PlantEvent::Hold { link, failsafe } => self.hold(*link, *failsafe, steps),
-            PlantEvent::Local { link } => self.reset(*link, steps, channel),
+            PlantEvent::Put { link, load } => {
+                let what = Move::Put(load.copy());
+                self.happen_at_slave(event, *link, &what, steps, channel);
+            }
+            PlantEvent::Hold { link, failsafe } => {
+                self.happen_at_slave(event, *link, &Move::Hold(*failsafe), steps, channel);
+            }
+            PlantEvent::Local { link } => {
+                self.happen_at_slave(event, *link, &Move::Local, steps, channel);
+            }
+            PlantEvent::Nonce {
+                link,
+                end: End::Slave,
+                id,
+            } => {
+                let what = Move::Nonce(u32::from(*id));
+                self.happen_at_slave(event, *link, &what, steps, channel);
+            }
             PlantEvent::Nonce {
                 link,
                 end: End::Master,
                 id,
             } => self.master_nonce(*link, *id, steps),
-            PlantEvent::Nonce {
-                link,
-                end: End::Slave,
-                id,
-            } => self.slave_nonce(*link, *id, steps),
             PlantEvent::Cut { link, cut } => self.cut(*link, *cut, steps),
         }
     }

@@ -3,20 +3,24 @@ ghost use Rattle.std.specs.Prelude.{◌≡◌, ◌+◌, ◌<◌, ◌≤◌, ◌^
 ghost use Rattle.fsoe_base.specs.Image.{bit_of};
 ghost use Rattle.param_load.specs.declared.entry.Move.TheVariants as event;
 ghost use Rattle.end_model.specs.Readiness as model;
+ghost use Rattle.end_model.specs.Setup.{OfSlave};
+ghost use Rattle.end_model.specs.Step.{IsProper};
 ghost use Rattle.end_model.specs.Outputs as looking_back;
 ghost use Rattle.param_load.specs.declared.entry.Entry.{Entry};
+ghost use Rattle.exchange_model.specs.Honest.{is_tick};
 ghost use Rattle.exchange_model.specs.Monitor.{view_of, NotesParts};
 ghost use Rattle.exchange_model.specs.Other.{first_other};
-ghost use Rattle.fsoe_base.specs.Did.{nothing};
 ghost use Rattle.fsoe_base.specs.declared.command.End.TheVariants as side;
 ghost use Rattle.fsoe_base.specs.declared.lengths.TheConstants.{MOST_DATA};
 ghost use Rattle.plant_core.specs.Link.{NotesSlave, ages_in, monitor_in};
 ghost use Rattle.reaction_bound.specs.Age.{told_age, worst_of};
 ghost use Rattle.reaction_bound.specs.Ages as ages;
-ghost use Rattle.slave_core.specs.Standing.{Shows};
+ghost use Rattle.slave_core.specs.Standing.{Answers, Follows, Shows};
 
 use crate::watch::Watch;
+use exchange_model::delivered;
 use fsoe_base::{Did, End, FrameBuf, State};
+use param_load::Move;
 use plant_conf::LinkConf;
 use slave_core::Slave;
 use std::marker::Model;
@@ -55,22 +59,36 @@ fn note_slave(slave: &Slave, watch: &mut Watch, tick: bool, came: &[u8], did: &D
     watch.note_parts(End::Slave, tick, came, did, sent, watchdog);
 }
 
-/// Notes an entry of a slave in which something was set, and nothing done.
-fn note_setting(slave: &Slave, watch: &mut Watch)
-    requires few { (monitor_in watch.old).noted + 1 < 2 ^ 64 }
-    ensures noted { NotesParts (monitor_in watch.old) side.Slave [] nothing [] (monitor_in watch.new) }
-    ensures ages { NotesSlave slave.now (ages_in watch.old) false [] nothing [] (ages_in watch.new) }
-    ensures count { (monitor_in watch.new).noted ≡ (monitor_in watch.old).noted + 1 }
-    ensures aged { is_some (ages_in watch.new) ≡ is_some (ages_in watch.old) }
+/// Whether an event is a tick.
+fn is_tick(what: &Move) -> bool
+    ensures { result ≡ is_tick what.now }
 {
-    note_slave(slave, watch, false, &[], &Did::nothing(), &FrameBuf::new());
+    matches!(what, Move::Tick)
+}
+
+/// Lets this event happen at a slave, and writes what it did and the frame that it sent.
+#[tactic(auto, using(slave_core::proofs::Law::set_answers))]
+fn act(slave: &mut Slave, what: &Move, did: &mut Did, out: &mut FrameBuf)
+    requires { IsProper (OfSlave slave.old.kit.settings) what.now }
+    ensures follows { Follows slave.old what.now slave.new }
+    ensures answers { Answers slave.old what.now did.new out.new }
+    ensures settings { slave.new.kit.settings ≡ slave.old.kit.settings }
+{
+    // A setting does nothing else, and sends nothing.
+    did.clear();
+    out.clear();
+    match what {
+        Move::Deliver(frame) => slave.deliver_into(frame.bytes(), did, out),
+        Move::Tick => slave.tick_into(did, out),
+        Move::Put(load) => slave.put(load.bytes()),
+        Move::Hold(failsafe) => slave.hold(*failsafe),
+        Move::Nonce(id) => slave.nonce(*id),
+        Move::Local => *did = slave.reset(out),
+    }
 }
 
 impl Link {
     ghost use Rattle.plant_core.specs.Link.{new_link, SlaveGoesOn, MasterNoted, NotesOne};
-    ghost use Rattle.std.specs.Prelude.{IsTrue};
-    ghost use Rattle.param_load.specs.Profile.{allows_id};
-    ghost use Rattle.end_model.specs.Setup.{OfSlave, sends};
 
     /// Creates the slave of this connection, which isn't cut. With `aged` the ages of the outputs are counted.
     #[tactic(auto, using(crate::proofs::Linked::is_new))]
@@ -85,18 +103,21 @@ impl Link {
         }
     }
 
-    /// Counts a tick at the slave, and writes what it did and the frame that it sent.
+    /// Lets this event happen at the slave, and writes what it did and the frame that it sent.
     #[tactic(auto, using(crate::proofs::Linked::slave_goes, crate::proofs::Linked::notes_one))]
-    pub(crate) fn tick(&mut self, did: &mut Did, out: &mut FrameBuf)
+    pub(crate) fn happen(&mut self, what: &Move, did: &mut Did, out: &mut FrameBuf)
         requires few { self.old.monitor.noted + 1 < 2 ^ 64 }
-        ensures goes { SlaveGoesOn self.old event.Tick did.new out.new self.new }
+        requires proper { IsProper (OfSlave self.old.slave.kit.settings) what.now }
+        ensures goes { SlaveGoesOn self.old what.now did.new out.new self.new }
         ensures notes { NotesOne self.old self.new }
     {
-        self.slave.tick_into(did, out);
-        note_slave(&self.slave, &mut self.watch, true, &[], did, out);
+        act(&mut self.slave, what, did, out);
+        let tick = is_tick(what);
+        let came = delivered(what);
+        note_slave(&self.slave, &mut self.watch, tick, came, did, out);
     }
 
-    /// Delivers a frame to the slave, and writes what it did and the frame that it sent.
+    /// Does the same with this frame that comes, and copies nothing.
     #[tactic(auto, using(crate::proofs::Linked::slave_goes, crate::proofs::Linked::notes_one))]
     pub(crate) fn deliver(&mut self, frame: &[u8], did: &mut Did, out: &mut FrameBuf)
         requires few { self.old.monitor.noted + 1 < 2 ^ 64 }
@@ -105,52 +126,6 @@ impl Link {
     {
         self.slave.deliver_into(frame, did, out);
         note_slave(&self.slave, &mut self.watch, false, frame, did, out);
-    }
-
-    /// Resets the slave, and writes what it did and the frame that it sent.
-    #[tactic(auto, using(crate::proofs::Linked::slave_goes, crate::proofs::Linked::notes_one))]
-    pub(crate) fn reset(&mut self, did: &mut Did, out: &mut FrameBuf)
-        requires few { self.old.monitor.noted + 1 < 2 ^ 64 }
-        ensures goes { SlaveGoesOn self.old event.Local did.new out.new self.new }
-        ensures notes { NotesOne self.old self.new }
-    {
-        *did = self.slave.reset(out);
-        note_slave(&self.slave, &mut self.watch, false, &[], did, out);
-    }
-
-    /// Sets the safe data that the slave sends from now on, exactly as many bytes as it sends.
-    #[tactic(auto, using(slave_core::proofs::Law::set_answers, crate::proofs::Linked::slave_goes, crate::proofs::Linked::notes_one))]
-    pub(crate) fn put(&mut self, load: &[u8])
-        requires few { self.old.monitor.noted + 1 < 2 ^ 64 }
-        requires fits { length load.now ≡ sends (OfSlave self.old.slave.kit.settings) }
-        ensures goes { SlaveGoesOn self.old (event.Put load.now) nothing [] self.new }
-        ensures notes { NotesOne self.old self.new }
-    {
-        self.slave.put(load);
-        note_setting(&self.slave, &mut self.watch);
-    }
-
-    /// Switches fail-safe data of the slave on or off.
-    #[tactic(auto, using(slave_core::proofs::Law::set_answers, crate::proofs::Linked::slave_goes, crate::proofs::Linked::notes_one))]
-    pub(crate) fn hold(&mut self, failsafe: bool)
-        requires few { self.old.monitor.noted + 1 < 2 ^ 64 }
-        ensures goes { SlaveGoesOn self.old (event.Hold failsafe) nothing [] self.new }
-        ensures notes { NotesOne self.old self.new }
-    {
-        self.slave.hold(failsafe);
-        note_setting(&self.slave, &mut self.watch);
-    }
-
-    /// Sets the session id of all sessions of the slave that begin from now on, one that its profile allows.
-    #[tactic(auto, using(slave_core::proofs::Law::set_answers, crate::proofs::Linked::slave_goes, crate::proofs::Linked::notes_one))]
-    pub(crate) fn nonce(&mut self, id: u32)
-        requires few { self.old.monitor.noted + 1 < 2 ^ 64 }
-        requires allowed { IsTrue (allows_id self.old.slave.kit.settings.profile id) }
-        ensures goes { SlaveGoesOn self.old (event.Nonce id) nothing [] self.new }
-        ensures notes { NotesOne self.old self.new }
-    {
-        self.slave.nonce(id);
-        note_setting(&self.slave, &mut self.watch);
     }
 
     /// Notes an entry of the master, by whether it is a tick, the bytes that came, what it did and the frame that it

@@ -1,5 +1,7 @@
 //! What an end of a connection sends goes to the channel.
 ghost use Rattle.std.specs.Prelude.{◌≡◌, ◌≤◌, ◌<◌, ◌+◌, ◌-◌, ◌^◌, ℕ, [], length};
+ghost use Rattle.end_model.specs.Setup.{OfSlave};
+ghost use Rattle.end_model.specs.Step.{IsProper};
 ghost use Rattle.param_load.specs.declared.entry.Move.TheVariants as event;
 ghost use Rattle.plant_model.specs.Uses.{place_of, sent_uses, Trace};
 ghost use Rattle.plant_core.specs.Doing.{SlaveActs, MasterActs, SlavesTick, MastersNoted};
@@ -9,6 +11,7 @@ ghost use Rattle.plant_core.specs.Link.{NotesOne};
 use crate::link::Link;
 use black_channel::{Channel, Place};
 use fsoe_base::{Did, End, FrameBuf};
+use param_load::Move;
 
 /// Pushes a frame for this end of a connection, if there is one and the connection isn't cut.
 pub(crate) fn push_sent<C: Channel>(
@@ -29,24 +32,26 @@ pub(crate) fn push_sent<C: Channel>(
     channel.push(Place { link, end }, frame.bytes());
 }
 
-/// The slave of this connection ticks, and its frame is pushed.
+/// This event happens at the slave of this connection, and its frame is pushed.
 #[tactic(auto, using(crate::proofs::Acting::slave_acts))]
-fn tick_slave<C: Channel>(
+pub(crate) fn happen_at_slave<C: Channel>(
     number: u16,
     link: &mut Link,
+    what: &Move,
     channel: &mut C,
     did: &mut Did,
     out: &mut FrameBuf,
 )
     requires few { link.old.monitor.noted + 1 < 2 ^ 64 }
-    ensures acts { SlaveActs number event.Tick link.old link.new (C.told channel.old) (C.told channel.new) }
+    requires proper { IsProper (OfSlave link.old.slave.kit.settings) what.now }
+    ensures acts { SlaveActs number what.now link.old link.new (C.told channel.old) (C.told channel.new) }
     ensures notes { NotesOne link.old link.new }
 {
-    link.tick(did, out);
+    link.happen(what, did, out);
     push_sent(channel, number, End::Master, out, link.is_cut());
 }
 
-/// A frame comes to the slave of this connection, and its answer is pushed.
+/// The same for this frame that comes, which is not copied.
 #[tactic(auto, using(crate::proofs::Acting::slave_acts))]
 pub(crate) fn deliver_to_slave<C: Channel>(
     number: u16,
@@ -62,19 +67,6 @@ pub(crate) fn deliver_to_slave<C: Channel>(
 {
     link.deliver(frame, did, out);
     push_sent(channel, number, End::Master, out, link.is_cut());
-}
-
-/// The slave of this connection is reset, and its frame is pushed.
-#[tactic(auto, using(crate::proofs::Acting::slave_acts))]
-pub(crate) fn reset_slave<C: Channel>(number: u16, link: &mut Link, channel: &mut C)
-    requires few { link.old.monitor.noted + 1 < 2 ^ 64 }
-    ensures acts { SlaveActs number event.Local link.old link.new (C.told channel.old) (C.told channel.new) }
-    ensures notes { NotesOne link.old link.new }
-{
-    let mut did = Did::nothing();
-    let mut out = FrameBuf::new();
-    link.reset(&mut did, &mut out);
-    push_sent(channel, number, End::Master, &out, link.is_cut());
 }
 
 /// Notes what the master of this connection did, by whether it was in a tick and by the bytes that came, and pushes its
@@ -108,7 +100,14 @@ pub(crate) fn tick_slaves<C: Channel>(links: &mut [Link], channel: &mut C)
     let mut did = Did::nothing();
     let mut out = FrameBuf::new();
     for i in 0..links.len() {
-        tick_slave(i as u16 + 1, &mut links[i], channel, &mut did, &mut out);
+        happen_at_slave(
+            i as u16 + 1,
+            &mut links[i],
+            &Move::Tick,
+            channel,
+            &mut did,
+            &mut out,
+        );
     }
 }
 

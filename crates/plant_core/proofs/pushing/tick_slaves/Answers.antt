@@ -14,27 +14,27 @@ loop-i-init g c = record {
   fixed = refl;
 }
 
-pub tick_slave-requires : goal.tick_slave-requires
-tick_slave-requires g c =
+pub happen_at_slave-requires : goal.happen_at_slave-requires
+happen_at_slave-requires g c =
     let i : ℕ = c.loop-i.i in
     let v : LinkView = slice_index_or c.loop-i.links i c.index-links-i.result in
     let at : slice_get c.loop-i.links i ≡ Some v = slice_get-get_or c.loop-i.links i c.index-links-i.result (omega arith) in
     let le = (c.loop-i.invariant.noted (2 ^ 64 - 2) c.requires.few).rest i v (omega arith) at in
-    record { few = omega arith }
+    record { few = omega arith; proper = tt }
 
 pub loop-i-preserved : goal.loop-i-preserved
 loop-i-preserved g c =
     let i : ℕ = c.loop-i.i in
     let v : LinkView = slice_index_or c.loop-i.links i c.index-links-i.result in
     let at : slice_get c.loop-i.links i ≡ Some v = slice_get-get_or c.loop-i.links i c.index-links-i.result (omega arith) in
-    let new : LinkView = c.tick_slave.new.link in
+    let new : LinkView = c.happen_at_slave.new.link in
     let one : i + 1 ≡ suc i = omega arith in
     record {
       acted = λ links cut done h.
           acted_more i (i + 1) side.Master links cut done (λ k link. next_of side.Slave move.Tick link (done k link)) c.loop-i.links v new _ _ _ (c.loop-i.invariant.acted links cut done h) at one
-          (λ link is stands. let a = c.tick_slave.ensures.acts.acts link (done (i + 1) link) stands in record { stands = a.stands; channel = a.channel }) c.tick_slave.ensures.notes.cut;
-      noted = λ most h. noted_more i (i + 1) most c.loop-i.links v new (c.loop-i.invariant.noted most h) at refl c.tick_slave.ensures.notes.noted;
-      fixed = fixed_set c.loop-i.links i v new at c.tick_slave.ensures.notes.fixed ∙ c.loop-i.invariant.fixed;
+          (λ link is stands. let a = c.happen_at_slave.ensures.acts.acts link (done (i + 1) link) stands in record { stands = a.stands; channel = a.channel }) c.happen_at_slave.ensures.notes.cut;
+      noted = λ most h. noted_more i (i + 1) most c.loop-i.links v new (c.loop-i.invariant.noted most h) at refl c.happen_at_slave.ensures.notes.noted;
+      fixed = fixed_set c.loop-i.links i v new at c.happen_at_slave.ensures.notes.fixed ∙ c.loop-i.invariant.fixed;
     }
 
 pub returns-clause-tick : goal.returns-clause-tick
