@@ -1,12 +1,12 @@
 -- What stays when answers are put, and when all masters tick.
-use Rattle.std.proofs.Common.{◌≡◌, ℕ, zero, suc, List, [], ◌∷◌, ◌++◌, map, length, take, drop, All, Bool, false, slice_get, slice_set, Some, refl, sym, ap, ap₂, subst, ◌∙◌, arith}
+use Rattle.std.proofs.Common.{◌≡◌, ℕ, List, [], ◌∷◌, ◌++◌, map, length, take, drop, All, Bool, false, slice_get, slice_set, Some, refl, sym, ap, subst, ◌∙◌, arith}
 use Rattle.std.proofs.lemmas.Grind.{common_steps}
 use Rattle.std.proofs.lemmas.List.{map-set, set-set}
-use Rattle.std.proofs.lemmas.List.Elements.{All-head, All-tail, All-nil, All-cons}
+use Rattle.std.proofs.lemmas.List.Elements.{All-head, All-tail, All-nil, All-cons, All-map, All-weaker}
 use Rattle.fsoe_base.specs.declared.did.Did.{Did}
 use Rattle.param_load.specs.declared.master_settings.MasterSettings.{MasterSettings}
 use Rattle.master_core.specs.MasterView.{MasterView}
-use Rattle.multi_master.specs.Puts.{own_len, due_in, PutStep, IsPutStep, PutsEach, TickStep, IsTickStep, TicksEach}
+use Rattle.multi_master.specs.Puts.{own_len, due_in, IsPutStep, PutsEach, IsTickStep, TicksEach}
 use Rattle.multi_master.specs.Standing.{settings_in, IsMulti, IsNumber, AreNumbers}
 use Rattle.multi_master.proofs.Places.{map_set, same_length}
 
@@ -18,40 +18,26 @@ lens_in (m ∷ ms) = ap (λ (ns : List ℕ). own_len m ∷ ns) (lens_in ms)
 pub same_lens : (ms ns : List MasterView) → map settings_in ms ≡ map settings_in ns → map own_len ms ≡ map own_len ns
 same_lens ms ns h = lens_in ms ∙ ap (λ (ss : List MasterSettings). map (λ s. s.lengths.master) ss) h ∙ sym (lens_in ns)
 
-steps-settings : (steps : List PutStep) → All IsPutStep steps → map settings_in (map (λ x. x.new) steps) ≡ map settings_in (map (λ x. x.old) steps)
-steps-settings [] s = refl
-steps-settings (x ∷ xs) s =
-    ap₂ (λ (a : MasterSettings) (rest : List MasterSettings). a ∷ rest) (All-head IsPutStep x xs s).settings (steps-settings xs (All-tail IsPutStep x xs s))
-
-steps-due : (steps : List PutStep) → All IsPutStep steps → map due_in (map (λ x. x.new) steps) ≡ map due_in (map (λ x. x.old) steps)
-steps-due [] s = refl
-steps-due (x ∷ xs) s = ap₂ (λ (a : Bool) (rest : List Bool). a ∷ rest) (All-head IsPutStep x xs s).due (steps-due xs (All-tail IsPutStep x xs s))
+-- what each step leaves as it was at a master
+kept : {S A : Type 0} (Is : S → Type 0) (old new : S → MasterView) (what : MasterView → A) (steps : List S) → ((x : S) → Is x → what (new x) ≡ what (old x)) → All Is steps
+    → map what (map new steps) ≡ map what (map old steps)
+kept Is old new what [] so s = refl
+kept Is old new what (x ∷ xs) so s = rw (so x (All-head Is x xs s), kept Is old new what xs so (All-tail Is x xs s)) refl
 
 pub puts_settings : (old : List MasterView) (answers : List (List ℕ)) (new : List MasterView) (told : List ℕ) → PutsEach old answers new told → map settings_in new ≡ map settings_in old
-puts_settings old answers new told p =
-    ap (λ (ms : List MasterView). map settings_in ms) (sym p.new_are) ∙ steps-settings p.steps p.each ∙ ap (λ (ms : List MasterView). map settings_in ms) p.old_are
+puts_settings old answers new told p = rw (← p.new_are, ← p.old_are) (kept IsPutStep (λ x. x.old) (λ x. x.new) settings_in p.steps (λ x s. s.settings) p.each)
 
 pub puts_due : (old : List MasterView) (answers : List (List ℕ)) (new : List MasterView) (told : List ℕ) → PutsEach old answers new told → map due_in new ≡ map due_in old
-puts_due old answers new told p =
-    ap (λ (ms : List MasterView). map due_in ms) (sym p.new_are) ∙ steps-due p.steps p.each ∙ ap (λ (ms : List MasterView). map due_in ms) p.old_are
-
-ticks-settings : (steps : List TickStep) → All IsTickStep steps → map settings_in (map (λ x. x.new) steps) ≡ map settings_in (map (λ x. x.old) steps)
-ticks-settings [] s = refl
-ticks-settings (x ∷ xs) s =
-    ap₂ (λ (a : MasterSettings) (rest : List MasterSettings). a ∷ rest) (All-head IsTickStep x xs s).settings (ticks-settings xs (All-tail IsTickStep x xs s))
-
-ticks-rest : (steps : List TickStep) → All IsTickStep steps → All (λ m. due_in m ≡ false) (map (λ x. x.new) steps)
-ticks-rest [] s = All-nil (λ m. due_in m ≡ false)
-ticks-rest (x ∷ xs) s = All-cons (λ m. due_in m ≡ false) x.new (map (λ x. x.new) xs) (All-head IsTickStep x xs s).rest (ticks-rest xs (All-tail IsTickStep x xs s))
+puts_due old answers new told p = rw (← p.new_are, ← p.old_are) (kept IsPutStep (λ x. x.old) (λ x. x.new) due_in p.steps (λ x s. s.due) p.each)
 
 pub ticks_settings : (old : List MasterView) (inputs : List (List ℕ)) (new : List MasterView) (read : List (List ℕ)) (dids : List Did) (sent : List (List ℕ)) → TicksEach old inputs new read dids sent
     → map settings_in new ≡ map settings_in old
-ticks_settings old inputs new read dids sent p =
-    ap (λ (ms : List MasterView). map settings_in ms) (sym p.new_are) ∙ ticks-settings p.steps p.each ∙ ap (λ (ms : List MasterView). map settings_in ms) p.old_are
+ticks_settings old inputs new read dids sent p = rw (← p.new_are, ← p.old_are) (kept IsTickStep (λ x. x.old) (λ x. x.new) settings_in p.steps (λ x s. s.settings) p.each)
 
 pub ticks_rest : (old : List MasterView) (inputs : List (List ℕ)) (new : List MasterView) (read : List (List ℕ)) (dids : List Did) (sent : List (List ℕ)) → TicksEach old inputs new read dids sent
     → All (λ m. due_in m ≡ false) new
-ticks_rest old inputs new read dids sent p = subst (λ (ms : List MasterView). All (λ m. due_in m ≡ false) ms) p.new_are (ticks-rest p.steps p.each)
+ticks_rest old inputs new read dids sent p =
+    rw (← p.new_are) (All-map (λ m. due_in m ≡ false) (λ x. x.new) p.steps (All-weaker IsTickStep (λ x. due_in x.new ≡ false) (λ x s. s.rest) p.steps p.each))
 
 -- masters of which no frame is due, by whether it is
 pub all_rest : (ms ns : List MasterView) → map due_in ms ≡ map due_in ns → All (λ m. due_in m ≡ false) ns → All (λ m. due_in m ≡ false) ms
@@ -95,9 +81,3 @@ one_rest masters put k m accepted last e at was is h =
     ∙ map_set due_in masters k m last at (is ∙ sym was)
     in
     all_rest (slice_set put k last) masters same h
-
--- what holds of each is so at a place
-pub rest_at : (masters : List MasterView) (k : ℕ) (m : MasterView) → All (λ m. due_in m ≡ false) masters → slice_get masters k ≡ Some m → due_in m ≡ false
-rest_at [] k m h at = absurd (cc at)
-rest_at (n ∷ ms) zero m h at = let i : n ≡ m = cc in ap due_in (sym i) ∙ All-head (λ m. due_in m ≡ false) n ms h
-rest_at (n ∷ ms) (suc k) m h at = rest_at ms k m (All-tail (λ m. due_in m ≡ false) n ms h) at

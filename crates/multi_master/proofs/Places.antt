@@ -1,8 +1,10 @@
 -- Two lists side by side, at a place.
-use Rattle.std.proofs.Common.{◌≡◌, ℕ, zero, suc, ◌<◌, List, [], ◌∷◌, map, length, slice_get, slice_set, slice_index_or, Some, nat_eq, true, refl, sym, ap, subst, ◌∙◌, arith}
+use Rattle.std.proofs.Common.{◌≡◌, ℕ, zero, suc, ◌<◌, List, [], ◌∷◌, map, length, All, slice_get, slice_set, slice_index_or, Some, nat_eq, true, refl, sym, ap, subst, ◌∙◌, arith}
 use Rattle.std.specs.Cmp.Lexicographic.{pointwise}
 use Rattle.std.specs.List.{AllZip}
 use Rattle.std.proofs.lemmas.Cmp.{nat_list_eq_equiv}
+use Rattle.std.proofs.lemmas.List.Elements.{All-get_or}
+use Rattle.std.proofs.lemmas.Option.{get_or_from_slice_get, slice_get_within}
 
 -- what is at a place of the first list goes with what is at that place of the second
 pub record At {A B : Type 0} (R : A → B → Type 0) (xs : List A) (k : ℕ) (y : B) : Type 0 where
@@ -25,6 +27,10 @@ zip_set R (a ∷ xs) [] k x y h r = absurd h
 zip_set R (a ∷ xs) (b ∷ ys) zero x y h r = (r, h.1)
 zip_set R (a ∷ xs) (b ∷ ys) (suc k) x y h r = (h.0, zip_set R xs ys k x y h.1 r)
 
+-- what holds of each is so at a place
+pub all_at : {X : Type 0} (P : X → Type 0) (xs : List X) (k : ℕ) (x : X) → All P xs → slice_get xs k ≡ Some x → P x
+all_at P xs k x h e = subst P (get_or_from_slice_get xs k x x e) (All-get_or P xs k x (slice_get_within xs k x e) h)
+
 -- the same list where what stands at a place goes to the same as what stood there
 pub map_set : {A B : Type 0} (f : A → B) (xs : List A) (k : ℕ) (x y : A) → slice_get xs k ≡ Some x → f y ≡ f x → map f (slice_set xs k y) ≡ map f xs
 map_set f [] k x y e h = absurd (cc e)
@@ -43,12 +49,6 @@ pub set_there : {A : Type 0} (xs : List A) (k : ℕ) (x y : A) → slice_get xs 
 set_there [] k x y h = absurd (cc h)
 set_there (a ∷ xs) zero x y h = refl
 set_there (a ∷ xs) (suc k) x y h = set_there xs k x y h
-
--- what is there, set there, changes nothing
-pub set_same : {A : Type 0} (xs : List A) (k : ℕ) (x : A) → slice_get xs k ≡ Some x → slice_set xs k x ≡ xs
-set_same [] k x h = refl
-set_same (a ∷ xs) zero x h = let i : a ≡ x = cc in ap (λ z. z ∷ xs) (sym i)
-set_same (a ∷ xs) (suc k) x h = ap (λ zs. a ∷ zs) (set_same xs k x h)
 
 -- there is something at each place of a list
 pub some_at : {A : Type 0} (xs : List A) (k : ℕ) → k < length xs → (x : A) × (slice_get xs k ≡ Some x)

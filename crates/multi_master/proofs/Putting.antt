@@ -1,5 +1,5 @@
 -- The answers of a cycle, put master by master.
-use Rattle.std.proofs.Common.{◌≡◌, ℕ, suc, List, [], ◌∷◌, map, Bool, true, false, not, All, if◌then◌else◌, nat_eq, refl, sym, subst}
+use Rattle.std.proofs.Common.{◌≡◌, ℕ, suc, List, [], ◌∷◌, ◌++◌, map, Bool, true, false, not, All, if◌then◌else◌, nat_eq, refl, sym, ap, subst, ◌∙◌}
 use Rattle.std.specs.Cmp.Lexicographic.{pointwise, same_text}
 use Rattle.std.specs.List.{AllZip}
 use Rattle.std.proofs.lemmas.List.Elements.{All-head, All-tail}
@@ -12,9 +12,12 @@ use Rattle.multi_master.specs.Calls.{changed_from}
 use Rattle.multi_master.specs.Puts.{PutStep, IsPutStep, MayBePut, changed_steps}
 use Rattle.multi_master.specs.Standing.{IsWhere}
 
--- what a step was shown as the offer is the offer of its connection
+-- a step tells whether its answer wasn't the offer of its connection
 abbrev pub IsShown : Connection → PutStep → Type 0
-IsShown c x = x.shown ≡ offer_at c
+IsShown c x = x.told ≡ not (is_offer x.answer c)
+
+told-shown : (c : Connection) (x : PutStep) → IsPutStep x → x.shown ≡ offer_at c → IsShown c x
+told-shown c x s e = s.told_is ∙ ap (λ (shown : List ℕ). not (pointwise nat_eq shown x.answer)) e
 
 -- one master at rest
 put-case : (c : Connection) (load : List ℕ) (old new : MasterView) (b : Bool) → IsWhere c old → MayBePut (not b) old load new
@@ -23,12 +26,12 @@ put-case c load old new true h p = subst (λ (m : MasterView). IsWhere c m) (sym
 put-case c load old new false h p = p.follows.is_after c.settings c.deeds h
 
 pub shown_at_rest : (c : Connection) (x : PutStep) → IsWhere c x.old → IsPutStep x → IsShown c x
-shown_at_rest c x h s = s.shows.shows.shows c.settings c.deeds h
+shown_at_rest c x h s = told-shown c x s (s.shows.shows.shows c.settings c.deeds h)
 
 pub put_at_rest : (c : Connection) (x : PutStep) → IsWhere c x.old → IsPutStep x → IsWhere (with_offer x.answer c) x.new
 put_at_rest c x h s =
     put-case c x.answer x.old x.new (is_offer x.answer c) h
-    (subst (λ (shown : List ℕ). MayBePut (not (pointwise nat_eq shown x.answer)) x.old x.answer x.new) (shown_at_rest c x h s) s.put)
+    (subst (λ (told : Bool). MayBePut told x.old x.answer x.new) (shown_at_rest c x h s) s.put)
 
 -- one master whose frame is due
 abbrev pub delivery_at : Connection → List ℕ → Did → Delivery
@@ -40,13 +43,13 @@ due-case c bytes did load old new true h p = subst (λ (m : MasterView). Waits m
 due-case c bytes did load old new false h p = p.keeps.waits (delivery_at c bytes did) h
 
 pub shown_due : (c : Connection) (bytes : List ℕ) (did : Did) (x : PutStep) → Waits x.old (delivery_at c bytes did) → IsPutStep x → IsShown c x
-shown_due c bytes did x h s = s.shows.shows_due.shows (delivery_at c bytes did) h
+shown_due c bytes did x h s = told-shown c x s (s.shows.shows_due.shows (delivery_at c bytes did) h)
 
 pub put_due : (c : Connection) (bytes : List ℕ) (did : Did) (x : PutStep) → Waits x.old (delivery_at c bytes did) → IsPutStep x
     → Waits x.new (delivery_at (with_offer x.answer c) bytes did)
 put_due c bytes did x h s =
     due-case c bytes did x.answer x.old x.new (is_offer x.answer c) h
-    (subst (λ (shown : List ℕ). MayBePut (not (pointwise nat_eq shown x.answer)) x.old x.answer x.new) (shown_due c bytes did x h s) s.put)
+    (subst (λ (told : Bool). MayBePut told x.old x.answer x.new) (shown_due c bytes did x h s) s.put)
 
 -- all masters at rest
 pub puts_where : (cs : List Connection) (steps : List PutStep) → AllZip IsWhere cs (map (λ x. x.old) steps) → All IsPutStep steps
@@ -92,9 +95,13 @@ all_outputs_put (c ∷ cs) [] = refl
 all_outputs_put (c ∷ cs) (load ∷ loads) = rw (outputs_put c load, all_outputs_put cs loads) refl
 
 -- the connections are told that have another offer
+told-here : (n : ℕ) (b : Bool) (later : List ℕ) → (if b then later else n ∷ later) ≡ (if not b then n ∷ [] else []) ++ later
+told-here n true later = refl
+told-here n false later = refl
+
 pub puts_told : (n : ℕ) (cs : List Connection) (steps : List PutStep) → AllZip IsShown cs steps
     → changed_from n cs (with_offers (map (λ x. x.answer) steps) cs) ≡ changed_steps n steps
 puts_told n [] [] h = refl
 puts_told n [] (x ∷ xs) h = absurd h
 puts_told n (c ∷ cs) [] h = absurd h
-puts_told n (c ∷ cs) (x ∷ xs) h = rw (offer_put c x.answer, h.0, puts_told (suc n) cs xs h.1) refl
+puts_told n (c ∷ cs) (x ∷ xs) h = rw (offer_put c x.answer, h.0, puts_told (suc n) cs xs h.1) (told-here n (is_offer x.answer c) (changed_steps (suc n) xs))

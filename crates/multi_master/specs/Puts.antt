@@ -1,6 +1,6 @@
 -- How a cycle is run and its answers are put, master by master, and how all masters tick. A frame of a master may be due while answers
 -- are put. Contracts of private functions alone rest on these words.
-use Rattle.std.specs.Prelude.{◌≡◌, ℕ, suc, nat_eq, Bool, true, false, not, List, [], ◌∷◌, map, replicate, All, Option, Some, None, if◌then◌else◌}
+use Rattle.std.specs.Prelude.{◌≡◌, ℕ, suc, nat_eq, Bool, true, false, not, List, [], ◌∷◌, ◌++◌, map, replicate, All, Option, Some, None, if◌then◌else◌}
 use Rattle.std.specs.Cmp.Lexicographic.{pointwise}
 use Rattle.fsoe_base.specs.declared.did.Cause.{Cause}
 use Rattle.fsoe_base.specs.declared.did.Did.{Did}
@@ -48,28 +48,25 @@ pub record PutStep : Type 0 where
   pub shown : List ℕ
   pub answer : List ℕ
   pub new : MasterView
+  pub told : Bool
 
--- whether the answer isn't the offer
-abbrev pub has_changed : PutStep → Bool
-has_changed x = not (pointwise nat_eq x.shown x.answer)
-
--- so it is done
+-- so it is done, and it is told whether the answer wasn't the offer
 pub record IsPutStep (x : PutStep) : Type 0 where
   pub shows : ShowsOffer x.old x.shown
-  pub put : MayBePut (has_changed x) x.old x.answer x.new
+  pub told_is : x.told ≡ not (pointwise nat_eq x.shown x.answer)
+  pub put : MayBePut x.told x.old x.answer x.new
   pub settings : x.new.kit.settings ≡ x.old.kit.settings
   pub due : is_due x.new.state ≡ is_due x.old.state
 
--- an answer was put at a master where it wasn't the offer, and it is told whether it wasn't
+-- an answer was put so, whatever was shown as the offer
 pub record PutsAnswer (old : MasterView) (answer : List ℕ) (new : MasterView) (told : Bool) : Type 0 where
   pub shown : List ℕ
-  pub step : IsPutStep (record { old = old; shown = shown; answer = answer; new = new })
-  pub told_is : told ≡ not (pointwise nat_eq shown answer)
+  pub step : IsPutStep (record { old = old; shown = shown; answer = answer; new = new; told = told })
 
 -- the places, from n on, at which the answer wasn't the offer
 abbrev pub changed_steps : ℕ → List PutStep → List ℕ
 changed_steps n [] = []
-changed_steps n (x ∷ xs) = if pointwise nat_eq x.shown x.answer then changed_steps (suc n) xs else n ∷ changed_steps (suc n) xs
+changed_steps n (x ∷ xs) = (if x.told then n ∷ [] else []) ++ changed_steps (suc n) xs
 
 -- each answer is put at its master where it isn't the offer, and the places where it wasn't are listed
 pub record PutsEach (old : List MasterView) (answers : List (List ℕ)) (new : List MasterView) (changed : List ℕ) : Type 0 where

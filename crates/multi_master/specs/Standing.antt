@@ -4,7 +4,6 @@ use Rattle.std.specs.List.{AllZip}
 use Rattle.std.specs.Option.{option_map_or}
 use Rattle.fsoe_base.specs.declared.did.Did.{Did}
 use Rattle.failsafe_io.specs.declared.bit.Bit.{Bit}
-use Rattle.failsafe_io.specs.Application.{Answer}
 use Rattle.param_load.specs.declared.entry.Move.TheVariants as move
 use Rattle.param_load.specs.declared.master_settings.MasterSettings.{MasterSettings}
 use Rattle.end_model.specs.Deed.{Deed}

@@ -2,7 +2,7 @@
 use Rattle.std.proofs.Common.{◌≡◌, ℕ, zero, suc, ◌+◌, ◌-◌, nat_lt, Bool, true, false, List, [], ◌∷◌, ◌++◌, length, map, Option, Some, None, if◌then◌else◌, refl, sym, ap, ap₂, subst, ◌∙◌, append_assoc, arith}
 use Rattle.std.specs.Prelude.{option_to_list}
 use Rattle.std.proofs.lemmas.Bool.{lt-ltb, le-ltb}
-use Rattle.std.proofs.lemmas.List.{append-nil}
+use Rattle.std.proofs.lemmas.List.{append-nil, length_push}
 use Rattle.fsoe_base.specs.declared.command.End.{End}
 use Rattle.fsoe_base.specs.declared.command.End.TheVariants as side
 use Rattle.black_channel.specs.declared.channel.Parcel.{Parcel}
@@ -10,7 +10,6 @@ use Rattle.plant_conf.specs.declared.conf.LinkConf.{LinkConf}
 use Rattle.exchange_model.specs.Ends.{peer}
 use Rattle.exchange_model.specs.World.{frames_of}
 use Rattle.multi_master.specs.Calls.{Call, Meant, meant, changed}
-use Rattle.multi_master.proofs.Looping.{length_push}
 use Rattle.plant_model.specs.declared.event.PlantEvent.{PlantEvent}
 use Rattle.plant_model.specs.declared.event.PlantEvent.TheVariants as event
 use Rattle.plant_model.specs.declared.journal.JournalStep.{JournalStep}
@@ -209,7 +208,7 @@ ends_so b e (parcel ∷ parcels) done =
     let own : pulled_in more ≡ parcel ∷ [] =
     pulled_append (offers b (PullFrom (Some parcel)) before) (step.Pulled parcel ∷ []) ∙ ap (λ (ps : List Parcel). ps ++ parcel ∷ []) (no_parcels b (call_of b (PullFrom (Some parcel))) (calls b before)) in
     let all : pulled_in (s.rest ++ more) ≡ pulled_in s.rest ++ parcel ∷ [] = pulled_append s.rest more ∙ ap (λ (ps : List Parcel). pulled_in s.rest ++ ps) own in
-    let counted : length (pulled_in s.rest ++ parcel ∷ []) ≡ length parcels + 1 = length_push (pulled_in s.rest) parcel (length parcels) s.count in
+    let counted : length (pulled_in s.rest ++ parcel ∷ []) ≡ length parcels + 1 = length_push (pulled_in s.rest) parcel ∙ ap (λ (n : ℕ). n + 1) s.count in
     record {
       rest = s.rest ++ more;
       is = ap (λ (js : List JournalStep). js ++ more) s.is ∙ append_assoc (journal b done) (step.Script e ∷ s.rest) more;

@@ -1,11 +1,13 @@
-use Rattle.std.proofs.Common.{◌≡◌, ◌<◌, ◌+◌, ◌++◌, ◌∷◌, [], ℕ, List, Some, Bool, length, slice_get, slice_index_or, nat_eq, sym, ap, ◌∙◌, arith, if◌then◌else◌, refl}
-use Rattle.std.specs.Cmp.Lexicographic.{pointwise}
+use Rattle.std.proofs.Common.{◌≡◌, ◌<◌, ◌+◌, ◌++◌, ◌∷◌, [], ℕ, List, Some, length, slice_get, slice_index_or, sym, ap, ◌∙◌, arith, if◌then◌else◌, refl}
 use Rattle.std.proofs.lemmas.Grind.{common_steps}
+use Rattle.std.proofs.lemmas.List.{append-nil}
+use Rattle.std.proofs.lemmas.List.Elements.{All-nil}
 use Rattle.std.proofs.lemmas.Option.{slice_get_read, slice_get-get_or}
 use Rattle.master_core.specs.MasterView.{MasterView}
 use Rattle.multi_master.specs.Puts.{own_len, PutStep}
+use Rattle.multi_master.specs.Standing.{IsNumber}
 use Rattle.multi_master.proofs.Places.{same_at, same_length, map_set}
-use Rattle.multi_master.proofs.Looping.{puts_more, told_put, told_none, number_told}
+use Rattle.multi_master.proofs.Looping.{puts_begun, puts_more, number_told}
 use Rattle.multi_master.proofs.cycle.put_answers.Goals.{then-put_answer, else-put_answer}
 use Rattle.multi_master.proofs.cycle.put_answers.Goals as goal
 
@@ -19,6 +21,11 @@ put_answer-requires c =
     let of : slice_get c.args.answers.now i ≡ Some c.index-answers-i.result = slice_get_read c.args.answers.now _ i _ refl (omega arith) c.index-answers-i.is in
     ap length c.bytes.ensures.value ∙ same_at length own_len c.args.answers.now c.loop-i.masters i _ m c.loop-i.invariant.fits of at
 
+pub loop-i-init : goal.loop-i-init
+loop-i-init c =
+    let none = c.clear.ensures in
+    rw none (record { fits = c.requires.fits; counted = omega arith; numbers = All-nil (IsNumber 0); so_far = puts_begun c.args.masters.now c.args.answers.now [] refl })
+
 pub loop-i-preserved : goal.loop-i-preserved
 loop-i-preserved c =
     let i : ℕ = c.loop-i.i in
@@ -29,12 +36,11 @@ loop-i-preserved c =
     let of : slice_get c.args.answers.now i ≡ Some c.index-answers-i.result = slice_get_read c.args.answers.now _ i _ refl (omega arith) c.index-answers-i.is in
     let answer : List ℕ = c.bytes.result.now in
     let is : slice_get c.args.answers.now i ≡ Some answer = of ∙ ap (λ (xs : List ℕ). Some xs) (sym c.bytes.ensures.value) in
-    let x : PutStep = record { old = m; shown = c.put_answer.ensures.shown; answer = answer; new = c.put_answer.new.master } in
-    let same : Bool = pointwise nat_eq c.put_answer.ensures.shown answer in
-    let told : c.if-put_answer.changed.items ≡ (if same then c.loop-i.changed.items else c.loop-i.changed.items ++ (i + 1) ∷ []) =
+    let x : PutStep = record { old = m; shown = c.put_answer.ensures.shown; answer = answer; new = c.put_answer.new.master; told = c.put_answer.result } in
+    let told : c.if-put_answer.changed.items ≡ c.loop-i.changed.items ++ (if c.put_answer.result then (i + 1) ∷ [] else []) =
     elim c.if-put_answer.branch [
-      | then-put_answer w ↦ told_put same c.put_answer.result c.loop-i.changed.items _ (i + 1) c.put_answer.ensures.told_is w.if-put_answer.true (cc)
-      | else-put_answer w ↦ told_none same c.put_answer.result c.loop-i.changed.items _ (i + 1) c.put_answer.ensures.told_is w.if-put_answer.false (cc)
+      | then-put_answer w ↦ rw w.if-put_answer.true (cc)
+      | else-put_answer w ↦ rw w.if-put_answer.false ((cc) ∙ sym (append-nil c.loop-i.changed.items))
     ]
     in
     record {
@@ -43,6 +49,6 @@ loop-i-preserved c =
         | then-put_answer w ↦ grind (arith, common_steps)
         | else-put_answer w ↦ grind (arith, common_steps)
       ];
-      numbers = number_told same c.loop-i.i c.loop-i.changed.items _ told c.loop-i.invariant.numbers;
+      numbers = number_told c.put_answer.result c.loop-i.i c.loop-i.changed.items _ told c.loop-i.invariant.numbers;
       so_far = puts_more c.args.masters.now c.args.answers.now c.loop-i.masters _ c.loop-i.changed.items c.if-put_answer.changed.items i x c.loop-i.invariant.so_far at is c.put_answer.ensures.step refl told;
     }

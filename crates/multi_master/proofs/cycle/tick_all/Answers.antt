@@ -2,7 +2,7 @@ use Rattle.std.proofs.Common.{◌≡◌, ℕ, List, Some, slice_get, slice_index
 use Rattle.std.proofs.lemmas.Option.{slice_get-get_or}
 use Rattle.master_core.specs.MasterView.{MasterView}
 use Rattle.multi_master.specs.Puts.{TickStep}
-use Rattle.multi_master.proofs.Places.{some_at, set_before}
+use Rattle.multi_master.proofs.Places.{set_before}
 use Rattle.multi_master.proofs.Looping.{ticks_more}
 use Rattle.multi_master.proofs.cycle.tick_all.Goals as goal
 
@@ -11,14 +11,11 @@ loop-i-preserved c =
     let i : ℕ = c.loop-i.i in
     let m : MasterView = slice_index_or c.loop-i.masters i c.index-masters-i.result in
     let input : List ℕ = slice_index_or c.loop-i.inputs i c.index-inputs-i.result in
-    let frame : List ℕ = slice_index_or c.loop-i.outs i c.index-outs-i.result in
     let at-m : slice_get c.loop-i.masters i ≡ Some m = slice_get-get_or c.loop-i.masters i c.index-masters-i.result (omega arith) in
     let at-b : slice_get c.loop-i.inputs i ≡ Some input = slice_get-get_or c.loop-i.inputs i c.index-inputs-i.result (omega arith) in
-    let at-f : slice_get c.loop-i.outs i ≡ Some frame = slice_get-get_or c.loop-i.outs i c.index-outs-i.result (omega arith) in
-    let did = some_at c.loop-i.dids i (omega arith) in
     let x : TickStep = record { old = m; new = c.tick_one.new.master; did = c.tick_one.new.did; sent = c.tick_one.new.out; before = input; after = c.tick_one.new.input } in
     record {
       rest = λ k n late is. c.loop-i.invariant.rest k n (omega arith) (sym (set_before c.loop-i.masters i k c.tick_one.new.master (omega arith)) ∙ is);
-      so_far = ticks_more c.args.masters.now c.args.inputs.now c.loop-i.masters _ c.loop-i.inputs _ c.loop-i.dids _ c.loop-i.outs _ i x did.0 frame
-          c.loop-i.invariant.so_far at-m at-b did.1 at-f c.tick_one.ensures refl refl refl refl;
+      so_far = ticks_more c.args.masters.now c.args.inputs.now c.loop-i.masters _ c.loop-i.inputs _ c.loop-i.dids _ c.loop-i.outs _ i x
+          c.loop-i.invariant.so_far at-m at-b (omega arith) (omega arith) c.tick_one.ensures refl refl refl refl;
     }

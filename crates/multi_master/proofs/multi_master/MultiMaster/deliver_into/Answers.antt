@@ -9,8 +9,8 @@ use Rattle.multi_master.specs.Puts.{own_len, due_in}
 use Rattle.multi_master.specs.Standing.{MultiView, seen, settings_in}
 use Rattle.multi_master.proofs.Delivering.{Drops, Hears, drop_follows, drop_offers, drop_guards, drop_answers, hear_follows, hear_offers, hear_guards, hear_answers}
 use Rattle.multi_master.proofs.Following.{runs_alike}
-use Rattle.multi_master.proofs.Keeping.{multi_set, one_rest, rest_at, written_back}
-use Rattle.multi_master.proofs.Places.{map_set, read_back, same_at, same_length, set_there}
+use Rattle.multi_master.proofs.Keeping.{multi_set, one_rest, written_back}
+use Rattle.multi_master.proofs.Places.{all_at, map_set, read_back, same_at, same_length, set_there}
 use Rattle.multi_master.proofs.multi_master.MultiMaster.deliver_into.Goals.{After-index, After-reply-arg-1}
 use Rattle.multi_master.proofs.multi_master.MultiMaster.deliver_into.Goals as goal
 
@@ -70,7 +70,7 @@ invariant_of-self g c =
     let masters : List MasterView = c.self.inside.masters.items in
     let h = heard g (goal.at.invariant_of-self g c).After-index in
     multi_set masters c.self.inside.inputs.items c.self.inside.answers.items _ _ (c.from-place.result - 1) c.index_mut.result.now c.accept_into.new.self c.self.invariant h.at (ap (λ k. k.settings) c.accept_into.ensures.kit)
-    (rests g c ∙ sym (rest_at masters (c.from-place.result - 1) c.index_mut.result.now c.self.invariant.rest h.at)) c.clear.ensures
+    (rests g c ∙ sym (all_at (λ m. due_in m ≡ false) masters (c.from-place.result - 1) c.index_mut.result.now c.self.invariant.rest h.at)) c.clear.ensures
 
 pub returns-then-not-due-clause-follows : goal.returns-then-not-due-clause-follows
 returns-then-not-due-clause-follows g c =
@@ -143,7 +143,7 @@ invariant_of-self-2 g c =
     let r = readied g (goal.at.invariant_of-self-2 g c).After-reply-arg-1 in
     let as_put : length (slice_set put place c.reply.new.self) ≡ length put = length-set put place c.reply.new.self in
     rw (r.is_back, written_back c.run_cycle.new.answers c.self.inside.answers.items c.self.inside.answers.len (cc) (cc)) (record {
-      rest = one_rest masters put place c.index_mut.result.now c.accept_into.new.self c.reply.new.self r.dues h.at (rest_at masters place c.index_mut.result.now c.self.invariant.rest h.at) c.reply.ensures.done c.self.invariant.rest;
+      rest = one_rest masters put place c.index_mut.result.now c.accept_into.new.self c.reply.new.self r.dues h.at (all_at (λ m. due_in m ≡ false) masters place c.index_mut.result.now c.self.invariant.rest h.at) c.reply.ensures.done c.self.invariant.rest;
       inputs_fit = length-set c.self.inside.inputs.items place c.set.new.self ∙ c.self.invariant.inputs_fit ∙ sym (as_put ∙ r.long);
       answers_fit = c.run_cycle.ensures.fit ∙ sym (map_set own_len put place c.index_mut-3.result.now c.reply.new.self r.at (ap (λ k. k.settings.lengths.master) c.reply.ensures.kit));
       most = rw (as_put, r.long) c.self.invariant.most;
