@@ -19,15 +19,15 @@ use Rattle.file_run.specs.Outside.{Outside}
 use Rattle.file_run.specs.Ran.{EndsWhole}
 use Rattle.file_run.specs.Report.{refused_line}
 use Rattle.file_run.specs.Reporting.{Reporting, input_stopped, refused_at}
+use Rattle.file_run.specs.Running.{IsFullness, Running, Saying, Seen, Sent, Standing}
 use Rattle.file_run.specs.Stop.{halted_by, last_of}
 use Rattle.file_run.specs.declared.halt.Halt.{Halt}
 use Rattle.file_run.specs.declared.refusal.Refusal.{Refusal}
 use Rattle.file_run.specs.declared.halt.Halt.TheVariants as halt
 use Rattle.file_run.specs.declared.stopped.Stopped.{Stopped}
 use Rattle.file_run.specs.declared.stopped.Stopped.TheVariants as stopped
-use Rattle.file_run.proofs.Running.{IsFullness, Running, Saying, Standing, by_seen, ended_next, event_seen, refused_after, stops_so}
-use Rattle.file_run.proofs.Seen.{Seen}
-use Rattle.file_run.proofs.Sending.{Sent, cut_part, grew_written, piece_part, text_part}
+use Rattle.file_run.proofs.Running.{by_seen, ended_next, event_seen, refused_after, stops_so}
+use Rattle.file_run.proofs.Sending.{cut_part, grew_written, piece_part, text_part}
 
 -- how reports close
 abbrev pub Closing : Type 0 → Type 0 → Type 1

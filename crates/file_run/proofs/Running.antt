@@ -1,6 +1,6 @@
 -- A run over the events of an input, whatever they do: what was read of it and what was written.
 use Rattle.std.proofs.Common.{◌≡◌, ℕ, ◌+◌, ◌*◌, ◌≤◌, ◌<◌, Bool, List, [], ◌∷◌, ◌++◌, length, refl, arith, ap, ◌∙◌, sym, subst}
-use Rattle.std.specs.Prelude.{false, Result, Ok, Err, IfSome, Some, None}
+use Rattle.std.specs.Prelude.{false, Ok, Err, IfSome, Some, None}
 use Rattle.std.specs.declared.option.Option.{Option}
 use Rattle.std.specs.Io.KnownBytes.{Consumes, prepend_known}
 use Rattle.std.proofs.lemmas.List.{append-nil, length_push}
@@ -14,19 +14,19 @@ use Rattle.fsoe_io.specs.declared.status.Status.{Status}
 use Rattle.fsoe_io.specs.declared.status.Status.TheVariants as status
 use Rattle.schedule_file.specs.Input.{InputCause, InputFormat, InputOf, NoLine, NoFrame, NoApp, Stop, AtEnd, Refused, lines_of, header_read, input_by, input_read}
 use Rattle.schedule_file.specs.declared.event.TheConstants.{MAX_EVENTS}
-use Rattle.schedule_file.specs.declared.line_cause.LineCause.{LineCause}
 use Rattle.file_run.specs.Refusal.{input_cause}
 use Rattle.file_run.specs.Ending.{Halts, Writes}
 use Rattle.file_run.specs.Event.{FindsEvent}
 use Rattle.file_run.specs.Halt.{Blames, Goes, Stalls}
 use Rattle.file_run.specs.HaltOf.{halt_stopped}
 use Rattle.file_run.specs.Begun.{Begins}
-use Rattle.file_run.specs.Header.{HaltsHeader, IsHeaderCutOff, most_lines}
+use Rattle.file_run.specs.Header.{HaltsHeader, IsHeaderCutOff}
 use Rattle.file_run.specs.Machine.{Keeps, TakesEvent, MayCome, most_parts}
 use Rattle.file_run.specs.Outside.{Outside, Wrote}
 use Rattle.file_run.specs.Ran.{CameToEnd, EndsAs, EndsWhole, MayWant, ReportsReadLines}
 use Rattle.file_run.specs.Report.{refused_line}
 use Rattle.file_run.specs.Reporting.{BeginsReport, EndsReport, EndsStopped, EndsUnmet, MemoryUse, Never, BeforeEvents, Always, Reporting, ReportsSoFar, TakesMemory, input_headless, input_stopped, refused_at}
+use Rattle.file_run.specs.Running.{IsFullness, Running, Saying, SaysSo, Seen, Sent, Standing, input_on, more_on}
 use Rattle.file_run.specs.Stop.{halted_by, last_of}
 use Rattle.file_run.specs.WholeLines.{TookLines}
 use Rattle.file_run.specs.declared.halt.Halt.{Halt}
@@ -35,58 +35,29 @@ use Rattle.file_run.specs.declared.halt.Halt.TheVariants as halt
 use Rattle.file_run.specs.declared.stopped.Stopped.{Stopped}
 use Rattle.file_run.specs.declared.stopped.Stopped.TheVariants as stopped
 use Rattle.file_run.proofs.Lines.{by_line}
-use Rattle.file_run.proofs.Seen.{Seen, has_event, seen_none, seen_more, seen_same, input_on, more_on, input_refused, input_ended}
-use Rattle.file_run.proofs.Sending.{Sent, sent_none, sent_piece, sent_flushed, piece_part, text_part, begins_whole, ends_write, ends_written, rose_since}
+use Rattle.file_run.proofs.Seen.{has_event, seen_none, seen_more, seen_same, input_refused, input_ended}
+use Rattle.file_run.proofs.Sending.{sent_none, sent_piece, sent_flushed, piece_part, text_part, begins_whole, ends_write, ends_written, rose_since}
 use Rattle.file_run.proofs.Taken.{took_line, took_still}
-
--- what a machine stands for
-abbrev pub Standing : Type 0 → Type 0 → Type 1
-Standing H E = H → List E → List ℕ → Type 0
-
--- what lines say
-abbrev pub Saying : Type 0 → Type 0
-Saying L = List ℕ → Result L LineCause
-
--- lines say what they say after this header
-abbrev pub SaysSo : {H L E : Type 0} → InputFormat H L E → H → Saying L → Type 0
-SaysSo f h says = (text : List ℕ) → says text ≡ f.line h text
-
--- what holds before each line after a header: these events were read, for which a machine stands, and what went to the sink and what
--- waits are the text that it wrote
-pub record Running {H L E : Type 0} (r : Reporting H L E) (stands : Standing H E) (says : Saying L) (left0 left w0 w : Option (List ℕ)) (waiting : OutputView) (events lines : ℕ) : Type 0 where
-  pub heading : H
-  pub header : ℕ
-  pub log : List E
-  pub text : List ℕ
-  pub stood : stands heading log text
-  pub same : SaysSo r.format heading says
-  pub seen : Seen r.format heading header left0 left log
-  pub took : TookLines lines left0 left
-  pub sent : Sent w0 w waiting text
-  pub size : waiting.sent + length waiting.bytes ≤ (1024 + 1024 * most_parts) * events
-  pub count : length log ≡ events
-  pub few : events ≤ MAX_EVENTS
-  pub lined : lines ≡ header + events
-  pub headed : header ≤ most_lines
 
 -- a machine's texts are first parts of reports
 abbrev pub Reports : {H L E : Type 0} → Reporting H L E → Standing H E → Type 0
 Reports {H} {L} {E} r stands = (h : H) (log : List E) (text : List ℕ) → stands h log text → ReportsSoFar r h log text
-
--- whether there may be no event more is as the format says
-abbrev pub IsFullness : {H L E : Type 0} → Reporting H L E → Standing H E → ℕ → Bool → Type 0
-IsFullness {H} {L} {E} r stands events full = (h : H) (log : List E) (text : List ℕ) → length log ≡ events → stands h log text → full ≡ r.format.is_full h log
 
 -- what holds of one way to read inputs holds of the same
 pub halts_as : {H L E : Type 0} (asked format : InputFormat H L E) (says : Saying L) (full : Bool) (why : Halt) (old new : Option (List ℕ)) → asked ≡ format → FindsEvent asked.event says full (Err why) old new
     → FindsEvent format.event says full (Err why) old new
 halts_as {H} {L} {E} asked format says full why old new e finds = subst (λ (f : InputFormat H L E). FindsEvent f.event says full (Err why) old new) e finds
 
+pub finds_as : {H L E : Type 0} (asked format : InputFormat H L E) (says : Saying L) (full : Bool) (line : L) (old new : Option (List ℕ)) → asked ≡ format → FindsEvent asked.event says full (Ok (asked.event line)) old new
+    → FindsEvent format.event says full (Ok (format.event line)) old new
+finds_as {H} {L} {E} asked format says full line old new e finds = subst (λ (f : InputFormat H L E). FindsEvent f.event says full (Ok (f.event line)) old new) e finds
+
 -- a line was found with this event, or with none
-pub finds_as : {H L E : Type 0} (asked format : InputFormat H L E) (says : Saying L) (full : Bool) (line : L) (event : Option E) (old new : Option (List ℕ)) → asked ≡ format → asked.event line ≡ event
-    → FindsEvent asked.event says full (Ok (asked.event line)) old new → FindsEvent format.event says full (Ok event) old new
-finds_as {H} {L} {E} asked format says full line event old new e is finds =
-    subst (λ (f : InputFormat H L E). FindsEvent f.event says full (Ok event) old new) e (subst (λ (o : Option E). FindsEvent asked.event says full (Ok o) old new) is finds)
+pub finds_event : {H L E : Type 0} (asked format : InputFormat H L E) (says : Saying L) (full : Bool) (line : L) (event : Option E) (old new : Option (List ℕ)) → asked ≡ format → asked.event line ≡ event
+    → FindsEvent format.event says full (Ok (format.event line)) old new → FindsEvent format.event says full (Ok event) old new
+finds_event {H} {L} {E} asked format says full line event old new e is finds =
+    let same : format.event line ≡ event = subst (λ (f : InputFormat H L E). f.event line ≡ event) e is in
+    subst (λ (o : Option E). FindsEvent format.event says full (Ok o) old new) same finds
 
 -- after a header nothing was sent
 pub running_start : {H L E : Type 0} (r : Reporting H L E) (stands : Standing H E) (says : Saying L) (left0 left w : Option (List ℕ)) (waiting : OutputView) (lines : ℕ) → Begins r stands says lines left0 left → waiting.bytes ≡ [] → waiting.sent ≡ 0

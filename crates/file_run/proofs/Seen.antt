@@ -7,35 +7,14 @@ use Rattle.std.specs.Str.{bytes_eq}
 use Rattle.std.proofs.lemmas.List.{append-nil}
 use Rattle.fsoe_io.proofs.Taken.{consumes_then}
 use Rattle.fsoe_io.specs.Line.{IsLine}
-use Rattle.schedule_file.specs.Input.{InputCause, InputFormat, InputOf, NoLine, TooMany, Line, Stop, AtEnd, Refused, lines_of, texts, steps, before_more, with_room, stop_full, stop_said, stop_by, stop_at, input_by, input_read}
+use Rattle.schedule_file.specs.Input.{InputCause, InputFormat, NoLine, TooMany, Line, Stop, AtEnd, Refused, lines_of, texts, steps, before_more, with_room, stop_full, stop_said, stop_by, stop_at, input_by, input_read}
 use Rattle.schedule_file.specs.declared.line_cause.LineCause.{LineCause}
 use Rattle.file_run.specs.Event.{says_after, says_by, by_itself, in_input}
 use Rattle.file_run.specs.Header.{IsWholeHeader}
 use Rattle.file_run.specs.NextLine.{first_line}
+use Rattle.file_run.specs.Running.{Lines, Seen, input_on, input_with, more_on}
 use Rattle.file_run.specs.declared.refusal.Refusal.TheVariants as refusal
 use Rattle.file_run.proofs.Lines.{lines_whole}
-
--- lines that are to come
-abbrev Lines : Type 0
-Lines = List (Result (List ℕ) InputCause)
-
--- the events of these lines, which come after those that were read
-abbrev pub more_on : {H L E : Type 0} → InputFormat H L E → H → List E → Lines → List E
-more_on f h log rest = with_room (f.is_full h) log (steps f.event (map (f.line h) (texts rest)))
-
--- an input with these events, after a header of so many lines, and with this line after them
-abbrev input_with : {H L E : Type 0} → InputFormat H L E → H → ℕ → List E → Option (Result (List ℕ) InputCause) → InputOf H E
-input_with f h n events last = record { heading = Some h; lines = n; events = events; stop = stop_at f h (n + length events + 1) (f.is_full h events) last }
-
--- an input of which a header of so many lines and these events were read, and then come these lines
-abbrev pub input_on : {H L E : Type 0} → InputFormat H L E → H → ℕ → List E → Lines → InputOf H E
-input_on f h n log rest = input_with f h n (log ++ more_on f h log rest) (slice_get rest (length (more_on f h log rest)))
-
--- the bytes taken are the header and the lines of these events, whatever comes after them
-pub record Seen {H L E : Type 0} (f : InputFormat H L E) (h : H) (n : ℕ) (old new : Option (List ℕ)) (log : List E) : Type 0 where
-  pub taken : List ℕ
-  pub goes : Consumes old new taken
-  pub says : (more : List ℕ) → input_read f (taken ++ more) ≡ input_on f h n log (lines_of more)
 
 -- after a header no event was read
 pub seen_none : {H L E : Type 0} (f : InputFormat H L E) (h : H) (n : ℕ) (old new : Option (List ℕ)) → IsWholeHeader f h n old new → Seen f h n old new []

@@ -1,5 +1,5 @@
 -- What a run sent, and how it ends by that.
-use Rattle.std.proofs.Common.{◌≡◌, ℕ, ◌≤◌, List, [], ◌++◌, length, arith, ap, ◌∙◌, sym, subst, append_assoc, inl, inr}
+use Rattle.std.proofs.Common.{◌≡◌, ℕ, ◌≤◌, List, [], ◌++◌, arith, ap, ◌∙◌, sym, subst, append_assoc, inl, inr}
 use Rattle.std.specs.Prelude.{IfSome}
 use Rattle.std.specs.declared.option.Option.{Option}
 use Rattle.std.proofs.lemmas.List.{append-nil, length-append}
@@ -16,13 +16,7 @@ use Rattle.file_run.specs.Ending.{AppendedPart, IsCutOff, Writes}
 use Rattle.file_run.specs.Outside.{Outside, Told}
 use Rattle.file_run.specs.Ran.{EndsAs, FailedWrite}
 use Rattle.file_run.specs.Reporting.{Reporting, BeginsReport, IsPrefix}
-
--- what went to the sink and what waits are the text so far
-pub record Sent (written0 written : Option (List ℕ)) (waiting : OutputView) (text : List ℕ) : Type 0 where
-  pub sent : List ℕ
-  pub sink : Grew written0 written sent
-  pub count : waiting.sent ≡ length sent
-  pub whole : sent ++ waiting.bytes ≡ text
+pub use Rattle.file_run.specs.Running.{Sent}
 
 pub sent_none : (w : Option (List ℕ)) (waiting : OutputView) → waiting.bytes ≡ [] → waiting.sent ≡ 0 → Sent w w waiting []
 sent_none w waiting none sent = record { sent = []; sink = grew_none w; count = sent; whole = none }

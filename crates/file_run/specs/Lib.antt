@@ -13,6 +13,7 @@ pub mod Ran
 pub mod Refusal
 pub mod Report
 pub mod Reporting
+pub mod Running
 pub mod Schedule
 pub mod Stop
 pub mod Waiting

@@ -1,12 +1,13 @@
 //! The run of a command over its input.
-ghost use Rattle.std.specs.Prelude.{◌≡◌, ◌≤◌};
+ghost use Rattle.std.specs.Prelude.{◌≡◌, ◌+◌, ◌≤◌, ℕ, List, Option};
 ghost use Rattle.fsoe_io.specs.Line.{IsLine};
 ghost use Rattle.file_run.specs.Ending.{Writes};
-ghost use Rattle.file_run.specs.Left.{Leaves};
+ghost use Rattle.file_run.specs.Left.{Leaves, LeavesDone};
 ghost use Rattle.file_run.specs.NextLine.{from_line};
 ghost use Rattle.file_run.specs.Outside.{Outside};
 ghost use Rattle.file_run.specs.Ran.{RanOver};
 ghost use Rattle.file_run.specs.Reporting.{TakesMemory};
+ghost use Rattle.file_run.specs.Running.{HasRead, Runs, Start, StepsTo, since};
 ghost use Rattle.file_run.specs.Stop.{halted_by, last_of};
 
 use crate::begin::begin_over;
@@ -19,7 +20,17 @@ use crate::parts::{close_run, put_text};
 use crate::stop::{halt, send_before_read, write_failed};
 use fsoe_io::{Ended, LineReader, LineText, Output, Sink, Source};
 
-/// How a run ends whose input has no first line.
+/// A run after its header: the machine, what lines are read by, what waits for the sink, the last line, and its text.
+#[derive(Drop)]
+struct Run<M, G, L> {
+    machine: M,
+    grammar: G,
+    output: Output,
+    said: L,
+    text: LineText,
+}
+
+/// How a run ends that began no machine.
 pub(crate) fn end_unread<K: Sink>(sink: &mut K, why: Halt) -> Ended
     ensures writes { Writes 0 (last_of why) (halted_by why) result (record {
       before = K.written sink.old;
@@ -30,6 +41,83 @@ pub(crate) fn end_unread<K: Sink>(sink: &mut K, why: Halt) -> Ended
     ensures later { K.faults sink.old ≤ K.faults sink.new }
 {
     halt(&mut Output::new(), sink, why)
+}
+
+/// Reads the next line, which comes after so many events, once what waits is sent. Or tells how the run ends.
+fn read_line<M: Machine, S: Source, K: Sink>(
+    run: &mut Run<M, <M::Format as Format>::Grammar, <M::Format as Format>::Line>,
+    events: u64,
+    handed: &M::Handed,
+    reader: &mut LineReader,
+    source: &mut S,
+    sink: &mut K,
+) -> Option<Ended>
+    requires { (first : M.Handed) × (k : M.Format.Kind) × (s : Start) × (M.Format.format k ≡ (M.reporting first).format) × Runs (M.reporting first) (M.stands first run.old.machine handed.now) (M.Format.says run.old.grammar) (since s (S.left source.old) (S.faults source.old) (K.written sink.old) (K.faults sink.old)) reader.old.bytes run.old.output events reader.old.lines }
+    ensures { (first : M.Handed) (k : M.Format.Kind) (s : Start) → M.Format.format k ≡ (M.reporting first).format
+        → Runs (M.reporting first) (M.stands first run.old.machine handed.now) (M.Format.says run.old.grammar) (since s (S.left source.old) (S.faults source.old) (K.written sink.old) (K.faults sink.old)) reader.old.bytes run.old.output events reader.old.lines
+        → let outside : Outside = since s (S.left source.new) (S.faults source.new) (K.written sink.new) (K.faults sink.new) in
+        StepsTo result
+        (HasRead (M.reporting first) (M.stands first run.new.machine handed.now) (M.Format.says run.new.grammar) outside reader.new.bytes run.new.output events reader.new.lines ((M.reporting first).format.event run.new.said))
+        (λ ended. RanOver (M.reporting first) ended outside × LeavesDone (M.reporting first).format (λ h log text. (v : M) × M.stands first v handed.now h log text) (M.closes first handed.now) ended outside) }
+{
+    M::laws();
+    if let Err(_) = send_before_read(reader, &mut run.output, sink) {
+        return Some(write_failed(&run.output));
+    }
+    let full = run.machine.is_full(handed, events);
+    if let Err(why) = next_event::<M::Format, S>(
+        reader,
+        source,
+        full,
+        &run.grammar,
+        &mut run.said,
+    ) {
+        return Some(halt(&mut run.output, sink, why));
+    }
+    None
+}
+
+/// Does the event of the line that was read after so many events, and writes its text. Or tells how the run ends.
+fn take_line<M: Machine, K: Sink>(
+    run: &mut Run<M, <M::Format as Format>::Grammar, <M::Format as Format>::Line>,
+    events: u64,
+    handed: &mut M::Handed,
+    reader: &LineReader,
+    sink: &mut K,
+) -> Option<Ended>
+    requires { (first : M.Handed) × (k : M.Format.Kind) × (s : Start) × (left : Option (List ℕ)) × (faults : ℕ) × (M.Format.format k ≡ (M.reporting first).format) × HasRead (M.reporting first) (M.stands first run.old.machine handed.old) (M.Format.says run.old.grammar) (since s left faults (K.written sink.old) (K.faults sink.old)) reader.now.bytes run.old.output events reader.now.lines ((M.reporting first).format.event run.old.said) }
+    ensures { (first : M.Handed) (k : M.Format.Kind) (s : Start) (left : Option (List ℕ)) (faults : ℕ) → M.Format.format k ≡ (M.reporting first).format
+        → HasRead (M.reporting first) (M.stands first run.old.machine handed.old) (M.Format.says run.old.grammar) (since s left faults (K.written sink.old) (K.faults sink.old)) reader.now.bytes run.old.output events reader.now.lines ((M.reporting first).format.event run.old.said)
+        → let outside : Outside = since s left faults (K.written sink.new) (K.faults sink.new) in
+        StepsTo result
+        (Runs (M.reporting first) (M.stands first run.new.machine handed.new) (M.Format.says run.new.grammar) outside reader.now.bytes run.new.output (events + 1) reader.now.lines)
+        (λ ended. RanOver (M.reporting first) ended outside × LeavesDone (M.reporting first).format (λ h log text. (v : M) × M.stands first v handed.new h log text) (M.closes first handed.new) ended outside) }
+{
+    M::laws();
+    let Some(event) = M::Format::event(&run.said) else {
+        let ended = run.machine.close(handed, events, &mut run.text);
+        return Some(close_run(
+            &mut run.machine,
+            handed,
+            &mut run.text,
+            &mut run.output,
+            sink,
+            ended,
+        ));
+    };
+    if let Err(why) = run.machine.report(handed, event, events + 1, &mut run.text) {
+        return Some(halt(&mut run.output, sink, halt_stopped(why, reader.lines())));
+    }
+    if let Err(_) = put_text(
+        &mut run.machine,
+        handed,
+        &mut run.text,
+        &mut run.output,
+        sink,
+    ) {
+        return Some(write_failed(&run.output));
+    }
+    None
 }
 
 /// Runs a machine over an input whose first line the reader lends.
@@ -49,33 +137,26 @@ pub(crate) fn run_on<M: Machine, S: Source, K: Sink>(
         × Leaves (handed.new ≡ handed.old) (TakesMemory (M.reporting handed.old).memory) (M.reporting handed.old).format (λ h log text. (v : M) × M.stands handed.old v handed.new h log text) (M.closes handed.old handed.new) result outside }
 {
     M::laws();
-    let mut output = Output::new();
-    let (mut machine, grammar) = match begin_over::<M, S>(handed, reader, source) {
+    let (machine, grammar) = match begin_over::<M, S>(handed, reader, source) {
         Ok(begun) => begun,
-        Err(why) => return halt(&mut output, sink, why),
+        Err(why) => return end_unread(sink, why),
     };
-    let mut said = M::Format::end();
-    let mut text = LineText::new();
+    let mut run = Run {
+        machine,
+        grammar,
+        output: Output::new(),
+        said: M::Format::end(),
+        text: LineText::new(),
+    };
     let mut events = 0;
     loop {
-        if let Err(_) = send_before_read(reader, &mut output, sink) {
-            return write_failed(&output);
+        if let Some(ended) = read_line::<M, S, K>(&mut run, events, handed, reader, source, sink) {
+            return ended;
         }
-        let full = machine.is_full(handed, events);
-        if let Err(why) = next_event::<M::Format, S>(reader, source, full, &grammar, &mut said) {
-            return halt(&mut output, sink, why);
+        if let Some(ended) = take_line::<M, K>(&mut run, events, handed, reader, sink) {
+            return ended;
         }
-        let Some(event) = M::Format::event(&said) else {
-            let ended = machine.close(handed, events, &mut text);
-            return close_run(&mut machine, handed, &mut text, &mut output, sink, ended);
-        };
         events += 1;
-        if let Err(why) = machine.report(handed, event, events, &mut text) {
-            return halt(&mut output, sink, halt_stopped(why, reader.lines()));
-        }
-        if let Err(_) = put_text(&mut machine, handed, &mut text, &mut output, sink) {
-            return write_failed(&output);
-        }
     }
 }
 

@@ -1,0 +1,56 @@
+use Rattle.std.proofs.Common.{arith}
+use Rattle.file_run.proofs.Exact.{ran_by}
+use Rattle.file_run.proofs.Leaving.{left_halted, left_unsent}
+use Rattle.file_run.proofs.Running.{ends_halted, ends_unsent, finds_as, halts_as, running_sent}
+use Rattle.file_run.proofs.Sending.{rose_since}
+use Rattle.file_run.proofs.run.read_line.Goals as goal
+
+pub returns-in-Err : goal.returns-in-Err
+returns-in-Err g c =
+    λ first k s same runs.
+    let puts = c.in-Err.ensures.puts in
+    let cause = c.in-Err.ensures.cause in (
+      ran_by _ _ _
+          (ends_unsent (g.M.Machine.reporting first) (g.M.Machine.stands first c.args.run.now.machine c.args.handed.now) _ _ _ _ _ _ _ _ puts.0 c.write_failed.result
+          (c.laws.ensures.so_far first c.args.run.now.machine c.args.handed.now) runs.running puts.1
+          c.write_failed.ensures.status c.write_failed.ensures.place (rose_since _ _ _ runs.sink_later cause.failed))
+          runs.source_later (omega (arith, runs.sink_later, cause.later)),
+      left_unsent (g.M.Machine.reporting first) (g.M.Machine.stands first c.args.run.now.machine c.args.handed.now) (λ h log text. (v : g.row.M.Denot) × g.M.Machine.stands first v c.args.handed.now h log text) (g.M.Machine.closes first c.args.handed.now) _ _ _ _ _ _ _ _ puts.0 c.write_failed.result runs.running
+          (c.args.run.now.machine, runs.running.stood) puts.1 c.write_failed.ensures.status c.write_failed.ensures.place,
+    )
+
+pub returns-in-Err-next_event : goal.returns-in-Err-next_event
+returns-in-Err-next_event g c =
+    λ first k s same runs.
+    let sent = running_sent _ _ _ _ _ _ _ _ _ _ _ _ runs.running c.in_default.ensures.puts c.in_default.ensures.count in
+    let next = c.in-Err-next_event.ensures in
+    let later = runs.sink_later in (
+      ran_by _ _ _
+          (ends_halted (g.M.Machine.reporting first) (g.M.Machine.stands first c.args.run.now.machine c.args.handed.now) _ c.is_full-full.result _ _ c.next_event.new.reader.bytes _ _ _ _ _ _ _ c.in-Err-next_event.why c.halt.result
+          (c.laws.ensures.so_far first c.args.run.now.machine c.args.handed.now) sent
+          (halts_as (g.M.Format.Format.format k) (g.M.Machine.reporting first).format _ c.is_full-full.result c.in-Err-next_event.why _ _ same (next.finds k))
+          (c.is_full-full.ensures.full first) next.goes next.stalls next.cause runs.source_later c.halt.ensures.writes
+          (omega (arith, later, c.in_default.ensures.cause.later)))
+          (omega (arith, runs.source_later, next.later)) (omega (arith, later, c.in_default.ensures.cause.later, c.halt.ensures.later)),
+      left_halted (g.M.Machine.reporting first) (g.M.Machine.stands first c.args.run.now.machine c.args.handed.now) (λ h log text. (v : g.row.M.Denot) × g.M.Machine.stands first v c.args.handed.now h log text) (g.M.Machine.closes first c.args.handed.now) _ c.is_full-full.result _ _ _ _ _ _ _ _ _ c.in-Err-next_event.why c.halt.result sent
+          (c.args.run.now.machine, sent.stood)
+          (halts_as (g.M.Format.Format.format k) (g.M.Machine.reporting first).format _ c.is_full-full.result c.in-Err-next_event.why _ _ same (next.finds k))
+          (c.is_full-full.ensures.full first) next.goes c.halt.ensures.writes,
+    )
+
+pub returns : goal.returns
+returns g c =
+    λ first k s same runs.
+    let next = c.in_default-next_event.ensures in
+    record {
+      full = c.is_full-full.result;
+      left = _;
+      count = _;
+      running = running_sent _ _ _ _ _ _ _ _ _ _ _ _ runs.running c.in_default.ensures.puts c.in_default.ensures.count;
+      finds = finds_as (g.M.Format.Format.format k) (g.M.Machine.reporting first).format _ c.is_full-full.result _ _ _ same (next.finds k);
+      fullness = c.is_full-full.ensures.full first;
+      few = c.is_full-full.ensures.few;
+      next = next.goes;
+      source_later = omega (arith, runs.source_later, next.later);
+      sink_later = omega (arith, runs.sink_later, c.in_default.ensures.cause.later);
+    }

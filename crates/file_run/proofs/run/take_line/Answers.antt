@@ -1,0 +1,79 @@
+use Rattle.std.proofs.Common.{◌++◌, arith, ◌∙◌}
+use Rattle.std.specs.Prelude.{Some, None}
+use Rattle.file_run.proofs.Exact.{ran_by}
+use Rattle.file_run.proofs.Leaving.{left_at_end, left_lost, left_stopped}
+use Rattle.file_run.proofs.Running.{ends_at_end, ends_lost, ends_stopped, event_may_come, finds_event, running_event}
+use Rattle.file_run.proofs.Sending.{rose_since}
+use Rattle.file_run.proofs.run.take_line.Goals as goal
+
+pub report-requires : goal.report-requires
+report-requires g c =
+    let first = c.requires.0 in
+    let k = c.requires.1 in
+    let same = c.requires.5 in
+    let read = c.requires.6 in
+    let finds = finds_event (g.M.Format.Format.format k) (g.M.Machine.reporting first).format _ _ _ (Some c.in-Some.event.now) _ _ same (c.in-Some.ensures k) read.finds in
+    (first, event_may_come (g.M.Machine.reporting first) _ _ _ _ _ _ _ _ _ _ _ c.in-Some.event.now read.running finds read.few)
+
+pub returns-in_default : goal.returns-in_default
+returns-in_default g c =
+    λ first k s left faults same read.
+    let sent = read.running in
+    let later = read.sink_later in
+    let finds = finds_event (g.M.Format.Format.format k) (g.M.Machine.reporting first).format _ _ _ None _ _ same (c.in_default.ensures k) read.finds in (
+      ran_by _ _ _
+          (ends_at_end (g.M.Machine.reporting first) (g.M.Machine.stands first c.args.run.now.machine c.args.handed.now) _ _ _ _ _ _ _ _ _ _ (c.close-ended.new.text ++ g.M.Machine.waits c.close-ended.new.self c.args.handed.now) c.close-ended.result c.close_run.result sent finds
+          read.fullness (λ h log text count stood. c.laws.ensures.whole first c.args.handed.now h log _ c.close-ended.result (c.close-ended.ensures.closes first h log text count stood)) (c.close-ended.ensures.ends first)
+          c.close_run.ensures.writes later)
+          read.source_later (omega (arith, later, c.close_run.ensures.later)),
+      left_at_end (g.M.Machine.reporting first) (g.M.Machine.stands first c.args.run.now.machine c.args.handed.now) (λ h log text. (v : g.row.M.Denot) × g.M.Machine.stands first v c.args.handed.now h log text) (g.M.Machine.closes first c.args.handed.now) _ _ _ _ _ _ _ _ _ _ (c.close-ended.new.text ++ g.M.Machine.waits c.close-ended.new.self c.args.handed.now) c.close-ended.result c.close_run.result sent
+          (c.args.run.now.machine, sent.stood) finds read.fullness (c.close-ended.ensures.closes first sent.heading sent.log sent.text sent.count sent.stood)
+          (c.close-ended.ensures.ends first sent.heading sent.log sent.text sent.stood) c.close_run.ensures.writes,
+    )
+
+pub returns-in-Err : goal.returns-in-Err
+returns-in-Err g c =
+    λ first k s left faults same read.
+    let sent = read.running in
+    let later = read.sink_later in
+    let finds = finds_event (g.M.Format.Format.format k) (g.M.Machine.reporting first).format _ _ _ (Some c.in-Some.event.now) _ _ same (c.in-Some.ensures k) read.finds in (
+      ran_by _ _ _
+          (ends_stopped (g.M.Machine.reporting first) (g.M.Machine.stands first c.args.run.now.machine c.args.handed.now) _ _ _ _ _ _ _ _ _ _ c.lines.result c.in-Some.event.now c.in-Err.why c.halt.result
+          (c.laws.ensures.so_far first c.args.run.now.machine c.args.handed.now) sent finds read.fullness
+          (c.lines.ensures ∙ read.next) (c.in-Err.ensures.stopped first) (rw c.halt_stopped.ensures at c.halt.ensures.writes) later)
+          read.source_later (omega (arith, later, c.halt.ensures.later)),
+      left_stopped (g.M.Machine.reporting first) (g.M.Machine.stands first c.args.run.now.machine c.args.handed.now) (λ h log text. (v : g.row.M.Denot) × g.M.Machine.stands first v c.report.new.handed h log text) (g.M.Machine.closes first c.report.new.handed) _ _ _ _ _ _ _ _ _ _ c.lines.result c.in-Some.event.now c.in-Err.why c.halt.result sent
+          (c.report.new.self, c.in-Err.ensures.kept first sent.heading sent.log sent.text sent.stood)
+          finds read.fullness (c.lines.ensures ∙ read.next) (rw c.halt_stopped.ensures at c.halt.ensures.writes),
+    )
+
+pub returns-in-Err-put_text : goal.returns-in-Err-put_text
+returns-in-Err-put_text g c =
+    λ first k s left faults same read.
+    let sent = read.running in
+    let later = read.sink_later in
+    let puts = c.in-Err-put_text.ensures.puts in
+    let cause = c.in-Err-put_text.ensures.cause in
+    let finds = finds_event (g.M.Format.Format.format k) (g.M.Machine.reporting first).format _ _ _ (Some c.in-Some.event.now) _ _ same (c.in-Some.ensures k) read.finds in
+    let on = c.in_default-report.ensures.takes_event first in (
+      ran_by _ _ _
+          (ends_lost (g.M.Machine.reporting first) (g.M.Machine.stands first c.args.run.now.machine c.args.handed.now) (g.M.Machine.stands first c.report.new.self c.report.new.handed) _ _ _ _ _ _ _ _ _ _ c.in-Some.event.now (c.report.new.text ++ g.M.Machine.waits c.report.new.self c.report.new.handed) puts.0 c.write_failed.result
+          (c.laws.ensures.so_far first c.report.new.self c.report.new.handed) sent finds read.fullness on puts.1 c.write_failed.ensures.status c.write_failed.ensures.place
+          (rose_since _ _ _ later cause.failed))
+          read.source_later (omega (arith, later, cause.later)),
+      left_lost (g.M.Machine.reporting first) (g.M.Machine.stands first c.args.run.now.machine c.args.handed.now) (λ h log text. (v : g.row.M.Denot) × g.M.Machine.stands first v c.report.new.handed h log text) (g.M.Machine.closes first c.report.new.handed) _ _ _ _ _ _ _ _ _ _ c.in-Some.event.now (c.report.new.text ++ g.M.Machine.waits c.report.new.self c.report.new.handed) puts.0 c.write_failed.result sent finds read.fullness
+          (c.report.new.self, on.takes sent.heading sent.log sent.text (omega (arith, sent.count)) sent.stood) puts.1 c.write_failed.ensures.status c.write_failed.ensures.place,
+    )
+
+pub returns : goal.returns
+returns g c =
+    λ first k s left faults same read.
+    let sent = read.running in
+    let finds = finds_event (g.M.Format.Format.format k) (g.M.Machine.reporting first).format _ _ _ (Some c.in-Some.event.now) _ _ same (c.in-Some.ensures k) read.finds in
+    let on = c.in_default-report.ensures.takes_event first in
+    record {
+      source_later = read.source_later;
+      sink_later = omega (arith, read.sink_later, c.in_default-put_text.ensures.cause.later);
+      running = running_event (g.M.Machine.reporting first) (g.M.Machine.stands first c.args.run.now.machine c.args.handed.now) (g.M.Machine.stands first c.report.new.self c.report.new.handed) (g.M.Machine.stands first c.put_text.new.machine c.report.new.handed) _ _ _ _ _ _ _ _ _ _ _ _ _ c.in-Some.event.now c.report.new.text _ _
+          sent finds read.fullness read.few read.next on (c.in_default-put_text.ensures.kept first) c.in_default-put_text.ensures.puts c.in_default-put_text.ensures.count c.in_default-report.ensures.most;
+    }

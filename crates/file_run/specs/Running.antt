@@ -1,0 +1,117 @@
+-- A run between two lines of its input, and what a step of it does.
+use Rattle.std.specs.Prelude.{◌≡◌, ℕ, ◌+◌, ◌*◌, ◌≤◌, ◌<◌, Bool, false, List, ◌++◌, length, map, slice_get, Some, None, Result, Ok}
+use Rattle.std.specs.declared.option.Option.{Option}
+use Rattle.std.specs.Io.KnownBytes.{Consumes, prepend_known}
+use Rattle.fsoe_io.specs.Output.{OutputView}
+use Rattle.fsoe_io.specs.Sink.{Grew}
+use Rattle.fsoe_io.specs.declared.status.Ended.{Ended}
+use Rattle.schedule_file.specs.Input.{InputCause, InputFormat, InputOf, lines_of, texts, steps, with_room, stop_at, input_read}
+use Rattle.schedule_file.specs.declared.event.TheConstants.{MAX_EVENTS}
+use Rattle.schedule_file.specs.declared.line_cause.LineCause.{LineCause}
+use Rattle.file_run.specs.Event.{FindsEvent}
+use Rattle.file_run.specs.Header.{most_lines}
+use Rattle.file_run.specs.Machine.{most_parts}
+use Rattle.file_run.specs.Outside.{Outside}
+use Rattle.file_run.specs.Reporting.{Reporting}
+use Rattle.file_run.specs.WholeLines.{TookLines}
+
+-- lines that are to come
+abbrev pub Lines : Type 0
+Lines = List (Result (List ℕ) InputCause)
+
+-- the events of these lines, which come after those that were read
+abbrev pub more_on : {H L E : Type 0} → InputFormat H L E → H → List E → Lines → List E
+more_on f h log rest = with_room (f.is_full h) log (steps f.event (map (f.line h) (texts rest)))
+
+-- an input with these events, after a header of so many lines, and with this line after them
+abbrev pub input_with : {H L E : Type 0} → InputFormat H L E → H → ℕ → List E → Option (Result (List ℕ) InputCause) → InputOf H E
+input_with f h n events last = record { heading = Some h; lines = n; events = events; stop = stop_at f h (n + length events + 1) (f.is_full h events) last }
+
+-- an input of which a header of so many lines and these events were read, and then come these lines
+abbrev pub input_on : {H L E : Type 0} → InputFormat H L E → H → ℕ → List E → Lines → InputOf H E
+input_on f h n log rest = input_with f h n (log ++ more_on f h log rest) (slice_get rest (length (more_on f h log rest)))
+
+-- the bytes taken are the header and the lines of these events, whatever comes after them
+pub record Seen {H L E : Type 0} (f : InputFormat H L E) (h : H) (n : ℕ) (old new : Option (List ℕ)) (log : List E) : Type 0 where
+  pub taken : List ℕ
+  pub goes : Consumes old new taken
+  pub says : (more : List ℕ) → input_read f (taken ++ more) ≡ input_on f h n log (lines_of more)
+
+-- what went to the sink and what waits are the text so far
+pub record Sent (written0 written : Option (List ℕ)) (waiting : OutputView) (text : List ℕ) : Type 0 where
+  pub sent : List ℕ
+  pub sink : Grew written0 written sent
+  pub count : waiting.sent ≡ length sent
+  pub whole : sent ++ waiting.bytes ≡ text
+
+-- what a machine stands for
+abbrev pub Standing : Type 0 → Type 0 → Type 1
+Standing H E = H → List E → List ℕ → Type 0
+
+-- what lines say
+abbrev pub Saying : Type 0 → Type 0
+Saying L = List ℕ → Result L LineCause
+
+-- lines say what they say after this header
+abbrev pub SaysSo : {H L E : Type 0} → InputFormat H L E → H → Saying L → Type 0
+SaysSo f h says = (text : List ℕ) → says text ≡ f.line h text
+
+-- what holds before each line after a header: a machine stands for the events that were read, and what went to the sink
+-- and what waits are the text that it wrote
+pub record Running {H L E : Type 0} (r : Reporting H L E) (stands : Standing H E) (says : Saying L) (left0 left w0 w : Option (List ℕ)) (waiting : OutputView) (events lines : ℕ) : Type 0 where
+  pub heading : H
+  pub header : ℕ
+  pub log : List E
+  pub text : List ℕ
+  pub stood : stands heading log text
+  pub same : SaysSo r.format heading says
+  pub seen : Seen r.format heading header left0 left log
+  pub took : TookLines lines left0 left
+  pub sent : Sent w0 w waiting text
+  pub size : waiting.sent + length waiting.bytes ≤ (1024 + 1024 * most_parts) * events
+  pub count : length log ≡ events
+  pub few : events ≤ MAX_EVENTS
+  pub lined : lines ≡ header + events
+  pub headed : header ≤ most_lines
+
+-- what the outside told when a run began
+pub record Start : Type 0 where
+  pub input : Option (List ℕ)
+  pub written : Option (List ℕ)
+  pub source_faults : ℕ
+  pub sink_faults : ℕ
+
+-- what it tells of the run up to now
+abbrev pub since : Start → Option (List ℕ) → ℕ → Option (List ℕ) → ℕ → Outside
+since s left source_faults written sink_faults = record {
+  source = record { before = s.input; after = left; faults_before = s.source_faults; faults_after = source_faults };
+  sink = record { before = s.written; after = written; faults_before = s.sink_faults; faults_after = sink_faults };
+}
+
+-- a run goes on, with this held of its input, and no count of faults fell
+pub record Runs {H L E : Type 0} (r : Reporting H L E) (stands : Standing H E) (says : Saying L) (o : Outside) (held : List ℕ) (waiting : OutputView) (events lines : ℕ) : Type 0 where
+  pub running : Running r stands says o.source.before (prepend_known held o.source.after) o.sink.before o.sink.after waiting events lines
+  pub source_later : o.source.faults_before ≤ o.source.faults_after
+  pub sink_later : o.sink.faults_before ≤ o.sink.faults_after
+
+-- whether there may be no event more is as the format says
+abbrev pub IsFullness : {H L E : Type 0} → Reporting H L E → Standing H E → ℕ → Bool → Type 0
+IsFullness {H} {L} {E} r stands events full = (h : H) (log : List E) (text : List ℕ) → length log ≡ events → stands h log text → full ≡ r.format.is_full h log
+
+-- the next line was read, which has this event, or none
+pub record HasRead {H L E : Type 0} (r : Reporting H L E) (stands : Standing H E) (says : Saying L) (o : Outside) (held : List ℕ) (waiting : OutputView) (events lines : ℕ) (event : Option E) : Type 0 where
+  pub full : Bool
+  pub left : Option (List ℕ)
+  pub count : ℕ
+  pub running : Running r stands says o.source.before left o.sink.before o.sink.after waiting events count
+  pub finds : FindsEvent r.format.event says full (Ok event) left (prepend_known held o.source.after)
+  pub fullness : IsFullness r stands events full
+  pub few : full ≡ false → events < MAX_EVENTS
+  pub next : lines ≡ count + 1
+  pub source_later : o.source.faults_before ≤ o.source.faults_after
+  pub sink_later : o.sink.faults_before ≤ o.sink.faults_after
+
+-- a step goes on, or ends the run
+abbrev pub StepsTo : Option Ended → Type 0 → (Ended → Type 0) → Type 0
+StepsTo None goes ends = goes
+StepsTo (Some ended) goes ends = ends ended
