@@ -6,7 +6,7 @@ use Rattle.fsoe_io.specs.Output.{OutputView}
 use Rattle.fsoe_io.specs.Sink.{Grew}
 use Rattle.fsoe_io.specs.declared.status.Ended.{Ended}
 use Rattle.schedule_file.specs.Input.{InputCause, InputFormat, InputOf, lines_of, texts, steps, with_room, stop_at, input_read}
-use Rattle.schedule_file.specs.declared.event.TheConstants.{MAX_EVENTS}
+use Rattle.schedule_file.specs.Limits.{max_events}
 use Rattle.schedule_file.specs.declared.line_cause.LineCause.{LineCause}
 use Rattle.file_run.specs.Event.{FindsEvent}
 use Rattle.file_run.specs.Header.{most_lines}
@@ -70,7 +70,7 @@ pub record Running {H L E : Type 0} (r : Reporting H L E) (stands : Standing H E
   pub sent : Sent w0 w waiting text
   pub size : waiting.sent + length waiting.bytes ≤ (1024 + 1024 * most_parts) * events
   pub count : length log ≡ events
-  pub few : events ≤ MAX_EVENTS
+  pub few : events ≤ max_events
   pub lined : lines ≡ header + events
   pub headed : header ≤ most_lines
 
@@ -106,7 +106,7 @@ pub record HasRead {H L E : Type 0} (r : Reporting H L E) (stands : Standing H E
   pub running : Running r stands says o.source.before left o.sink.before o.sink.after waiting events count
   pub finds : FindsEvent r.format.event says full (Ok event) left (prepend_known held o.source.after)
   pub fullness : IsFullness r stands events full
-  pub few : full ≡ false → events < MAX_EVENTS
+  pub few : full ≡ false → events < max_events
   pub next : lines ≡ count + 1
   pub source_later : o.source.faults_before ≤ o.source.faults_after
   pub sink_later : o.sink.faults_before ≤ o.sink.faults_after
