@@ -7,8 +7,8 @@ use Rattle.rand_pcg.specs.Pcg.{pcg32, pcg32_of_seed}
 use Rattle.black_channel.specs.Altered.{altered}
 use Rattle.black_channel.specs.declared.channel.Parcel.{Parcel}
 
--- the parcels under way in a channel that keeps their order; those in a channel of chance, the parcel that it gave last, if any, and its
--- generator; or the parcels that a channel is still to give
+-- the parcels under way in a channel that keeps their order; those in a channel of chance, the parcel that it gave
+-- last, if any, and its generator; or the parcels that a channel is still to give
 pub data Holds : Type 0 where
   Ring : List Parcel → Holds
   Chance : List Parcel → Option Parcel → Lcg → Holds
@@ -64,16 +64,17 @@ abbrev pub taken : List Parcel → Given
 taken [] = record { gift = None; left = [] }
 taken (oldest ∷ others) = record { gift = Some oldest; left = others }
 
--- a frame with one bit turned: the word from its bit 16 on says which bit, counted from the lowest, and from its bit 8 on of which byte
+-- a frame with one bit turned: the word from its bit 16 on says which bit, counted from the lowest, and from its bit 8
+-- on of which byte
 abbrev pub turned_frame : ℕ → List ℕ → List ℕ
 turned_frame word frame = altered (word / 2 ^ 8 % length frame) (2 ^ (word / 2 ^ 16 % 8)) frame
 
 abbrev pub turned : ℕ → Parcel → Parcel
 turned word parcel = record parcel { frame = turned_frame word parcel.frame }
 
--- what a channel of chance gives by a word with this rest by 16, where a parcel is under way: it takes and gives the oldest; throws it away;
--- gives it and leaves it; moves it to the end, and then takes and gives the oldest; takes and gives it with one bit turned; gives the
--- parcel given last again; gives nothing
+-- what a channel of chance gives by a word with this rest by 16, where a parcel is under way: it takes and gives the
+-- oldest; throws it away; gives it and leaves it; moves it to the end, and then takes and gives the oldest; takes and
+-- gives it with one bit turned; gives the parcel given last again; gives nothing
 abbrev pub given_by : ℕ → ℕ → Parcel → List Parcel → Option Parcel → Given
 given_by rest word oldest others last =
     if nat_le rest 8 then taken (oldest ∷ others)

@@ -4,8 +4,8 @@ use Rattle.black_channel.specs.Holds.{Gifts}
 use Rattle.black_channel.specs.Told.{Told}
 use Rattle.black_channel.specs.declared.channel.Parcel.{Parcel}
 
--- the parcels that it is still to give, those that it gave, those that were pushed as long as it tells them, of how many pushes it tells
--- at most, and how many pulls gave nothing
+-- the parcels that it is still to give, those that it gave, those that were pushed as long as it tells them, of how
+-- many pushes it tells at most, and how many pulls gave nothing
 pub record ListView : Type 0 where
   pub gifts : List Parcel
   pub given : List Parcel

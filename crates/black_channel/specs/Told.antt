@@ -5,8 +5,8 @@ use Rattle.black_channel.specs.Holds.{Holds, IsForm, begun, pushed, pulled}
 use Rattle.black_channel.specs.declared.channel.Parcel.{Parcel}
 use Rattle.black_channel.specs.declared.channel.Place.{Place}
 
--- what it holds, a count that rises where it gives nothing, and all parcels that were pushed and given, oldest first; each but the count
--- may stay untold
+-- what it holds, a count that rises where it gives nothing, and all parcels that were pushed and given, oldest first;
+-- each but the count may stay untold
 pub record Told : Type 0 where
   pub holds : Option Holds
   pub empties : ℕ

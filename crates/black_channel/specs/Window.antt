@@ -6,7 +6,8 @@ abbrev pub back_th : ℕ → List (List ℕ) → Option (List ℕ)
 back_th zero frames = None
 back_th (suc k) frames = slice_get frames k
 
--- what contracts see of a window: the frames that it still has, and how many were pushed, 2^64 - 1 for all greater numbers
+-- what contracts see of a window: the frames that it still has, and how many were pushed, 2^64 - 1 for all greater
+-- numbers
 pub record WindowView : Type 0 where
   pub frames : List (List ℕ)
   pub sent : ℕ

@@ -46,8 +46,8 @@ IsAltered frames _ copy = Unit {0}
 pub record Hears (old : WindowView) (frame : List ℕ) (new : WindowView) : Type 0 where
   pub hears : (frames : List (List ℕ)) → old ≡ window_of frames → new ≡ window_of (if is_empty frame then frames else frame ∷ frames)
 
--- the master of a pair does its next deed, at which these bytes come: its window and the monitor note what it did and the frame that it
--- sent, and all of the slave stays
+-- the master of a pair does its next deed, at which these bytes come: its window and the monitor note what it did and
+-- the frame that it sent, and all of the slave stays
 pub record MasterActs (old : DuoView) (what : Move) (came : List ℕ) (did : Did) (sent : List ℕ) (new : DuoView) : Type 0 where
   pub follows : master_core.Follows old.master what new.master
   pub answers : master_core.Answers old.master what did sent

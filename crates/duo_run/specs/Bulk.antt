@@ -31,7 +31,8 @@ state_line master slave = codes "state " ++ state_name master ++ codes " " ++ st
 abbrev pub number_line : ℕ → ℕ → List ℕ
 number_line number events = codes "bulk " ++ decimal number ++ codes " " ++ decimal events ++ codes "\n"
 
--- the lines of a summary: the data frames taken, the entries with a reset and those with a dropped frame, and the states told last
+-- the lines of a summary: the data frames taken, the entries with a reset and those with a dropped frame, and the
+-- states told last
 abbrev pub summary_lines : Summary → List ℕ
 summary_lines s =
     ends_line (codes "data") s.master.taken s.slave.taken
@@ -43,8 +44,9 @@ summary_lines s =
 abbrev pub report_of : ℕ → ℕ → List Entry → List ℕ
 report_of number events w = number_line number events ++ summary_lines (summary_of w) ++ other_line (first_other w)
 
--- the first so many events of a number were run: the whole report was written, and the run ended as its first other entry says, or a
--- write failed; each event has its entry, and the law of the pair holds of them; those of number 0 serve
+-- the first so many events of a number were run: the whole report was written, and the run ended as its first other
+-- entry says, or a write failed; each event has its entry, and the law of the pair holds of them; those of number 0
+-- serve
 pub record RanBulk (number events : ℕ) (ended : Ended) (sink : Told) : Type 0 where
   pub wrote : Writes 0 (report_of number events (entries_of number events)) (ended_with (first_other (entries_of number events))) ended sink
   pub whole : length (entries_of number events) ≡ events

@@ -79,7 +79,8 @@ pub record ConvertedToEnd (ended : Ended) (o : Outside) : Type 0 where
   pub place_is : ended.place ≡ 0
   pub wrote : WroteAll ended o
 
--- a text is what so many whole lines that were taken are converted to, without its last line, which says that no line comes after them
+-- a text is what so many whole lines that were taken are converted to, without its last line, which says that no line
+-- comes after them
 pub record ConvertsReadLines (lines : ℕ) (input : List ℕ) (left : Option (List ℕ)) (text : List ℕ) : Type 0 where
   pub taken : List ℕ
   pub held : List ℕ

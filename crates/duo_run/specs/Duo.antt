@@ -49,8 +49,8 @@ pub record IsDuo (v : DuoView) : Type 0 where
   pub rest : is_due v.master.state ≡ false
   pub same : SameLengths v.master.kit.settings v.slave.kit.settings
 
--- a pair stands for these entries: they are a world, each end is where its own deeds among them leave it, each window has the last
--- of the frames that its end sent, and the monitor has noted them all
+-- a pair stands for these entries: they are a world, each end is where its own deeds among them leave it, each window
+-- has the last of the frames that its end sent, and the monitor has noted them all
 pub record DuoStands (ms : MasterSettings) (ss : SlaveSettings) (v : DuoView) (w : List Entry) : Type 0 where
   pub master : MasterIsAfter ms v.master (deeds end_name.Master w)
   pub slave : SlaveIsAfter ss v.slave (deeds end_name.Slave w)
@@ -64,7 +64,8 @@ pub record Steps (old : DuoView) (event : Event) (x : Entry) (new : DuoView) : T
   pub entry : (ms : MasterSettings) (ss : SlaveSettings) (w : List Entry) → DuoStands ms ss old w → entry_at ms ss w event ≡ Some x
   pub stands : (ms : MasterSettings) (ss : SlaveSettings) (w : List Entry) → DuoStands ms ss old w → DuoStands ms ss new (x ∷ w)
 
--- the entry of an event after these, in which its end did this and sent this frame; a pair stands then for it and those before
+-- the entry of an event after these, in which its end did this and sent this frame; a pair stands then for it and those
+-- before
 pub record NextEntry (ms : MasterSettings) (ss : SlaveSettings) (w : List Entry) (event : Event) (did : Did) (sent : List ℕ) (new : DuoView) : Type 0 where
   pub entry : Entry
   pub next : entry_at ms ss w event ≡ Some entry

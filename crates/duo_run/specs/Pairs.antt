@@ -1,5 +1,6 @@
--- Several pairs over a schedule with common ticks: what an event of all is to each pair, and what each does. Pairs are numbered from 1 in
--- their order. Events of all pairs are listed newest first, those of one pair oldest first, and entries newest first.
+-- Several pairs over a schedule with common ticks: what an event of all is to each pair, and what each does. Pairs are
+-- numbered from 1 in their order. Events of all pairs are listed newest first, those of one pair oldest first, and
+-- entries newest first.
 use Rattle.std.specs.Prelude.{ℕ, suc, ◌==◌, min, List, [], ◌∷◌, ◌++◌, length, Bool, true, false, Option, Some, None, is_some, if◌then◌else◌}
 use Rattle.fsoe_base.specs.declared.command.End.TheVariants as end_name
 use Rattle.param_load.specs.declared.entry.Entry.{Entry}
@@ -18,7 +19,8 @@ pub record Pair : Type 0 where
   pub master : MasterSettings
   pub slave : SlaveSettings
 
--- what an event of all is to the pair of this number: a tick is one of its slave and later, in the same event, one of its master
+-- what an event of all is to the pair of this number: a tick is one of its slave and later, in the same event, one of
+-- its master
 abbrev pub events_by : ℕ → PairsEvent → List Event
 events_by k common.Tick = event.Tick end_name.Slave ∷ event.Tick end_name.Master ∷ []
 events_by k (common.One pair own) = if pair == k then own ∷ [] else []
@@ -59,7 +61,8 @@ done_after pairs (event ∷ events) past = if is_met pairs past event then done_
 abbrev pub events_done : List Pair → List PairsEvent → List PairsEvent
 events_done pairs events = done_after pairs events []
 
--- the number of the event of all, from 1, after which the world of the pair of this number first has an other entry, if there is one
+-- the number of the event of all, from 1, after which the world of the pair of this number first has an other entry, if
+-- there is one
 abbrev pub other_event : ℕ → Pair → List PairsEvent → Option ℕ
 other_event k p [] = None
 other_event k p (event ∷ past) = first_of_both (other_event k p past) (is_some (first_other (world_of k p (event ∷ past)))) (suc (length past))

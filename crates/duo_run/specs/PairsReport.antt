@@ -1,5 +1,5 @@
--- What a replay of several pairs reports: the lines of their entries in the order of events, and last how the run stops; and what holds of
--- the entries of each pair. Events of all pairs are listed newest first.
+-- What a replay of several pairs reports: the lines of their entries in the order of events, and last how the run
+-- stops; and what holds of the entries of each pair. Events of all pairs are listed newest first.
 use Rattle.std.specs.Prelude.{◌≡◌, ℕ, suc, ◌+◌, List, [], ◌∷◌, ◌++◌, length, codes, decimal, true, Option, Some, None, IfSome}
 use Rattle.std.specs.List.{AllZip}
 use Rattle.fsoe_base.specs.declared.command.End.{End}
@@ -48,7 +48,8 @@ abbrev pub one_line : ℕ → ℕ → List PairsEvent → Event → Option Pair 
 one_line n k past own None = []
 one_line n k past own (Some p) = line_if n k (entry_after p (events_to k past) own)
 
--- the lines of the event of this number: of a tick those of all slaves, and then those of all masters, in the order of pairs
+-- the lines of the event of this number: of a tick those of all slaves, and then those of all masters, in the order of
+-- pairs
 abbrev pub event_lines : ℕ → List Pair → List PairsEvent → PairsEvent → List ℕ
 event_lines n pairs past common.Tick =
     tick_lines n (λ k. events_to k past) end_name.Slave 1 pairs ++ tick_lines n (with_tick end_name.Slave (λ k. events_to k past)) end_name.Master 1 pairs
@@ -73,8 +74,8 @@ abbrev pub pairs_last_lines : List Pair → List PairsEvent → Stop → List �
 pairs_last_lines pairs past AtEnd = events_line (length past) ++ closing_lines 1 (other_events 1 pairs past)
 pairs_last_lines pairs past (Refused number why) = refused_line number why
 
--- how a run of these events ends that stops so, where neither a read nor a write failed: at the least number of an event with an other
--- entry
+-- how a run of these events ends that stops so, where neither a read nor a write failed: at the least number of an
+-- event with an other entry
 abbrev pub pairs_ended : List Pair → List PairsEvent → Stop → Ended
 pairs_ended pairs past AtEnd = ended_with (least (other_events 1 pairs past))
 pairs_ended pairs past (Refused number why) = refused_at number

@@ -50,8 +50,8 @@ pub record StepsAt (k : ℕ) (old : List DuoView) (event : Event) (x : Entry) (n
   pub lengths : lengths_of after ≡ lengths_of before
   pub profiles : profiles_of after ≡ profiles_of before
 
--- the entry of an event after these of a pair, whose line, with these numbers of the event of all and of the pair, is this; the pair
--- stands for it and those before then
+-- the entry of an event after these of a pair, whose line, with these numbers of the event of all and of the pair, is
+-- this; the pair stands for it and those before then
 pub record ToldNext (ms : MasterSettings) (ss : SlaveSettings) (w : List Entry) (event : Event) (n k : ℕ) (new : DuoView) (line : List ℕ) : Type 0 where
   pub entry : Entry
   pub next : entry_at ms ss w event ≡ Some entry

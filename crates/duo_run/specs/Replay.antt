@@ -1,5 +1,6 @@
--- What a replay reports of an input: a line for each entry of both ends, and last how the run stops; and what holds of its entries:
--- fair before the first other one, and serving after an honest schedule. Lists of entries are newest first.
+-- What a replay reports of an input: a line for each entry of both ends, and last how the run stops; and what holds of
+-- its entries: fair before the first other one, and serving after an honest schedule. Lists of entries are newest
+-- first.
 use Rattle.std.specs.Prelude.{◌≡◌, ℕ, ◌+◌, ◌==◌, List, [], ◌∷◌, ◌++◌, length, codes, decimal, true, Option, Some, None, IfSome, if◌then◌else◌}
 use Rattle.fsoe_base.specs.declared.command.End.{End}
 use Rattle.fsoe_base.specs.declared.command.State.{State}
@@ -54,8 +55,8 @@ abbrev pub ended_at : List Entry → Stop → Ended
 ended_at w AtEnd = ended_with (first_other w)
 ended_at w (Refused number why) = record { status = status.Line; place = number }
 
--- how a run over an input stops that did so many of its events: as the input does where that is all, else at the line of the next event,
--- which names a frame that wasn't sent
+-- how a run over an input stops that did so many of its events: as the input does where that is all, else at the line
+-- of the next event, which names a frame that wasn't sent
 abbrev pub stop_after : {H E : Type 0} → InputOf H E → ℕ → Stop
 stop_after input done = if done == length input.events then input.stop else Refused (input.lines + done + 1) NoFrame
 
@@ -97,7 +98,8 @@ pub record RanPair (ended : Ended) (o : Outside) : Type 0 where
   pub fair : IfSome o.source.before (λ input. RunsFairly (input_of kind.Pair input))
   pub serves : IfSome o.source.before (λ input. ServesIfHonest (input_of kind.Pair input))
 
--- a pair was set to what a header says, and stands for the entries of these events, one each, of which this text has the lines
+-- a pair was set to what a header says, and stands for the entries of these events, one each, of which this text has
+-- the lines
 pub record ReplayStands (v : DuoView) (h : Heading) (log : List Event) (text : List ℕ) : Type 0 where
   pub ms : MasterSettings
   pub ss : SlaveSettings

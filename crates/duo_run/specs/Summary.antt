@@ -19,7 +19,8 @@ has_reset which x = same_end which x.end && is_some x.did.reset
 abbrev pub has_drop : End → Entry → Bool
 has_drop which x = same_end which x.end && is_some x.did.dropped
 
--- what is told of an end: in how many entries it takes a data frame, has a reset and drops a frame, and the state that it told last
+-- what is told of an end: in how many entries it takes a data frame, has a reset and drops a frame, and the state that
+-- it told last
 abbrev pub counts_of : End → List Entry → Counts
 counts_of which w = record {
   taken = count_by (takes_data which) w;

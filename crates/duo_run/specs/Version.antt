@@ -1,4 +1,5 @@
--- A replay over an input of either version, which its first line tells: of one pair, or of several pairs with common ticks.
+-- A replay over an input of either version, which its first line tells: of one pair, or of several pairs with common
+-- ticks.
 use Rattle.std.specs.Prelude.{ℕ, List, codes}
 use Rattle.fsoe_io.specs.declared.status.Ended.{Ended}
 use Rattle.file_run.specs.ByTitle.{ByTitle}

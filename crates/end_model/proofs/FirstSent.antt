@@ -1,4 +1,5 @@
--- A master in state Session that took no frame of the session yet: it sent one frame, which carries the first piece of its session id.
+-- A master in state Session that took no frame of the session yet: it sent one frame, which carries the first piece of
+-- its session id.
 use Rattle.std.proofs.Common.{◌≡◌, ℕ, List, [], ◌∷◌, Bool, false, Option, Some, None, unwrap_or, refl, sym, ap, subst, ◌∙◌}
 use Rattle.std.specs.Option.{option_or}
 use Rattle.fsoe_base.specs.declared.command.State.TheVariants as state

@@ -1,5 +1,5 @@
--- A slave that took one frame of a session: it is the first Session frame, and the slave's answer to it carries the first piece of its
--- session id.
+-- A slave that took one frame of a session: it is the first Session frame, and the slave's answer to it carries the
+-- first piece of its session id.
 use Rattle.std.proofs.Common.{◌≡◌, ◌≢◌, ℕ, suc, List, [], ◌∷◌, ◌++◌, length, take, Bool, false, Option, Some, None, if◌then◌else◌, unwrap_or, IsTrue, refl, sym, ap, subst, ◌∙◌}
 use Rattle.std.specs.Option.{option_or}
 use Rattle.fsoe_base.specs.declared.command.State.{State}

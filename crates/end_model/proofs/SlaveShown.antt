@@ -31,7 +31,8 @@ use Rattle.end_model.proofs.MasterShown.{shown_in, shown-zeros, shown-data}
 abbrev pub parameters : SlaveSettings → List Deed → List ℕ
 parameters ss e = uploaded ss state.Parameter e
 
--- what is known of uploaded parameters by their tests: the watchdog isn't 0, and the number of application parameters is the rule's
+-- what is known of uploaded parameters by their tests: the watchdog isn't 0, and the number of application parameters
+-- is the rule's
 pub record IsTested (ss : SlaveSettings) (u : List ℕ) : Type 0 where
   pub watchdog : 4 ≤ length u → 0 < number_at 2 u
   pub counted : id_len ss.profile + 4 ≤ length u → number_at (id_len ss.profile + 2) u ≡ rule_len ss.rule

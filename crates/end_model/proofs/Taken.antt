@@ -1,4 +1,5 @@
--- What is known of a frame that an end took: the tests that it passed, the phase in which it came, and which answer was sent.
+-- What is known of a frame that an end took: the tests that it passed, the phase in which it came, and which answer was
+-- sent.
 use Rattle.std.proofs.Common.{◌≡◌, ◌≢◌, ℕ, suc, ◌<◌, ◌≤◌, List, true, false, nat_lt, if◌then◌else◌, refl, sym, subst, ◌∙◌, arith}
 use Rattle.std.proofs.lemmas.Bool.Decides.{nat_tests}
 use Rattle.fsoe_base.specs.declared.command.State.{State}

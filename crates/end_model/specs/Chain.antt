@@ -1,6 +1,6 @@
--- The chain of an end's CRCs by looking back: which frames belong to the session, their numbers, and the frames that follow.
--- The parts that a CRC covers, the numbers and their start values are this profile's own. The words after `since` are asked of
--- the deeds of one session, which `since` gives; `own` serves whole runs too.
+-- The chain of an end's CRCs by looking back: which frames belong to the session, their numbers, and the frames that
+-- follow. The parts that a CRC covers, the numbers and their start values are this profile's own. The words after
+-- `since` are asked of the deeds of one session, which `since` gives; `own` serves whole runs too.
 use Rattle.std.specs.Prelude.{ℕ, List, [], ◌∷◌, Bool, Option, Some, None, is_some, if◌then◌else◌}
 use Rattle.fsoe_base.specs.declared.command.Command.{Command}
 use Rattle.fsoe_base.specs.declared.command.Command.TheVariants as command
@@ -38,14 +38,16 @@ abbrev pub newest_crc : ℕ → List (List ℕ) → ℕ
 newest_crc l [] = 0
 newest_crc l (f ∷ frames) = first_of (frame_of l f).crcs
 
--- the number and the CRC_0 of the frame that was sent last: its CRCs cover the CRC_0 of the frame that was taken last, also in its own step
+-- the number and the CRC_0 of the frame that was sent last: its CRCs cover the CRC_0 of the frame that was taken last,
+-- also in its own step
 abbrev pub own_link : Setup → List Deed → Option Link
 own_link s [] = None
 own_link s (x ∷ e) =
     if is_empty x.sent then own_link s e
     else Some (sealing.noted (newest_crc (receives s) (taken (x ∷ e))) (own_link s e) (frame_of (sends s) x.sent))
 
--- the number and the CRC_0 of the frame that was taken last: its CRCs cover the CRC_0 of the frame that was sent last before it came
+-- the number and the CRC_0 of the frame that was taken last: its CRCs cover the CRC_0 of the frame that was sent last
+-- before it came
 abbrev pub taken_link : Setup → List Deed → Option Link
 taken_link s [] = None
 taken_link s (x ∷ e) =

@@ -1,5 +1,5 @@
--- What an end did in one step. All that is said of an end looks back over the list of its deeds, newest first. This way of
--- saying it is this profile's own.
+-- What an end did in one step. All that is said of an end looks back over the list of its deeds, newest first. This way
+-- of saying it is this profile's own.
 use Rattle.std.specs.Prelude.{ℕ, suc, List, [], ◌∷◌, ◌++◌, Bool, true, false, Option, Some, None, if◌then◌else◌}
 use Rattle.fsoe_base.specs.declared.did.Did.{Did}
 use Rattle.fsoe_base.specs.declared.did.Took.{Took}

@@ -10,8 +10,8 @@ use Rattle.end_model.specs.Deed.{Deed}
 use Rattle.end_model.specs.Verdict.{Refused, verdict}
 use Rattle.end_model.specs.Step.{step}
 
--- the part of a session id that the first group of the first Session frame carries: its low 8 bits where a piece has one byte, else its
--- low 16
+-- the part of a session id that the first group of the first Session frame carries: its low 8 bits where a piece has
+-- one byte, else its low 16
 abbrev pub id_front : Setup → ℕ → ℕ
 id_front s id = if piece_len s == 1 then id % 256 else id % 65536
 

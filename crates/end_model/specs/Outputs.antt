@@ -1,5 +1,6 @@
--- The outputs of an end: as it shows them in its session, and by looking back over all of its deeds. That they are fail-safe
--- once the watchdog expired is the public standard's; the value 0 of each byte, and the rest, is this profile's own.
+-- The outputs of an end: as it shows them in its session, and by looking back over all of its deeds. That they are
+-- fail-safe once the watchdog expired is the public standard's; the value 0 of each byte, and the rest, is this
+-- profile's own.
 use Rattle.std.specs.Prelude.{ℕ, nat_lt, List, [], ◌∷◌, Bool, true, false, ◌&&◌, Option, Some, None, is_some, if◌then◌else◌, replicate}
 use Rattle.fsoe_base.specs.declared.command.Command.{Command}
 use Rattle.fsoe_base.specs.declared.command.Command.TheVariants as command
@@ -42,7 +43,7 @@ abbrev pub out_after : Setup → ℕ → List Deed → List ℕ
 out_after s n [] = zeros s
 out_after s n (x ∷ e) = if is_some x.did.reset then zeros s else held_up s (x ∷ e) n x.did.took (out_after s (ticked x.what n) e)
 
--- the outputs by looking back, with no word of ages, states or limits: the load of the frame that was taken last where it was
--- ProcessData, no reset came after it, and fewer ticks than the watchdog; else zeros
+-- the outputs by looking back, with no word of ages, states or limits: the load of the frame that was taken last where
+-- it was ProcessData, no reset came after it, and fewer ticks than the watchdog; else zeros
 abbrev pub out : Setup → List Deed → List ℕ
 out s e = out_after s 0 e

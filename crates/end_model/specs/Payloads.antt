@@ -1,4 +1,5 @@
--- The payloads of a handshake and the terms of a connection, by looking back. Widths, order, pieces and padding are this profile's own.
+-- The payloads of a handshake and the terms of a connection, by looking back. Widths, order, pieces and padding are
+-- this profile's own.
 use Rattle.std.specs.Prelude.{ℕ, suc, ◌+◌, ◌-◌, ◌*◌, ◌/◌, nat_le, List, [], ◌∷◌, ◌++◌, length, take, drop, Bool, false, Option, Some, None, unwrap_or, if◌then◌else◌}
 use Rattle.std.specs.Option.{option_or}
 use Rattle.fsoe_base.specs.declared.command.State.{State}
@@ -79,8 +80,8 @@ joined phase c (x ∷ e) = joined_with phase c (of_session x.did.took) (joined p
 abbrev pub uploaded : SlaveSettings → State → List Deed → List ℕ
 uploaded ss phase e = joined phase (piece_len (OfSlave ss)) (since e)
 
--- the number of bytes of the parameters, of which v are communication parameters: the number of application parameters stands
--- after these
+-- the number of bytes of the parameters, of which v are communication parameters: the number of application parameters
+-- stands after these
 abbrev pub parameter_len : ℕ → List ℕ → Option ℕ
 parameter_len v u = if nat_le (v + 4) (length u) then Some (v + 4 + number_at (v + 2) u) else None
 

@@ -1,5 +1,5 @@
--- What an end is ready for, by looking back: its state, what it offers, its age and the commands that it allows.
--- The states are those of the public standard; what is allowed in each, and the counting of ticks, is this profile's own.
+-- What an end is ready for, by looking back: its state, what it offers, its age and the commands that it allows. The
+-- states are those of the public standard; what is allowed in each, and the counting of ticks, is this profile's own.
 use Rattle.std.specs.Prelude.{ℕ, suc, ◌-◌, nat_le, List, [], ◌∷◌, Bool, true, false, not, Option, Some, None, if◌then◌else◌, replicate}
 use Rattle.fsoe_base.specs.declared.command.State.{State}
 use Rattle.fsoe_base.specs.declared.command.State.TheVariants as state
@@ -117,7 +117,8 @@ master_allows _ _ = false
 abbrev pub upload_is_whole : SlaveSettings → State → List Deed → Bool
 upload_is_whole ss now e = whole ss.profile now (uploaded ss now e)
 
--- whether an end allows a command of a session; Reset frames, which stand outside of each session, have tests of their own
+-- whether an end allows a command of a session; Reset frames, which stand outside of each session, have tests of their
+-- own
 abbrev pub allowed : Setup → List Deed → Command → Bool
 allowed (OfMaster ms) e c = master_allows (state_of (OfMaster ms) e) c
 allowed (OfSlave ss) e c = slave_allows (state_of (OfSlave ss) e) (upload_is_whole ss (state_of (OfSlave ss) e) e) c

@@ -57,7 +57,8 @@ on_verdict now s (Wrong found) = on_fault now true found
 on_verdict now s (Valid command.Reset load) = on_reset_frame now s load
 on_verdict now s (Valid c load) = takes_frame c load
 
--- the age reaches the limit: in state Reset a master sends Reset again and a slave does nothing, elsewhere the session ends
+-- the age reaches the limit: in state Reset a master sends Reset again and a slave does nothing, elsewhere the session
+-- ends
 abbrev pub on_expiry : State → Setup → Did
 on_expiry state.Reset (OfMaster ms) = record nothing { sent = true }
 on_expiry state.Reset (OfSlave ss) = nothing

@@ -1,4 +1,5 @@
--- How the tests of a frame that came end. The order of the tests is this profile's own, the codes are those of the public standard.
+-- How the tests of a frame that came end. The order of the tests is this profile's own, the codes are those of the
+-- public standard.
 use Rattle.std.specs.Prelude.{ℕ, ◌==◌, List, Bool, not, Option, Some, None, if◌then◌else◌}
 use Rattle.fsoe_base.specs.declared.command.State.{State}
 use Rattle.fsoe_base.specs.declared.command.State.TheVariants as state
@@ -31,7 +32,8 @@ use Rattle.end_model.specs.Readiness.{allowed}
 pub data Verdict : Type 0 where
   -- all tests are passed by a frame with this command and load
   Valid : Command → List ℕ → Verdict
-  -- the frame is dropped in each state: it hasn't the length of the peer's frames, or is the one that is kept as taken last
+  -- the frame is dropped in each state: it hasn't the length of the peer's frames, or is the one that is kept as taken
+  -- last
   Drop : Dropped → Verdict
   -- a test up to that of the CRCs fails with this code
   Refused : Code → Verdict
@@ -112,7 +114,7 @@ judged s e (opened_as.Refuse found) = Refused found
 judged s e (opened_as.ResetFrame said f) = Valid command.Reset f.load
 judged s e (opened_as.OfSession f) = judged_session s e f (fault_after s e f)
 
--- the first of the tests that these bytes fail: those that need no session, the length, the repeat, the command and what a
--- Reset frame says; then those of the session, and the contents
+-- the first of the tests that these bytes fail: those that need no session, the length, the repeat, the command and
+-- what a Reset frame says; then those of the session, and the contents
 abbrev pub verdict : Setup → List Deed → List ℕ → Verdict
 verdict s e bytes = judged s e (opened (receives s) (is_repeat (kept (since e)) bytes) bytes)

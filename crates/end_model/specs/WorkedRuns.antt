@@ -46,7 +46,8 @@ master_values = record {
 abbrev pub a_master : Setup
 a_master = OfMaster master_values
 
--- slave address 2, at most 200 ticks without a frame in a handshake, watchdogs up to 1000, no application parameters, session id 2
+-- slave address 2, at most 200 ticks without a frame in a handshake, watchdogs up to 1000, no application parameters,
+-- session id 2
 abbrev pub slave_values : SlaveSettings
 slave_values = record {
   lengths = two_and_two;
@@ -177,9 +178,10 @@ SlaveGoesOn =
     ∷ codes "took ProcessData Data 0100 > 080000f65b0100"
     ∷ []
 
--- frames of which each fails several tests, all with wrong CRCs: a frame too short with an unknown command; an unknown command
--- with a wrong connection id; a Reset frame with a connection id, and one with a byte after its code; a command that isn't
--- allowed in Data with a wrong connection id; data with a wrong connection id, and fail-safe data that aren't zeros
+-- frames of which each fails several tests, all with wrong CRCs: a frame too short with an unknown command; an unknown
+-- command with a wrong connection id; a Reset frame with a connection id, and one with a byte after its code; a command
+-- that isn't allowed in Data with a wrong connection id; data with a wrong connection id, and fail-safe data that
+-- aren't zeros
 abbrev pub faulty : List (List ℕ)
 faulty =
     codes "ff0000000000"
@@ -191,8 +193,8 @@ faulty =
     ∷ codes "08010000000100"
     ∷ []
 
--- the first test that each of them fails: the length, the command, the parts of a Reset frame, whether it is allowed, the
--- connection id, the CRCs
+-- the first test that each of them fails: the length, the command, the parts of a Reset frame, whether it is allowed,
+-- the connection id, the CRCs
 abbrev pub first_faults : List Verdict
 first_faults = Drop why.Length ∷ Refused (code 0x02) ∷ Refused (code 0x03) ∷ Refused (code 0x04) ∷ Refused (code 0x01) ∷ Refused (code 0x03) ∷ Refused (code 0x04) ∷ []
 
@@ -274,7 +276,8 @@ OutlastsReset =
     report_lines (OfSlave (record slave_values { nonce = 7; allowed = refl })) (move.Nonce 2 ∷ p (codes "8000") ∷ z ∷ drop 1 to_slave)
     ≡ codes "quiet Reset 0000" ∷ codes "quiet Reset 0000" ∷ codes "reset own Reset 0000 > 2a0000c42d0000" ∷ handshake_lines
 
--- a master of profile One goes on to Connection too early: a slave of profile Two waits for a second piece of the session id
+-- a master of profile One goes on to Connection too early: a slave of profile Two waits for a second piece of the
+-- session id
 unfoldable pub MasterOfOtherProfile : Type 0
 MasterOfOtherProfile =
     drop 2 (report_lines a_slave_of_two (d (codes "2a0000c42d0000") ∷ d (codes "4e0100123e0000") ∷ d (codes "640100642a0100") ∷ []))
@@ -328,8 +331,8 @@ MasterHandshake =
     ∷ codes "took ProcessData Data 8000 > 360100cfa90100"
     ∷ []
 
--- the first of these data frames would have the CRC_0 of the frame before it under the next number, so that its number is stepped
--- once more; the second goes on from there
+-- the first of these data frames would have the CRC_0 of the frame before it under the next number, so that its number
+-- is stepped once more; the second goes on from there
 unfoldable pub MasterStepsNumber : Type 0
 MasterStepsNumber =
     drop 10 (report_lines a_master (to_master ++ p (codes "5026") ∷ d (codes "3680002d670100") ∷ d (codes "368000c9770100") ∷ []))
@@ -346,8 +349,8 @@ contents_after s moves c text = contents s (run s moves) c (frame_of (receives s
 abbrev pub four_and_four : Lengths
 four_and_four = record { master = 4; slave = 4; valid_master = refl; valid_slave = refl }
 
--- a master takes any session id with zeros after it, its own pieces of the connection and of the parameters alone, and fail-safe
--- data that are zeros
+-- a master takes any session id with zeros after it, its own pieces of the connection and of the parameters alone, and
+-- fail-safe data that are zeros
 unfoldable pub MasterContents : Type 0
 MasterContents =
     contents_after (OfMaster (record master_values { lengths = four_and_four })) (t ∷ d (codes "2a0000c42d0000b9140000") ∷ []) command.Session (codes "4e0700000000000000000000")
@@ -380,8 +383,8 @@ first_answers ms texts = verdicts (OfMaster ms) (t ∷ d (codes "2a0000c42d0000"
 abbrev pub second_frames : SlaveSettings → List (List ℕ) → List Verdict
 second_frames ss texts = verdicts (OfSlave ss) (d (codes "2a0000c42d0000") ∷ d (codes "4e0100123e0000") ∷ []) texts
 
--- an old answer is taken by a master that uses its session id again, and refused with a fresh id; and so is an old Connection frame by a
--- slave, and the second Session frame where a session id needs two
+-- an old answer is taken by a master that uses its session id again, and refused with a fresh id; and so is an old
+-- Connection frame by a slave, and the second Session frame where a session id needs two
 unfoldable pub OldFrames : Type 0
 OldFrames =
     first_answers master_values (codes "4e020090470000" ∷ [])
@@ -398,8 +401,8 @@ OldFrames =
     ∷ Refused (code 0x04)
     ∷ []
 
--- slaves with the session ids 56448 and 17669, which differ by 9985h, take the same Connection frame after the same Session frame: at the
--- second its number is stepped once more
+-- slaves with the session ids 56448 and 17669, which differ by 9985h, take the same Connection frame after the same
+-- Session frame: at the second its number is stepped once more
 unfoldable pub IdsByStep : Type 0
 IdsByStep =
     (bit_xor 56448 17669 ≡ 0x9985)

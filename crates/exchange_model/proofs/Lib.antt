@@ -1,6 +1,6 @@
--- The argument of the law of the pair, in the order in which it goes: what holds of any run, the law's five steps (Joint is the
--- first, Alone has the second, the third and the fifth, Terms the fourth), the parts of a fair run, what outputs rest on, and honest
--- schedules.
+-- The argument of the law of the pair, in the order in which it goes: what holds of any run, the law's five steps
+-- (Joint is the first, Alone has the second, the third and the fifth, Terms the fourth), the parts of a fair run, what
+-- outputs rest on, and honest schedules.
 pub mod Worlds
 pub mod Joint
 pub mod Alone

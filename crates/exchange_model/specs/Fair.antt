@@ -1,5 +1,5 @@
--- When a run is fair: an end takes data that its peer put into the awaited answer, under equal terms and once, and all other
--- outputs are fail-safe. The word is this profile's own.
+-- When a run is fair: an end takes data that its peer put into the awaited answer, under equal terms and once, and all
+-- other outputs are fail-safe. The word is this profile's own.
 use Rattle.std.specs.Prelude.{ℕ, ◌≡◌, nat_eq, nat_lt, List, [], ◌∷◌, replicate, Bool, false, ◌&&◌, Option, Some, None, is_some, IsSome, if◌then◌else◌}
 use Rattle.std.specs.List.{IsDistinct}
 use Rattle.fsoe_base.specs.declared.command.End.{End}
@@ -25,7 +25,8 @@ abbrev pub data_taken : Option Took → Option Took
 data_taken None = None
 data_taken (Some t) = if is_data t.command then Some t else None
 
--- the frame with l bytes of safe data that an offer makes: FailSafeData with zeros, or ProcessData with the bytes that were put, zeros where none were
+-- the frame with l bytes of safe data that an offer makes: FailSafeData with zeros, or ProcessData with the bytes that
+-- were put, zeros where none were
 abbrev pub frame_with : ℕ → Offered → Took
 frame_with l FailSafe = record { command = command.FailSafeData; load = replicate l 0 }
 frame_with l (Values bytes) = record { command = command.ProcessData; load = bytes }
@@ -36,8 +37,8 @@ abbrev pub frame_if : ℕ → Option Offered → Option Took
 frame_if l None = None
 frame_if l (Some offered) = Some (frame_with l offered)
 
--- a data frame that was taken is what an item was to carry, and the terms told when the item was sent are those told after it was
--- taken
+-- a data frame that was taken is what an item was to carry, and the terms told when the item was sent are those told
+-- after it was taken
 pub record IsFromItem (l : ℕ) (t : Took) (told : Option Terms) (i : Item) : Type 0 where
   pub same_load : frame_if l i.offered ≡ Some t
   pub some_terms : IsSome i.terms
@@ -91,8 +92,8 @@ outputs_after zeros n (x ∷ e) =
     if is_some x.did.reset then zeros
     else outputs_at zeros n x.terms x.did.took (outputs_after zeros (ticked x.what n) e)
 
--- the outputs that looking back gives: the load of the frame that was taken last where it was ProcessData, no reset came after
--- it and fewer ticks than the watchdog of the terms told then; else zeros
+-- the outputs that looking back gives: the load of the frame that was taken last where it was ProcessData, no reset
+-- came after it and fewer ticks than the watchdog of the terms told then; else zeros
 abbrev pub outputs_due : ℕ → List Entry → List ℕ
 outputs_due l e = outputs_after (replicate l 0) 0 e
 

@@ -31,15 +31,16 @@ pub record Match (ms : MasterSettings) (ss : SlaveSettings) : Type 0 where
   pub as_many_parameters : length ms.app ≡ rule_len ss.rule
   pub parameters_allowed : IsTrue (allows ss.rule ms.app)
 
--- the exchanges before the first data frame: one of Reset frames, then those of the session id, of the connection id with the
--- address, and of the parameters
+-- the exchanges before the first data frame: one of Reset frames, then those of the session id, of the connection id
+-- with the address, and of the parameters
 abbrev pub exchanges : MasterSettings → ℕ
 exchanges ms =
     let c : ℕ = piece_len (OfMaster ms) in
     let v : ℕ = id_len ms.profile in
     1 + pieces_for v c + pieces_for 4 c + pieces_for (v + 4 + length ms.app) c
 
--- whether an event may stand in an honest schedule: a delivery of the peer's last frame, a tick, a put, a hold or a nonce
+-- whether an event may stand in an honest schedule: a delivery of the peer's last frame, a tick, a put, a hold or a
+-- nonce
 abbrev pub is_plain : Event → Bool
 is_plain (event.Deliver to back) = back == 1
 is_plain (event.Altered to back pos mask) = false
@@ -75,8 +76,8 @@ abbrev pub is_counted : State → Bool
 is_counted state.Reset = false
 is_counted _ = true
 
--- whether an end may have a tick now: the master's first tick reaches its limit, and no other tick of the master does, and none
--- of a slave outside state Reset
+-- whether an end may have a tick now: the master's first tick reaches its limit, and no other tick of the master does,
+-- and none of a slave outside state Reset
 abbrev pub may_tick : MasterSettings → SlaveSettings → List Entry → End → Bool
 may_tick ms ss w end_name.Master =
     let e : List Deed = deeds end_name.Master w in
@@ -100,9 +101,9 @@ abbrev pub keeps_time : MasterSettings → SlaveSettings → List Event → List
 keeps_time ms ss [] w = true
 keeps_time ms ss (event ∷ events) w = may_happen ms ss w event && if_on w (entry_at ms ss w event) (keeps_time ms ss events)
 
--- an honest schedule delivers the peer's last frames unaltered, to the slave and to the master in turn, the slave first; the
--- master's first tick comes before them, no later tick of the master and none of a slave outside state Reset reaches its limit,
--- and all else is puts, holds and nonces
+-- an honest schedule delivers the peer's last frames unaltered, to the slave and to the master in turn, the slave
+-- first; the master's first tick comes before them, no later tick of the master and none of a slave outside state Reset
+-- reaches its limit, and all else is puts, holds and nonces
 pub record IsHonest (ms : MasterSettings) (ss : SlaveSettings) (events : List Event) : Type 0 where
   pub plain : IsTrue (list_all is_plain events)
   pub turns : IsTrue (in_turn end_name.Slave events)

@@ -1,6 +1,6 @@
--- The items of a run and which item answers which. What judges a run sees numbered frames, the events of both ends, and what
--- was told after each: of a frame's CRCs it knows whether they passed the receiver's test, and it knows nothing of sequence
--- numbers and of the phases of a handshake. Lists are newest first. Items are this profile's own.
+-- The items of a run and which item answers which. What judges a run sees numbered frames, the events of both ends, and
+-- what was told after each: of a frame's CRCs it knows whether they passed the receiver's test, and it knows nothing of
+-- sequence numbers and of the phases of a handshake. Lists are newest first. Items are this profile's own.
 use Rattle.std.specs.Prelude.{ℕ, suc, ◌==◌, nat_eq, List, [], ◌∷◌, length, Bool, false, ◌&&◌, not, Option, Some, None, if◌then◌else◌}
 use Rattle.std.specs.Cmp.Lexicographic.{pointwise}
 use Rattle.fsoe_base.specs.declared.command.End.{End}
@@ -24,8 +24,8 @@ pub data Offered : Type 0 where
   -- zeros, as nothing was put yet
   Unset : Offered
 
--- a frame that was sent: its end, its number among those of this end, from 1, its bytes, the terms that its end told then,
--- what it offers if it is a data frame, and the number of the peer's item that it answers, if it answers one
+-- a frame that was sent: its end, its number among those of this end, from 1, its bytes, the terms that its end told
+-- then, what it offers if it is a data frame, and the number of the peer's item that it answers, if it answers one
 pub record Item : Type 0 where
   pub end : End
   pub number : ℕ
@@ -102,8 +102,8 @@ abbrev pub number_if : List ℕ → Option Item → Option ℕ
 number_if bytes None = None
 number_if bytes (Some i) = if pointwise nat_eq i.bytes bytes then Some i.number else None
 
--- the number of the item whose bytes an end took: for a guarded frame the awaited item, for a Reset or Session frame the peer's
--- newest, where its bytes are those that came; else none
+-- the number of the item whose bytes an end took: for a guarded frame the awaited item, for a Reset or Session frame
+-- the peer's newest, where its bytes are those that came; else none
 abbrev pub item_taken : List Item → End → List ℕ → Option Took → Option ℕ
 item_taken before which bytes None = None
 item_taken before which bytes (Some t) =

@@ -23,7 +23,8 @@ abbrev pub listed : List Item → List Listed
 listed [] = []
 listed (i ∷ found) = listed found ++ (listing i ∷ [])
 
--- what contracts see of the monitor: the entries that it noted, the number of the first other one, and the items of both ends
+-- what contracts see of the monitor: the entries that it noted, the number of the first other one, and the items of
+-- both ends
 pub record ListView : Type 0 where
   pub noted : ℕ
   pub other : Option ℕ

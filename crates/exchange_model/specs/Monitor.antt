@@ -23,7 +23,8 @@ sent_of (Some i) = Some (record { number = i.number; bytes = i.bytes })
 abbrev pub kept_of : End → List Item → Side
 kept_of which found = record { newest = sent_of (newest (items_of which found)); awaited = sent_of (awaited found which) }
 
--- what contracts see of a monitor: the entries that it noted, the number of the first other one, and what it keeps of each end
+-- what contracts see of a monitor: the entries that it noted, the number of the first other one, and what it keeps of
+-- each end
 pub record MonitorView : Type 0 where
   pub noted : ℕ
   pub other : Option ℕ
@@ -38,7 +39,8 @@ view_of w = record { noted = length w; other = first_other w; master = kept_of e
 pub record NotesEntry (old : MonitorView) (x : Entry) (new : MonitorView) : Type 0 where
   pub notes : (w : List Entry) → old ≡ view_of w → new ≡ view_of (x ∷ w)
 
--- an entry has these parts, by which a monitor notes it: its end, the bytes that came, what the end did and the frame that it sent
+-- an entry has these parts, by which a monitor notes it: its end, the bytes that came, what the end did and the frame
+-- that it sent
 pub record HasParts (x : Entry) (at : End) (came : List ℕ) (did : Did) (sent : List ℕ) : Type 0 where
   pub end_is : x.end ≡ at
   pub came_is : delivered x.what ≡ came
@@ -83,8 +85,8 @@ abbrev pub is_answer : Option Sent → Option ℕ → Bool
 is_answer None answer = false
 is_answer (Some s) answer = answers_to s.number answer
 
--- whether an entry of an end is other at which these bytes came, by what is kept of the end and whether they passed the test of
--- their CRCs
+-- whether an entry of an end is other at which these bytes came, by what is kept of the end and whether they passed the
+-- test of their CRCs
 abbrev pub is_other_to : Side → Bool → List ℕ → Bool
 is_other_to own passed came = passed && is_guarded_frame came && not (has came own.awaited)
 

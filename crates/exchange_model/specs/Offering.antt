@@ -1,5 +1,5 @@
--- What the outputs of an end rest on: a data frame that its peer sent not long ago. Entries are listed newest first, and
--- no clock is common to both ends: an end counts its own ticks.
+-- What the outputs of an end rest on: a data frame that its peer sent not long ago. Entries are listed newest first,
+-- and no clock is common to both ends: an end counts its own ticks.
 use Rattle.std.specs.Prelude.{ℕ, ◌≡◌, ◌≤◌, IsTrue, List, [], ◌∷◌, ◌++◌, Bool, false, if◌then◌else◌}
 use Rattle.fsoe_base.specs.declared.command.End.{End}
 use Rattle.fsoe_base.specs.Image.{bit_of}
@@ -20,8 +20,8 @@ abbrev pub ticks_of : End → List Entry → ℕ
 ticks_of which [] = 0
 ticks_of which (x ∷ w) = if same_end which x.end then ticked x.what (ticks_of which w) else ticks_of which w
 
--- an end's peer sent a data frame that offers this bit as 1, after some of these entries, and at most so many ticks of the
--- end came since
+-- an end's peer sent a data frame that offers this bit as 1, after some of these entries, and at most so many ticks of
+-- the end came since
 pub record WasOffered (which : End) (bit most : ℕ) (w : List Entry) : Type 0 where
   pub later : List Entry
   pub sending : Entry

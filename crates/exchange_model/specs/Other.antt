@@ -1,6 +1,6 @@
--- Other entries: a guarded frame passed the CRC test of its receiver, and its bytes weren't those of the item that the receiver
--- awaited, or it awaited none. That taken data are the peer's rests on there being no such entry. The word is this profile's
--- own.
+-- Other entries: a guarded frame passed the CRC test of its receiver, and its bytes weren't those of the item that the
+-- receiver awaited, or it awaited none. That taken data are the peer's rests on there being no such entry. The word is
+-- this profile's own.
 use Rattle.std.specs.Prelude.{ℕ, suc, ◌≡◌, List, [], ◌∷◌, length, Bool, true, false, ◌&&◌, not, Option, Some, None, is_some, if◌then◌else◌}
 use Rattle.param_load.specs.declared.entry.Entry.{Entry}
 use Rattle.end_model.specs.Phases.{is_guarded_frame}

@@ -1,5 +1,5 @@
--- What comes of an honest schedule, and when both ends are in state Data. The state is the public standard's; the numbers of
--- deliveries are this profile's own.
+-- What comes of an honest schedule, and when both ends are in state Data. The state is the public standard's; the
+-- numbers of deliveries are this profile's own.
 use Rattle.std.specs.Prelude.{ℕ, suc, ◌≡◌, nat_le, nat_lt, IsTrue, IsSome, All, List, [], ◌∷◌, length, Bool, true, false, ◌&&◌, None, is_some, if◌then◌else◌}
 use Rattle.fsoe_base.specs.declared.command.End.{End}
 use Rattle.fsoe_base.specs.declared.command.End.TheVariants as end_name
@@ -35,7 +35,8 @@ state_told which (x ∷ w) = if same_end which x.end then x.state else state_tol
 abbrev pub in_data : End → List Entry → Bool
 in_data which w = same_phase state.Data (state_told which w)
 
--- the master is in Data exactly where at least n deliveries came to it, and the slave exactly where more than n came to it
+-- the master is in Data exactly where at least n deliveries came to it, and the slave exactly where more than n came to
+-- it
 pub record InDataAfter (n : ℕ) (w : List Entry) : Type 0 where
   pub master : in_data end_name.Master w ≡ nat_le n (deliveries_to end_name.Master w)
   pub slave : in_data end_name.Slave w ≡ nat_lt n (deliveries_to end_name.Slave w)
@@ -62,9 +63,9 @@ abbrev pub TakesDataThroughout : ℕ → List Entry → Type 0
 TakesDataThroughout n [] = Unit {0}
 TakesDataThroughout n (x ∷ w) = TakesDataAfter n x w × TakesDataThroughout n w
 
--- a run over a schedule serves: it is whole, no entry is other, no session ends, each delivery is taken, the master is in Data
--- from the last of the exchanges before the first data on, the slave from its next delivery on, and each delivery to an end takes
--- data from then on
+-- a run over a schedule serves: it is whole, no entry is other, no session ends, each delivery is taken, the master is
+-- in Data from the last of the exchanges before the first data on, the slave from its next delivery on, and each
+-- delivery to an end takes data from then on
 pub record Serves (ms : MasterSettings) (events : List Event) (w : List Entry) : Type 0 where
   pub whole : length w ≡ length events
   pub no_other : NoOther w

@@ -23,7 +23,8 @@ newest_offered which w = option_map (λ i. i.offered) (newest (items_in which w)
 abbrev pub awaited_in : End → List Entry → Option ℕ
 awaited_in which w = option_map (λ i. i.number) (awaited (items w) which)
 
--- each frame of a handshake answers the one before it: the slave's n-th the master's n-th, and that the slave's one before
+-- each frame of a handshake answers the one before it: the slave's n-th the master's n-th, and that the slave's one
+-- before
 unfoldable pub Answering : Type 0
 Answering =
     (map (λ i. i.number) (items_in end_name.Master first_data_run) ≡ 9 ∷ 8 ∷ 7 ∷ 6 ∷ 5 ∷ 4 ∷ 3 ∷ 2 ∷ 1 ∷ [])
@@ -36,16 +37,16 @@ Answering =
 abbrev pub answered_twice : List Event
 answered_twice = tm ∷ rounds 1 ++ ds 1 ∷ zs ∷ ns 7 ∷ ds 1 ∷ []
 
--- a frame that was under way is answered as the awaited item, also where its sender sent a Reset frame since; a Session frame is
--- answered where it is the peer's newest alone
+-- a frame that was under way is answered as the awaited item, also where its sender sent a Reset frame since; a Session
+-- frame is answered where it is the peer's newest alone
 unfoldable pub AnsweringLate : Type 0
 AnsweringLate =
     (take 2 (map (λ i. i.answers) (items_in end_name.Master answer_under_way_run)) ≡ None ∷ Some 9 ∷ [])
     × (map (λ i. i.answers) (items_in end_name.Master (world master_values slave_values (answered_twice ++ dm 3 ∷ [])))
     ≡ None ∷ Some 1 ∷ None ∷ [])
 
--- a load and terms are those of data frames alone; a load is what was put, fail-safe data at a held end, which may be held before
--- its first put, and zeros where nothing was put
+-- a load and terms are those of data frames alone; a load is what was put, fail-safe data at a held end, which may be
+-- held before its first put, and zeros where nothing was put
 unfoldable pub Carrying : Type 0
 Carrying =
     (map (λ i. i.offered) (items_in end_name.Master first_data_run)
@@ -60,8 +61,8 @@ Carrying =
 abbrev pub reset_answered_run : List Entry
 reset_answered_run = world master_values slave_values (tm ∷ ds 1 ∷ [])
 
--- an end awaits the newest answer to its newest item, if one was sent already; after a reset of its own it awaits none until
--- the peer answers that Reset frame, and never a Reset frame
+-- an end awaits the newest answer to its newest item, if one was sent already; after a reset of its own it awaits none
+-- until the peer answers that Reset frame, and never a Reset frame
 unfoldable pub Awaiting : Type 0
 Awaiting =
     (awaited_in end_name.Slave first_data_run ≡ Some 9)

@@ -1,5 +1,5 @@
--- Worked runs in which an end shows its peer's offer for as long as may be: with a watchdog of five ticks, eight after the
--- peer's last frame.
+-- Worked runs in which an end shows its peer's offer for as long as may be: with a watchdog of five ticks, eight after
+-- the peer's last frame.
 use Rattle.std.specs.Prelude.{ℕ, ◌≡◌, List, [], ◌∷◌, ◌++◌, take, replicate}
 use Rattle.fsoe_base.specs.declared.command.End.{End}
 use Rattle.fsoe_base.specs.declared.command.End.TheVariants as end_name
@@ -23,7 +23,8 @@ short_run events = world short_watchdog slave_values events
 abbrev pub shown_after : End → List Event → List ℕ
 shown_after which events = outputs_due 2 (of_end which (short_run events))
 
--- an end shows this load after a run whose newest nine entries, eight of them ticks, are its own, and no longer after one more tick
+-- an end shows this load after a run whose newest nine entries, eight of them ticks, are its own, and no longer after
+-- one more tick
 pub record ShowsLongest (which : End) (load : List ℕ) (events : List Event) : Type 0 where
   pub none_other : NoOther (short_run events)
   pub own_entries : of_end (peer which) (take 9 (short_run events)) ≡ []

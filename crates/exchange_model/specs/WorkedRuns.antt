@@ -1,5 +1,5 @@
--- Worked runs of both ends: the events of a schedule, the lines that a report writes of them, the number of the first other
--- entry, and whether the run is fair.
+-- Worked runs of both ends: the events of a schedule, the lines that a report writes of them, the number of the first
+-- other entry, and whether the run is fair.
 use Rattle.std.specs.Prelude.{◌≡◌, ℕ, refl, List, [], ◌∷◌, ◌++◌, codes, length, take, drop, replicate, true, false, Option, Some, None}
 use Rattle.std.proofs.lemmas.Bool.{ltb-true}
 use Rattle.fsoe_base.specs.declared.command.End.TheVariants as end_name
@@ -271,7 +271,8 @@ old_frames =
     ∷ rs (codes "36ff009a250100")
     ∷ []
 
--- that session, of which the slave took both data frames; then zeros are put at the master, and the slave resets and tells the master
+-- that session, of which the slave took both data frames; then zeros are put at the master, and the slave resets and
+-- tells the master
 abbrev pub session_over : List Event
 session_over = pm (codes "ff00") ∷ tm ∷ rounds 8 ++ ds 1 ∷ pm (codes "0000") ∷ zs ∷ dm 1 ∷ []
 
@@ -314,8 +315,8 @@ FreshId =
       None,
     )
 
--- the first of these data frames of the master would have the CRC_0 of the frame before it under the next number, so that its
--- number is stepped once more; the slave takes it, and the master's next frame goes on from there
+-- the first of these data frames of the master would have the CRC_0 of the frame before it under the next number, so
+-- that its number is stepped once more; the slave takes it, and the master's next frame goes on from there
 unfoldable pub NumberStepped : Type 0
 NumberStepped =
     drop 21 (pair_lines (world master_values slave_values (until_data ++ ds 1 ∷ pm (codes "5026") ∷ dm 1 ∷ ds 1 ∷ dm 1 ∷ [])))
@@ -362,7 +363,8 @@ OtherProfile =
     ≡ codes "s reset found 01 Reset 0000 > 2a010047b70000"
     ∷ []
 
--- where frames have room for a whole session id of either profile, the length of the communication parameters tells them apart
+-- where frames have room for a whole session id of either profile, the length of the communication parameters tells
+-- them apart
 unfoldable pub OtherProfileLater : Type 0
 OtherProfileLater =
     drop 7
@@ -410,7 +412,8 @@ Honest = Match master_values slave_values × IsHonest master_values slave_values
 abbrev pub hasty_slave : SlaveSettings
 hasty_slave = record slave_values { hand = 1; some_hand = ltb-true 0 1 refl }
 
--- four ticks keep within a watchdog of five, at either end, and the fifth doesn't; in state Reset a slave may tick at any time
+-- four ticks keep within a watchdog of five, at either end, and the fifth doesn't; in state Reset a slave may tick at
+-- any time
 unfoldable pub HonestTicks : Type 0
 HonestTicks =
     (keeps_time short_watchdog slave_values (until_data ++ replicate 4 ts) [] ≡ true)

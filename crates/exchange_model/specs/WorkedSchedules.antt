@@ -9,8 +9,8 @@ use Rattle.exchange_model.specs.Schedules.{master_values, dm, ds, altered_ds, rs
 use Rattle.exchange_model.specs.WorkedRuns.{master_of_two}
 use Rattle.exchange_model.specs.Honest.{Match, is_plain, in_turn, ticks_first}
 
--- settings that don't match: other lengths, another address, another profile, a watchdog that the slave doesn't accept, more
--- parameters than its rule has, and as many that it doesn't allow
+-- settings that don't match: other lengths, another address, another profile, a watchdog that the slave doesn't accept,
+-- more parameters than its rule has, and as many that it doesn't allow
 unfoldable pub Mismatches : Type 0
 Mismatches =
     (Match (record master_values { lengths = record two_and_two { master = 4; valid_master = refl } }) slave_values → ⊥)

@@ -1,5 +1,6 @@
--- What both ends do over a schedule: the list of their entries, newest first. What an end does looks back over its own deeds,
--- and a frame that comes from its peer is found among those that the peer sent. Schedules are this profile's own.
+-- What both ends do over a schedule: the list of their entries, newest first. What an end does looks back over its own
+-- deeds, and a frame that comes from its peer is found among those that the peer sent. Schedules are this profile's
+-- own.
 use Rattle.std.specs.Prelude.{ℕ, ◌≡◌, List, [], ◌∷◌, ◌++◌, Option, Some, None, if◌then◌else◌}
 use Rattle.fsoe_base.specs.declared.command.End.{End}
 use Rattle.fsoe_base.specs.declared.command.End.TheVariants as end_name

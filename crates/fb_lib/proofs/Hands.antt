@@ -49,7 +49,8 @@ after-others n gap t false true false = refl
 after-others n gap t false false true = refl
 after-others n gap t false false false = refl
 
--- the next ones from any: a block isn't ready while both are pressed, and is ready before the run of both where it is now, in time
+-- the next ones from any: a block isn't ready while both are pressed, and is ready before the run of both where it is
+-- now, in time
 next-by : (n gap : ℕ) (t a b now_both ready before : Bool) → (now_both ≡ true → ready ≡ false) → (now_both ≡ false → before ≡ (nat_le gap n && ready))
     → next_hands n (hands_by (now_both && before) ready gap) t a b ≡ after before ready t gap a b
 next-by n gap t a b true true before spent seen = let e : true ≡ false = spent refl in cc

@@ -4,7 +4,8 @@ use Rattle.std.specs.List.{list_all, list_any}
 use Rattle.fb_lib.specs.declared.kind.BlockKind.{BlockKind}
 use Rattle.fb_lib.specs.declared.kind.BlockKind.TheVariants as kind
 
--- whether a block of this kind is false whenever its guarded inputs are; the list says of each input whether it is guarded
+-- whether a block of this kind is false whenever its guarded inputs are; the list says of each input whether it is
+-- guarded
 abbrev pub is_guarded : BlockKind → List Bool → Bool
 is_guarded kind.Const0 gs = true
 is_guarded kind.Const1 gs = false

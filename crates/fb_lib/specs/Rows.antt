@@ -45,6 +45,7 @@ OffDelayRow = given kind.OffDelay 2 (codes "1 0T 0 0T") ≡ codes "1110"
 unfoldable pub TwoHandRow : Type 0
 TwoHandRow = given kind.TwoHand 1 (codes "00 10T 11 10 11 00 10T 01T 11") ≡ codes "001000000"
 
--- a contactor that doesn't follow for two ticked cycles is switched off, and may be on again once it is released without cmd
+-- a contactor that doesn't follow for two ticked cycles is switched off, and may be on again once it is released
+-- without cmd
 unfoldable pub FeedbackRow : Type 0
 FeedbackRow = given kind.Feedback 1 (codes "11 11T 11T 01 11") ≡ codes "11001"

@@ -1,5 +1,5 @@
--- A block stands for the cycles that it was stepped with, newest first: it doesn't keep them, and gives what looking back over
--- them says.
+-- A block stands for the cycles that it was stepped with, newest first: it doesn't keep them, and gives what looking
+-- back over them says.
 use Rattle.std.specs.Prelude.{◌≡◌, ℕ, ◌-◌, min, not, Bool, List, [], ◌∷◌, map, if◌then◌else◌}
 use Rattle.std.specs.List.{list_any}
 use Rattle.fb_lib.specs.declared.held.Held.{Held}

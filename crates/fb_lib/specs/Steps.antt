@@ -1,4 +1,5 @@
--- What a block keeps between cycles, and how it goes on. A machine's own words: what they come to is said by looking back.
+-- What a block keeps between cycles, and how it goes on. A machine's own words: what they come to is said by looking
+-- back.
 use Rattle.std.specs.Prelude.{ℕ, ◌+◌, ◌-◌, min, nat_lt, nat_le, Bool, true, false, not, ◌&&◌, ◌||◌, if◌then◌else◌}
 use Rattle.std.specs.Bool.{beq}
 use Rattle.std.specs.List.{list_all, list_any}
@@ -25,8 +26,8 @@ next_latch l set enable = record { on = enable && (set || l.on) }
 abbrev pub next_estop : Estop → Bool → Bool → Estop
 next_estop s input ack = record { on = input && ((ack && not s.ack) || s.on); ack = ack }
 
--- a two-hand control is ready once both buttons are released, goes on where both are pressed in time, and is spent where they are
--- late or one is let go
+-- a two-hand control is ready once both buttons are released, goes on where both are pressed in time, and is spent
+-- where they are late or one is let go
 abbrev pub next_hands : ℕ → TwoHand → Bool → Bool → Bool → TwoHand
 next_hands n h ticked false false = hands.Ready 0
 next_hands n (hands.Ready gap) ticked true true = if nat_le gap n then hands.On else hands.Spent
@@ -56,8 +57,8 @@ off_left n left ticked x = if x then n else (if ticked && nat_lt 0 left then lef
 abbrev pub off_told : ℕ → Bool → Bool
 off_told left x = x || nat_lt 0 left
 
--- a contactor that hasn't followed for more than n ticked cycles is bad until it is released without cmd, and is on with cmd unless
--- it is bad
+-- a contactor that hasn't followed for more than n ticked cycles is bad until it is released without cmd, and is on
+-- with cmd unless it is bad
 abbrev pub next_feedback : ℕ → Feedback → Bool → Bool → Bool → Feedback
 next_feedback n f ticked cmd fb =
     let age = if beq fb f.on then risen f.age ticked else 0 in

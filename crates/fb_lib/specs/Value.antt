@@ -59,7 +59,8 @@ pub record Watched : Type 0 where
   pub cycle : Cycle
   pub output : Bool
 
--- the inputs are cmd and fb, and fb is true while the contactor is released: where fb is what the output was, it doesn't follow
+-- the inputs are cmd and fb, and fb is true while the contactor is released: where fb is what the output was, it
+-- doesn't follow
 abbrev pub disagrees : Watched → Bool
 disagrees w = beq (second w.cycle) w.output
 

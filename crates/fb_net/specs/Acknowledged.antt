@@ -16,8 +16,8 @@ use Rattle.fb_net.specs.Values.{NetCycle, NetBlock, block_values}
 abbrev pub of_two : BlockKind → Wire → Wire → NetBlock
 of_two k a b = record { kind = k; n = 0; ins = a ∷ b ∷ [] }
 
--- the blocks, by four bits: 1 while the stop is released, while the drive is there, while the acknowledgement is pressed,
--- and while that is released
+-- the blocks, by four bits: 1 while the stop is released, while the drive is there, while the acknowledgement is
+-- pressed, and while that is released
 abbrev pub stop_blocks : Bit → Bit → Bit → Bit → List NetBlock
 stop_blocks stop there pressed released =
     of_two kind.And (wire.Input stop) (wire.Input there)
@@ -45,8 +45,8 @@ in_order [] e = true
 in_order (p ∷ ps) [] = false
 in_order (p ∷ ps) (c ∷ e) = (p c && in_order ps (c ∷ e)) || in_order (p ∷ ps) e
 
--- since the stop was last pressed or the drive last lost, or since the first cycle, the acknowledgement was seen released,
--- then pressed, then released again
+-- since the stop was last pressed or the drive last lost, or since the first cycle, the acknowledgement was seen
+-- released, then pressed, then released again
 abbrev pub is_acknowledged : Bit → Bit → Bit → Bit → List NetCycle → Bool
 is_acknowledged stop there pressed released e =
     in_order (is_on released ∷ is_on pressed ∷ is_on released ∷ []) (run (may_run stop there) e)
@@ -56,13 +56,15 @@ abbrev pub is_let_go : Bit → Bit → List NetCycle → Bool
 is_let_go pressed released [] = false
 is_let_go pressed released (c ∷ e) = is_on released c && (is_on pressed c || not (is_now (is_on released) e))
 
--- the cycles that two texts list, the oldest first: each digit is the input byte of the stop's connection, or the drive's
+-- the cycles that two texts list, the oldest first: each digit is the input byte of the stop's connection, or the
+-- drive's
 abbrev pub cycles : List ℕ → List ℕ → List NetCycle
 cycles (s ∷ stops) (d ∷ drives) = record { ticked = true; inputs = ((s - 48) ∷ []) ∷ ((d - 48) ∷ []) ∷ [] } ∷ cycles stops drives
 cycles [] drives = []
 cycles (s ∷ stops) [] = []
 
--- the value of the last block in each cycle, where bit 0 is the stop, or the drive's, and bits 1 and 2 the acknowledgement
+-- the value of the last block in each cycle, where bit 0 is the stop, or the drive's, and bits 1 and 2 the
+-- acknowledgement
 abbrev pub last_values : List NetCycle → List ℕ
 last_values [] = []
 last_values (c ∷ e) =

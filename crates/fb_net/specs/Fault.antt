@@ -1,5 +1,6 @@
--- The first reason for which a net isn't made: the blocks in their order, each first by its number of inputs and then wire by wire;
--- then the drives in their order, each by its bit (that there is one, that no earlier drive sets it) and then by its wire.
+-- The first reason for which a net isn't made: the blocks in their order, each first by its number of inputs and then
+-- wire by wire; then the drives in their order, each by its bit (that there is one, that no earlier drive sets it) and
+-- then by its wire.
 use Rattle.std.specs.Prelude.{ℕ, ◌+◌, nat_le, not, ◌&&◌, List, [], ◌∷◌, ◌++◌, length, Option, Some, None, if◌then◌else◌}
 use Rattle.std.specs.List.{list_any}
 use Rattle.failsafe_io.specs.Bits.{has_bit, is_same_bit}
@@ -16,8 +17,8 @@ abbrev pub or_next : Option NetFault → Option NetFault → Option NetFault
 or_next (Some f) next = Some f
 or_next None next = next
 
--- what is wrong with a wire of the block with this number: it reads a bit that no input image has, or a block that isn't among those
--- before
+-- what is wrong with a wire of the block with this number: it reads a bit that no input image has, or a block that
+-- isn't among those before
 abbrev pub wire_fault : List ℕ → ℕ → ℕ → Wire → Option NetFault
 wire_fault ins before number (wire.Input bit) = if has_bit ins bit then None else Some (fault.NoInput bit)
 wire_fault ins before number (wire.Block k) = if nat_le 1 k && nat_le k before then None else Some (fault.Later number)
@@ -35,8 +36,8 @@ abbrev pub blocks_fault : List ℕ → ℕ → List BlockSpec → Option NetFaul
 blocks_fault ins before [] = None
 blocks_fault ins before (b ∷ bs) = or_next (block_fault ins before b) (blocks_fault ins (before + 1) bs)
 
--- the first fault of a drive after these ones: no image has its bit, an earlier drive sets it, or else of its wire, which counts as a
--- wire of block 0 and may read any of so many blocks
+-- the first fault of a drive after these ones: no image has its bit, an earlier drive sets it, or else of its wire,
+-- which counts as a wire of block 0 and may read any of so many blocks
 abbrev pub drive_fault : List ℕ → List ℕ → ℕ → List Drive → Drive → Option NetFault
 drive_fault ins outs count earlier d =
     if not (has_bit outs d.out)

@@ -1,5 +1,5 @@
--- Which output bits of a net are guarded by which input bits, by cases on the blocks. A guarded bit is 0 whenever its input bit is;
--- not every such bit is guarded.
+-- Which output bits of a net are guarded by which input bits, by cases on the blocks. A guarded bit is 0 whenever its
+-- input bit is; not every such bit is guarded.
 use Rattle.std.specs.Prelude.{Bool, false, not, ◌||◌, List, [], ◌∷◌, ◌++◌, map}
 use Rattle.std.specs.List.{list_all}
 use Rattle.failsafe_io.specs.declared.bit.Bit.{Bit}
@@ -10,7 +10,8 @@ use Rattle.fb_net.specs.declared.wire.Wire.TheVariants as wire
 use Rattle.fb_net.specs.declared.spec.Drive.{Drive}
 use Rattle.fb_net.specs.Values.{NetBlock}
 
--- a wire is guarded by an input bit where it reads that bit, or a guarded block, as listed for the blocks in their order
+-- a wire is guarded by an input bit where it reads that bit, or a guarded block, as listed for the blocks in their
+-- order
 abbrev pub is_wire_guarded : Bit → List Bool → Wire → Bool
 is_wire_guarded i guarded (wire.Input bit) = is_same_bit bit i
 is_wire_guarded i guarded (wire.Block k) = at_number guarded k false

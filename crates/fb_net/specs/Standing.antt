@@ -1,4 +1,5 @@
--- A net stands for the cycles that it had, newest first: it doesn't keep them, and answers what looking back over them says.
+-- A net stands for the cycles that it had, newest first: it doesn't keep them, and answers what looking back over them
+-- says.
 use Rattle.std.specs.Prelude.{◌≡◌, ℕ, Bool, List, [], ◌∷◌}
 use Rattle.fb_lib.specs.Standing.{BlockStands}
 use Rattle.fb_net.specs.declared.spec.BlockSpec.{BlockSpec}
@@ -20,8 +21,8 @@ pub record NetStands (v : NetView) (e : List NetCycle) : Type 0 where
 pub record NetFollows (old : NetView) (c : NetCycle) (new : NetView) : Type 0 where
   pub stands : (e : List NetCycle) → NetStands old e → NetStands new (c ∷ e)
 
--- the outputs of a cycle, of these lengths, are what the blocks' values say by looking back over the cycles for which the net stood,
--- and this one
+-- the outputs of a cycle, of these lengths, are what the blocks' values say by looking back over the cycles for which
+-- the net stood, and this one
 pub record NetGives (old : NetView) (c : NetCycle) (lens : List ℕ) (outputs : List (List ℕ)) : Type 0 where
   pub gives : (e : List NetCycle) → NetStands old e → outputs ≡ driven_images old.drives (block_values (plan old.blocks) (c ∷ e)) c.inputs lens
 

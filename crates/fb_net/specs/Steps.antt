@@ -1,4 +1,5 @@
--- How a net goes on by one cycle, with what its blocks keep. A machine's own words: what they come to is said by looking back.
+-- How a net goes on by one cycle, with what its blocks keep. A machine's own words: what they come to is said by
+-- looking back.
 use Rattle.std.specs.Prelude.{ℕ, ◌==◌, Bool, List, [], ◌∷◌, ◌++◌, map, drop, get_or, if◌then◌else◌}
 use Rattle.fb_lib.specs.declared.held.Held.{Held}
 use Rattle.fb_lib.specs.declared.held.Held.TheVariants as held
@@ -40,8 +41,8 @@ run_blocks values c (b ∷ bs) = stepped values c b ∷ run_blocks (values ++ gi
 abbrev pub flag : Bool → ℕ
 flag on = if on then 1 else 0
 
--- what a block keeps, as three numbers: a count, and two that are 1 for true and 0 for false; for two buttons the second is 1
--- while they are on, and 2 while they are ready
+-- what a block keeps, as three numbers: a count, and two that are 1 for true and 0 for false; for two buttons the
+-- second is 1 while they are on, and 2 while they are ready
 abbrev pub count_held : Held → ℕ
 count_held (held.TwoHand (hands.Ready gap)) = gap
 count_held (held.OnDelay d) = d.age

@@ -49,10 +49,10 @@ pub fn outputs()
         ≡ list_any (λ d. is_same_bit d.out o && wire_value values inputs d.from) ds }
 {}
 
-/// The drive of an emergency stop whose acknowledgement comes as two bits is on exactly where the acknowledgement was seen
-/// released, then pressed, then released again since the stop was last pressed or the drive last lost, or since the first
-/// cycle. So it goes on at a release, and an acknowledgement that wasn't seen pressed, or wasn't seen released, leaves it
-/// off.
+/// The drive of an emergency stop whose acknowledgement comes as two bits is on exactly where the acknowledgement was
+/// seen released, then pressed, then released again since the stop was last pressed or the drive last lost, or since
+/// the first cycle. So it goes on at a release, and an acknowledgement that wasn't seen pressed, or wasn't seen
+/// released, leaves it off.
 #[tactic(auto, unfolding(crate::specs::Acknowledged::StopRow))]
 pub fn acknowledged()
     ensures on { (stop there pressed released drive : Bit) (lens : List ℕ) (c : NetCycle) (e : List NetCycle) → has_bit lens drive ≡ true

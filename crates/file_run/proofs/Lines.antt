@@ -66,7 +66,8 @@ lines_long input is =
     let first = long_first r.0 r.1 r.3 in
     (first.0, ap lines_in r.2 ∙ first.1)
 
--- what holds of lines holds of an input that begins with this line, that has a line that is too long, or that ends inside a line
+-- what holds of lines holds of an input that begins with this line, that has a line that is too long, or that ends
+-- inside a line
 pub by_line : (old new : Option (List ℕ)) (text : List ℕ) (P : List (Result (List ℕ) InputCause) → Type 0) → IsLine text → Consumes old new (text ++ 10 ∷ [])
     → ((rest : List (Result (List ℕ) InputCause)) → P (Ok text ∷ rest)) → IfSome old (λ input. P (lines_of input))
 by_line None new text P is goes holds = tt

@@ -5,7 +5,8 @@ use Rattle.file_run.specs.Header.{IsWholeHeader, most_lines}
 use Rattle.file_run.specs.Reporting.{Reporting}
 use Rattle.file_run.specs.WholeLines.{TookLines}
 
--- a header was read whole, in so many lines: after it a machine stands for no events, and lines are read by what it says
+-- a header was read whole, in so many lines: after it a machine stands for no events, and lines are read by what it
+-- says
 pub record Begins {H L E : Type 0} (r : Reporting H L E) (stands : H → List E → List ℕ → Type 0) (says : List ℕ → Result L LineCause) (lines : ℕ) (old new : Option (List ℕ)) : Type 0 where
   pub heading : H
   pub whole : IsWholeHeader r.format heading lines old new

@@ -31,7 +31,8 @@ abbrev pub heading_by : {H L E : Type 0} → InputFormat H L E → H → Result 
 heading_by f h (Ok text) = heading_by_itself (f.header_line h text)
 heading_by f h (Err why) = Err why
 
--- the next line makes this header of the one before, or is refused for this cause; or there is no memory for it, where some is taken
+-- the next line makes this header of the one before, or is refused for this cause; or there is no memory for it, where
+-- some is taken
 abbrev pub FindsHeading : {H L E : Type 0} → InputFormat H L E → Bool → H → Result Bool Halt → H → Option (List ℕ) → Option (List ℕ) → Type 0
 FindsHeading f takes h (Ok done) next old new = (text : List ℕ) × IsLine text × Consumes old new (text ++ 10 ∷ []) × (f.header_line h text ≡ Ok next)
 FindsHeading f takes h (Err (halt.Read lines)) next old new = Unit {0}
@@ -50,7 +51,8 @@ pub record IsHeaderCutOff {H L E : Type 0} (f : InputFormat H L E) (lines : ℕ)
   pub goes : Consumes old new taken
   pub says : header_read f taken ≡ Err (Refused (lines + 1) NoLine)
 
--- a header goes no further: a read failed, a line is refused, or there is no memory for it, which may be where this holds
+-- a header goes no further: a read failed, a line is refused, or there is no memory for it, which may be where this
+-- holds
 abbrev pub HaltsHeader : {H L E : Type 0} → InputFormat H L E → Type 0 → Halt → Option (List ℕ) → Option (List ℕ) → Type 0
 HaltsHeader f wants (halt.Read count) old new = IsHeaderCutOff f count old new
 HaltsHeader f wants halt.Memory old new = wants

@@ -45,7 +45,8 @@ pub record LeavesAll {H L E : Type 0} (f : InputFormat H L E) (closes : H → Li
 abbrev pub IsUnmet : InputCause → Type 0
 IsUnmet why = (why ≡ NoFrame) ⊎ (why ≡ NoApp)
 
--- the line after these events is refused for this cause: the input stops there by itself, or has an event there that isn't met
+-- the line after these events is refused for this cause: the input stops there by itself, or has an event there that
+-- isn't met
 abbrev pub StopsAfter : {H L E : Type 0} → InputFormat H L E → Done H E → InputCause → Option (List ℕ) → Type 0
 StopsAfter {H} {L} {E} f d why told =
     IfSome told (λ input.
@@ -64,7 +65,8 @@ pub record LeavesLines {H E : Type 0} (d : Done H E) (lines : ℕ) (o : Outside)
   pub lines_are : lines ≡ d.lines + length d.log
   pub wrote : Grew o.sink.before o.sink.after d.text
 
--- a write may fail in the text of the events, in the line of a refusal after it, or, where all events were done, in the whole report
+-- a write may fail in the text of the events, in the line of a refusal after it, or, where all events were done, in the
+-- whole report
 abbrev pub MayFailIn : {H L E : Type 0} → InputFormat H L E → (H → List E → List ℕ → Ended → Type 0) → Done H E → List ℕ → Option (List ℕ) → Type 0
 MayFailIn f closes d whole told =
     (whole ≡ d.text)
@@ -96,8 +98,8 @@ pub record LeavesDone {H L E : Type 0} (f : InputFormat H L E) (stands : H → L
   pub begun : IsBegun f done o.source.before
   pub ends : LeavesAs f closes done ended.status ended o
 
--- no machine was begun: the header goes no further, or there was no memory where this may be, and no more was to be written than the line of
--- its refusal
+-- no machine was begun: the header goes no further, or there was no memory where this may be, and no more was to be
+-- written than the line of its refusal
 pub record LeavesUnbegun {H L E : Type 0} (f : InputFormat H L E) (wants : Type 0) (ended : Ended) (o : Outside) : Type 0 where
   pub why : Halt
   pub held : List ℕ

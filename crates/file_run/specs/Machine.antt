@@ -1,4 +1,5 @@
--- What a machine does that runs over the events of an input. H is what a header says, L what a line after it says, and E an event.
+-- What a machine does that runs over the events of an input. H is what a header says, L what a line after it says, and
+-- E an event.
 use Rattle.std.specs.Prelude.{◌≡◌, ℕ, ◌+◌, ◌≤◌, List, [], ◌∷◌, ◌++◌, length, Ok, Some}
 use Rattle.schedule_file.specs.Input.{InputFormat}
 use Rattle.schedule_file.specs.Limits.{max_events}

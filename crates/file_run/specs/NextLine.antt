@@ -13,7 +13,8 @@ abbrev pub first_line : List (Result (List ℕ) InputCause) → Result (List ℕ
 first_line [] = Err NoLine
 first_line (line ∷ rest) = line
 
--- what was to come before the line that a reader lends: it with its newline, what is held behind it, and what the source has left
+-- what was to come before the line that a reader lends: it with its newline, what is held behind it, and what the
+-- source has left
 abbrev pub from_line : Held → Option (List ℕ) → Option (List ℕ)
 from_line reader left = prepend_known (reader.line ++ 10 ∷ []) (prepend_known reader.bytes left)
 

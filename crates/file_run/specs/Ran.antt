@@ -14,8 +14,8 @@ use Rattle.file_run.specs.Report.{refused_line}
 use Rattle.fsoe_io.specs.Sink.{Grew}
 use Rattle.file_run.specs.Reporting.{Reporting, MemoryUse, Never, BeforeEvents, Always, BeginsReport, refused_at}
 
--- a run to the `end` of its input ends with status 0 and place 0, or, where the command looks for other entries, with status 1 and a
--- place above 0; that the place is the number of the first other entry is the report's
+-- a run to the `end` of its input ends with status 0 and place 0, or, where the command looks for other entries, with
+-- status 1 and a place above 0; that the place is the number of the first other entry is the report's
 abbrev pub EndsWhole : Bool → Status → ℕ → Type 0
 EndsWhole judges status.Ok place = place ≡ 0
 EndsWhole judges status.Other place = IsTrue judges × (0 < place)
@@ -37,7 +37,8 @@ pub record CameToRefused {H L E : Type 0} (r : Reporting H L E) (ended : Ended) 
   pub number : LinesBefore ended.place o.source.before
   pub wrote : Wrote o (λ input text. r.reports (input_read r.format input) ended text)
 
--- a text is the report of so many whole lines that were taken, without its last line, which says that no line comes after them
+-- a text is the report of so many whole lines that were taken, without its last line, which says that no line comes
+-- after them
 pub record ReportsReadLines {H L E : Type 0} (r : Reporting H L E) (lines : ℕ) (input : List ℕ) (left : Option (List ℕ)) (text : List ℕ) : Type 0 where
   pub taken : List ℕ
   pub held : List ℕ
@@ -83,8 +84,8 @@ EndsAs r status.Config ended o = ⊥
 EndsAs r status.Desk ended o = ⊥
 EndsAs r status.Memory ended o = HadNoMemory r ended o
 
--- a command ran over an input: how it ended; where neither count of faults rose and memory wasn't wanted, as the input says; and no count
--- fell
+-- a command ran over an input: how it ended; where neither count of faults rose and memory wasn't wanted, as the input
+-- says; and no count fell
 pub record RanOver {H L E : Type 0} (r : Reporting H L E) (ended : Ended) (o : Outside) : Type 0 where
   pub ends : EndsAs r ended.status ended o
   pub stops : (Rose o.source.faults_before o.source.faults_after → ⊥) → (Rose o.sink.faults_before o.sink.faults_after → ⊥) → (ended.status ≡ status.Memory → ⊥)

@@ -19,8 +19,8 @@ TakesMemory Never = ⊥
 TakesMemory BeforeEvents = Unit {0}
 TakesMemory Always = Unit {0}
 
--- how its inputs are read; whether it looks for other entries; when it takes memory; and which text is the whole report of an input, with
--- how a run that writes it ends
+-- how its inputs are read; whether it looks for other entries; when it takes memory; and which text is the whole report
+-- of an input, with how a run that writes it ends
 pub record Reporting (H L E : Type 0) : Type 1 where
   pub format : InputFormat H L E
   pub judges : Bool
@@ -52,13 +52,14 @@ input_headless stop = record { heading = None; lines = 0; events = []; stop = st
 abbrev pub input_stopped : {H E : Type 0} → H → ℕ → List E → Stop → InputOf H E
 input_stopped h lines log stop = record { heading = Some h; lines = lines; events = log; stop = stop }
 
--- a text was written of these events: it begins the report of each input whose events begin so, and with the line of a refusal it is
--- the whole report of an input that is refused after them
+-- a text was written of these events: it begins the report of each input whose events begin so, and with the line of a
+-- refusal it is the whole report of an input that is refused after them
 pub record ReportsSoFar {H L E : Type 0} (r : Reporting H L E) (h : H) (log : List E) (text : List ℕ) : Type 0 where
   pub begins : (lines : ℕ) (more : List E) (stop : Stop) → BeginsReport r (input_stopped h lines (log ++ more) stop) text
   pub refused : (lines number : ℕ) (why : InputCause) → r.reports (input_stopped h lines log (Refused number why)) (refused_at number) (text ++ refused_line number why)
 
--- the run so far hasn't what the event after these names: whatever comes after it, the report ends at its line for this cause
+-- the run so far hasn't what the event after these names: whatever comes after it, the report ends at its line for this
+-- cause
 abbrev pub EndsUnmet : {H L E : Type 0} → Reporting H L E → H → List E → List ℕ → E → InputCause → Type 0
 EndsUnmet {H} {L} {E} r h log text event why =
     (lines : ℕ) (more : List E) (stop : Stop)

@@ -20,7 +20,8 @@ unfoldable pub columns : (ℕ → ℕ) → ℕ → List ℕ
 columns made zero = []
 columns made (suc k) = made 1 ∷ columns (λ m. made (m * 2)) k
 
--- whichever of these columns are picked: they and the bits that are 1 of the value, with which they go together, are at least n
+-- whichever of these columns are picked: they and the bits that are 1 of the value, with which they go together, are at
+-- least n
 unfoldable pub far : List ℕ → ℕ → ℕ → Bool
 unfolding ones_below
 far [] n value = nat_le n (ones_below 16 value)

@@ -1,5 +1,5 @@
--- The CRC of a list of bytes: its remainder by the polynomial 139B7h. The polynomial, the start value 0 and the order of the
--- bits are this profile's own.
+-- The CRC of a list of bytes: its remainder by the polynomial 139B7h. The polynomial, the start value 0 and the order
+-- of the bits are this profile's own.
 use Rattle.std.specs.Prelude.{ℕ, ◌+◌, ◌*◌, ◌/◌, ◌%◌, List, [], ◌∷◌, if◌then◌else◌, nat_lt, bit_xor, replicate}
 
 -- one bit more: twice the value and the bit, less the polynomial (by exclusive-or) where that has 17 bits

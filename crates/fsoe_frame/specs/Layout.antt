@@ -1,5 +1,5 @@
--- How a frame is laid out: the command byte, each group of the load followed by its CRC, and the connection id. The order is
--- that of the public standard.
+-- How a frame is laid out: the command byte, each group of the load followed by its CRC, and the connection id. The
+-- order is that of the public standard.
 use Rattle.std.specs.Prelude.{ℕ, List, [], ◌∷◌, ◌++◌}
 use Rattle.fsoe_base.specs.Bytes.{low_high}
 

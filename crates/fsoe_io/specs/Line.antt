@@ -18,8 +18,8 @@ pub record Numbered : Type 0 where
   pub number : ℕ
   pub bytes : List ℕ
 
--- the bytes that were taken from a source and stand in no line yet, how many lines were given, and the last of these, until
--- the next one is asked for
+-- the bytes that were taken from a source and stand in no line yet, how many lines were given, and the last of these,
+-- until the next one is asked for
 pub record Held : Type 0 where
   pub bytes : List ℕ
   pub lines : ℕ

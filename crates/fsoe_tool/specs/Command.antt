@@ -37,8 +37,8 @@ command_of_two first word =
     else if bytes_eq first (codes "plant") then Some command.Plant
     else None
 
--- the command that words name: `node master`, `node slave`, `replay`, `image`, `diagnose`, `convert`, `plant` with the name of a file, or `bulk`
--- with a number of at most 64 bits and from 1 to 200,000 events
+-- the command that words name: `node master`, `node slave`, `replay`, `image`, `diagnose`, `convert`, `plant` with the
+-- name of a file, or `bulk` with a number of at most 64 bits and from 1 to 200,000 events
 abbrev pub command_said : List (List ℕ) → Option Command
 command_said [] = None
 command_said (word ∷ []) = command_alone word

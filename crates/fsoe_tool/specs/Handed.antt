@@ -7,7 +7,8 @@ use Rattle.multi_master.specs.Calls.{AppView}
 use Rattle.plant_model.specs.Turns.{Named}
 use Rattle.plant_model.specs.declared.journal.JournalStep.{JournalStep}
 
--- what a desk tells of one name: the text under it, where it tells that, and how often loads of it failed before a run and by its end
+-- what a desk tells of one name: the text under it, where it tells that, and how often loads of it failed before a run
+-- and by its end
 pub record DeskTold : Type 0 where
   pub text : Option (List ℕ)
   pub faults_before : ℕ
@@ -17,8 +18,8 @@ pub record DeskTold : Type 0 where
 abbrev pub entry_seen : {H : Type 0} → (H → AppView) → EntryOf H → Named
 entry_seen app_of entry = record { name = string_bytes entry.name; app = app_of entry.app }
 
--- the applications that are handed in, each under its name; the channels before and after a run, each with a name and what it tells; and the
--- journal that the run leaves
+-- the applications that are handed in, each under its name; the channels before and after a run, each with a name and
+-- what it tells; and the journal that the run leaves
 pub record Handed (C : Type 0) : Type 0 where
   pub apps : List Named
   pub name_of : C → List ℕ

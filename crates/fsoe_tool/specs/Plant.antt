@@ -1,5 +1,5 @@
--- What running a plant comes to by the text of its configuration: where no plant can be run with it, one line is written and the script
--- isn't read; else the plant runs over its script.
+-- What running a plant comes to by the text of its configuration: where no plant can be run with it, one line is
+-- written and the script isn't read; else the plant runs over its script.
 use Rattle.std.specs.Prelude.{◌≡◌, ◌≢◌, ℕ, ◌≤◌, ◌<◌, List, [], codes, length, map, slice_get, slice_set, Option, Some, None, IfSome, Result, Ok, Err}
 use Rattle.fsoe_io.specs.Faults.{Rose}
 use Rattle.fsoe_io.specs.declared.desk.LoadFault.{LoadFault}
@@ -48,8 +48,9 @@ pub record HadNoMemory {C : Type 0} (ended : Ended) (o : Outside) (h : Handed C)
 abbrev pub net_view : ConfView → AppView
 net_view conf = let net = net_of conf in record { rule = rule_of net; holds = net_holds net; guards = guards_of net }
 
--- a plant with this configuration ran over its script: first with the net, or the first application of the name that the configuration has, and
--- over the first channel of the name that it has. The other applications were left to the script, and the other channels alone
+-- a plant with this configuration ran over its script: first with the net, or the first application of the name that
+-- the configuration has, and over the first channel of the name that it has. The other applications were left to the
+-- script, and the other channels alone
 pub record RanSetUp {C : Type 0} (conf : ConfView) (ended : Ended) (o : Outside) (h : Handed C) : Type 0 where
   pub app : AppView
   pub spare : List Named
@@ -86,8 +87,8 @@ RanText text ended o h = (said : Result ConfView ConfFault) × Says text said ×
 abbrev pub max_config : ℕ
 max_config = 262144
 
--- what may be answered to a load of a configuration: where the desk tells it, the text under the name; that it is too long, only where it is; and
--- a failure, only where the desk's count of failed loads of this name rose
+-- what may be answered to a load of a configuration: where the desk tells it, the text under the name; that it is too
+-- long, only where it is; and a failure, only where the desk's count of failed loads of this name rose
 abbrev pub MayAnswer : DeskTold → Result (List ℕ) LoadFault → Type 0
 MayAnswer desk (Ok text) = IfSome desk.text (λ held. text ≡ held) × (length text ≤ max_config)
 MayAnswer desk (Err load.Failed) = Rose desk.faults_before desk.faults_after

@@ -1,4 +1,5 @@
--- What accepting a frame does to a master, whatever its offer and its nonce: the frame is dropped, or another one is due then.
+-- What accepting a frame does to a master, whatever its offer and its nonce: the frame is dropped, or another one is
+-- due then.
 use Rattle.std.proofs.Common.{◌≡◌, ℕ, List, ◌==◌, Bool, true, false, ◌||◌, is_some, Option, Some, None, Result, Ok, Err, if◌then◌else◌, refl, sym, subst}
 use Rattle.fsoe_base.specs.declared.command.Code.{Code}
 use Rattle.fsoe_base.specs.declared.command.Command.TheVariants as command

@@ -1,4 +1,5 @@
--- The law over all calls of a master: after any list of them it is after their deeds, or waits after them while a frame is due.
+-- The law over all calls of a master: after any list of them it is after their deeds, or waits after them while a frame
+-- is due.
 use Rattle.std.proofs.Common.{◌≡◌, ℕ, List, [], ◌∷◌, Bool, true, false, Option, Some, None, if◌then◌else◌, refl, sym, ap, subst, ◌∙◌}
 use Rattle.fsoe_base.specs.declared.did.Did.{Did}
 use Rattle.fsoe_base.specs.Did.{nothing}

@@ -1,4 +1,5 @@
--- A master that accepted a frame: what is put, held or set meanwhile counts as if it had come before, and the reply ends the delivery.
+-- A master that accepted a frame: what is put, held or set meanwhile counts as if it had come before, and the reply
+-- ends the delivery.
 use Rattle.std.proofs.Common.{◌≡◌, ℕ, List, Bool, false, Option, IsTrue, length, refl, sym, ap, subst, ◌∙◌}
 use Rattle.fsoe_base.specs.declared.did.Cause.{Cause}
 use Rattle.fsoe_base.specs.declared.did.Did.{Did}

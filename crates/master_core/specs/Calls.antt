@@ -12,22 +12,24 @@ use Rattle.master_core.specs.Now.{is_due}
 use Rattle.master_core.specs.Standing.{Follows, Answers}
 use Rattle.master_core.specs.Waiting.{Delivery, Accepts, Keeps, Replies}
 
--- a call of a master, with what it told: `deliver`, `tick` or `reset` with its deed; `put`, `hold` or `nonce`; `accept` of these bytes;
--- and `reply` with the frame that it wrote
+-- a call of a master, with what it told: `deliver`, `tick` or `reset` with its deed; `put`, `hold` or `nonce`; `accept`
+-- of these bytes; and `reply` with the frame that it wrote
 pub data Call : Type 0 where
   Event : Deed → Call
   Setting : Move → Call
   Accept : List ℕ → Did → Call
   Reply : List ℕ → Call
 
--- what `deliver`, `tick` and `reset` ensure: while no frame is due the master goes on by this deed, and none is due then
+-- what `deliver`, `tick` and `reset` ensure: while no frame is due the master goes on by this deed, and none is due
+-- then
 pub record MadeEvent (old : MasterView) (x : Deed) (new : MasterView) : Type 0 where
   pub rest : is_due old.state ≡ false
   pub follows : Follows old x.what new
   pub answers : Answers old x.what x.did x.sent
   pub done : is_due new.state ≡ false
 
--- what `put`, `hold` and `nonce` ensure: the event counts now, or before the delivery whose frame is due, which stays due
+-- what `put`, `hold` and `nonce` ensure: the event counts now, or before the delivery whose frame is due, which stays
+-- due
 pub record MadeSetting (old : MasterView) (event : Move) (new : MasterView) : Type 0 where
   pub sets : IsSetting event
   pub follows : Follows old event new
@@ -88,7 +90,8 @@ abbrev pub with_reply : List ℕ → Option Pending → List Deed → List Deed
 with_reply frame None e = e
 with_reply frame (Some p) e = record { what = move.Deliver p.bytes; did = record p.did { sent = true }; sent = frame } ∷ e
 
--- the deeds of these calls, newest first: a delivery in two calls counts at its reply, and at `accept` where no frame is due then
+-- the deeds of these calls, newest first: a delivery in two calls counts at its reply, and at `accept` where no frame
+-- is due then
 abbrev pub deeds_of : List Call → List Deed
 deeds_of [] = []
 deeds_of (Event x ∷ calls) = x ∷ deeds_of calls

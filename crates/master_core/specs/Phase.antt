@@ -87,8 +87,8 @@ abbrev pub allows : Phase → Command → Bool
 allows (phase.Begin last) c = false
 allows p c = master_allows (state_of p) c
 
--- the code of the first test that a frame of a session fails: of its command, its connection id (a master's is the same after any
--- deeds), and its CRCs
+-- the code of the first test that a frame of a session fails: of its command, its connection id (a master's is the same
+-- after any deeds), and its CRCs
 abbrev pub fault : MasterSettings → Phase → SessionFrameView → Option Code
 fault settings p f = session_fault (allows p f.command) (has_conn (OfMaster settings) [] f.command f.frame.conn) (fits_next (chain_of p) f.frame)
 

@@ -33,7 +33,8 @@ pub record Notes : Type 0 where
   pub parameter : ℕ
   pub outputs : List ℕ
 
--- the notes after these deeds: the chain, the frame taken last, the session id, the frames of each phase, and the outputs
+-- the notes after these deeds: the chain, the frame taken last, the session id, the frames of each phase, and the
+-- outputs
 abbrev pub notes_of : MasterSettings → List Deed → Notes
 notes_of ms e = record {
   chain = record { own = own_link (OfMaster ms) (since e); taken = taken_link (OfMaster ms) (since e) };

@@ -40,8 +40,8 @@ pub record Waits (master : MasterView) (d : Delivery) : Type 0 where
   pub reached : IsRun (OfMaster d.settings) d.before
   pub read : AreBytes d.bytes
 
--- a delivery is under way: it did what its deed does but for the sending, and the master waits in it; where no frame is due, the master
--- is after it too
+-- a delivery is under way: it did what its deed does but for the sending, and the master waits in it; where no frame is
+-- due, the master is after it too
 pub record IsUnderWay (master : MasterView) (d : Delivery) : Type 0 where
   pub did : d.did ≡ record (its_deed d).did { sent = false }
   pub waits : Waits master d

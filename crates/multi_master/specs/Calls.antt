@@ -1,4 +1,5 @@
--- What the calls of a master of many connections mean, newest first: what each connection's master did, and the application that runs.
+-- What the calls of a master of many connections mean, newest first: what each connection's master did, and the
+-- application that runs.
 use Rattle.std.specs.Prelude.{ℕ, zero, suc, ◌-◌, Bool, true, false, List, [], ◌∷◌, map, slice_get, slice_set, Option, Some, None, option_map, if◌then◌else◌}
 use Rattle.failsafe_io.specs.declared.bit.Bit.{Bit}
 use Rattle.failsafe_io.specs.Application.{Answer, GuardsBy}
@@ -18,8 +19,8 @@ pub record AppView : Type 0 where
   pub holds : List ℕ
   pub guards : Bit → Bit → Bool
 
--- a call: a frame comes for a connection, all connections tick, a connection gets a session id, or another application runs from now on.
--- Connections are numbered from 1
+-- a call: a frame comes for a connection, all connections tick, a connection gets a session id, or another application
+-- runs from now on. Connections are numbered from 1
 pub data Call : Type 0 where
   Deliver : ℕ → List ℕ → Call
   Tick : Call
@@ -58,8 +59,8 @@ abbrev pub is_heard : List ℕ → Option Connection → Bool
 is_heard bytes None = false
 is_heard bytes (Some c) = tells_due (next_deed (move.Deliver bytes) c).did
 
--- the answer of the one cycle that a call runs, if it runs one: over the outputs with the frame that came, if it was taken or ended the
--- session; over those after all connections ticked; or that of the new application
+-- the answer of the one cycle that a call runs, if it runs one: over the outputs with the frame that came, if it was
+-- taken or ended the session; over those after all connections ticked; or that of the new application
 abbrev pub cycle_in : Call → Meant → Option Answer
 cycle_in (Deliver link bytes) m =
     if is_heard bytes (connection link m) then Some (answer false (event_at link (move.Deliver bytes) m)) else None
@@ -71,12 +72,14 @@ cycle_in (ChangeApp app) m = Some (answer false (record m { app = app }))
 abbrev pub IsGuarded : Meant → Answer → Type 0
 IsGuarded m a = GuardsBy m.app.guards (map outputs_at m.connections) a.outputs
 
--- the answers of a cycle, if one is run, are put as all connections' offers, and the application holds then what its answer says
+-- the answers of a cycle, if one is run, are put as all connections' offers, and the application holds then what its
+-- answer says
 abbrev pub with_cycle : Option Answer → Meant → Meant
 with_cycle None m = m
 with_cycle (Some a) m = record { connections = with_offers a.outputs m.connections; app = record m.app { holds = a.holds } }
 
--- what a call means after those before: in a delivery the answers are put before the deed of the frame, so that its reply carries them
+-- what a call means after those before: in a delivery the answers are put before the deed of the frame, so that its
+-- reply carries them
 abbrev pub after : Call → Meant → Meant
 after (Deliver link bytes) m = event_at link (move.Deliver bytes) (with_cycle (cycle_in (Deliver link bytes) m) m)
 after Tick m = with_cycle (cycle_in Tick m) (all_tick m)

@@ -1,5 +1,5 @@
--- How a cycle is run and its answers are put, master by master, and how all masters tick. A frame of a master may be due while answers
--- are put. Contracts of private functions alone rest on these words.
+-- How a cycle is run and its answers are put, master by master, and how all masters tick. A frame of a master may be
+-- due while answers are put. Contracts of private functions alone rest on these words.
 use Rattle.std.specs.Prelude.{◌≡◌, ℕ, suc, nat_eq, Bool, true, false, not, List, [], ◌∷◌, ◌++◌, map, replicate, All, Option, Some, None, if◌then◌else◌}
 use Rattle.std.specs.Cmp.Lexicographic.{pointwise}
 use Rattle.fsoe_base.specs.declared.did.Cause.{Cause}

@@ -13,8 +13,9 @@ use Rattle.multi_master.specs.Connection.{Connection, next_deed, outputs_at, off
 use Rattle.multi_master.specs.Puts.{own_len, due_in}
 use Rattle.multi_master.specs.Calls.{Rule, AppView, Call, Deliver, Meant, IsGuarded, connection, cycle_in, meant, changed}
 
--- what a master of many connections is, with an application of any type: the masters in the order of the connections, the application
--- that runs, the inputs that it reads in a cycle, and the connections whose offers the last call changed
+-- what a master of many connections is, with an application of any type: the masters in the order of the connections,
+-- the application that runs, the inputs that it reads in a cycle, and the connections whose offers the last call
+-- changed
 pub record MultiValue (A : Type 0) : Type 0 where
   pub masters : List MasterView
   pub app : A
@@ -63,8 +64,8 @@ pub record AreNumbers (count : ℕ) (listed : List ℕ) : Type 0 where
   pub few : length listed ≤ count
   pub each : All (IsNumber count) listed
 
--- no frame of a master is due, there is an input for each connection and an answer of the length of its master's frames, there are
--- at most 64 connections, and those whose offers changed are among them
+-- no frame of a master is due, there is an input for each connection and an answer of the length of its master's
+-- frames, there are at most 64 connections, and those whose offers changed are among them
 pub record IsMulti (masters : List MasterView) (inputs answers : List (List ℕ)) (changed : List ℕ) : Type 0 where
   pub rest : All (λ m. due_in m ≡ false) masters
   pub inputs_fit : length inputs ≡ length masters
@@ -76,8 +77,9 @@ pub record IsMulti (masters : List MasterView) (inputs answers : List (List ℕ)
 abbrev pub IsWhere : Connection → MasterView → Type 0
 IsWhere c m = MasterIsAfter c.settings m c.deeds
 
--- it was made with these settings and this application, and stands for these calls: each master is where the deeds of its connection
--- leave it, the application is that which runs, its inputs are the masters' outputs, and the changed offers are told
+-- it was made with these settings and this application, and stands for these calls: each master is where the deeds of
+-- its connection leave it, the application is that which runs, its inputs are the masters' outputs, and the changed
+-- offers are told
 pub record StandsFor (settings : List MasterSettings) (app : AppView) (v : MultiView) (calls : List Call) : Type 0 where
   pub masters : AllZip IsWhere (meant settings app calls).connections v.masters
   pub app_is : v.app ≡ (meant settings app calls).app

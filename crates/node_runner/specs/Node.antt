@@ -14,7 +14,8 @@ use Rattle.node_runner.specs.Report.{IsSetTo, deed_lines, deeds}
 abbrev pub FitsCore : Core → Event → Type 0
 FitsCore core event = let s = setup_of core in FitsEnd (end_of s) (sends s) (profile_of s) event
 
--- an end was set to what a header says, and is after the deeds of these events, of which this text has the lines; no frame of it is due
+-- an end was set to what a header says, and is after the deeds of these events, of which this text has the lines; no
+-- frame of it is due
 pub record NodeStands (end : End) (core : Core) (h : Heading) (log : List Event) (text : List ℕ) : Type 0 where
   pub setup : Setup
   pub set : IsSetTo end h setup

@@ -1,5 +1,5 @@
--- The tests of the contents of the frames that a slave takes in a handshake. `before` is the number of bytes
--- that were joined before the frame, and `u` all joined bytes, the frame's among them. The codes are those of the public
+-- The tests of the contents of the frames that a slave takes in a handshake. `before` is the number of bytes that were
+-- joined before the frame, and `u` all joined bytes, the frame's among them. The codes are those of the public
 -- standard; the tests and their order are this profile's own.
 use Rattle.std.specs.Prelude.{ℕ, ◌+◌, ◌==◌, nat_le, nat_lt, Bool, true, false, ◌&&◌, not, List, [], length, take, drop, Option, Some, None, if◌then◌else◌}
 use Rattle.std.specs.Option.{option_or}

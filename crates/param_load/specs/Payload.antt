@@ -1,5 +1,5 @@
--- The payloads of a handshake, and how a piece of one fills the safe data of a frame. That each phase has its payload is the
--- public standard's; widths, order, pieces and padding are this profile's own.
+-- The payloads of a handshake, and how a piece of one fills the safe data of a frame. That each phase has its payload
+-- is the public standard's; widths, order, pieces and padding are this profile's own.
 use Rattle.std.specs.Prelude.{ℕ, ◌+◌, ◌-◌, ◌*◌, List, ◌++◌, length, slice_index, replicate, take, drop}
 use Rattle.std.specs.Int.{w16, w32, to_le_bytes}
 use Rattle.fsoe_base.specs.Bytes.{low_high}

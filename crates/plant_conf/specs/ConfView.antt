@@ -28,8 +28,8 @@ pub record IsProfileOne (link : LinkConf) : Type 0 where
   pub master : link.master.profile ≡ profile.One
   pub slave : link.slave.profile ≡ profile.One
 
--- what holds of each configuration: it has 1 to 64 connections with different ids, each of profile One and with the same lengths at both
--- ends; and at most 256 blocks, which have had no cycle, 1,024 drives and 16 bounds
+-- what holds of each configuration: it has 1 to 64 connections with different ids, each of profile One and with the
+-- same lengths at both ends; and at most 256 blocks, which have had no cycle, 1,024 drives and 16 bounds
 pub record IsConf (conf : ConfView) : Type 0 where
   pub some_links : 0 < length conf.links
   pub few_links : length conf.links ≤ 64

@@ -1,5 +1,5 @@
--- What contracts of the reader's private functions cite: what it keeps of a table while it reads on, and a part of a text or an array. It adds
--- nothing to what a configuration means.
+-- What contracts of the reader's private functions cite: what it keeps of a table while it reads on, and a part of a
+-- text or an array. It adds nothing to what a configuration means.
 use Rattle.std.specs.Prelude.{ℕ, List, [], Option, Some, None, Result, string_bytes, option_and_then}
 use Rattle.toml.specs.Data.{Data, Members, as_str, as_table}
 use Rattle.fb_net.specs.declared.wire.Wire.{Wire}

@@ -1,5 +1,5 @@
--- The keys of each table, one line for each, in the order in which they are read: whether it has to be there or what it stands for where
--- it isn't, and what its value may be.
+-- The keys of each table, one line for each, in the order in which they are read: whether it has to be there or what it
+-- stands for where it isn't, and what its value may be.
 use Rattle.std.specs.Prelude.{ℕ, ◌-◌, ◌^◌, length, List, [], Option, Some, None, Result, Ok}
 use Rattle.toml.specs.Data.{Data, Members, get_member}
 use Rattle.fb_lib.specs.Standing.{block_of}

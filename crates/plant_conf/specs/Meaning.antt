@@ -1,5 +1,5 @@
--- What a configuration means, or its first fault: that there are too many tables, then those of the keys, table by table, and then that
--- two connections have one id.
+-- What a configuration means, or its first fault: that there are too many tables, then those of the keys, table by
+-- table, and then that two connections have one id.
 use Rattle.std.specs.Prelude.{◌≡◌, ℕ, nat_lt, Bool, ◌||◌, length, List, [], ◌∷◌, map, Option, Some, None, Result, Ok, Err, unwrap_or, option_and_then, if◌then◌else◌, IsUtf8}
 use Rattle.toml.specs.Data.{Members, as_table}
 use Rattle.toml.specs.Parse.{parse_document}

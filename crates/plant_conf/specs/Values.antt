@@ -1,4 +1,5 @@
--- The settings of a connection, as plain values: settings hold proofs that their numbers are allowed, which no text gives.
+-- The settings of a connection, as plain values: settings hold proofs that their numbers are allowed, which no text
+-- gives.
 use Rattle.std.specs.Prelude.{ℕ, List}
 use Rattle.param_load.specs.declared.app_rule.AppRule.{AppRule}
 use Rattle.param_load.specs.declared.master_settings.MasterSettings.{MasterSettings}

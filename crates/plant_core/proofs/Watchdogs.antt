@@ -1,4 +1,5 @@
--- A master tells its watchdog wherever it took ProcessData, so that the ages of a connection's outputs are those of its pair.
+-- A master tells its watchdog wherever it took ProcessData, so that the ages of a connection's outputs are those of its
+-- pair.
 use Rattle.std.proofs.Common.{Bor, ◌≡◌, ◌≤◌, ◌<◌, ◌-◌, ◌&&◌, ℕ, zero, suc, Bool, false, not, List, [], ◌∷◌, length, slice_get, Option, Some, None, if◌then◌else◌, refl, sym, ap, subst, ◌∙◌, arith}
 use Rattle.std.specs.Prelude.{IfSome, option_copied}
 use Rattle.std.specs.Slice.{IsItemAt}

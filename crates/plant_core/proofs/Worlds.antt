@@ -1,4 +1,5 @@
--- The pairs of a plant are worlds of proper events, since both ends of each are where their deeds leave them; so what holds of worlds holds of them.
+-- The pairs of a plant are worlds of proper events, since both ends of each are where their deeds leave them; so what
+-- holds of worlds holds of them.
 use Rattle.std.proofs.Common.{◌≡◌, ℕ, zero, suc, List, [], ◌∷◌, slice_get, Some, All, sym, ap, subst, ◌∙◌, arith}
 use Rattle.std.specs.List.{AllZip}
 use Rattle.std.proofs.lemmas.List.Elements.{All-head, All-tail}

@@ -1,5 +1,5 @@
--- How the parts of a plant do an act, step by step. Contracts of private functions alone rest on these words. Entries and acts are listed
--- newest first, steps oldest first.
+-- How the parts of a plant do an act, step by step. Contracts of private functions alone rest on these words. Entries
+-- and acts are listed newest first, steps oldest first.
 use Rattle.std.specs.Prelude.{◌≡◌, ◌≤◌, ◌+◌, ◌*◌, nat_lt, ℕ, suc, Bool, true, List, [], ◌∷◌, ◌++◌, map, take, length, slice_get, Option, Some, None, if◌then◌else◌}
 use Rattle.fsoe_base.specs.declared.command.End.{End}
 use Rattle.fsoe_base.specs.declared.command.End.TheVariants as side
@@ -100,8 +100,8 @@ slave_move (event.Local link) = Some (link, move.Local)
 slave_move (event.Nonce link side.Slave id) = Some (link, move.Nonce id)
 slave_move _ = None
 
--- the most steps that an event may note, where there are so many connections: at a tick its own and those of the offers of its cycle, and
--- as many again for each of 64 parcels
+-- the most steps that an event may note, where there are so many connections: at a tick its own and those of the offers
+-- of its cycle, and as many again for each of 64 parcels
 abbrev pub room_for : PlantEvent → ℕ → ℕ
 room_for event.Tick links = 65 * (links + 1)
 room_for _ links = 1

@@ -1,5 +1,5 @@
--- What a plant keeps of one connection beside its master: its slave, what notes the entries of its pair, and whether it is cut. Entries are
--- listed newest first.
+-- What a plant keeps of one connection beside its master: its slave, what notes the entries of its pair, and whether it
+-- is cut. Entries are listed newest first.
 use Rattle.std.specs.Prelude.{◌≡◌, ℕ, ◌+◌, Bool, true, false, List, [], ◌∷◌, Option, Some, None, IfSome, is_some}
 use Rattle.fsoe_base.specs.declared.command.End.{End}
 use Rattle.fsoe_base.specs.declared.command.End.TheVariants as side
@@ -39,7 +39,8 @@ AgesNote None at tick came did sent watchdog new = new ≡ None
 AgesNote (Some old) at tick came did sent watchdog None = ⊥
 AgesNote (Some old) at tick came did sent watchdog (Some new) = ages.NotesParts old at tick came did sent watchdog new
 
--- ages noted an entry of a slave with these parts, where they are told: with the watchdog in the terms that the slave tells after it
+-- ages noted an entry of a slave with these parts, where they are told: with the watchdog in the terms that the slave
+-- tells after it
 pub record NotesSlave (slave : SlaveView) (old : Option AgesView) (tick : Bool) (came : List ℕ) (did : Did) (sent : List ℕ) (new : Option AgesView) : Type 0 where
   pub watchdog : Option ℕ
   pub shown : Shows slave watchdog (λ s e. watchdog_in (told_terms s e))
@@ -78,8 +79,8 @@ abbrev pub AllTell : ℕ → List Entry → Type 0
 AllTell watchdog [] = Unit {0}
 AllTell watchdog (x ∷ w) = TellsWatchdog watchdog x × AllTell watchdog w
 
--- it stands for these entries of the pair of this connection: the slave is where its own deeds among them leave it, and the monitor has noted
--- them all; so have the ages, if they are told, where the master tells its watchdog
+-- it stands for these entries of the pair of this connection: the slave is where its own deeds among them leave it, and
+-- the monitor has noted them all; so have the ages, if they are told, where the master tells its watchdog
 pub record LinkStands (link : LinkConf) (v : LinkView) (w : List Entry) : Type 0 where
   pub slave : SlaveIsAfter link.slave v.slave (deeds side.Slave w)
   pub monitor : v.monitor ≡ monitor.view_of w
@@ -96,7 +97,8 @@ pub record SlaveWent (link : LinkConf) (w : List Entry) (what : Move) (did : Did
 pub record SlaveGoesOn (old : LinkView) (what : Move) (did : Did) (sent : List ℕ) (new : LinkView) : Type 0 where
   pub goes : (link : LinkConf) (w : List Entry) → LinkStands link old w → SlaveWent link w what did sent new
 
--- an entry of a master has these parts: whether it is a tick, the bytes that came, what the master did and the frame that it sent
+-- an entry of a master has these parts: whether it is a tick, the bytes that came, what the master did and the frame
+-- that it sent
 pub record IsMasters (x : Entry) (tick : Bool) (came : List ℕ) (did : Did) (sent : List ℕ) : Type 0 where
   pub parts : HasParts x side.Master came did sent
   pub tick_is : is_tick x.what ≡ tick

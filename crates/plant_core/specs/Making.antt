@@ -14,8 +14,8 @@ abbrev pub is_named : List BoundSpec → ℕ → Bool
 is_named [] k = false
 is_named (bound ∷ bounds) k = bound.estop.link == k || bound.drive.link == k || is_named bounds k
 
--- what is kept of these connections beside their masters before anything happened, where the first has number k: ages are told of those that a
--- bound names
+-- what is kept of these connections beside their masters before anything happened, where the first has number k: ages
+-- are told of those that a bound names
 abbrev pub links_made : ℕ → List BoundSpec → List LinkConf → List LinkView
 links_made k bounds [] = []
 links_made k bounds (link ∷ links) = new_link (is_named bounds k) link ∷ links_made (suc k) bounds links

@@ -26,7 +26,8 @@ use Rattle.plant_conf.specs.declared.conf.BoundSpec.{BoundSpec}
 use Rattle.plant_model.specs.Bound.{is_still}
 use Rattle.plant_model.specs.BoundLines.{worst_at}
 
--- what contracts see of a plant: its master of many connections, what it keeps of each connection beside its master, and its journal
+-- what contracts see of a plant: its master of many connections, what it keeps of each connection beside its master,
+-- and its journal
 pub record PlantView : Type 0 where
   pub master : MultiView
   pub links : List LinkView
@@ -46,8 +47,8 @@ seen rule holds guards v = record { master = multi.seen rule holds guards v.mast
 abbrev pub AreNoted : ℕ → List LinkView → Type 0
 AreNoted most vs = All (λ v. v.monitor.noted ≤ most) vs
 
--- there is something kept of each connection, of which there are at most 64, with places where the masters write what they did and sent;
--- and at most two entries were noted with each for each step of the journal, which has this length
+-- there is something kept of each connection, of which there are at most 64, with places where the masters write what
+-- they did and sent; and at most two entries were noted with each for each step of the journal, which has this length
 pub record IsPlant {A : Type 0} (master : MultiValue A) (links : List LinkView) (dids : List Did) (outs : List (List ℕ)) (len : ℕ) : Type 0 where
   pub count : length links ≡ multi.links master
   pub most : length links ≤ 64
@@ -79,7 +80,8 @@ EachLink P k [] [] = Unit {0}
 EachLink P k (link ∷ links) (v ∷ vs) = P k link v × EachLink P (suc k) links vs
 EachLink P k _ _ = ⊥
 
--- what is kept of connection k, whose pair did this and which may be cut: it stands for the entries, and tells whether the connection is cut
+-- what is kept of connection k, whose pair did this and which may be cut: it stands for the entries, and tells whether
+-- the connection is cut
 pub record LinkIs (cuts : ℕ → Bool) (done : ℕ → LinkConf → List Entry) (k : ℕ) (link : LinkConf) (v : LinkView) : Type 0 where
   pub stands : LinkStands link v (done k link)
   pub cut : v.cut ≡ cuts k
@@ -88,8 +90,9 @@ pub record LinkIs (cuts : ℕ → Bool) (done : ℕ → LinkConf → List Entry)
 abbrev pub LinksAre : List LinkConf → (ℕ → Bool) → (ℕ → LinkConf → List Entry) → List LinkView → Type 0
 LinksAre links cut done vs = EachLink (LinkIs cut done) 1 links vs
 
--- a plant that began so has done these acts: its master stands for their calls, what it keeps of each connection for its pair in the
--- journal, and the journal is that of the acts; and after each that ran a cycle all offers were the answer, in which what is guarded is kept off
+-- a plant that began so has done these acts: its master stands for their calls, what it keeps of each connection for
+-- its pair in the journal, and the journal is that of the acts; and after each that ran a cycle all offers were the
+-- answer, in which what is guarded is kept off
 pub record HasDone (b : Beginning) (v : PlantView) (done : List Act) : Type 0 where
   pub master : StandsFor (settings b) b.app v.master (calls b done)
   pub links : LinksAre b.links (λ k. is_cut k done) (pairs_by v.journal) v.links
@@ -102,7 +105,8 @@ pub record PlantStands (b : Beginning) (v : PlantView) (turns : List Turn) : Typ
   pub turns_are : All (IsTurn b.links) turns
   pub has_done : HasDone b v (acts turns)
 
--- a plant goes on by one turn, in which this is said and these parcels are pulled, and its channel by the uses of this turn
+-- a plant goes on by one turn, in which this is said and these parcels are pulled, and its channel by the uses of this
+-- turn
 pub record Plays (b : Beginning) (turns : List Turn) (said : Said) (new : PlantView) (before after : Told) : Type 0 where
   pub pulled : List Parcel
   pub stands : PlantStands b new (record { said = said; pulled = pulled } ∷ turns)

@@ -26,8 +26,8 @@ pub(crate) struct Ends<A> {
     pub(crate) links: Vec<Link>,
     pub(crate) dids: Vec<Did>,
     pub(crate) outs: Vec<FrameBuf>,
-    /// Where an end writes what it did at the last frame that was pulled, or at the last event at a slave. Its place for
-    /// data stays, since ticks have places of their own.
+    /// Where an end writes what it did at the last frame that was pulled, or at the last event at a slave. Its place
+    /// for data stays, since ticks have places of their own.
     pub(crate) heard: Did,
     /// Where an end writes what it sent then.
     pub(crate) sent: FrameBuf,

@@ -1,5 +1,5 @@
--- A tick is late for a bound only where a pair has another entry: from the first of the still moments that reach it on the bound is quiet. Turns,
--- acts and what is said are listed newest first.
+-- A tick is late for a bound only where a pair has another entry: from the first of the still moments that reach it on
+-- the bound is quiet. Turns, acts and what is said are listed newest first.
 use Rattle.std.proofs.Common.{◌≡◌, ◌≤◌, ◌<◌, inl, inr, ℕ, suc, ◌+◌, ◌-◌, Bool, true, false, ◌&&◌, nat_le, nat_lt, List, [], ◌∷◌, ◌++◌, map, length, Option, Some, None, if◌then◌else◌, refl, sym, ap, ap₂, subst, ◌∙◌, append_assoc, arith}
 use Rattle.std.specs.Prelude.{cond}
 use Rattle.std.specs.Option.{option_map_or}

@@ -1,4 +1,5 @@
--- A pair is a world of proper events where the deeds of both its ends are runs; and the law of the pair holds of worlds.
+-- A pair is a world of proper events where the deeds of both its ends are runs; and the law of the pair holds of
+-- worlds.
 use Rattle.std.proofs.Common.{◌≡◌, ℕ, zero, suc, List, [], ◌∷◌, slice_get, Option, Some, None, if◌then◌else◌, refl, sym, ap}
 use Rattle.std.specs.Prelude.{IfSome}
 use Rattle.fsoe_base.specs.declared.command.End.{End}

@@ -1,4 +1,5 @@
--- The master of each pair of a journal does what this connection of the master of many does: both are the runs of the same events.
+-- The master of each pair of a journal does what this connection of the master of many does: both are the runs of the
+-- same events.
 use Rattle.std.proofs.Common.{◌≡◌, ◌≢◌, ◌⊎◌, inl, inr, ℕ, zero, suc, ◌+◌, ◌-◌, ◌<◌, ◌==◌, List, [], ◌∷◌, ◌++◌, map, slice_get, slice_set, Option, Some, None, option_map, IfSome, Bool, true, false, if◌then◌else◌, refl, sym, ap, ap₂, subst, ◌∙◌, append_assoc, arith}
 use lib.Dec.{compare_is_eq}
 use Prim.Native.Nat.compare
@@ -355,7 +356,8 @@ slave_if : (b : Bool) (e : Event) → at_master e ≡ [] → flat_map at_master 
 slave_if true e h = append-nil (at_master e) ∙ h
 slave_if false e h = refl
 
--- a parcel makes no call where its connection doesn't exist, or where it goes to a slave: for the master of one that exists it means nothing
+-- a parcel makes no call where its connection doesn't exist, or where it goes to a slave: for the master of one that
+-- exists it means nothing
 no_parcel_by : (there : Option LinkConf) (end : End) (link k : ℕ) (frame : List ℕ) → IsSome there → delivery_call there end link frame ≡ None
     → flat_map at_master ((if link == k then at.Raw end frame ∷ [] else []) ++ []) ≡ []
 no_parcel_by None end link k frame h e = absurd (cc h)

@@ -1,5 +1,6 @@
--- Why a drive is off in time. The master of the e-stop has its bit as 0 from some tick on; each cycle from that tick's on answers the drive's bit
--- as 0, so that its master offers it so; and its slave has it as 0 some ticks later. Acts and entries are listed newest first, steps oldest first.
+-- Why a drive is off in time. The master of the e-stop has its bit as 0 from some tick on; each cycle from that tick's
+-- on answers the drive's bit as 0, so that its master offers it so; and its slave has it as 0 some ticks later. Acts
+-- and entries are listed newest first, steps oldest first.
 use Rattle.std.proofs.Common.{◌≡◌, ◌≤◌, ◌<◌, ◌⊎◌, inl, inr, ℕ, ◌+◌, ◌-◌, ◌*◌, Bool, true, false, not, List, [], ◌∷◌, ◌++◌, Option, Some, None, refl, sym, ap, ap₂, subst, ◌∙◌, append_assoc, arith}
 use Rattle.std.specs.Prelude.{IfSome, IsTrue, cond}
 use Rattle.std.specs.Option.{option_map_or}

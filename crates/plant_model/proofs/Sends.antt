@@ -1,5 +1,5 @@
--- What an end sent and when: data frames are sent as answers alone, and one that offered a bit as 1 came before all that were sent while it
--- offered that bit as 0. Entries are listed newest first.
+-- What an end sent and when: data frames are sent as answers alone, and one that offered a bit as 1 came before all
+-- that were sent while it offered that bit as 0. Entries are listed newest first.
 use Rattle.std.proofs.Common.{◌≡◌, ◌≤◌, ℕ, Bool, true, false, List, [], ◌∷◌, ◌++◌, if◌then◌else◌, refl, sym, ap, subst, ◌∙◌, append_assoc, arith}
 use Rattle.std.specs.Prelude.{IsTrue}
 use Rattle.fsoe_base.specs.declared.command.End.{End}

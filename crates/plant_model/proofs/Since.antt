@@ -1,5 +1,5 @@
--- How the entries of a pair grow with the acts of a plant: the ticks that came, and what an end offered where it sent data. Acts and entries
--- are listed newest first, steps oldest first.
+-- How the entries of a pair grow with the acts of a plant: the ticks that came, and what an end offered where it sent
+-- data. Acts and entries are listed newest first, steps oldest first.
 use Rattle.std.proofs.Common.{◌≡◌, ◌≤◌, ℕ, ◌+◌, ◌==◌, Bool, true, false, List, [], ◌∷◌, ◌++◌, map, Option, Some, None, if◌then◌else◌, refl, sym, ap, subst, ◌∙◌, append_assoc, arith}
 use Rattle.std.proofs.lemmas.List.{append-nil}
 use Rattle.std.proofs.lemmas.List.Sums.{sum_by-append}
@@ -27,8 +27,8 @@ use Rattle.plant_model.specs.Pair.{next_of, pair, is_tick, ticks}
 use Rattle.plant_model.proofs.Growing.{IsOne, pair_more, pair_one, no_entry}
 use Rattle.plant_model.proofs.Sends.{BringsNone, SentWhile, no_data, sent_append}
 
--- the entries of a pair that a longer journal has more: the ticks of both ends among them are those of the journal, and where an end sent data
--- this held of the entries before
+-- the entries of a pair that a longer journal has more: the ticks of both ends among them are those of the journal, and
+-- where an end sent data this held of the entries before
 pub record Grown (P : List Entry → Type 0) (which : End) (link : LinkConf) (k : ℕ) (before after : List JournalStep) : Type 0 where
   pub new : List Entry
   pub is : pair link k after ≡ new ++ pair link k before

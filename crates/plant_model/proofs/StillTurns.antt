@@ -1,5 +1,6 @@
--- Where the moments of a plant are still for a bound, it is quiet: no act of a tick but the line of the script changes what a slave offers, nor
--- which application runs, and each cycle keeps off what the application guards. Acts and turns are listed newest first, steps oldest first.
+-- Where the moments of a plant are still for a bound, it is quiet: no act of a tick but the line of the script changes
+-- what a slave offers, nor which application runs, and each cycle keeps off what the application guards. Acts and turns
+-- are listed newest first, steps oldest first.
 use Rattle.std.proofs.Common.{◌≡◌, ℕ, ◌==◌, nat_lt, Bool, true, false, ◌&&◌, not, List, [], ◌∷◌, ◌++◌, map, length, Option, Some, None, option_map, if◌then◌else◌, refl, sym, ap, ap₂, ◌∙◌, append_assoc}
 use Rattle.std.specs.Prelude.{IfSome, option_to_list}
 use Rattle.std.specs.Option.{option_map_or}

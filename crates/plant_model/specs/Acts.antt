@@ -1,5 +1,5 @@
--- What a plant did, act by act, and what that means: the calls of its master of many connections, the steps of its journal, and the uses
--- of its channel. Acts and calls are listed newest first, steps and uses oldest first.
+-- What a plant did, act by act, and what that means: the calls of its master of many connections, the steps of its
+-- journal, and the uses of its channel. Acts and calls are listed newest first, steps and uses oldest first.
 use Rattle.std.specs.Prelude.{ℕ, suc, ◌-◌, ◌==◌, Bool, false, List, [], ◌∷◌, ◌++◌, length, map, take, reverse, Option, Some, None, option_to_list, option_and_then, if◌then◌else◌}
 use Rattle.std.specs.Option.{option_map_or}
 use Rattle.fsoe_base.specs.declared.command.End.{End}
@@ -81,8 +81,8 @@ cycle_of b act acts = option_and_then (λ call. cycle_in call (masters b acts)) 
 abbrev pub offer_step : Meant → ℕ → JournalStep
 offer_step m link = step.Offer link (option_map_or offer_at (connection link m) [])
 
--- the offers that a call changed, if there is one, after those before: one for each connection that has another offer than before the
--- call, in their order
+-- the offers that a call changed, if there is one, after those before: one for each connection that has another offer
+-- than before the call, in their order
 abbrev pub offers_by : Beginning → Option Call → List Call → List JournalStep
 offers_by b None before = []
 offers_by b (Some call) before = map (offer_step (meant (settings b) b.app (call ∷ before))) (changed (settings b) b.app (call ∷ before))
@@ -91,7 +91,8 @@ offers_by b (Some call) before = map (offer_step (meant (settings b) b.app (call
 abbrev pub offers : Beginning → Act → List Act → List JournalStep
 offers b act acts = offers_by b (call_of b act) (calls b acts)
 
--- the steps of an act: its offers stand after a line of the script, and before a parcel that was pulled. What gave no parcel is no step
+-- the steps of an act: its offers stand after a line of the script, and before a parcel that was pulled. What gave no
+-- parcel is no step
 abbrev pub steps_of : Act → List JournalStep → List JournalStep
 steps_of Start changed = changed
 steps_of (Happen (Event event)) changed = step.Script event ∷ changed
@@ -135,7 +136,8 @@ pushes_of end k [] cut before now = []
 pushes_of end k (link ∷ links) cut before now =
     (if cut k then [] else pushes_at link k end before now) ++ pushes_of end (suc k) links cut before now
 
--- the frames that all ends sent between two journals are pushed: those of the slaves first, and then those of the masters
+-- the frames that all ends sent between two journals are pushed: those of the slaves first, and then those of the
+-- masters
 abbrev pub all_pushes : List LinkConf → (ℕ → Bool) → List JournalStep → List JournalStep → List Use
 all_pushes links cut before now = pushes_of side.Slave 1 links cut before now ++ pushes_of side.Master 1 links cut before now
 

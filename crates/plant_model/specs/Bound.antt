@@ -1,6 +1,7 @@
--- The reaction bound of a plant: for how long a drive may stay on after the e-stop that guards it went off, whatever the channel gives. The
--- e-stop is a bit that a slave offers and that its master takes to the application; the drive is a bit that the application answers, and that
--- its master offers to another slave. Acts are listed newest first, steps oldest first.
+-- The reaction bound of a plant: for how long a drive may stay on after the e-stop that guards it went off, whatever
+-- the channel gives. The e-stop is a bit that a slave offers and that its master takes to the application; the drive is
+-- a bit that the application answers, and that its master offers to another slave. Acts are listed newest first, steps
+-- oldest first.
 use Rattle.std.specs.Prelude.{◌≡◌, ◌≤◌, ◌+◌, ◌*◌, ℕ, Bool, false, ◌&&◌, not, IsTrue, List, [], ◌∷◌, ◌++◌, map, Some, IfSome}
 use Rattle.std.specs.Option.{option_map_or}
 use Rattle.fsoe_base.specs.declared.command.End.TheVariants as side
@@ -48,7 +49,8 @@ KeepsOff b bound act acts =
     IfSome (cycle_of b act acts) (λ a.
     bit_at (inputs_after b (act ∷ acts)) bound.estop ≡ false → bit_at (offers_after b (act ∷ acts)) bound.drive ≡ false)
 
--- a bound is quiet from some acts on: its e-stop is off after these and after each later one, and each later one keeps its drive off
+-- a bound is quiet from some acts on: its e-stop is off after these and after each later one, and each later one keeps
+-- its drive off
 abbrev pub Quiet : Beginning → BoundSpec → List Act → List Act → Type 0
 Quiet b bound [] earlier = IsTrue (is_off b bound.estop earlier)
 Quiet b bound (act ∷ later) earlier =
@@ -72,8 +74,8 @@ pub record AreClean (bound : BoundSpec) (estop drive : LinkConf) (journal : List
 abbrev pub is_on : BoundSpec → LinkConf → List JournalStep → Bool
 is_on bound drive journal = bit_of (outputs_at drive side.Slave (pair drive bound.drive.link journal)) bound.drive.bit
 
--- the reaction bound: where a bound is quiet from some acts on, its drive is off after each step before which, that step counted, as many ticks
--- came since as the limit has, less three, as long as neither pair has an other entry
+-- the reaction bound: where a bound is quiet from some acts on, its drive is off after each step before which, that
+-- step counted, as many ticks came since as the limit has, less three, as long as neither pair has an other entry
 abbrev pub Reacts : Beginning → List Act → Type 0
 Reacts b done =
     (bound : BoundSpec) (estop drive : LinkConf) (more later earlier : List Act) (steps rest : List JournalStep)

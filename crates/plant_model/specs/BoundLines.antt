@@ -1,7 +1,7 @@
--- The lines of a plant's report about the bounds that it watches. A moment of a plant is its start, or the end of a line of its script; it is
--- still for a bound where the e-stop is off and the application that runs guards the drive by it. A tick of the script is late where the
--- drive is on after it, and as many ticks as the bound's limit came, itself counted, after the first of the still moments that reach it
--- without a break. Turns are listed newest first.
+-- The lines of a plant's report about the bounds that it watches. A moment of a plant is its start, or the end of a
+-- line of its script; it is still for a bound where the e-stop is off and the application that runs guards the drive by
+-- it. A tick of the script is late where the drive is on after it, and as many ticks as the bound's limit came, itself
+-- counted, after the first of the still moments that reach it without a break. Turns are listed newest first.
 use Rattle.std.specs.Prelude.{ℕ, Bool, false, List, [], ◌∷◌, ◌++◌, codes, decimal, Option, Some, None, if◌then◌else◌}
 use Rattle.std.specs.Option.{option_map_or}
 use Rattle.fsoe_base.specs.declared.command.End.{End}
@@ -30,8 +30,8 @@ limit_of links bound = limit_by (link_at links bound.estop.link) (link_at links 
 abbrev pub is_driven : Beginning → BoundSpec → List Act → Bool
 is_driven b bound done = option_map_or (λ drive. is_on bound drive (journal b done)) (link_at b.links bound.drive.link) false
 
--- what a line of the script says of a bound after what was said before, where these are all acts with it: if it is a tick, whether the drive is on;
--- and whether the moment after it is still
+-- what a line of the script says of a bound after what was said before, where these are all acts with it: if it is a
+-- tick, whether the drive is on; and whether the moment after it is still
 abbrev pub heard : Beginning → BoundSpec → Bool → List Act → List reaction.Said → List reaction.Said
 heard b bound tick done before =
     reaction.Quiet (is_still b bound done) ∷ (if tick then reaction.Tick (is_driven b bound done) ∷ before else before)
@@ -63,8 +63,8 @@ abbrev pub broken_text : Option ℕ → List ℕ
 broken_text None = codes "kept"
 broken_text (Some tick) = codes "broken " ++ decimal tick
 
--- the line of a bound by a journal: its limit, the greatest age of the outputs of the e-stop's master and of the drive's slave, and its first late
--- tick
+-- the line of a bound by a journal: its limit, the greatest age of the outputs of the e-stop's master and of the
+-- drive's slave, and its first late tick
 abbrev pub line_by : List LinkConf → List JournalStep → BoundSpec → Option ℕ → List ℕ
 line_by links steps bound broken =
     codes "bound i" ++ bit_text bound.estop ++ codes " o" ++ bit_text bound.drive ++ codes " " ++ decimal (limit_of links bound)

@@ -1,5 +1,5 @@
--- Which steps the connections of a plant may have, and what then holds of their pairs, whatever the parcels are that were pulled. Steps are
--- listed oldest first.
+-- Which steps the connections of a plant may have, and what then holds of their pairs, whatever the parcels are that
+-- were pulled. Steps are listed oldest first.
 use Rattle.std.specs.Prelude.{◌≡◌, ℕ, List, length, map, IfSome, IsSomeAnd, ◌≤◌, zero, suc, Option, None, IsSome, slice_get}
 use Rattle.fsoe_base.specs.declared.command.End.TheVariants as side
 use Rattle.fsoe_base.specs.declared.lengths.Lengths.{Lengths}
@@ -22,8 +22,8 @@ abbrev pub lengths_at : List Lengths → ℕ → Option Lengths
 lengths_at lengths zero = None
 lengths_at lengths (suc place) = slice_get lengths place
 
--- an event that connections with these lengths may have: its connection exists, a put has exactly as many bytes as the slave sends, and a
--- session id has 16 bits
+-- an event that connections with these lengths may have: its connection exists, a put has exactly as many bytes as the
+-- slave sends, and a session id has 16 bits
 abbrev pub Fits : List Lengths → PlantEvent → Type 0
 Fits lengths event.Tick = Unit {0}
 Fits lengths (event.Put link load) = IsSomeAnd (lengths_at lengths link) (λ ends. length load ≡ length_of ends side.Slave)
@@ -36,8 +36,8 @@ Fits lengths (event.Cut link cut) = IsSome (lengths_at lengths link)
 abbrev pub EventFits : List LinkConf → PlantEvent → Type 0
 EventFits links event = Fits (map lengths_in links) event
 
--- a step that these connections may have: its event of the script fits; the connection of an offer exists, and the offer has as many bytes
--- as its master sends. A parcel may be any
+-- a step that these connections may have: its event of the script fits; the connection of an offer exists, and the
+-- offer has as many bytes as its master sends. A parcel may be any
 abbrev pub StepFits : List LinkConf → JournalStep → Type 0
 StepFits links (step.Script event) = EventFits links event
 StepFits links step.App = Unit {0}

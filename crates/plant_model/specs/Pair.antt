@@ -1,5 +1,5 @@
--- The entries of the connections of a plant: those of the world of the events that the plant's journal means for each. Steps of a
--- journal and events are listed oldest first, entries newest first.
+-- The entries of the connections of a plant: those of the world of the events that the plant's journal means for each.
+-- Steps of a journal and events are listed oldest first, entries newest first.
 use Rattle.std.specs.Prelude.{ℕ, zero, suc, ◌==◌, Bool, true, false, List, [], ◌∷◌, Option, Some, None, is_some, slice_get, if◌then◌else◌}
 use Rattle.std.specs.List.{flat_map, count_by}
 use Rattle.fsoe_base.specs.declared.command.End.{End}
@@ -23,8 +23,9 @@ use Rattle.param_load.specs.declared.entry.Move.{Move}
 abbrev pub if_same : ℕ → ℕ → Event → List Event
 if_same link k event = if link == k then event ∷ [] else []
 
--- what an event of the script means for connection k: a tick is one of its slave and then one of its master; the others are at its slave,
--- but that a session id is set at the end that is named. Whether a connection is cut means nothing for its ends
+-- what an event of the script means for connection k: a tick is one of its slave and then one of its master; the others
+-- are at its slave, but that a session id is set at the end that is named. Whether a connection is cut means nothing
+-- for its ends
 abbrev pub script_part : ℕ → PlantEvent → List Event
 script_part k event.Tick = at.Tick side.Slave ∷ at.Tick side.Master ∷ []
 script_part k (event.Put link load) = if_same link k (at.Put side.Slave load)
@@ -33,8 +34,8 @@ script_part k (event.Local link) = if_same link k (at.Local side.Slave)
 script_part k (event.Nonce link end id) = if_same link k (at.Nonce end id)
 script_part k (event.Cut link cut) = []
 
--- what a step of the journal means for connection k: an offer is put at its master, and a parcel that was pulled for one of its ends comes
--- there with its bytes, whatever they are. Another application means nothing for its ends
+-- what a step of the journal means for connection k: an offer is put at its master, and a parcel that was pulled for
+-- one of its ends comes there with its bytes, whatever they are. Another application means nothing for its ends
 abbrev pub own_part : ℕ → JournalStep → List Event
 own_part k (step.Script event) = script_part k event
 own_part k step.App = []

@@ -31,7 +31,8 @@ link_lines k (link ∷ links) journal = link_line link k (pair link k journal) +
 abbrev pub tick_lines : List LinkConf → List JournalStep → List ℕ
 tick_lines links journal = codes "tick " ++ decimal (ticks journal) ++ codes "\n" ++ link_lines 1 links journal
 
--- whether a step begins what the plant does at one line of its script; the steps that are none of the script's belong to the last that is
+-- whether a step begins what the plant does at one line of its script; the steps that are none of the script's belong
+-- to the last that is
 abbrev pub is_line : JournalStep → Bool
 is_line (step.Script event) = true
 is_line step.App = true
@@ -47,8 +48,8 @@ in_tick before (step ∷ steps) = in_tick (if is_line step then is_tick step els
 abbrev pub lines_due : List LinkConf → List JournalStep → List ℕ
 lines_due links journal = if in_tick false journal then tick_lines links journal else []
 
--- the lines of the ticks that go on after `before` in these further steps: each tick shows the ends after the last step before the next
--- line of the script
+-- the lines of the ticks that go on after `before` in these further steps: each tick shows the ends after the last step
+-- before the next line of the script
 abbrev pub lines_from : List LinkConf → List JournalStep → List JournalStep → List ℕ
 lines_from links before [] = lines_due links before
 lines_from links before (step ∷ steps) =

@@ -1,5 +1,6 @@
--- What holds of a plant's journal and acts, whatever its channel gives: by the definitions alone, but that all offers are the answer and that
--- this keeps what is guarded off, which rest on what an application promises. Acts are listed newest first, steps oldest first.
+-- What holds of a plant's journal and acts, whatever its channel gives: by the definitions alone, but that all offers
+-- are the answer and that this keeps what is guarded off, which rest on what an application promises. Acts are listed
+-- newest first, steps oldest first.
 use Rattle.std.specs.Prelude.{◌≡◌, ◌-◌, ◌<◌, ℕ, zero, suc, Bool, true, false, List, [], ◌∷◌, map, Option, Some, None, IfSome, IsSomeAnd, is_some, if◌then◌else◌}
 use Rattle.fsoe_base.specs.declared.command.End.{End}
 use Rattle.fsoe_base.specs.declared.command.End.TheVariants as side
@@ -38,8 +39,8 @@ abbrev pub ticks_all : PlantEvent → Bool
 ticks_all event.Tick = true
 ticks_all _ = false
 
--- whether an act runs a cycle of the application, after which the journal is this: at the start, in each tick, after each change of the
--- application, and at each parcel that a master takes or resets on
+-- whether an act runs a cycle of the application, after which the journal is this: at the start, in each tick, after
+-- each change of the application, and at each parcel that a master takes or resets on
 abbrev pub runs_cycle : List LinkConf → Act → List JournalStep → Bool
 runs_cycle links Start journal = true
 runs_cycle links (Happen (Event event)) journal = ticks_all event
@@ -60,7 +61,8 @@ abbrev pub AllAnswered : Beginning → List Act → Type 0
 AllAnswered b [] = Unit {0}
 AllAnswered b (act ∷ acts) = OffersAnswer b act acts × AllAnswered b acts
 
--- after an act that ran a cycle each output bit of the answer is 0 that the application that runs guards by an input bit that is 0
+-- after an act that ran a cycle each output bit of the answer is 0 that the application that runs guards by an input
+-- bit that is 0
 abbrev pub GuardsAnswer : Beginning → Act → List Act → Type 0
 GuardsAnswer b act acts = IfSome (cycle_of b act acts) (IsGuarded (masters b (act ∷ acts)))
 
@@ -69,8 +71,8 @@ abbrev pub AllGuarded : Beginning → List Act → Type 0
 AllGuarded b [] = Unit {0}
 AllGuarded b (act ∷ acts) = GuardsAnswer b act acts × AllGuarded b acts
 
--- between a tick and the next line of the script at most 64 parcels were pulled, `room` of which may still come before these steps; and
--- none elsewhere
+-- between a tick and the next line of the script at most 64 parcels were pulled, `room` of which may still come before
+-- these steps; and none elsewhere
 abbrev pub PullsFit : ℕ → List JournalStep → Type 0
 PullsFit room [] = Unit {0}
 PullsFit room (step.Script event ∷ steps) = PullsFit (if ticks_all event then 64 else 0) steps
@@ -91,8 +93,8 @@ abbrev pub one_if_left : ℕ → ℕ → ℕ
 one_if_left zero n = n
 one_if_left (suc room) n = suc n
 
--- the number of ticks after which fewer than 64 parcels were pulled before the next line of the script, where `room` of them may still come
--- before these steps
+-- the number of ticks after which fewer than 64 parcels were pulled before the next line of the script, where `room` of
+-- them may still come before these steps
 abbrev pub short_ticks : ℕ → List JournalStep → ℕ
 short_ticks room [] = one_if_left room 0
 short_ticks room (step.Script event ∷ steps) = one_if_left room (short_ticks (if ticks_all event then 64 else 0) steps)

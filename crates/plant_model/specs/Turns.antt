@@ -1,5 +1,5 @@
--- The acts of a plant by the lines of its script and by what its channel gave. Turns, parcels and acts are listed newest first, the lines of a script
--- oldest first.
+-- The acts of a plant by the lines of its script and by what its channel gave. Turns, parcels and acts are listed
+-- newest first, the lines of a script oldest first.
 use Rattle.std.specs.Prelude.{◌≡◌, ◌≤◌, ℕ, nat_lt, List, [], ◌∷◌, ◌++◌, length, map, Option, Some, None, if◌then◌else◌}
 use Rattle.std.specs.Str.{bytes_eq}
 use Rattle.black_channel.specs.declared.channel.Parcel.{Parcel}
@@ -81,8 +81,8 @@ abbrev pub said_with : Option Taken → (List Named → List Said) → List Said
 said_with None later = []
 said_with (Some taken) later = App taken.app ∷ later taken.left
 
--- what these lines of a script say, where these applications are handed in: each line for an application takes the first of its name that
--- isn't yet used. After a line that finds none nothing more is said
+-- what these lines of a script say, where these applications are handed in: each line for an application takes the
+-- first of its name that isn't yet used. After a line that finds none nothing more is said
 abbrev pub said : List Named → List PlantLine → List Said
 said spare [] = []
 said spare (line.Step event ∷ lines) = Event event ∷ said spare lines

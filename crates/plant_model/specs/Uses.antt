@@ -1,4 +1,5 @@
--- What happens to a channel while a plant uses it, and what that makes of what the channel tells. Uses are listed oldest first.
+-- What happens to a channel while a plant uses it, and what that makes of what the channel tells. Uses are listed
+-- oldest first.
 use Rattle.std.specs.Prelude.{◌≡◌, ℕ, suc, ◌+◌, ◌-◌, ◌^◌, ◌<◌, ◌≤◌, List, [], ◌∷◌, ◌++◌, Option, Some, None, IfSome, option_map, option_to_list, Bool, if◌then◌else◌}
 use Rattle.black_channel.specs.Holds.{Holds, begun, pushed, pulled}
 use Rattle.black_channel.specs.Told.{Told, Begins, PushesParcel, PullsParcel}
@@ -87,13 +88,14 @@ pub record ToldLists (uses : List Use) (old new : Told) : Type 0 where
   pub pushed : GrewBy (pushes uses) old.pushed new.pushed
   pub given : GrewBy (gifts uses) old.given new.given
 
--- where a channel tells what it holds, each pull gives what the rules of its form give, and so is what it holds after them
+-- where a channel tells what it holds, each pull gives what the rules of its form give, and so is what it holds after
+-- them
 pub record ToldHolds (uses : List Use) (old new : Told) : Type 0 where
   pub gives : IfSome old.holds (GivesHeld uses)
   pub holds : new.holds ≡ option_map (held_after uses) old.holds
 
--- a count rose by at least this much, unless it came to 2^64 - 1, where a count of 64 bits stays; nothing is said of one that goes on from
--- there, since what came while it stayed isn't counted
+-- a count rose by at least this much, unless it came to 2^64 - 1, where a count of 64 bits stays; nothing is said of
+-- one that goes on from there, since what came while it stayed isn't counted
 abbrev pub RoseBy : ℕ → ℕ → ℕ → Type 0
 RoseBy more before now = now < 2 ^ 64 - 1 → before + more ≤ now
 

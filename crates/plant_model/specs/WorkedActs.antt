@@ -1,5 +1,5 @@
--- Acts of the worked plant whose channel keeps order: its journal, and what happened to the channel. Acts are listed newest first, steps and
--- uses oldest first.
+-- Acts of the worked plant whose channel keeps order: its journal, and what happened to the channel. Acts are listed
+-- newest first, steps and uses oldest first.
 use Rattle.std.specs.Prelude.{◌≡◌, ℕ, true, false, List, [], ◌∷◌, codes, map, reverse, take, Some}
 use Rattle.hex.specs.Hex.{decode_of}
 use Rattle.fsoe_base.specs.declared.command.End.{End}
@@ -57,7 +57,8 @@ first_acts = reverse (Start ∷ Happen (Event event.Tick) ∷ map (λ parcel. Pu
 abbrev pub first_steps : List JournalStep
 first_steps = offer 2 (codes "0100") ∷ tick ∷ map step.Pulled first_parcels
 
--- the uses of the channel: it begins with the seed; both masters' first frames are pushed; each parcel is pulled, and its answer pushed
+-- the uses of the channel: it begins with the seed; both masters' first frames are pushed; each parcel is pulled, and
+-- its answer pushed
 abbrev pub first_uses : List Use
 first_uses =
     Begin 1

@@ -1,5 +1,6 @@
--- A worked plant of two connections: an emergency stop at the first drives a bit of the second. What its channel gave, a part of what
--- was pushed, was worked out beforehand; so were the report and the lines of a connection. Steps are listed oldest first.
+-- A worked plant of two connections: an emergency stop at the first drives a bit of the second. What its channel gave,
+-- a part of what was pushed, was worked out beforehand; so were the report and the lines of a connection. Steps are
+-- listed oldest first.
 use Rattle.std.specs.Prelude.{◌≡◌, ℕ, List, [], ◌∷◌, ◌++◌, codes, drop, true}
 use Rattle.std.proofs.lemmas.Bool.{ltb-true}
 use Rattle.std.specs.Prelude.{refl}
@@ -101,7 +102,8 @@ first_tick =
     ∷ to_master 2 (codes "3600002f6b0200")
     ∷ []
 
--- the emergency stop is released and acknowledged, so that the drive goes on; then it is pressed in the tick in which its connection is cut
+-- the emergency stop is released and acknowledged, so that the drive goes on; then it is pressed in the tick in which
+-- its connection is cut
 abbrev pub later_ticks : List JournalStep
 later_ticks =
     put 1 (codes "0300")

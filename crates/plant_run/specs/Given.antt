@@ -1,4 +1,5 @@
--- What a plant is run with, and what it means that it runs. Turns are listed newest first, the lines of a script oldest first.
+-- What a plant is run with, and what it means that it runs. Turns are listed newest first, the lines of a script oldest
+-- first.
 use Rattle.std.specs.Prelude.{◌≡◌, ◌≤◌, ◌-◌, ℕ, zero, suc, All, Bool, List, [], drop, length, map, string_bytes, Option, Some}
 use Rattle.std.specs.Option.{option_map_or}
 use Rattle.black_channel.specs.Told.{Told}
@@ -69,8 +70,9 @@ rest_left rest.Nothing = 0
 rest_left (rest.Links next) = lines_left next
 rest_left (rest.Bounds next) = 16 - next
 
--- a plant that is run with these terms runs, seen by what is seen of its application: it stands for these lines, these applications are left,
--- its channel was used as that says, it had so many ticks, and these are the reactions of its bounds
+-- a plant that is run with these terms runs, seen by what is seen of its application: it stands for these lines, these
+-- applications are left, its channel was used as that says, it had so many ticks, and these are the reactions of its
+-- bounds
 pub record GivenStands {A : Type 0} (rule : A → Rule) (holds : A → List ℕ) (guards : A → Bit → Bit → Bool) (t : Terms) (plant : Option (PlantValue A)) (reactions : List ReactionView) (left : List Named) (before after : Told) (count : ℕ) (h : ScriptHeading) (log : List PlantLine) (text : List ℕ) : Type 0 where
   pub value : PlantValue A
   pub plant_is : plant ≡ Some value

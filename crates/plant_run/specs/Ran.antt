@@ -1,5 +1,5 @@
--- How a run of a plant over its script ended, what it wrote, and what its channel and its journal tell. Turns are listed newest first, steps and
--- the lines of a script oldest first.
+-- How a run of a plant over its script ended, what it wrote, and what its channel and its journal tell. Turns are
+-- listed newest first, steps and the lines of a script oldest first.
 use Rattle.std.specs.Prelude.{◌≡◌, List, [], All, Option, Some, None, length, ℕ}
 use Rattle.fsoe_io.specs.declared.status.Ended.{Ended}
 use Rattle.black_channel.specs.Told as channel
@@ -26,9 +26,9 @@ abbrev pub IsReportOf : Terms → List Turn → List JournalStep → ScriptHeadi
 IsReportOf t turns steps h log text ended =
     (text ≡ report_text t.begins.links steps (bound_lines t.begins turns t.bounds) AtEnd) × (ended ≡ report_end t.begins.links steps AtEnd)
 
--- these turns were done, one for each of the first lines after the script's title; what was written is the report of the journal as far as the
--- run came; after each act that ran a cycle all offers were the answer, in which what is guarded is kept off; and drives react in time, so
--- that a bound is broken only where a pair has an other entry
+-- these turns were done, one for each of the first lines after the script's title; what was written is the report of
+-- the journal as far as the run came; after each act that ran a cycle all offers were the answer, in which what is
+-- guarded is kept off; and drives react in time, so that a bound is broken only where a pair has an other entry
 pub record DidTurns (t : Terms) (turns : List Turn) (steps : List JournalStep) (ended : Ended) (o : Outside) : Type 0 where
   pub turns_are : All (IsTurn t.begins.links) turns
   pub journal_is : steps ≡ journal t.begins (acts turns)
@@ -43,8 +43,8 @@ pub record DidTurns (t : Terms) (turns : List Turn) (steps : List JournalStep) (
   pub begun : IsBegun (plant_reporting t).format done o.source.before
   pub ends : LeavesAs (plant_reporting t).format (IsReportOf t turns steps) done ended.status ended o
 
--- no plant began: the script's first line didn't come or is refused, or there was no memory to begin with. No more was to be written than the
--- line of that refusal
+-- no plant began: the script's first line didn't come or is refused, or there was no memory to begin with. No more was
+-- to be written than the line of that refusal
 pub record DidNothing (t : Terms) (steps : List JournalStep) (ended : Ended) (o : Outside) : Type 0 where
   pub journal_is : steps ≡ []
   pub left : LeavesUnbegun (plant_reporting t).format (Unit {0}) ended o
@@ -59,8 +59,9 @@ abbrev pub Used : Terms → Option (List Turn) → channel.Told → channel.Told
 Used t None before after = after ≡ before
 Used t (Some turns) before after = Trace (uses t.begins (acts turns)) before after
 
--- a plant ran over a script: it reported it, of which `run` alone fixes no states, since a channel may give anything; one and the same turns stand
--- in its journal, in what its channel tells, and in what was written; and its pairs are fair
+-- a plant ran over a script: it reported it, of which `run` alone fixes no states, since a channel may give anything;
+-- one and the same turns stand in its journal, in what its channel tells, and in what was written; and its pairs are
+-- fair
 pub record RanPlant (t : Terms) (ended : Ended) (o : Outside) (before after : channel.Told) (steps : List JournalStep) : Type 0 where
   pub run : RanOver (plant_reporting t) ended o
   pub turns : Option (List Turn)

@@ -13,7 +13,8 @@ use Rattle.plant_model.specs.Turns.{MayPull, Named, Turn, acts, said, said_by_tu
 use Rattle.plant_model.specs.declared.event.PlantLine.{PlantLine}
 use Rattle.plant_model.specs.declared.journal.JournalStep.{JournalStep}
 
--- what a plant is run with: what it begins with, the bounds that it watches, and the applications that its script may take
+-- what a plant is run with: what it begins with, the bounds that it watches, and the applications that its script may
+-- take
 pub record Terms : Type 0 where
   pub begins : Beginning
   pub bounds : List BoundSpec
@@ -29,7 +30,8 @@ abbrev pub journal_after : Beginning → Option ScriptHeading → List Turn → 
 journal_after b None turns = []
 journal_after b (Some h) turns = journal b (acts turns)
 
--- how a run stops in which so many lines happened: as the script does, where all did; else at the first for an application that isn't left
+-- how a run stops in which so many lines happened: as the script does, where all did; else at the first for an
+-- application that isn't left
 abbrev pub run_stop : ℕ → Script → Stop
 run_stop happened script = if happened == length script.events then script.stop else Refused (script.lines + happened + 1) NoApp
 

@@ -11,8 +11,8 @@ use Rattle.plant_core.specs.Standing.{PlantStands, PlantView}
 use Rattle.plant_model.specs.Turns.{Named, Turn, said, said_by_turns}
 use Rattle.plant_model.specs.declared.event.PlantLine.{PlantLine}
 
--- a plant that is run with these terms stands for a turn for each of these lines, of which this text has the lines of all ticks; and what
--- further lines say goes by these applications, which are left
+-- a plant that is run with these terms stands for a turn for each of these lines, of which this text has the lines of
+-- all ticks; and what further lines say goes by these applications, which are left
 pub record RunStands (t : Terms) (v : PlantView) (left : List Named) (h : ScriptHeading) (log : List PlantLine) (text : List ℕ) : Type 0 where
   pub turns : List Turn
   pub stands : PlantStands t.begins v turns

@@ -1,5 +1,5 @@
--- What the bytes of a plant's script say: the events and applications of its lines, and how it stops. This looks at the lines and at the
--- lengths of the connections alone.
+-- What the bytes of a plant's script say: the events and applications of its lines, and how it stops. This looks at the
+-- lines and at the lengths of the connections alone.
 use Rattle.std.specs.Prelude.{ℕ, nat_le, Bool, ◌&&◌, not, true, false, List, length, codes, Option, Some, None, Result, Ok, Err, if◌then◌else◌}
 use Rattle.std.specs.Str.{bytes_eq}
 use Rattle.fsoe_base.specs.declared.lengths.Lengths.{Lengths}

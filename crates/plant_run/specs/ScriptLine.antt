@@ -1,5 +1,5 @@
--- What a line of a plant's script says that stands after its first line. The causes come in their order: the word, the number of
--- fields, a number, the connection, the hexadecimal bytes, a length.
+-- What a line of a plant's script says that stands after its first line. The causes come in their order: the word, the
+-- number of fields, a number, the connection, the hexadecimal bytes, a length.
 use Rattle.std.specs.Prelude.{◌≡◌, ◌≤◌, ℕ, ◌==◌, length, Bool, List, [], ◌∷◌, codes, All, Option, Some, None, Result, Ok, Err, MatchResult, if◌then◌else◌}
 use Rattle.std.specs.Str.{bytes_eq}
 use Rattle.fsoe_base.specs.LengthsOf.{length_of}

@@ -23,12 +23,14 @@ reactions_by links said bounds = map (λ bound. view_of (limit_of links bound) (
 abbrev pub reactions_after : Beginning → List Turn → List BoundSpec → List ReactionView
 reactions_after b turns bounds = reactions_by b.links (λ bound. said_of b bound turns) bounds
 
--- a reaction of this bound is told of a line of the script, which may be a tick, by a plant that stands for the turns with it
+-- a reaction of this bound is told of a line of the script, which may be a tick, by a plant that stands for the turns
+-- with it
 pub record HearsOne (v : PlantView) (bound : BoundSpec) (tick : Bool) (old new : ReactionView) : Type 0 where
   pub hears : (b : Beginning) (turns : List Turn) (said : List reaction.Said) → PlantStands b v turns → old ≡ view_of (limit_of b.links bound) said
       → new ≡ view_of (limit_of b.links bound) (heard b bound tick (acts turns) said)
 
--- the reactions of these bounds are told of a line of the script, which may be a tick, by a plant that stands for the turns with it
+-- the reactions of these bounds are told of a line of the script, which may be a tick, by a plant that stands for the
+-- turns with it
 pub record HearsLine (v : PlantView) (bounds : List BoundSpec) (tick : Bool) (old new : List ReactionView) : Type 0 where
   pub hears : (b : Beginning) (turns : List Turn) (said : BoundSpec → List reaction.Said) → PlantStands b v turns → old ≡ reactions_by b.links said bounds
       → new ≡ reactions_by b.links (λ bound. heard b bound tick (acts turns) (said bound)) bounds
@@ -51,7 +53,8 @@ pub record AreAged (vs : List LinkView) (bound : BoundSpec) : Type 0 where
 pub record ShowsBound (v : PlantView) (bound : BoundSpec) (most : ℕ) (broken : Option ℕ) (text : List ℕ) : Type 0 where
   pub shows : (b : Beginning) (turns : List Turn) → PlantStands b v turns → most ≡ limit_of b.links bound → text ≡ line_by b.links v.journal bound broken
 
--- the reactions of these bounds can be told of a line by a plant that has begun: there is a reaction with room for a tick more for each
+-- the reactions of these bounds can be told of a line by a plant that has begun: there is a reaction with room for a
+-- tick more for each
 pub record CanHear {A : Type 0} (plant : Option (PlantValue A)) (reactions : List ReactionView) (bounds : List BoundSpec) : Type 0 where
   pub begun : IsSome plant
   pub count : length reactions ≡ length bounds

@@ -53,8 +53,8 @@ SevenTicksScript =
       stop = AtEnd;
     }
 
--- scripts that stop at a line: an application that was used, one that isn't there, a connection that doesn't exist, a line without its
--- newline, and no line where one has to be
+-- scripts that stop at a line: an application that was used, one that isn't there, a connection that doesn't exist, a
+-- line without its newline, and no line where one has to be
 unfoldable pub Stops : Type 0
 Stops =
     (stop_with (codes "app zeros\napp zeros\n") ≡ Refused 3 NoApp)

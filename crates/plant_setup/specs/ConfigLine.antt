@@ -17,7 +17,8 @@ numbered name n = name ++ codes " " ++ decimal n
 abbrev pub at_bit : List ℕ → Bit → List ℕ
 at_bit name bit = numbered name bit.link ++ codes "." ++ decimal bit.bit
 
--- what is written of a text that is no configuration; want of memory isn't written, as it ends a run with a status of its own
+-- what is written of a text that is no configuration; want of memory isn't written, as it ends a run with a status of
+-- its own
 abbrev pub conf_text : ConfFault → List ℕ
 conf_text conf.Syntax = codes "Syntax"
 conf_text conf.TooMany = codes "TooMany"

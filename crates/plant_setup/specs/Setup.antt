@@ -17,7 +17,8 @@ use Rattle.plant_setup.specs.Names.{place_of, IsTaken}
 use Rattle.plant_setup.specs.declared.fault.SetupFault.{SetupFault}
 use Rattle.plant_setup.specs.declared.fault.SetupFault.TheVariants as setup
 
--- how many bytes this end of each connection sends. The inputs of a net are what the slaves send, its outputs what the masters send
+-- how many bytes this end of each connection sends. The inputs of a net are what the slaves send, its outputs what the
+-- masters send
 abbrev pub lengths_at : End → List LinkConf → List ℕ
 lengths_at end links = map (λ link. length_of link.master.lengths end) links
 
@@ -33,7 +34,8 @@ abbrev pub bounds_fault : List ℕ → List ℕ → List BoundSpec → Option Ne
 bounds_fault ins outs [] = None
 bounds_fault ins outs (b ∷ bounds) = or_next (bound_fault ins outs b) (bounds_fault ins outs bounds)
 
--- the first fault of the net of a configuration, or else of its bounds. The net is looked at even where another application runs
+-- the first fault of the net of a configuration, or else of its bounds. The net is looked at even where another
+-- application runs
 abbrev pub bits_fault : ConfView → Option NetFault
 bits_fault conf =
     let ins = lengths_at side.Slave conf.links in
@@ -67,6 +69,7 @@ abbrev pub ChosenBy : {X : Type 0} → Bool → (X → List ℕ) → List ℕ �
 ChosenBy true name_of app all left IsNet IsOne = IsNet × (left ≡ all)
 ChosenBy {X} false name_of app all left IsNet IsOne = (one : X) × IsTaken name_of app all one left × IsOne one
 
--- what runs under this name was chosen: of all applications these are left, and it is the net, or else the first of its name
+-- what runs under this name was chosen: of all applications these are left, and it is the net, or else the first of its
+-- name
 abbrev pub IsChosen : {X : Type 0} → (X → List ℕ) → List ℕ → List X → List X → Type 0 → (X → Type 0) → Type 0
 IsChosen name_of app all left IsNet IsOne = ChosenBy (is_net app) name_of app all left IsNet IsOne

@@ -1,4 +1,5 @@
--- What the calls of images mean, newest first, slot by slot. A slot is looked at by itself: nothing of the others is in these words.
+-- What the calls of images mean, newest first, slot by slot. A slot is looked at by itself: nothing of the others is in
+-- these words.
 use Rattle.std.specs.Prelude.{ℕ, ◌==◌, nat_eq, List, [], ◌∷◌, ◌++◌, replicate, Option, Some, None, if◌then◌else◌}
 use Rattle.std.specs.Cmp.Lexicographic.{pointwise}
 use Rattle.param_load.specs.declared.entry.Move.{Move}

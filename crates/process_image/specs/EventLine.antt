@@ -1,5 +1,5 @@
--- What a line says that stands after the header of images. The causes come in their order: the word, the number of fields, a number, a
--- slot that doesn't exist, the hexadecimal bytes, a length, a position.
+-- What a line says that stands after the header of images. The causes come in their order: the word, the number of
+-- fields, a number, a slot that doesn't exist, the hexadecimal bytes, a length, a position.
 use Rattle.std.specs.Prelude.{ℕ, ◌+◌, ◌==◌, nat_le, length, List, [], ◌∷◌, codes, Option, Some, None, Result, Ok, Err, if◌then◌else◌}
 use Rattle.std.specs.Str.{bytes_eq}
 use Rattle.fsoe_base.specs.Lengths.{most_data}
@@ -47,7 +47,8 @@ cause_or cause (Err e) = e
 abbrev pub written_at : ℕ → List ℕ → ℕ → Result ImageLine LineCause
 written_at size bytes at = if nat_le (at + length bytes) size then Ok (line.Step (event.Write at bytes)) else Err cause.Position
 
--- a place with these fields behind it, which are one: from 1 to 256 bytes, which lie inside the input image from the place on
+-- a place with these fields behind it, which are one: from 1 to 256 bytes, which lie inside the input image from the
+-- place on
 abbrev pub write_behind : ℕ → List ℕ → List (List ℕ) → Result ImageLine LineCause
 write_behind size place fields = do
   digits ← one_field fields
@@ -61,8 +62,8 @@ write_line size fields = do
   place ← next_field fields
   write_behind size place.0 place.1
 
--- why a place says nothing that is written with these fields behind it, of which none is bytes: there isn't one, the place is no number, or
--- there are no bytes
+-- why a place says nothing that is written with these fields behind it, of which none is bytes: there isn't one, the
+-- place is no number, or there are no bytes
 abbrev pub not_written : List ℕ → List (List ℕ) → LineCause
 not_written place [] = cause.Fields
 not_written place (digits ∷ []) = cause_or cause.Hex (number_16 place)
@@ -88,8 +89,8 @@ hold_line ends fields = do
   end ← end_at slot ends
   Ok (line.Step (event.Hold slot failsafe))
 
--- a session id that the profile of the slot's end allows; of a slot that doesn't exist an id above 65,535 is no number, and any other
--- finds no slot
+-- a session id that the profile of the slot's end allows; of a slot that doesn't exist an id above 65,535 is no number,
+-- and any other finds no slot
 abbrev pub id_at : Option SlotEnd → ℕ → ℕ → Result ImageLine LineCause
 id_at None slot id = if nat_le id 65535 then Err cause.NoLink else Err cause.Number
 id_at (Some end) slot id = if allows_id (end.profile) id then Ok (line.Step (event.Nonce slot id)) else Err cause.Number

@@ -1,5 +1,6 @@
--- A header of images as far as it is read: its first line, its `size`, and for each slot a `slot` line and the lines that the header of a
--- node has between its first line and `go`, which are read as those of such a header. At last comes `go`.
+-- A header of images as far as it is read: its first line, its `size`, and for each slot a `slot` line and the lines
+-- that the header of a node has between its first line and `go`, which are read as those of such a header. At last
+-- comes `go`.
 use Rattle.std.specs.Prelude.{ℕ, ◌+◌, ◌==◌, ◌&&◌, not, nat_le, Bool, true, false, length, List, [], ◌∷◌, ◌++◌, codes, Result, Ok, Err, if◌then◌else◌}
 use Rattle.std.specs.List.{list_any}
 use Rattle.std.specs.Str.{bytes_eq}
@@ -22,8 +23,8 @@ use Rattle.process_image.specs.declared.header.Stage.{Stage}
 use Rattle.process_image.specs.declared.header.Stage.TheVariants as stage
 use Rattle.process_image.specs.declared.spans.Spans.{Spans}
 
--- a header after the lines that were read: the sizes of the images, the slots before the last one, and the last one; before the lines that
--- say them, the sizes and the last slot stand for nothing
+-- a header after the lines that were read: the sizes of the images, the slots before the last one, and the last one;
+-- before the lines that say them, the sizes and the last slot stand for nothing
 pub record ImageHeading : Type 0 where
   pub stage : Stage
   pub size_in : ℕ
@@ -114,8 +115,8 @@ slot_taken h fields = do
 abbrev pub fits_images : ImageHeading → SlotHeader → Bool
 fits_images h s = lie_inside h.size_in h.size_out (heading_spans s) && not (list_any (λ t. overlap (heading_spans t) (heading_spans s)) h.before)
 
--- a header with these lines of its last slot: its frames are tested at the `master` or the `slave` line, which says which length stands in
--- which image; with `go` the header is done
+-- a header with these lines of its last slot: its frames are tested at the `master` or the `slave` line, which says
+-- which length stands in which image; with `go` the header is done
 abbrev pub with_last : ImageHeading → SlotHeader → Result ImageHeading LineCause
 with_last h s =
     if is_end_line s.own.place && not (fits_images h s) then Err cause.Range
@@ -127,8 +128,8 @@ own_taken h text = do
   own ← node_heading_after h.last.own text
   with_last h (record h.last { own = own })
 
--- a header after a later line, by its first field and those after it: after the first line comes `size`, then the first `slot`, and where
--- the lines of a slot may end the next one
+-- a header after a later line, by its first field and those after it: after the first line comes `size`, then the first
+-- `slot`, and where the lines of a slot may end the next one
 abbrev pub line_taken : Stage → ImageHeading → List ℕ → List ℕ → List (List ℕ) → Result ImageHeading LineCause
 line_taken stage.Title h text first fields = if bytes_eq first (codes "size") then size_taken h fields else Err cause.Header
 line_taken stage.Size h text first fields = if bytes_eq first (codes "slot") then slot_taken h fields else Err cause.Header

@@ -1,4 +1,5 @@
--- What the moves of a slot are, said another way: which of its contents are delivered, and which samples change nothing.
+-- What the moves of a slot are, said another way: which of its contents are delivered, and which samples change
+-- nothing.
 use Rattle.std.specs.Prelude.{ℕ, ◌+◌, ◌≤◌, nat_eq, List, [], ◌∷◌, ◌++◌, length, if◌then◌else◌}
 use Rattle.std.specs.Cmp.Lexicographic.{pointwise}
 use Rattle.param_load.specs.declared.entry.Move.{Move}

@@ -69,7 +69,8 @@ pub record IsPlanOf (h : ImageHeading) (plan : Plan) : Type 0 where
   pub slots : AllZip IsSlotOf (slots_of h) plan.places
   pub numbers : AreNumbered 1 plan.places
 
--- the line of what the end of a slot did at the event of this number, with the state and the outputs after it, and the frame that it sent
+-- the line of what the end of a slot did at the event of this number, with the state and the outputs after it, and the
+-- frame that it sent
 abbrev pub entry_line : ℕ → Place → List Deed → Deed → List ℕ
 entry_line n p e x = decimal n ++ codes " " ++ decimal p.number ++ codes " " ++ entry_text x.did (state_of p.setup (x ∷ e)) (out p.setup (x ∷ e)) x.sent ++ codes "\n"
 
@@ -97,7 +98,8 @@ last_lines plan calls (Refused number why) = refused_line number why
 abbrev pub report_of : Plan → List ImageEvent → Stop → List ℕ
 report_of plan calls stop = lines_of_events plan calls ++ last_lines plan calls stop
 
--- the report of an input with this header, these events and this stop: without a whole header there is only the line that is refused
+-- the report of an input with this header, these events and this stop: without a whole header there is only the line
+-- that is refused
 abbrev pub IsImageReport : Option ImageHeading → List ImageEvent → Stop → List ℕ → Type 0
 IsImageReport None events stop text = text ≡ last_line 0 stop
 IsImageReport (Some h) events stop text = (plan : Plan) × IsPlanOf h plan × (text ≡ report_of plan (reverse events) stop)

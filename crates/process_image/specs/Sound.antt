@@ -13,7 +13,8 @@ pub record MaySend (size_out : ℕ) (seat : Seat) : Type 0 where
   pub rest : IsAtRest seat.core
   pub inside : seat.at_out + seat.len_out ≤ size_out
 
--- the end of a slot is at rest, what it saw has the length of the frames that come, and its frames lie inside images of these sizes
+-- the end of a slot is at rest, what it saw has the length of the frames that come, and its frames lie inside images of
+-- these sizes
 pub record IsSoundSeat (size_in size_out : ℕ) (seat : Seat) : Type 0 where
   pub rest : IsAtRest seat.core
   pub seen_len : length seat.seen ≡ frame_len (receives (setup_of seat.core))

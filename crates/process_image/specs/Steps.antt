@@ -9,7 +9,8 @@ use Rattle.process_image.specs.Calls.{delivery}
 use Rattle.process_image.specs.Image.{bytes_at, with_bytes}
 use Rattle.process_image.specs.declared.seat.Seat.{Seat}
 
--- a slot at a call: before it and after it, the move of it that the call is, if it is one, and then what its end did and sent
+-- a slot at a call: before it and after it, the move of it that the call is, if it is one, and then what its end did
+-- and sent
 pub record SeatStep : Type 0 where
   pub old : Seat
   pub what : Option Move
@@ -32,7 +33,8 @@ pub record IsSeatStep (x : SeatStep) : Type 0 where
   pub setup : setup_of x.new.core ≡ setup_of x.old.core
   pub rest : IsAtRest x.new.core
 
--- the output image with a frame that the end of a slot sent, in its place; where it sent none there are no bytes, and it stays
+-- the output image with a frame that the end of a slot sent, in its place; where it sent none there are no bytes, and
+-- it stays
 abbrev pub with_sent : Seat → List ℕ → List ℕ → List ℕ
 with_sent seat sent image = if length sent == seat.len_out then with_bytes seat.at_out sent image else image
 

@@ -19,7 +19,8 @@ abbrev pub Fit : ℕ → ℕ → List Spans → Type 0
 Fit size_in size_out [] = Unit {0}
 Fit size_in size_out (s ∷ later) = (lie_inside size_in size_out s ≡ true) × IsApart s later × Fit size_in size_out later
 
--- the `master` or `slave` line of a slot was read: which bytes its frames take is said by then, and no later line changes it
+-- the `master` or `slave` line of a slot was read: which bytes its frames take is said by then, and no later line
+-- changes it
 abbrev pub is_placed : Place → Bool
 is_placed place.Start = false
 is_placed place.Title = false

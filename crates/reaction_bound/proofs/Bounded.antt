@@ -1,5 +1,5 @@
--- In a world without another entry outputs are no older than twice the watchdog: one of them passes at most until the end takes what
--- its peer sent, and one until the outputs are zeros.
+-- In a world without another entry outputs are no older than twice the watchdog: one of them passes at most until the
+-- end takes what its peer sent, and one until the outputs are zeros.
 use Rattle.std.proofs.Common.{◌≡◌, ℕ, ◌+◌, ◌-◌, ◌*◌, ◌<◌, ◌≤◌, nat_lt, List, [], ◌∷◌, length, Bool, true, false, ◌&&◌, not, Option, Some, None, IfSome, IsSomeAnd, is_some, option_map, if◌then◌else◌, refl, sym, ap, ◌∙◌, subst, arith}
 use Rattle.std.proofs.lemmas.Bool.{ltb-true}
 use Rattle.fsoe_base.specs.declared.command.End.{End}

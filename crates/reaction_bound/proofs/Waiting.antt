@@ -68,8 +68,8 @@ since_next which k x w mine e h =
     ap (λ (b : Bool). if b then 0 else if same_end which x.end then ticked x.what (ticks_since which k w) else ticks_since which k w) (not-again (peer which) k x w h)
     ∙ ap (λ (b : Bool). if b then ticked x.what (ticks_since which k w) else ticks_since which k w) e
 
--- what an entry does to the item that an end awaits: it is the same one, and the end sent nothing; it is none; or it is the item that
--- its peer sends in the entry
+-- what an entry does to the item that an end awaits: it is the same one, and the end sent nothing; it is none; or it is
+-- the item that its peer sends in the entry
 pub data Next (which : End) (x : Entry) (w : List Entry) : Type 0 where
   Kept : awaited_by which (x ∷ w) ≡ awaited_by which w → (same_end which x.end ≡ true → is_empty x.sent ≡ true) → Next which x w
   Gone : awaited_by which (x ∷ w) ≡ None → Next which x w

@@ -1,5 +1,5 @@
--- The age of an end's outputs: how many ticks of the end ago its peer sent the item from which they are. Lists are newest first, and
--- the word is this profile's own.
+-- The age of an end's outputs: how many ticks of the end ago its peer sent the item from which they are. Lists are
+-- newest first, and the word is this profile's own.
 use Rattle.std.specs.Prelude.{ℕ, suc, ◌-◌, ◌^◌, min, max, ◌==◌, List, [], ◌∷◌, length, Bool, ◌&&◌, not, Option, Some, None, is_some, option_map, if◌then◌else◌}
 use Rattle.fsoe_base.specs.declared.command.End.{End}
 use Rattle.fsoe_base.specs.declared.command.Command.{Command}
@@ -27,8 +27,8 @@ abbrev pub ticks_since : End → ℕ → List Entry → ℕ
 ticks_since which number [] = 0
 ticks_since which number (x ∷ w) = if sends_item (peer which) number x w then 0 else ticked_at which x (ticks_since which number w)
 
--- the number of the item from which the outputs are by a frame that was taken n ticks ago, under the terms told then: of the item
--- awaited before, where the frame was of ProcessData, the watchdog didn't expire and the entry wasn't other
+-- the number of the item from which the outputs are by a frame that was taken n ticks ago, under the terms told then:
+-- of the item awaited before, where the frame was of ProcessData, the watchdog didn't expire and the entry wasn't other
 abbrev pub source_by : ℕ → Option Terms → Bool → Option ℕ → Command → Option ℕ
 source_by n told other before command.ProcessData = if in_time n told && not other then before else None
 source_by n told other before _ = None
@@ -42,7 +42,8 @@ source_at n told other before (Some t) earlier = source_by n told other before t
 abbrev pub source_in : ℕ → Entry → Bool → Option ℕ → Option ℕ → Option ℕ
 source_in n x other before earlier = if is_some x.did.reset then None else source_at n x.terms other before x.did.took earlier
 
--- the number of the item from which an end's outputs are, n ticks later; it is found by looking back as the outputs are (outputs_after)
+-- the number of the item from which an end's outputs are, n ticks later; it is found by looking back as the outputs are
+-- (outputs_after)
 abbrev pub source_after : End → ℕ → List Entry → Option ℕ
 source_after which n [] = None
 source_after which n (x ∷ w) =
@@ -53,7 +54,8 @@ source_after which n (x ∷ w) =
 abbrev pub source : End → List Entry → Option ℕ
 source which w = source_after which 0 w
 
--- the age of an end's outputs: its ticks since its peer sent the item from which they are; none where they are from no item
+-- the age of an end's outputs: its ticks since its peer sent the item from which they are; none where they are from no
+-- item
 abbrev pub age_of : End → List Entry → Option ℕ
 age_of which w = option_map (λ number. ticks_since which number w) (source which w)
 

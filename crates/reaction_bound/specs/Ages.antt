@@ -73,7 +73,8 @@ watchdog_in terms = option_map (λ t. t.watchdog) terms
 abbrev pub HasWatchdog : Entry → Option ℕ → Type 0
 HasWatchdog x watchdog = IfSome x.did.took (λ t. t.command ≡ command.ProcessData → watchdog ≡ watchdog_in x.terms)
 
--- an entry has these parts, by which its age is noted: those by which a monitor notes it, whether it is a tick, and the watchdog
+-- an entry has these parts, by which its age is noted: those by which a monitor notes it, whether it is a tick, and the
+-- watchdog
 pub record HasAgeParts (x : Entry) (at : End) (tick : Bool) (came : List ℕ) (did : Did) (sent : List ℕ) (watchdog : Option ℕ) : Type 0 where
   pub parts : HasParts x at came did sent
   pub tick_is : is_tick x.what ≡ tick
@@ -92,8 +93,8 @@ first_kept = record { waited = 0; standing = None; worst = None }
 abbrev pub age_in : Option Standing → Option ℕ
 age_in standing = option_map (λ s. s.age) standing
 
--- the ticks of an end since the item that it awaits was sent, after an entry before which they were n: an item that wasn't awaited
--- before the entry was sent in it
+-- the ticks of an end since the item that it awaits was sent, after an entry before which they were n: an item that
+-- wasn't awaited before the entry was sent in it
 abbrev pub waited_next : Option ℕ → Option ℕ → ℕ → ℕ
 waited_next (Some old) (Some new) n = if old == new then n else 0
 waited_next before after n = 0

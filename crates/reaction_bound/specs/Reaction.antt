@@ -1,4 +1,5 @@
--- When a reaction is broken: a drive is on though its stop is quiet for so many ticks. Lists of what was said are newest first.
+-- When a reaction is broken: a drive is on though its stop is quiet for so many ticks. Lists of what was said are
+-- newest first.
 use Rattle.std.specs.Prelude.{ℕ, suc, ◌≡◌, ◌-◌, nat_le, List, [], ◌∷◌, Bool, true, false, ◌&&◌, Option, Some, None, if◌then◌else◌}
 
 -- what is said to a reaction: whether the stop is quiet from now on, or that a tick ended with the drive on or off
@@ -17,14 +18,16 @@ abbrev pub first_of : Option ℕ → ℕ → ℕ
 first_of None n = n
 first_of (Some first) n = first
 
--- the ticks that were said before the stop was first said to be quiet without being said not to be after it; none where it isn't quiet
+-- the ticks that were said before the stop was first said to be quiet without being said not to be after it; none where
+-- it isn't quiet
 abbrev pub quiet_from : List Said → Option ℕ
 quiet_from [] = None
 quiet_from (Quiet true ∷ said) = Some (first_of (quiet_from said) (ticks said))
 quiet_from (Quiet false ∷ said) = None
 quiet_from (Tick on ∷ said) = quiet_from said
 
--- whether the tick of this number is late: the drive is on with it, and with it at least so many ticks came since the stop was quiet
+-- whether the tick of this number is late: the drive is on with it, and with it at least so many ticks came since the
+-- stop was quiet
 abbrev pub is_late : ℕ → Bool → ℕ → Option ℕ → Bool
 is_late limit on number None = false
 is_late limit on number (Some from) = on && nat_le limit (number - from)
@@ -40,7 +43,8 @@ broken_of limit [] = None
 broken_of limit (Quiet is ∷ said) = broken_of limit said
 broken_of limit (Tick on ∷ said) = first_late (broken_of limit said) (is_late limit on (suc (ticks said)) (quiet_from said)) (suc (ticks said))
 
--- what contracts see of a reaction: its limit, the ticks said, those said before the stop was quiet, and the number of the first late one
+-- what contracts see of a reaction: its limit, the ticks said, those said before the stop was quiet, and the number of
+-- the first late one
 pub record ReactionView : Type 0 where
   pub limit : ℕ
   pub ticks : ℕ

@@ -9,8 +9,8 @@ use Rattle.schedule_file.specs.declared.header_kind.HeaderKind.TheVariants as ki
 use Rattle.file_run.specs.Reporting.{BeginsReport}
 use Rattle.duo_run.specs.Replay.{ReplayReports, replay_reporting}
 
--- what was written of an input by a run that ended so, by its status: the whole report, with which the run ends so; or a first part of it,
--- whose length is the place. No other status comes
+-- what was written of an input by a run that ended so, by its status: the whole report, with which the run ends so; or
+-- a first part of it, whose length is the place. No other status comes
 abbrev pub WrittenWith : Status → Input → Ended → List ℕ → Type 0
 WrittenWith status.Ok input ended written = ReplayReports input ended written
 WrittenWith status.Other input ended written = ReplayReports input ended written

@@ -36,8 +36,8 @@ fn replay_into(text: &[u8], room: &mut Room<'_>) -> Ended
 }
 
 /// Runs both ends over the text of a pair file, as `replay` does, and writes their report to the front of `report`. The
-/// status is 0, 1 if an entry is `other`, 4 if a line is refused, or 7 if only a first part of the report fitted into the
-/// memory. `ended` has the place and the bytes of the report; those behind don't change.
+/// status is 0, 1 if an entry is `other`, 4 if a line is refused, or 7 if only a first part of the report fitted into
+/// the memory. `ended` has the place and the bytes of the report; those behind don't change.
 #[unsafe(no_mangle)]
 pub extern "C" fn gp_replay(text: &[u8], report: &mut [u8], ended: &mut GpEnded) -> u8
     ensures ended { EndedAs text.now result ended.new.place (take ended.new.len report.new) }

@@ -80,7 +80,8 @@ open_is (b ∷ text) = tt
 abbrev events_in : {H L E : Type 0} → InputFormat H L E → H → List E → Lines → List E
 events_in f h log rest = with_room (f.is_full h) log (steps f.event (map (f.line h) (texts rest)))
 
--- where the line after these events is a line, the events are those of other lines, in which the same line comes after them
+-- where the line after these events is a line, the events are those of other lines, in which the same line comes after
+-- them
 abbrev IsSame : {E : Type 0} → List E → List E → Lines → List ℕ → Type 0
 IsSame events others lines text = (others ≡ events) × (slice_get lines (length events) ≡ Some (Ok text))
 

@@ -69,7 +69,8 @@ pub new_of_other : (number : ℕ) (left : Option ℕ) (words : Lcg) → (number 
 new_of_other zero left words some is_four of_number = absurd (some refl)
 new_of_other (suc number) left words some is_four of_number = same_maker _ _ refl is_four (of_number ∙ generator_first (suc number))
 
--- the turn and the events in turn that were made, of a maker of number 0 and of one whose events in turn aren't all made
+-- the turn and the events in turn that were made, of a maker of number 0 and of one whose events in turn aren't all
+-- made
 pub record TakesTurn (old : Turn) (event : Event) (new : Turn) : Type 0 where
   pub makes : (count : ℕ) → old ≡ turn_after count → event ≡ event_in_turn (suc count)
   pub goes_on : (count : ℕ) → old ≡ turn_after count → new ≡ turn_after (suc count)

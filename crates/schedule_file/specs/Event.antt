@@ -28,8 +28,8 @@ IsWritable (event.Raw to frame) = (0 < length frame) × (length frame ≤ most_f
 IsWritable (event.Put at load) = (0 < length load) × (length load ≤ most_data)
 IsWritable other = Unit {0}
 
--- an event that ends may have which send so many safe data bytes and have these profiles: an altered place is one of that
--- direction's frame, a put has exactly as many bytes as the end sends, and the end's profile allows the session id
+-- an event that ends may have which send so many safe data bytes and have these profiles: an altered place is one of
+-- that direction's frame, a put has exactly as many bytes as the end sends, and the end's profile allows the session id
 abbrev pub Suits : (End → ℕ) → (End → Profile) → Event → Type 0
 Suits sends profiles (event.Altered to back pos mask) = pos < delivered_len sends to
 Suits sends profiles (event.Put at load) = length load ≡ sends at
@@ -40,8 +40,8 @@ Suits sends profiles other = Unit {0}
 abbrev pub Fits : (End → ℕ) → (End → Profile) → Event → Type 0
 Fits sends profiles event = IsWritable event × Suits sends profiles event
 
--- an event that the node at this end may have, which sends so many safe data bytes: it is at this end, a frame has from 1 to 255 bytes,
--- a put has exactly as many bytes as the end sends, and the profile allows the session id
+-- an event that the node at this end may have, which sends so many safe data bytes: it is at this end, a frame has from
+-- 1 to 255 bytes, a put has exactly as many bytes as the end sends, and the profile allows the session id
 abbrev pub FitsEnd : End → ℕ → Profile → Event → Type 0
 FitsEnd end count profile (event.Raw to frame) = (to ≡ end) × (0 < length frame) × (length frame ≤ most_frame)
 FitsEnd end count profile (event.Tick at) = at ≡ end

@@ -33,7 +33,8 @@ abbrev pub reference_of : List ℕ → Option ℕ
 reference_of [] = None
 reference_of (sign ∷ digits) = if sign == 45 then not_zero (number_said max_back digits) else None
 
--- the number of bytes of a frame that is delivered to an end, where the ends send so many safe data bytes: its peer sent it
+-- the number of bytes of a frame that is delivered to an end, where the ends send so many safe data bytes: its peer
+-- sent it
 abbrev pub delivered_len : (End → ℕ) → End → ℕ
 delivered_len sends side.Master = frame_len (sends side.Slave)
 delivered_len sends side.Slave = frame_len (sends side.Master)

@@ -25,7 +25,8 @@ use Rattle.schedule_file.specs.declared.place.Place.TheVariants as place
 use Rattle.schedule_file.specs.declared.place.Word.{Word}
 use Rattle.schedule_file.specs.declared.place.Word.TheVariants as word
 
--- the kind of a header, its place after the lines that were read, and what these lines say; what they don't say is as in a new one
+-- the kind of a header, its place after the lines that were read, and what these lines say; what they don't say is as
+-- in a new one
 pub record Heading : Type 0 where
   pub kind : HeaderKind
   pub place : Place
@@ -64,8 +65,8 @@ abbrev pub profile_given : Heading → Word → Result (Unit {0}) LineCause
 profile_given h word.Profile = Ok tt
 profile_given h other = if wants_profile h.place h.master h.slave then Err cause.Range else Ok tt
 
--- a `profile` line is that of the end whose line stands before it; after a master's the same may follow as after an `app`,
--- so it is the same place
+-- a `profile` line is that of the end whose line stands before it; after a master's the same may follow as after an
+-- `app`, so it is the same place
 abbrev pub profile_taken : Place → Heading → ℕ → Heading
 profile_taken place.Slave h word = record h { place = place.SlaveProfile; slave = record h.slave { profile = profile.Two word } }
 profile_taken other h word = record h { place = place.App; master = record h.master { profile = profile.Two word } }

@@ -1,5 +1,5 @@
--- What the bytes of an input say: its header, its events, and how it stops. This looks at the lines alone: first how the lines of any
--- input are read, and then those of schedules.
+-- What the bytes of an input say: its header, its events, and how it stops. This looks at the lines alone: first how
+-- the lines of any input are read, and then those of schedules.
 use Rattle.std.specs.Prelude.{ℕ, ◌+◌, ◌==◌, nat_le, length, map, List, [], ◌∷◌, ◌++◌, Bool, codes, Option, Some, None, Result, Ok, Err, if◌then◌else◌, slice_get}
 use Rattle.std.specs.List.{slice_split}
 use Rattle.std.specs.Str.{bytes_eq}
@@ -18,9 +18,8 @@ use Rattle.schedule_file.specs.declared.header_kind.HeaderKind.TheVariants.{Pair
 use Rattle.schedule_file.specs.declared.line_cause.LineCause.{LineCause}
 
 -- why an input goes no further: its next line is too long, has no newline, doesn't come, or comes after all events that
--- there may be; or the frame that the line names wasn't sent, or no application of its name is left, which a run alone finds; or the line
--- itself is refused.
--- `NoLine` is the cause that reports name `End`
+-- there may be; or the frame that the line names wasn't sent, or no application of its name is left, which a run alone
+-- finds; or the line itself is refused. `NoLine` is the cause that reports name `End`
 pub data InputCause : Type 0 where
   Long : InputCause
   NoNewline : InputCause
@@ -54,9 +53,10 @@ lines_in (text ∷ next ∷ parts) = whole_line text ∷ lines_in (next ∷ part
 abbrev pub lines_of : List ℕ → List (Result (List ℕ) InputCause)
 lines_of bytes = lines_in (slice_split (λ b. b == 10) bytes)
 
--- how the lines of an input are read, where H is what a header says, L what a line after it says, and E an event: the header of which no
--- line is read; a header after its next line, or why that line is refused; whether a header is done; what a line after it says, or why it
--- is refused; the event of a line, where a line without one is the last; and whether there may be no event after these
+-- how the lines of an input are read, where H is what a header says, L what a line after it says, and E an event: the
+-- header of which no line is read; a header after its next line, or why that line is refused; whether a header is done;
+-- what a line after it says, or why it is refused; the event of a line, where a line without one is the last; and
+-- whether there may be no event after these
 pub record InputFormat (H L E : Type 0) : Type 0 where
   pub start : H
   pub header_line : H → List ℕ → Result H LineCause
@@ -128,7 +128,8 @@ stop_at f h number full None = Refused number NoLine
 stop_at f h number full (Some (Err why)) = Refused number why
 stop_at f h number full (Some (Ok text)) = if full then stop_full number text else stop_by f.event number (f.line h text)
 
--- what an input says: its header where that is done, the number of its lines (0 where it isn't done), its events, and how it stops
+-- what an input says: its header where that is done, the number of its lines (0 where it isn't done), its events, and
+-- how it stops
 pub record InputOf (H E : Type 0) : Type 0 where
   pub heading : Option H
   pub lines : ℕ

@@ -39,8 +39,8 @@ made_master = record {
   allowed = refl;
 }
 
--- the slave has address 2, at most 100 ticks without a frame in a handshake, watchdogs up to 1000, no application parameters and
--- session id 2
+-- the slave has address 2, at most 100 ticks without a frame in a handshake, watchdogs up to 1000, no application
+-- parameters and session id 2
 abbrev pub made_slave : SlaveSettings
 made_slave = record {
   lengths = made_lengths;
@@ -114,16 +114,16 @@ event_by rest word =
 abbrev pub event_of_word : ℕ → Event
 event_of_word word = event_by (word % 64) word
 
--- the event at a place, from 1, where all is in turn: a tick of the master, and then the peer's last frame comes to the slave and to
--- the master in turn
+-- the event at a place, from 1, where all is in turn: a tick of the master, and then the peer's last frame comes to the
+-- slave and to the master in turn
 abbrev pub event_in_turn : ℕ → Event
 event_in_turn place =
     if place == 1 then event.Tick side.Master
     else if place % 2 == 0 then event.Deliver side.Slave 1
     else event.Deliver side.Master 1
 
--- the event of a number at a place, from 1: of each number the first four are in turn, and of number 0 all; each later event is that of
--- the generator's next word
+-- the event of a number at a place, from 1: of each number the first four are in turn, and of number 0 all; each later
+-- event is that of the generator's next word
 abbrev pub event_at : ℕ → ℕ → Event
 event_at number place = if nat_le place 4 || number == 0 then event_in_turn place else event_of_word (word_after number (place - 5))
 

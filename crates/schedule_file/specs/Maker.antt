@@ -6,8 +6,8 @@ use Rattle.schedule_file.specs.declared.event.Event.{Event}
 use Rattle.schedule_file.specs.declared.maker.Turn.{Turn}
 use Rattle.schedule_file.specs.declared.maker.Turn.TheVariants as turn
 
--- what contracts see of a maker: the next event in turn, how many events are in turn before those by words, None where all are, and
--- the generator
+-- what contracts see of a maker: the next event in turn, how many events are in turn before those by words, None where
+-- all are, and the generator
 pub record MakerView : Type 0 where
   pub turn : Turn
   pub left : Option ℕ

@@ -1,5 +1,5 @@
--- The header of a node within a longer input, where those of many nodes follow each other: it begins at `lengths`, and the line after that
--- says of which end it is.
+-- The header of a node within a longer input, where those of many nodes follow each other: it begins at `lengths`, and
+-- the line after that says of which end it is.
 use Rattle.std.specs.Prelude.{ℕ, Bool, true, false, List, ◌∷◌, Option, Some, Result}
 use Rattle.fsoe_base.specs.declared.command.End.TheVariants as side
 use Rattle.schedule_file.specs.Field.{fields_of}

@@ -1,5 +1,6 @@
--- What a line says that stands after the header of several pairs: `t`, a tick of all pairs; `end`; or the number of a pair, from 1, and an
--- event of this pair. The causes come in their order over the whole line, so those of the event that come before that of its pair count.
+-- What a line says that stands after the header of several pairs: `t`, a tick of all pairs; `end`; or the number of a
+-- pair, from 1, and an event of this pair. The causes come in their order over the whole line, so those of the event
+-- that come before that of its pair count.
 use Rattle.std.specs.Prelude.{ℕ, zero, suc, nat_lt, nat_le, ◌&&◌, ◌++◌, length, decimal, List, [], ◌∷◌, Bool, codes, Option, Some, None, Result, Ok, Err, slice_get, if◌then◌else◌}
 use Rattle.std.specs.Str.{bytes_eq, all_ascii_digits}
 use Rattle.fsoe_base.specs.declared.command.End.{End}
@@ -37,7 +38,8 @@ abbrev pub refused_for : LineCause → Result ScheduleLine LineCause → LineCau
 refused_for found (Ok said) = found
 refused_for found (Err other) = first_cause found other
 
--- what a word says with its fields to a pair that isn't there: what ends in profile One may have, which send one byte each
+-- what a word says with its fields to a pair that isn't there: what ends in profile One may have, which send one byte
+-- each
 abbrev pub unlinked : PairWord → List (List ℕ) → Result ScheduleLine LineCause
 unlinked word fields = event_said (λ end. 1) (λ end. profile.One) word fields
 

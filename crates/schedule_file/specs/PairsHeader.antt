@@ -1,5 +1,6 @@
--- A header of several pairs as far as it is read: its first line, and for each pair a `pair` line and the lines that the header of one
--- pair has between its first line and `go`, which are read as those of such a header. At last comes `go`.
+-- A header of several pairs as far as it is read: its first line, and for each pair a `pair` line and the lines that
+-- the header of one pair has between its first line and `go`, which are read as those of such a header. At last comes
+-- `go`.
 use Rattle.std.specs.Prelude.{◌≡◌, ℕ, ◌+◌, ◌==◌, ◌&&◌, nat_le, Bool, true, false, length, List, [], ◌∷◌, ◌++◌, codes, Result, Ok, Err, if◌then◌else◌}
 use Rattle.std.specs.Str.{bytes_eq}
 use Rattle.schedule_file.specs.Field.{fields_of}
@@ -14,8 +15,8 @@ use Rattle.schedule_file.specs.declared.pairs_header.PairsStage.{PairsStage}
 use Rattle.schedule_file.specs.declared.pairs_header.PairsStage.TheVariants as stage
 use Rattle.schedule_file.specs.declared.place.Place.TheVariants as place
 
--- a header after the lines that were read: the pairs before the last one, and the last one; before the first `pair` line it stands for
--- nothing
+-- a header after the lines that were read: the pairs before the last one, and the last one; before the first `pair`
+-- line it stands for nothing
 pub record PairsHeading : Type 0 where
   pub stage : PairsStage
   pub before : List Heading
@@ -70,8 +71,8 @@ last_taken h text = do
   last ← heading_after h.last text
   Ok (record h { stage = stage_after last; last = last })
 
--- a header after a later line, by its first field and those after it: after the first line comes the first `pair`, and where the lines of
--- a pair may end, the next one or `go`
+-- a header after a later line, by its first field and those after it: after the first line comes the first `pair`, and
+-- where the lines of a pair may end, the next one or `go`
 abbrev pub pairs_line_taken : PairsStage → PairsHeading → List ℕ → List ℕ → List (List ℕ) → Result PairsHeading LineCause
 pairs_line_taken stage.Title h text first fields = if bytes_eq first (codes "pair") then pair_taken h fields else Err cause.Header
 pairs_line_taken stage.Pairs h text first fields = if bytes_eq first (codes "pair") && may_end h.last then pair_taken h fields else last_taken h text

@@ -35,8 +35,8 @@ abbrev pub is_last : Place → Bool
 is_last place.Done = true
 is_last other = false
 
--- a line with this word may come next in a header of this kind: `lengths` comes after the title, then the lines of the master, where
--- the header has one, those of the slave, where it has one, and `go`
+-- a line with this word may come next in a header of this kind: `lengths` comes after the title, then the lines of the
+-- master, where the header has one, those of the slave, where it has one, and `go`
 abbrev pub may_stand : HeaderKind → Place → Word → Bool
 may_stand kind place.Title word.Lengths = true
 may_stand kind place.Lengths word.Master = has_end kind side.Master

@@ -43,7 +43,8 @@ loads_apart last conn n cmd i (d ∷ b ∷ load) (d' ∷ b' ∷ load') same h h'
     here differ = omega (arith, pair_apart (common last conn n cmd) i d b d' b' (h 0) (h 1) (h' 0) (h' 1) differ)
 loads_apart last conn n cmd i load load' same h h' other = absurd (omega arith)
 
--- the CRCs of a second frame that fits are those under the number of the first, where the second step comes for both or for neither
+-- the CRCs of a second frame that fits are those under the number of the first, where the second step comes for both or
+-- for neither
 fitting_alike : (last : ℕ) (before : Option Link) (f g : Frame) → SteppedAlike last before f g → IsTrue (fits last before g) → g.crcs ≡ crcs last g.conn (number_of last before f.conn f.cmd f.load) g.cmd g.load
 fitting_alike last before f g steps also = fitting last before g also ∙ ap (λ again. crcs last g.conn (stepped (following before) again) g.cmd g.load) (sym steps)
 

@@ -19,7 +19,8 @@ refused false h = refl
 pub fitting : (last : ℕ) (before : Option Link) (f : Frame) → IsTrue (fits last before f) → f.crcs ≡ crcs last f.conn (number_of last before f.conn f.cmd f.load) f.cmd f.load
 fitting last before f h = (bytes_decides f.crcs (crcs last f.conn (number_of last before f.conn f.cmd f.load) f.cmd f.load)).0 h
 
--- two frames with the same CRCs that both fit, where the second step comes for both or for neither: their CRCs are those under one number
+-- two frames with the same CRCs that both fit, where the second step comes for both or for neither: their CRCs are
+-- those under one number
 alike : (last conn conn' cmd cmd' : ℕ) (before : Option Link) (load load' fields : List ℕ)
     → IsTrue (fits last before (record { cmd = cmd; load = load; crcs = fields; conn = conn }))
     → IsTrue (fits last before (record { cmd = cmd'; load = load'; crcs = fields; conn = conn' }))

@@ -1,5 +1,5 @@
--- Two frames that both fit after the same frames, and differ in the data of their one group alone: the number of one is stepped once
--- more, that of the other isn't.
+-- Two frames that both fit after the same frames, and differ in the data of their one group alone: the number of one is
+-- stepped once more, that of the other isn't.
 use Rattle.std.specs.Prelude.{[], ◌∷◌, Option, Some}
 use Rattle.seq_chain.specs.declared.link.Link.{Link}
 use Rattle.fsoe_frame.specs.Parts.{Frame}

@@ -44,6 +44,7 @@ tested chain frame = if fits_next chain frame then Some (link_of chain frame) el
 abbrev pub after_taken : Chain → Frame → Chain
 after_taken chain frame = record chain { taken = Some (link_of chain frame) }
 
--- the same chain as the peer has it, where each end took all that the other sent: what one end noted as sent, the other noted as taken
+-- the same chain as the peer has it, where each end took all that the other sent: what one end noted as sent, the other
+-- noted as taken
 abbrev pub turned : Chain → Chain
 turned chain = record { own = chain.taken; taken = chain.own }

@@ -4,7 +4,8 @@ use Rattle.fsoe_crc.specs.Remainder.{rem}
 use Rattle.fsoe_base.specs.Bytes.{low_high}
 use Rattle.fsoe_frame.specs.Layout.{groups}
 
--- what all groups of a frame cover first: the CRC_0 that the sender took last, the connection id, the number and the command byte
+-- what all groups of a frame cover first: the CRC_0 that the sender took last, the connection id, the number and the
+-- command byte
 abbrev pub common : ℕ → ℕ → ℕ → ℕ → List ℕ
 common last conn number cmd = low_high last ++ low_high conn ++ low_high number ++ cmd ∷ []
 

@@ -1,5 +1,5 @@
--- The sequence numbers of one direction, and what is noted of its last frame. Numbers, their steps and their start values are
--- this profile's own.
+-- The sequence numbers of one direction, and what is noted of its last frame. Numbers, their steps and their start
+-- values are this profile's own.
 use Rattle.std.specs.Prelude.{ℕ, ◌+◌, ◌==◌, List, Bool, false, Option, Some, None, if◌then◌else◌}
 use Rattle.seq_chain.specs.declared.link.Link.{Link}
 use Rattle.seq_chain.specs.Cover.{crc_0}
@@ -27,7 +27,8 @@ crc_noted (Some link) = Some link.crc
 abbrev pub stepped : ℕ → Bool → ℕ
 stepped n same = if same then next n else n
 
--- whether a frame has the CRC_0 of the one before it, by its CRC_0 under each number, if its number is the one that follows
+-- whether a frame has the CRC_0 of the one before it, by its CRC_0 under each number, if its number is the one that
+-- follows
 abbrev pub repeats_crc : (ℕ → ℕ) → Option Link → Bool
 repeats_crc crc_under None = false
 repeats_crc crc_under (Some link) = crc_under (next link.number) == link.crc
@@ -36,6 +37,7 @@ repeats_crc crc_under (Some link) = crc_under (next link.number) == link.crc
 abbrev pub number : (ℕ → ℕ) → Option Link → ℕ
 number crc_under before = stepped (following before) (repeats_crc crc_under before)
 
--- the number of a frame with this connection id, command byte and load, whose sender took a frame with the CRC_0 `last` last
+-- the number of a frame with this connection id, command byte and load, whose sender took a frame with the CRC_0 `last`
+-- last
 abbrev pub number_of : ℕ → Option Link → ℕ → ℕ → List ℕ → ℕ
 number_of last before conn cmd load = number (λ n. crc_0 last conn n cmd load) before

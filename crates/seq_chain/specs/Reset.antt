@@ -1,5 +1,5 @@
--- Reset frames, which stand outside of the chain. The command and the codes are those of the public standard; connection id,
--- number and padding are this profile's own.
+-- Reset frames, which stand outside of the chain. The command and the codes are those of the public standard;
+-- connection id, number and padding are this profile's own.
 use Rattle.std.specs.Prelude.{ℕ, zero, suc, List, [], ◌∷◌, ◌==◌, Bool, not, drop, Result, Ok, Err, nat_eq, replicate, if◌then◌else◌}
 use Rattle.std.specs.Cmp.Lexicographic.{pointwise}
 use Rattle.fsoe_base.specs.declared.command.Code.{Code}

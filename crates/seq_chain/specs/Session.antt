@@ -38,8 +38,8 @@ abbrev pub is_repeat : Option (List ℕ) → List ℕ → Bool
 is_repeat None bytes = false
 is_repeat (Some last) bytes = pointwise nat_eq last bytes
 
--- the code of the first of these tests of a session that a frame fails: whether its command is allowed, its connection id is
--- right, and its CRCs fit
+-- the code of the first of these tests of a session that a frame fails: whether its command is allowed, its connection
+-- id is right, and its CRCs fit
 abbrev pub session_fault : Bool → Bool → Bool → Option Code
 session_fault is_allowed has_conn_id does_fit =
     if not is_allowed then Some command_not_allowed
@@ -47,8 +47,8 @@ session_fault is_allowed has_conn_id does_fit =
     else if not does_fit then Some wrong_crc
     else None
 
--- a frame came to an end with this chain whose peer sends l safe data bytes: it has as many, and it passed the test of its CRCs,
--- which gave this link
+-- a frame came to an end with this chain whose peer sends l safe data bytes: it has as many, and it passed the test of
+-- its CRCs, which gave this link
 pub record HasPassed (l : ℕ) (chain : Chain) (f : SessionFrameView) (link : Link) : Type 0 where
   pub len_is : length f.frame.load ≡ l
   pub tested_is : tested chain f.frame ≡ Some link

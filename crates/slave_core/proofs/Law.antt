@@ -1,4 +1,5 @@
--- The law: a slave that is after some deeds is, after an event, after these and the next one, and answers as that one does.
+-- The law: a slave that is after some deeds is, after an event, after these and the next one, and answers as that one
+-- does.
 use Rattle.std.proofs.Common.{◌≡◌, ◌≢◌, ℕ, List, [], ◌∷◌, Bool, Option, refl, sym, ap, subst, ◌∙◌}
 use Rattle.fsoe_base.specs.declared.command.State.{State}
 use Rattle.fsoe_base.specs.declared.command.State.TheVariants as state

@@ -89,7 +89,8 @@ has_conn (now.Data s) cmd field = field == s.terms.conn
 abbrev pub fault : Now → SessionFrameView → Option Code
 fault now f = session_fault (allows now f.command) (has_conn now f.command f.frame.conn) (fits_next (chain_of now) f.frame)
 
--- the ticks after which a session expires: those of a handshake, and the downloaded watchdog once the parameters are whole
+-- the ticks after which a session expires: those of a handshake, and the downloaded watchdog once the parameters are
+-- whole
 abbrev pub limit_of : SlaveSettings → Now → ℕ
 limit_of settings (now.Reset s) = settings.hand
 limit_of settings (now.Session s) = settings.hand

@@ -40,7 +40,8 @@ abbrev pub or_reset : {S X : Type 0} → Result X Code → S → Result S (InRes
 or_reset (Ok passed) s = Ok s
 or_reset (Err found) s = Err (no_session, found)
 
--- the load of the answer to a Session frame: the piece of the slave's own session id that has the number of the frame, and zeros
+-- the load of the answer to a Session frame: the piece of the slave's own session id that has the number of the frame,
+-- and zeros
 abbrev pub session_load : KitView → InSession → List ℕ
 session_load kit s = padded (piece_from (session_payload s.id kit.settings.profile) (length s.upload.joined) (piece_len (OfSlave kit.settings))) (sends (OfSlave kit.settings))
 

@@ -31,7 +31,8 @@ reply kit (now.Connection s) f = if is_whole s.upload then parameter_reply kit (
 reply kit (now.Parameter s) f = if is_whole s.upload then data_reply kit (running kit s) f else parameter_reply kit s f
 reply kit (now.Data s) f = data_reply kit s f
 
--- a state went on in its place by a frame that passed the tests: it is the next one and its answer is written, or it is only left
+-- a state went on in its place by a frame that passed the tests: it is the next one and its answer is written, or it is
+-- only left
 pub record Advances (kit : KitView) (old : Now) (f : SessionFrameView) (r : Result (Unit {0}) Code) (new : Now) (written : List ℕ) : Type 0 where
   pub next : or_reset r new ≡ next_state kit old f
   pub sent : OnOk r (written ≡ reply kit old f)

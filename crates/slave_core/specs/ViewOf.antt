@@ -37,7 +37,8 @@ pub record Notes : Type 0 where
   pub terms : Terms
   pub outputs : List ℕ
 
--- the notes after these deeds: the chain, the frame taken last, both ids, the joined bytes of each phase, the terms and the outputs
+-- the notes after these deeds: the chain, the frame taken last, both ids, the joined bytes of each phase, the terms and
+-- the outputs
 abbrev pub notes_of : SlaveSettings → List Deed → Notes
 notes_of ss e = record {
   chain = record { own = own_link (OfSlave ss) (since e); taken = taken_link (OfSlave ss) (since e) };

@@ -149,8 +149,8 @@ impl Now {
         *self = state(next);
     }
 
-    // A function clears the room of all its locals where it begins, so that each change of phase, which moves states, has one
-    // of its own. What a transition refuses leaves state Reset.
+    // A function clears the room of all its locals where it begins, so that each change of phase, which moves states,
+    // has one of its own. What a transition refuses leaves state Reset.
 
     /// Begins state Session in place of Reset, by `InReset::start`.
     #[inline(never)]

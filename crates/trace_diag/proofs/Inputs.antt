@@ -1,4 +1,5 @@
--- Inputs with traces: a header that is done has valid lengths, frames are from 1 to 255 bytes, and each input has a report.
+-- Inputs with traces: a header that is done has valid lengths, frames are from 1 to 255 bytes, and each input has a
+-- report.
 use Rattle.std.proofs.Common.{◌≡◌, ◌<◌, ◌≤◌, ◌+◌, ◌-◌, ◌^◌, ◌&&◌, nat_lt, nat_le, ℕ, List, [], ◌∷◌, ◌++◌, length, map, reverse, Bool, true, false, Option, Some, None, IfSome, Result, Ok, Err, IsTrue, refl, sym, ap, subst, ◌∙◌, arith, if◌then◌else◌}
 use Rattle.std.proofs.lemmas.Bool.{leb-true, ltb-true}
 use Rattle.std.proofs.lemmas.List.{append-nil, length-reverse, reverse-append}

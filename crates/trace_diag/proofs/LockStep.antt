@@ -1,5 +1,5 @@
--- The world over the schedule of a trace: one frame for each of the trace, each from the end whose turn it is, and after them the last is on
--- its way.
+-- The world over the schedule of a trace: one frame for each of the trace, each from the end whose turn it is, and
+-- after them the last is on its way.
 use Rattle.std.proofs.Common.{◌≡◌, ℕ, suc, ◌-◌, ◌<◌, nat_le, List, [], ◌∷◌, length, replicate, Bool, true, Option, Some, refl, sym, ap, subst, ◌∙◌, arith, if◌then◌else◌}
 use Rattle.std.proofs.lemmas.Bool.Decides.{nat_tests}
 use Rattle.std.proofs.lemmas.List.{length-append, length-replicate}

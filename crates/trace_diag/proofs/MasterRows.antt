@@ -35,7 +35,8 @@ IsPlaced ms command.Connection a b d place = place ≡ b * width ms
 IsPlaced ms command.Parameter a b d place = place ≡ d * width ms
 IsPlaced ms _ a b d place = Unit {0}
 
--- what is known before a frame of the master with this command, where so many pieces of the three payloads came before it
+-- what is known before a frame of the master with this command, where so many pieces of the three payloads came before
+-- it
 pub record IsDue (ms : MasterSettings) (k : Before) (c : Command) (a b d : ℕ) : Type 0 where
   pub due : k.due ≡ phase_of c
   pub place : IsPlaced ms c a b d k.place

@@ -1,5 +1,5 @@
--- No row of the table applies to a frame exactly where its end has its turn, its length is right, its command is one of the phase, its connection
--- id holds, no data byte is wrong, and its CRCs are those that are due.
+-- No row of the table applies to a frame exactly where its end has its turn, its length is right, its command is one of
+-- the phase, its connection id holds, no data byte is wrong, and its CRCs are those that are due.
 use Rattle.std.proofs.Common.{◌≡◌, ◌==◌, ℕ, List, length, Bool, true, false, not, Option, Some, None, refl, sym, ap, ◌∙◌, if◌then◌else◌}
 use Rattle.std.proofs.lemmas.Bool.{eqb-true, eq-eqb}
 use Rattle.fsoe_base.specs.declared.command.End.{End}

@@ -1,4 +1,5 @@
--- The bytes of the payloads of a trace: they are bytes, each frame of a phase brings as many as a piece has, and what came stays at the beginning.
+-- The bytes of the payloads of a trace: they are bytes, each frame of a phase brings as many as a piece has, and what
+-- came stays at the beginning.
 use Rattle.std.proofs.Common.{◌≡◌, ◌&&◌, ℕ, zero, suc, ◌<◌, ◌≤◌, List, [], ◌∷◌, ◌++◌, length, take, Bool, true, false, Option, Some, None, IsTrue, refl, sym, ap, subst, ◌∙◌, arith, ◌⊎◌, inl, inr, if◌then◌else◌}
 use Rattle.std.proofs.lemmas.Bool.{eqb-true}
 use Rattle.std.proofs.lemmas.List.{append-nil, append_assoc, get_or-take, get_or_append_left, get_or_past, length-append, length-take}

@@ -1,5 +1,5 @@
--- A frame to which no row on its data bytes applies carries the piece of a payload, where the bytes that its end's frames carried so far,
--- and its own, are those of the payload; and which bytes are those of the payloads of settings.
+-- A frame to which no row on its data bytes applies carries the piece of a payload, where the bytes that its end's
+-- frames carried so far, and its own, are those of the payload; and which bytes are those of the payloads of settings.
 use Rattle.std.proofs.Common.{◌≡◌, ℕ, zero, suc, ◌+◌, ◌-◌, ◌*◌, ◌==◌, ◌<◌, ◌≤◌, List, [], ◌∷◌, ◌++◌, length, take, Bool, true, None, sym, ap, ◌∙◌, arith, ◌⊎◌, inl, inr, if◌then◌else◌}
 use Rattle.std.proofs.lemmas.Bool.{eqb-true, le-ltb}
 use Rattle.std.proofs.lemmas.List.{ext_get_or, get_or-take, get_or_past, append_cancel_left}

@@ -1,4 +1,5 @@
--- The payloads of the settings that are read off bytes to which no row applies begin with these bytes, and have zeros after them.
+-- The payloads of the settings that are read off bytes to which no row applies begin with these bytes, and have zeros
+-- after them.
 use Rattle.std.proofs.Common.{◌≡◌, ℕ, zero, suc, ◌+◌, ◌-◌, ◌*◌, ◌/◌, ◌%◌, ◌==◌, ◌<◌, ◌≤◌, nat_lt, List, length, take, drop, Bool, true, false, ◌||◌, refl, sym, ap, ap₂, ◌∙◌, arith, ◌⊎◌, inl, inr, if◌then◌else◌}
 use Rattle.std.proofs.lemmas.Bool.{eqb-true, lt-ltb, le-ltb}
 use Rattle.std.proofs.lemmas.List.{get_or-take, get_or-drop, get_or_past, length-take}

@@ -1,5 +1,5 @@
--- What follows where no row of the table applies: a Reset frame has the code 0, and a frame of the master carries what it does in its turn, where
--- its bytes are those of the payloads.
+-- What follows where no row of the table applies: a Reset frame has the code 0, and a frame of the master carries what
+-- it does in its turn, where its bytes are those of the payloads.
 use Rattle.std.proofs.Common.{◌≡◌, ℕ, suc, ◌+◌, ◌*◌, ◌==◌, nat_lt, List, [], ◌∷◌, ◌++◌, length, take, replicate, Bool, true, false, None, refl, sym, ap, ap₂, subst, ◌∙◌, if◌then◌else◌}
 use Rattle.std.proofs.lemmas.Bool.{eqb-true, eq-eqb}
 use Rattle.std.proofs.lemmas.List.{length-replicate}
@@ -78,8 +78,8 @@ reset_back c k which f due r = record {
     holds : ℕ → ℕ → Bool
     holds = piece_holds c (payload_holds state.Reset f.conn (k.parameters ++ take c f.load)) k.place
 
--- the bytes of a frame with this command are those of settings: with it so many pieces and one more have come of its payload, and a guarded
--- frame has the connection id
+-- the bytes of a frame with this command are those of settings: with it so many pieces and one more have come of its
+-- payload, and a guarded frame has the connection id
 abbrev pub ComesNext : List ℕ → ℕ → ℕ → List ℕ → Type 0
 ComesNext p c n load = front p c n ++ take c load ≡ front p c (suc n)
 

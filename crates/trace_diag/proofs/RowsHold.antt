@@ -81,8 +81,8 @@ abbrev pub newest_phase : List Noted → State
 newest_phase [] = state.Reset
 newest_phase (y ∷ t) = phase_of_frame y.frame
 
--- how many bytes of both session ids came: the same before a frame of the master, and before an answer the slave's as many as the master's before its
--- newest frame
+-- how many bytes of both session ids came: the same before a frame of the master, and before an answer the slave's as
+-- many as the master's before its newest frame
 abbrev pub Even : Lengths → List Noted → End → Type 0
 Even lengths t end_name.Master = length (payload_from lengths end_name.Slave state.Session t) ≡ length (payload_from lengths end_name.Master state.Session t)
 Even lengths t end_name.Slave =

@@ -57,7 +57,8 @@ pub record IsOn (ms : MasterSettings) (r : Partner ms) (w : List Entry) (next : 
   pub is_world : IsWorld ms (partner ms r) w
   pub stage : AtStage ms r w next
 
--- events lead from there to the next stage, each with its entry: this end takes the frame that is on its way, and sends its answer
+-- events lead from there to the next stage, each with its entry: this end takes the frame that is on its way, and sends
+-- its answer
 pub record Reaches (ms : MasterSettings) (r : Partner ms) (events : List Event) (w : List Entry) (at : End) : Type 0 where
   -- the entries before the delivery, and its own
   pub set : List Entry

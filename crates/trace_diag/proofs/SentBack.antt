@@ -1,4 +1,5 @@
--- A frame to which no row of the table applies is the one that is sent next by ends with the settings that are read off.
+-- A frame to which no row of the table applies is the one that is sent next by ends with the settings that are read
+-- off.
 use Rattle.std.proofs.Common.{◌≡◌, ℕ, zero, suc, ◌+◌, ◌*◌, ◌<◌, ◌≤◌, ◌/◌, List, ◌∷◌, ◌++◌, length, take, drop, replicate, Bool, true, false, Option, Some, None, IsTrue, refl, sym, ap, ap₂, subst, ◌∙◌, arith, inl, inr, if◌then◌else◌}
 use Rattle.std.proofs.lemmas.Bool.{cases_eq, eqb-true}
 use Rattle.std.proofs.lemmas.Bool.Decides.{nat_tests}

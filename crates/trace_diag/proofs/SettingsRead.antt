@@ -1,5 +1,5 @@
--- The settings that are read off a trace to which no row of the table applies: there are such settings, and the bytes of its payloads are
--- theirs.
+-- The settings that are read off a trace to which no row of the table applies: there are such settings, and the bytes
+-- of its payloads are theirs.
 use Rattle.std.proofs.Common.{◌≡◌, ℕ, ◌+◌, ◌*◌, ◌<◌, ◌≤◌, nat_lt, nat_le, List, length, Bool, true, false, Option, Some, None, unwrap_or, refl, sym, ap, ap₂, subst, arith, ◌⊎◌, inl, inr, if◌then◌else◌}
 use Rattle.std.proofs.lemmas.Bool.{eq-eqb, le-leb, leb-true, lt-ltb, le-ltb, ltb-true}
 use Rattle.fsoe_base.specs.declared.command.End.TheVariants as end_name

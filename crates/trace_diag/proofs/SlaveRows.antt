@@ -37,7 +37,8 @@ Repeats ms command.Connection b d q = q ≡ padded (piece (connection_payload ms
 Repeats ms command.Parameter b d q = q ≡ padded (piece (parameter_payload ms.watchdog ms.profile ms.app) (width ms) d) (width ms)
 Repeats ms _ b d q = Unit {0}
 
--- what is known before a slave's answer with this command to the frame that brought the last of so many pieces; a session id has some
+-- what is known before a slave's answer with this command to the frame that brought the last of so many pieces; a
+-- session id has some
 pub record IsDueBack (ms : MasterSettings) (k : Before) (c : Command) (a b d : ℕ) : Type 0 where
   pub due : k.due ≡ phase_of c
   pub before : ℕ

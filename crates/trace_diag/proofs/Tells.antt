@@ -1,4 +1,5 @@
--- What a trace tells of the sessions of both ends, where it is what they sent: their chains, and how far each payload of the master came.
+-- What a trace tells of the sessions of both ends, where it is what they sent: their chains, and how far each payload
+-- of the master came.
 use Rattle.std.proofs.Common.{◌≡◌, ℕ, suc, ◌-◌, ◌*◌, List, [], ◌∷◌, ◌++◌, length, take, drop, zero, Bool, true, false, Option, Some, None, refl, sym, ap, ap₂, subst, ◌∙◌, arith, if◌then◌else◌}
 use Rattle.std.specs.Option.{option_or}
 use Rattle.fsoe_base.specs.LengthsOf.{length_of}
@@ -52,7 +53,8 @@ RepeatsIn ms state.Connection b d q = q ≡ padded (piece (connection_payload ms
 RepeatsIn ms state.Parameter b d q = q ≡ padded (piece (parameter_payload ms.watchdog ms.profile ms.app) (width ms) d) (width ms)
 RepeatsIn ms _ b d q = Unit {0}
 
--- where the newest frame is the master's, which sent these frames in its session: where its piece stands, and what it is
+-- where the newest frame is the master's, which sent these frames in its session: where its piece stands, and what it
+-- is
 pub record TellsNewest (ms : MasterSettings) (t : List Noted) (frames : List (List ℕ)) : Type 0 where
   pub place : phase_sent frames ≡ state.Session → length (payload_from ms.lengths end_name.Master state.Session (drop 1 t)) ≡ (count_in state.Session frames - 1) * width ms
   pub repeats : RepeatsIn ms (phase_sent frames) (count_in state.Connection frames) (count_in state.Parameter frames) (newest_piece ms.lengths t)

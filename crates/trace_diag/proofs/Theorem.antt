@@ -1,5 +1,5 @@
--- The table finds what the definition of a conforming trace says: no row applies to a trace exactly where it conforms, and the first frame to
--- which one applies is the first with which the trace doesn't conform.
+-- The table finds what the definition of a conforming trace says: no row applies to a trace exactly where it conforms,
+-- and the first frame to which one applies is the first with which the trace doesn't conform.
 use Rattle.std.proofs.Common.{◌≡◌, ◌&&◌, ◌+◌, ◌≤◌, ℕ, List, [], ◌∷◌, length, Bool, true, Option, Some, None, IsTrue, refl, sym, ap, ap₂, subst, ◌∙◌, arith}
 use Rattle.std.proofs.lemmas.Bool.{eq-eqb, leb-true}
 use Rattle.std.proofs.lemmas.List.{append-nil}

@@ -1,4 +1,5 @@
--- The walk along a trace: after each of its frames the world over the schedule stands at a stage of which the trace tells.
+-- The walk along a trace: after each of its frames the world over the schedule stands at a stage of which the trace
+-- tells.
 use Rattle.std.proofs.Common.{◌≡◌, ℕ, List, [], ◌∷◌, length, false, true, refl, sym, ap, subst, ◌∙◌}
 use Rattle.fsoe_base.specs.LengthsOf.{length_of}
 use Rattle.fsoe_base.specs.declared.command.Command.TheVariants as command
@@ -39,7 +40,8 @@ pub record At (ms : MasterSettings) (r : Partner ms) (t : List Noted) : Type 0 w
   pub nonces : LeaveNonces (world_of ms r t)
   pub tells : Tells ms t (turn t) (both ms r (world_of ms r t))
 
--- the frame that the world sends next, where the next one of the trace is this, and that it stands there too if that is the frame
+-- the frame that the world sends next, where the next one of the trace is this, and that it stands there too if that is
+-- the frame
 pub record More (ms : MasterSettings) (r : Partner ms) (x : Noted) (t : List Noted) : Type 0 where
   pub steps : Steps ms r x t
   pub next : NextFrame ms t steps.answers.reaches.entry.sent (taken (since (deeds end_name.Slave (steps.answers.reaches.entry ∷ steps.answers.reaches.set)))) (turn t)

@@ -1,5 +1,6 @@
--- What is kept of the frames before one. The rows of the table need it: whose turn it is, in which phase, where the piece stands in its payload,
--- the connection id, the numbers among the parameters, the piece that an answer repeats, and the chain. And the settings are told by it.
+-- What is kept of the frames before one. The rows of the table need it: whose turn it is, in which phase, where the
+-- piece stands in its payload, the connection id, the numbers among the parameters, the piece that an answer repeats,
+-- and the chain. And the settings are told by it.
 use Rattle.std.specs.Prelude.{ℕ, List, [], ◌∷◌, length, take, drop, Option, if◌then◌else◌}
 use Rattle.fsoe_base.specs.declared.command.Command.TheVariants as command
 use Rattle.fsoe_base.specs.declared.command.End.{End}
@@ -24,8 +25,8 @@ next_phase state.Connection = state.Parameter
 next_phase state.Parameter = state.Data
 next_phase state.Data = state.Data
 
--- the phase of the master's frame after an answer in this phase, whose payload is as far as this: until the payload is whole a phase is
--- followed by itself. A Reset frame has no payload
+-- the phase of the master's frame after an answer in this phase, whose payload is as far as this: until the payload is
+-- whole a phase is followed by itself. A Reset frame has no payload
 abbrev pub goes_on : State → List ℕ → State
 goes_on state.Reset u = state.Session
 goes_on now u = if whole profile.One now u then next_phase now else now
@@ -40,8 +41,8 @@ abbrev pub phase_due : Lengths → List Noted → State
 phase_due lengths [] = state.Reset
 phase_due lengths (x ∷ t) = phase_from lengths (x ∷ t) (turn (x ∷ t)) (phase_of_frame x.frame)
 
--- where the piece of the next frame stands in the payload of its phase: a master's after the pieces that it sent, and a slave's where the piece
--- stands that it answers. Reset and Data have no payload
+-- where the piece of the next frame stands in the payload of its phase: a master's after the pieces that it sent, and a
+-- slave's where the piece stands that it answers. Reset and Data have no payload
 abbrev pub piece_place : Lengths → List Noted → State → End → ℕ
 piece_place lengths t state.Reset which = 0
 piece_place lengths t state.Data which = 0
@@ -57,13 +58,15 @@ newest_load l (f ∷ frames) = (frame_of l f).load
 abbrev pub newest_piece : Lengths → List Noted → List ℕ
 newest_piece lengths t = take (piece_len lengths) (newest_load lengths.master (frames_from end_name.Master t))
 
--- the piece that the next frame repeats: a slave repeats the master's in Connection and Parameter, and no other frame repeats one
+-- the piece that the next frame repeats: a slave repeats the master's in Connection and Parameter, and no other frame
+-- repeats one
 abbrev pub piece_asked : Lengths → List Noted → State → End → List ℕ
 piece_asked lengths t state.Connection end_name.Slave = newest_piece lengths t
 piece_asked lengths t state.Parameter end_name.Slave = newest_piece lengths t
 piece_asked lengths t _ _ = []
 
--- the chain of the session that these frames leave, as the master has it: its own frames were sent, and the slave's were taken
+-- the chain of the session that these frames leave, as the master has it: its own frames were sent, and the slave's
+-- were taken
 abbrev pub chain_with : Lengths → Chain → End → List ℕ → Chain
 chain_with lengths chain end_name.Master f = after_sent chain (frame_of lengths.master f)
 chain_with lengths chain end_name.Slave f = after_taken chain (frame_of lengths.slave f)

@@ -1,5 +1,6 @@
--- When a trace conforms: its frames have their lengths, and it is what two ends send that are set to what is read off it, over the schedule
--- that is read off it. What ends do over a schedule is the world of both. The word is this profile's own.
+-- When a trace conforms: its frames have their lengths, and it is what two ends send that are set to what is read off
+-- it, over the schedule that is read off it. What ends do over a schedule is the world of both. The word is this
+-- profile's own.
 use Rattle.std.specs.Prelude.{◌≡◌, ◌==◌, Bool, IsTrue, length, List, [], ◌∷◌, if◌then◌else◌}
 use Rattle.std.specs.List.{list_all}
 use Rattle.fsoe_base.specs.declared.lengths.Lengths.{Lengths}
@@ -19,8 +20,8 @@ abbrev pub sent_in : List Entry → List Noted
 sent_in [] = []
 sent_in (x ∷ w) = if is_empty x.sent then sent_in w else record { from = x.end; frame = x.sent } ∷ sent_in w
 
--- whether a frame has the length of its end's frames. Without that a data frame of another length would conform: a put of its data, however
--- many, makes an end send it
+-- whether a frame has the length of its end's frames. Without that a data frame of another length would conform: a put
+-- of its data, however many, makes an end send it
 abbrev pub has_length : Lengths → Noted → Bool
 has_length lengths x = length x.frame == frame_len (length_of lengths x.from)
 

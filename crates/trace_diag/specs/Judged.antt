@@ -19,7 +19,8 @@ abbrev pub first_difference : Lengths → List Noted → Option Difference
 first_difference lengths [] = None
 first_difference lengths (x ∷ t) = first_of_both (first_difference lengths t) (field_of lengths t x) (length t + 1)
 
--- what contracts see of a trace that is judged: the lengths of its frames, their number, the first difference, and what is kept of the frames
+-- what contracts see of a trace that is judged: the lengths of its frames, their number, the first difference, and what
+-- is kept of the frames
 pub record TraceView : Type 0 where
   pub lengths : Lengths
   pub frames : ℕ

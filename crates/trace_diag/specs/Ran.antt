@@ -23,7 +23,8 @@ reporting_by reports = record { format = trace_format; judges = true; memory = N
 abbrev pub diagnose_reporting : Reporting TraceHeading TraceLine Noted
 diagnose_reporting = reporting_by DiagnosesInput
 
--- the same where the frames are bytes, which those of each input are: so much a judge promises of any frames that may come
+-- the same where the frames are bytes, which those of each input are: so much a judge promises of any frames that may
+-- come
 abbrev pub judge_reporting : Reporting TraceHeading TraceLine Noted
 judge_reporting = reporting_by (λ input ended text. AreOfBytes input.events → DiagnosesInput input ended text)
 
@@ -31,7 +32,8 @@ judge_reporting = reporting_by (λ input ended text. AreOfBytes input.events →
 abbrev pub RanDiagnose : Ended → Outside → Type 0
 RanDiagnose ended o = RanOver diagnose_reporting ended o
 
--- a judge was set to the lengths of a header, and stands for these frames, which came in order; nothing is written before the end
+-- a judge was set to the lengths of a header, and stands for these frames, which came in order; nothing is written
+-- before the end
 pub record DiagnosisStands (v : TraceView) (h : TraceHeading) (log : List Noted) (text : List ℕ) : Type 0 where
   pub lengths : Lengths
   pub lengths_are : AreLengths h lengths

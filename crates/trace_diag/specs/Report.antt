@@ -61,8 +61,9 @@ abbrev pub ReportsWhole : Option TraceHeading → List Noted → Ended → List 
 ReportsWhole None t ended text = ⊥
 ReportsWhole (Some h) t ended text = (lengths : Lengths) × AreLengths h lengths × ReportsTrace lengths t ended text
 
--- the whole report of an input with this header and these frames, which come in order and of which a trace has the newest first, where the
--- input stops so, and how a run that writes it ends: a trace that is refused has no verdict, and its report is the refused line alone
+-- the whole report of an input with this header and these frames, which come in order and of which a trace has the
+-- newest first, where the input stops so, and how a run that writes it ends: a trace that is refused has no verdict,
+-- and its report is the refused line alone
 abbrev pub DiagnoseReports : Option TraceHeading → List Noted → Stop → Ended → List ℕ → Type 0
 DiagnoseReports said frames AtEnd ended text = ReportsWhole said (reverse frames) ended text
 DiagnoseReports said frames (Refused number why) ended text = (text ≡ refused_line number why) × (ended ≡ refused_at number)

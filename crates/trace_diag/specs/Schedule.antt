@@ -1,6 +1,7 @@
--- The schedule that is read off a trace: the events after which two ends send such frames in lock step. It begins with a tick of the
--- master; then comes, for each further frame, one delivery of the frame before it. An end that answers with a data frame in the trace
--- is set to that frame before: held for FailSafeData, and else with the frame's data put. It is this profile's own.
+-- The schedule that is read off a trace: the events after which two ends send such frames in lock step. It begins with
+-- a tick of the master; then comes, for each further frame, one delivery of the frame before it. An end that answers
+-- with a data frame in the trace is set to that frame before: held for FailSafeData, and else with the frame's data
+-- put. It is this profile's own.
 use Rattle.std.specs.Prelude.{ℕ, true, false, List, [], ◌∷◌, ◌++◌, replicate, Option, Some}
 use Rattle.fsoe_base.specs.declared.command.Command.{Command}
 use Rattle.fsoe_base.specs.declared.command.Command.TheVariants as command

@@ -1,6 +1,7 @@
--- The settings that are read off a trace. Those of a handshake come in the master's frames of the phases Connection and Parameter, and the
--- session id of each end in its own of the phase Session. What a trace doesn't reach is 0, but for the high byte of the watchdog, which is
--- 1, so that a watchdog of which less than both bytes are known isn't 0. What is read off is this profile's own.
+-- The settings that are read off a trace. Those of a handshake come in the master's frames of the phases Connection and
+-- Parameter, and the session id of each end in its own of the phase Session. What a trace doesn't reach is 0, but for
+-- the high byte of the watchdog, which is 1, so that a watchdog of which less than both bytes are known isn't 0. What
+-- is read off is this profile's own.
 use Rattle.std.specs.Prelude.{ℕ, ◌+◌, ◌*◌, nat_lt, List, length, take, drop, slice_index, Option, Some, None, unwrap_or, if◌then◌else◌}
 use Rattle.fsoe_base.specs.declared.command.End.{End}
 use Rattle.fsoe_base.specs.declared.command.End.TheVariants as end_name
@@ -56,9 +57,9 @@ read_app lengths t = padded (take (read_app_len lengths t) (drop 6 (parameters_f
 abbrev pub read_id : Lengths → End → List Noted → ℕ
 read_id lengths which t = word_or 0 0 (payload_from lengths which state.Session t)
 
--- settings of both ends in profile One, as they are read off a trace: the slave has the same address, accepts each watchdog and any
--- application parameters of their number, and its limit before a watchdog comes is the longest. There are none where the connection id or
--- the watchdog is 0, or the application parameters are more than settings may have
+-- settings of both ends in profile One, as they are read off a trace: the slave has the same address, accepts each
+-- watchdog and any application parameters of their number, and its limit before a watchdog comes is the longest. There
+-- are none where the connection id or the watchdog is 0, or the application parameters are more than settings may have
 pub record AreReadOff (lengths : Lengths) (t : List Noted) (ms : MasterSettings) (ss : SlaveSettings) : Type 0 where
   pub master : IsMasterSetTo ms lengths (read_conn lengths t) (read_address lengths t) (read_watchdog lengths t) (read_app lengths t) (read_id lengths end_name.Master t) profile.One
   pub slave : IsSlaveSetTo ss lengths (read_address lengths t) 65535 65535 (rule.Any (read_app_len lengths t)) (read_id lengths end_name.Slave t) profile.One

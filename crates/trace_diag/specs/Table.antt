@@ -1,9 +1,8 @@
--- Which field of a frame isn't as it must be, where the frame follows a trace that conforms: the first row of the table that applies.
---   Turn       the frame isn't from the end whose turn it is
---   Length     it hasn't the length of that end's frames
---   Command    its command isn't one of the phase that follows
---   Conn       the connection id isn't 0 in Reset and Session, is 0 in the first Connection frame, or is another than that frame's later
---   Data       the lowest place where a data byte isn't as it must be: 0 in Reset, past a payload, past a piece and in FailSafeData; the bytes of
+-- Which field of a frame isn't as it must be, where the frame follows a trace that conforms: the first row of the table
+-- that applies. Turn       the frame isn't from the end whose turn it is Length     it hasn't the length of that end's
+-- frames Command    its command isn't one of the phase that follows Conn       the connection id isn't 0 in Reset and
+-- Session, is 0 in the first Connection frame, or is another than that frame's later Data       the lowest place where
+-- a data byte isn't as it must be: 0 in Reset, past a payload, past a piece and in FailSafeData; the bytes of
 --              the connection id; 2 and 0 as the length of the communication parameters; the master's byte in a slave's answer of Connection or
 --              Parameter; the second byte of a watchdog 0, or of more than 512 application parameters
 --   Crc        the first group whose CRC isn't that of the chain
@@ -38,8 +37,8 @@ abbrev pub is_of : State → Option Command → Bool
 is_of phase None = false
 is_of phase (Some c) = same_phase phase (phase_of c)
 
--- whether a connection id is as it must be in a phase, where the first Connection frame had this one, if there was one: the first one's may be any
--- but 0, so that another there is told by the payload or by a CRC
+-- whether a connection id is as it must be in a phase, where the first Connection frame had this one, if there was one:
+-- the first one's may be any but 0, so that another there is told by the payload or by a CRC
 abbrev pub conn_holds : State → Option ℕ → ℕ → Bool
 conn_holds state.Reset first conn = conn == 0
 conn_holds state.Session first conn = conn == 0
@@ -55,9 +54,9 @@ connection_holds conn place b =
     if nat_lt place 2 then b == slice_index (low_high conn) place
     else nat_lt place 4 || b == 0
 
--- 2 as the length of the communication parameters, a watchdog that isn't 0, at most 512 as the number of application parameters, and
--- these. Of a number the second byte is the one that doesn't hold. u begins with the parameters, as far as they have come, of which the first six are
--- looked at
+-- 2 as the length of the communication parameters, a watchdog that isn't 0, at most 512 as the number of application
+-- parameters, and these. Of a number the second byte is the one that doesn't hold. u begins with the parameters, as far
+-- as they have come, of which the first six are looked at
 abbrev pub parameter_holds : List ℕ → ℕ → ℕ → Bool
 parameter_holds u place b =
     if nat_lt place 2 then b == slice_index (low_high 2) place
@@ -72,7 +71,8 @@ payload_holds state.Connection conn u place b = connection_holds conn place b
 payload_holds state.Parameter conn u place b = parameter_holds u place b
 payload_holds _ conn u place b = b == 0
 
--- whether the byte at place p of a frame may stand there that carries c bytes of a payload, from a place of that on; zeros follow them
+-- whether the byte at place p of a frame may stand there that carries c bytes of a payload, from a place of that on;
+-- zeros follow them
 abbrev pub piece_holds : ℕ → (ℕ → ℕ → Bool) → ℕ → ℕ → ℕ → Bool
 piece_holds c holds from p b = if nat_lt p c then holds (from + p) b else b == 0
 
@@ -106,8 +106,8 @@ wrong_byte c k end_name.Slave state.Connection f = wrong_in_echo k f
 wrong_byte c k end_name.Slave state.Parameter f = wrong_in_echo k f
 wrong_byte c k which phase f = wrong_in_piece c k phase f
 
--- the CRCs that a frame of a phase must have, by its command, connection id and safe data: those of the next frame of its end's chain, and
--- Reset frames stand outside of the chain
+-- the CRCs that a frame of a phase must have, by its command, connection id and safe data: those of the next frame of
+-- its end's chain, and Reset frames stand outside of the chain
 abbrev pub crcs_due : State → Chain → End → Frame → List ℕ
 crcs_due state.Reset chain which f = reset_crcs f.load
 crcs_due _ chain which f = (sealed_by (chain_at which chain) f.conn f.cmd f.load).crcs

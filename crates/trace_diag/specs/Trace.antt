@@ -1,5 +1,5 @@
--- A recorded trace: the frames of both ends in the order in which they were seen, and from which end each came. Lists of them are newest
--- first. That a trace is recorded so is this profile's own.
+-- A recorded trace: the frames of both ends in the order in which they were seen, and from which end each came. Lists
+-- of them are newest first. That a trace is recorded so is this profile's own.
 use Rattle.std.specs.Prelude.{ℕ, min, List, [], ◌∷◌, ◌++◌, take, if◌then◌else◌}
 use Rattle.fsoe_base.specs.declared.command.End.{End}
 use Rattle.fsoe_base.specs.declared.command.End.TheVariants as end_name

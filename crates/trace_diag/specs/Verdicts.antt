@@ -1,4 +1,5 @@
--- The verdict on a trace: it conforms, with what was read off it; or the first frame with which it doesn't, and the field of that frame.
+-- The verdict on a trace: it conforms, with what was read off it; or the first frame with which it doesn't, and the
+-- field of that frame.
 use Rattle.std.specs.Prelude.{◌≡◌, ℕ, ◌+◌, List, ◌∷◌, ◌++◌, length, Some}
 use Rattle.fsoe_base.specs.declared.lengths.Lengths.{Lengths}
 use Rattle.trace_diag.specs.Conforms.{Conforms, ConformsThroughout}
@@ -15,8 +16,8 @@ pub record IsConforming (lengths : Lengths) (t : List Noted) (read : ReadOff) : 
   pub conforms : Conforms lengths t
   pub read_is : read ≡ settings_told lengths t
 
--- a trace doesn't conform, and the frame of this number, from 1, is the first with which it doesn't: the trace conforms after each
--- frame before it. The field is that of the table
+-- a trace doesn't conform, and the frame of this number, from 1, is the first with which it doesn't: the trace conforms
+-- after each frame before it. The field is that of the table
 pub record DiffersFirst (lengths : Lengths) (t : List Noted) (number : ℕ) (which : Field) : Type 0 where
   pub before : List Noted
   pub differing : Noted

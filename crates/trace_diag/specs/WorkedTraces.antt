@@ -79,8 +79,8 @@ FirstFrames =
 abbrev pub at : ℕ → Field → Option Difference
 at number which = Some (record { number = number; field = which })
 
--- no row of the table applies, so that the first conforms and the others don't; a data byte altered in the slave's data, whose CRC tells it, and in an answer that repeats another piece;
--- a frame left out
+-- no row of the table applies, so that the first conforms and the others don't; a data byte altered in the slave's
+-- data, whose CRC tells it, and in an answer that repeats another piece; a frame left out
 unfoldable pub Altered : Type 0
 Altered =
     (first_difference two_and_two (trace first_data) ≡ None)
@@ -88,8 +88,8 @@ Altered =
     × (first_difference two_and_two (trace (with_frame 7 (s (codes "64030047080100")))) ≡ at 8 (field.Data 0))
     × (first_difference two_and_two (trace (take 1 first_data ++ drop 2 first_data)) ≡ at 2 field.Turn)
 
--- what ends send in lock step: byte by byte with three application parameters, in the longest frames and short ones with the slave held,
--- and over a byte list that two frames of four bytes carry
+-- what ends send in lock step: byte by byte with three application parameters, in the longest frames and short ones
+-- with the slave held, and over a byte list that two frames of four bytes carry
 abbrev pub bytewise : List Noted
 bytewise = sent_in (world bytewise_master bytewise_slave (tm ∷ rounds 18))
 
@@ -124,10 +124,11 @@ LockStep =
 abbrev pub field_after : ℕ → Noted → Option Field
 field_after n x = field_of two_and_two (trace (take n first_data)) x
 
--- each row of the table, the last in a frame that is right but for its CRC: the other end's frame; a byte too few; a second Reset frame, a
--- Session frame at first, and a Parameter frame in Data; a connection id in Reset and in Session, none in the first Connection frame, and
--- another in the second; a code in a Reset frame, another connection id as payload, another length of the communication parameters,
--- another byte than the master's, a watchdog 0, 513 application parameters, and data in FailSafeData
+-- each row of the table, the last in a frame that is right but for its CRC: the other end's frame; a byte too few; a
+-- second Reset frame, a Session frame at first, and a Parameter frame in Data; a connection id in Reset and in Session,
+-- none in the first Connection frame, and another in the second; a code in a Reset frame, another connection id as
+-- payload, another length of the communication parameters, another byte than the master's, a watchdog 0, 513
+-- application parameters, and data in FailSafeData
 unfoldable pub Rows : Type 0
 Rows =
     (field_after 0 (s (codes "2a0000c42d0000")) ≡ Some field.Turn)
@@ -154,7 +155,8 @@ OtherLengths =
     (field_after 14 (m (codes "360100")) ≡ Some field.Length)
     × (list_all (has_length two_and_two) (trace (take 14 first_data ++ m (codes "360100") ∷ [])) ≡ false)
 
--- whether each byte of the frame after these, altered by this mask, makes a row of the table apply; the frames after them come next
+-- whether each byte of the frame after these, altered by this mask, makes a row of the table apply; the frames after
+-- them come next
 abbrev pub tells_each : ℕ → List Noted → List Noted → Bool
 tells_each mask before [] = true
 tells_each mask before (x ∷ frames) =
@@ -169,8 +171,8 @@ EachByte = (tells_each 1 [] first_data ≡ true) × (tells_each 128 [] first_dat
 abbrev pub field_in : Lengths → List Noted → ℕ → Noted → Option Field
 field_in lengths t n x = field_of lengths (drop (length t - n) t) x
 
--- in frames of several groups: the CRC of the second, and its data; a byte past the payload, and past the piece; the high byte of the number of
--- application parameters and what is padding then
+-- in frames of several groups: the CRC of the second, and its data; a byte past the payload, and past the piece; the
+-- high byte of the number of application parameters and what is padding then
 unfoldable pub LaterGroups : Type 0
 LaterGroups =
     (field_in four_and_six padded_frames 10 (m (codes "360102c89a03043e6a0100")) ≡ None)

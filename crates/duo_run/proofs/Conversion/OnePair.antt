@@ -227,7 +227,8 @@ line_follows h next line more n started more_comes taken is =
     ∙ ap (header_step pairs_heading_is_whole n (lines_of more) (λ next. pairs_header (n + 1) next (lines_of more))) (header_line_same h next line started more_comes taken)
     ∙ ap (λ (b : Bool). if b then Ok (record { heading = only_pair next; lines = n; rest = lines_of more }) else pairs_header (n + 1) (only_pair next) (lines_of more)) (done_same next)
 
--- a header of which so many lines were read before these: these go on to its last line, and what they are converted to as well
+-- a header of which so many lines were read before these: these go on to its last line, and what they are converted to
+-- as well
 record Follows (h : Heading) (m : ℕ) (lines : Lines) (headed : WholeHeader) : Type 0 where
   j : ℕ
   count : headed.lines ≡ m + j

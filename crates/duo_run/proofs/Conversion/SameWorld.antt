@@ -13,7 +13,8 @@ use Rattle.duo_run.specs.Pairs.{Pair, done_after, entries_over, entry_after, eve
 abbrev of_one : Event → PairsEvent
 of_one event = common.One 1 event
 
--- these events of the only pair are done, each of which has its entry; then those that come are done up to the first without one
+-- these events of the only pair are done, each of which has its entry; then those that come are done up to the first
+-- without one
 abbrev GoesOn : Pair → List Event → List PairsEvent → Type 0
 GoesOn p events past = length (entries_over p (events_to 1 past)) ≡ length (events_to 1 past) → world_of 1 p (done_after (p ∷ []) (map of_one events) past) ≡ entries_over p (events_to 1 past ++ events)
 

@@ -1,4 +1,5 @@
--- The events of several pairs are proper at the ends of each pair, so that the law of the pair holds of the entries of each.
+-- The events of several pairs are proper at the ends of each pair, so that the law of the pair holds of the entries of
+-- each.
 use Rattle.std.proofs.Common.{◌≡◌, ℕ, zero, suc, List, [], ◌∷◌, Bool, true, false, All, map, refl, sym, subst, ◌∙◌}
 use Rattle.std.specs.Prelude.{IfSome, Some, None, ◌==◌, slice_get, if◌then◌else◌}
 use Rattle.std.specs.List.{AllZip}

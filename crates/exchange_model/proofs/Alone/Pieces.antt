@@ -1,5 +1,5 @@
--- What a master has sent in its session, by its own frames alone: the pieces of its payloads, in order. Lists of frames are newest
--- first.
+-- What a master has sent in its session, by its own frames alone: the pieces of its payloads, in order. Lists of frames
+-- are newest first.
 use Rattle.std.proofs.Common.{◌≡◌, ℕ, suc, zero, ◌+◌, ◌-◌, ◌*◌, ◌≤◌, List, [], ◌∷◌, ◌++◌, length, take, drop, replicate, Bool, true, false, if◌then◌else◌, refl, sym, ap, subst, ◌∙◌, arith, inl, inr}
 use Rattle.std.proofs.lemmas.List.{length-take, take-replicate}
 use Rattle.std.proofs.lemmas.Bool.Decides.{eqb_tells}

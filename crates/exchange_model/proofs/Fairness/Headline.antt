@@ -1,6 +1,7 @@
--- The law of the pair: in a world without another entry, data taken in Data are those that the peer put into the awaited answer,
--- under equal terms. It rests on what both ends' items say of one another (Joint), on the pieces that a master sends (Pieces), on what
--- a slave tests (Uploads) and on what data frames carry (Loads); Told and this file join them.
+-- The law of the pair: in a world without another entry, data taken in Data are those that the peer put into the
+-- awaited answer, under equal terms. It rests on what both ends' items say of one another (Joint), on the pieces that a
+-- master sends (Pieces), on what a slave tests (Uploads) and on what data frames carry (Loads); Told and this file join
+-- them.
 use Rattle.std.proofs.Common.{◌≡◌, ℕ, List, [], ◌∷◌, length, Bool, true, false, Option, Some, None, is_some, ◌==◌, suc, if◌then◌else◌, refl, sym, ap, subst, ◌∙◌, All}
 use Rattle.std.specs.List.{AllByRecursion}
 use Rattle.fsoe_base.specs.declared.command.End.{End}

@@ -1,4 +1,5 @@
--- No awaited item gives data twice: an end that takes data sends a frame, so that the next item it awaits answers a newer one.
+-- No awaited item gives data twice: an end that takes data sends a frame, so that the next item it awaits answers a
+-- newer one.
 use Rattle.std.proofs.Common.{◌≡◌, ℕ, suc, ◌<◌, ◌≤◌, ◌==◌, nat_eq, List, [], ◌∷◌, length, Bool, true, false, ◌&&◌, not, Option, Some, None, is_some, if◌then◌else◌, refl, ap, subst, sym, ◌∙◌, eqb-true, arith}
 use Rattle.std.proofs.lemmas.Bool.{and_parts, eq-eqb}
 use Rattle.std.proofs.lemmas.Bool.Decides.{nat_tests}

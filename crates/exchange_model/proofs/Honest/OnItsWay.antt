@@ -1,5 +1,5 @@
--- A sealed frame on its way from one end to the other, whose chains agree. s sends it, r receives it, and u and v are the deeds of
--- both in their sessions.
+-- A sealed frame on its way from one end to the other, whose chains agree. s sends it, r receives it, and u and v are
+-- the deeds of both in their sessions.
 use Rattle.std.proofs.Common.{◌≡◌, ◌≢◌, ℕ, suc, ◌+◌, ◌*◌, ◌/◌, List, [], ◌∷◌, length, true, false, Option, Some, None, IsTrue, refl, sym, ap, ap₂, subst, ◌∙◌, arith, inl, inr}
 use Rattle.std.proofs.lemmas.Bool.{cases_eq}
 use Rattle.std.proofs.lemmas.Bool.Decides.{nat_tests}

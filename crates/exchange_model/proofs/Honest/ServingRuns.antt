@@ -226,7 +226,8 @@ partner-serves ms r events accepts proper honest =
     let h : ServesOn ms r events [] = serves_on ms r events [] accepts (served-none ms r) (Waits refl (at-first ms r) honest.turns honest.begun) proper honest.plain honest.time in
     record { whole = h.whole ∙ omega arith; no_other = h.served.no_other; no_reset = h.served.no_reset; taken = h.served.taken; reaches_data = h.served.reaches_data; takes_data = h.served.takes_data }
 
--- what holds of the settings with these lengths, this address and this profile, and the rest of a slave's, holds of the slave's own
+-- what holds of the settings with these lengths, this address and this profile, and the rest of a slave's, holds of the
+-- slave's own
 abbrev Given : (SlaveSettings → Type 0) → SlaveSettings → ℕ → ℕ → ℕ → Profile → Type 0
 Given P ss lm ls address profile =
     ((valid_master : IsTrue (is_length lm)) (valid_slave : IsTrue (is_length ls)) (allowed : IsTrue (allows_id profile ss.nonce))

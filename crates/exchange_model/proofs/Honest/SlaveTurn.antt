@@ -1,5 +1,5 @@
--- A slave takes the master's frame that is on its way, and answers it: the frame passes all tests, and what the slave took after it
--- tells the answer that it seals.
+-- A slave takes the master's frame that is on its way, and answers it: the frame passes all tests, and what the slave
+-- took after it tells the answer that it seals.
 use Rattle.std.proofs.Common.{◌≡◌, ℕ, zero, suc, ◌+◌, ◌*◌, ◌<◌, ◌≤◌, nat_le, List, ◌++◌, length, take, drop, true, false, not, Some, None, if◌then◌else◌, refl, sym, ap, ap₂, subst, ◌∙◌, arith, ◌-◌, [], ◌∷◌, min, replicate, Bool, Option, unwrap_or}
 use Rattle.std.proofs.lemmas.Bool.{eq-eqb}
 use Rattle.std.proofs.lemmas.Bool.Decides.{nat_tests}

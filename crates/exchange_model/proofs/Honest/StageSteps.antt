@@ -1,4 +1,5 @@
--- Each delivery of an honest run brings the next stage: of a Reset frame, and of a frame of a session, which its receiver answers.
+-- Each delivery of an honest run brings the next stage: of a Reset frame, and of a frame of a session, which its
+-- receiver answers.
 use Rattle.std.proofs.Common.{◌≡◌, ℕ, suc, List, [], ◌∷◌, length, Bool, true, false, not, ◌&&◌, Option, Some, None, if◌then◌else◌, refl, sym, ap, ap₂, ◌∙◌, nat_le, is_some, unwrap_or, ◌≢◌, ◌+◌, ◌<◌, subst, arith}
 use Rattle.std.specs.Option.{option_or}
 use Rattle.std.proofs.lemmas.Bool.{eq-eqb}

@@ -76,7 +76,8 @@ parameter_pieces ms = pieces_for (id_len ms.profile + 4 + length ms.app) (width 
 abbrev pub more : State → Command → ℕ → ℕ
 more phase c k = if same_phase phase (phase_of c) then suc k else k
 
--- the command of the k-th frame of the master, from 0, where of the three payloads, of n, n' and n'' pieces, a, b and d were sent before
+-- the command of the k-th frame of the master, from 0, where of the three payloads, of n, n' and n'' pieces, a, b and d
+-- were sent before
 pub data Turn (n n' n'' : ℕ) : Command → State → ℕ → ℕ → ℕ → ℕ → Type 0 where
   Starts : Turn n n' n'' command.Session state.Reset 0 0 0 0
   MoreSession : (a : ℕ) → a < n → Turn n n' n'' command.Session state.Session a 0 0 a

@@ -1,6 +1,6 @@
--- What both ends' items say of one another: the heart of the law. Lists of items are newest first; s are the slave's, m the
--- master's, l the safe data bytes of a master's frame, c those of a piece. Pieces don't matter here: what a slave has uploaded is
--- what the master's own frames carried, up to the item that the slave's newest item answers.
+-- What both ends' items say of one another: the heart of the law. Lists of items are newest first; s are the slave's, m
+-- the master's, l the safe data bytes of a master's frame, c those of a piece. Pieces don't matter here: what a slave
+-- has uploaded is what the master's own frames carried, up to the item that the slave's newest item answers.
 use Rattle.std.proofs.Common.{◌≡◌, ℕ, suc, ◌≤◌, List, [], ◌∷◌, ◌++◌, length, take, Bool, true, false, Option, Some, None, if◌then◌else◌, ◌==◌, refl, sym, ap, subst, ◌∙◌, inl, inr}
 use Rattle.std.proofs.lemmas.Bool.Decides.{eqb_tells}
 use Rattle.fsoe_base.specs.declared.command.State.{State}
@@ -52,8 +52,8 @@ newest_answers (i ∷ found) = i.answers
 abbrev pub NoneCarried : ℕ → ℕ → List Item → Type 0
 NoneCarried l c found = (phase : State) → is_loading phase ≡ true → carried phase l c found ≡ []
 
--- what a guarded item of the master answers, where rest are those that it had sent before: a Session item, as the first of its
--- session, or the answer to the item that it sent just before
+-- what a guarded item of the master answers, where rest are those that it had sent before: a Session item, as the first
+-- of its session, or the answer to the item that it sent just before
 pub data Place (l c : ℕ) (s rest : List Item) (n : ℕ) : Type 0 where
   First : is_guarded_in (newest_phase (up_to n s)) ≡ false → NoneCarried l c rest → Place l c s rest n
   Next : is_guarded_in (newest_phase (up_to n s)) ≡ true → newest_answers (up_to n s) ≡ Some (length rest) → Place l c s rest n
@@ -83,7 +83,8 @@ pub data Standing (l c : ℕ) (now : State) (uploads : State → List ℕ) (s m 
   Before : is_guarded_in now ≡ false → ((phase : State) → is_loading phase ≡ true → uploads phase ≡ []) → Standing l c now uploads s m
   Past : is_guarded_in now ≡ true → Answering l c now uploads s m → Standing l c now uploads s m
 
--- the invariant: each guarded item of the master has its place, and the slave, whose newest item is of its state, stands so
+-- the invariant: each guarded item of the master has its place, and the slave, whose newest item is of its state,
+-- stands so
 pub record Joint (l c : ℕ) (now : State) (uploads : State → List ℕ) (s m : List Item) : Type 0 where
   pub placed : AllPlaced l c s m
   pub newest_is : newest_phase s ≡ now

@@ -1,5 +1,5 @@
--- What an entry that takes a frame says where it isn't other: the frame is the awaited item, where it is guarded, and the item that
--- the entry gives answers it.
+-- What an entry that takes a frame says where it isn't other: the frame is the awaited item, where it is guarded, and
+-- the item that the entry gives answers it.
 use Rattle.std.proofs.Common.{◌≡◌, ℕ, suc, List, ◌∷◌, length, Bool, true, false, ◌&&◌, not, Option, Some, None, refl, sym, ap, ◌∙◌}
 use Rattle.fsoe_base.specs.declared.command.Command.{Command}
 use Rattle.fsoe_base.specs.declared.command.Command.TheVariants as command

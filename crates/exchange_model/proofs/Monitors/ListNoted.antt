@@ -1,4 +1,5 @@
--- What a monitor with lists has after an entry is what the definitions say of the entries with it, by the newest of listed items.
+-- What a monitor with lists has after an entry is what the definitions say of the entries with it, by the newest of
+-- listed items.
 use Rattle.std.proofs.Common.{◌≡◌, ℕ, suc, List, [], ◌∷◌, ◌++◌, length, Bool, true, false, Option, Some, None, if◌then◌else◌, refl, sym, ap, ap₂, ◌∙◌, ◌+◌, ◌<◌, take, get_or, arith, take_all}
 use Rattle.fsoe_base.specs.declared.command.End.{End}
 use Rattle.fsoe_base.specs.declared.command.End.TheVariants as end_name

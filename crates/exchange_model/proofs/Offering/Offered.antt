@@ -1,4 +1,5 @@
--- Where a bit of an end's outputs is 1, its peer offered it as 1 not long ago; and the watchdog that the end tells is the master's.
+-- Where a bit of an end's outputs is 1, its peer offered it as 1 not long ago; and the watchdog that the end tells is
+-- the master's.
 use Rattle.std.proofs.Common.{◌≡◌, ℕ, ◌+◌, ◌-◌, ◌*◌, ◌<◌, ◌≤◌, nat_lt, List, ◌∷◌, ◌++◌, replicate, Bool, true, false, Option, Some, None, IsSomeAnd, if◌then◌else◌, refl, ap, sym, subst, ◌∙◌, append_assoc, arith}
 use Rattle.std.proofs.lemmas.Bool.{ltb-true}
 use Rattle.fsoe_base.specs.declared.command.End.{End}

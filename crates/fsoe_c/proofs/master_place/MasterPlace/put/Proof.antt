@@ -60,7 +60,8 @@ put_spec 𝓤 𝓛 𝓜 𝓡 wired =
     let word = lowers.val_is h us is ∙ ap (λ (q : Ptr). lowers.lowered (record h { at = q }) ∷ []) e in
     let Cell = λ (ws : List Val). ‵ (cell_at full_share R.mir ws b o) in
     rewrite ! 2 Cell word refl $
-    -- [the room; what the fields own; the struct's cell; the open borrow, in three entries; self's first part; what x owns]
+    -- [the room; what the fields own; the struct's cell; the open borrow, in three entries; self's first part; what x
+    -- owns]
     first ! $ blocks ! $
     sets ! (of_opd ! (load ! (through ! refl (fld ! refl (stop !))) (look_in ! 2 (sub ! 0 refl (whole !))))) refl (tt, tt) $
     sets ! (of_opd ! (get ! refl)) refl (tt, tt) $

@@ -60,7 +60,8 @@ take_spec 𝓤 𝓛 𝓜 𝓡 wired =
     let word = lowers.val_is h us is ∙ ap (λ (q : Ptr). lowers.lowered (record h { at = q }) ∷ []) e in
     let Cell = λ (ws : List Val). ‵ (cell_at full_share R.mir ws b o) in
     rewrite ! 3 Cell word refl $
-    -- [the value's cell; what the value owns; what the fields own; the struct's cell; the open borrow, in three entries]
+    -- [the value's cell; what the value owns; what the fields own; the struct's cell; the open borrow, in three
+    -- entries]
     first ! $ blocks ! $
     sets ! (of_opd ! (load ! (through ! refl (fld ! refl (stop !))) (look_in ! 3 (sub ! 0 refl (whole !))))) refl (tt, tt) $
     sets ! (of_opd ! (get ! refl)) refl (tt, tt) $
