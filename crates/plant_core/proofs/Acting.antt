@@ -1,11 +1,11 @@
 -- What the slave or the master of a connection does and what is pushed, and what those of all connections do in a tick.
-use Rattle.std.proofs.Common.{◌≡◌, ◌≢◌, ◌≤◌, ◌<◌, ◌⊎◌, inl, inr, ℕ, zero, suc, ◌+◌, ◌*◌, ◌==◌, nat_lt, Bool, true, false, List, [], ◌∷◌, ◌++◌, take, length, slice_get, slice_set, slice_index_or, ◌-◌, Option, Some, option_map, All, if◌then◌else◌, refl, sym, ap, ap₂, subst, ◌∙◌, append_assoc, arith}
+use Rattle.std.proofs.Common.{◌≡◌, ◌≢◌, ◌≤◌, ◌<◌, ℕ, zero, suc, ◌+◌, ◌*◌, ◌==◌, nat_lt, Bool, true, false, List, [], ◌∷◌, ◌++◌, take, drop, length, slice_get, slice_set, slice_index_or, ◌-◌, Option, Some, option_map, All, if◌then◌else◌, refl, sym, ap, ap₂, subst, ◌∙◌, append_assoc, arith}
 use Rattle.std.proofs.lemmas.Bool.{eqb-true, lt-ltb, le-ltb}
 use Rattle.std.proofs.lemmas.Bool.Decides.{nat_tests}
 use Rattle.std.specs.Prelude.{IsSomeAnd}
-use Rattle.std.proofs.lemmas.Option.{slice_get_within, slice_get_read, slice_get-map}
-use Rattle.std.proofs.lemmas.List.{append-nil, take_all}
-use Rattle.std.proofs.lemmas.List.Elements.{All-nil, All-cons, All-head, All-tail}
+use Rattle.std.proofs.lemmas.Option.{get_or_from_slice_get, slice_get_within, slice_get_read, slice_get-map}
+use Rattle.std.proofs.lemmas.List.{append-nil, drop-set-lt, drop_more, take_all, take_more_set}
+use Rattle.std.proofs.lemmas.List.Elements.{All-head, All-tail, All-push, All-set, All-weaker}
 use Rattle.fsoe_base.specs.declared.command.End.{End}
 use Rattle.fsoe_base.specs.declared.command.End.TheVariants as side
 use Rattle.fsoe_base.specs.declared.did.Did.{Did}
@@ -138,71 +138,35 @@ acted_all i to links cut done next vs first last past h =
       channel = subst (λ (ls : List LinkConf). Trace (frames_pushed to next cut ls) first last) (take_all i links (omega arith)) h.channel;
     }
 
-set_later : {P Q : Type 0} (i k : ℕ) → ((k ≡ i) × P) ⊎ ((k ≢ i) × Q) → ((suc k ≡ suc i) × P) ⊎ ((suc k ≢ suc i) × Q)
-set_later i k (inl p) = inl (ap suc p.0, p.1)
-set_later i k (inr p) = inr ((λ e. p.0 (omega arith)), p.1)
-
-below_by : (k i : ℕ) → k ≢ i → k < i + 1 → k < i
-below_by k i h lt = grind arith
-
--- what stands at each place of a list that is written to at one
-pub get_set : {X : Type 0} (xs : List X) (i k : ℕ) (y v : X) → slice_get (slice_set xs i y) k ≡ Some v → ((k ≡ i) × (v ≡ y)) ⊎ ((k ≢ i) × (slice_get xs k ≡ Some v))
-get_set [] i k y v h = absurd (cc h)
-get_set (x ∷ xs) zero zero y v h = let same : y ≡ v = cc in inl (refl, sym same)
-get_set (x ∷ xs) zero (suc k) y v h = inr ((λ e. absurd (omega arith)), h)
-get_set (x ∷ xs) (suc i) zero y v h = inr ((λ e. absurd (omega arith)), h)
-get_set (x ∷ xs) (suc i) (suc k) y v h = set_later i k (get_set xs i k y v h)
-
-pub all_at : {X : Type 0} (P : X → Type 0) (xs : List X) (k : ℕ) (x : X) → All P xs → slice_get xs k ≡ Some x → P x
-all_at P [] k x h e = absurd (cc e)
-all_at P (y ∷ xs) zero x h e = let same : y ≡ x = cc in subst P same (All-head P y xs h)
-all_at P (y ∷ xs) (suc k) x h e = all_at P xs k x (All-tail P y xs h) e
-
-pub at_all : {X : Type 0} (P : X → Type 0) (xs : List X) → ((k : ℕ) (x : X) → slice_get xs k ≡ Some x → P x) → All P xs
-at_all P [] f = All-nil P
-at_all P (y ∷ xs) f = All-cons P y xs (f 0 y refl) (at_all P xs (λ k x e. f (suc k) x e))
-
 -- one entry more was noted with each connection up to a place
 pub record NotedTo (i most : ℕ) (vs : List LinkView) : Type 0 where
-  pub done : (k : ℕ) (v : LinkView) → k < i → slice_get vs k ≡ Some v → v.monitor.noted ≤ most + 1
-  pub rest : (k : ℕ) (v : LinkView) → i ≤ k → slice_get vs k ≡ Some v → v.monitor.noted ≤ most
+  pub done : AreNoted (most + 1) (take i vs)
+  pub rest : AreNoted most (drop i vs)
 
-pub noted_none : (most : ℕ) (vs : List LinkView) → AreNoted most vs → NotedTo 0 most vs
-noted_none most vs h = record { done = λ k v lt e. absurd (omega arith); rest = λ k v le e. all_at (λ (z : LinkView). z.monitor.noted ≤ most) vs k v h e }
+next_left : (vs : List LinkView) (i : ℕ) (v : LinkView) → slice_get vs i ≡ Some v → drop i vs ≡ v ∷ drop (i + 1) vs
+next_left vs i v at = drop_more vs i v (slice_get_within vs i v at) ∙ ap (λ (z : LinkView). z ∷ drop (i + 1) vs) (get_or_from_slice_get vs i v v at)
 
-done_by : (i n most k : ℕ) (vs : List LinkView) (old new v : LinkView) → NotedTo i most vs → slice_get vs i ≡ Some old → n ≡ i + 1 → new.monitor.noted ≡ old.monitor.noted + 1 → k < n
-    → ((k ≡ i) × (v ≡ new)) ⊎ ((k ≢ i) × (slice_get vs k ≡ Some v)) → v.monitor.noted ≤ most + 1
-done_by i n most k vs old new v h at e one lt (inl p) =
-    let was = h.rest i old (omega arith) at in
-    let same : v.monitor.noted ≡ new.monitor.noted = ap (λ (z : LinkView). z.monitor.noted) p.1 in
-    omega arith
-done_by i n most k vs old new v h at e one lt (inr p) = h.done k v (below_by k i (p.0) (omega arith)) p.1
+pub noted_next : (i most : ℕ) (vs : List LinkView) (v : LinkView) → NotedTo i most vs → slice_get vs i ≡ Some v → v.monitor.noted ≤ most
+noted_next i most vs v h at = All-head (λ (z : LinkView). z.monitor.noted ≤ most) v (drop (i + 1) vs) (subst (AreNoted most) (next_left vs i v at) h.rest)
 
-rest_by : (i n most k : ℕ) (vs : List LinkView) (new v : LinkView) → NotedTo i most vs → n ≡ i + 1 → n ≤ k → ((k ≡ i) × (v ≡ new)) ⊎ ((k ≢ i) × (slice_get vs k ≡ Some v)) → v.monitor.noted ≤ most
-rest_by i n most k vs new v h e le (inl p) = let same = p.0 in absurd (omega arith)
-rest_by i n most k vs new v h e le (inr p) = h.rest k v (omega arith) p.1
-
-pub noted_more : (i n most : ℕ) (vs : List LinkView) (old new : LinkView) → NotedTo i most vs → slice_get vs i ≡ Some old → n ≡ i + 1 → new.monitor.noted ≡ old.monitor.noted + 1 → NotedTo n most (slice_set vs i new)
-noted_more i n most vs old new h at e one = record {
-  done = λ k v lt is. done_by i n most k vs old new v h at e one lt (get_set vs i k new v is);
-  rest = λ k v le is. rest_by i n most k vs new v h e le (get_set vs i k new v is);
-}
+pub noted_more : (i most : ℕ) (vs : List LinkView) (old new : LinkView) → NotedTo i most vs → slice_get vs i ≡ Some old → new.monitor.noted ≡ old.monitor.noted + 1 → NotedTo (i + 1) most (slice_set vs i new)
+noted_more i most vs old new h at one =
+    let was = noted_next i most vs old h at in
+    record {
+      done = subst (AreNoted (most + 1)) (sym (take_more_set vs i new (slice_get_within vs i old at))) (All-push (λ (z : LinkView). z.monitor.noted ≤ most + 1) (take i vs) new h.done (omega arith));
+      rest = subst (AreNoted most) (sym (drop-set-lt (i + 1) vs i new (omega arith)))
+          (All-tail (λ (z : LinkView). z.monitor.noted ≤ most) old (drop (i + 1) vs) (subst (AreNoted most) (next_left vs i old at) h.rest));
+    }
 
 pub noted_all : (i most : ℕ) (vs : List LinkView) → length vs ≤ i → NotedTo i most vs → AreNoted (most + 1) vs
-noted_all i most vs past h =
-    at_all (λ (z : LinkView). z.monitor.noted ≤ most + 1) vs (λ k v e. let within = slice_get_within vs k v e in h.done k v (omega arith) e)
+noted_all i most vs past h = subst (AreNoted (most + 1)) (take_all i vs past) h.done
 
 -- the same at one place of which more is known
-set_by : (most k i : ℕ) (vs : List LinkView) (new v : LinkView) → AreNoted most vs → new.monitor.noted ≤ most → ((k ≡ i) × (v ≡ new)) ⊎ ((k ≢ i) × (slice_get vs k ≡ Some v)) → v.monitor.noted ≤ most
-set_by most k i vs new v h le (inl p) = subst (λ (z : LinkView). z.monitor.noted ≤ most) (sym p.1) le
-set_by most k i vs new v h le (inr p) = all_at (λ (z : LinkView). z.monitor.noted ≤ most) vs k v h p.1
-
 pub noted_set : (most i : ℕ) (vs : List LinkView) (new : LinkView) → AreNoted most vs → new.monitor.noted ≤ most → AreNoted most (slice_set vs i new)
-noted_set most i vs new h le = at_all (λ (z : LinkView). z.monitor.noted ≤ most) (slice_set vs i new) (λ k v e. set_by most k i vs new v h le (get_set vs i k new v e))
+noted_set most i vs new h le = All-set (λ (z : LinkView). z.monitor.noted ≤ most) vs i new le h
 
 pub noted_less : (most more : ℕ) (vs : List LinkView) → most ≤ more → AreNoted most vs → AreNoted more vs
-noted_less most more vs le h =
-    at_all (λ (z : LinkView). z.monitor.noted ≤ more) vs (λ k v e. let was = all_at (λ (z : LinkView). z.monitor.noted ≤ most) vs k v h e in omega arith)
+noted_less most more vs le h = All-weaker (λ (z : LinkView). z.monitor.noted ≤ most) (λ (z : LinkView). z.monitor.noted ≤ more) (λ v was. omega arith) vs h
 
 pub fixed_set : (vs : List LinkView) (i : ℕ) (old new : LinkView) → slice_get vs i ≡ Some old → fixed_of new ≡ fixed_of old → fixed_in (slice_set vs i new) ≡ fixed_in vs
 fixed_set vs i old new at e = map_set fixed_of vs i old new at e

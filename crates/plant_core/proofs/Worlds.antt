@@ -2,7 +2,6 @@
 -- holds of worlds holds of them.
 use Rattle.std.proofs.Common.{◌≡◌, ℕ, zero, suc, List, [], ◌∷◌, slice_get, Some, All, sym, ap, subst, ◌∙◌, arith}
 use Rattle.std.specs.List.{AllZip}
-use Rattle.std.proofs.lemmas.List.Elements.{All-head, All-tail}
 use Rattle.fsoe_base.specs.declared.command.End.TheVariants as side
 use Rattle.param_load.specs.declared.master_settings.MasterSettings.{MasterSettings}
 use Rattle.plant_conf.specs.ConfView.{HasSameLengths}
@@ -14,6 +13,7 @@ use Rattle.exchange_model.specs.World.{deeds}
 use Rattle.master_core.specs.MasterView.{MasterView}
 use Rattle.multi_master.specs.Connection.{Connection}
 use Rattle.multi_master.specs.Standing.{IsWhere}
+use Rattle.multi_master.proofs.Places.{all_at}
 use Rattle.plant_model.specs.declared.journal.JournalStep.{JournalStep}
 use Rattle.plant_model.specs.Acts.{Beginning, masters, is_cut, journal}
 use Rattle.plant_model.specs.FairPairs.{PairsAreFair}
@@ -38,11 +38,6 @@ zip_at (a ∷ cs) [] place c h e = absurd h
 zip_at (a ∷ cs) (m ∷ ms) zero c h e = let i : a ≡ c = cc in (m, subst (λ (z : Connection). IsWhere z m) i h.0)
 zip_at (a ∷ cs) (m ∷ ms) (suc place) c h e = zip_at cs ms place c h.1 e
 
-has_at : (links : List LinkConf) (place : ℕ) (link : LinkConf) → All HasSameLengths links → slice_get links place ≡ Some link → HasSameLengths link
-has_at [] place link all e = absurd (cc e)
-has_at (l ∷ links) zero link all e = let i : l ≡ link = cc in subst HasSameLengths i (All-head HasSameLengths l links all)
-has_at (l ∷ links) (suc place) link all e = has_at links place link (All-tail HasSameLengths l links all) e
-
 pub worlds : (b : Beginning) (v : PlantView) (turns : List Turn) → PlantStands b v turns → All HasSameLengths b.links → AreWorlds b.links v.journal
 worlds b v turns h same = λ place link e.
     let done = h.has_done in
@@ -51,7 +46,7 @@ worlds b v turns h same = λ place link e.
     let beside = zip_at (masters b (acts turns)).connections v.master.masters place m.there done.master.masters m.is in
     let run : IsRun (OfMaster link.master) m.there.deeds = subst (λ (z : MasterSettings). IsRun (OfMaster z) m.there.deeds) m.settings_are beside.1.reached in
     let own : deeds side.Master (pair link (suc place) v.journal) ≡ m.there.deeds = ap (λ (j : List JournalStep). deeds side.Master (pair link (suc place) j)) done.journal_is ∙ m.deeds_are in
-    world_of_runs link (suc place) v.journal (has_at b.links place link same e) (subst (λ (z : List Deed). IsRun (OfMaster link.master) z) (sym own) run) kept.holds.stands.slave.reached
+    world_of_runs link (suc place) v.journal (all_at HasSameLengths b.links place link same e) (subst (λ (z : List Deed). IsRun (OfMaster link.master) z) (sym own) run) kept.holds.stands.slave.reached
 
 -- by the journal of its acts
 by_acts : (b : Beginning) (v : PlantView) (turns : List Turn) → PlantStands b v turns → All HasSameLengths b.links → AreWorlds b.links (journal b (acts turns))

@@ -2,7 +2,8 @@ use Rattle.std.proofs.Common.{◌≡◌, ◌≤◌, ◌+◌, ◌-◌, ◌*◌, �
 use Rattle.std.proofs.lemmas.Option.{slice_get-get_or}
 use Rattle.plant_core.specs.Link.{LinkView}
 use Rattle.multi_master.specs.Standing.{IsNumber}
-use Rattle.plant_core.proofs.Acting.{all_at, noted_set, noted_less, fixed_set}
+use Rattle.multi_master.proofs.Places.{all_at}
+use Rattle.plant_core.proofs.Acting.{noted_set, noted_less, fixed_set}
 use Rattle.plant_core.proofs.Offering.{offers_next}
 use Rattle.plant_core.proofs.offers.note_offers.Goals as goal
 

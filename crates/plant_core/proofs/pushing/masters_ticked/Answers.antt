@@ -1,14 +1,15 @@
-use Rattle.std.proofs.Common.{◌≡◌, ◌+◌, ◌-◌, ◌^◌, ℕ, suc, Some, slice_get, slice_index_or, refl, ◌∙◌, arith}
+use Rattle.std.proofs.Common.{◌≡◌, ◌≤◌, ◌+◌, ◌-◌, ◌^◌, ℕ, suc, Some, slice_get, slice_index_or, refl, ◌∙◌, arith}
+use Rattle.std.proofs.lemmas.List.Elements.{All-nil}
 use Rattle.std.proofs.lemmas.Option.{slice_get_read, slice_get-get_or}
 use Rattle.fsoe_base.specs.declared.command.End.TheVariants as side
 use Rattle.plant_core.specs.Link.{LinkView}
-use Rattle.plant_core.proofs.Acting.{master_one, acted_none, acted_more, acted_all, noted_none, noted_more, noted_all, fixed_set}
+use Rattle.plant_core.proofs.Acting.{master_one, acted_none, acted_more, acted_all, noted_next, noted_more, noted_all, fixed_set}
 use Rattle.plant_core.proofs.pushing.masters_ticked.Goals as goal
 
 pub loop-i-init : goal.loop-i-init
 loop-i-init g c = record {
   acted = λ links cut done next parts h. acted_none side.Slave links cut done next c.args.links.now _ h;
-  noted = λ most h. noted_none most c.args.links.now h;
+  noted = λ most h. record { done = All-nil (λ (z : LinkView). z.monitor.noted ≤ most + 1); rest = h };
   fixed = refl;
 }
 
@@ -17,7 +18,7 @@ master_acted-requires g c =
     let i : ℕ = c.loop-i.i in
     let v : LinkView = slice_index_or c.loop-i.links i c.index-links-i.result in
     let at : slice_get c.loop-i.links i ≡ Some v = slice_get-get_or c.loop-i.links i c.index-links-i.result (omega arith) in
-    let le = (c.loop-i.invariant.noted (2 ^ 64 - 2) c.requires.few).rest i v (omega arith) at in
+    let le = noted_next i (2 ^ 64 - 2) c.loop-i.links v (c.loop-i.invariant.noted (2 ^ 64 - 2) c.requires.few) at in
     record { few = omega arith }
 
 pub loop-i-preserved : goal.loop-i-preserved
@@ -33,7 +34,7 @@ loop-i-preserved g c =
       acted = λ links cut done next parts h.
           acted_more i (i + 1) side.Slave links cut done next c.loop-i.links v new _ _ _ (c.loop-i.invariant.acted links cut done next parts h) at one
           (λ link is stands. master_one i (i + 1) links done next c.args.dids.now c.args.outs.now link _ _ v new _ _ one parts is did_at out_at c.master_acted.ensures.acts stands) c.master_acted.ensures.notes.cut;
-      noted = λ most h. noted_more i (i + 1) most c.loop-i.links v new (c.loop-i.invariant.noted most h) at refl c.master_acted.ensures.notes.noted;
+      noted = λ most h. noted_more i most c.loop-i.links v new (c.loop-i.invariant.noted most h) at c.master_acted.ensures.notes.noted;
       fixed = fixed_set c.loop-i.links i v new at c.master_acted.ensures.notes.fixed ∙ c.loop-i.invariant.fixed;
     }
 

@@ -1,16 +1,17 @@
-use Rattle.std.proofs.Common.{◌≡◌, ◌+◌, ◌-◌, ◌^◌, ℕ, suc, Some, slice_get, slice_index_or, refl, ◌∙◌, arith}
+use Rattle.std.proofs.Common.{◌≡◌, ◌≤◌, ◌+◌, ◌-◌, ◌^◌, ℕ, suc, Some, slice_get, slice_index_or, refl, ◌∙◌, arith}
+use Rattle.std.proofs.lemmas.List.Elements.{All-nil}
 use Rattle.std.proofs.lemmas.Option.{slice_get-get_or}
 use Rattle.fsoe_base.specs.declared.command.End.TheVariants as side
 use Rattle.param_load.specs.declared.entry.Move.TheVariants as move
 use Rattle.plant_core.specs.Link.{LinkView}
 use Rattle.plant_model.specs.Pair.{next_of}
-use Rattle.plant_core.proofs.Acting.{acted_none, acted_more, acted_all, noted_none, noted_more, noted_all, fixed_set}
+use Rattle.plant_core.proofs.Acting.{acted_none, acted_more, acted_all, noted_next, noted_more, noted_all, fixed_set}
 use Rattle.plant_core.proofs.pushing.tick_slaves.Goals as goal
 
 pub loop-i-init : goal.loop-i-init
 loop-i-init g c = record {
   acted = λ links cut done h. acted_none side.Master links cut done (λ k link. next_of side.Slave move.Tick link (done k link)) c.args.links.now _ h;
-  noted = λ most h. noted_none most c.args.links.now h;
+  noted = λ most h. record { done = All-nil (λ (z : LinkView). z.monitor.noted ≤ most + 1); rest = h };
   fixed = refl;
 }
 
@@ -19,7 +20,7 @@ happen_at_slave-requires g c =
     let i : ℕ = c.loop-i.i in
     let v : LinkView = slice_index_or c.loop-i.links i c.index-links-i.result in
     let at : slice_get c.loop-i.links i ≡ Some v = slice_get-get_or c.loop-i.links i c.index-links-i.result (omega arith) in
-    let le = (c.loop-i.invariant.noted (2 ^ 64 - 2) c.requires.few).rest i v (omega arith) at in
+    let le = noted_next i (2 ^ 64 - 2) c.loop-i.links v (c.loop-i.invariant.noted (2 ^ 64 - 2) c.requires.few) at in
     record { few = omega arith; proper = tt }
 
 pub loop-i-preserved : goal.loop-i-preserved
@@ -33,7 +34,7 @@ loop-i-preserved g c =
       acted = λ links cut done h.
           acted_more i (i + 1) side.Master links cut done (λ k link. next_of side.Slave move.Tick link (done k link)) c.loop-i.links v new _ _ _ (c.loop-i.invariant.acted links cut done h) at one
           (λ link is stands. let a = c.happen_at_slave.ensures.acts.acts link (done (i + 1) link) stands in record { stands = a.stands; channel = a.channel }) c.happen_at_slave.ensures.notes.cut;
-      noted = λ most h. noted_more i (i + 1) most c.loop-i.links v new (c.loop-i.invariant.noted most h) at refl c.happen_at_slave.ensures.notes.noted;
+      noted = λ most h. noted_more i most c.loop-i.links v new (c.loop-i.invariant.noted most h) at c.happen_at_slave.ensures.notes.noted;
       fixed = fixed_set c.loop-i.links i v new at c.happen_at_slave.ensures.notes.fixed ∙ c.loop-i.invariant.fixed;
     }
 

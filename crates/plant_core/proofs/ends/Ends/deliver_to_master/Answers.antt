@@ -2,7 +2,8 @@ use Rattle.std.proofs.Common.{◌≡◌, ◌≤◌, ◌-◌, ◌*◌, ℕ, List,
 use Rattle.plant_core.specs.Link.{LinkView}
 use Rattle.plant_core.specs.Standing.{fixed_in}
 use Rattle.multi_master.proofs.Keeping.{written_back}
-use Rattle.plant_core.proofs.Acting.{all_at, placed, same_count, still_plant, noted_set, noted_less, fixed_set}
+use Rattle.multi_master.proofs.Places.{all_at}
+use Rattle.plant_core.proofs.Acting.{placed, same_count, still_plant, noted_set, noted_less, fixed_set}
 use Rattle.plant_core.proofs.Cycling.{frame_goes}
 use Rattle.plant_core.proofs.ends.Ends.deliver_to_master.Goals as goal
 
