@@ -1,11 +1,14 @@
 -- The reactions of a plant's bounds are told of each line of its script.
 use Rattle.std.proofs.Common.{◌≡◌, ◌≤◌, ◌+◌, ◌*◌, ℕ, zero, suc, Bool, true, false, List, [], ◌∷◌, ◌++◌, All, drop, take, map, length, slice_get, slice_set, Option, Some, None, option_map, refl, sym, ap, ap₂, subst, ◌∙◌, arith}
 use Rattle.std.specs.Option.{option_map_or}
-use Rattle.std.proofs.lemmas.List.Elements.{All-head, All-tail}
+use Rattle.std.proofs.Math.ListN.{length-set}
+use Rattle.std.proofs.lemmas.List.{take_all}
+use Rattle.std.proofs.lemmas.Option.{slice_get_within, slice_get-map}
 use Rattle.plant_conf.specs.declared.conf.BoundSpec.{BoundSpec}
 use Rattle.plant_conf.specs.declared.conf.LinkConf.{LinkConf}
 use Rattle.reaction_bound.specs.Reaction.{Hears, Quiet, ReactionView, Tick, view_of}
 use Rattle.reaction_bound.specs.Reaction as reaction
+use Rattle.multi_master.proofs.Looping.{Untouched, next_taken, untouched_more, written_more}
 use Rattle.plant_model.specs.declared.journal.JournalStep.{JournalStep}
 use Rattle.plant_model.specs.Acts.{Act, Beginning}
 use Rattle.plant_core.specs.Standing.{TellsStill, PlantStands, PlantView, ShowsOn}
@@ -68,84 +71,36 @@ other_heard v bound tick old new still tells quiet e =
           quiet.hears (limit_of b.links bound) said is ∙ ap (λ (q : Bool). view_of (limit_of b.links bound) (Quiet q ∷ said)) (tells.tells b turns h);
     })
 
--- what two functions give: the one for the first places of a list, the other for the rest
-abbrev pub mixed : {X Y : Type 0} → (X → Y) → (X → Y) → ℕ → List X → List Y
-mixed f g i xs = map f (take i xs) ++ map g (drop i xs)
-
-pub mixed_all : {X Y : Type 0} (f g : X → Y) (i : ℕ) (xs : List X) → length xs ≤ i → mixed f g i xs ≡ map f xs
-mixed_all f g zero [] h = refl
-mixed_all f g zero (x ∷ xs) h = absurd (omega arith)
-mixed_all f g (suc i) [] h = refl
-mixed_all f g (suc i) (x ∷ xs) h = ap (λ ys. f x ∷ ys) (mixed_all f g i xs (omega arith))
-
-pub mixed_at : {X Y : Type 0} (f g : X → Y) (i : ℕ) (xs : List X) (x : X) → slice_get xs i ≡ Some x → slice_get (mixed f g i xs) i ≡ Some (g x)
-mixed_at f g i [] x e = absurd (cc e)
-mixed_at f g zero (y ∷ xs) x e = let same : y ≡ x = cc in ap (λ z. Some (g z)) same
-mixed_at f g (suc i) (y ∷ xs) x e = mixed_at f g i xs x e
-
-pub mixed_set : {X Y : Type 0} (f g : X → Y) (i : ℕ) (xs : List X) (x : X) → slice_get xs i ≡ Some x → slice_set (mixed f g i xs) i (f x) ≡ mixed f g (suc i) xs
-mixed_set f g i [] x e = absurd (cc e)
-mixed_set f g zero (y ∷ xs) x e = let same : y ≡ x = cc in ap (λ z. f z ∷ map g xs) (sym same)
-mixed_set f g (suc i) (y ∷ xs) x e = ap (λ ys. f y ∷ ys) (mixed_set f g i xs x e)
-
-some_same : {X : Type 0} (x y : X) → Some x ≡ Some y → x ≡ y
-some_same x y e = cc
-
-room_of : (rs : List ReactionView) (i : ℕ) (r : ReactionView) → All HasRoom rs → slice_get rs i ≡ Some r → HasRoom r
-room_of [] i r h e = absurd (cc e)
-room_of (x ∷ rs) zero r h e = let same : x ≡ r = cc in subst HasRoom same (All-head HasRoom x rs h)
-room_of (x ∷ rs) (suc i) r h e = room_of rs i r (All-tail HasRoom x rs h) e
-
-other_place : {X : Type 0} (xs : List X) (i place : ℕ) (y : X) → (place ≡ i → ⊥) → slice_get (slice_set xs i y) place ≡ slice_get xs place
-other_place [] i place y e = refl
-other_place (x ∷ xs) zero zero y e = absurd (e refl)
-other_place (x ∷ xs) zero (suc place) y e = refl
-other_place (x ∷ xs) (suc i) zero y e = refl
-other_place (x ∷ xs) (suc i) (suc place) y e = other_place xs i place y (λ h. e (ap suc h))
-
-set_count : {X : Type 0} (xs : List X) (i : ℕ) (y : X) → length (slice_set xs i y) ≡ length xs
-set_count [] i y = refl
-set_count (x ∷ xs) zero y = refl
-set_count (x ∷ xs) (suc i) y = ap suc (set_count xs i y)
-
--- what a reaction of a bound was told, before and with a line
-abbrev told_before : Beginning → (BoundSpec → List reaction.Said) → BoundSpec → ReactionView
-told_before b said bound = view_of (limit_of b.links bound) (said bound)
-
+-- what a reaction of a bound was told with a line
 abbrev told_with : Beginning → Bool → List Act → (BoundSpec → List reaction.Said) → BoundSpec → ReactionView
 told_with b tick done said bound = view_of (limit_of b.links bound) (heard b bound tick done (said bound))
 
 -- the reactions of the first bounds were told of a line
 pub record HeardTo (i : ℕ) (v : PlantView) (bounds : List BoundSpec) (tick : Bool) (initial now : List ReactionView) : Type 0 where
   pub count : length now ≡ length bounds
-  pub rest : (place : ℕ) → i ≤ place → slice_get now place ≡ slice_get initial place
+  pub rest : Untouched i initial now
   pub heard_so : (b : Beginning) (turns : List Turn) (said : BoundSpec → List reaction.Said) → PlantStands b v turns → initial ≡ reactions_by b.links said bounds
-      → now ≡ mixed (told_with b tick (acts turns) said) (told_before b said) i bounds
+      → map (told_with b tick (acts turns) said) (take i bounds) ≡ take i now
 
-pub heard_none : (v : PlantView) (bounds : List BoundSpec) (tick : Bool) (initial : List ReactionView) → length initial ≡ length bounds → HeardTo 0 v bounds tick initial initial
-heard_none v bounds tick initial e = record { count = e; rest = λ place le. refl; heard_so = λ b turns said h is. is }
-
-pub heard_more : (i n : ℕ) (v : PlantView) (bounds : List BoundSpec) (tick : Bool) (initial now : List ReactionView) (bound : BoundSpec) (r new : ReactionView) → HeardTo i v bounds tick initial now → n ≡ suc i
-    → slice_get bounds i ≡ Some bound → slice_get now i ≡ Some r → HearsOne v bound tick r new → HeardTo n v bounds tick initial (slice_set now i new)
-heard_more i n v bounds tick initial now bound r new inv e at there hears = record {
-  count = set_count now i new ∙ inv.count;
-  rest = λ place le. other_place now i place new (λ z. absurd (omega arith)) ∙ inv.rest place (omega arith);
+pub heard_more : (i : ℕ) (v : PlantView) (bounds : List BoundSpec) (tick : Bool) (initial now : List ReactionView) (bound : BoundSpec) (r new : ReactionView) → HeardTo i v bounds tick initial now
+    → slice_get bounds i ≡ Some bound → slice_get now i ≡ Some r → HearsOne v bound tick r new → HeardTo (i + 1) v bounds tick initial (slice_set now i new)
+heard_more i v bounds tick initial now bound r new inv at there hears = record {
+  count = length-set now i new ∙ inv.count;
+  rest = untouched_more i initial now (slice_set now i new) new inv.rest refl;
   heard_so = λ b turns said h is.
       let f : BoundSpec → ReactionView = told_with b tick (acts turns) said in
-      let g : BoundSpec → ReactionView = told_before b said in
-      let was : now ≡ mixed f g i bounds = inv.heard_so b turns said h is in
-      let mine : r ≡ g bound = some_same r (g bound) (sym there ∙ ap (λ (z : List ReactionView). slice_get z i) was ∙ mixed_at f g i bounds bound at) in
-      let one : new ≡ f bound = hears.hears b turns (said bound) h mine in
-      ap₂ (λ (z : List ReactionView) (y : ReactionView). slice_set z i y) was one
-      ∙ mixed_set f g i bounds bound at
-      ∙ ap (λ (j : ℕ). mixed f g j bounds) (sym e);
+      let g : BoundSpec → ReactionView = λ bound. view_of (limit_of b.links bound) (said bound) in
+      let mine : Some r ≡ Some (g bound) =
+      sym there ∙ inv.rest i (omega arith) ∙ ap (λ (z : List ReactionView). slice_get z i) is ∙ slice_get-map g bounds i ∙ ap (option_map g) at
+      in
+      ap (map f) (next_taken bounds i bound at)
+      ∙ written_more f (take i bounds) bound now (slice_set now i new) i (inv.heard_so b turns said h is) (slice_get_within now i r there)
+      (ap (slice_set now i) (hears.hears b turns (said bound) h (cc mine)));
 }
 
 pub heard_all : (i : ℕ) (v : PlantView) (bounds : List BoundSpec) (tick : Bool) (initial now : List ReactionView) → length bounds ≤ i → HeardTo i v bounds tick initial now → HearsLine v bounds tick initial now
 heard_all i v bounds tick initial now past inv = record {
-  hears = λ b turns said h is. inv.heard_so b turns said h is ∙ mixed_all (told_with b tick (acts turns) said) (told_before b said) i bounds past;
+  hears = λ b turns said h is.
+      let count = inv.count in
+      sym (ap (map (told_with b tick (acts turns) said)) (sym (take_all i bounds past)) ∙ inv.heard_so b turns said h is ∙ take_all i now (omega arith));
 }
-
--- the reaction at a place has room
-pub room_at : (i : ℕ) (v : PlantView) (bounds : List BoundSpec) (tick : Bool) (initial now : List ReactionView) (r : ReactionView) → HeardTo i v bounds tick initial now → slice_get now i ≡ Some r → All HasRoom initial → HasRoom r
-room_at i v bounds tick initial now r inv there h = room_of initial i r h (sym (inv.rest i (omega arith)) ∙ there)

@@ -1,12 +1,14 @@
-use Rattle.std.proofs.Common.{◌≡◌, ◌+◌, ℕ, suc, Some, slice_get, slice_index_or, sym, ◌∙◌, arith}
+use Rattle.std.proofs.Common.{◌≡◌, ◌+◌, ℕ, Some, slice_get, slice_index_or, refl, sym, ◌∙◌, arith}
 use Rattle.std.proofs.lemmas.Option.{slice_get-get_or}
 use Rattle.plant_conf.specs.declared.conf.BoundSpec.{BoundSpec}
 use Rattle.reaction_bound.specs.Reaction.{ReactionView}
-use Rattle.plant_run.proofs.Watched.{heard_all, heard_more, heard_none, room_at}
+use Rattle.multi_master.proofs.Places.{all_at}
+use Rattle.plant_run.specs.Watching.{HasRoom}
+use Rattle.plant_run.proofs.Watched.{heard_all, heard_more}
 use Rattle.plant_run.proofs.watching.hear_each.Goals as goal
 
 pub loop-i-init : goal.loop-i-init
-loop-i-init g c = heard_none _ c.args.bounds.now c.args.tick c.args.reactions.now c.requires.count
+loop-i-init g c = record { count = c.requires.count; rest = λ k late. refl; heard_so = λ b turns said h is. refl }
 
 pub hear_one-requires : goal.hear_one-requires
 hear_one-requires g c =
@@ -14,7 +16,7 @@ hear_one-requires g c =
     let count = c.loop-i.invariant.count in
     let r : ReactionView = slice_index_or c.loop-i.reactions i c.index-reactions-i.result in
     let at : slice_get c.loop-i.reactions i ≡ Some r = slice_get-get_or c.loop-i.reactions i c.index-reactions-i.result (omega arith) in
-    room_at i _ c.args.bounds.now c.args.tick c.args.reactions.now c.loop-i.reactions r c.loop-i.invariant at c.requires.room
+    all_at HasRoom c.args.reactions.now i r c.requires.room (sym (c.loop-i.invariant.rest i (omega arith)) ∙ at)
 
 pub loop-i-preserved : goal.loop-i-preserved
 loop-i-preserved g c =
@@ -22,11 +24,10 @@ loop-i-preserved g c =
     let count = c.loop-i.invariant.count in
     let r : ReactionView = slice_index_or c.loop-i.reactions i c.index-reactions-i.result in
     let at : slice_get c.loop-i.reactions i ≡ Some r = slice_get-get_or c.loop-i.reactions i c.index-reactions-i.result (omega arith) in
-    let one : i + 1 ≡ suc i = omega arith in
     let none : BoundSpec = record { estop = record { link = 0; bit = 0 }; drive = record { link = 0; bit = 0 } } in
     let bound : BoundSpec = slice_index_or c.args.bounds.now i none in
     let bound_at : slice_get c.args.bounds.now i ≡ Some bound = slice_get-get_or c.args.bounds.now i none (omega arith) in
-    heard_more i (i + 1) _ c.args.bounds.now c.args.tick c.args.reactions.now c.loop-i.reactions bound r c.hear_one.new.reaction c.loop-i.invariant one bound_at at c.hear_one.ensures
+    heard_more i _ c.args.bounds.now c.args.tick c.args.reactions.now c.loop-i.reactions bound r c.hear_one.new.reaction c.loop-i.invariant bound_at at c.hear_one.ensures
 
 pub returns-clause-hears : goal.returns-clause-hears
 returns-clause-hears g c = heard_all c.loop-i.i _ c.args.bounds.now c.args.tick c.args.reactions.now c.loop-i.reactions (omega arith) c.loop-i.invariant
