@@ -5,7 +5,6 @@ use Rattle.std.specs.List.{AllZip}
 use Rattle.fsoe_base.specs.declared.command.End.TheVariants as side
 use Rattle.param_load.specs.declared.master_settings.MasterSettings.{MasterSettings}
 use Rattle.plant_conf.specs.ConfView.{HasSameLengths}
-use Rattle.plant_conf.specs.declared.conf.LinkConf.{LinkConf}
 use Rattle.end_model.specs.Deed.{Deed}
 use Rattle.end_model.specs.Setup.{OfMaster}
 use Rattle.end_model.specs.Step.{IsRun}
