@@ -1,5 +1,5 @@
 -- The reactions of a plant's bounds are told of each line of its script.
-use Rattle.std.proofs.Common.{◌≡◌, ◌≤◌, ◌+◌, ◌*◌, ℕ, zero, suc, Bool, true, false, List, [], ◌∷◌, ◌++◌, All, drop, take, map, length, slice_get, slice_set, Option, Some, None, option_map, refl, sym, ap, ap₂, subst, ◌∙◌, arith}
+use Rattle.std.proofs.Common.{◌≡◌, ◌≤◌, ◌+◌, ◌*◌, ℕ, Bool, true, false, List, ◌∷◌, take, map, length, slice_get, slice_set, Option, Some, None, option_map, refl, sym, ap, ap₂, subst, ◌∙◌, arith}
 use Rattle.std.specs.Option.{option_map_or}
 use Rattle.std.proofs.Math.ListN.{length-set}
 use Rattle.std.proofs.lemmas.List.{take_all}
@@ -16,7 +16,7 @@ use Rattle.plant_model.specs.Bound.{is_on}
 use Rattle.plant_model.specs.BoundLines.{heard, is_driven, limit_by, limit_of}
 use Rattle.plant_model.specs.Pair.{link_at}
 use Rattle.plant_model.specs.Turns.{Turn, acts}
-use Rattle.plant_run.specs.Watching.{HasRoom, HearsLine, HearsOne, reactions_by}
+use Rattle.plant_run.specs.Watching.{HearsLine, HearsOne, reactions_by}
 
 limit_cases : (o p : Option LinkConf) (a b : Option ℕ) → a ≡ option_map (λ (l : LinkConf). l.master.watchdog) o → b ≡ option_map (λ (l : LinkConf). l.master.watchdog) p → (m n : ℕ) → a ≡ Some m → b ≡ Some n → 2 * m + 2 * n ≡ limit_by o p
 limit_cases None p a b e f m n g h = absurd (cc (e, g))
