@@ -1,14 +1,18 @@
 -- All that an end can do at its next event, in a run. Each kind of reaction says when it comes, by the state, the age
 -- and the tests of a frame, and what follows. The reactions are this profile's own. The rule of each stands in
--- docs/protocol.md, in the section of this title: Puts, Holds, SetsNonce              Step, put, hold, nonce Rests
--- Readiness, Age: a slave in Reset has age 0 Ages                                Step, tick, below the limit Expires
--- Step, tick, the age reaches the limit, in any other state SendsAgain                          Step, tick, the age
--- reaches the limit, in state Reset, master ResetsItself                        Step, local reset DropsLength,
--- DropsRepeat            Step, Drop; Verdict, length and repeat DropsInReset                        Step, Refused or
--- Wrong, in state Reset DropsReset                          Step, valid Reset frame with a code other than 0, in state
--- Reset, master Refuses                             Step, Refused or Wrong, in any other state PeerResets
--- Step, valid Reset frame, in any other state Answers                             Step, valid frame of a session, or
--- valid Reset frame in state Reset; of these:
+-- docs/protocol.md, in the section of this title:
+--   Puts, Holds, SetsNonce              Step, put, hold, nonce
+--   Rests                               Readiness, Age: a slave in Reset has age 0
+--   Ages                                Step, tick, below the limit
+--   Expires                             Step, tick, the age reaches the limit, in any other state
+--   SendsAgain                          Step, tick, the age reaches the limit, in state Reset, master
+--   ResetsItself                        Step, local reset
+--   DropsLength, DropsRepeat            Step, Drop; Verdict, length and repeat
+--   DropsInReset                        Step, Refused or Wrong, in state Reset
+--   DropsReset                          Step, valid Reset frame with a code other than 0, in state Reset, master
+--   Refuses                             Step, Refused or Wrong, in any other state
+--   PeerResets                          Step, valid Reset frame, in any other state
+--   Answers                             Step, valid frame of a session, or valid Reset frame in state Reset; of these:
 --     SlaveRejoins, MasterStarts        Step, valid Reset frame, in state Reset
 --     SlaveStarts                       Step, a slave answers a Session frame; Readiness, Allowed: Session in Reset
 --     SlaveGoesOn, MasterGoesOn         Step, what is sent after a frame that was taken; Readiness, Allowed: while not whole

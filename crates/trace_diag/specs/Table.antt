@@ -1,8 +1,10 @@
--- Which field of a frame isn't as it must be, where the frame follows a trace that conforms: the first row of the table
--- that applies. Turn       the frame isn't from the end whose turn it is Length     it hasn't the length of that end's
--- frames Command    its command isn't one of the phase that follows Conn       the connection id isn't 0 in Reset and
--- Session, is 0 in the first Connection frame, or is another than that frame's later Data       the lowest place where
--- a data byte isn't as it must be: 0 in Reset, past a payload, past a piece and in FailSafeData; the bytes of
+-- Which field of a frame isn't as it must be, where the frame follows a trace that conforms: the first row of the
+-- table that applies.
+--   Turn       the frame isn't from the end whose turn it is
+--   Length     it hasn't the length of that end's frames
+--   Command    its command isn't one of the phase that follows
+--   Conn       the connection id isn't 0 in Reset and Session, is 0 in the first Connection frame, or is another than that frame's later
+--   Data       the lowest place where a data byte isn't as it must be: 0 in Reset, past a payload, past a piece and in FailSafeData; the bytes of
 --              the connection id; 2 and 0 as the length of the communication parameters; the master's byte in a slave's answer of Connection or
 --              Parameter; the second byte of a watchdog 0, or of more than 512 application parameters
 --   Crc        the first group whose CRC isn't that of the chain
