@@ -1,8 +1,8 @@
 /*
  * gatepast.h - both ends of a Gatepast connection (Safety over EtherCAT in a profile of its own), for C11 and C++11 on.
  *
- * An end is a machine without clock and line: your program hands it frames and ticks, and sends what it hands out.
- * It takes no memory, holds no lock, waits for nothing and keeps nothing outside the memory that you give it. The
+ * An end has no clock and no communication interface: your program passes in frames and ticks, and sends its frames.
+ * It allocates no memory, holds no lock, waits for nothing and keeps nothing outside the memory that you give it. The
  * library needs memcpy, memmove and memset, and no other function.
  *
  *     static gp_slave_memory memory;
@@ -13,7 +13,7 @@
  *     void follow(void) {                                   (after each step)
  *         uint8_t outputs[MASTER_LEN] = {0};
  *         if (gp_slave_outputs(&slave, outputs, sizeof outputs) != GP_OK) fail();
- *         apply(outputs);                                   (before anything that may take its time)
+ *         apply(outputs);                                   (before anything that may take long)
  *         if (out.len != 0) send(out.bytes, out.len);
  *         if (did.reset != GP_NO_RESET && gp_slave_nonce(&slave, a fresh id) != GP_OK) fail();
  *     }
@@ -31,40 +31,39 @@
  *         }
  *     }
  *
- * fail() switches off and ends. docs/duties.md says what a program owes besides: ids that no session had, also before a
- * power-off; terms that are looked at before the first outputs; resets that are counted. examples/drive.c and
- * examples/controller.c are whole loops that do all of it.
+ * fail() switches off and ends. The library never makes a session id: your program gives a fresh one before each
+ * session. examples/drive.c and examples/controller.c are whole loops, with fresh ids, terms and counted resets.
  *
  * Answers
- *     Each call answers with a number of enum gp_answer, but for gp_.._size and gp_.._align, which answer bytes. GP_OK says
- *     that it was done. Every other one says why it was not, and then the call changed nothing: neither the end, nor what
- *     the pointers lead to, so that a frame of the step before is still in `out`. Where a call may be refused for several
- *     reasons, GP_NO_END and GP_BUSY come first, then GP_FRAME_DUE.
+ *     Each call returns a number of enum gp_answer, except gp_.._size and gp_.._align, which return bytes. GP_OK says that
+ *     the call was done. Every other number says why it was refused. A refused call changed nothing: neither the end, nor
+ *     what the pointers lead to, so `out` still has the frame of the step before. If there are several reasons, GP_NO_END
+ *     and GP_BUSY come first, then GP_FRAME_DUE.
  *
  * What you owe
  *     The code of each call is proved to do what this page says, provided that:
  *     1. A handle is set by GP_SLAVE_IN or GP_MASTER_IN before its first call, to memory that no other handle has. This is
  *        a gp_slave_memory or gp_master_memory, or as many bytes at an address that gp_.._align() divides; before
- *        gp_.._init it may hold anything. From then on these calls alone change the handle, and the memory as long as an
+ *        gp_.._init it may contain anything. From then on only these calls change the handle, and the memory as long as an
  *        end is there. The memory stays where it is until gp_.._end; the handle may be moved. Memory without an end may be
- *        used again or freed. An end that is not needed any more may also be left without gp_.._end, and its memory used
- *        again or freed: then set its handle anew before any other call.
- *     2. Each other pointer leads to an object of its type, or to as many bytes as the number beside it says, and all of it
- *        was given values, also what is only written to: `= {0}` and static storage do so. Beside the number 0 a pointer
- *        is not followed; null there is tried, but not proved.
+ *        used again or freed. So may the memory of an end that is not needed any more, also without gp_.._end: then set
+ *        its handle anew before any other call.
+ *     2. Each other pointer leads to an object of its type, or to as many bytes as the number beside it says. All of it has
+ *        values, also what is only written to: `= {0}` and static storage give them. If that number is 0, the pointer is
+ *        not followed; null there is tried, but not proved.
  *     3. What a call may write to (through a pointer without const) overlaps nothing else that the call is given. So the
- *        frame that is delivered lies elsewhere than `out`.
- *     4. No two calls with the same handle run at a time, those of readers too: no call in an interrupt or a signal handler
- *        while one that it interrupted runs. Calls with different handles may, in different threads.
+ *        delivered frame lies outside `out`.
+ *     4. No two calls with the same handle overlap, also not those of readers: none is made in an interrupt or a signal
+ *        handler that interrupted another. Calls with different handles may run in different threads.
  *     5. A bool is true or false.
  *     6. Header and archive are of one version: compare gp_.._size() with the size of the memory, as above.
- *     Nothing else is owed: any number, length and byte may be passed at any time.
+ *     Any number, length and byte may be passed at any time. What a machine needs besides is in docs/duties.md.
  *
- *     Not proved, but so by how the library is made, since it keeps nothing of a thread's: a handle may be used in another
- *     thread than before, where the hand-over is ordered, as by a lock.
+ *     Not proved, but believed, since the library keeps nothing of a thread: another thread may go on with a handle, if the
+ *     hand-over is ordered, for example by a lock.
  *
  * Units
- *     Ticks are milliseconds, or whatever both ends tick by. Lengths are bytes. Numbers have the machine's byte order.
+ *     Ticks are milliseconds, or what both ends tick by. Lengths are bytes. Numbers have the machine's byte order.
  */
 #ifndef GATEPAST_H
 #define GATEPAST_H
@@ -86,7 +85,7 @@ extern "C" {
 #define GP_ALIGNED _Alignas(8)
 #endif
 
-/* Whose answer has to be looked at: compilers that can, warn where it isn't. */
+/* Compilers that can, warn if the returned number isn't looked at. */
 #if (defined(__cplusplus) && __cplusplus >= 201703L) || (!defined(__cplusplus) && __STDC_VERSION__ >= 202311L)
 #define GP_CHECKED [[nodiscard]]
 #elif defined(__GNUC__)
@@ -95,7 +94,7 @@ extern "C" {
 #define GP_CHECKED
 #endif
 
-/* The memory of an end. gp_slave_size() and gp_master_size() answer the same numbers. */
+/* The memory of an end. gp_slave_size() and gp_master_size() return the same numbers. */
 #define GP_SLAVE_SIZE 4456
 #define GP_MASTER_SIZE 2320
 
@@ -104,13 +103,13 @@ extern "C" {
 #define GP_MOST_FRAME 255
 #define GP_MOST_APP 512
 
-/* What a call answers. */
+/* What a call returns. */
 enum gp_answer {
     GP_OK = 0,
-    GP_NO_END = 1,       /* no end is there: init was not called, or end was */
+    GP_NO_END = 1,       /* no end is there: before init, or after end */
     GP_BUSY = 2,         /* init: an end is there already */
-    GP_BAD_LENGTH = 3,   /* init: a length is neither 1 nor even and from 2 to 126; put, offer: another number of bytes
-                            than this end's data have; outputs: than its peer's have */
+    GP_BAD_LENGTH = 3,   /* init: a length is neither 1 nor even and from 2 to 126; put, offer: not as many bytes as
+                            this end sends; outputs: as its peer sends */
     GP_BAD_PROFILE = 4,  /* init: the profile is neither 1 nor 2 */
     GP_BAD_NONCE = 5,    /* init, nonce: a session id above 65535 in profile 1 */
     GP_BAD_CONN = 6,     /* init: the connection id is 0 */
@@ -119,8 +118,8 @@ enum gp_answer {
     GP_BAD_MOST = 9,     /* init: most is 0 */
     GP_BAD_APP = 10,     /* init: more than 512 bytes of application parameters, ranges of different lengths, or a lowest
                             value above its highest */
-    GP_FRAME_DUE = 11,   /* deliver, accept, tick, reset of a master: a frame is due; call reply, and then this again: a
-                            tick that was refused is not counted */
+    GP_FRAME_DUE = 11,   /* deliver, accept, tick, reset of a master: a frame is due. Call reply, and then this again: a
+                            refused tick is not counted */
     GP_NONE_DUE = 12,    /* reply: no frame is due */
     GP_NOT_IN_DATA = 13  /* terms: the end is not in state GP_DATA */
 };
@@ -166,24 +165,24 @@ enum gp_code {
 /* Why a frame was dropped without an answer: gp_did.dropped is one of these. */
 enum gp_dropped {
     GP_NOT_DROPPED = 0,
-    GP_DROPPED_LENGTH = 1,  /* it has another number of bytes than the peer's frames */
-    GP_DROPPED_REPEAT = 2,  /* it is the frame that was taken last, once more */
+    GP_DROPPED_LENGTH = 1,  /* its length is not that of the peer's frames */
+    GP_DROPPED_REPEAT = 2,  /* it equals the last frame taken */
     GP_DROPPED_IN_RESET = 3 /* it fails a test in state GP_RESET */
 };
 
 /* A frame: the first `len` bytes of `bytes`. Those behind them are never written. */
 typedef struct gp_frame {
-    size_t len; /* 0 where nothing is to be sent */
+    size_t len; /* 0 if nothing is to be sent */
     uint8_t bytes[GP_MOST_FRAME];
 } gp_frame;
 
 /* What a step did. At most one of `took`, `reset` and `dropped` is not 0. */
 typedef struct gp_did {
-    uint8_t took;               /* enum gp_command: that of the frame that was taken, 0 where none was */
-    uint8_t passed;             /* 1: a frame that is no Reset frame passed the test of its CRCs */
-    uint8_t sent;               /* 1: there is a frame to send; after accept always 0: see there */
+    uint8_t took;               /* enum gp_command: that of the frame that was taken, 0 if none was */
+    uint8_t passed;             /* 1: a frame that is no Reset frame passed its CRC test */
+    uint8_t sent;               /* 1: there is a frame to send; always 0 after accept: see there */
     uint8_t reset;              /* enum gp_cause */
-    uint8_t code;               /* enum gp_code: the code of that reset, 0 where there is none */
+    uint8_t code;               /* enum gp_code: the code of that reset, 0 if there is none */
     uint8_t dropped;            /* enum gp_dropped */
     uint8_t load_len;           /* the safe data of the frame that was taken are the first load_len bytes of load */
     uint8_t load[GP_MOST_DATA]; /* those behind them are never written */
@@ -194,36 +193,36 @@ typedef struct gp_terms {
     uint16_t conn;     /* the connection id */
     uint16_t address;  /* the slave's address */
     uint16_t watchdog; /* in ticks */
-    uint16_t word;     /* the word of profile 2; 0 in profile 1 */
+    uint16_t word;     /* the profile word; 0 in profile 1 */
     uint16_t app_len;  /* the application parameters are the first app_len bytes of app */
     uint8_t profile;   /* 1 or 2 */
     uint8_t app[GP_MOST_APP];
 } gp_terms;
 
-/* What a slave is set to, but for its rule for application parameters. */
+/* The settings of a slave, except its rule for application parameters. */
 typedef struct gp_slave_settings {
     uint16_t master_len; /* safe data bytes of the master's frames: 1, or even and 2 to 126 */
     uint16_t slave_len;  /* safe data bytes of the slave's frames: 1, or even and 2 to 126 */
     uint16_t address;    /* the slave's address, any number */
-    uint16_t hand;       /* the watchdog of a handshake, until the master's is known: the session ends in the tick that makes
-                            so many since this slave sent a frame; 1 to 65535 */
+    uint16_t hand;       /* the handshake timeout, until the master's watchdog is known: n ends the session in the n-th tick
+                            after this slave sent its last frame; 1 to 65535 */
     uint16_t most;       /* the longest watchdog that is accepted from a master, in ticks, 1 to 65535 */
     uint16_t profile;    /* 1 or 2 */
-    uint32_t nonce;      /* the first session's id, a fresh one too; at most 65535 in profile 1 */
-    uint16_t word;       /* the word of profile 2; not read in profile 1 */
+    uint32_t nonce;      /* the first session's id: give a fresh one; at most 65535 in profile 1 */
+    uint16_t word;       /* the profile word; not read in profile 1 */
 } gp_slave_settings;
 
-/* What a master is set to, but for the application parameters. */
+/* The settings of a master, except the application parameters. */
 typedef struct gp_master_settings {
     uint16_t master_len; /* safe data bytes of the master's frames: 1, or even and 2 to 126 */
     uint16_t slave_len;  /* safe data bytes of the slave's frames: 1, or even and 2 to 126 */
     uint16_t conn;       /* the connection id, 1 to 65535 */
     uint16_t address;    /* the address of the slave */
-    uint16_t watchdog;   /* at both ends: the session ends in the tick that makes so many since that end sent a frame; 1 to
+    uint16_t watchdog;   /* at both ends: n ends the session in the n-th tick after that end sent its last frame; 1 to
                             65535 */
     uint16_t profile;    /* 1 or 2 */
-    uint32_t nonce;      /* the first session's id, a fresh one too; at most 65535 in profile 1 */
-    uint16_t word;       /* the word of profile 2; not read in profile 1 */
+    uint32_t nonce;      /* the first session's id: give a fresh one; at most 65535 in profile 1 */
+    uint16_t word;       /* the profile word; not read in profile 1 */
 } gp_master_settings;
 
 /* Memory for a slave, and for a master. */
@@ -235,8 +234,8 @@ typedef struct gp_master_memory {
     GP_ALIGNED uint8_t bytes[GP_MASTER_SIZE];
 } gp_master_memory;
 
-/* The handles. Set one by its macro where it is declared, and leave its fields to the library. Later C sets one by
-   `slave = (gp_slave)GP_SLAVE_IN(&memory)`, and C++11 by `slave = gp_slave GP_SLAVE_IN(&memory)`. */
+/* The handles. Set one by its macro where it is declared, and leave its fields to the library. Set one anew by
+   `slave = (gp_slave)GP_SLAVE_IN(&memory)` in C, `slave = gp_slave GP_SLAVE_IN(&memory)` in C++11. */
 typedef struct gp_slave {
     gp_slave_memory *memory;
     bool live;
@@ -252,67 +251,67 @@ typedef struct gp_master {
 
 /* ---- A slave ---- */
 
-/* The bytes of its memory, and a number that has to divide their address. */
+/* Return its memory's bytes, and a number that has to divide their address. */
 size_t gp_slave_size(void);
 size_t gp_slave_align(void);
 
-/* Makes a slave in its memory: in state GP_RESET, with zeros put and as outputs, and not held. The three calls differ in
-   which application parameters the slave accepts: any app_len bytes; these bytes alone; or as many bytes as low and high
-   have, each of them, at its place, from low to high.
-   Of several faults the first in this order is answered, here and by gp_master_init: GP_BUSY; GP_BAD_APP for more than
-   512 bytes at app, low or high; the others by their numbers, so that GP_BAD_APP for app_len of gp_slave_init, or for
-   ranges that do not match, comes last. */
+/* Creates a slave in its memory, in state GP_RESET, with offer and outputs of zeros, and fail-safe data off. It
+   accepts as application parameters any app_len bytes, or only those at app. By the third call it accepts as many bytes as
+   low and high have, each from low to high at its place.
+   The first fault is returned, here and by gp_master_init. GP_BUSY is first, then GP_BAD_APP for more than 512 bytes at
+   app, low or high. The others come by their numbers, so GP_BAD_APP for app_len of gp_slave_init, or for ranges that do
+   not match, is last. */
 GP_CHECKED uint8_t gp_slave_init(gp_slave *slave, const gp_slave_settings *set, uint16_t app_len);
 GP_CHECKED uint8_t gp_slave_init_exact(gp_slave *slave, const gp_slave_settings *set, const uint8_t *app, size_t app_len);
 GP_CHECKED uint8_t gp_slave_init_ranges(gp_slave *slave, const gp_slave_settings *set, const uint8_t *low, size_t low_len,
                                         const uint8_t *high, size_t high_len);
 
-/* Lets the slave go; the memory is yours again. The peer is not told: where it is to know, call gp_slave_reset
-   before, and send its frame. */
+/* Ends the use of the slave; the memory is yours again. If the peer is to know it, call gp_slave_reset before, and send
+   its frame. */
 uint8_t gp_slave_end(gp_slave *slave);
 
-/* A frame of the master came: any bytes, of any number. out is the frame to send, of no bytes where none is. */
+/* Delivers a frame of the master: any bytes, of any number. out is the frame to send, with len 0 if none is. */
 GP_CHECKED uint8_t gp_slave_deliver(gp_slave *slave, const uint8_t *frame, size_t frame_len, gp_frame *out, gp_did *did);
 
-/* A tick passed. Where the watchdog expires the session ends with code 5, the outputs are zeros from this call on, and out
+/* Counts a tick. If the watchdog expires, the session ends with code 5, the outputs are zeros from this call on, and out
    is the Reset frame to send. */
 GP_CHECKED uint8_t gp_slave_tick(gp_slave *slave, gp_frame *out, gp_did *did);
 
 /* Ends the session, if there is one. out is the Reset frame to send. */
 GP_CHECKED uint8_t gp_slave_reset(gp_slave *slave, gp_frame *out, gp_did *did);
 
-/* The slave's own safe data from now on, slave_len bytes: each ProcessData frame that is sealed from now on carries them.
-   They outlast resets: a session that comes anew goes on with them. So where the old data may not come again, put zeros or
-   hold after each did.reset. */
+/* Sets the safe data to send from now on, slave_len bytes. They outlast resets: the next session sends them again. So if
+   old data may not come again, put zeros or hold after each did.reset. */
 GP_CHECKED uint8_t gp_slave_put(gp_slave *slave, const uint8_t *load, size_t load_len);
 
-/* While held, a slave goes on with its session and sends zeros as FailSafeData in place of what was put. A hold outlasts
-   resets, and ends by gp_slave_hold with false. */
+/* Switches fail-safe data on or off. While on, the session continues, and the slave sends zeros as FailSafeData in place
+   of what was put. It outlasts resets. */
 GP_CHECKED uint8_t gp_slave_hold(gp_slave *slave, bool failsafe);
 
-/* The session id of each session that begins from now on. It outlasts resets, so that the next session has the same one
-   again unless a fresh one is set: do so after each did.reset. */
+/* Sets the session id of all sessions that begin after this call. It outlasts resets: give a fresh one after each
+   did.reset, else the next session has the same one again. */
 GP_CHECKED uint8_t gp_slave_nonce(gp_slave *slave, uint32_t id);
 
-/* Readers: they change nothing at the end. */
+/* Readers: they change nothing at the slave. */
 
 /* enum gp_state. */
 GP_CHECKED uint8_t gp_slave_state(gp_slave *slave, uint8_t *state);
 
-/* The data of the frame that was taken last in this session, if it was a ProcessData frame, else zeros: so in every state
-   but GP_DATA, after a FailSafeData frame, and from the tick at which the watchdog expires. outputs_len is master_len. */
+/* The data received from the master (SafeOutputs in ETG.5100): those of the last frame taken. They are zeros in every
+   state but GP_DATA, after a FailSafeData frame, and from the tick at which the watchdog expires. outputs_len is
+   master_len. */
 GP_CHECKED uint8_t gp_slave_outputs(gp_slave *slave, uint8_t *outputs, size_t outputs_len);
 
 /* What was put last, zeros at first. offer_len is slave_len. */
 GP_CHECKED uint8_t gp_slave_offer(gp_slave *slave, uint8_t *offer, size_t offer_len);
 
-/* In state GP_DATA alone. */
+/* Only in state GP_DATA. */
 GP_CHECKED uint8_t gp_slave_terms(gp_slave *slave, gp_terms *terms);
 
-/* The ticks since this slave sent a frame last, 0 in state GP_RESET. */
+/* The ticks since this slave sent its last frame, 0 in state GP_RESET. */
 GP_CHECKED uint8_t gp_slave_age(gp_slave *slave, uint16_t *age);
 
-/* 1 while held, else 0. */
+/* 1: fail-safe data on; 0: off. */
 GP_CHECKED uint8_t gp_slave_held(gp_slave *slave, uint8_t *held);
 
 /* ---- A master ---- */
@@ -320,48 +319,48 @@ GP_CHECKED uint8_t gp_slave_held(gp_slave *slave, uint8_t *held);
 size_t gp_master_size(void);
 size_t gp_master_align(void);
 
-/* Makes a master in its memory, with these application parameters for its slave: in state GP_RESET, with zeros put and as
-   outputs, and not held. Its first tick sends the first frame. The order of faults stands at gp_slave_init. */
+/* Creates a master in its memory, with these application parameters for its slave, in state GP_RESET. Offer and outputs are
+   zeros, and fail-safe data off. Its first tick sends the first frame. gp_slave_init has the order of faults. */
 GP_CHECKED uint8_t gp_master_init(gp_master *master, const gp_master_settings *set, const uint8_t *app, size_t app_len);
 
-/* Lets the master go; the memory is yours again. The peer is not told: where it is to know, call gp_master_reset
-   before, and send its frame. */
+/* Ends the use of the master; the memory is yours again. If the peer is to know it, call gp_master_reset before, and send
+   its frame. */
 uint8_t gp_master_end(gp_master *master);
 
-/* A frame of the slave came: any bytes, of any number. out is the frame that follows it, of no bytes where none does. */
+/* Delivers a frame of the slave: any bytes, of any number. out is the frame to send, with len 0 if none is. */
 GP_CHECKED uint8_t gp_master_deliver(gp_master *master, const uint8_t *frame, size_t frame_len, gp_frame *out, gp_did *did);
 
-/* The same in two calls, with the application between them: accept takes the frame, then the outputs are read and new data
-   put, and where a frame is due reply writes it, with these data. A frame is due exactly where did.took or did.reset is not
-   0, and until reply deliveries, ticks and resets are refused. */
+/* Deliver in two calls, with the application between them. After accept, read the outputs and put new data. If a frame is
+   due, reply writes it, with these data. A frame is due exactly if did.took or did.reset is not 0. Until reply, deliveries,
+   ticks and resets are refused. */
 GP_CHECKED uint8_t gp_master_accept(gp_master *master, const uint8_t *frame, size_t frame_len, gp_did *did);
-GP_CHECKED uint8_t gp_master_due(gp_master *master, uint8_t *due); /* 1 where a frame is due */
+GP_CHECKED uint8_t gp_master_due(gp_master *master, uint8_t *due); /* 1 if a frame is due */
 GP_CHECKED uint8_t gp_master_reply(gp_master *master, gp_frame *out);
 
-/* A tick passed. Where the watchdog expires the session ends with code 5, the outputs are zeros from this call on, and out
-   is the Reset frame to send. In state GP_RESET the Reset frame is sent again each time that the watchdog is over. */
+/* Counts a tick. If the watchdog expires, the session ends with code 5, the outputs are zeros from this call on, and out
+   is the Reset frame to send. In state GP_RESET out is the Reset frame again at each expiry. */
 GP_CHECKED uint8_t gp_master_tick(gp_master *master, gp_frame *out, gp_did *did);
 
 /* Ends the session, if there is one. out is the Reset frame to send. */
 GP_CHECKED uint8_t gp_master_reset(gp_master *master, gp_frame *out, gp_did *did);
 
-/* As of a slave, and outlasting resets as there; the master's own safe data are master_len bytes. All three are allowed
-   while a frame is due, and count for it. */
+/* Set the safe data to send (master_len bytes), fail-safe data, and the session id, as at a slave. They outlast resets,
+   and act on a frame that is due too. */
 GP_CHECKED uint8_t gp_master_put(gp_master *master, const uint8_t *load, size_t load_len);
 GP_CHECKED uint8_t gp_master_hold(gp_master *master, bool failsafe);
 GP_CHECKED uint8_t gp_master_nonce(gp_master *master, uint32_t id);
 
-/* Readers, as of a slave: they change nothing at the end. While a frame is due it counts as sent. */
+/* Readers, as at a slave: they change nothing at the master. A frame that is due counts as sent. */
 GP_CHECKED uint8_t gp_master_state(gp_master *master, uint8_t *state);
 
-/* What the slave put: of a master the outputs are the inputs of its application. outputs_len is slave_len. */
+/* The data received from the slave (SafeInputs in ETG.5100), zeros as at a slave. outputs_len is slave_len. */
 GP_CHECKED uint8_t gp_master_outputs(gp_master *master, uint8_t *outputs, size_t outputs_len);
 
 /* What was put last, zeros at first. offer_len is master_len. */
 GP_CHECKED uint8_t gp_master_offer(gp_master *master, uint8_t *offer, size_t offer_len);
 GP_CHECKED uint8_t gp_master_terms(gp_master *master, gp_terms *terms);
 
-/* The ticks since this master sent a frame last: watchdog - 1 where it sent none yet, and 0 while a frame is due. */
+/* The ticks since this master sent its last frame: watchdog - 1 if it sent none yet, and 0 while a frame is due. */
 GP_CHECKED uint8_t gp_master_age(gp_master *master, uint16_t *age);
 GP_CHECKED uint8_t gp_master_held(gp_master *master, uint8_t *held);
 

@@ -7,14 +7,14 @@
  *     if (status == GP_REPLAY_CUT) fail();              (or once more with more memory)
  *     fwrite(report, 1, ended.len, stdout);
  *
- * It takes no memory but its stack, holds no lock, waits for nothing and keeps nothing: each call begins anew. The archive,
- * of crates/replay_c, needs memcpy, memmove and memset, and no other function. It is one of its own, so that a device that
- * links gatepast.h's archive has neither the grammar of such texts nor their runner in it; a program may link both.
+ * It allocates no memory, holds no lock, waits for nothing and keeps nothing: each call begins anew. The archive, of
+ * crates/replay_c, needs memcpy, memmove and memset, and no other function. It is separate from gatepast.h's archive, so that
+ * a device has neither the grammar of such texts nor their runner in it. A program may link both.
  *
  * What you owe
  *     The code of the call is proved to do what this page says, provided that:
- *     1. text and report lead to as many bytes as the number beside each says, and ended to a gp_ended, and all of these were
- *        given values, also what is only written to: `= {0}` and static storage do so. Beside the number 0 a pointer is not
+ *     1. text and report lead to as many bytes as the number beside each says, and ended to a gp_ended. All of these have
+ *        values, also what is only written to: `= {0}` and static storage give them. If that number is 0, the pointer is not
  *        followed; null there is tried, but not proved.
  *     2. report and *ended overlap neither each other nor text.
  *     3. Nothing else writes to any of them during the call. Calls over other memory may run in other threads.
@@ -35,7 +35,7 @@ extern "C" {
 #error "replay.h needs C11"
 #endif
 
-/* Whose answer has to be looked at: compilers that can, warn where it isn't. */
+/* Compilers that can, warn if the returned status isn't looked at. */
 #if (defined(__cplusplus) && __cplusplus >= 201703L) || (!defined(__cplusplus) && __STDC_VERSION__ >= 202311L)
 #define GP_CHECKED [[nodiscard]]
 #elif defined(__GNUC__)
@@ -46,22 +46,22 @@ extern "C" {
 
 /* The statuses of a replay, by the program's numbers. */
 enum gp_replay_status {
-    GP_REPLAY_OK = 0,    /* the text was read up to its line `end`, and no entry is other */
-    GP_REPLAY_OTHER = 1, /* the same, and an entry is other */
-    GP_REPLAY_LINE = 4,  /* a line is refused, or doesn't come; also one that names a frame that wasn't sent */
+    GP_REPLAY_OK = 0,    /* the text was read up to its line `end`, and no entry is `other` */
+    GP_REPLAY_OTHER = 1, /* the same, with an `other` entry */
+    GP_REPLAY_LINE = 4,  /* a line is refused or missing, or names a frame that wasn't sent */
     GP_REPLAY_CUT = 7    /* the memory is full: call again with more */
 };
 
 /* How a replay ended. */
 typedef struct gp_ended {
-    uint64_t place; /* GP_REPLAY_OTHER: the number of the first other entry; GP_REPLAY_LINE: the number of the line;
+    uint64_t place; /* GP_REPLAY_OTHER: the number of the first `other` entry; GP_REPLAY_LINE: the number of the line;
                        GP_REPLAY_CUT: len; else 0 */
     size_t len;     /* the bytes of the report that were written */
 } gp_ended;
 
-/* Runs both ends over the text, writes their report to the front of `report`, and answers the status. With GP_REPLAY_CUT a
+/* Runs both ends over the text, writes their report to the front of `report`, and returns the status. With GP_REPLAY_CUT a
    first part of the report fills that memory; with every other status the first ended->len bytes are the whole report.
-   Bytes behind them are not written. That a report that fits exactly is not cut is tried, but not proved. */
+   Bytes behind them are not written. It is tried, not proved, that a report that fits exactly is not cut. */
 GP_CHECKED uint8_t gp_replay(const uint8_t *text, size_t text_len, uint8_t *report, size_t report_len, gp_ended *ended);
 
 #ifdef __cplusplus

@@ -1,23 +1,23 @@
 /*
- * A controller: a master that runs one connection. Each millisecond it takes the frames that came, reads what the slave
- * says, decides, and sends. The frame that answers carries what was decided from the frame that came, by accept and
- * reply. However it ends, it tells the drive by a Reset frame, so that this doesn't run on until its watchdog expires.
+ * A controller: a master that runs one connection. Each millisecond it accepts the frames that came, reads the slave's
+ * data, decides, and sends. By accept and reply, the next frame carries what was decided from the frame that came.
+ * However it ends, it sends a Reset frame, so that the drive doesn't run on until its watchdog expires.
  *
- * What stands under "The device" is what you replace. Here a list of a slave's answers stands for the bus, each of which
- * comes a millisecond after the frame that it answers; after the last one the slave is silent.
+ * Replace what is under "The device". Here the bus is a list of a slave's answers, each of which comes a millisecond
+ * after the frame that it answers; after the last one the slave is silent.
  */
 #include <gatepast.h>
 #include <stdio.h>
 #include <stdlib.h>
 
 enum { MASTER_LEN = 2, SLAVE_LEN = 2, ADDRESS = 2, CONNECTION = 1 };
-enum { MOST_FRAMES = 4 };   /* that are taken in a millisecond, so that ticks never wait for frames */
+enum { MOST_FRAMES = 4 };   /* delivered in a millisecond, so that ticks never wait for frames */
 enum { MOST_RESETS = 100 }; /* after so many a person has to look */
 
 /* The device */
 
 static unsigned now; /* the time in milliseconds */
-static unsigned due; /* when the answer to the last frame comes; 0 where none does */
+static unsigned due; /* when the answer to the last frame comes; 0 if none does */
 
 static const uint8_t coming[][7] = {
     {0x2A, 0x00, 0x00, 0xC4, 0x2D, 0x00, 0x00}, {0x4E, 0x02, 0x00, 0x90, 0x47, 0x00, 0x00},
@@ -28,7 +28,7 @@ static const uint8_t coming[][7] = {
     {0x36, 0x00, 0x00, 0x78, 0xE1, 0x01, 0x00},
 };
 
-/* Waits for the next millisecond, or not where one was missed: each is ticked. False where the program is to end. */
+/* Waits for the next millisecond, or not if one was missed: each is ticked. False if the program is to end. */
 static bool next_millisecond(void) {
     return ++now <= 150;
 }
@@ -50,15 +50,15 @@ static void bus_send(const uint8_t *frame, size_t len) {
     printf("\n");
 }
 
-/* A cell of memory that outlasts power-off, with the session id that was used last. Here each run begins at 0, as no device
-   may, since the frames above belong to id 1. */
+/* A cell of memory that outlasts power-off, with the session id that was used last. Here each run begins at 0, since the
+   frames above belong to id 1; no device may. */
 static uint16_t cell;
 
 static uint16_t read_lasting(void) {
     return cell;
 }
 
-/* False where the value isn't kept. */
+/* False if the value isn't stored. */
 static bool write_lasting(uint16_t value) {
     cell = value;
     return true;
@@ -71,7 +71,7 @@ static gp_master master = GP_MASTER_IN(&memory);
 static gp_frame out;
 static gp_did did;
 
-/* Ends the session at both ends. A frame that is due is given up: it may carry an order that nobody stands for any more. */
+/* Ends the session at both ends. A frame that is due isn't sent: its order may no longer be right. */
 static void leave(void) {
     uint8_t answer = gp_master_reset(&master, &out, &did);
     if (answer == GP_FRAME_DUE && gp_master_reply(&master, &out) == GP_OK) answer = gp_master_reset(&master, &out, &did);
@@ -84,7 +84,7 @@ static void stop(const char *why) {
     exit(1);
 }
 
-/* A session id that no session of this master had, kept before it is used. */
+/* A session id that no session of this master had, stored before it is used. */
 static uint16_t fresh_id(void) {
     const uint16_t last = read_lasting();
     if (last == 0xFFFF) stop("all session ids are used up");
@@ -92,8 +92,8 @@ static uint16_t fresh_id(void) {
     return (uint16_t)(last + 1);
 }
 
-/* Enables the motor where the drive says in bit 7 that it is ready. The inputs are zeros in every state but GP_DATA, so that
-   after a reset the first order that goes out is off. */
+/* Enables the motor if the drive says in bit 7 that it is ready. The inputs (a master's outputs) are zeros in every state
+   but GP_DATA, so after a reset the first order is off. */
 static void decide(void) {
     uint8_t inputs[SLAVE_LEN] = {0}, order[MASTER_LEN] = {0};
     if (gp_master_outputs(&master, inputs, sizeof inputs) != GP_OK) stop("no inputs");
@@ -101,7 +101,7 @@ static void decide(void) {
     if (gp_master_put(&master, order, sizeof order) != GP_OK) stop("the order is refused");
 }
 
-/* After each step, when its frame is sent: what may take its time. */
+/* After each step, when its frame is sent: what may take long. */
 static void follow(void) {
     static unsigned resets;
     if (did.took == GP_COMMAND_PROCESS_DATA) printf("%3u ms: the drive says %02x\n", now, did.load[0]);
@@ -111,7 +111,7 @@ static void follow(void) {
     if (gp_master_nonce(&master, fresh_id()) != GP_OK) stop("no session id");
 }
 
-/* A frame came: takes it, decides, and sends what follows it. */
+/* Accepts a frame, decides, and sends the frame that is due. */
 static void came(const uint8_t *frame, size_t len) {
     uint8_t is_due = 0;
     if (gp_master_accept(&master, frame, len, &did) != GP_OK) stop("no master");
@@ -124,7 +124,7 @@ static void came(const uint8_t *frame, size_t len) {
     follow();
 }
 
-/* A millisecond passed. Where the watchdog expires the inputs are zeros at once. */
+/* Counts a tick. If the watchdog expires, the inputs are zeros at once. */
 static void passed(void) {
     if (gp_master_tick(&master, &out, &did) != GP_OK) stop("no master");
     decide();

@@ -1,19 +1,19 @@
 /*
- * A drive: a slave in its cyclic loop. Each millisecond it takes the frames that came, counts a tick, drives its motor by
- * the outputs, and sends what is to be sent. Where anything is wrong the motor is off.
+ * A drive: a slave in its cyclic loop. Each millisecond it delivers the frames that came, counts a tick, drives its motor
+ * by the outputs, and sends. If anything is wrong, the motor is off.
  *
- * What stands under "The device" is what you replace. Here a list of frames stands for the bus: a master brings the
- * connection up, switches the motor on, and then is silent until the watchdog expires.
+ * Replace what is under "The device". Here the bus is a list of frames: a master brings the connection up, switches the
+ * motor on, and then is silent until the watchdog expires.
  *
- * When data come again the motor stays off until its bit was 0 and is 1 again, so a bit that is stuck starts nothing. That
- * somebody acknowledged it is up to the master's application.
+ * When data come again, the motor stays off until its bit was 0 and is 1 again, so a stuck bit starts nothing. The
+ * acknowledgement by a person is up to the master's application.
  */
 #include <gatepast.h>
 #include <stdio.h>
 #include <stdlib.h>
 
 enum { MASTER_LEN = 2, SLAVE_LEN = 2, ADDRESS = 2, CONNECTION = 1 };
-enum { MOST_FRAMES = 4 };   /* that are taken in a millisecond, so that ticks never wait for frames */
+enum { MOST_FRAMES = 4 };   /* delivered in a millisecond, so that ticks never wait for frames */
 enum { MOST_RESETS = 100 }; /* after so many a person has to look */
 
 /* The device */
@@ -28,7 +28,7 @@ static const uint8_t coming[][7] = {
     {0x36, 0x01, 0x00, 0xBF, 0x61, 0x01, 0x00},
 };
 
-/* Waits for the next millisecond, or not where one was missed: each is ticked. False where the program is to end. */
+/* Waits for the next millisecond, or not if one was missed: each is ticked. False if the program is to end. */
 static bool next_millisecond(void) {
     return ++now <= 150;
 }
@@ -56,15 +56,15 @@ static void drive_motor(const uint8_t outputs[MASTER_LEN]) {
     was = on;
 }
 
-/* A cell of memory that outlasts power-off, with the session id that was used last. Here each run begins at 0, as no device
-   may, since the frames above belong to id 2. */
+/* A cell of memory that outlasts power-off, with the session id that was used last. Here each run begins at 0, since the
+   frames above belong to id 2; no device may. */
 static uint16_t cell;
 
 static uint16_t read_lasting(void) {
     return cell;
 }
 
-/* False where the value isn't kept. */
+/* False if the value isn't stored. */
 static bool write_lasting(uint16_t value) {
     cell = value;
     return true;
@@ -86,7 +86,7 @@ static void stop(const char *why) {
     exit(1);
 }
 
-/* A session id that no session of this drive had, kept before it is used. A slave counts by 2. */
+/* A session id that no session of this drive had, stored before it is used. A slave counts by 2. */
 static uint16_t fresh_id(void) {
     const uint16_t last = read_lasting();
     if (last >= 0xFFFE) stop("all session ids are used up");
@@ -94,7 +94,7 @@ static uint16_t fresh_id(void) {
     return (uint16_t)(last + 2);
 }
 
-/* Looks at what a session agreed on when it comes to data, before its first outputs. Ends one that isn't for this drive. */
+/* Looks at the terms when a session comes to data, before its first outputs. Ends one that isn't for this drive. */
 static void look_at_terms(void) {
     static bool looked;
     static gp_terms terms;
@@ -107,7 +107,7 @@ static void look_at_terms(void) {
     if (terms.conn != CONNECTION && gp_slave_reset(&slave, &out, &did) != GP_OK) stop("no reset");
 }
 
-/* Holds the motor's bit at 0 until it came as 0 since data came. */
+/* Keeps the motor's bit at 0 until it came as 0 since data came. */
 static void interlock(uint8_t outputs[MASTER_LEN]) {
     static bool released;
     uint8_t state = GP_RESET;
@@ -116,7 +116,7 @@ static void interlock(uint8_t outputs[MASTER_LEN]) {
     if (!released) outputs[0] &= 0xFE;
 }
 
-/* After each step: first the outputs, then the frame, and last what may take its time. */
+/* After each step: first the outputs, then the frame, and last what may take long. */
 static void follow(void) {
     static unsigned resets;
     uint8_t outputs[MASTER_LEN] = {0};
@@ -147,7 +147,7 @@ int main(void) {
     drive_motor(off);
     start();
     while (next_millisecond()) {
-        const uint8_t inputs[SLAVE_LEN] = {0x80, 0x00}; /* what the drive tells its master: ready */
+        const uint8_t inputs[SLAVE_LEN] = {0x80, 0x00}; /* what the drive offers its master: ready */
         const uint8_t *frame = NULL;
         size_t len = 0;
         if (gp_slave_put(&slave, inputs, sizeof inputs) != GP_OK) stop("the inputs are refused");

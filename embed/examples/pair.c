@@ -1,6 +1,6 @@
 /*
  * Both ends over a channel that loses, repeats and alters frames. Whatever it does, the outputs of the slave are zeros, or
- * what its master put into the frame that the slave took last; and where frames stop they are zeros within the watchdog.
+ * what its master put into the last frame taken. If frames stop, they are zeros within the watchdog.
  */
 #include <gatepast.h>
 #include <stdio.h>

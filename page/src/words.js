@@ -18,7 +18,7 @@ const CODES = {
   "04": "wrong CRC",
   "05": "watchdog expired",
   "06": "wrong slave address",
-  "07": "wrong safety data",
+  "07": "wrong safe data",
   "08": "wrong length of communication parameters",
   "09": "wrong communication parameter",
   "0a": "wrong length of application parameters",
@@ -31,8 +31,8 @@ export function codeWords(code) {
 }
 
 const DROPS = {
-  Length: "it hasn't as many bytes as the peer's frames have",
-  Repeat: "its bytes are those of the frame that was taken last",
+  Length: "its length isn't that of the peer's frames",
+  Repeat: "it equals the last frame taken",
   InReset: "it fails a test, and the end is in state Reset",
 };
 
@@ -44,11 +44,11 @@ const CAUSES = {
   Header: "a header line may not begin so here, or the first line isn't “fsoe 1 pair”",
   Word: "no event begins with this word",
   Fields: "the number of fields isn't that of the word; fields are separated by exactly one space",
-  Number: "a number is none, or too large, or a switch is neither 0 nor 1",
+  Number: "a field isn't a number or is too large, or a switch is neither 0 nor 1",
   Reference: "a reference to a frame isn't one of -1 to -64",
   Hex: "a hexadecimal field isn't one, or is too long",
-  Length: "a length isn't 1, or even and from 2 to 126; or a put hasn't as many bytes as its end sends",
-  Range: "a value of the header may not be so",
+  Length: "a length is neither 1 nor even and from 2 to 126, or a put isn't as long as its end's data",
+  Range: "a value of the header isn't allowed",
   Position: "the frame has no byte at this place",
   NoFrame: "the peer hadn't sent so many frames before this event",
 };
@@ -109,11 +109,11 @@ export const ARROWS = { plain: "", late: "late", again: "again", altered: "alter
 export function endingWords(status, place, events) {
   switch (status) {
     case 0:
-      return `All ${events} events were run, and no entry is other: the law of the pair holds of every line.`;
+      return `All ${events} events were run, without an “other” entry: the law of the pair holds of every line.`;
     case 1:
-      return `All ${events} events were run. Entry ${place} is the first other one: the law of the pair holds of the lines before it.`;
+      return `All ${events} events were run. Entry ${place} is the first “other” one: the law of the pair holds of the lines before it.`;
     case 4:
-      return `Line ${place} is refused. The events before it were run; of an other entry a report that ends so says nothing.`;
+      return `Line ${place} is refused. The events before it were run; such a report says nothing of an “other” entry.`;
     default:
       return `The run ended with status ${status} at place ${place}.`;
   }

@@ -1,11 +1,11 @@
 //! Both ends of a Gatepast connection, Safety over EtherCAT in a profile of its own.
 //!
-//! An end has no clock and no line: your program hands it frames and ticks, and sends what it hands out. It lies in memory that
-//! you lend it, takes none besides, and needs no operating system. The machine code behind it is proved to do what the profile
-//! says; this package is a thin layer over it, and isn't proved. Its types leave no call to write that the archive refuses: lengths
-//! are part of the type of an end, a session id has the bits that its profile allows, and where a master owes a frame only sending
-//! it leads on. What they can't see is owed, as `docs/duties.md` says: each step's frame sent, fresh ids, ticks, outputs applied.
-//! `examples/drive.rs` is a whole loop.
+//! An end has no clock and no communication interface: your program passes in frames and ticks, and sends its frames.
+//! It lies in memory that you lend it, allocates none, and needs no operating system. The machine code behind it is
+//! proved to do what the profile says; this package is a thin layer over it, and isn't proved. The archive refuses no
+//! call that the types allow. Lengths are part of the type of an end, a session id has the bits that its profile
+//! allows, and a master that owes a frame sends it first. Your other duties are in `docs/duties.md`: send each step's
+//! frame, give a fresh id before each session, tick, apply the outputs. `examples/drive.rs` is a whole loop.
 //!
 //! ```
 //! use core::num::NonZeroU16;
@@ -52,7 +52,7 @@ const fn is_length(len: usize) -> bool {
     len == 1 || (len >= 2 && len <= 126 && len % 2 == 0)
 }
 
-/// The library refused a call that the types allow, so that the archive isn't the one that this package was written for.
+/// The library refused a call that the types allow, so the archive isn't the one that this package was written for.
 #[cold]
 fn other_archive(answer: u8) -> ! {
     panic!("gatepast: the archive answered {answer}; it is not the one of this package")
@@ -74,7 +74,7 @@ fn done(answer: u8) {
 /// let mut slave = Slave::<One, 3, 2>::new(&mut SlaveMemory::new(), &settings, Rule::any::<0>());
 /// ```
 ///
-/// a put of another number of bytes,
+/// a put of a wrong length,
 ///
 /// ```compile_fail,E0308
 /// # fn f(slave: &mut gatepast::Slave<'_, gatepast::One, 2, 2>) {
@@ -116,7 +116,7 @@ fn done(answer: u8) {
 /// slave.put(&[1, 2]);
 /// ```
 ///
-/// and, where warnings are errors, a step that nobody looks at.
+/// and, if warnings are errors, a step that nobody looks at.
 ///
 /// ```compile_fail
 /// # #![deny(unused_must_use)]

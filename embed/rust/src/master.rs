@@ -27,8 +27,8 @@ impl Default for MasterMemory {
     }
 }
 
-/// A master that sends `M` safe data bytes a frame, and whose slave sends `S`. Each is 1, or even and from 2 to 126; an end of
-/// other lengths isn't built.
+/// A master that sends `M` safe data bytes a frame, and whose slave sends `S`. Each is 1, or even and from 2 to 126; an
+/// end of other lengths isn't built.
 pub struct Master<'m, P: Profile, const M: usize, const S: usize> {
     handle: ffi::Handle,
     out: ffi::Frame,
@@ -37,8 +37,8 @@ pub struct Master<'m, P: Profile, const M: usize, const S: usize> {
     profile: PhantomData<P>,
 }
 
-// SAFETY: the handle's memory is lent to this value alone. That the library keeps nothing elsewhere, as of a thread, is so by how it
-// is made, and believed: the proof is of calls in one thread.
+// SAFETY: the handle's memory is lent only to this value. That the library keeps nothing elsewhere, also nothing of a
+// thread, is believed: the proof is of calls in one thread.
 unsafe impl<P: Profile, const M: usize, const S: usize> Send for Master<'_, P, M, S> {}
 
 impl<'m, P: Profile, const M: usize, const S: usize> Master<'m, P, M, S> {
@@ -47,7 +47,8 @@ impl<'m, P: Profile, const M: usize, const S: usize> Master<'m, P, M, S> {
         "a length is 1, or even and from 2 to 126"
     );
 
-    /// A master in this memory: in state Reset, with zeros to offer and to give, and not held. Its first tick sends the first frame.
+    /// Creates a master in this memory, in state Reset, with offer and outputs of zeros, and fail-safe data off. Its
+    /// first tick sends the first frame.
     pub fn new(memory: &'m mut MasterMemory, settings: &MasterSettings<'_, P>) -> Self {
         let () = Self::LENGTHS;
         // SAFETY: both calls take nothing.
@@ -80,7 +81,7 @@ impl<'m, P: Profile, const M: usize, const S: usize> Master<'m, P, M, S> {
         master
     }
 
-    /// What the last step did, with its frame: for who reads outputs before the frame is sent.
+    /// Returns the last step again, so that you can read outputs before its frame is sent.
     pub fn last_step(&self) -> Step<'_> {
         Step {
             out: &self.out,
@@ -88,7 +89,7 @@ impl<'m, P: Profile, const M: usize, const S: usize> Master<'m, P, M, S> {
         }
     }
 
-    /// Makes a step that is refused while a frame is due. One can be due only where a [`Due`] was forgotten: its frame is lost then.
+    /// Makes a step that is refused while a frame is due. One is due only if a [`Due`] was forgotten: it is lost.
     fn at_rest(&mut self, mut call: impl FnMut(&mut Self) -> u8) {
         let mut answer = call(self);
         if answer == ffi::FRAME_DUE {
@@ -99,9 +100,9 @@ impl<'m, P: Profile, const M: usize, const S: usize> Master<'m, P, M, S> {
         done(answer);
     }
 
-    /// A frame of the slave came: any bytes, of any number. The step has the frame that follows it.
+    /// Delivers a frame of the slave: any bytes, of any number. The step has the frame to send.
     pub fn deliver(&mut self, frame: &[u8]) -> Step<'_> {
-        // SAFETY: the handle has a master, the slice is valid, and the three that are written to are fields of their own.
+        // SAFETY: the handle has a master, the slice is valid, and the three that are written to are separate fields.
         self.at_rest(|it| unsafe {
             ffi::gp_master_deliver(
                 &mut it.handle,
@@ -114,7 +115,7 @@ impl<'m, P: Profile, const M: usize, const S: usize> Master<'m, P, M, S> {
         self.last_step()
     }
 
-    /// A frame of the slave came, and the application is to act before the frame that follows is sealed.
+    /// Accepts a frame of the slave, so that the application can act before the next frame is built.
     pub fn accept(&mut self, frame: &[u8]) -> Accepted<'_, 'm, P, M, S> {
         // SAFETY: as in `deliver`.
         self.at_rest(|it| unsafe {
@@ -131,7 +132,7 @@ impl<'m, P: Profile, const M: usize, const S: usize> Master<'m, P, M, S> {
         }
     }
 
-    /// A tick passed. Where the watchdog expires the session ends, and the outputs are zeros from this call on.
+    /// Counts a tick. If the watchdog expires, the session ends, and the outputs are zeros from this call on.
     pub fn tick(&mut self) -> Step<'_> {
         // SAFETY: as in `deliver`.
         self.at_rest(|it| unsafe { ffi::gp_master_tick(&mut it.handle, &mut it.out, &mut it.did) });
@@ -147,27 +148,27 @@ impl<'m, P: Profile, const M: usize, const S: usize> Master<'m, P, M, S> {
         self.last_step()
     }
 
-    /// The master's own safe data from now on. They outlast resets: a session that comes anew goes on with them, so where the
-    /// old data may not come again, put zeros or hold after each reset.
+    /// Sets the safe data to send from now on. They outlast resets: the next session sends them again. So if old data
+    /// may not come again, put zeros or hold after each reset.
     pub fn put(&mut self, load: &[u8; M]) {
         // SAFETY: as in `deliver`.
         done(unsafe { ffi::gp_master_put(&mut self.handle, load.as_ptr(), M) });
     }
 
-    /// Whether zeros are sent in place of what was put from now on. It outlasts resets.
+    /// Switches fail-safe data (zeros in place of what was put) on or off. It outlasts resets.
     pub fn hold(&mut self, failsafe: bool) {
         // SAFETY: as in `deliver`.
         done(unsafe { ffi::gp_master_hold(&mut self.handle, failsafe) });
     }
 
-    /// The session id of each session that begins from now on. It outlasts resets, so that the next session has the same one again
-    /// unless a fresh one is set: do so after each reset.
+    /// Sets the session id of all sessions that begin after this call. It outlasts resets: give a fresh one after each
+    /// reset, else the next session has the same one again.
     pub fn nonce(&mut self, id: P::Nonce) {
         // SAFETY: as in `deliver`.
         done(unsafe { ffi::gp_master_nonce(&mut self.handle, id.into()) });
     }
 
-    /// The state. While a frame is due it counts as sent.
+    /// Returns the state. A frame that is due counts as sent.
     pub fn state(&mut self) -> State {
         let mut number = 0;
         // SAFETY: as in `deliver`.
@@ -175,9 +176,8 @@ impl<'m, P: Profile, const M: usize, const S: usize> Master<'m, P, M, S> {
         state(number)
     }
 
-    /// The outputs, which are the inputs of the master's application: the data of the frame that was taken last in this session, if it
-    /// was a ProcessData frame, else zeros. So they are zeros in every state but Data, after a FailSafeData frame, and from the tick at
-    /// which the watchdog expires.
+    /// Returns the data received from the slave (SafeInputs in ETG.5100): those of the last frame taken. They are
+    /// zeros in every state but Data, after a FailSafeData frame, and from the tick at which the watchdog expires.
     pub fn outputs(&mut self) -> [u8; S] {
         let mut outputs = [0; S];
         // SAFETY: as in `deliver`.
@@ -193,7 +193,7 @@ impl<'m, P: Profile, const M: usize, const S: usize> Master<'m, P, M, S> {
         offer
     }
 
-    /// The terms of the session, in state Data alone.
+    /// The terms of the session, only in state Data.
     pub fn terms(&mut self) -> Option<Terms> {
         let mut terms = NO_TERMS;
         // SAFETY: as in `deliver`.
@@ -206,7 +206,7 @@ impl<'m, P: Profile, const M: usize, const S: usize> Master<'m, P, M, S> {
         }
     }
 
-    /// The ticks since the last frame was sent; one less than the watchdog where none was sent yet.
+    /// The ticks since the last frame was sent; one less than the watchdog if none was sent yet.
     pub fn age(&mut self) -> u16 {
         let mut age = 0;
         // SAFETY: as in `deliver`.
@@ -214,7 +214,7 @@ impl<'m, P: Profile, const M: usize, const S: usize> Master<'m, P, M, S> {
         age
     }
 
-    /// Whether zeros are sent in place of what was put.
+    /// Whether fail-safe data are on.
     pub fn held(&mut self) -> bool {
         let mut held = 0;
         // SAFETY: as in `deliver`.
@@ -230,24 +230,24 @@ impl<P: Profile, const M: usize, const S: usize> Drop for Master<'_, P, M, S> {
     }
 }
 
-/// What came of a frame that was accepted.
+/// The result of [`Master::accept`].
 #[must_use = "a frame may be due"]
 pub enum Accepted<'a, 'm, P: Profile, const M: usize, const S: usize> {
-    /// It was dropped, for this reason, and nothing is to be sent.
+    /// The frame was dropped for this reason; nothing is to be sent.
     Dropped(Option<Dropped>),
-    /// It was taken, or ended the session, and a frame is due.
+    /// The frame was taken or ended the session; one is due.
     Due(Due<'a, 'm, P, M, S>),
 }
 
-/// A master that owes a frame. Nothing else can be done with it before [`Due::reply`], but what the frame is to carry. Where this is
-/// let go without a reply, the frame is lost, as on a channel.
+/// A master that owes a frame. Before [`Due::reply`] it can only be read, and given what the frame carries. If this
+/// value is dropped without a reply, the frame is lost.
 #[must_use = "a frame is due, which `reply` gives"]
 pub struct Due<'a, 'm, P: Profile, const M: usize, const S: usize> {
     master: &'a mut Master<'m, P, M, S>,
 }
 
 impl<'a, 'm, P: Profile, const M: usize, const S: usize> Due<'a, 'm, P, M, S> {
-    /// The frame to send. It carries what was put last.
+    /// Returns the frame to send, with what was put last.
     #[must_use = "this is the frame to send"]
     pub fn reply(self) -> &'a [u8] {
         let due = ManuallyDrop::new(self);
@@ -268,17 +268,17 @@ impl<'a, 'm, P: Profile, const M: usize, const S: usize> Due<'a, 'm, P, M, S> {
         reset(&self.master.did)
     }
 
-    /// As [`Master::put`]: the frame that is due carries these data.
+    /// Calls [`Master::put`], also for the frame that is due.
     pub fn put(&mut self, load: &[u8; M]) {
         self.master.put(load);
     }
 
-    /// As [`Master::hold`], for the frame that is due too.
+    /// Calls [`Master::hold`], also for the frame that is due.
     pub fn hold(&mut self, failsafe: bool) {
         self.master.hold(failsafe);
     }
 
-    /// As [`Master::nonce`], for a session that the frame that is due begins, too.
+    /// Calls [`Master::nonce`], also for a session that the due frame begins.
     pub fn nonce(&mut self, id: P::Nonce) {
         self.master.nonce(id);
     }

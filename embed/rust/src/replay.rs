@@ -5,11 +5,11 @@ mod ffi;
 /// How a replay ended.
 #[derive(Clone, Copy, Debug, PartialEq, Eq)]
 pub enum Ending {
-    /// The text was read up to its line `end`, and no entry is other.
+    /// The text was read up to its line `end`, and no entry is `other`.
     Whole,
-    /// The same, and the entry of this number is the first other one.
+    /// The same, and the entry of this number is the first `other` one.
     Other(u64),
-    /// The line of this number is refused, or doesn't come; also one that names a frame that wasn't sent.
+    /// The line of this number is refused or missing, or names a frame that wasn't sent.
     Refused(u64),
     /// The report doesn't fit into the memory.
     Cut,
@@ -25,7 +25,7 @@ pub struct Replayed<'r> {
     pub report: &'r [u8],
 }
 
-/// Runs both ends over the text of a pair file, as the program's `replay` does, and writes their report to the front of this memory.
+/// Runs both ends over the text of a pair file, as the program's `replay` does, and writes the report to this memory.
 ///
 /// ```
 /// use gatepast::{replay, Ending};
@@ -37,7 +37,7 @@ pub struct Replayed<'r> {
 /// ```
 pub fn replay<'r>(text: &[u8], memory: &'r mut [u8]) -> Replayed<'r> {
     let mut ended = ffi::Ended { place: 0, len: 0 };
-    // SAFETY: the pointers lead to slices of so many bytes and to a struct, all with values, and what is borrowed mutably overlaps nothing.
+    // SAFETY: the pointers lead to so many bytes and a struct, all with values; what is written to overlaps nothing.
     let status = unsafe {
         ffi::gp_replay(
             text.as_ptr(),

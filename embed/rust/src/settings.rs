@@ -1,4 +1,4 @@
-//! What the ends are set to.
+//! The settings of the ends.
 
 use core::num::NonZeroU16;
 
@@ -26,16 +26,16 @@ mod private {
 /// Profile One: session ids have 16 bits, and the one communication parameter is the watchdog.
 #[derive(Clone, Copy, Debug, PartialEq, Eq)]
 pub struct One {
-    /// The id of the first session, a fresh one too.
+    /// The id of the first session: give a fresh one.
     pub nonce: u16,
 }
 
 /// Profile Two: session ids have 32 bits, and the communication parameters are the watchdog and a word.
 #[derive(Clone, Copy, Debug, PartialEq, Eq)]
 pub struct Two {
-    /// The id of the first session, a fresh one too.
+    /// The id of the first session: give a fresh one.
     pub nonce: u32,
-    /// The profile word, which both ends have to have.
+    /// The profile word, equal at both ends.
     pub word: u16,
 }
 
@@ -65,13 +65,13 @@ impl Profile for Two {
     }
 }
 
-/// What a slave is set to. Times are in ticks.
+/// The settings of a slave. Times are in ticks.
 #[derive(Clone, Copy, Debug)]
 pub struct SlaveSettings<P> {
     /// The slave's address.
     pub address: u16,
-    /// The watchdog of a handshake, until the master's is known: the session ends in the tick that makes so many since this slave sent
-    /// a frame.
+    /// The handshake timeout, until the master's watchdog is known: n ends the session in the n-th tick after this
+    /// slave sent its last frame.
     pub hand: NonZeroU16,
     /// The longest watchdog that is accepted from a master. Old data may stay on for nearly twice as long.
     pub most: NonZeroU16,
@@ -79,14 +79,14 @@ pub struct SlaveSettings<P> {
     pub profile: P,
 }
 
-/// What a master is set to. Times are in ticks.
+/// The settings of a master. Times are in ticks.
 #[derive(Clone, Copy, Debug)]
 pub struct MasterSettings<'a, P> {
     /// The connection id.
     pub conn: NonZeroU16,
     /// The slave's address.
     pub address: u16,
-    /// The watchdog, at both ends: the session ends in the tick that makes so many since that end sent a frame.
+    /// The watchdog at both ends: n ends the session in the n-th tick after that end sent its last frame.
     pub watchdog: NonZeroU16,
     /// The application parameters, which the slave's rule has to allow.
     pub app: App<'a>,
@@ -102,7 +102,7 @@ impl<'a> App<'a> {
     /// No application parameters.
     pub const NONE: App<'static> = App(&[]);
 
-    /// These bytes. None where they are more than 512.
+    /// These bytes, or None if they are more than 512.
     pub const fn new(bytes: &'a [u8]) -> Option<App<'a>> {
         if bytes.len() <= 512 {
             Some(App(bytes))
@@ -135,12 +135,12 @@ impl<'a> Rule<'a> {
         Rule(Kind::Any(N))
     }
 
-    /// These bytes alone.
+    /// Only these bytes.
     pub const fn exact(app: App<'a>) -> Rule<'a> {
         Rule(Kind::Exact(app.0))
     }
 
-    /// As many bytes as `low` and `high` have, each of them, at its place, from `low` to `high`. None where these don't match.
+    /// As many bytes as `low` and `high` have, each from `low` to `high` at its place. None if these don't match.
     pub fn ranges(low: App<'a>, high: App<'a>) -> Option<Rule<'a>> {
         let matched =
             low.0.len() == high.0.len() && low.0.iter().zip(high.0).all(|(low, high)| low <= high);

@@ -24,8 +24,8 @@ impl Default for SlaveMemory {
     }
 }
 
-/// A slave whose master sends `M` safe data bytes a frame, and which itself sends `S`. Each is 1, or even and from 2 to 126; an
-/// end of other lengths isn't built.
+/// A slave whose master sends `M` safe data bytes a frame, and which itself sends `S`. Each is 1, or even and from 2 to
+/// 126; an end of other lengths isn't built.
 pub struct Slave<'m, P: Profile, const M: usize, const S: usize> {
     handle: ffi::Handle,
     out: ffi::Frame,
@@ -34,8 +34,8 @@ pub struct Slave<'m, P: Profile, const M: usize, const S: usize> {
     profile: PhantomData<P>,
 }
 
-// SAFETY: the handle's memory is lent to this value alone. That the library keeps nothing elsewhere, as of a thread, is so by how it
-// is made, and believed: the proof is of calls in one thread.
+// SAFETY: the handle's memory is lent only to this value. That the library keeps nothing elsewhere, also nothing of a
+// thread, is believed: the proof is of calls in one thread.
 unsafe impl<P: Profile, const M: usize, const S: usize> Send for Slave<'_, P, M, S> {}
 
 impl<'m, P: Profile, const M: usize, const S: usize> Slave<'m, P, M, S> {
@@ -44,7 +44,7 @@ impl<'m, P: Profile, const M: usize, const S: usize> Slave<'m, P, M, S> {
         "a length is 1, or even and from 2 to 126"
     );
 
-    /// A slave in this memory: in state Reset, with zeros to offer and to give, and not held.
+    /// Creates a slave in this memory, in state Reset, with offer and outputs of zeros, and fail-safe data off.
     pub fn new(memory: &'m mut SlaveMemory, settings: &SlaveSettings<P>, rule: Rule<'_>) -> Self {
         let () = Self::LENGTHS;
         // SAFETY: both calls take nothing.
@@ -89,7 +89,7 @@ impl<'m, P: Profile, const M: usize, const S: usize> Slave<'m, P, M, S> {
         slave
     }
 
-    /// What the last step did, with its frame: for who reads outputs and terms before the frame is sent.
+    /// Returns the last step again, so that you can read outputs and terms before its frame is sent.
     pub fn last_step(&self) -> Step<'_> {
         Step {
             out: &self.out,
@@ -97,9 +97,9 @@ impl<'m, P: Profile, const M: usize, const S: usize> Slave<'m, P, M, S> {
         }
     }
 
-    /// A frame of the master came: any bytes, of any number.
+    /// Delivers a frame of the master: any bytes, of any number.
     pub fn deliver(&mut self, frame: &[u8]) -> Step<'_> {
-        // SAFETY: the handle has a slave, the slice is valid, and the three that are written to are fields of their own.
+        // SAFETY: the handle has a slave, the slice is valid, and the three that are written to are separate fields.
         done(unsafe {
             ffi::gp_slave_deliver(
                 &mut self.handle,
@@ -112,7 +112,7 @@ impl<'m, P: Profile, const M: usize, const S: usize> Slave<'m, P, M, S> {
         self.last_step()
     }
 
-    /// A tick passed. Where the watchdog expires the session ends, and the outputs are zeros from this call on.
+    /// Counts a tick. If the watchdog expires, the session ends, and the outputs are zeros from this call on.
     pub fn tick(&mut self) -> Step<'_> {
         // SAFETY: as in `deliver`.
         done(unsafe { ffi::gp_slave_tick(&mut self.handle, &mut self.out, &mut self.did) });
@@ -126,21 +126,21 @@ impl<'m, P: Profile, const M: usize, const S: usize> Slave<'m, P, M, S> {
         self.last_step()
     }
 
-    /// The slave's own safe data from now on. They outlast resets: a session that comes anew goes on with them, so where the
-    /// old data may not come again, put zeros or hold after each reset.
+    /// Sets the safe data to send from now on. They outlast resets: the next session sends them again. So if old data
+    /// may not come again, put zeros or hold after each reset.
     pub fn put(&mut self, load: &[u8; S]) {
         // SAFETY: as in `deliver`.
         done(unsafe { ffi::gp_slave_put(&mut self.handle, load.as_ptr(), S) });
     }
 
-    /// Whether zeros are sent in place of what was put from now on. It outlasts resets.
+    /// Switches fail-safe data (zeros in place of what was put) on or off. It outlasts resets.
     pub fn hold(&mut self, failsafe: bool) {
         // SAFETY: as in `deliver`.
         done(unsafe { ffi::gp_slave_hold(&mut self.handle, failsafe) });
     }
 
-    /// The session id of each session that begins from now on. It outlasts resets, so that the next session has the same one again
-    /// unless a fresh one is set: do so after each reset.
+    /// Sets the session id of all sessions that begin after this call. It outlasts resets: give a fresh one after each
+    /// reset, else the next session has the same one again.
     pub fn nonce(&mut self, id: P::Nonce) {
         // SAFETY: as in `deliver`.
         done(unsafe { ffi::gp_slave_nonce(&mut self.handle, id.into()) });
@@ -154,7 +154,7 @@ impl<'m, P: Profile, const M: usize, const S: usize> Slave<'m, P, M, S> {
         state(number)
     }
 
-    /// The outputs: the data of the frame that was taken last in this session, if it was a ProcessData frame, else zeros. So they are
+    /// Returns the data received from the master (SafeOutputs in ETG.5100): those of the last frame taken. They are
     /// zeros in every state but Data, after a FailSafeData frame, and from the tick at which the watchdog expires.
     pub fn outputs(&mut self) -> [u8; M] {
         let mut outputs = [0; M];
@@ -171,7 +171,7 @@ impl<'m, P: Profile, const M: usize, const S: usize> Slave<'m, P, M, S> {
         offer
     }
 
-    /// The terms of the session, in state Data alone.
+    /// The terms of the session, only in state Data.
     pub fn terms(&mut self) -> Option<Terms> {
         let mut terms = NO_TERMS;
         // SAFETY: as in `deliver`.
@@ -192,7 +192,7 @@ impl<'m, P: Profile, const M: usize, const S: usize> Slave<'m, P, M, S> {
         age
     }
 
-    /// Whether zeros are sent in place of what was put.
+    /// Whether fail-safe data are on.
     pub fn held(&mut self) -> bool {
         let mut held = 0;
         // SAFETY: as in `deliver`.

@@ -1,4 +1,4 @@
-//! What steps of an end do, and what an end tells of itself.
+//! What steps of an end do, and what is read of an end.
 
 use crate::ffi;
 
@@ -15,7 +15,7 @@ pub enum Command {
     Parameter,
     /// It carries process data.
     ProcessData,
-    /// It says that process data aren't to be used.
+    /// It carries zeros in place of process data.
     FailSafeData,
 }
 
@@ -39,7 +39,7 @@ pub enum State {
 pub struct Code(pub u8);
 
 impl Code {
-    /// The end was told to, answers a reset, or is a master that starts.
+    /// A local reset, an answer to a reset, or a master that starts.
     pub const LOCAL_RESET: Code = Code(0);
     /// The watchdog expired.
     pub const WATCHDOG_EXPIRED: Code = Code(5);
@@ -48,7 +48,7 @@ impl Code {
 /// Why an end went to state Reset.
 #[derive(Clone, Copy, Debug, PartialEq, Eq)]
 pub enum Cause {
-    /// It was told to.
+    /// `reset` was called.
     Local,
     /// Its peer sent a Reset frame with this code.
     Peer(Code),
@@ -59,9 +59,9 @@ pub enum Cause {
 /// Why a frame was dropped without an answer.
 #[derive(Clone, Copy, Debug, PartialEq, Eq)]
 pub enum Dropped {
-    /// It has another number of bytes than the peer's frames.
+    /// Its length isn't that of the peer's frames.
     Length,
-    /// It is the frame that was taken last, once more.
+    /// It equals the last frame taken.
     Repeat,
     /// It fails a test in state Reset.
     InReset,
@@ -70,13 +70,13 @@ pub enum Dropped {
 /// A frame that an end took.
 #[derive(Clone, Copy, Debug, PartialEq, Eq)]
 pub struct Took<'a> {
-    /// What it is for.
+    /// Its command.
     pub command: Command,
     /// Its safe data.
     pub load: &'a [u8],
 }
 
-/// What a step did, with the frame that is to be sent.
+/// What a step did, with the frame to send.
 #[must_use = "a step may have a frame to send, and may have ended the session"]
 #[derive(Clone, Copy)]
 pub struct Step<'a> {
@@ -179,7 +179,7 @@ impl<'a> Step<'a> {
         dropped(self.did)
     }
 
-    /// Whether a frame that is no Reset frame passed the test of its CRCs.
+    /// Whether a frame that is no Reset frame passed its CRC test.
     pub fn passed(&self) -> bool {
         self.did.passed != 0
     }
@@ -194,7 +194,7 @@ pub struct Terms {
     pub address: u16,
     /// The watchdog in ticks.
     pub watchdog: u16,
-    /// The word of profile Two; None in profile One.
+    /// The profile word; None in profile One.
     pub word: Option<u16>,
     app_len: u16,
     app: [u8; 512],
