@@ -4,8 +4,9 @@ use Rattle.fb_net.specs.declared.spec.BlockSpec.{BlockSpec}
 use Rattle.fb_net.specs.Values.{NetCycle, NetBlock, block_values}
 use Rattle.fb_net.specs.Outputs.{driven_images}
 use Rattle.fb_net.specs.NetView.{NetView, plan}
-use Rattle.fb_net.specs.Standing.{BlocksStand, NetStands}
+use Rattle.fb_net.specs.Standing.{BlocksStand, net_outputs}
 use Rattle.fb_net.specs.Ready.{AllReady}
+use Rattle.fb_net.specs.New.{IsNewNet}
 use Rattle.fb_net.specs.Steps.{cycle_of, given, run_values, run_blocks, holds_of, all_restored}
 use Rattle.fb_net.specs.Meaning.{rule_of, net_holds}
 use Rattle.fb_net.specs.Calls.{Call, cycles_of, held_after}
@@ -44,12 +45,12 @@ held-is v (a ∷ e) r =
     ap (λ (held : List ℕ). holds_of (run_blocks [] a.cycle (all_restored (plan v.blocks) held))) (held-is v e r)
     ∙ ap (λ (bs : List BlockSpec). holds_of (run_blocks [] a.cycle bs)) (restored-after v.blocks e r)
 
-pub rule_answers : (v : NetView) (a : Call) (e : List Call) → AllReady v.blocks → NetStands v []
-    → (rule_of v (held_after (rule_of v) (net_holds v) e) a.cycle.ticked a.cycle.inputs a.lens).outputs
-    ≡ driven_images v.drives (block_values (plan v.blocks) (a.cycle ∷ cycles_of e)) a.cycle.inputs a.lens
-rule_answers v a e r s =
+pub rule_answers : (v : NetView) (a : Call) (e : List Call) → IsNewNet v
+    → (rule_of v (held_after (rule_of v) (net_holds v) e) a.cycle.ticked a.cycle.inputs a.lens).outputs ≡ net_outputs v (a.cycle ∷ cycles_of e) a.lens
+rule_answers v a e new =
+    let r : AllReady v.blocks = new.ready in
     let F : List Bool → List (List ℕ) = λ vs. driven_images v.drives vs a.cycle.inputs a.lens in
     ap (λ (held : List ℕ). F (run_values [] a.cycle (all_restored (plan v.blocks) held))) (held-is v e r)
     ∙ ap (λ (bs : List BlockSpec). F (run_values [] a.cycle bs)) (restored-after v.blocks e r)
-    ∙ ap F (values_are (λ _. []) (after v.blocks e) a.cycle (cycles_of e) (ready-after v.blocks e r) (stand-after v.blocks e r s.blocks))
+    ∙ ap F (values_are (λ _. []) (after v.blocks e) a.cycle (cycles_of e) (ready-after v.blocks e r) (stand-after v.blocks e r new.stands.blocks))
     ∙ ap (λ (ps : List NetBlock). F (block_values ps (a.cycle ∷ cycles_of e))) (plan-after v.blocks e)

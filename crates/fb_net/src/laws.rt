@@ -9,8 +9,8 @@ ghost use Rattle.fb_net.specs.Values.{NetCycle, NetBlock, wire_value, block_valu
 ghost use Rattle.fb_net.specs.Outputs.{driven_images};
 ghost use Rattle.fb_net.specs.NetView.{NetView, plan};
 ghost use Rattle.fb_net.specs.Guarded.{is_output_guarded};
-ghost use Rattle.fb_net.specs.Standing.{NetStands};
-ghost use Rattle.fb_net.specs.Ready.{AllReady};
+ghost use Rattle.fb_net.specs.Standing.{NetStands, net_outputs};
+ghost use Rattle.fb_net.specs.New.{IsNewNet};
 ghost use Rattle.fb_net.specs.Meaning.{rule_of, net_holds};
 ghost use Rattle.fb_net.specs.Calls.{Call, Called, cycles_of, all_outputs, held_after};
 ghost use Rattle.fb_net.specs.Acknowledged.{stop_blocks, stop_drives, is_on, may_run, is_acknowledged, is_let_go, StopRow};
@@ -28,9 +28,9 @@ pub fn calls()
 /// The rule of a new net gives the same: from what it holds after any calls, its answer to one more is that of the
 /// definition over the cycles.
 pub fn rule()
-    ensures { (v : NetView) (a : Call) (e : List Call) → AllReady v.blocks → NetStands v []
+    ensures { (v : NetView) (a : Call) (e : List Call) → IsNewNet v
         → (rule_of v (held_after (rule_of v) (net_holds v) e) a.cycle.ticked a.cycle.inputs a.lens).outputs
-        ≡ driven_images v.drives (block_values (plan v.blocks) (a.cycle ∷ cycles_of e)) a.cycle.inputs a.lens }
+        ≡ net_outputs v (a.cycle ∷ cycles_of e) a.lens }
 {}
 
 /// A guarded output bit is 0 in each cycle in which its input bit is 0, whatever came before.

@@ -40,9 +40,7 @@ impl Net {
     ghost use Rattle.std.specs.List.{All};
     ghost use Rattle.std.specs.Result.{result_err};
     ghost use Rattle.fb_net.specs.Fault.{first_fault};
-    ghost use Rattle.fb_net.specs.New.{IsNew};
-    ghost use Rattle.fb_net.specs.Ready.{AllReady};
-    ghost use Rattle.fb_net.specs.Standing.{NetStands};
+    ghost use Rattle.fb_net.specs.New.{IsNew, IsNewNet};
 
     /// Creates a net of at most 256 blocks, which have had no cycle yet, and of drives. `ins` and `outs` are the
     /// lengths in bytes of the input and output images of each connection. The first fault is returned: first of the
@@ -58,8 +56,7 @@ impl Net {
         requires new { All IsNew blocks.items }
         ensures first { result_err result ≡ first_fault ins.now outs.now blocks.items drives.items }
         ensures made { IfOk result (λ net. net ≡ record { blocks = blocks.items; drives = drives.items }) }
-        ensures stands { IfOk result (λ net. NetStands net []) }
-        ensures ready { IfOk result (λ net. AllReady net.blocks) }
+        ensures is_new { IfOk result (λ net. IsNewNet net) }
     {
         match first_fault(blocks.as_slice(), drives.as_slice(), ins, outs) {
             Some(fault) => Err(fault),
