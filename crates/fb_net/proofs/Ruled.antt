@@ -2,9 +2,9 @@
 use Rattle.std.proofs.Common.{◌≡◌, ℕ, Bool, List, [], ◌∷◌, ◌++◌, refl, sym, ap, ◌∙◌}
 use Rattle.fb_net.specs.declared.spec.BlockSpec.{BlockSpec}
 use Rattle.fb_net.specs.Values.{NetCycle, NetBlock, block_values}
-use Rattle.fb_net.specs.Outputs.{driven_images}
+use Rattle.fb_net.specs.Outputs.{driven_images, net_outputs}
 use Rattle.fb_net.specs.NetView.{NetView, plan}
-use Rattle.fb_net.specs.Standing.{BlocksStand, net_outputs}
+use Rattle.fb_net.specs.Standing.{BlocksStand}
 use Rattle.fb_net.specs.Ready.{AllReady}
 use Rattle.fb_net.specs.New.{IsNewNet}
 use Rattle.fb_net.specs.Steps.{cycle_of, given, run_values, run_blocks, holds_of, all_restored}

@@ -1,9 +1,10 @@
 -- The outputs of a net: each driven bit is what its wire reads, and every other bit is 0.
-use Rattle.std.specs.Prelude.{ℕ, zero, suc, Bool, true, List, [], map, fold, filter, replicate, get_or, slice_set}
+use Rattle.std.specs.Prelude.{ℕ, zero, suc, Bool, true, List, [], ◌∷◌, map, fold, filter, replicate, get_or, slice_set}
 use Rattle.fsoe_base.specs.Image.{with_bit}
 use Rattle.failsafe_io.specs.declared.bit.Bit.{Bit}
 use Rattle.fb_net.specs.declared.spec.Drive.{Drive}
-use Rattle.fb_net.specs.Values.{wire_value}
+use Rattle.fb_net.specs.NetView.{NetView, plan}
+use Rattle.fb_net.specs.Values.{NetCycle, block_values, wire_value}
 
 -- the output bits whose wires read true, by the values of the blocks and the inputs
 abbrev pub bits_on : List Drive → List Bool → List (List ℕ) → List Bit
@@ -25,3 +26,9 @@ images_with lens bits = fold (λ images b. with_on images b.link b.bit) (zero_im
 -- the outputs of a cycle
 abbrev pub driven_images : List Drive → List Bool → List (List ℕ) → List ℕ → List (List ℕ)
 driven_images drives values inputs lens = images_with lens (bits_on drives values inputs)
+
+-- the outputs of a net, of these lengths, in the newest of its cycles, by looking back over them all; zeros before the
+-- first
+abbrev pub net_outputs : NetView → List NetCycle → List ℕ → List (List ℕ)
+net_outputs v [] lens = zero_images lens
+net_outputs v (c ∷ e) lens = driven_images v.drives (block_values (plan v.blocks) (c ∷ e)) c.inputs lens

@@ -3,15 +3,9 @@
 use Rattle.std.specs.Prelude.{◌≡◌, ℕ, Bool, List, [], ◌∷◌}
 use Rattle.fb_lib.specs.Standing.{BlockStands}
 use Rattle.fb_net.specs.declared.spec.BlockSpec.{BlockSpec}
-use Rattle.fb_net.specs.Values.{NetCycle, block_cycles, with_block, block_values}
-use Rattle.fb_net.specs.Outputs.{driven_images, zero_images}
+use Rattle.fb_net.specs.Values.{NetCycle, block_cycles, with_block}
+use Rattle.fb_net.specs.Outputs.{net_outputs}
 use Rattle.fb_net.specs.NetView.{NetView, net_block, plan}
-
--- the outputs of a net, of these lengths, in the newest of its cycles, by looking back over them all; zeros before the
--- first
-abbrev pub net_outputs : NetView → List NetCycle → List ℕ → List (List ℕ)
-net_outputs v [] lens = zero_images lens
-net_outputs v (c ∷ e) lens = driven_images v.drives (block_values (plan v.blocks) (c ∷ e)) c.inputs lens
 
 -- each block stands for its own cycles, where `before` gives the values of the blocks before them
 abbrev pub BlocksStand : (List NetCycle → List Bool) → List BlockSpec → List NetCycle → Type 0
