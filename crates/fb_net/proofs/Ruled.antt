@@ -4,9 +4,8 @@ use Rattle.fb_net.specs.declared.spec.BlockSpec.{BlockSpec}
 use Rattle.fb_net.specs.Values.{NetCycle, NetBlock, block_values}
 use Rattle.fb_net.specs.Outputs.{driven_images, net_outputs}
 use Rattle.fb_net.specs.NetView.{NetView, plan}
-use Rattle.fb_net.specs.Standing.{BlocksStand}
+use Rattle.fb_net.specs.Standing.{BlocksStand, IsNewNet}
 use Rattle.fb_net.specs.Ready.{AllReady}
-use Rattle.fb_net.specs.New.{IsNewNet}
 use Rattle.fb_net.specs.Steps.{cycle_of, given, run_values, run_blocks, holds_of, all_restored}
 use Rattle.fb_net.specs.Meaning.{rule_of, net_holds}
 use Rattle.fb_net.specs.Calls.{Call, cycles_of, held_after}

@@ -1,17 +1,9 @@
--- Blocks that were just made, and nets of them.
+-- Blocks that were just made.
 use Rattle.std.specs.Prelude.{◌<◌, []}
 use Rattle.fb_lib.specs.Standing.{BlockStands}
-use Rattle.fb_net.specs.NetView.{NetView}
-use Rattle.fb_net.specs.Ready.{AllReady}
-use Rattle.fb_net.specs.Standing.{NetStands}
 use Rattle.fb_net.specs.declared.spec.BlockSpec.{BlockSpec}
 
 -- a block stands for no cycles: it is as it was made
 pub record IsNew (b : BlockSpec) : Type 0 where
   pub fits : b.block.n < 65536
   pub stands : BlockStands b.block.kind b.block.n b.block []
-
--- so does a net, whose blocks can be stepped
-pub record IsNewNet (v : NetView) : Type 0 where
-  pub ready : AllReady v.blocks
-  pub stands : NetStands v []

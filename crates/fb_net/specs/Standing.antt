@@ -6,6 +6,7 @@ use Rattle.fb_net.specs.declared.spec.BlockSpec.{BlockSpec}
 use Rattle.fb_net.specs.Values.{NetCycle, block_cycles, with_block}
 use Rattle.fb_net.specs.Outputs.{net_outputs}
 use Rattle.fb_net.specs.NetView.{NetView, net_block, plan}
+use Rattle.fb_net.specs.Ready.{AllReady}
 
 -- each block stands for its own cycles, where `before` gives the values of the blocks before them
 abbrev pub BlocksStand : (List NetCycle → List Bool) → List BlockSpec → List NetCycle → Type 0
@@ -16,6 +17,11 @@ BlocksStand before (b ∷ bs) e =
 -- a net stands for these cycles where each of its blocks stands for its own
 pub record NetStands (v : NetView) (e : List NetCycle) : Type 0 where
   pub blocks : BlocksStand (λ _. []) v.blocks e
+
+-- a net had no cycle, and its blocks can be stepped
+pub record IsNewNet (v : NetView) : Type 0 where
+  pub ready : AllReady v.blocks
+  pub stands : NetStands v []
 
 -- a net that stood for some cycles stands for these and the one that it has
 pub record NetFollows (old : NetView) (c : NetCycle) (new : NetView) : Type 0 where

@@ -9,8 +9,7 @@ ghost use Rattle.fb_net.specs.Values.{NetCycle, NetBlock, wire_value, block_valu
 ghost use Rattle.fb_net.specs.Outputs.{driven_images, net_outputs};
 ghost use Rattle.fb_net.specs.NetView.{NetView, plan};
 ghost use Rattle.fb_net.specs.Guarded.{is_output_guarded};
-ghost use Rattle.fb_net.specs.Standing.{NetStands};
-ghost use Rattle.fb_net.specs.New.{IsNewNet};
+ghost use Rattle.fb_net.specs.Standing.{IsNewNet, NetStands};
 ghost use Rattle.fb_net.specs.Meaning.{rule_of, net_holds};
 ghost use Rattle.fb_net.specs.Calls.{Call, Called, cycles_of, all_outputs, held_after};
 ghost use Rattle.fb_net.specs.Acknowledged.{stop_blocks, stop_drives, is_on, may_run, is_acknowledged, is_let_go, StopRow};

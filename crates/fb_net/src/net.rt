@@ -40,7 +40,8 @@ impl Net {
     ghost use Rattle.std.specs.List.{All};
     ghost use Rattle.std.specs.Result.{result_err};
     ghost use Rattle.fb_net.specs.Fault.{first_fault};
-    ghost use Rattle.fb_net.specs.New.{IsNew, IsNewNet};
+    ghost use Rattle.fb_net.specs.New.{IsNew};
+    ghost use Rattle.fb_net.specs.Standing.{IsNewNet};
 
     /// Creates a net of at most 256 blocks, which have had no cycle yet, and of drives. `ins` and `outs` are the
     /// lengths in bytes of the input and output images of each connection. The first fault is returned: first of the
