@@ -1,6 +1,7 @@
 //! The net of a configuration, and the bits that its bounds name.
 ghost use Rattle.std.specs.Prelude.{◌≡◌, ◌≤◌, [], length, IfOk};
 ghost use Rattle.std.specs.Result.{result_err};
+ghost use Rattle.fb_net.specs.Standing.{IsNewNet};
 ghost use Rattle.plant_setup.specs.Setup.{lengths_at, bound_fault, bounds_fault, bits_fault, net_of};
 
 use arrayvec::ArrayVec;
@@ -53,6 +54,7 @@ fn bounds_fault(ins: &[u8], outs: &[u8], bounds: &[BoundSpec]) -> Option<NetFaul
 pub(crate) fn take_net(conf: &mut PlantConf) -> Result<Net, NetFault>
     ensures fault { result_err result ≡ bits_fault conf.old }
     ensures net { IfOk result (λ net. net ≡ net_of conf.old) }
+    ensures is_new { IfOk result (λ net. IsNewNet net) }
     ensures rest { conf.new ≡ record conf.old { blocks = []; drives = [] } }
 {
     let ins = lengths_at(End::Slave, conf.links());

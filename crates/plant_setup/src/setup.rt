@@ -1,6 +1,7 @@
 //! What a plant is set up with.
 ghost use Rattle.std.specs.Prelude.{◌≡◌, [], map, Some, None, IfOk, MatchOption, string_bytes, List, ℕ};
 ghost use Rattle.std.specs.Result.{result_err};
+ghost use Rattle.fb_net.specs.Standing.{IsNewNet};
 ghost use Rattle.fb_net.specs.declared.kind_of.KindOf.TheVariants as kind;
 ghost use Rattle.plant_setup.specs.Names.{place_of};
 ghost use Rattle.plant_setup.specs.Setup.{setup_fault, app_fault, net_of, IsChosen};
@@ -44,7 +45,8 @@ fn choose_app(wanted: &str, net: Net, left: &mut Vec<AppEntry>) -> Option<AppKin
 
 /// Sets a plant up by its configuration, with these applications and one of these channels. Doesn't allocate. The first
 /// fault is returned: of the net, of the bounds, that no application has the name, that no channel has it. The net is
-/// taken out of the configuration, and tested even if it doesn't run. After a fault all applications are dropped.
+/// taken out of the configuration, and tested even if it doesn't run; it had no cycle yet. After a fault all
+/// applications are dropped.
 pub fn set_up(
     conf: &mut PlantConf,
     apps: Vec<AppEntry>,
@@ -52,6 +54,7 @@ pub fn set_up(
 ) -> Result<Setup, SetupFault>
     ensures fault { result_err result ≡ setup_fault conf.old (map (λ entry. string_bytes entry.name) apps.items) (map (λ channel. name channel) channels.now) }
     ensures app { IfOk result (λ s. IsChosen (λ entry. string_bytes entry.name) conf.old.app apps.items s.spare.items (s.app ≡ kind.Net (net_of conf.old)) (λ entry. s.app ≡ kind.Handed entry.app)) }
+    ensures is_new { IfOk result (λ s. IsNewNet (net_of conf.old)) }
     ensures channel { IfOk result (λ s. place_of conf.old.channel (map (λ channel. name channel) channels.now) ≡ Some s.channel) }
     ensures rest { conf.new ≡ record conf.old { blocks = []; drives = [] } }
 {
