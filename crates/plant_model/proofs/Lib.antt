@@ -1,4 +1,5 @@
 pub mod Broken
+pub mod ByNet
 mod Cycled
 pub mod FairPlant
 mod Given

@@ -3,6 +3,7 @@ pub mod Bound
 pub mod BoundLines
 pub mod Broken
 pub mod FairPairs
+pub mod NetCycles
 pub mod Pair
 pub mod PlantReport
 pub mod Promises

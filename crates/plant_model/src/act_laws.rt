@@ -1,7 +1,10 @@
 //! What holds of the acts of a plant. The calls do nothing: each law is a contract.
 
 ghost use Rattle.std.specs.Prelude.{◌≡◌, List, All, map};
+ghost use Rattle.fb_net.specs.NetView.{NetView};
+ghost use Rattle.fb_net.specs.Standing.{IsNewNet};
 ghost use Rattle.plant_model.specs.Acts.{Beginning, Act, journal, uses};
+ghost use Rattle.plant_model.specs.NetCycles.{AnswersByNet};
 ghost use Rattle.plant_model.specs.Promises.{MastersAgree, Cycles, PullsFit, line_step, line_steps, pulled_in, short_ticks};
 ghost use Rattle.plant_model.specs.Turns.{IsTurn, AppsAreSpare, Named, Turn, acts, said, said_by_turns};
 ghost use Rattle.plant_model.specs.Uses.{gifts, empty_pulls};
@@ -37,6 +40,12 @@ pub fn apps()
 #[tactic(auto, using(crate::proofs::Cycled::cycles))]
 pub fn cycles()
     ensures { (b : Beginning) (act : Act) (acts : List Act) → Cycles b act acts }
+{}
+
+/// While a net runs that had no cycle before, its answers are what looking back over its cycles says.
+#[tactic(auto, using(crate::proofs::ByNet::answers_by_net))]
+pub fn nets()
+    ensures { (v : NetView) → IsNewNet v → (b : Beginning) (act : Act) (acts : List Act) → AnswersByNet v b act acts }
 {}
 
 /// The parcels that the channel gave are those in the journal, in their order. Its pulls that gave nothing are as many

@@ -1,0 +1,200 @@
+-- A net that runs answers by looking back over its cycles.
+use Rattle.std.proofs.Common.{◌≡◌, ℕ, zero, suc, ◌-◌, Bool, true, false, List, [], ◌∷◌, ◌++◌, map, slice_get, slice_set, Option, Some, None, option_map, IfSome, if◌then◌else◌, refl, sym, ap, ap₂, ◌∙◌, arith}
+use Rattle.std.specs.Prelude.{option_and_then, option_to_list}
+use Rattle.failsafe_io.specs.Application.{Answer}
+use Rattle.fb_net.specs.Calls as net
+use Rattle.fb_net.specs.Calls.{cycles_of, held_after}
+use Rattle.fb_net.specs.NetView.{NetView}
+use Rattle.fb_net.specs.Standing.{IsNewNet}
+use Rattle.fb_net.specs.Outputs.{net_outputs}
+use Rattle.fb_net.specs.Values.{NetCycle}
+use Rattle.fb_net.proofs.Ruled.{rule_answers}
+use Rattle.param_load.specs.declared.entry.Move.TheVariants as move
+use Rattle.param_load.specs.declared.master_settings.MasterSettings.{MasterSettings}
+use Rattle.multi_master.specs.Calls.{AppView, Rule, Call, Deliver, Tick, Nonce, ChangeApp, Meant, connection, replaced, event_at, all_tick, answer, is_heard, cycle_in, with_cycle, after, meant}
+use Rattle.multi_master.specs.Connection.{Connection, with_event, outputs_at, offer_len, is_offer, with_offer, with_offers}
+use Rattle.multi_master.proofs.Neighbours.{settings_alone}
+use Rattle.multi_master.proofs.Putting.{all_outputs_put, outputs_put}
+use Rattle.plant_model.specs.Acts.{Beginning, Act, settings, call_of, calls, masters}
+use Rattle.plant_model.specs.NetCycles.{AnswersByNet, app_begun, app_cycles, cycles_before, is_ticked, net_app, sent_lens, with_answered}
+use Rattle.plant_model.proofs.KeptOff.{event_keeps}
+
+-- the lengths of what is answered never change
+lens_by : (cs : List Connection) → map offer_len cs ≡ sent_lens (map (λ c. c.settings) cs)
+lens_by [] = refl
+lens_by (c ∷ cs) = ap (λ (ls : List ℕ). offer_len c ∷ ls) (lens_by cs)
+
+lens_are : (settings : List MasterSettings) (app : AppView) (calls : List Call) → map offer_len (meant settings app calls).connections ≡ sent_lens settings
+lens_are settings app calls = lens_by (meant settings app calls).connections ∙ ap sent_lens (settings_alone settings app calls)
+
+ticked_lens : (cs : List Connection) → map offer_len (map (with_event move.Tick) cs) ≡ map offer_len cs
+ticked_lens [] = refl
+ticked_lens (c ∷ cs) = ap (λ (ls : List ℕ). offer_len c ∷ ls) (ticked_lens cs)
+
+-- a frame comes for the connection at a place, if there is one
+abbrev delivered : List ℕ → ℕ → List Connection → Option Connection → List Connection
+delivered bytes place cs None = cs
+delivered bytes place cs (Some c) = slice_set cs place (with_event (move.Deliver bytes) c)
+
+delivered_is : (bytes : List ℕ) (place : ℕ) (m : Meant) (o : Option Connection) → (replaced (suc place) (option_map (with_event (move.Deliver bytes)) o) m).connections ≡ delivered bytes place m.connections o
+delivered_is bytes place m None = refl
+delivered_is bytes place m (Some c) =
+    let same : suc place - 1 ≡ place = omega arith in
+    ap (λ (k : ℕ). slice_set m.connections k (with_event (move.Deliver bytes) c)) same
+
+delivered_later : (bytes : List ℕ) (place : ℕ) (c : Connection) (cs : List Connection) (o : Option Connection) → delivered bytes (suc place) (c ∷ cs) o ≡ c ∷ delivered bytes place cs o
+delivered_later bytes place c cs None = refl
+delivered_later bytes place c cs (Some there) = refl
+
+-- an answer that was put before a frame changes nothing of what the frame brings
+put_delivered : (c : Connection) (load bytes : List ℕ) (b : Bool) → outputs_at (with_event (move.Deliver bytes) (if b then c else with_event (move.Put load) c)) ≡ outputs_at (with_event (move.Deliver bytes) c)
+put_delivered c load bytes true = refl
+put_delivered c load bytes false = refl
+
+outputs_delivered : (bytes : List ℕ) (cs : List Connection) (loads : List (List ℕ)) (place : ℕ)
+    → map outputs_at (delivered bytes place (with_offers loads cs) (slice_get (with_offers loads cs) place)) ≡ map outputs_at (delivered bytes place cs (slice_get cs place))
+outputs_delivered bytes [] [] place = refl
+outputs_delivered bytes [] (load ∷ loads) place = refl
+outputs_delivered bytes (c ∷ cs) [] place = refl
+outputs_delivered bytes (c ∷ cs) (load ∷ loads) zero = ap₂ (λ (x : List ℕ) (xs : List (List ℕ)). x ∷ xs) (put_delivered c load bytes (is_offer load c)) (all_outputs_put cs loads)
+outputs_delivered bytes (c ∷ cs) (load ∷ loads) (suc place) =
+    let puts : List Connection = with_offers loads cs in
+    ap (map outputs_at) (delivered_later bytes place (with_offer load c) puts (slice_get puts place))
+    ∙ ap₂ (λ (x : List ℕ) (xs : List (List ℕ)). x ∷ xs) (outputs_put c load) (outputs_delivered bytes cs loads place)
+    ∙ sym (ap (map outputs_at) (delivered_later bytes place c cs (slice_get cs place)))
+
+inputs_delivered : (link : ℕ) (bytes : List ℕ) (m : Meant) (a : Answer) → map outputs_at (event_at link (move.Deliver bytes) (with_cycle (Some a) m)).connections ≡ map outputs_at (event_at link (move.Deliver bytes) m).connections
+inputs_delivered zero bytes m a = all_outputs_put m.connections a.outputs
+inputs_delivered (suc place) bytes m a =
+    ap (map outputs_at) (delivered_is bytes place (with_cycle (Some a) m) (connection (suc place) (with_cycle (Some a) m)))
+    ∙ outputs_delivered bytes m.connections a.outputs place
+    ∙ sym (ap (map outputs_at) (delivered_is bytes place m (connection (suc place) m)))
+
+-- the application that answers in a call
+abbrev answering : Call → Meant → AppView
+answering (ChangeApp app) m = app
+answering _ m = m.app
+
+-- it answers by the outputs after the call
+abbrev answer_to : Call → Meant → Answer
+answer_to call m = (answering call m).rule (answering call m).holds (is_ticked call) (map outputs_at (after call m).connections) (map offer_len m.connections)
+
+heard_answer : (link : ℕ) (bytes : List ℕ) (m : Meant) (heard : Bool) (a : Answer) → (if heard then Some (answer false (event_at link (move.Deliver bytes) m)) else None) ≡ Some a → a ≡ answer false (event_at link (move.Deliver bytes) m)
+heard_answer link bytes m true a e = cc
+heard_answer link bytes m false a e = absurd (cc e)
+
+event_app : (link : ℕ) (o : Option Connection) (m : Meant) → (replaced link o m).app ≡ m.app
+event_app link None m = refl
+event_app link (Some c) m = refl
+
+answered : (call : Call) (m : Meant) (a : Answer) → cycle_in call m ≡ Some a → a ≡ answer_to call m
+answered (Deliver link bytes) m a e =
+    let moved : Meant = event_at link (move.Deliver bytes) m in
+    let lens = event_keeps offer_len m link (move.Deliver bytes) (connection link m) (λ c. refl) refl in
+    let app = event_app link (option_map (with_event (move.Deliver bytes)) (connection link m)) m in
+    heard_answer link bytes m (is_heard bytes (connection link m)) a e
+    ∙ ap (λ (x : AppView). x.rule x.holds false (map outputs_at moved.connections) (map offer_len moved.connections)) app
+    ∙ ap₂ (λ (inputs : List (List ℕ)) (ls : List ℕ). m.app.rule m.app.holds false inputs ls)
+    (sym (inputs_delivered link bytes m a) ∙ sym (ap (λ (o : Option Answer). map outputs_at (event_at link (move.Deliver bytes) (with_cycle o m)).connections) e)) lens
+answered Tick m a e =
+    let told : Answer = answer true (all_tick m) in
+    let is : a ≡ told = cc in
+    is ∙ ap₂ (λ (inputs : List (List ℕ)) (ls : List ℕ). m.app.rule m.app.holds true inputs ls) (sym (all_outputs_put (all_tick m).connections told.outputs)) (ticked_lens m.connections)
+answered (Nonce link id) m a e = absurd (cc e)
+answered (ChangeApp app) m a e =
+    let told : Answer = answer false (record m { app = app }) in
+    let is : a ≡ told = cc in
+    is ∙ ap (λ (inputs : List (List ℕ)). app.rule app.holds false inputs (map offer_len m.connections)) (sym (all_outputs_put m.connections told.outputs))
+
+-- an application after an answer, if there was one
+abbrev held_by : Option Answer → AppView → AppView
+held_by None app = app
+held_by (Some a) app = record app { holds = a.holds }
+
+cycle_app : (o : Option Answer) (m : Meant) → (with_cycle o m).app ≡ held_by o m.app
+cycle_app None m = refl
+cycle_app (Some a) m = refl
+
+app_after : (call : Call) (m : Meant) → (after call m).app ≡ held_by (cycle_in call m) (answering call m)
+app_after (Deliver link bytes) m =
+    let cycled : Meant = with_cycle (cycle_in (Deliver link bytes) m) m in
+    event_app link (option_map (with_event (move.Deliver bytes)) (connection link cycled)) cycled ∙ cycle_app (cycle_in (Deliver link bytes) m) m
+app_after Tick m = refl
+app_after (Nonce link id) m = event_app link (option_map (with_event (move.Nonce id)) (connection link m)) m
+app_after (ChangeApp app) m = refl
+
+-- the calls of a net by its cycles
+abbrev net_calls : List MasterSettings → List NetCycle → List net.Call
+net_calls settings e = map (λ c. record { cycle = c; lens = sent_lens settings }) e
+
+cycles_back : (settings : List MasterSettings) (e : List NetCycle) → cycles_of (net_calls settings e) ≡ e
+cycles_back settings [] = refl
+cycles_back settings (c ∷ e) = ap (λ (cs : List NetCycle). c ∷ cs) (cycles_back settings e)
+
+-- an application is what it began as, after these cycles
+record HasHad (settings : List MasterSettings) (begun : AppView) (e : List NetCycle) (app : AppView) : Type 0 where
+  pub rule : app.rule ≡ begun.rule
+  pub holds : app.holds ≡ held_after begun.rule begun.holds (net_calls settings e)
+
+answering_had : (settings : List MasterSettings) (app : AppView) (calls : List Call) (call : Call) (m : Meant) (e : List NetCycle) → HasHad settings (app_begun app calls) e m.app
+    → HasHad settings (app_begun app (call ∷ calls)) (cycles_before call e) (answering call m)
+answering_had settings app calls (Deliver link bytes) m e h = h
+answering_had settings app calls Tick m e h = h
+answering_had settings app calls (Nonce link id) m e h = h
+answering_had settings app calls (ChangeApp other) m e h = record { rule = refl; holds = refl }
+
+-- an answer is that of what it began as
+had_answers : (settings : List MasterSettings) (begun app : AppView) (e : List NetCycle) (c : NetCycle) → HasHad settings begun e app
+    → app.rule app.holds c.ticked c.inputs (sent_lens settings) ≡ begun.rule (held_after begun.rule begun.holds (net_calls settings e)) c.ticked c.inputs (sent_lens settings)
+had_answers settings begun app e c h = ap₂ (λ (r : Rule) (held : List ℕ). r held c.ticked c.inputs (sent_lens settings)) h.rule h.holds
+
+-- a call's cycle, if it runs one
+abbrev cycle_by : Call → Meant → NetCycle
+cycle_by call m = record { ticked = is_ticked call; inputs = map outputs_at (after call m).connections }
+
+told : (settings : List MasterSettings) (app : AppView) (calls : List Call) (call : Call) (a : Answer) (e : List NetCycle) → cycle_in call (meant settings app calls) ≡ Some a
+    → HasHad settings (app_begun app (call ∷ calls)) e (answering call (meant settings app calls))
+    → let begun : AppView = app_begun app (call ∷ calls) in let c : NetCycle = cycle_by call (meant settings app calls) in
+    a ≡ begun.rule (held_after begun.rule begun.holds (net_calls settings e)) c.ticked c.inputs (sent_lens settings)
+told settings app calls call a e is h =
+    let m : Meant = meant settings app calls in
+    answered call m a is
+    ∙ ap (λ (ls : List ℕ). (answering call m).rule (answering call m).holds (is_ticked call) (map outputs_at (after call m).connections) ls) (lens_are settings app calls)
+    ∙ had_answers settings (app_begun app (call ∷ calls)) (answering call m) e (cycle_by call m) h
+
+went_on : (settings : List MasterSettings) (app : AppView) (calls : List Call) (call : Call) (o : Option Answer) (e : List NetCycle) → cycle_in call (meant settings app calls) ≡ o
+    → HasHad settings (app_begun app (call ∷ calls)) e (answering call (meant settings app calls))
+    → HasHad settings (app_begun app (call ∷ calls)) (with_answered o (cycle_by call (meant settings app calls)) e) (held_by o (answering call (meant settings app calls)))
+went_on settings app calls call None e is h = h
+went_on settings app calls call (Some a) e is h = record { rule = h.rule; holds = ap (λ (a : Answer). a.holds) (told settings app calls call a e is h) }
+
+has_had : (settings : List MasterSettings) (app : AppView) (calls : List Call) → HasHad settings (app_begun app calls) (app_cycles settings app calls) (meant settings app calls).app
+has_had settings app [] = record { rule = refl; holds = refl }
+has_had settings app (call ∷ calls) =
+    let m : Meant = meant settings app calls in
+    let before : List NetCycle = cycles_before call (app_cycles settings app calls) in
+    let h = went_on settings app calls call (cycle_in call m) before refl (answering_had settings app calls call m (app_cycles settings app calls) (has_had settings app calls)) in
+    let same = app_after call m in
+    record { rule = ap (λ (x : AppView). x.rule) same ∙ h.rule; holds = ap (λ (x : AppView). x.holds) same ∙ h.holds }
+
+net_answers : (v : NetView) (settings : List MasterSettings) (app : AppView) (calls : List Call) (call : Call) (o : Option Answer) → IsNewNet v → app_begun app (call ∷ calls) ≡ net_app v
+    → cycle_in call (meant settings app calls) ≡ o
+    → IfSome o (λ a. a.outputs ≡ net_outputs v (with_answered o (cycle_by call (meant settings app calls)) (cycles_before call (app_cycles settings app calls))) (sent_lens settings))
+net_answers v settings app calls call None new begun is = tt
+net_answers v settings app calls call (Some a) new begun is =
+    let m : Meant = meant settings app calls in
+    let c : NetCycle = cycle_by call m in
+    let e : List NetCycle = cycles_before call (app_cycles settings app calls) in
+    let had = answering_had settings app calls call m (app_cycles settings app calls) (has_had settings app calls) in
+    ap (λ (a : Answer). a.outputs) (told settings app calls call a e is had)
+    ∙ ap (λ (x : AppView). (x.rule (held_after x.rule x.holds (net_calls settings e)) c.ticked c.inputs (sent_lens settings)).outputs) begun
+    ∙ rule_answers v (record { cycle = c; lens = sent_lens settings }) (net_calls settings e) new
+    ∙ ap (λ (cs : List NetCycle). net_outputs v (c ∷ cs) (sent_lens settings)) (cycles_back settings e)
+
+by_call : (v : NetView) (b : Beginning) (acts : List Act) (o : Option Call) → IsNewNet v → app_begun b.app (option_to_list o ++ calls b acts) ≡ net_app v
+    → IfSome (option_and_then (λ call. cycle_in call (masters b acts)) o) (λ a. a.outputs ≡ net_outputs v (app_cycles (settings b) b.app (option_to_list o ++ calls b acts)) (sent_lens (settings b)))
+by_call v b acts None new begun = tt
+by_call v b acts (Some call) new begun = net_answers v (settings b) b.app (calls b acts) call (cycle_in call (masters b acts)) new begun refl
+
+pub answers_by_net : (v : NetView) → IsNewNet v → (b : Beginning) (act : Act) (acts : List Act) → AnswersByNet v b act acts
+answers_by_net v new b act acts begun = by_call v b acts (call_of b act) new begun
