@@ -1,5 +1,5 @@
 -- What a pair file is converted to: a file of several pairs, of which it is the only one.
-use Rattle.std.specs.Prelude.{◌≡◌, ℕ, ◌+◌, ◌-◌, ◌≤◌, List, [], ◌∷◌, ◌++◌, codes, length, map, take, Result, Ok, Err, IfSome, Some}
+use Rattle.std.specs.Prelude.{◌≡◌, ℕ, ◌+◌, ◌-◌, ◌≤◌, List, [], ◌∷◌, ◌++◌, codes, length, map, take, Result, Ok, Err, IfSome, IsSomeAnd, Some}
 use Rattle.std.specs.List.{flat_map}
 use Rattle.std.specs.declared.option.Option.{Option}
 use Rattle.std.specs.Io.KnownBytes.{Consumes, prepend_known}
@@ -10,6 +10,7 @@ use Rattle.fsoe_io.specs.declared.status.Status.{Status}
 use Rattle.fsoe_io.specs.declared.status.Status.TheVariants as status
 use Rattle.schedule_file.specs.Header.{Heading}
 use Rattle.schedule_file.specs.PairsHeader.{PairsHeading, stage_after}
+use Rattle.schedule_file.specs.PairsInput.{pairs_input}
 use Rattle.schedule_file.specs.Input.{AtEnd, Input, InputOf, NoLine, Refused, Stop, WholeHeader, header_of, input_after, input_of, lines_of, schedule_format, texts}
 use Rattle.schedule_file.specs.declared.event.Event.{Event}
 use Rattle.schedule_file.specs.declared.pairs_line.PairsEvent.{PairsEvent}
@@ -19,6 +20,7 @@ use Rattle.file_run.specs.Ending.{Appended, LinesBefore, ReadLines}
 use Rattle.file_run.specs.Outside.{Outside, Wrote}
 use Rattle.file_run.specs.Report.{refused_line}
 use Rattle.file_run.specs.Reporting.{IsPrefix, refused_at}
+use Rattle.duo_run.specs.Pairs.{Pair, entries_over, events_done, world_of}
 
 -- a line with its newline
 abbrev pub line_text : List ℕ → List ℕ
@@ -65,6 +67,22 @@ abbrev pub ended_at_stop : Stop → Ended
 ended_at_stop AtEnd = record { status = status.Ok; place = 0 }
 ended_at_stop (Refused number why) = refused_at number
 
+-- the header of several pairs that has this one alone, after a line of it
+abbrev pub only_pair : Heading → PairsHeading
+only_pair h = record { stage = stage_after h; before = []; last = h }
+
+-- an input of several pairs has this one alone, with these events, and stops by `end`
+pub record IsOnePair (h : Heading) (events : List Event) (input : InputOf PairsHeading PairsEvent) : Type 0 where
+  pub heading_is : input.heading ≡ Some (only_pair h)
+  pub events_are : input.events ≡ map (λ event. pairs_event.One 1 event) events
+  pub ends : input.stop ≡ AtEnd
+
+-- a text has one pair, of which it says what the bytes of a pair file do: the same header and the same events, over which
+-- both ends have the same entries
+pub record SaysTheSame (input text : List ℕ) : Type 0 where
+  pub one_pair : IsSomeAnd (input_of kind.Pair input).heading (λ h. IsOnePair h (input_of kind.Pair input).events (pairs_input text))
+  pub entries : (p : Pair) → world_of 1 p (events_done (p ∷ []) (pairs_input text).events) ≡ entries_over p (input_of kind.Pair input).events
+
 -- the whole text was written, and the conversion ended as its input stops
 abbrev pub WroteAll : Ended → Outside → Type 0
 WroteAll ended o = Wrote o (λ input text. (text ≡ converted input) × (ended ≡ ended_at_stop (input_of kind.Pair input).stop))
@@ -74,10 +92,11 @@ pub record ConvertedToRefused (ended : Ended) (o : Outside) : Type 0 where
   pub number : LinesBefore ended.place o.source.before
   pub wrote : WroteAll ended o
 
--- the input came to its `end`
+-- the input came to its `end`, and what was written says the same
 pub record ConvertedToEnd (ended : Ended) (o : Outside) : Type 0 where
   pub place_is : ended.place ≡ 0
   pub wrote : WroteAll ended o
+  pub same : Wrote o SaysTheSame
 
 -- a text is what so many whole lines that were taken are converted to, without its last line, which says that no line
 -- comes after them
@@ -121,13 +140,3 @@ pub record RanConvert (ended : Ended) (o : Outside) : Type 0 where
       → IfSome o.source.before (λ input. ended ≡ ended_at_stop (input_of kind.Pair input).stop)
   pub source_later : o.source.faults_before ≤ o.source.faults_after
   pub sink_later : o.sink.faults_before ≤ o.sink.faults_after
-
--- the header of several pairs that has this one alone, after a line of it
-abbrev pub only_pair : Heading → PairsHeading
-only_pair h = record { stage = stage_after h; before = []; last = h }
-
--- an input of several pairs has this one alone, with these events, and stops by `end`
-pub record IsOnePair (h : Heading) (events : List Event) (input : InputOf PairsHeading PairsEvent) : Type 0 where
-  pub heading_is : input.heading ≡ Some (only_pair h)
-  pub events_are : input.events ≡ map (λ event. pairs_event.One 1 event) events
-  pub ends : input.stop ≡ AtEnd

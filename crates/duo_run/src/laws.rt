@@ -1,7 +1,7 @@
 //! What holds of a pair over all its steps, and of the reports of its runs. The calls do nothing: each law is a
 //! contract.
 
-ghost use Rattle.std.specs.Prelude.{◌≡◌, ◌++◌, ◌∷◌, ℕ, List, [], All, IfSome, codes, false, map};
+ghost use Rattle.std.specs.Prelude.{◌≡◌, ◌++◌, ◌∷◌, ℕ, List, [], All, codes, false, map};
 ghost use Rattle.std.specs.declared.result.Result.TheVariants.{Ok};
 ghost use Rattle.fsoe_base.specs.declared.command.End.{End};
 ghost use Rattle.fsoe_io.specs.declared.status.Ended.{Ended};
@@ -29,7 +29,7 @@ ghost use Rattle.exchange_model.specs.Honest.{Match, IsHonest};
 ghost use Rattle.exchange_model.specs.Other.{before_other};
 ghost use Rattle.exchange_model.specs.Serving.{Serves};
 ghost use Rattle.exchange_model.specs.World.{setup_of, moves, world, SameLengths, IsProperEvent};
-ghost use Rattle.duo_run.specs.Convert.{IsOnePair, converted, only_pair};
+ghost use Rattle.duo_run.specs.Convert.{SaysTheSame, converted, only_pair};
 ghost use Rattle.duo_run.specs.Duo.{DuoView, DuoStands};
 ghost use Rattle.duo_run.specs.Pairs.{Pair, events_done, world_of};
 ghost use Rattle.duo_run.specs.PairsReport.{PairsInput, PairsReports};
@@ -89,7 +89,7 @@ pub fn converted_lines_say_the_same()
 /// events and the same end. The entries of this pair are the same in both runs.
 pub fn conversions_say_the_same()
     ensures world { (p : Pair) (events : List Event) → world_of 1 p (events_done (p ∷ []) (map (λ event. pairs_event.One 1 event) events)) ≡ world p.master p.slave events }
-    ensures input { (bytes : List ℕ) → (input_of kind.Pair bytes).stop ≡ AtEnd → IfSome (input_of kind.Pair bytes).heading (λ h. IsOnePair h (input_of kind.Pair bytes).events (pairs_input (converted bytes))) }
+    ensures input { (bytes : List ℕ) → (input_of kind.Pair bytes).stop ≡ AtEnd → SaysTheSame bytes (converted bytes) }
 {}
 
 /// What pair files are converted to. One has an event that names a frame that wasn't sent; two are refused, in the

@@ -20,14 +20,14 @@ use Rattle.param_load.specs.declared.profile.Profile.{Profile}
 use Rattle.param_load.specs.declared.profile.Profiles.{Profiles}
 use Rattle.schedule_file.specs.Event.{profile_of}
 use Rattle.schedule_file.specs.Header.{Heading}
-use Rattle.schedule_file.specs.Input.{AtEnd, InputCause, NoLine, heading_profile, input_of, lines_of, own_length, said_after}
+use Rattle.schedule_file.specs.Input.{AtEnd, InputCause, NoLine, Refused, Stop, heading_profile, input_of, lines_of, own_length, said_after}
 use Rattle.schedule_file.specs.PairEvent.{pair_line}
 use Rattle.schedule_file.proofs.Pairs.{same_ends}
 use Rattle.schedule_file.specs.declared.header_kind.HeaderKind.TheVariants as kind
 use Rattle.file_run.specs.Ending.{AppendedPart, Writes}
 use Rattle.file_run.specs.Halt.{Blames, Goes, Stalls}
 use Rattle.file_run.specs.NextLine.{FindsLine, first_line}
-use Rattle.file_run.specs.Outside.{Outside}
+use Rattle.file_run.specs.Outside.{Outside, Wrote}
 use Rattle.file_run.specs.Refusal.{input_cause}
 use Rattle.file_run.specs.Report.{refused_line}
 use Rattle.file_run.specs.Reporting.{IsPrefix, refused_at}
@@ -39,9 +39,10 @@ use Rattle.file_run.proofs.Lines.{by_line, lines_whole}
 use Rattle.file_run.proofs.Sending.{Sent, cut_part, grew_written, piece_part, rose_since, sent_flushed, sent_none, sent_piece, text_part}
 use Rattle.file_run.proofs.Taken.{halts_after, took_line, took_none}
 use Rattle.file_run.proofs.Unread.{nothing_held}
-use Rattle.duo_run.specs.Convert.{ConvertedAs, ConvertsReadLines, ConvertWrite, RanConvert, WroteAll, converted, ended_at_stop}
+use Rattle.duo_run.specs.Convert.{ConvertedAs, ConvertsReadLines, ConvertWrite, RanConvert, SaysTheSame, WroteAll, converted, ended_at_stop}
 use Rattle.duo_run.specs.Converting.{FindsTaken, LineTaken, PairRead, left_to_take, line_taken, read_none, taken_by}
 use Rattle.duo_run.proofs.Conversion.Converted.{Lines, Whole, after_part, converted_whole, refused_whole, told, told_by, told_whole, two_parts}
+use Rattle.duo_run.proofs.Conversion.SameWorld.{says_the_same}
 
 -- of these bytes, which were taken of the input, this was written so far, and whatever comes after them gives the rest
 pub record Tells (left0 left : Option (List ℕ)) (text : List ℕ) (r : PairRead) (number : ℕ) : Type 0 where
@@ -189,6 +190,18 @@ all_begins told text ended all = IfSome_then told all (λ input e. ([], ap (λ (
 all_wrote : (o : Outside) (text : List ℕ) (ended : Ended) → IsAll o.source.before text ended → Grew o.sink.before o.sink.after text → WroteAll ended o
 all_wrote o text ended all grew = IfSome_then o.source.before all (λ input e. (text, grew, (sym (ap (λ (w : Whole). w.text) e), sym (ap (λ (w : Whole). w.ended) e))))
 
+-- and where the input came to its end, that says the same
+at_end : (stop : Stop) → ended_at_stop stop ≡ ended_at_stop AtEnd → stop ≡ AtEnd
+at_end AtEnd e = refl
+at_end (Refused number why) e =
+    let never : status.Line ≡ status.Ok = ap (λ (x : Ended). x.status) e in
+    absurd (cc)
+
+all_same : (o : Outside) (text : List ℕ) → IsAll o.source.before text (ended_at_stop AtEnd) → Grew o.sink.before o.sink.after text → Wrote o SaysTheSame
+all_same o text all grew =
+    IfSome_then o.source.before all
+    (λ input e. (text, grew, subst (SaysTheSame input) (ap (λ (w : Whole). w.text) e) (says_the_same input (at_end (input_of kind.Pair input).stop (ap (λ (w : Whole). w.ended) e)))))
+
 -- the last line came
 all_ended : (left0 b c : Option (List ℕ)) (before text line : List ℕ) (r next : PairRead) (number : ℕ) → Tells left0 b before r number → IsLine line → Consumes b c (line ++ 10 ∷ []) → line_taken number r line ≡ Ok (record { next = next; text = text; ends = true })
     → IsAll left0 (before ++ text) (ended_at_stop AtEnd)
@@ -203,7 +216,7 @@ pub ends_at_end : (o : Outside) (b c w1 : Option (List ℕ)) (faults : ℕ) (wai
 ends_at_end o b c w1 faults waiting r next lines text result k finds writes later =
     let all = all_ended o.source.before b c k.text text finds.0 r next (lines + 1) k.tells finds.1 finds.2 finds.3 in
     ends_written o w1 faults waiting k.text text (ended_at_stop AtEnd) result k.sent writes later (all_begins o.source.before (k.text ++ text) (ended_at_stop AtEnd) all)
-    (λ grew. record { place_is = refl; wrote = all_wrote o (k.text ++ text) (ended_at_stop AtEnd) all grew })
+    (λ grew. record { place_is = refl; wrote = all_wrote o (k.text ++ text) (ended_at_stop AtEnd) all grew; same = all_same o (k.text ++ text) all grew })
 
 -- the next line is refused
 refused_told : (number : ℕ) (r : PairRead) (lines : Lines) (why : InputCause) → taken_by number r (first_line lines) ≡ Err why → told number r lines ≡ refused_whole number why

@@ -1,6 +1,6 @@
 -- What a pair file is converted to is read as a file of one pair, with the same header and the same events.
 use Rattle.std.proofs.Common.{◌≡◌, ℕ, suc, ◌+◌, ◌<◌, ◌≤◌, Bool, true, false, List, [], ◌∷◌, ◌++◌, length, take, map, refl, ap, ◌∙◌, sym, subst, append_assoc, arith}
-use Rattle.std.specs.Prelude.{IfOk, IfSome, Result, Ok, Err, Some, codes, nat_le, slice_get, if◌then◌else◌}
+use Rattle.std.specs.Prelude.{IfOk, IsSomeAnd, Result, Ok, Err, Some, codes, nat_le, slice_get, if◌then◌else◌}
 use Rattle.std.specs.List.{flat_map, onto_first, slice_split}
 use Rattle.std.specs.Str.{bytes_eq}
 use Rattle.std.proofs.lemmas.Bool.Decides.{nat_tests}
@@ -356,10 +356,25 @@ by_lines [] headed are e stops few = cc
 by_lines (Err why ∷ rest) headed are e stops few = cc
 by_lines (Ok title ∷ rest) headed are e stops few = by_title title rest headed (bytes_eq title (codes "fsoe 1 pair")) are.1 e stops few
 
-by_header : (lines : Lines) (r : Result WholeHeader Stop) → AreLines lines → pair_header 1 (heading_new kind.Pair) lines ≡ r → (input_by (schedule_format kind.Pair) r).stop ≡ AtEnd → length (input_by (schedule_format kind.Pair) r).events ≤ MAX_EVENTS
-    → IfSome (input_by (schedule_format kind.Pair) r).heading (λ h. IsOnePair h (input_by (schedule_format kind.Pair) r).events (input_read pairs_format (converted_by r (texts lines))))
-by_header lines (Ok headed) are e stops few = by_lines lines headed are e stops few
-by_header lines (Err stop) are e stops few = tt
+-- a header that isn't done doesn't end an input
+whole_on : (number : ℕ) (rest : Lines) (h : Heading) (whole : Bool) → (pair_header (number + 1) h rest ≡ Err AtEnd → ⊥) → (if whole then Ok (record { heading = h; lines = number; rest = rest }) else pair_header (number + 1) h rest) ≡ Err AtEnd → ⊥
+whole_on number rest h true later e = cc
+whole_on number rest h false later e = later e
 
-pub converts : (bytes : List ℕ) → (input_of kind.Pair bytes).stop ≡ AtEnd → IfSome (input_of kind.Pair bytes).heading (λ h. IsOnePair h (input_of kind.Pair bytes).events (pairs_input (converted bytes)))
+step_on : (number : ℕ) (rest : Lines) (step : Result Heading LineCause) → ((next : Heading) → pair_header (number + 1) next rest ≡ Err AtEnd → ⊥)
+    → header_step heading_is_whole number rest (λ next. pair_header (number + 1) next rest) step ≡ Err AtEnd → ⊥
+step_on number rest (Ok h) later e = whole_on number rest h (heading_is_whole h) (later h) e
+step_on number rest (Err cause) later e = cc
+
+not_at_end : (number : ℕ) (h : Heading) (lines : Lines) → pair_header number h lines ≡ Err AtEnd → ⊥
+not_at_end number h [] e = cc
+not_at_end number h (Err why ∷ rest) e = cc
+not_at_end number h (Ok text ∷ rest) e = step_on number rest (heading_after h text) (λ next. not_at_end (number + 1) next rest) e
+
+by_header : (lines : Lines) (r : Result WholeHeader Stop) → AreLines lines → pair_header 1 (heading_new kind.Pair) lines ≡ r → (input_by (schedule_format kind.Pair) r).stop ≡ AtEnd → length (input_by (schedule_format kind.Pair) r).events ≤ MAX_EVENTS
+    → IsSomeAnd (input_by (schedule_format kind.Pair) r).heading (λ h. IsOnePair h (input_by (schedule_format kind.Pair) r).events (input_read pairs_format (converted_by r (texts lines))))
+by_header lines (Ok headed) are e stops few = by_lines lines headed are e stops few
+by_header lines (Err stop) are e stops few = absurd (not_at_end 1 (heading_new kind.Pair) lines (e ∙ ap Err stops))
+
+pub converts : (bytes : List ℕ) → (input_of kind.Pair bytes).stop ≡ AtEnd → IsSomeAnd (input_of kind.Pair bytes).heading (λ h. IsOnePair h (input_of kind.Pair bytes).events (pairs_input (converted bytes)))
 converts bytes stops = by_header (lines_of bytes) (header_of kind.Pair bytes) (lines_are bytes) refl stops (few_events kind.Pair bytes)

@@ -1,14 +1,21 @@
--- The only pair of a converted file does what the pair of that file did.
-use Rattle.std.proofs.Common.{◌≡◌, List, [], ◌∷◌, ◌++◌, length, map, refl, arith, ap, sym, ◌∙◌, append_assoc}
-use Rattle.std.specs.Prelude.{Some, None, is_some, if◌then◌else◌}
+-- The only pair of a converted file does what the pair of that file did, and so the file says the same.
+use Rattle.std.proofs.Common.{◌≡◌, ℕ, List, [], ◌∷◌, ◌++◌, length, map, refl, arith, ap, sym, ◌∙◌, append_assoc}
+use Rattle.std.specs.Prelude.{IsSomeAnd, Some, None, is_some, if◌then◌else◌}
 use Rattle.std.specs.declared.option.Option.{Option}
 use Rattle.std.proofs.lemmas.List.{append-nil, length_push}
 use Rattle.param_load.specs.declared.entry.Entry.{Entry}
+use Rattle.schedule_file.specs.Header.{Heading}
+use Rattle.schedule_file.specs.Input.{AtEnd, InputOf, input_of}
+use Rattle.schedule_file.specs.PairsHeader.{PairsHeading}
+use Rattle.schedule_file.specs.PairsInput.{pairs_input}
 use Rattle.schedule_file.specs.declared.event.Event.{Event}
+use Rattle.schedule_file.specs.declared.header_kind.HeaderKind.TheVariants as kind
 use Rattle.schedule_file.specs.declared.pairs_line.PairsEvent.{PairsEvent}
 use Rattle.schedule_file.specs.declared.pairs_line.PairsEvent.TheVariants as common
 use Rattle.exchange_model.proofs.Worlds.Longer.{world_next, world_missed}
+use Rattle.duo_run.specs.Convert.{IsOnePair, SaysTheSame, converted}
 use Rattle.duo_run.specs.Pairs.{Pair, done_after, entries_over, entry_after, events_done, events_to, world_of}
+use Rattle.duo_run.proofs.Conversion.OnePair.{converts}
 
 abbrev of_one : Event → PairsEvent
 of_one event = common.One 1 event
@@ -34,3 +41,14 @@ goes_on p (event ∷ events) past whole = by_entry p event events past (entry_af
 
 pub same_world : (p : Pair) (events : List Event) → world_of 1 p (events_done (p ∷ []) (map of_one events)) ≡ entries_over p events
 same_world p events = goes_on p events [] refl
+
+events_are : (heading : Option Heading) (events : List Event) (pairs : InputOf PairsHeading PairsEvent) → IsSomeAnd heading (λ h. IsOnePair h events pairs) → pairs.events ≡ map of_one events
+events_are None events pairs one = absurd one
+events_are (Some h) events pairs one = one.events_are
+
+pub says_the_same : (bytes : List ℕ) → (input_of kind.Pair bytes).stop ≡ AtEnd → SaysTheSame bytes (converted bytes)
+says_the_same bytes stops =
+    let events : List Event = (input_of kind.Pair bytes).events in
+    let one = converts bytes stops in
+    let are = events_are (input_of kind.Pair bytes).heading events (pairs_input (converted bytes)) one in
+    record { one_pair = one; entries = λ p. ap (λ (es : List PairsEvent). world_of 1 p (events_done (p ∷ []) es)) are ∙ same_world p events }
