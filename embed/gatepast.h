@@ -95,7 +95,7 @@ extern "C" {
 #endif
 
 /* The memory of an end. gp_slave_size() and gp_master_size() return the same numbers. */
-#define GP_SLAVE_SIZE 4456
+#define GP_SLAVE_SIZE 2872
 #define GP_MASTER_SIZE 2320
 
 /* The most safe data bytes of a frame, bytes of a frame, and bytes of application parameters. */

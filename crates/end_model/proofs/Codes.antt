@@ -64,21 +64,21 @@ first-low : (first second : Option Code) → IsLow first → IsLow second → Is
 first-low None second h k = k
 first-low (Some found) second h k = h
 
-low-communication : (most : ℕ) (rule : AppRule) (profile : Profile) (before : ℕ) (u : List ℕ) → IsLow (communication_fault most rule profile before u)
-low-communication most rule profile before u =
+low-communication : (most count : ℕ) (profile : Profile) (before : ℕ) (u : List ℕ) → IsLow (communication_fault most count profile before u)
+low-communication most count profile before u =
     fails-with (fails before u 1 (number_at 0 u == id_len profile)) 0x08 _ (omega arith)
     (fails-with (fails before u 3 (nat_lt 0 (number_at 2 u) && nat_le (number_at 2 u) most)) 0x09 _ (omega arith)
     (fails-with (fails before u (id_len profile + 1) (word_is profile u)) 0x09 _ (omega arith)
-    (fails-with (fails before u (id_len profile + 3) (number_at (id_len profile + 2) u == rule_len rule)) 0x0A _ (omega arith) none-low)))
+    (fails-with (fails before u (id_len profile + 3) (number_at (id_len profile + 2) u == count)) 0x0A _ (omega arith) none-low)))
 
-low-field : (e : Expected) (before : ℕ) (u : List ℕ) → IsLow (field_fault e before u)
-low-field (expected.Session profile) before u = none-low
-low-field (expected.Connection conn address) before u = fails-with _ 0x03 _ (omega arith) (fails-with _ 0x06 _ (omega arith) none-low)
-low-field (expected.Parameter most rule profile) before u = first-low _ _ (low-communication most rule profile before u) (fails-with _ 0x0B None (omega arith) none-low)
+low-field : (e : Expected) (rule : AppRule) (before : ℕ) (u : List ℕ) → IsLow (field_fault e rule before u)
+low-field (expected.Session profile) rule before u = none-low
+low-field (expected.Connection conn address) rule before u = fails-with _ 0x03 _ (omega arith) (fails-with _ 0x06 _ (omega arith) none-low)
+low-field (expected.Parameter most count profile) rule before u = first-low _ _ (low-communication most count profile before u) (fails-with _ 0x0B None (omega arith) none-low)
 
 low-upload : (ss : SlaveSettings) (e : List Deed) (phase : State) (expects : Expected) (load : List ℕ) → IsLow (slave_upload_fault ss e phase expects load)
 low-upload ss e phase expects load =
-    first-low (field_fault expects (length (uploaded ss phase e)) (uploaded ss phase e ++ take (piece_len (OfSlave ss)) load)) _ (low-field expects _ _) (unless-with _ 0x07 (omega arith))
+    first-low (field_fault expects ss.rule (length (uploaded ss phase e)) (uploaded ss phase e ++ take (piece_len (OfSlave ss)) load)) _ (low-field expects ss.rule _ _) (unless-with _ 0x07 (omega arith))
 
 low-data : (c : Command) (load : List ℕ) → IsLow (data_fault c load)
 low-data c load = unless-with _ 0x07 (omega arith)
@@ -86,7 +86,7 @@ low-data c load = unless-with _ 0x07 (omega arith)
 low-slave : (ss : SlaveSettings) (e : List Deed) (c : Command) (f : Frame) → IsLow (slave_fault ss e c f)
 low-slave ss e command.Session f = low-upload ss e state.Session (expected.Session ss.profile) f.load
 low-slave ss e command.Connection f = low-upload ss e state.Connection (expected.Connection f.conn ss.address) f.load
-low-slave ss e command.Parameter f = low-upload ss e state.Parameter (expected.Parameter ss.most ss.rule ss.profile) f.load
+low-slave ss e command.Parameter f = low-upload ss e state.Parameter (expected.Parameter ss.most (rule_len ss.rule) ss.profile) f.load
 low-slave ss e c f = low-data c f.load
 
 low-master : (ms : MasterSettings) (e : List Deed) (c : Command) (f : Frame) → IsLow (master_fault ms e c f)

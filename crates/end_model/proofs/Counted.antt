@@ -9,7 +9,6 @@ use Rattle.fsoe_base.specs.Command.{code}
 use Rattle.param_load.specs.declared.app_rule.AppRule.{AppRule}
 use Rattle.param_load.specs.declared.contents.Expected.TheVariants as expected
 use Rattle.param_load.specs.declared.profile.Profile.{Profile}
-use Rattle.param_load.specs.AppRule.{rule_len}
 use Rattle.param_load.specs.Contents.{fails, word_is, communication_fault, app_fault, app_part, field_fault, padding_fault, contents_fault}
 use Rattle.param_load.specs.Payload.{number_at}
 use Rattle.param_load.specs.Profile.{id_len}
@@ -23,14 +22,14 @@ fourth false false false false x y z w e = refl
 fourth _ _ _ _ x y z w e = absurd (cc e)
 
 -- the test of the number is passed where no test fails
-number-tested : (most : ℕ) (rule : AppRule) (profile : Profile) (before : ℕ) (u rest : List ℕ) → contents_fault (expected.Parameter most rule profile) before u rest ≡ None
-    → fails before u (id_len profile + 3) (number_at (id_len profile + 2) u == rule_len rule) ≡ false
-number-tested most rule profile before u rest f =
-    let fields = first (field_fault (expected.Parameter most rule profile) before u) (padding_fault (expected.Parameter most rule profile) u rest) f in
-    let communication = first (communication_fault most rule profile before u)
-    (app_fault rule (id_len profile + 3 + rule_len rule) before u (app_part (expected.Parameter most rule profile) u)) fields in
+number-tested : (most count : ℕ) (profile : Profile) (rule : AppRule) (before : ℕ) (u rest : List ℕ) → contents_fault (expected.Parameter most count profile) rule before u rest ≡ None
+    → fails before u (id_len profile + 3) (number_at (id_len profile + 2) u == count) ≡ false
+number-tested most count profile rule before u rest f =
+    let fields = first (field_fault (expected.Parameter most count profile) rule before u) (padding_fault (expected.Parameter most count profile) u rest) f in
+    let communication = first (communication_fault most count profile before u)
+    (app_fault rule (id_len profile + 3 + count) before u (app_part (expected.Parameter most count profile) u)) fields in
     fourth (fails before u 1 (number_at 0 u == id_len profile)) (fails before u 3 (nat_lt 0 (number_at 2 u) && nat_le (number_at 2 u) most))
-    (fails before u (id_len profile + 1) (word_is profile u)) (fails before u (id_len profile + 3) (number_at (id_len profile + 2) u == rule_len rule))
+    (fails before u (id_len profile + 1) (word_is profile u)) (fails before u (id_len profile + 3) (number_at (id_len profile + 2) u == count))
     (code 0x08) (code 0x09) (code 0x09) (code 0x0A) communication
 
 stays : (u p : List ℕ) (k : ℕ) → k + 1 < length u → number_at k (u ++ p) ≡ number_at k u
@@ -50,7 +49,7 @@ counted u p v n before tested long =
     ]
 
 -- the number stays that of the rule where no test fails
-pub joined_count : (most : ℕ) (rule : AppRule) (profile : Profile) (u p rest : List ℕ) → (id_len profile + 4 ≤ length u → number_at (id_len profile + 2) u ≡ rule_len rule)
-    → contents_fault (expected.Parameter most rule profile) (length u) (u ++ p) rest ≡ None
-    → id_len profile + 4 ≤ length (u ++ p) → number_at (id_len profile + 2) (u ++ p) ≡ rule_len rule
-joined_count most rule profile u p rest h f = counted u p (id_len profile) (rule_len rule) h (number-tested most rule profile (length u) (u ++ p) rest f)
+pub joined_count : (most count : ℕ) (profile : Profile) (rule : AppRule) (u p rest : List ℕ) → (id_len profile + 4 ≤ length u → number_at (id_len profile + 2) u ≡ count)
+    → contents_fault (expected.Parameter most count profile) rule (length u) (u ++ p) rest ≡ None
+    → id_len profile + 4 ≤ length (u ++ p) → number_at (id_len profile + 2) (u ++ p) ≡ count
+joined_count most count profile rule u p rest h f = counted u p (id_len profile) count h (number-tested most count profile rule (length u) (u ++ p) rest f)

@@ -68,8 +68,8 @@ tested-more ss e bytes load t a =
     let more : List ℕ = take (piece_len (OfSlave ss)) (parts (OfSlave ss) bytes).load in
     let rest : List ℕ = drop (piece_len (OfSlave ss)) (parts (OfSlave ss) bytes).load in
     subst (λ (load : List ℕ). IsTested ss (parameters ss e ++ take (piece_len (OfSlave ss)) load)) a.load_is (record {
-      watchdog = joined_watchdog (expected.Parameter ss.most ss.rule ss.profile) u more rest t.watchdog a.is_sound;
-      counted = joined_count ss.most ss.rule ss.profile u more rest t.counted a.is_sound;
+      watchdog = joined_watchdog (expected.Parameter ss.most (rule_len ss.rule) ss.profile) ss.rule u more rest t.watchdog a.is_sound;
+      counted = joined_count ss.most (rule_len ss.rule) ss.profile ss.rule u more rest t.counted a.is_sound;
     })
 
 -- a slave takes a frame of a session; data after the whole parameters

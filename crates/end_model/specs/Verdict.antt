@@ -19,6 +19,7 @@ use Rattle.param_load.specs.declared.contents.Expected.TheVariants as expected
 use Rattle.param_load.specs.declared.master_settings.MasterSettings.{MasterSettings}
 use Rattle.param_load.specs.declared.slave_settings.SlaveSettings.{SlaveSettings}
 use Rattle.fsoe_base.specs.Data.{data_holds}
+use Rattle.param_load.specs.AppRule.{rule_len}
 use Rattle.param_load.specs.Download.{is_echo, is_padded}
 use Rattle.param_load.specs.Upload.{upload_fault}
 use Rattle.end_model.specs.Setup.{Setup, OfMaster, OfSlave, receives, piece_len}
@@ -60,7 +61,7 @@ has_conn s e c field = if is_guarded c then is_conn s e field else field == 0
 
 -- the contents of a frame of an upload: the fields that it ends, in order, then the padding
 abbrev pub slave_upload_fault : SlaveSettings → List Deed → State → Expected → List ℕ → Option Code
-slave_upload_fault ss e phase expects load = upload_fault (record { expected = expects; piece = piece_len (OfSlave ss); joined = uploaded ss phase e }) load
+slave_upload_fault ss e phase expects load = upload_fault (record { expected = expects; piece = piece_len (OfSlave ss); joined = uploaded ss phase e }) ss.rule load
 
 -- the contents of a frame of state Data: a FailSafeData frame carries zeros
 abbrev pub data_fault : Command → List ℕ → Option Code
@@ -70,7 +71,7 @@ data_fault c load = unless (data_holds c load) 0x07
 abbrev pub slave_fault : SlaveSettings → List Deed → Command → Frame → Option Code
 slave_fault ss e command.Session f = slave_upload_fault ss e state.Session (expected.Session ss.profile) f.load
 slave_fault ss e command.Connection f = slave_upload_fault ss e state.Connection (expected.Connection f.conn ss.address) f.load
-slave_fault ss e command.Parameter f = slave_upload_fault ss e state.Parameter (expected.Parameter ss.most ss.rule ss.profile) f.load
+slave_fault ss e command.Parameter f = slave_upload_fault ss e state.Parameter (expected.Parameter ss.most (rule_len ss.rule) ss.profile) f.load
 slave_fault ss e c f = data_fault c f.load
 
 -- the piece that a master sent last, in the phase that it is in

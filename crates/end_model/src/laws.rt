@@ -18,6 +18,7 @@ ghost use Rattle.end_model.specs.Phases.{has_command};
 ghost use Rattle.end_model.specs.Deed.{Deed, is_empty};
 ghost use Rattle.param_load.specs.declared.contents.Expected.TheVariants as expected;
 ghost use Rattle.param_load.specs.declared.slave_settings.SlaveSettings.{SlaveSettings};
+ghost use Rattle.param_load.specs.AppRule.{rule_len};
 ghost use Rattle.param_load.specs.Contents.{expected_len};
 ghost use Rattle.end_model.specs.Payloads.{uploaded, whole};
 ghost use Rattle.end_model.specs.Readiness.{state_of, age, limit, upload_is_whole};
@@ -139,5 +140,5 @@ pub fn outputs()
 /// for. The reason: the number of application parameters that the master sends is that of the rule.
 #[tactic(auto, using(crate::proofs::WholeUploads::whole_parameters))]
 pub fn uploads()
-    ensures whole { (ss : SlaveSettings) (e : List Deed) → IsRun (OfSlave ss) e → whole ss.profile state.Parameter (uploaded ss state.Parameter e) ≡ nat_le (expected_len (expected.Parameter ss.most ss.rule ss.profile)) (length (uploaded ss state.Parameter e)) }
+    ensures whole { (ss : SlaveSettings) (e : List Deed) → IsRun (OfSlave ss) e → whole ss.profile state.Parameter (uploaded ss state.Parameter e) ≡ nat_le (expected_len (expected.Parameter ss.most (rule_len ss.rule) ss.profile)) (length (uploaded ss state.Parameter e)) }
 {}

@@ -8,7 +8,6 @@ use Rattle.param_load.specs.declared.contents.Expected.{Expected}
 use Rattle.param_load.specs.declared.contents.Expected.TheVariants as expected
 use Rattle.param_load.specs.declared.app_rule.AppRule.{AppRule}
 use Rattle.param_load.specs.declared.profile.Profile.{Profile}
-use Rattle.param_load.specs.AppRule.{rule_len}
 use Rattle.fsoe_base.specs.Codes.{wrong_communication_length, wrong_communication, wrong_application_length}
 use Rattle.param_load.specs.Contents.{fails, word_is, communication_fault, app_fault, app_part, field_fault, padding_fault, contents_fault}
 use Rattle.param_load.specs.Profile.{id_len}
@@ -25,15 +24,15 @@ second false true x y z e = absurd (cc e)
 second false false x y z e = refl
 
 -- the test of the watchdog is passed where no test fails
-watchdog-tested : (most : ℕ) (rule : AppRule) (profile : Profile) (before : ℕ) (u rest : List ℕ) → contents_fault (expected.Parameter most rule profile) before u rest ≡ None
+watchdog-tested : (most count : ℕ) (profile : Profile) (rule : AppRule) (before : ℕ) (u rest : List ℕ) → contents_fault (expected.Parameter most count profile) rule before u rest ≡ None
     → fails before u 3 (nat_lt 0 (number_at 2 u) && nat_le (number_at 2 u) most) ≡ false
-watchdog-tested most rule profile before u rest f =
-    let fields = first (field_fault (expected.Parameter most rule profile) before u) (padding_fault (expected.Parameter most rule profile) u rest) f in
-    let communication = first (communication_fault most rule profile before u)
-    (app_fault rule (id_len profile + 3 + rule_len rule) before u (app_part (expected.Parameter most rule profile) u)) fields in
+watchdog-tested most count profile rule before u rest f =
+    let fields = first (field_fault (expected.Parameter most count profile) rule before u) (padding_fault (expected.Parameter most count profile) u rest) f in
+    let communication = first (communication_fault most count profile before u)
+    (app_fault rule (id_len profile + 3 + count) before u (app_part (expected.Parameter most count profile) u)) fields in
     second (fails before u 1 (number_at 0 u == id_len profile)) (fails before u 3 (nat_lt 0 (number_at 2 u) && nat_le (number_at 2 u) most)) wrong_communication_length wrong_communication
     (if fails before u (id_len profile + 1) (word_is profile u) then Some wrong_communication
-    else if fails before u (id_len profile + 3) (number_at (id_len profile + 2) u == rule_len rule) then Some wrong_application_length else None) communication
+    else if fails before u (id_len profile + 3) (number_at (id_len profile + 2) u == count) then Some wrong_application_length else None) communication
 
 stays : (u p : List ℕ) → 3 < length u → number_at 2 (u ++ p) ≡ number_at 2 u
 stays u p h = grind (arith, get_or_append_left u p 0 2 (omega arith), get_or_append_left u p 0 3 h)
@@ -51,8 +50,8 @@ watchdog u p most before tested long =
     ]
 
 -- the watchdog of the joined bytes isn't 0 where no test fails
-pub joined_watchdog : (e : Expected) (u p rest : List ℕ) → HasWatchdog e u → contents_fault e (length u) (u ++ p) rest ≡ None → HasWatchdog e (u ++ p)
-joined_watchdog (expected.Session profile) u p rest h f = tt
-joined_watchdog (expected.Connection conn address) u p rest h f = tt
-joined_watchdog (expected.Parameter most rule profile) u p rest h f =
-    watchdog u p most h (watchdog-tested most rule profile (length u) (u ++ p) rest f)
+pub joined_watchdog : (e : Expected) (rule : AppRule) (u p rest : List ℕ) → HasWatchdog e u → contents_fault e rule (length u) (u ++ p) rest ≡ None → HasWatchdog e (u ++ p)
+joined_watchdog (expected.Session profile) rule u p rest h f = tt
+joined_watchdog (expected.Connection conn address) rule u p rest h f = tt
+joined_watchdog (expected.Parameter most count profile) rule u p rest h f =
+    watchdog u p most h (watchdog-tested most count profile rule (length u) (u ++ p) rest f)

@@ -11,15 +11,15 @@ use Rattle.param_load.specs.declared.contents.Expected.{Expected}
 use Rattle.param_load.specs.declared.contents.Expected.TheVariants as expected
 use Rattle.param_load.specs.declared.profile.Profile.{Profile}
 use Rattle.param_load.specs.declared.profile.Profile.TheVariants as profile
-use Rattle.param_load.specs.AppRule.{rule_len, allows, is_acceptable}
+use Rattle.param_load.specs.AppRule.{allows}
 use Rattle.param_load.specs.Payload.{number_at}
 use Rattle.param_load.specs.Profile.{id_len}
 
--- the rule of expected parameters is one that settings may have
+-- expected application parameters are at most as many as settings may ask for
 abbrev pub is_expectable : Expected → Bool
 is_expectable (expected.Session profile) = true
 is_expectable (expected.Connection conn address) = true
-is_expectable (expected.Parameter most rule profile) = is_acceptable rule
+is_expectable (expected.Parameter most count profile) = nat_le count 512
 
 -- what is expected
 abbrev pub is_session : Expected → Bool
@@ -27,20 +27,20 @@ is_session (expected.Session profile) = true
 is_session _ = false
 
 abbrev pub is_parameter : Expected → Bool
-is_parameter (expected.Parameter most rule profile) = true
+is_parameter (expected.Parameter most count profile) = true
 is_parameter _ = false
 
 -- the number of bytes of an expected payload
 abbrev pub expected_len : Expected → ℕ
 expected_len (expected.Session profile) = id_len profile
 expected_len (expected.Connection conn address) = 4
-expected_len (expected.Parameter most rule profile) = id_len profile + 4 + rule_len rule
+expected_len (expected.Parameter most count profile) = id_len profile + 4 + count
 
 -- the application parameters of a payload
 abbrev pub app_part : Expected → List ℕ → List ℕ
 app_part (expected.Session profile) u = []
 app_part (expected.Connection conn address) u = []
-app_part (expected.Parameter most rule profile) u = take (rule_len rule) (drop (id_len profile + 4) u)
+app_part (expected.Parameter most count profile) u = take count (drop (id_len profile + 4) u)
 
 -- a field is tested with the frame that brings its last byte, which stands at this place
 abbrev pub fails : ℕ → List ℕ → ℕ → Bool → Bool
@@ -58,30 +58,30 @@ connection_fault conn address before u =
     else None
 
 -- the length of the communication parameters, the watchdog, the profile word, and the number of application parameters
-abbrev pub communication_fault : ℕ → AppRule → Profile → ℕ → List ℕ → Option Code
-communication_fault most rule profile before u =
+abbrev pub communication_fault : ℕ → ℕ → Profile → ℕ → List ℕ → Option Code
+communication_fault most count profile before u =
     if fails before u 1 (number_at 0 u == id_len profile) then Some wrong_communication_length
     else if fails before u 3 (nat_lt 0 (number_at 2 u) && nat_le (number_at 2 u) most) then Some wrong_communication
     else if fails before u (id_len profile + 1) (word_is profile u) then Some wrong_communication
-    else if fails before u (id_len profile + 3) (number_at (id_len profile + 2) u == rule_len rule) then Some wrong_application_length
+    else if fails before u (id_len profile + 3) (number_at (id_len profile + 2) u == count) then Some wrong_application_length
     else None
 
 -- the application parameters, when all have come
 abbrev pub app_fault : AppRule → ℕ → ℕ → List ℕ → List ℕ → Option Code
 app_fault rule last before u app = if fails before u last (allows rule app) then Some wrong_application else None
 
--- the first field that fails its test
-abbrev pub field_fault : Expected → ℕ → List ℕ → Option Code
-field_fault (expected.Session profile) before u = None
-field_fault (expected.Connection conn address) before u = connection_fault conn address before u
-field_fault (expected.Parameter most rule profile) before u =
-    option_or (communication_fault most rule profile before u)
-    (app_fault rule (id_len profile + 3 + rule_len rule) before u (app_part (expected.Parameter most rule profile) u))
+-- the first field that fails its test: application parameters follow the rule
+abbrev pub field_fault : Expected → AppRule → ℕ → List ℕ → Option Code
+field_fault (expected.Session profile) rule before u = None
+field_fault (expected.Connection conn address) rule before u = connection_fault conn address before u
+field_fault (expected.Parameter most count profile) rule before u =
+    option_or (communication_fault most count profile before u)
+    (app_fault rule (id_len profile + 3 + count) before u (app_part (expected.Parameter most count profile) u))
 
 -- the padding: the joined bytes past the payload's end, and the data of the frame past its piece
 abbrev pub padding_fault : Expected → List ℕ → List ℕ → Option Code
 padding_fault e u rest = if all_zero (drop (expected_len e) u) && all_zero rest then None else Some wrong_data
 
 -- the first test of the contents that fails: of the fields, then of the padding
-abbrev pub contents_fault : Expected → ℕ → List ℕ → List ℕ → Option Code
-contents_fault e before u rest = option_or (field_fault e before u) (padding_fault e u rest)
+abbrev pub contents_fault : Expected → AppRule → ℕ → List ℕ → List ℕ → Option Code
+contents_fault e rule before u rest = option_or (field_fault e rule before u) (padding_fault e u rest)

@@ -8,6 +8,7 @@ use Rattle.param_load.specs.declared.profile.Profile.{Profile}
 use Rattle.param_load.specs.declared.profile.Profile.TheVariants as profile
 use Rattle.param_load.specs.declared.upload.Progress.{Progress}
 use Rattle.param_load.specs.declared.upload.Progress.TheVariants as progress
+use Rattle.param_load.specs.AppRule.{rule_len}
 use Rattle.param_load.specs.Contents.{expected_len, contents_fault}
 use Rattle.param_load.specs.Payload.{number_at}
 use Rattle.param_load.specs.UploadView.{UploadView}
@@ -20,7 +21,7 @@ abbrev pub connection_upload : ℕ → ℕ → ℕ → UploadView
 connection_upload piece conn address = record { expected = expected.Connection conn address; piece = piece; joined = [] }
 
 abbrev pub parameter_upload : ℕ → ℕ → AppRule → Profile → UploadView
-parameter_upload piece most rule profile = record { expected = expected.Parameter most rule profile; piece = piece; joined = [] }
+parameter_upload piece most rule profile = record { expected = expected.Parameter most (rule_len rule) profile; piece = piece; joined = [] }
 
 -- an upload is whole where all bytes of its payload have come
 abbrev pub is_whole : UploadView → Bool
@@ -39,16 +40,16 @@ id_of _ u = 0
 abbrev pub advanced : UploadView → List ℕ → UploadView
 advanced v bytes = record v { joined = v.joined ++ take v.piece bytes }
 
-abbrev pub upload_fault : UploadView → List ℕ → Option Code
-upload_fault v bytes = contents_fault v.expected (length v.joined) (v.joined ++ take v.piece bytes) (drop v.piece bytes)
+abbrev pub upload_fault : UploadView → AppRule → List ℕ → Option Code
+upload_fault v rule bytes = contents_fault v.expected rule (length v.joined) (v.joined ++ take v.piece bytes) (drop v.piece bytes)
 
 -- the code of the first test that fails, else whether the upload is whole with the piece
 abbrev pub outcome_by : Option Code → UploadView → Result Progress Code
 outcome_by (Some code) v = Err code
 outcome_by None v = Ok (if is_whole v then progress.Whole else progress.More)
 
-abbrev pub outcome : UploadView → List ℕ → Result Progress Code
-outcome v bytes = outcome_by (upload_fault v bytes) (advanced v bytes)
+abbrev pub outcome : UploadView → AppRule → List ℕ → Result Progress Code
+outcome v rule bytes = outcome_by (upload_fault v rule bytes) (advanced v bytes)
 
 -- the piece that came last
 abbrev pub last_piece : UploadView → List ℕ

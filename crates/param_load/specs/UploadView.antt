@@ -3,7 +3,7 @@ use Rattle.std.specs.Prelude.{◌≡◌, ℕ, ◌<◌, ◌≤◌, IsTrue, List, 
 use Rattle.fsoe_base.specs.Lengths.{most_data}
 use Rattle.param_load.specs.declared.contents.Expected.{Expected}
 use Rattle.param_load.specs.declared.contents.Expected.TheVariants as expected
-use Rattle.param_load.specs.Contents.{is_expectable, expected_len, app_part}
+use Rattle.param_load.specs.Contents.{is_expectable}
 use Rattle.param_load.specs.Payload.{number_at}
 
 -- what is expected, the bytes of a piece, and the pieces so far, joined
@@ -16,11 +16,10 @@ pub record UploadView : Type 0 where
 abbrev pub HasWatchdog : Expected → List ℕ → Type 0
 HasWatchdog (expected.Session profile) u = Unit {0}
 HasWatchdog (expected.Connection conn address) u = Unit {0}
-HasWatchdog (expected.Parameter most rule profile) u = 4 ≤ length u → 0 < number_at 2 u
+HasWatchdog (expected.Parameter most count profile) u = 4 ≤ length u → 0 < number_at 2 u
 
--- what holds of every upload: the application parameters of a whole one are those that are joined
-pub record IsUpload (v : UploadView) (app : List ℕ) : Type 0 where
+-- what holds of every upload
+pub record IsUpload (v : UploadView) : Type 0 where
   pub piece_most : v.piece ≤ most_data
   pub expectable : IsTrue (is_expectable v.expected)
   pub has_watchdog : HasWatchdog v.expected v.joined
-  pub app_joined : expected_len v.expected ≤ length v.joined → app ≡ app_part v.expected v.joined

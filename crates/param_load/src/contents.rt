@@ -18,10 +18,10 @@ pub(crate) enum Expected {
         conn: u16,
         address: u16,
     },
-    /// A watchdog of 1 to `most` ticks, the profile word, and application parameters that follow the rule.
+    /// A watchdog of 1 to `most` ticks, the profile word, and `count` bytes of application parameters.
     Parameter {
         most: u16,
-        rule: AppRule,
+        count: usize,
         profile: Profile,
     },
 }
@@ -57,12 +57,12 @@ fn connection_fault(conn: u16, address: u16, joined: &Joined, before: usize) -> 
 
 fn communication_fault(
     most: u16,
-    rule: &AppRule,
+    count: usize,
     profile: Profile,
     joined: &Joined,
     before: usize,
 ) -> Option<Code>
-    ensures { result ≡ communication_fault most rule.now profile before joined.now }
+    ensures { result ≡ communication_fault most count profile before joined.now }
 {
     let id_len = profile.id_len();
     if comes(joined, before, 1) && usize::from(number_at(joined.bytes(), 0)) != id_len {
@@ -75,7 +75,7 @@ fn communication_fault(
         return Some(Code::WRONG_COMMUNICATION);
     }
     if comes(joined, before, id_len + 3)
-        && usize::from(number_at(joined.bytes(), id_len + 2)) != rule.len()
+        && usize::from(number_at(joined.bytes(), id_len + 2)) != count
     {
         return Some(Code::WRONG_APPLICATION_LENGTH);
     }
@@ -92,7 +92,7 @@ impl Expected {
         match self {
             Expected::Session(profile) => profile.id_len(),
             Expected::Connection { .. } => 4,
-            Expected::Parameter { rule, profile, .. } => profile.id_len() + 4 + rule.len(),
+            Expected::Parameter { count, profile, .. } => profile.id_len() + 4 + count,
         }
     }
 
@@ -106,17 +106,17 @@ impl Expected {
         match self {
             Expected::Session(_) => &[],
             Expected::Connection { .. } => &[],
-            Expected::Parameter { rule, profile, .. } => {
+            Expected::Parameter { count, profile, .. } => {
                 let from = profile.id_len() + 4;
-                &joined.bytes()[from..from + rule.len()]
+                &joined.bytes()[from..from + *count]
             }
         }
     }
 
     /// The code of the first field that comes with a frame and fails its test.
-    fn field_fault(&self, joined: &Joined, before: usize) -> Option<Code>
+    fn field_fault(&self, rule: &AppRule, joined: &Joined, before: usize) -> Option<Code>
         requires { IsTrue (is_expectable self.now) }
-        ensures { result ≡ field_fault self.now before joined.now }
+        ensures { result ≡ field_fault self.now rule.now before joined.now }
     {
         match self {
             Expected::Session(_) => None,
@@ -125,13 +125,13 @@ impl Expected {
             }
             Expected::Parameter {
                 most,
-                rule,
+                count,
                 profile,
             } => {
-                if let Some(code) = communication_fault(*most, rule, *profile, joined, before) {
+                if let Some(code) = communication_fault(*most, *count, *profile, joined, before) {
                     return Some(code);
                 }
-                let last = profile.id_len() + 3 + rule.len();
+                let last = profile.id_len() + 3 + count;
                 if comes(joined, before, last) && !rule.allows(self.app_part(joined)) {
                     return Some(Code::WRONG_APPLICATION);
                 }
@@ -142,11 +142,17 @@ impl Expected {
 
     /// Returns the code of the first test of a frame's contents that fails. The fields that end in this frame are
     /// tested first, then the padding: the joined bytes past the payload's end and the rest of the frame's data.
-    pub(crate) fn contents_fault(&self, joined: &Joined, before: usize, rest: &[u8]) -> Option<Code>
+    pub(crate) fn contents_fault(
+        &self,
+        rule: &AppRule,
+        joined: &Joined,
+        before: usize,
+        rest: &[u8],
+    ) -> Option<Code>
         requires { IsTrue (is_expectable self.now) }
-        ensures { result ≡ contents_fault self.now before joined.now rest.now }
+        ensures { result ≡ contents_fault self.now rule.now before joined.now rest.now }
     {
-        if let Some(code) = self.field_fault(joined, before) {
+        if let Some(code) = self.field_fault(rule, joined, before) {
             return Some(code);
         }
         let is_padded = is_all_zero(past(joined.bytes(), self.len())) && is_all_zero(rest);

@@ -1,5 +1,5 @@
 //! What a slave takes piece by piece in a handshake.
-use crate::app_rule::{AppBytes, AppRule};
+use crate::app_rule::AppRule;
 use crate::contents::Expected;
 use crate::joined::{Joined, number_at, past};
 use crate::payload::padded;
@@ -24,7 +24,6 @@ pub struct Upload {
     expected: Expected,
     piece: usize,
     joined: Joined,
-    app: AppBytes,
 }
 
 impl Model for Upload {
@@ -34,7 +33,7 @@ impl Model for Upload {
 
     ghost view = { λ u. record { expected = u.expected; piece = u.piece; joined = u.joined } };
 
-    ghost invariant = { λ u. IsUpload (record { expected = u.expected; piece = u.piece; joined = u.joined }) u.app };
+    ghost invariant = { λ u. IsUpload (record { expected = u.expected; piece = u.piece; joined = u.joined }) };
 }
 
 impl Upload {
@@ -53,7 +52,6 @@ impl Upload {
             expected: Expected::Session(profile),
             piece,
             joined: Joined::new(),
-            app: AppBytes::new(),
         }
     }
 
@@ -66,12 +64,11 @@ impl Upload {
             expected: Expected::Connection { conn, address },
             piece,
             joined: Joined::new(),
-            app: AppBytes::new(),
         }
     }
 
     /// Creates the upload of parameters of this profile, with a watchdog of 1 to `most` ticks, in pieces of `piece`
-    /// bytes, at most 126. The application parameters must follow `rule`, which must be acceptable.
+    /// bytes, at most 126. There are as many application parameters as `rule` accepts, which must be acceptable.
     pub fn parameter(piece: usize, most: u16, rule: &AppRule, profile: Profile) -> Upload
         requires most { piece ≤ MOST_DATA }
         requires acceptable { IsTrue (is_acceptable rule.now) }
@@ -80,12 +77,11 @@ impl Upload {
         Upload {
             expected: Expected::Parameter {
                 most,
-                rule: rule.copy(),
+                count: rule.len(),
                 profile,
             },
             piece,
             joined: Joined::new(),
-            app: AppBytes::new(),
         }
     }
 
@@ -108,12 +104,15 @@ impl Upload {
     /// - 03h for a wrong connection id, 06h for a wrong slave address;
     /// - 08h for a wrong length of the communication parameters;
     /// - 09h for a watchdog of 0 or above `most`, or a wrong profile word;
-    /// - 0Ah for a wrong number of application parameters, 0Bh if these break the rule, 07h for padding that isn't 0.
+    /// - 0Ah for a wrong number of application parameters, 0Bh if `rule` doesn't accept them, 07h for padding that
+    ///   isn't 0.
+    ///
+    /// Of a session id, a connection id and an address `rule` says nothing.
     #[tactic(auto, using(crate::proofs::Watchdog::joined_watchdog))]
-    pub fn take(&mut self, bytes: &[u8]) -> Result<Progress, Code>
+    pub fn take(&mut self, bytes: &[u8], rule: &AppRule) -> Result<Progress, Code>
         requires more { is_whole self.old ≡ false }
         requires piece { self.old.piece ≤ length bytes.now }
-        ensures outcome { result ≡ outcome self.old bytes.now }
+        ensures outcome { result ≡ outcome self.old rule.now bytes.now }
         ensures joined { OnOk result (self.new ≡ advanced self.old bytes.now) }
         ensures refused { OnErr result (self.new ≡ self.old) }
     {
@@ -122,16 +121,16 @@ impl Upload {
         self.joined.push_all(&bytes[..self.piece]);
         if let Some(code) = self
             .expected
-            .contents_fault(&self.joined, before, &bytes[self.piece..])
+            .contents_fault(rule, &self.joined, before, &bytes[self.piece..])
         {
             self.joined.truncate(before);
             return Err(code);
         }
         if self.joined.len() < whole {
-            return Ok(Progress::More);
+            Ok(Progress::More)
+        } else {
+            Ok(Progress::Whole)
         }
-        self.app.set(self.expected.app_part(&self.joined));
-        Ok(Progress::Whole)
     }
 
     /// Returns the last received piece, padded with zeros to `len` bytes, from `piece` to 126.
@@ -169,11 +168,12 @@ impl Upload {
     }
 
     /// Returns the application parameters. The upload must be that of parameters, and complete.
-    pub fn app(&self) -> &AppBytes
+    pub fn app(&self) -> &[u8]
         requires whole { IsTrue (is_whole self.now) }
         requires parameter { IsTrue (is_parameter self.now.expected) }
-        ensures { result.now ≡ app_part self.now.expected self.now.joined }
+        ensures value { result.now ≡ app_part self.now.expected self.now.joined }
+        ensures most { length result.now ≤ 512 }
     {
-        &self.app
+        self.expected.app_part(&self.joined)
     }
 }

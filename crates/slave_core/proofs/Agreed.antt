@@ -85,7 +85,7 @@ reset-passed : (ss : SlaveSettings) (e : List Deed) (bytes : List ℕ) → state
     → Passed state.Reset ss e bytes command.Session
 reset-passed ss e bytes at s h a =
     subst (λ (n : Notes). Agrees ss e (move.Deliver bytes) (on_verdict state.Reset (OfSlave ss) (model.judged_contents command.Session (came ss bytes).load (model.contents (OfSlave ss) e command.Session (came ss bytes))))
-    (session_settles (upload_fault (upload_of ss (expected.Session ss.profile) n.session) (came ss bytes).load) state.Reset ss e bytes n (nonce (OfSlave ss) e)))
+    (session_settles (upload_fault (upload_of ss (expected.Session ss.profile) n.session) ss.rule (came ss bytes).load) state.Reset ss e bytes n (nonce (OfSlave ss) e)))
     h.1
     (session-agrees (model.contents (OfSlave ss) e command.Session (came ss bytes)) state.Reset ss e bytes (nonce (OfSlave ss) e) at s (opening-fresh ss (count_of e) (notes_of ss e) (nonce (OfSlave ss) e) h) a)
 
@@ -102,7 +102,7 @@ connects-passed ss e bytes at s h k a =
     let conn : ℕ = (came ss bytes).conn in
     whole-branch state.Session ss e bytes command.Connection _ _ _ _ _ (is_whole (upload_of ss (expected.Session ss.profile) (notes_of ss e).session)) k.is_allowed
     (subst (λ (u : List ℕ). Agrees ss e (move.Deliver bytes) (on_verdict state.Session (OfSlave ss) (model.judged_contents command.Connection (came ss bytes).load (model.contents (OfSlave ss) e command.Connection (came ss bytes))))
-    (connection_settles (upload_fault (upload_of ss (expected.Connection conn ss.address) u) (came ss bytes).load) state.Session ss e bytes conn u))
+    (connection_settles (upload_fault (upload_of ss (expected.Connection conn ss.address) u) ss.rule (came ss bytes).load) state.Session ss e bytes conn u))
     h.no_connection
     (connection-agrees (model.contents (OfSlave ss) e command.Connection (came ss bytes)) state.Session ss e bytes refl at s
     (record {
@@ -121,7 +121,7 @@ connection-passed ss e bytes at s h k a =
     let is : conn ≡ unwrap_or (slave_conn ss e) 0 = same-conn (slave_conn ss e) _ conn h.conn_is k.has_conn in
     more-branch state.Connection ss e bytes command.Connection _ _ _ _ _ (is_whole (upload_of ss (expected.Connection (unwrap_or (slave_conn ss e) 0) ss.address) (notes_of ss e).connection)) k.is_allowed
     (subst (λ (n : ℕ). Agrees ss e (move.Deliver bytes) (on_verdict state.Connection (OfSlave ss) (model.judged_contents command.Connection (came ss bytes).load (model.contents (OfSlave ss) e command.Connection (came ss bytes))))
-    (connection_settles (upload_fault (upload_of ss (expected.Connection n ss.address) (notes_of ss e).connection) (came ss bytes).load) state.Connection ss e bytes n (notes_of ss e).connection))
+    (connection_settles (upload_fault (upload_of ss (expected.Connection n ss.address) (notes_of ss e).connection) ss.rule (came ss bytes).load) state.Connection ss e bytes n (notes_of ss e).connection))
     is
     (connection-agrees (model.contents (OfSlave ss) e command.Connection (came ss bytes)) state.Connection ss e bytes refl at s
     (record {
@@ -138,7 +138,7 @@ loads-passed ss e bytes at s h k a run =
     let all : 4 ≤ length (notes_of ss e).connection = leb-true 4 (length (notes_of ss e).connection) k.is_allowed in
     whole-branch state.Connection ss e bytes command.Parameter _ _ _ _ _ (is_whole (upload_of ss (expected.Connection (unwrap_or (slave_conn ss e) 0) ss.address) (notes_of ss e).connection)) k.is_allowed
     (subst (λ (u : List ℕ). Agrees ss e (move.Deliver bytes) (on_verdict state.Connection (OfSlave ss) (model.judged_contents command.Parameter (came ss bytes).load (model.contents (OfSlave ss) e command.Parameter (came ss bytes))))
-    (parameter_settles (upload_fault (upload_of ss (expected.Parameter ss.most ss.rule ss.profile) u) (came ss bytes).load) state.Connection ss e bytes u))
+    (parameter_settles (upload_fault (upload_of ss (expected.Parameter ss.most (rule_len ss.rule) ss.profile) u) ss.rule (came ss bytes).load) state.Connection ss e bytes u))
     h.no_parameter
     (parameter-agrees (model.contents (OfSlave ss) e command.Parameter (came ss bytes)) state.Connection ss e bytes at s
     (record { conn_is = h.conn_is; conn_said = h.conn_said (omega arith); address_said = h.address_said all }) a run))
@@ -147,7 +147,7 @@ loads-passed ss e bytes at s h k a run =
 parameter-passed : (ss : SlaveSettings) (e : List Deed) (bytes : List ℕ) → state_of (OfSlave ss) e ≡ state.Parameter → Sound ss e → OfParameters ss (notes_of ss e)
     → Came state.Parameter ss e bytes command.Parameter → Arrived ss bytes command.Parameter → RunOn state.Parameter ss e bytes command.Parameter → Passed state.Parameter ss e bytes command.Parameter
 parameter-passed ss e bytes at s h k a run =
-    more-branch state.Parameter ss e bytes command.Parameter _ _ _ _ _ (is_whole (upload_of ss (expected.Parameter ss.most ss.rule ss.profile) (notes_of ss e).parameter)) k.is_allowed
+    more-branch state.Parameter ss e bytes command.Parameter _ _ _ _ _ (is_whole (upload_of ss (expected.Parameter ss.most (rule_len ss.rule) ss.profile) (notes_of ss e).parameter)) k.is_allowed
     (parameter-agrees (model.contents (OfSlave ss) e command.Parameter (came ss bytes)) state.Parameter ss e bytes at s
     (record { conn_is = h.conn_is; conn_said = h.conn_said; address_said = h.address_said }) a run)
 
@@ -171,7 +171,7 @@ abbrev data_at : SlaveSettings → List Deed → Terms → InData
 data_at ss e t = record { session = session_of (notes_of ss e); terms = t; outputs = replicate ss.lengths.master 0 }
 
 -- data begin once these are whole
-runs-passed : (ss : SlaveSettings) (e : List Deed) (bytes : List ℕ) (d : Did) (c : Command) → IsRun (OfSlave ss) e → OfParameters ss (notes_of ss e) → is_whole (upload_of ss (expected.Parameter ss.most ss.rule ss.profile) (notes_of ss e).parameter) ≡ true
+runs-passed : (ss : SlaveSettings) (e : List Deed) (bytes : List ℕ) (d : Did) (c : Command) → IsRun (OfSlave ss) e → OfParameters ss (notes_of ss e) → is_whole (upload_of ss (expected.Parameter ss.most (rule_len ss.rule) ss.profile) (notes_of ss e).parameter) ≡ true
     → (whole ss.profile state.Parameter (parameters ss e) ≡ true
     → Agrees ss e (move.Deliver bytes) d (settles (view_in state.Parameter ss e) (record { command = c; frame = came ss bytes })
     (data_reply (kit_of ss e) (data_at ss e (terms (OfSlave ss) e)) (record { command = c; frame = came ss bytes }))
@@ -181,7 +181,7 @@ runs-passed : (ss : SlaveSettings) (e : List Deed) (bytes : List ℕ) (d : Did) 
     (next_state (kit_of ss e) (now_in state.Parameter ss (notes_of ss e)) (record { command = c; frame = came ss bytes })))
 runs-passed ss e bytes d c run h k agrees =
     let w : whole ss.profile state.Parameter (parameters ss e) ≡ true = whole_parameters ss e run ∙ k in
-    whole-branch state.Parameter ss e bytes c _ _ _ _ _ (is_whole (upload_of ss (expected.Parameter ss.most ss.rule ss.profile) (notes_of ss e).parameter)) k
+    whole-branch state.Parameter ss e bytes c _ _ _ _ _ (is_whole (upload_of ss (expected.Parameter ss.most (rule_len ss.rule) ss.profile) (notes_of ss e).parameter)) k
     (subst (λ (t : Terms). Agrees ss e (move.Deliver bytes) d (settles (view_in state.Parameter ss e) (record { command = c; frame = came ss bytes })
     (data_reply (kit_of ss e) (data_at ss e t) (record { command = c; frame = came ss bytes }))
     (as_now now.Data (data_next (kit_of ss e) (data_at ss e t) (record { command = c; frame = came ss bytes })))))

@@ -9,6 +9,7 @@ use Rattle.fsoe_base.specs.declared.command.Command.TheVariants as command
 use Rattle.fsoe_base.specs.declared.command.State.{State}
 use Rattle.fsoe_base.specs.Command.{code}
 use Rattle.seq_chain.specs.declared.chain.Chain.{Chain}
+use Rattle.param_load.specs.declared.app_rule.AppRule.{AppRule}
 use Rattle.param_load.specs.declared.contents.Expected.TheVariants as expected
 use Rattle.param_load.specs.declared.entry.Move.TheVariants as move
 use Rattle.param_load.specs.declared.slave_settings.SlaveSettings.{SlaveSettings}
@@ -64,10 +65,10 @@ both false true x y e = absurd (cc e)
 both false false x y e = (refl, refl)
 
 -- the connection id and the address that were joined are the session's and the slave's
-said-both : (conn address : ℕ) (u p rest : List ℕ) → (2 ≤ length u → number_at 0 u ≡ conn) → (4 ≤ length u → number_at 2 u ≡ address)
-    → contents_fault (expected.Connection conn address) (length u) (u ++ p) rest ≡ None
+said-both : (conn address : ℕ) (rule : AppRule) (u p rest : List ℕ) → (2 ≤ length u → number_at 0 u ≡ conn) → (4 ≤ length u → number_at 2 u ≡ address)
+    → contents_fault (expected.Connection conn address) rule (length u) (u ++ p) rest ≡ None
     → (2 ≤ length (u ++ p) → number_at 0 (u ++ p) ≡ conn) × (4 ≤ length (u ++ p) → number_at 2 (u ++ p) ≡ address)
-said-both conn address u p rest h g f =
+said-both conn address rule u p rest h g f =
     let t = both (fails (length u) (u ++ p) 1 (number_at 0 (u ++ p) == conn)) (fails (length u) (u ++ p) 3 (number_at 2 (u ++ p) == address)) (code 0x03) (code 0x06)
     (fields (connection_fault conn address (length u) (u ++ p)) (padding_fault (expected.Connection conn address) (u ++ p) rest) f) in
     (said u p 0 conn h t.0, said u p 2 address g t.1)
@@ -117,7 +118,7 @@ connection-agrees None p ss e bytes tested at s j a =
     let next : slave_conn ss before ≡ Some conn = connects-first (slave_conn ss e) (has_command command.Connection bytes) conn a.connects j.conn_next in
     let conn_is : conn_id (OfSlave ss) before ≡ conn = there _ conn next in
     let limit_is : slave_limit ss (notes_of ss e).parameter ≡ ss.hand = ap (slave_limit ss) j.no_parameter ∙ fresh_limit ss in
-    let fields = said-both conn ss.address (notes_of ss e).connection (take c load) (drop c load) j.conn_said j.address_said tested in
+    let fields = said-both conn ss.address ss.rule (notes_of ss e).connection (take c load) (drop c load) j.conn_said j.address_said tested in
     record {
       view = λ r. same_slave _ _ _ _ _ _ _ _ refl
           (same_connection _ _ _ _ _ _ _ _ _

@@ -56,7 +56,7 @@ abbrev seen : SlaveSettings → List ℕ → SessionFrameView
 seen ss bytes = record { command = command.Parameter; frame = came ss bytes }
 
 abbrev upload_at : SlaveSettings → List ℕ → UploadView
-upload_at ss joined = upload_of ss (expected.Parameter ss.most ss.rule ss.profile) joined
+upload_at ss joined = upload_of ss (expected.Parameter ss.most (rule_len ss.rule) ss.profile) joined
 
 -- the state of whose upload these bytes were joined
 abbrev pub parameter_at : SlaveSettings → List Deed → List ℕ → InParameter

@@ -51,7 +51,7 @@ session_taking kit s f = record s { session = answered s.session f 0 command.Ses
 
 -- what a Session frame leads to
 abbrev pub session_next : KitView → InSession → SessionFrameView → Result InSession (InReset × Code)
-session_next kit s f = or_reset (outcome s.upload f.frame.load) (session_taking kit s f)
+session_next kit s f = or_reset (outcome s.upload kit.settings.rule f.frame.load) (session_taking kit s f)
 
 -- the answer to a Session frame: its connection id is 0
 abbrev pub session_reply : KitView → InSession → SessionFrameView → List ℕ
@@ -67,7 +67,7 @@ connection_taking kit s f = record s { session = answered s.session f s.conn com
 
 -- what a Connection frame leads to
 abbrev pub connection_next : KitView → InConnection → SessionFrameView → Result InConnection (InReset × Code)
-connection_next kit s f = or_reset (outcome s.upload f.frame.load) (connection_taking kit s f)
+connection_next kit s f = or_reset (outcome s.upload kit.settings.rule f.frame.load) (connection_taking kit s f)
 
 -- the answer to a Connection frame
 abbrev pub connection_reply : KitView → InConnection → SessionFrameView → List ℕ
@@ -79,7 +79,7 @@ parameter_taking kit s f = record s { session = answered s.session f s.conn comm
 
 -- what a Parameter frame leads to
 abbrev pub parameter_next : KitView → InParameter → SessionFrameView → Result InParameter (InReset × Code)
-parameter_next kit s f = or_reset (outcome s.upload f.frame.load) (parameter_taking kit s f)
+parameter_next kit s f = or_reset (outcome s.upload kit.settings.rule f.frame.load) (parameter_taking kit s f)
 
 -- the answer to a Parameter frame
 abbrev pub parameter_reply : KitView → InParameter → SessionFrameView → List ℕ

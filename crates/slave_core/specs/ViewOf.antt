@@ -8,6 +8,7 @@ use Rattle.param_load.specs.declared.contents.Expected.{Expected}
 use Rattle.param_load.specs.declared.contents.Expected.TheVariants as expected
 use Rattle.param_load.specs.declared.slave_settings.SlaveSettings.{SlaveSettings}
 use Rattle.param_load.specs.declared.terms.Terms.{Terms}
+use Rattle.param_load.specs.AppRule.{rule_len}
 use Rattle.param_load.specs.UploadView.{UploadView}
 use Rattle.end_model.specs.Setup.{OfSlave, piece_len}
 use Rattle.end_model.specs.Deed.{Deed}
@@ -73,7 +74,7 @@ now_in state.Parameter ss n = now.Parameter (record {
   session = session_of n;
   conn = unwrap_or n.conn 0;
   address = ss.address;
-  upload = upload_of ss (expected.Parameter ss.most ss.rule ss.profile) n.parameter;
+  upload = upload_of ss (expected.Parameter ss.most (rule_len ss.rule) ss.profile) n.parameter;
 })
 now_in state.Data ss n = now.Data (record { session = session_of n; terms = n.terms; outputs = n.outputs })
 

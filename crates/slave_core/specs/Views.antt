@@ -2,6 +2,7 @@
 use Rattle.std.specs.Prelude.{◌≡◌, ◌<◌, IsTrue, length}
 use Rattle.param_load.specs.declared.contents.Expected.TheVariants as expected
 use Rattle.param_load.specs.declared.slave_settings.SlaveSettings.{SlaveSettings}
+use Rattle.param_load.specs.AppRule.{rule_len}
 use Rattle.param_load.specs.Profile.{allows_id}
 use Rattle.end_model.specs.Setup.{OfSlave, receives, piece_len}
 use Rattle.slave_core.specs.declared.states.InSession.{InSession}
@@ -23,7 +24,7 @@ pub record ConnectionUnder (settings : SlaveSettings) (s : InConnection) : Type 
 -- a state Parameter under these settings uploads parameters that these accept
 pub record ParameterUnder (settings : SlaveSettings) (s : InParameter) : Type 0 where
   pub piece_is : s.upload.piece ≡ piece_len (OfSlave settings)
-  pub expected_is : s.upload.expected ≡ expected.Parameter settings.most settings.rule settings.profile
+  pub expected_is : s.upload.expected ≡ expected.Parameter settings.most (rule_len settings.rule) settings.profile
 
 -- a state Data under these settings has outputs of the master's length, and a watchdog that isn't 0
 pub record DataUnder (settings : SlaveSettings) (s : InData) : Type 0 where

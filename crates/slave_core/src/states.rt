@@ -17,7 +17,7 @@ use crate::kit::Kit;
 use crate::seen::Seen;
 use failsafe_io::{Outputs, data_holds};
 use fsoe_base::{Code, Command, FrameBuf};
-use param_load::{Payload, Terms, Upload, padded};
+use param_load::{AppBytes, Payload, Terms, Upload, padded};
 use seq_chain::Session;
 
 /// No session.
@@ -172,7 +172,7 @@ impl InSession {
         ensures under { SessionUnder kit.now.settings self.new }
     {
         let from = self.upload.len();
-        if let Err(code) = self.upload.take(seen.frame.load()) {
+        if let Err(code) = self.upload.take(seen.frame.load(), kit.settings().rule()) {
             return Err(code);
         }
         let own_id = Payload::session(self.id, kit.profile());
@@ -268,7 +268,7 @@ impl InConnection {
         ensures unwritten { OnErr result (out.new ≡ out.old) }
         ensures under { ConnectionUnder kit.now.settings self.new }
     {
-        if let Err(code) = self.upload.take(seen.frame.load()) {
+        if let Err(code) = self.upload.take(seen.frame.load(), kit.settings().rule()) {
             return Err(code);
         }
         let load = self.upload.echo(kit.settings().own_len());
@@ -331,13 +331,15 @@ impl InParameter {
         ensures goes_on { GoesOn (now.Parameter self) kit.now seen.now.frame (as_now now.Data result) out.old out.new }
         ensures under { IfOk result (λ s. DataUnder kit.now.settings s) }
     {
+        let mut app = AppBytes::new();
+        app.set(self.upload.app());
         let begun = InData {
             session: self.session,
             terms: Terms {
                 conn: self.conn,
                 address: self.address,
                 watchdog: self.upload.watchdog(),
-                app: self.upload.app().copy(),
+                app,
                 profile: kit.profile(),
             },
             outputs: Outputs::new(kit.settings().peer_len()),
@@ -360,7 +362,7 @@ impl InParameter {
         ensures unwritten { OnErr result (out.new ≡ out.old) }
         ensures under { ParameterUnder kit.now.settings self.new }
     {
-        if let Err(code) = self.upload.take(seen.frame.load()) {
+        if let Err(code) = self.upload.take(seen.frame.load(), kit.settings().rule()) {
             return Err(code);
         }
         let load = self.upload.echo(kit.settings().own_len());

@@ -8,7 +8,7 @@ use param_load::{
 use std::test::Fail;
 
 /// What the last of these frames gives to an upload, or the first code; Whole also where frames are left.
-fn outcome(upload: &mut Upload, frames: &[[u8; 2]]) -> Result<Progress, Code>
+fn outcome(upload: &mut Upload, rule: &AppRule, frames: &[[u8; 2]]) -> Result<Progress, Code>
     requires { upload.old.piece ≡ 2 }
     ensures piece { upload.new.piece ≡ 2 }
     ensures expected { upload.new.expected ≡ upload.old.expected }
@@ -18,7 +18,7 @@ fn outcome(upload: &mut Upload, frames: &[[u8; 2]]) -> Result<Progress, Code>
         if upload.is_whole() {
             break;
         }
-        last = upload.take(frame)?;
+        last = upload.take(frame, rule)?;
     }
     Ok(last)
 }
@@ -35,8 +35,9 @@ fn one_byte() -> AppRule
 }
 
 fn parameters(profile: Profile, frames: &[[u8; 2]]) -> Result<Progress, Code> {
-    let mut upload = Upload::parameter(2, 1000, &one_byte(), profile);
-    outcome(&mut upload, frames)
+    let rule = one_byte();
+    let mut upload = Upload::parameter(2, 1000, &rule, profile);
+    outcome(&mut upload, &rule, frames)
 }
 
 /// A profile, the frames of a Parameter upload, and what the last of them gives.
@@ -116,17 +117,14 @@ fn parameters_are_tested_field_by_field(rt: HostRuntime) {
 
 /// The watchdog of a whole upload, its application parameters where there is one, and what answers its last frame.
 fn told(frames: &[[u8; 2]]) -> Option<(u16, Option<u8>, Image)> {
-    let mut upload = Upload::parameter(2, 1000, &one_byte(), Profile::One);
-    outcome(&mut upload, frames).ok()?;
+    let rule = one_byte();
+    let mut upload = Upload::parameter(2, 1000, &rule, Profile::One);
+    outcome(&mut upload, &rule, frames).ok()?;
     let echo = upload.echo(4);
     if !upload.is_whole() {
         return None;
     }
-    Some((
-        upload.watchdog(),
-        upload.app().bytes().first().copied(),
-        echo,
-    ))
+    Some((upload.watchdog(), upload.app().first().copied(), echo))
 }
 
 #[test]

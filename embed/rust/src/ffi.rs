@@ -7,7 +7,7 @@ pub const OK: u8 = 0;
 pub const FRAME_DUE: u8 = 11;
 pub const NOT_IN_DATA: u8 = 13;
 
-pub const SLAVE_SIZE: usize = 4456;
+pub const SLAVE_SIZE: usize = 2872;
 pub const MASTER_SIZE: usize = 2320;
 
 #[repr(C)]

@@ -103,11 +103,11 @@ version_fails ss before u = fails before u 1 (number_at 0 u == id_len ss.profile
 abbrev word_fails : SlaveSettings → ℕ → List ℕ → Bool
 word_fails ss before u = fails before u (id_len ss.profile + 1) (word_is ss.profile u)
 
-contents-passed : (ss : SlaveSettings) (before : ℕ) (u rest : List ℕ) → contents_fault (expected.Parameter ss.most ss.rule ss.profile) before u rest ≡ None → Passed (version_fails ss before u) (word_fails ss before u)
+contents-passed : (ss : SlaveSettings) (before : ℕ) (u rest : List ℕ) → contents_fault (expected.Parameter ss.most (rule_len ss.rule) ss.profile) ss.rule before u rest ≡ None → Passed (version_fails ss before u) (word_fails ss before u)
 contents-passed ss before u rest h =
-    let fields = first (field_fault (expected.Parameter ss.most ss.rule ss.profile) before u) (padding_fault (expected.Parameter ss.most ss.rule ss.profile) u rest) h in
-    let communication = first (communication_fault ss.most ss.rule ss.profile before u)
-    (app_fault ss.rule (id_len ss.profile + 3 + rule_len ss.rule) before u (app_part (expected.Parameter ss.most ss.rule ss.profile) u)) fields in
+    let fields = first (field_fault (expected.Parameter ss.most (rule_len ss.rule) ss.profile) ss.rule before u) (padding_fault (expected.Parameter ss.most (rule_len ss.rule) ss.profile) u rest) h in
+    let communication = first (communication_fault ss.most (rule_len ss.rule) ss.profile before u)
+    (app_fault ss.rule (id_len ss.profile + 3 + rule_len ss.rule) before u (app_part (expected.Parameter ss.most (rule_len ss.rule) ss.profile) u)) fields in
     passed (version_fails ss before u) (fails before u 3 (nat_lt 0 (number_at 2 u) && nat_le (number_at 2 u) ss.most)) (word_fails ss before u) (code 0x08) (code 0x09) (code 0x09)
     (if fails before u (id_len ss.profile + 3) (number_at (id_len ss.profile + 2) u == rule_len ss.rule) then Some (code 0x0A) else None) communication
 
@@ -136,7 +136,7 @@ word-next (profile.Two word) u p h k n =
       | inr a ↦ word-stays (profile.Two word) u p a (h a)
     ]
 
-tested-next : (ss : SlaveSettings) (u p rest : List ℕ) → Tested ss u → contents_fault (expected.Parameter ss.most ss.rule ss.profile) (length u) (u ++ p) rest ≡ None → Tested ss (u ++ p)
+tested-next : (ss : SlaveSettings) (u p rest : List ℕ) → Tested ss u → contents_fault (expected.Parameter ss.most (rule_len ss.rule) ss.profile) ss.rule (length u) (u ++ p) rest ≡ None → Tested ss (u ++ p)
 tested-next ss u p rest t h =
     let k = contents-passed ss (length u) (u ++ p) rest h in
     record {

@@ -113,11 +113,11 @@ passes-contents : (ms : MasterSettings) (r : Partner ms) (id : ℕ) (e : List De
     → Carries ms id c a b d conn load → contents (slave_of ms r) e c (parts_with conn c load crcs) ≡ None
 passes-contents ms r id e command.Reset p a b d conn load crcs m h k = absurd k
 passes-contents ms r id e command.Session p a b d conn load crcs m h k =
-    session_passes id ms.profile (length (joined state.Session (width ms) (since e))) (joined state.Session (width ms) (since e) ++ take (width ms) load) (drop (width ms) load)
+    session_passes id ms.profile r.rule (length (joined state.Session (width ms) (since e))) (joined state.Session (width ms) (since e) ++ take (width ms) load) (drop (width ms) load)
     (begun-with (session_payload id ms.profile) (width ms) a ms.lengths.master _ load (some_width ms) (piece_fits (OfMaster ms)) h.session k.1) (zeros-after (session_payload id ms.profile) (width ms) a ms.lengths.master load k.1)
 passes-contents ms r id e command.Connection p a b d conn load crcs m h k =
-    ap (λ n. contents_fault (expected.Connection n ms.address) (length (joined state.Connection (width ms) (since e))) (joined state.Connection (width ms) (since e) ++ take (width ms) load) (drop (width ms) load)) k.0
-    ∙ connection_passes ms.conn ms.address (length (joined state.Connection (width ms) (since e))) (joined state.Connection (width ms) (since e) ++ take (width ms) load) (drop (width ms) load)
+    ap (λ n. contents_fault (expected.Connection n ms.address) r.rule (length (joined state.Connection (width ms) (since e))) (joined state.Connection (width ms) (since e) ++ take (width ms) load) (drop (width ms) load)) k.0
+    ∙ connection_passes ms.conn ms.address r.rule (length (joined state.Connection (width ms) (since e))) (joined state.Connection (width ms) (since e) ++ take (width ms) load) (drop (width ms) load)
     (begun-with (connection_payload ms.conn ms.address) (width ms) b ms.lengths.master _ load (some_width ms) (piece_fits (OfMaster ms)) h.connection k.1) (zeros-after (connection_payload ms.conn ms.address) (width ms) b ms.lengths.master load k.1)
 passes-contents ms r id e command.Parameter p a b d conn load crcs m h k =
     parameters_pass ms.watchdog r.most r.rule ms.profile ms.app (length (joined state.Parameter (width ms) (since e))) (joined state.Parameter (width ms) (since e) ++ take (width ms) load) (drop (width ms) load)

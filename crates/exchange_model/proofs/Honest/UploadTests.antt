@@ -59,11 +59,11 @@ none-of a b h i = ap₂ option_or h i
 padding-passes : (e : Expected) (u p rest : List ℕ) → length p ≡ expected_len e → IsBegun u p → all_zero rest ≡ true → padding_fault e u rest ≡ None
 padding-passes e u p rest h b z = both-zero _ _ (code 0x07) (ap (λ n. all_zero (drop n u)) (sym h) ∙ padding_in u p b) z
 
-pub session_passes : (id : ℕ) (p : Profile) (before : ℕ) (u rest : List ℕ) → IsBegun u (session_payload id p) → all_zero rest ≡ true → contents_fault (expected.Session p) before u rest ≡ None
-session_passes id p before u rest b z = padding-passes (expected.Session p) u (session_payload id p) rest (session_long id p) b z
+pub session_passes : (id : ℕ) (p : Profile) (rule : AppRule) (before : ℕ) (u rest : List ℕ) → IsBegun u (session_payload id p) → all_zero rest ≡ true → contents_fault (expected.Session p) rule before u rest ≡ None
+session_passes id p rule before u rest b z = padding-passes (expected.Session p) u (session_payload id p) rest (session_long id p) b z
 
-pub connection_passes : (conn address before : ℕ) (u rest : List ℕ) → IsBegun u (connection_payload conn address) → all_zero rest ≡ true → contents_fault (expected.Connection conn address) before u rest ≡ None
-connection_passes conn address before u rest b z =
+pub connection_passes : (conn address : ℕ) (rule : AppRule) (before : ℕ) (u rest : List ℕ) → IsBegun u (connection_payload conn address) → all_zero rest ≡ true → contents_fault (expected.Connection conn address) rule before u rest ≡ None
+connection_passes conn address rule before u rest b z =
     none-of _ _
     (two-pass _ _ (code 0x03) (code 0x06)
     (no-fault before u 1 (number_at 0 u == conn) (λ h. eq-eqb _ _ (number_in u (connection_payload conn address) b 0 h ∙ number-back conn)))
@@ -95,7 +95,7 @@ accepted : (w most : ℕ) → 0 < w → w ≤ most → (nat_lt 0 w && nat_le w m
 accepted w most h k = ap₂ (λ (a b : Bool). a && b) (lt-ltb 0 w h) (le-leb w most k)
 
 pub parameters_pass : (w most : ℕ) (rule : AppRule) (p : Profile) (app : List ℕ) (before : ℕ) (u rest : List ℕ) → 0 < w → w ≤ most → length app ≡ rule_len rule → allows rule app ≡ true
-    → IsBegun u (parameter_payload w p app) → all_zero rest ≡ true → contents_fault (expected.Parameter most rule p) before u rest ≡ None
+    → IsBegun u (parameter_payload w p app) → all_zero rest ≡ true → contents_fault (expected.Parameter most (rule_len rule) p) rule before u rest ≡ None
 parameters_pass w most rule p app before u rest some fits long fine b z =
     let zs : List ℕ = replicate b.zeros 0 in
     let payload : List ℕ = parameter_payload w p app in
@@ -109,7 +109,7 @@ parameters_pass w most rule p app before u rest some fits long fine b z =
     (one-passes _ (code 0x0B)
     (no-fault before u (id_len p + 3 + rule_len rule) _
     (λ h. ap (allows rule) (ap (λ n. take n (drop (id_len p + 4) u)) (sym long) ∙ (part_in u payload b (id_len p + 4) (length app) (omega arith) ∙ app-is w p app zs)) ∙ fine))))
-    (padding-passes (expected.Parameter most rule p) u payload rest (parameters_long w p app ∙ ap (λ n. id_len p + 4 + n) long) b z)
+    (padding-passes (expected.Parameter most (rule_len rule) p) u payload rest (parameters_long w p app ∙ ap (λ n. id_len p + 4 + n) long) b z)
 
 pub parameters_count : (w : ℕ) (p : Profile) (app u : List ℕ) → IsBegun u (parameter_payload w p app) → id_len p + 4 ≤ length u → number_at (id_len p + 2) u ≡ length app
 parameters_count w p app u b h = number_in u (parameter_payload w p app) b (id_len p + 2) (omega arith) ∙ count-is w p app (replicate b.zeros 0)
