@@ -3,4 +3,5 @@ pub mod Lent
 pub mod Numbers
 pub mod Place
 pub mod Settings
+pub mod Sizes
 pub mod Told

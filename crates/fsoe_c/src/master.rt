@@ -10,6 +10,7 @@ ghost use Rattle.fsoe_c.specs.Handle.{HasDue, IsAtRest, IsSoundMaster};
 ghost use Rattle.fsoe_c.specs.Numbers.{flag};
 ghost use Rattle.fsoe_c.specs.Place.{Between, IfThere};
 ghost use Rattle.fsoe_c.specs.Settings.{IsNewMaster, master_refusal};
+ghost use Rattle.fsoe_c.specs.Sizes.{end_align, master_size};
 ghost use Rattle.fsoe_c.specs.Told.{AcceptsTelling, MasterTells, frame_of, leads_on};
 
 use crate::master_calls as calls;
@@ -29,13 +30,17 @@ pub struct GpMaster {
 
 /// The bytes of memory that a master takes.
 #[unsafe(no_mangle)]
-pub extern "C" fn gp_master_size() -> usize {
+pub extern "C" fn gp_master_size() -> usize
+    ensures { result ≡ master_size }
+{
     size_of::<MasterRoom>()
 }
 
 /// The alignment of that memory.
 #[unsafe(no_mangle)]
-pub extern "C" fn gp_master_align() -> usize {
+pub extern "C" fn gp_master_align() -> usize
+    ensures { result ≡ end_align }
+{
     align_of::<MasterRoom>()
 }
 

@@ -8,6 +8,7 @@ ghost use Rattle.slave_core.specs.Standing.{Follows};
 ghost use Rattle.fsoe_c.specs.Handle.{IsSoundSlave};
 ghost use Rattle.fsoe_c.specs.Place.{Between, IfThere};
 ghost use Rattle.fsoe_c.specs.Settings.{IsNewSlave, slave_refusal};
+ghost use Rattle.fsoe_c.specs.Sizes.{end_align, slave_size};
 ghost use Rattle.fsoe_c.specs.Told.{SlaveTells};
 
 use crate::numbers::{BAD_APP, BAD_LENGTH, BAD_NONCE, BUSY, NO_END, OK};
@@ -28,13 +29,17 @@ pub struct GpSlave {
 
 /// The bytes of memory that a slave takes.
 #[unsafe(no_mangle)]
-pub extern "C" fn gp_slave_size() -> usize {
+pub extern "C" fn gp_slave_size() -> usize
+    ensures { result ≡ slave_size }
+{
     size_of::<SlaveRoom>()
 }
 
 /// The alignment of that memory.
 #[unsafe(no_mangle)]
-pub extern "C" fn gp_slave_align() -> usize {
+pub extern "C" fn gp_slave_align() -> usize
+    ensures { result ≡ end_align }
+{
     align_of::<SlaveRoom>()
 }
 
