@@ -3,7 +3,7 @@ use Rattle.std.specs.Prelude.{ℕ}
 
 -- of a slave
 abbrev pub slave_size : ℕ
-slave_size = 4456
+slave_size = 2872
 
 -- of a master
 abbrev pub master_size : ℕ
