@@ -1,12 +1,12 @@
-//! What a slave takes piece by piece in a handshake.
-use crate::app_rule::AppRule;
-use crate::contents::Expected;
-use crate::joined::{Joined, number_at, past};
-use crate::payload::padded;
+//! An upload with its rule.
+ghost use Rattle.std.specs.Prelude.{◌≡◌, IsTrue};
+ghost use Rattle.param_load.specs.Contents.{app_part};
+ghost use Rattle.param_load.specs.Upload.{is_whole};
+
+use crate::app_rule::{AppBytes, AppRule};
+use crate::pieces::Pieces;
 use crate::profile::Profile;
-use byteorder::{ByteOrder, LittleEndian};
 use fsoe_base::{Code, Image, MOST_DATA};
-use std::marker::Model;
 
 /// How far a payload has come.
 #[derive(Clone, Copy, Debug, PartialEq, Eq)]
@@ -17,163 +17,118 @@ pub enum Progress {
     Whole,
 }
 
-/// A payload that a slave receives piece by piece, one in each frame, and tests against what it expects. In contracts
-/// the value is what is expected, the bytes of a piece, and the pieces so far, joined.
+/// A payload that comes piece by piece, with the rule that its application parameters follow. `Slave` has the rule in
+/// its settings, and keeps `Pieces` alone.
 #[derive(Debug, Drop)]
 pub struct Upload {
-    expected: Expected,
-    piece: usize,
-    joined: Joined,
-}
-
-impl Model for Upload {
-    ghost use Rattle.param_load.specs.UploadView.{UploadView, IsUpload};
-
-    ghost Value = { UploadView };
-
-    ghost view = { λ u. record { expected = u.expected; piece = u.piece; joined = u.joined } };
-
-    ghost invariant = { λ u. IsUpload (record { expected = u.expected; piece = u.piece; joined = u.joined }) };
+    pieces: Pieces,
+    rule: AppRule,
+    app: AppBytes,
+    pub ghost app_is: { IsTrue (is_whole pieces) → app ≡ app_part pieces.expected pieces.joined },
 }
 
 impl Upload {
-    ghost use Rattle.std.specs.Prelude.{◌≡◌, ◌≤◌, ◌<◌, IsTrue, false, OnOk, OnErr, length};
+    ghost use Rattle.std.specs.Prelude.{◌≡◌, ◌≤◌, ◌<◌, [], IsTrue, false, OnOk, OnErr, length};
     ghost use Rattle.param_load.specs.AppRule.{is_acceptable};
     ghost use Rattle.param_load.specs.Contents.{app_part, is_session, is_parameter};
     ghost use Rattle.param_load.specs.Payload.{number_at, padded};
     ghost use Rattle.param_load.specs.Upload.{session_upload, connection_upload, parameter_upload, is_whole, id_of, advanced, outcome, last_piece};
 
-    /// The upload of a session id of this profile, in pieces of `piece` bytes, at most 126.
+    /// As `Pieces::session`.
     pub fn session(piece: usize, profile: Profile) -> Upload
         requires { piece ≤ MOST_DATA }
-        ensures { result ≡ session_upload piece profile }
+        ensures { result.pieces ≡ session_upload piece profile }
     {
-        Upload {
-            expected: Expected::Session(profile),
-            piece,
-            joined: Joined::new(),
-        }
+        Upload::new(Pieces::session(piece, profile), AppRule::Any(0))
     }
 
-    /// The upload of this connection id and this slave address, in pieces of `piece` bytes, at most 126.
+    /// As `Pieces::connection`.
     pub fn connection(piece: usize, conn: u16, address: u16) -> Upload
         requires { piece ≤ MOST_DATA }
-        ensures { result ≡ connection_upload piece conn address }
+        ensures { result.pieces ≡ connection_upload piece conn address }
     {
-        Upload {
-            expected: Expected::Connection { conn, address },
-            piece,
-            joined: Joined::new(),
-        }
+        Upload::new(Pieces::connection(piece, conn, address), AppRule::Any(0))
     }
 
-    /// Creates the upload of parameters of this profile, with a watchdog of 1 to `most` ticks, in pieces of `piece`
-    /// bytes, at most 126. There are as many application parameters as `rule` accepts, which must be acceptable.
+    /// As `Pieces::parameter`. The application parameters must follow `rule`.
     pub fn parameter(piece: usize, most: u16, rule: &AppRule, profile: Profile) -> Upload
         requires most { piece ≤ MOST_DATA }
         requires acceptable { IsTrue (is_acceptable rule.now) }
-        ensures { result ≡ parameter_upload piece most rule.now profile }
+        ensures pieces { result.pieces ≡ parameter_upload piece most rule.now profile }
+        ensures rule { result.rule ≡ rule.now }
     {
-        Upload {
-            expected: Expected::Parameter {
-                most,
-                count: rule.len(),
-                profile,
-            },
-            piece,
-            joined: Joined::new(),
-        }
+        Upload::new(Pieces::parameter(piece, most, rule, profile), rule.copy())
     }
 
-    /// Returns the number of bytes received so far, including the padding of the last piece.
-    pub fn len(&self) -> usize
-        ensures { result ≡ length self.now.joined }
+    /// No piece has come.
+    fn new(pieces: Pieces, rule: AppRule) -> Upload
+        requires { pieces.joined ≡ [] }
+        ensures pieces { result.pieces ≡ pieces }
+        ensures rule { result.rule ≡ rule }
     {
-        self.joined.len()
+        Upload {
+            pieces,
+            rule,
+            app: AppBytes::new(),
+        }
     }
 
     /// Whether all bytes of the payload have come.
     pub fn is_whole(&self) -> bool
-        ensures { result ≡ is_whole self.now }
+        ensures { result ≡ is_whole self.now.pieces }
     {
-        self.expected.len() <= self.joined.len()
+        self.pieces.is_whole()
     }
 
-    /// Takes the data of a frame, at least `piece` bytes. The upload must be incomplete; a refusal leaves it unchanged.
-    /// The fields whose last byte is in this frame are tested in order, then the padding:
-    /// - 03h for a wrong connection id, 06h for a wrong slave address;
-    /// - 08h for a wrong length of the communication parameters;
-    /// - 09h for a watchdog of 0 or above `most`, or a wrong profile word;
-    /// - 0Ah for a wrong number of application parameters, 0Bh if `rule` doesn't accept them, 07h for padding that
-    ///   isn't 0.
-    ///
-    /// Of a session id, a connection id and an address `rule` says nothing.
-    #[tactic(auto, using(crate::proofs::Watchdog::joined_watchdog))]
-    pub fn take(&mut self, bytes: &[u8], rule: &AppRule) -> Result<Progress, Code>
-        requires more { is_whole self.old ≡ false }
-        requires piece { self.old.piece ≤ length bytes.now }
-        ensures outcome { result ≡ outcome self.old rule.now bytes.now }
-        ensures joined { OnOk result (self.new ≡ advanced self.old bytes.now) }
+    /// As `Pieces::take`, by the rule of the upload.
+    pub fn take(&mut self, bytes: &[u8]) -> Result<Progress, Code>
+        requires more { is_whole self.old.pieces ≡ false }
+        requires piece { self.old.pieces.piece ≤ length bytes.now }
+        ensures outcome { result ≡ outcome self.old.pieces self.old.rule bytes.now }
+        ensures joined { OnOk result (self.new.pieces ≡ advanced self.old.pieces bytes.now) }
+        ensures rule { self.new.rule ≡ self.old.rule }
         ensures refused { OnErr result (self.new ≡ self.old) }
     {
-        let whole = self.expected.len();
-        let before = self.joined.len();
-        self.joined.push_all(&bytes[..self.piece]);
-        if let Some(code) = self
-            .expected
-            .contents_fault(rule, &self.joined, before, &bytes[self.piece..])
-        {
-            self.joined.truncate(before);
-            return Err(code);
+        let progress = self.pieces.take(bytes, &self.rule)?;
+        if self.pieces.is_whole() {
+            self.app.set(self.pieces.app());
         }
-        if self.joined.len() < whole {
-            Ok(Progress::More)
-        } else {
-            Ok(Progress::Whole)
-        }
+        Ok(progress)
     }
 
-    /// Returns the last received piece, padded with zeros to `len` bytes, from `piece` to 126.
+    /// As `Pieces::echo`.
     pub fn echo(&self, len: usize) -> Image
-        requires piece { self.now.piece ≤ len }
+        requires piece { self.now.pieces.piece ≤ len }
         requires most { len ≤ MOST_DATA }
-        ensures value { result ≡ padded (last_piece self.now) len }
-        ensures len { length result ≡ len }
+        ensures { result ≡ padded (last_piece self.now.pieces) len }
     {
-        let from = self.joined.len().saturating_sub(self.piece);
-        padded(past(self.joined.bytes(), from), len)
+        self.pieces.echo(len)
     }
 
-    /// Returns the session id. The upload must be that of a session id, and complete.
+    /// As `Pieces::id`.
     pub fn id(&self) -> u32
-        requires whole { IsTrue (is_whole self.now) }
-        requires session { IsTrue (is_session self.now.expected) }
-        ensures { result ≡ id_of self.now.expected self.now.joined }
+        requires whole { IsTrue (is_whole self.now.pieces) }
+        requires session { IsTrue (is_session self.now.pieces.expected) }
+        ensures { result ≡ id_of self.now.pieces.expected self.now.pieces.joined }
     {
-        let bytes = self.joined.bytes();
-        match &self.expected {
-            Expected::Session(Profile::Two(_)) => LittleEndian::read_u32(bytes),
-            _ => u32::from(LittleEndian::read_u16(bytes)),
-        }
+        self.pieces.id()
     }
 
-    /// Returns the watchdog in ticks. The upload must be that of parameters, and complete.
+    /// As `Pieces::watchdog`.
     pub fn watchdog(&self) -> u16
-        requires whole { IsTrue (is_whole self.now) }
-        requires parameter { IsTrue (is_parameter self.now.expected) }
-        ensures value { result ≡ number_at 2 self.now.joined }
+        requires whole { IsTrue (is_whole self.now.pieces) }
+        requires parameter { IsTrue (is_parameter self.now.pieces.expected) }
+        ensures value { result ≡ number_at 2 self.now.pieces.joined }
         ensures some { 0 < result }
     {
-        number_at(self.joined.bytes(), 2)
+        self.pieces.watchdog()
     }
 
-    /// Returns the application parameters. The upload must be that of parameters, and complete.
-    pub fn app(&self) -> &[u8]
-        requires whole { IsTrue (is_whole self.now) }
-        requires parameter { IsTrue (is_parameter self.now.expected) }
-        ensures value { result.now ≡ app_part self.now.expected self.now.joined }
-        ensures most { length result.now ≤ 512 }
+    /// Returns the application parameters. The upload must be complete.
+    pub fn app(&self) -> &AppBytes
+        requires { IsTrue (is_whole self.now.pieces) }
+        ensures { result.now ≡ app_part self.now.pieces.expected self.now.pieces.joined }
     {
-        self.expected.app_part(&self.joined)
+        &self.app
     }
 }

@@ -17,7 +17,7 @@ use crate::kit::Kit;
 use crate::seen::Seen;
 use failsafe_io::{Outputs, data_holds};
 use fsoe_base::{Code, Command, FrameBuf};
-use param_load::{AppBytes, Payload, Terms, Upload, padded};
+use param_load::{AppBytes, Payload, Pieces, Terms, padded};
 use seq_chain::Session;
 
 /// No session.
@@ -31,7 +31,7 @@ pub struct InReset {
 pub struct InSession {
     pub(crate) session: Session,
     id: u32,
-    pub(crate) upload: Upload,
+    pub(crate) upload: Pieces,
 }
 
 /// State Connection: connection id and slave address are being exchanged, or they are complete and the first Parameter
@@ -40,7 +40,7 @@ pub struct InSession {
 pub struct InConnection {
     pub(crate) session: Session,
     pub(crate) conn: u16,
-    pub(crate) upload: Upload,
+    pub(crate) upload: Pieces,
 }
 
 /// State Parameter: the parameters are being exchanged, or they are complete and the first data frame hasn't come yet.
@@ -49,7 +49,7 @@ pub struct InParameter {
     pub(crate) session: Session,
     pub(crate) conn: u16,
     address: u16,
-    pub(crate) upload: Upload,
+    pub(crate) upload: Pieces,
 }
 
 /// State Data: safe data are exchanged under complete terms.
@@ -87,7 +87,7 @@ impl InReset {
         let begun = InSession {
             session: Session::new(),
             id: kit.nonce(),
-            upload: Upload::session(kit.settings().piece_len(), kit.profile()),
+            upload: Pieces::session(kit.settings().piece_len(), kit.profile()),
         };
         begun.more(seen, kit, out)
     }
@@ -151,7 +151,7 @@ impl InSession {
         let begun = InConnection {
             session: self.session,
             conn,
-            upload: Upload::connection(settings.piece_len(), conn, settings.address()),
+            upload: Pieces::connection(settings.piece_len(), conn, settings.address()),
         };
         begun.more(seen, kit, out)
     }
@@ -243,7 +243,7 @@ impl InConnection {
             session: self.session,
             conn: self.conn,
             address: settings.address(),
-            upload: Upload::parameter(
+            upload: Pieces::parameter(
                 settings.piece_len(),
                 settings.most(),
                 settings.rule(),

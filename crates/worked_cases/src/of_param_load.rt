@@ -8,17 +8,17 @@ use param_load::{
 use std::test::Fail;
 
 /// What the last of these frames gives to an upload, or the first code; Whole also where frames are left.
-fn outcome(upload: &mut Upload, rule: &AppRule, frames: &[[u8; 2]]) -> Result<Progress, Code>
-    requires { upload.old.piece ≡ 2 }
-    ensures piece { upload.new.piece ≡ 2 }
-    ensures expected { upload.new.expected ≡ upload.old.expected }
+fn outcome(upload: &mut Upload, frames: &[[u8; 2]]) -> Result<Progress, Code>
+    requires { upload.old.pieces.piece ≡ 2 }
+    ensures piece { upload.new.pieces.piece ≡ 2 }
+    ensures expected { upload.new.pieces.expected ≡ upload.old.pieces.expected }
 {
     let mut last = Progress::More;
     for frame in frames {
         if upload.is_whole() {
             break;
         }
-        last = upload.take(frame, rule)?;
+        last = upload.take(frame)?;
     }
     Ok(last)
 }
@@ -35,9 +35,8 @@ fn one_byte() -> AppRule
 }
 
 fn parameters(profile: Profile, frames: &[[u8; 2]]) -> Result<Progress, Code> {
-    let rule = one_byte();
-    let mut upload = Upload::parameter(2, 1000, &rule, profile);
-    outcome(&mut upload, &rule, frames)
+    let mut upload = Upload::parameter(2, 1000, &one_byte(), profile);
+    outcome(&mut upload, frames)
 }
 
 /// A profile, the frames of a Parameter upload, and what the last of them gives.
@@ -117,14 +116,17 @@ fn parameters_are_tested_field_by_field(rt: HostRuntime) {
 
 /// The watchdog of a whole upload, its application parameters where there is one, and what answers its last frame.
 fn told(frames: &[[u8; 2]]) -> Option<(u16, Option<u8>, Image)> {
-    let rule = one_byte();
-    let mut upload = Upload::parameter(2, 1000, &rule, Profile::One);
-    outcome(&mut upload, &rule, frames).ok()?;
+    let mut upload = Upload::parameter(2, 1000, &one_byte(), Profile::One);
+    outcome(&mut upload, frames).ok()?;
     let echo = upload.echo(4);
     if !upload.is_whole() {
         return None;
     }
-    Some((upload.watchdog(), upload.app().first().copied(), echo))
+    Some((
+        upload.watchdog(),
+        upload.app().bytes().first().copied(),
+        echo,
+    ))
 }
 
 #[test]
