@@ -15,8 +15,6 @@ use Rattle.master_core.specs.Waiting.{Accepts}
 use Rattle.fsoe_c.specs.Place.{IfThere}
 use Rattle.fsoe_c.specs.Settings.{IsMasterSetBy, IsNewMaster, IsNewSlave, IsSlaveSetBy}
 use Rattle.fsoe_c.specs.Told.{AcceptsTelling, ShowsDid, frame_of, SlaveTells, MasterTells}
-use Rattle.fsoe_c.specs.declared.master_place.MasterPlace.{MasterPlace}
-use Rattle.fsoe_c.specs.declared.slave_place.SlavePlace.{SlavePlace}
 use Rattle.fsoe_c.specs.declared.settings.GpMasterSettings.{GpMasterSettings}
 use Rattle.fsoe_c.specs.declared.settings.GpSlaveSettings.{GpSlaveSettings}
 use Rattle.fsoe_c.specs.declared.told.GpDid.{GpDid}
@@ -25,13 +23,6 @@ use Rattle.fsoe_c.specs.declared.told.GpFrame.{GpFrame}
 -- where no end is there, all holds of each
 pub vacuous : {V : Type 0} (live : Bool) (o : Option V) (P : V → Type 0) → live ≡ is_some o → live ≡ false → IfThere o P
 vacuous live o P sound dead v there = absurd (false≢true (sym dead ∙ sound ∙ ap is_some there))
-
--- an end that is lent and left as it was leaves its place as it was
-pub same_slave : (old : SlavePlace) (x : SlaveView) → old.slave ≡ Some x → record old { slave = Some x } ≡ old
-same_slave old x there = ap (λ (v : Option SlaveView). record old { slave = v }) (sym there)
-
-pub same_master : (old : MasterPlace) (x : MasterView) → old.master ≡ Some x → record old { master = Some x } ≡ old
-same_master old x there = ap (λ (v : Option MasterView). record old { master = v }) (sym there)
 
 -- what shows what a slave did and sent tells its next deed
 pub slave_tells : (v : SlaveView) (event : Move) (d : Did) (sent : List ℕ) (g : GpDid) (f : GpFrame)

@@ -6,14 +6,12 @@
 
 pub mod laws;
 pub mod master;
-mod master_calls;
 mod master_place;
 mod master_room;
 pub mod master_shown;
 pub mod numbers;
 pub mod settings;
 pub mod slave;
-mod slave_calls;
 mod slave_place;
 mod slave_room;
 pub mod slave_shown;

@@ -13,7 +13,6 @@ ghost use Rattle.fsoe_c.specs.Settings.{IsNewMaster, master_refusal};
 ghost use Rattle.fsoe_c.specs.Sizes.{end_align, master_size};
 ghost use Rattle.fsoe_c.specs.Told.{AcceptsTelling, MasterTells, frame_of, leads_on};
 
-use crate::master_calls as calls;
 use crate::master_place::MasterPlace;
 use crate::master_room::MasterRoom;
 use crate::numbers::{BAD_APP, BAD_LENGTH, BAD_NONCE, BUSY, FRAME_DUE, NO_END, NONE_DUE, OK, flag};
@@ -118,10 +117,10 @@ pub extern "C" fn gp_master_deliver(
     if !master.live {
         return NO_END;
     }
-    if calls::due(&mut master.place) {
+    if master.place.lend().master().due() {
         return FRAME_DUE;
     }
-    calls::deliver(&mut master.place, frame, out, did);
+    master.place.lend().deliver(frame, out, did);
     OK
 }
 
@@ -146,10 +145,10 @@ pub extern "C" fn gp_master_accept(master: &mut GpMaster, frame: &[u8], did: &mu
     if !master.live {
         return NO_END;
     }
-    if calls::due(&mut master.place) {
+    if master.place.lend().master().due() {
         return FRAME_DUE;
     }
-    calls::accept(&mut master.place, frame, did);
+    master.place.lend().accept(frame, did);
     OK
 }
 
@@ -167,7 +166,7 @@ pub extern "C" fn gp_master_due(master: &mut GpMaster, due: &mut u8) -> u8
     if !master.live {
         return NO_END;
     }
-    *due = flag(calls::due(&mut master.place));
+    *due = flag(master.place.lend().master().due());
     OK
 }
 
@@ -190,10 +189,10 @@ pub extern "C" fn gp_master_reply(master: &mut GpMaster, out: &mut GpFrame) -> u
     if !master.live {
         return NO_END;
     }
-    if !calls::due(&mut master.place) {
+    if !master.place.lend().master().due() {
         return NONE_DUE;
     }
-    calls::reply(&mut master.place, out);
+    master.place.lend().reply(out);
     OK
 }
 
@@ -218,10 +217,10 @@ pub extern "C" fn gp_master_tick(master: &mut GpMaster, out: &mut GpFrame, did: 
     if !master.live {
         return NO_END;
     }
-    if calls::due(&mut master.place) {
+    if master.place.lend().master().due() {
         return FRAME_DUE;
     }
-    calls::tick(&mut master.place, out, did);
+    master.place.lend().tick(out, did);
     OK
 }
 
@@ -246,10 +245,10 @@ pub extern "C" fn gp_master_reset(master: &mut GpMaster, out: &mut GpFrame, did:
     if !master.live {
         return NO_END;
     }
-    if calls::due(&mut master.place) {
+    if master.place.lend().master().due() {
         return FRAME_DUE;
     }
-    calls::reset(&mut master.place, out, did);
+    master.place.lend().reset(out, did);
     OK
 }
 
@@ -272,10 +271,10 @@ pub extern "C" fn gp_master_put(master: &mut GpMaster, load: &[u8]) -> u8
     if !master.live {
         return NO_END;
     }
-    if !calls::fits(&mut master.place, load) {
+    if load.len() != master.place.lend().master().settings().own_len() {
         return BAD_LENGTH;
     }
-    calls::put(&mut master.place, load);
+    master.place.lend().put(load);
     OK
 }
 
@@ -296,7 +295,7 @@ pub extern "C" fn gp_master_hold(master: &mut GpMaster, failsafe: bool) -> u8
     if !master.live {
         return NO_END;
     }
-    calls::hold(&mut master.place, failsafe);
+    master.place.lend().hold(failsafe);
     OK
 }
 
@@ -320,9 +319,16 @@ pub extern "C" fn gp_master_nonce(master: &mut GpMaster, id: u32) -> u8
     if !master.live {
         return NO_END;
     }
-    if !calls::allows(&mut master.place, id) {
+    if !master
+        .place
+        .lend()
+        .master()
+        .settings()
+        .profile()
+        .allows_id(id)
+    {
         return BAD_NONCE;
     }
-    calls::nonce(&mut master.place, id);
+    master.place.lend().nonce(id);
     OK
 }

@@ -45,7 +45,7 @@ impl MasterPlace {
     pub(crate) fn lend(&mut self) -> &mut MasterRoom
         requires { IsSome self.old.master }
         ensures* writes_back { sem 𝓛 (lends_master self.entry result) }
-        ensures value { self.old.master ≡ Some result.now }
+        ensures value { (self.old.master ≡ Some result.now) × (record self.old { master = Some result.now } ≡ self.old) }
     {
         unsafe { &mut *(self.at as *mut MasterRoom) }
     }

@@ -11,9 +11,8 @@ ghost use Rattle.fsoe_c.specs.Place.{IfThere};
 ghost use Rattle.fsoe_c.specs.Told.{MasterShowsTerms, MasterShowsTermsDue};
 
 use crate::master::GpMaster;
-use crate::master_calls as calls;
-use crate::numbers::{BAD_LENGTH, NO_END, NOT_IN_DATA, OK};
-use crate::told::GpTerms;
+use crate::numbers::{BAD_LENGTH, NO_END, NOT_IN_DATA, OK, flag, state_number};
+use crate::told::{GpTerms, copied, tells};
 
 /// Writes the number of the state, from 0 for Reset to 4 for Data. A frame that is due is treated as already sent.
 #[unsafe(no_mangle)]
@@ -30,7 +29,7 @@ pub extern "C" fn gp_master_state(master: &mut GpMaster, state: &mut u8) -> u8
     if !master.live {
         return NO_END;
     }
-    *state = calls::state(&mut master.place);
+    *state = state_number(master.place.lend().master().state());
     OK
 }
 
@@ -50,7 +49,7 @@ pub extern "C" fn gp_master_outputs(master: &mut GpMaster, outputs: &mut [u8]) -
     if !master.live {
         return NO_END;
     }
-    if !calls::outputs(&mut master.place, outputs) {
+    if !copied(master.place.lend().master().outputs(), outputs) {
         return BAD_LENGTH;
     }
     OK
@@ -72,7 +71,7 @@ pub extern "C" fn gp_master_offer(master: &mut GpMaster, offer: &mut [u8]) -> u8
     if !master.live {
         return NO_END;
     }
-    if !calls::offer(&mut master.place, offer) {
+    if !copied(master.place.lend().master().offer(), offer) {
         return BAD_LENGTH;
     }
     OK
@@ -96,7 +95,7 @@ pub extern "C" fn gp_master_terms(master: &mut GpMaster, terms: &mut GpTerms) ->
     if !master.live {
         return NO_END;
     }
-    if !calls::terms(&mut master.place, terms) {
+    if !tells(master.place.lend().master().terms(), terms) {
         return NOT_IN_DATA;
     }
     OK
@@ -117,7 +116,7 @@ pub extern "C" fn gp_master_age(master: &mut GpMaster, age: &mut u16) -> u8
     if !master.live {
         return NO_END;
     }
-    *age = calls::age(&mut master.place);
+    *age = master.place.lend().master().age();
     OK
 }
 
@@ -136,6 +135,6 @@ pub extern "C" fn gp_master_held(master: &mut GpMaster, held: &mut u8) -> u8
     if !master.live {
         return NO_END;
     }
-    *held = calls::held(&mut master.place);
+    *held = flag(master.place.lend().master().held());
     OK
 }

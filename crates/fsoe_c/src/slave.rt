@@ -13,7 +13,6 @@ ghost use Rattle.fsoe_c.specs.Told.{SlaveTells};
 
 use crate::numbers::{BAD_APP, BAD_LENGTH, BAD_NONCE, BUSY, NO_END, OK};
 use crate::settings::{GpSlaveSettings, app_of, slave_settings};
-use crate::slave_calls as calls;
 use crate::slave_place::SlavePlace;
 use crate::slave_room::SlaveRoom;
 use crate::told::{GpDid, GpFrame};
@@ -173,7 +172,7 @@ pub extern "C" fn gp_slave_deliver(
     if !slave.live {
         return NO_END;
     }
-    calls::deliver(&mut slave.place, frame, out, did);
+    slave.place.lend().deliver(frame, out, did);
     OK
 }
 
@@ -195,7 +194,7 @@ pub extern "C" fn gp_slave_tick(slave: &mut GpSlave, out: &mut GpFrame, did: &mu
     if !slave.live {
         return NO_END;
     }
-    calls::tick(&mut slave.place, out, did);
+    slave.place.lend().tick(out, did);
     OK
 }
 
@@ -217,7 +216,7 @@ pub extern "C" fn gp_slave_reset(slave: &mut GpSlave, out: &mut GpFrame, did: &m
     if !slave.live {
         return NO_END;
     }
-    calls::reset(&mut slave.place, out, did);
+    slave.place.lend().reset(out, did);
     OK
 }
 
@@ -238,10 +237,10 @@ pub extern "C" fn gp_slave_put(slave: &mut GpSlave, load: &[u8]) -> u8
     if !slave.live {
         return NO_END;
     }
-    if !calls::fits(&mut slave.place, load) {
+    if load.len() != slave.place.lend().slave().settings().own_len() {
         return BAD_LENGTH;
     }
-    calls::put(&mut slave.place, load);
+    slave.place.lend().put(load);
     OK
 }
 
@@ -260,7 +259,7 @@ pub extern "C" fn gp_slave_hold(slave: &mut GpSlave, failsafe: bool) -> u8
     if !slave.live {
         return NO_END;
     }
-    calls::hold(&mut slave.place, failsafe);
+    slave.place.lend().hold(failsafe);
     OK
 }
 
@@ -282,9 +281,16 @@ pub extern "C" fn gp_slave_nonce(slave: &mut GpSlave, id: u32) -> u8
     if !slave.live {
         return NO_END;
     }
-    if !calls::allows(&mut slave.place, id) {
+    if !slave
+        .place
+        .lend()
+        .slave()
+        .settings()
+        .profile()
+        .allows_id(id)
+    {
         return BAD_NONCE;
     }
-    calls::nonce(&mut slave.place, id);
+    slave.place.lend().nonce(id);
     OK
 }

@@ -45,7 +45,7 @@ impl SlavePlace {
     pub(crate) fn lend(&mut self) -> &mut SlaveRoom
         requires { IsSome self.old.slave }
         ensures* writes_back { sem 𝓛 (lends_slave self.entry result) }
-        ensures value { self.old.slave ≡ Some result.now }
+        ensures value { (self.old.slave ≡ Some result.now) × (record self.old { slave = Some result.now } ≡ self.old) }
     {
         unsafe { &mut *(self.at as *mut SlaveRoom) }
     }

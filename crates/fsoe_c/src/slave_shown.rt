@@ -9,10 +9,9 @@ ghost use Rattle.fsoe_c.specs.Numbers.{flag, state_number};
 ghost use Rattle.fsoe_c.specs.Place.{IfThere};
 ghost use Rattle.fsoe_c.specs.Told.{SlaveShowsTerms};
 
-use crate::numbers::{BAD_LENGTH, NO_END, NOT_IN_DATA, OK};
+use crate::numbers::{BAD_LENGTH, NO_END, NOT_IN_DATA, OK, flag, state_number};
 use crate::slave::GpSlave;
-use crate::slave_calls as calls;
-use crate::told::GpTerms;
+use crate::told::{GpTerms, copied, tells};
 
 /// Writes the number of the state, from 0 for Reset to 4 for Data.
 #[unsafe(no_mangle)]
@@ -28,7 +27,7 @@ pub extern "C" fn gp_slave_state(slave: &mut GpSlave, state: &mut u8) -> u8
     if !slave.live {
         return NO_END;
     }
-    *state = calls::state(&mut slave.place);
+    *state = state_number(slave.place.lend().slave().state());
     OK
 }
 
@@ -47,7 +46,7 @@ pub extern "C" fn gp_slave_outputs(slave: &mut GpSlave, outputs: &mut [u8]) -> u
     if !slave.live {
         return NO_END;
     }
-    if !calls::outputs(&mut slave.place, outputs) {
+    if !copied(slave.place.lend().slave().outputs(), outputs) {
         return BAD_LENGTH;
     }
     OK
@@ -68,7 +67,7 @@ pub extern "C" fn gp_slave_offer(slave: &mut GpSlave, offer: &mut [u8]) -> u8
     if !slave.live {
         return NO_END;
     }
-    if !calls::offer(&mut slave.place, offer) {
+    if !copied(slave.place.lend().slave().offer(), offer) {
         return BAD_LENGTH;
     }
     OK
@@ -90,7 +89,7 @@ pub extern "C" fn gp_slave_terms(slave: &mut GpSlave, terms: &mut GpTerms) -> u8
     if !slave.live {
         return NO_END;
     }
-    if !calls::terms(&mut slave.place, terms) {
+    if !tells(slave.place.lend().slave().terms(), terms) {
         return NOT_IN_DATA;
     }
     OK
@@ -110,7 +109,7 @@ pub extern "C" fn gp_slave_age(slave: &mut GpSlave, age: &mut u16) -> u8
     if !slave.live {
         return NO_END;
     }
-    *age = calls::age(&mut slave.place);
+    *age = slave.place.lend().slave().age();
     OK
 }
 
@@ -128,6 +127,6 @@ pub extern "C" fn gp_slave_held(slave: &mut GpSlave, held: &mut u8) -> u8
     if !slave.live {
         return NO_END;
     }
-    *held = calls::held(&mut slave.place);
+    *held = flag(slave.place.lend().slave().held());
     OK
 }

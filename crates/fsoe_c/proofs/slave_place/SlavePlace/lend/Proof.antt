@@ -88,4 +88,4 @@ lend_spec 𝓤 𝓛 𝓜 𝓡 wired =
     returns ! (look_at ! 0 refl) $ free_all ! refl $ keep ! (0 ∷ []) $
     use1 𝓛 (‵ ((MutRef (named 0) κs.0 F).own_val (record { ref_ptr = (b', o'); ghost_name = γ; now = x }) (vptr b' o' ∷ [])) ⊛ ‵ (flft κs.0 qs.0) ⊛ ‵ (follows R F a.0.ghost_name γ (with h))) (id⊢ 𝓤 _) $ split3 ! $
     suffices ! _ (ends_at 𝓛 f.ended stayed c y (vptr b' o') (record { ref_ptr = (b', o'); ghost_name = γ; now = x }) (tt, tt) (tt, tt)) $
-    nothing ! $ nothing ! $ fjoin ! $ join ! $ nothing ! $ move ! (2 ∷ 0 ∷ []) $ join ! $ join ! $ frame ! $ says ! there.is $ done !)))))))
+    nothing ! $ nothing ! $ fjoin ! $ join ! $ nothing ! $ move ! (2 ∷ 0 ∷ []) $ join ! $ join ! $ frame ! $ says ! (there.is, ap (λ (v : Option F.Denot). record h { slave = v }) (sym there.is)) $ done !)))))))
