@@ -1,5 +1,5 @@
 -- What a pair file is converted to: a file of several pairs, of which it is the only one.
-use Rattle.std.specs.Prelude.{◌≡◌, ℕ, ◌+◌, ◌-◌, ◌≤◌, List, [], ◌∷◌, ◌++◌, codes, length, map, take, Result, Ok, Err, IfSome, IsSomeAnd, Some}
+use Rattle.std.specs.Prelude.{◌≡◌, ℕ, ◌+◌, ◌-◌, List, [], ◌∷◌, ◌++◌, codes, length, map, take, Result, Ok, Err, IfSome, IsSomeAnd, Some}
 use Rattle.std.specs.List.{flat_map}
 use Rattle.std.specs.declared.option.Option.{Option}
 use Rattle.std.specs.Io.KnownBytes.{Consumes, prepend_known}
@@ -17,9 +17,10 @@ use Rattle.schedule_file.specs.declared.pairs_line.PairsEvent.{PairsEvent}
 use Rattle.schedule_file.specs.declared.pairs_line.PairsEvent.TheVariants as pairs_event
 use Rattle.schedule_file.specs.declared.header_kind.HeaderKind.TheVariants as kind
 use Rattle.file_run.specs.Ending.{Appended, LinesBefore, ReadLines}
-use Rattle.file_run.specs.Outside.{Outside, Wrote}
+use Rattle.file_run.specs.Outside.{CountsFaults, Outside, Wrote}
 use Rattle.file_run.specs.Report.{refused_line}
 use Rattle.file_run.specs.Reporting.{IsPrefix, refused_at}
+use Rattle.file_run.specs.WholeLines.{ReadsUpTo}
 use Rattle.duo_run.specs.Pairs.{Pair, entries_over, events_done, world_of}
 
 -- a line with its newline
@@ -87,9 +88,10 @@ pub record SaysTheSame (input text : List ℕ) : Type 0 where
 abbrev pub WroteAll : Ended → Outside → Type 0
 WroteAll ended o = Wrote o (λ input text. (text ≡ converted input) × (ended ≡ ended_at_stop (input_of kind.Pair input).stop))
 
--- a line is refused, whose number is the place
+-- a line is refused, whose number is the place, and no more was read
 pub record ConvertedToRefused (ended : Ended) (o : Outside) : Type 0 where
   pub number : LinesBefore ended.place o.source.before
+  pub read : ReadsUpTo ended.place o.source.before o.source.after
   pub wrote : WroteAll ended o
 
 -- the input came to its `end`, and what was written says the same
@@ -133,10 +135,9 @@ ConvertedAs status.Config ended o = ⊥
 ConvertedAs status.Desk ended o = ⊥
 ConvertedAs status.Memory ended o = ⊥
 
--- an input was converted: how this ended; where neither count of faults rose, as the input stops; and no count fell
+-- an input was converted: how this ended; where neither count of faults rose, as the input stops; and what was counted
 pub record RanConvert (ended : Ended) (o : Outside) : Type 0 where
   pub ends : ConvertedAs ended.status ended o
   pub stops : (Rose o.source.faults_before o.source.faults_after → ⊥) → (Rose o.sink.faults_before o.sink.faults_after → ⊥)
       → IfSome o.source.before (λ input. ended ≡ ended_at_stop (input_of kind.Pair input).stop)
-  pub source_later : o.source.faults_before ≤ o.source.faults_after
-  pub sink_later : o.sink.faults_before ≤ o.sink.faults_after
+  pub faults : CountsFaults ended.status o

@@ -1,6 +1,7 @@
 //! A pair file written as a file of several pairs, of which it is the only one.
 ghost use Rattle.std.specs.Io.KnownBytes.{prepend_known};
 ghost use Rattle.std.specs.Prelude.{◌≡◌, ◌+◌, ◌-◌, ◌^◌, ◌≤◌, ◌<◌, IfOk, false, length};
+ghost use Rattle.fsoe_io.specs.Line.{IsLine, most_held};
 ghost use Rattle.schedule_file.specs.declared.header_kind.HeaderKind.TheVariants as kind;
 ghost use Rattle.schedule_file.specs.declared.line_buf.TheConstants.{MAX_LINE};
 ghost use Rattle.schedule_file.specs.Header.{heading_after};
@@ -170,6 +171,8 @@ fn next_taken<S: Source>(
         (prepend_known reader.new.bytes (S.left source.new)) }
     ensures fewer { IfOk result (λ ends. ends ≡ false → left_to_take reading.new < left_to_take reading.old) }
     ensures stalls { Stalls result reader.new.bytes }
+    ensures most { length reader.new.bytes ≤ most_held }
+    ensures unread { ¬ IsLine reader.old.bytes → source.new ≡ source.old }
     ensures later { S.faults source.old ≤ S.faults source.new }
     ensures cause { Blames result (S.faults source.old) (S.faults source.new) }
 {

@@ -1,5 +1,5 @@
 -- What holds of a run from some bytes on holds of it from before them, where those that were told before are the same.
-use Rattle.std.proofs.Common.{◌≡◌, ◌≤◌, ℕ, List, ◌∷◌, [], ◌++◌, Option, ap, sym, subst, inl, inr, arith}
+use Rattle.std.proofs.Common.{◌≡◌, ◌≤◌, ℕ, List, ◌∷◌, [], ◌++◌, Option, ap, ◌∙◌, sym, subst, inl, inr, arith}
 use Rattle.std.specs.Prelude.{IfSome, Some, None}
 use Rattle.std.specs.Io.KnownBytes.{Consumes, prepend_known}
 use Rattle.fsoe_io.specs.Line.{Held}
@@ -12,9 +12,9 @@ use Rattle.file_run.specs.Header.{HaltsHeader}
 use Rattle.file_run.specs.Left.{Done, Leaves, LeavesAs, MayFailIn}
 use Rattle.file_run.specs.NextLine.{from_line}
 use Rattle.file_run.specs.Outside.{Outside}
-use Rattle.file_run.specs.Ran.{EndsAs, RanOver}
-use Rattle.file_run.specs.Reporting.{Reporting}
-use Rattle.file_run.specs.WholeLines.{TookLines}
+use Rattle.file_run.specs.Ran.{EndsAs, RanOver, ReadsWhole}
+use Rattle.file_run.specs.Reporting.{Reporting, TakesMemory}
+use Rattle.file_run.specs.WholeLines.{ReadsTo, TookLines}
 use Rattle.file_run.specs.declared.halt.Halt.{Halt}
 use Rattle.file_run.specs.declared.halt.Halt.TheVariants as halt
 use Rattle.file_run.proofs.Sending.{rose_since}
@@ -51,6 +51,12 @@ read_told count told comes left same read = (read.0, read.1, took_told count tol
 before_told : (line : ℕ) (told comes : Option (List ℕ)) → AreTold told comes → LinesBefore line comes → LinesBefore line told
 before_told line told comes same lines = (lines.0, lines.1, lines.2, took_told lines.0 told comes lines.1 same lines.3)
 
+to_told : (lines : ℕ) (told comes left : Option (List ℕ)) → AreTold told comes → ReadsTo lines comes left → ReadsTo lines told left
+to_told lines told comes left same read = record { held = read.held; most = read.most; took = took_told lines told comes (prepend_known read.held left) same read.took }
+
+whole_told : {H L E : Type 0} (f : InputFormat H L E) (told comes left : Option (List ℕ)) → AreTold told comes → ReadsWhole f comes left → ReadsWhole f told left
+whole_told f told comes left same read = (read.0, if_told _ told comes same read.1, to_told read.0 told comes left same read.2)
+
 -- the same outside, with what a source told before some bytes came, and how often it had failed then
 abbrev pub since : Option (List ℕ) → ℕ → Outside → Outside
 since told faults o = record {
@@ -59,9 +65,13 @@ since told faults o = record {
 }
 
 ends_told : {H L E : Type 0} (r : Reporting H L E) (s : Status) (ended : Ended) (o : Outside) (told : Option (List ℕ)) (faults : ℕ) → AreTold told o.source.before → faults ≤ o.source.faults_before → EndsAs r s ended o → EndsAs r s ended (since told faults o)
-ends_told r status.Ok ended o told faults same fewer ends = record { ends = ends.ends; wrote = if_told _ told o.source.before same ends.wrote }
-ends_told r status.Other ended o told faults same fewer ends = record { ends = ends.ends; wrote = if_told _ told o.source.before same ends.wrote }
-ends_told r status.Line ended o told faults same fewer ends = record { number = before_told ended.place told o.source.before same ends.number; wrote = if_told _ told o.source.before same ends.wrote }
+ends_told r status.Ok ended o told faults same fewer ends = record { ends = ends.ends; read = whole_told r.format told o.source.before o.source.after same ends.read; wrote = if_told _ told o.source.before same ends.wrote }
+ends_told r status.Other ended o told faults same fewer ends = record { ends = ends.ends; read = whole_told r.format told o.source.before o.source.after same ends.read; wrote = if_told _ told o.source.before same ends.wrote }
+ends_told r status.Line ended o told faults same fewer ends = record {
+  number = before_told ended.place told o.source.before same ends.number;
+  read = (ends.read.0, ends.read.1, ends.read.2, to_told ends.read.0 told o.source.before o.source.after same ends.read.3);
+  wrote = if_told _ told o.source.before same ends.wrote;
+}
 ends_told r status.Read ended o told faults same fewer ends = record {
   read = read_told ended.place told o.source.before o.source.after same ends.read;
   wrote = if_told _ told o.source.before same ends.wrote;
@@ -73,12 +83,16 @@ ends_told r status.Config ended o told faults same fewer ends = ends
 ends_told r status.Desk ended o told faults same fewer ends = ends
 ends_told r status.Memory ended o told faults same fewer ends = record { place_is = ends.place_is; takes = ends.takes; wrote = if_told _ told o.source.before same ends.wrote }
 
-pub ran_told : {H L E : Type 0} (r : Reporting H L E) (ended : Ended) (o : Outside) (told : Option (List ℕ)) (faults : ℕ) → AreTold told o.source.before → faults ≤ o.source.faults_before → RanOver r ended o → RanOver r ended (since told faults o)
-ran_told r ended o told faults same fewer ran = record {
-  ends = ends_told r ended.status ended o told faults same fewer ran.ends;
-  stops = λ read write memory. if_told _ told o.source.before same (ran.stops (λ rose. read (rose_since faults o.source.faults_before o.source.faults_after fewer rose)) write memory);
-  source_later = omega (arith, fewer, ran.source_later);
-  sink_later = ran.sink_later;
+pub ran_told : {H L E : Type 0} (r : Reporting H L E) (ended : Ended) (o : Outside) (told : Option (List ℕ)) (faults : ℕ) → AreTold told o.source.before → o.source.faults_before ≡ faults → RanOver r ended o → RanOver r ended (since told faults o)
+ran_told r ended o told faults same stayed ran = record {
+  ends = ends_told r ended.status ended o told faults same (omega (arith, stayed)) ran.ends;
+  stops = λ read write memory. if_told _ told o.source.before same (ran.stops (λ rose. read (rose_since faults o.source.faults_before o.source.faults_after (omega (arith, stayed)) rose)) write memory);
+  faults = record {
+    source_later = omega (arith, stayed, ran.faults.source_later);
+    sink_later = ran.faults.sink_later;
+    source_stayed = λ other. ran.faults.source_stayed other ∙ stayed;
+    sink_stayed = ran.faults.sink_stayed;
+  };
 }
 
 halts_told : {H L E : Type 0} (f : InputFormat H L E) (wants : Type 0) (why : Halt) (told comes new : Option (List ℕ)) → AreTold told comes → HaltsHeader f wants why comes new → HaltsHeader f wants why told new
@@ -91,21 +105,21 @@ may_told f closes d whole told comes same (inl text) = inl text
 may_told f closes d whole told comes same (inr (inl refused)) = inr (inl (refused.0, refused.1, if_told _ told comes same refused.2))
 may_told f closes d whole told comes same (inr (inr closed)) = inr (inr (closed.0, closed.1, if_told _ told comes same closed.2))
 
-leaves_as : {H L E : Type 0} (f : InputFormat H L E) (closes : H → List E → List ℕ → Ended → Type 0) (d : Done H E) (s : Status) (ended : Ended) (o : Outside) (told : Option (List ℕ)) (faults : ℕ) → AreTold told o.source.before
-    → LeavesAs f closes d s ended o → LeavesAs f closes d s ended (since told faults o)
-leaves_as f closes d status.Ok ended o told faults same all = record { input = if_told _ told o.source.before same all.input; report = all.report; closed = all.closed; wrote = all.wrote }
-leaves_as f closes d status.Other ended o told faults same all = record { input = if_told _ told o.source.before same all.input; report = all.report; closed = all.closed; wrote = all.wrote }
-leaves_as f closes d status.Line ended o told faults same l = record { why = l.why; stops = if_told _ told o.source.before same l.stops; number_is = l.number_is; wrote = l.wrote }
-leaves_as f closes d status.Read ended o told faults same l = record { lines_are = l.lines_are; wrote = l.wrote }
-leaves_as f closes d status.Write ended o told faults same l = record { whole = l.whole; within = may_told f closes d l.whole told o.source.before same l.within; wrote = l.wrote }
-leaves_as f closes d status.Memory ended o told faults same l = l
-leaves_as f closes d status.Usage ended o told faults same l = l
-leaves_as f closes d status.Config ended o told faults same l = l
-leaves_as f closes d status.Desk ended o told faults same l = l
+leaves_as : {H L E : Type 0} (r : Reporting H L E) (closes : H → List E → List ℕ → Ended → Type 0) (d : Done H E) (s : Status) (ended : Ended) (o : Outside) (told : Option (List ℕ)) (faults : ℕ) → AreTold told o.source.before
+    → LeavesAs r closes d s ended o → LeavesAs r closes d s ended (since told faults o)
+leaves_as r closes d status.Ok ended o told faults same all = record { input = if_told _ told o.source.before same all.input; report = all.report; closed = all.closed; wrote = all.wrote }
+leaves_as r closes d status.Other ended o told faults same all = record { input = if_told _ told o.source.before same all.input; report = all.report; closed = all.closed; wrote = all.wrote }
+leaves_as r closes d status.Line ended o told faults same l = record { why = l.why; stops = if_told _ told o.source.before same l.stops; number_is = l.number_is; wrote = l.wrote }
+leaves_as r closes d status.Read ended o told faults same l = record { lines_are = l.lines_are; wrote = l.wrote }
+leaves_as r closes d status.Write ended o told faults same l = record { whole = l.whole; within = may_told r.format closes d l.whole told o.source.before same l.within; wrote = l.wrote; last = l.last }
+leaves_as r closes d status.Memory ended o told faults same l = l
+leaves_as r closes d status.Usage ended o told faults same l = l
+leaves_as r closes d status.Config ended o told faults same l = l
+leaves_as r closes d status.Desk ended o told faults same l = l
 
-pub leaves_told : {H L E : Type 0} (unchanged wants : Type 0) (f : InputFormat H L E) (stands : H → List E → List ℕ → Type 0) (closes : H → List E → List ℕ → Ended → Type 0) (ended : Ended) (o : Outside) (told : Option (List ℕ)) (faults : ℕ)
-    → AreTold told o.source.before → Leaves unchanged wants f stands closes ended o → Leaves unchanged wants f stands closes ended (since told faults o)
-leaves_told unchanged wants f stands closes ended o told faults same (inl l) =
-    inl (l.0, record { why = l.1.why; held = l.1.held; header = halts_told f wants l.1.why told o.source.before (prepend_known l.1.held o.source.after) same l.1.header; writes = l.1.writes })
-leaves_told unchanged wants f stands closes ended o told faults same (inr l) =
-    inr (record { done = l.done; stood = l.stood; begun = if_told _ told o.source.before same l.begun; ends = leaves_as f closes l.done ended.status ended o told faults same l.ends })
+pub leaves_told : {H L E : Type 0} (unchanged : Type 0) (r : Reporting H L E) (stands : H → List E → List ℕ → Type 0) (closes : H → List E → List ℕ → Ended → Type 0) (ended : Ended) (o : Outside) (told : Option (List ℕ)) (faults : ℕ)
+    → AreTold told o.source.before → Leaves unchanged r stands closes ended o → Leaves unchanged r stands closes ended (since told faults o)
+leaves_told unchanged r stands closes ended o told faults same (inl l) =
+    inl (l.0, record { why = l.1.why; held = l.1.held; header = halts_told r.format (TakesMemory r.memory) l.1.why told o.source.before (prepend_known l.1.held o.source.after) same l.1.header; writes = l.1.writes })
+leaves_told unchanged r stands closes ended o told faults same (inr l) =
+    inr (record { done = l.done; stood = l.stood; begun = if_told _ told o.source.before same l.begun; ends = leaves_as r closes l.done ended.status ended o told faults same l.ends })

@@ -4,14 +4,15 @@ use Rattle.std.specs.Prelude.{Result, Ok, Err}
 use Rattle.std.specs.declared.option.Option.{Option}
 use Rattle.fsoe_io.specs.Faults.{Rose}
 use Rattle.file_run.specs.Halt.{Blames, Declines, Goes, Stalls}
+use Rattle.file_run.specs.WholeLines.{TookOneAtMost}
 use Rattle.file_run.specs.declared.halt.Halt.{Halt}
 use Rattle.file_run.specs.declared.halt.Halt.TheVariants as halt
 
-pub declines_goes : {T : Type 0} (result : Result T Halt) (before lines : ℕ) (old new : Option (List ℕ)) → Declines result lines → lines ≡ before + 1 → Goes result before lines old new
-declines_goes (Ok taken) before lines old new d e = e
-declines_goes (Err (halt.Read count)) before lines old new d e = absurd d
-declines_goes (Err halt.Memory) before lines old new d e = tt
-declines_goes (Err (halt.Refused line cause)) before lines old new d e = d ∙ e
+pub declines_goes : {T : Type 0} (result : Result T Halt) (before lines : ℕ) (old new : Option (List ℕ)) → Declines result lines → lines ≡ before + 1 → TookOneAtMost old new → Goes result before lines old new
+declines_goes (Ok taken) before lines old new d e took = e
+declines_goes (Err (halt.Read count)) before lines old new d e took = absurd d
+declines_goes (Err halt.Memory) before lines old new d e took = tt
+declines_goes (Err (halt.Refused line cause)) before lines old new d e took = (d ∙ e, took)
 
 pub declines_stalls : {T : Type 0} (result : Result T Halt) (lines : ℕ) (held : List ℕ) → Declines result lines → Stalls result held
 declines_stalls (Ok taken) lines held d = tt

@@ -1,5 +1,5 @@
 -- Where neither a read nor a write failed, the status says how the input stops.
-use Rattle.std.proofs.Common.{◌≡◌, ◌≤◌, ℕ, List, refl}
+use Rattle.std.proofs.Common.{◌≡◌, ℕ, List, refl}
 use Rattle.std.specs.Prelude.{IfSome}
 use Rattle.std.specs.declared.option.Option.{Option}
 use Rattle.std.proofs.lemmas.Option.{IfSome_then}
@@ -8,7 +8,7 @@ use Rattle.fsoe_io.specs.declared.status.Ended.{Ended}
 use Rattle.fsoe_io.specs.declared.status.Status.{Status}
 use Rattle.fsoe_io.specs.declared.status.Status.TheVariants as status
 use Rattle.schedule_file.specs.Input.{input_read}
-use Rattle.file_run.specs.Outside.{Outside, Wrote}
+use Rattle.file_run.specs.Outside.{CountsFaults, Outside, Wrote}
 use Rattle.file_run.specs.Ran.{EndsAs, RanOver}
 use Rattle.file_run.specs.Reporting.{Reporting}
 
@@ -31,5 +31,5 @@ stops_exactly r status.Config ended o ends read write memory = absurd ends
 stops_exactly r status.Desk ended o ends read write memory = absurd ends
 stops_exactly r status.Memory ended o ends read write memory = absurd (memory refl)
 
-pub ran_by : {H L E : Type 0} (r : Reporting H L E) (ended : Ended) (o : Outside) → EndsAs r ended.status ended o → o.source.faults_before ≤ o.source.faults_after → o.sink.faults_before ≤ o.sink.faults_after → RanOver r ended o
-ran_by r ended o ends source sink = record { ends = ends; stops = stops_exactly r ended.status ended o ends; source_later = source; sink_later = sink }
+pub ran_by : {H L E : Type 0} (r : Reporting H L E) (ended : Ended) (o : Outside) → EndsAs r ended.status ended o → CountsFaults ended.status o → RanOver r ended o
+ran_by r ended o ends faults = record { ends = ends; stops = stops_exactly r ended.status ended o ends; faults = faults }

@@ -1,5 +1,5 @@
 -- Why there is no next line, or what is wrong with it.
-use Rattle.std.proofs.Common.{◌≡◌, ℕ, List, [], ◌∷◌, ◌++◌, refl, ap}
+use Rattle.std.proofs.Common.{◌≡◌, ℕ, ◌+◌, List, [], ◌∷◌, ◌++◌, refl, ap}
 use Rattle.std.specs.Prelude.{Bool, Result, Err, IfSome}
 use Rattle.std.specs.declared.option.Option.{Option}
 use Rattle.std.specs.Io.KnownBytes.{Consumes}
@@ -12,6 +12,7 @@ use Rattle.schedule_file.specs.Input.{InputFormat, Long, NoNewline, Line, lines_
 use Rattle.schedule_file.specs.declared.line_cause.LineCause.{LineCause}
 use Rattle.file_run.specs.Refusal.{input_cause}
 use Rattle.file_run.specs.Event.{FindsEvent, says_after, says_by, in_input}
+use Rattle.file_run.specs.Halt.{Goes}
 use Rattle.file_run.specs.HaltOf.{halt_of}
 use Rattle.file_run.specs.Header.{FindsHeading, heading_by, heading_by_itself}
 use Rattle.file_run.specs.NextLine.{FindsLine, first_line}
@@ -19,12 +20,19 @@ use Rattle.file_run.specs.declared.refusal.Refusal.{Refusal}
 use Rattle.file_run.specs.declared.halt.Halt.{Halt}
 use Rattle.file_run.specs.declared.halt.Halt.TheVariants as halt
 use Rattle.file_run.proofs.Lines.{by_line, by_long, by_open}
+use Rattle.file_run.proofs.Taken.{took_nothing}
 
 -- there is no next line
 pub no_line : (why : LineFault) (before : ℕ) (text : List ℕ) (old new : Option (List ℕ)) → Reads (Err why) old new → FindsLine (Err (halt_of why before)) text old new
 no_line fault.Read before text old new r = tt
-no_line fault.Long before text old new r = by_long old (λ lines. first_line lines ≡ Err Long) r (λ rest. refl)
-no_line fault.NoNewline before text old new r = by_open old (λ lines. first_line lines ≡ Err NoNewline) r refl
+no_line fault.Long before text old new r = by_long old (λ lines. first_line lines ≡ Err Long) r.0 (λ rest. refl)
+no_line fault.NoNewline before text old new r = by_open old (λ lines. first_line lines ≡ Err NoNewline) r.0 refl
+
+-- and nothing is taken
+pub none_goes : (why : LineFault) (first before lines : ℕ) (old new : Option (List ℕ)) → first ≡ before → Reads (Err why) old new → Goes {T = Unit {0}} (Err (halt_of why first)) before lines old new
+none_goes fault.Read first before lines old new e r = (e, r)
+none_goes fault.Long first before lines old new e r = (ap (λ (n : ℕ). n + 1) e, took_nothing old new r.1)
+none_goes fault.NoNewline first before lines old new e r = (ap (λ (n : ℕ). n + 1) e, took_nothing old new r.1)
 
 -- then there is no next header line
 pub no_header_line : {H L E : Type 0} (f : InputFormat H L E) (takes : Bool) (h next : H) (why : Halt) (text : List ℕ) (old new : Option (List ℕ)) → FindsLine (Err why) text old new → FindsHeading f takes h (Err why) next old new

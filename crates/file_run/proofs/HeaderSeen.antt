@@ -115,4 +115,4 @@ pub header_halts : {H L E : Type 0} (f : InputFormat H L E) (takes : Bool) (h ne
     → Goes {T = Bool} (Err why) lines now b c → HaltsHeader f (IsTrue takes) why a c
 header_halts f takes h next lines now a b c (halt.Read count) seen finds goes = header_cut_off f h lines count a b c seen goes.1 goes.0
 header_halts f takes h next lines now a b c halt.Memory seen finds goes = finds
-header_halts f takes h next lines now a b c (halt.Refused number why) seen finds goes = header_refused f h lines number a b (input_cause why) seen finds goes
+header_halts f takes h next lines now a b c (halt.Refused number why) seen finds goes = header_refused f h lines number a b (input_cause why) seen finds goes.0

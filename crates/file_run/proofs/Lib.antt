@@ -1,6 +1,6 @@
 pub mod Lines
-pub mod Found
 pub mod Taken
+pub mod Found
 pub mod HeaderSeen
 pub mod Seen
 pub mod Sending
@@ -12,6 +12,7 @@ pub mod EndedWith
 pub mod Running
 pub mod Leaving
 pub mod Exact
+pub mod Counted
 pub mod Before
 pub mod Declined
 pub mod Titled

@@ -1,5 +1,5 @@
 -- Texts that go through a buffer part by part.
-use Rattle.std.proofs.Common.{◌≡◌, ℕ, ◌≤◌, true, false, List, [], ◌∷◌, ◌++◌, length, refl, arith, ap, ◌∙◌, sym, append_assoc, inl, inr}
+use Rattle.std.proofs.Common.{◌≡◌, ℕ, true, false, List, [], ◌∷◌, ◌++◌, length, refl, arith, ap, ◌∙◌, sym, append_assoc, inl, inr}
 use Rattle.std.specs.Prelude.{◌==◌, ◌≢◌, Result, Ok, Err}
 use Rattle.std.specs.declared.option.Option.{Option}
 use Rattle.std.proofs.lemmas.Bool.{eqb-true}
@@ -35,11 +35,11 @@ passes_lost old new w0 w piece later rest p = record {
 }
 
 pub puts_lost : {E : Type 0} (e : E) (old new : OutputView) (w0 w : Option (List ℕ)) (piece later : List ℕ) → Puts {T = Unit {0}} (Err e) old new w0 w piece → Puts {T = Unit {0}} (Err e) old new w0 w (piece ++ later)
-puts_lost e old new w0 w piece later p = (p.0 ++ later, passes_lost old new w0 w piece later p.0 p.1)
+puts_lost e old new w0 w piece later p = (p.0 ++ later, omega (arith, p.1, length-append p.0 later), passes_lost old new w0 w piece later p.0 p.2)
 
 pub puts_both : {T E : Type 0} (r : Result T E) (old mid new : OutputView) (w0 w1 w2 : Option (List ℕ)) (first then : List ℕ) → Passes old mid w0 w1 first mid.bytes → Puts r mid new w1 w2 then → Puts r old new w0 w2 (first ++ then)
 puts_both (Ok x) old mid new w0 w1 w2 first then p q = passes_both old mid new w0 w1 w2 first then new.bytes p q
-puts_both (Err e) old mid new w0 w1 w2 first then p q = (q.0, passes_both old mid new w0 w1 w2 first then q.0 p q.1)
+puts_both (Err e) old mid new w0 w1 w2 first then p q = (q.0, q.1, passes_both old mid new w0 w1 w2 first then q.0 p q.2)
 
 -- a list that has no item, and one that has some
 pub is_none : (xs : List ℕ) → true ≡ length xs == 0 → xs ≡ []
@@ -84,12 +84,12 @@ putting_all old now w0 w whole left k none =
     rw all k.passes
 
 -- after a text was put, what is written last is written after it
-pub writes_after : (old mid : OutputView) (w0 w1 w2 : Option (List ℕ)) (faults between after : ℕ) (text : List ℕ) (ended result : Ended) → Passes old mid w0 w1 text mid.bytes → faults ≤ between
+pub writes_after : (old mid : OutputView) (w0 w1 w2 : Option (List ℕ)) (faults between after : ℕ) (text : List ℕ) (ended result : Ended) → Passes old mid w0 w1 text mid.bytes → between ≡ faults
     → Writes mid.sent (mid.bytes ++ []) ended result (record { before = w1; after = w2; faults_before = between; faults_after = after })
     → Writes old.sent (old.bytes ++ text) ended result (record { before = w0; after = w2; faults_before = faults; faults_after = after })
-writes_after old mid w0 w1 w2 faults between after text ended result p later writes =
+writes_after old mid w0 w1 w2 faults between after text ended result p stayed writes =
     elim writes [
-      | inl whole ↦ inl (whole.0, rw (p.whole, ← append-nil mid.bytes) (grew_then w0 w1 w2 p.part (mid.bytes ++ []) p.grew whole.1))
+      | inl whole ↦ inl (whole.0, rw (p.whole, ← append-nil mid.bytes) (grew_then w0 w1 w2 p.part (mid.bytes ++ []) p.grew whole.1), whole.2 ∙ stayed)
       | inr cut ↦
           inr (record {
             part = p.part ++ cut.part;
@@ -98,9 +98,10 @@ writes_after old mid w0 w1 w2 faults between after text ended result p later wri
               cut.begins.0,
               p.whole ∙ ap (λ (z : List ℕ). p.part ++ z) (sym (append-nil mid.bytes) ∙ cut.begins.1) ∙ sym (append_assoc p.part cut.part cut.begins.0),
             );
+            less = omega (arith, cut.less, ap (length {A = ℕ}) p.whole, length-append p.part cut.part, length-append p.part mid.bytes, length-append mid.bytes []);
             status_is = cut.status_is;
             place_is = omega (arith, cut.place_is, p.sent, length-append p.part cut.part);
-            cause = rose_since faults between after later cut.cause;
+            cause = rose_since faults between after (omega (arith, stayed)) cut.cause;
           })
     ]
 
@@ -108,4 +109,12 @@ writes_after old mid w0 w1 w2 faults between after text ended result p later wri
 pub writes_cut : {E : Type 0} (error : E) (old new : OutputView) (w0 w : Option (List ℕ)) (faults after : ℕ) (text : List ℕ) (ended result : Ended) → Puts {T = Unit {0}} (Err error) old new w0 w text → Rose faults after
     → result.status ≡ status.Write → result.place ≡ new.sent → Writes old.sent (old.bytes ++ text) ended result (record { before = w0; after = w; faults_before = faults; faults_after = after })
 writes_cut error old new w0 w faults after text ended result p rose is place =
-    inr (record { part = p.1.part; grew = p.1.grew; begins = (p.0, p.1.whole); status_is = is; place_is = place ∙ p.1.sent; cause = rose })
+    inr (record {
+      part = p.2.part;
+      grew = p.2.grew;
+      begins = (p.0, p.2.whole);
+      less = omega (arith, p.1, ap (length {A = ℕ}) p.2.whole, length-append p.2.part p.0);
+      status_is = is;
+      place_is = place ∙ p.2.sent;
+      cause = rose;
+    })

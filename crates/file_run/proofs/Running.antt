@@ -3,11 +3,11 @@ use Rattle.std.proofs.Common.{◌≡◌, ℕ, ◌+◌, ◌*◌, ◌≤◌, ◌<�
 use Rattle.std.specs.Prelude.{false, Ok, Err, IfSome, Some, None}
 use Rattle.std.specs.declared.option.Option.{Option}
 use Rattle.std.specs.Io.KnownBytes.{Consumes, prepend_known}
-use Rattle.std.proofs.lemmas.List.{append-nil, length_push}
+use Rattle.std.proofs.lemmas.List.{append-nil, length-append, length_push}
 use Rattle.std.proofs.lemmas.Option.{IfSome_then}
 use Rattle.fsoe_io.specs.Faults.{Rose}
-use Rattle.fsoe_io.specs.Line.{HasNoNewline}
-use Rattle.fsoe_io.specs.Output.{OutputView, Passes}
+use Rattle.fsoe_io.specs.Line.{HasNoNewline, most_held}
+use Rattle.fsoe_io.specs.Output.{OutputView, Passes, most_waiting}
 use Rattle.fsoe_io.specs.Sink.{Grew}
 use Rattle.fsoe_io.specs.declared.status.Ended.{Ended}
 use Rattle.fsoe_io.specs.declared.status.Status.{Status}
@@ -23,7 +23,7 @@ use Rattle.file_run.specs.Begun.{Begins}
 use Rattle.file_run.specs.Header.{HaltsHeader, IsHeaderCutOff}
 use Rattle.file_run.specs.Machine.{Keeps, TakesEvent, MayCome, most_parts}
 use Rattle.file_run.specs.Outside.{Outside, Wrote}
-use Rattle.file_run.specs.Ran.{CameToEnd, EndsAs, EndsWhole, MayWant, ReportsReadLines}
+use Rattle.file_run.specs.Ran.{CameToEnd, EndsAs, EndsWhole, MayWant, ReadsWhole, ReportsReadLines, line_of_end}
 use Rattle.file_run.specs.Report.{refused_line}
 use Rattle.file_run.specs.Reporting.{BeginsReport, EndsReport, EndsStopped, EndsUnmet, MemoryUse, Never, BeforeEvents, Always, Reporting, ReportsSoFar, TakesMemory, input_headless, input_stopped, refused_at}
 use Rattle.file_run.specs.Running.{IsFullness, Running, Saying, SaysSo, Seen, Sent, Standing, input_on, more_on}
@@ -37,7 +37,7 @@ use Rattle.file_run.specs.declared.stopped.Stopped.TheVariants as stopped
 use Rattle.file_run.proofs.Lines.{by_line}
 use Rattle.file_run.proofs.Seen.{has_event, seen_none, seen_more, seen_same, input_refused, input_ended}
 use Rattle.file_run.proofs.Sending.{sent_none, sent_piece, sent_flushed, piece_part, text_part, begins_whole, ends_write, ends_written, rose_since}
-use Rattle.file_run.proofs.Taken.{took_line, took_still}
+use Rattle.file_run.proofs.Taken.{took_line, took_still, took_then}
 
 -- a machine's texts are first parts of reports
 abbrev pub Reports : {H L E : Type 0} → Reporting H L E → Standing H E → Type 0
@@ -72,6 +72,7 @@ running_start r stands says left0 left w waiting lines b none sent = record {
   seen = seen_none r.format b.heading lines left0 left b.whole;
   took = b.took;
   sent = sent_none w waiting none sent;
+  most = omega (arith, ap (length {A = ℕ}) none);
   size = omega (arith, sent, ap (length {A = ℕ}) none);
   count = refl;
   few = omega arith;
@@ -92,6 +93,7 @@ running_sent r stands says left0 left w0 w1 w2 waiting now events lines k p same
   seen = k.seen;
   took = k.took;
   sent = sent_flushed w0 w1 w2 waiting now k.text k.sent p;
+  most = omega (arith, k.most, ap (length {A = ℕ}) p.whole, length-append waiting.bytes [], length-append p.part now.bytes);
   size = omega (arith, same, k.size);
   count = k.count;
   few = k.few;
@@ -124,9 +126,9 @@ event_seen r stands says full left0 b c w0 w waiting events lines event k finds 
 -- the machine did it, and all its text was put
 pub running_event : {H L E : Type 0} (r : Reporting H L E) (old mid new : Standing H E) (says : Saying L) (full : Bool) (left0 b c w0 w1 w2 : Option (List ℕ)) (waiting now : OutputView) (events lines next : ℕ) (event : E) (piece waits : List ℕ) (parts : ℕ)
     → Running r old says left0 b w0 w1 waiting events lines → FindsEvent r.format.event says full (Ok (Some event)) b c → IsFullness r old events full → (full ≡ false → events < MAX_EVENTS) → next ≡ lines + 1 → TakesEvent old mid event (events + 1) (piece ++ waits) → Keeps mid new
-    → Passes waiting now w1 w2 (piece ++ waits) now.bytes → now.sent + length now.bytes ≤ waiting.sent + length waiting.bytes + 1024 + 1024 * parts → parts ≤ most_parts
+    → Passes waiting now w1 w2 (piece ++ waits) now.bytes → now.sent + length now.bytes ≤ waiting.sent + length waiting.bytes + 1024 + 1024 * parts → length now.bytes ≤ most_waiting → parts ≤ most_parts
     → Running r new says left0 c w0 w2 now (events + 1) next
-running_event r old mid new says full left0 b c w0 w1 w2 waiting now events lines next event piece waits parts k finds fullness few step on keeps p size most =
+running_event r old mid new says full left0 b c w0 w1 w2 waiting now events lines next event piece waits parts k finds fullness few step on keeps p size holds most =
     let said = has_event r.format.event says full finds.0 event finds.3 in
     let below = few said.room in
     record {
@@ -139,6 +141,7 @@ running_event r old mid new says full left0 b c w0 w1 w2 waiting now events line
       seen = event_seen r old says full left0 b c w0 w1 waiting events lines event k finds fullness;
       took = took_line lines next left0 b c finds.0 k.took finds.1 finds.2 step;
       sent = sent_piece w0 w1 w2 waiting now k.text (piece ++ waits) k.sent p;
+      most = holds;
       size = omega (arith, size, k.size, most);
       count = length_push k.log event ∙ ap (λ (n : ℕ). n + 1) k.count;
       few = omega (arith, below);
@@ -223,18 +226,24 @@ ended_next r stands says full left0 b c w0 w waiting events lines k finds fullne
     by_line b c finds.0 (λ rest. input_on r.format k.heading k.header k.log rest ≡ input_stopped k.heading k.header k.log AtEnd) finds.1 finds.2
     (λ rest. input_ended r.format says full k.heading k.header k.log finds.0 rest k.same (fullness k.heading k.log k.text k.count k.stood) finds.3)
 
-pub ends_at_end : {H L E : Type 0} (r : Reporting H L E) (stands : Standing H E) (says : Saying L) (full : Bool) (o : Outside) (b c w1 : Option (List ℕ)) (faults : ℕ) (waiting : OutputView) (events lines : ℕ) (last : List ℕ) (ended result : Ended)
-    → Running r stands says o.source.before b o.sink.before w1 waiting events lines → FindsEvent r.format.event says full (Ok None) b c → IsFullness r stands events full
+pub ends_at_end : {H L E : Type 0} (r : Reporting H L E) (stands : Standing H E) (says : Saying L) (full : Bool) (o : Outside) (b : Option (List ℕ)) (held : List ℕ) (w1 : Option (List ℕ)) (faults : ℕ) (waiting : OutputView) (events lines : ℕ) (last : List ℕ) (ended result : Ended)
+    → Running r stands says o.source.before b o.sink.before w1 waiting events lines → FindsEvent r.format.event says full (Ok None) b (prepend_known held o.source.after) → length held ≤ most_held → IsFullness r stands events full
     → ((h : H) (log : List E) (text : List ℕ) → length log ≡ events → stands h log text → EndsReport r h log (text ++ last) ended)
     → ((h : H) (log : List E) (text : List ℕ) → stands h log text → EndsWhole r.judges ended.status ended.place)
     → Writes waiting.sent (waiting.bytes ++ last) ended result (record { before = w1; after = o.sink.after; faults_before = faults; faults_after = o.sink.faults_after }) → o.sink.faults_before ≤ faults
     → EndsAs r result.status result o
-ends_at_end r stands says full o b c w1 faults waiting events lines last ended result k finds fullness reports whole writes later =
+ends_at_end {H} {L} {E} r stands says full o b held w1 faults waiting events lines last ended result k finds most fullness reports whole writes later =
+    let c = prepend_known held o.source.after in
     let stops = ended_next r stands says full o.source.before b c o.sink.before w1 waiting events lines k finds fullness in
     let ends : EndsWhole r.judges ended.status ended.place = whole k.heading k.log k.text k.stood in
+    let read : ReadsWhole r.format o.source.before o.source.after = (
+      lines + 1,
+      stops_so r.format k.heading k.header k.log o.source.before b AtEnd (λ (input : InputOf H E). lines + 1 ≡ line_of_end input) k.seen stops (omega (arith, k.lined, k.count)),
+      record { held = held; most = most; took = took_line lines (lines + 1) o.source.before b c finds.0 k.took finds.1 finds.2 refl },
+    ) in
     ends_reported r o w1 faults waiting k.text last ended result k.sent writes later
     (stops_so r.format k.heading k.header k.log o.source.before b AtEnd (λ input. r.reports input ended (k.text ++ last)) k.seen stops (reports k.heading k.log k.text k.count k.stood k.header))
-    (λ wrote. as_whole r ended.status ended.place ended o ends (record { ends = ends; wrote = wrote }))
+    (λ wrote. as_whole r ended.status ended.place ended o ends (record { ends = ends; read = read; wrote = wrote }))
 
 -- the text is as it was where nothing is written more
 wrote_read : {H L E : Type 0} (r : Reporting H L E) (lines : ℕ) (o : Outside) (text : List ℕ) → Grew o.sink.before o.sink.after (text ++ []) → IfSome o.source.before (λ input. ReportsReadLines r lines input o.source.after text)
@@ -265,30 +274,35 @@ always_wants : (when : MemoryUse) (nothing : Type 0) → when ≡ Always → May
 always_wants when nothing e = subst (λ (u : MemoryUse). MayWant u nothing) (sym e) tt
 
 -- the run so far hasn't what the event of the next line names
-ends_unmet : {H L E : Type 0} (r : Reporting H L E) (stands : Standing H E) (says : Saying L) (full : Bool) (o : Outside) (b c w1 : Option (List ℕ)) (faults : ℕ) (waiting : OutputView) (events lines number : ℕ) (event : E) (why : InputCause) (result : Ended)
-    → Running r stands says o.source.before b o.sink.before w1 waiting events lines → FindsEvent r.format.event says full (Ok (Some event)) b c → IsFullness r stands events full → number ≡ lines + 1
+ends_unmet : {H L E : Type 0} (r : Reporting H L E) (stands : Standing H E) (says : Saying L) (full : Bool) (o : Outside) (b : Option (List ℕ)) (held : List ℕ) (w1 : Option (List ℕ)) (faults : ℕ) (waiting : OutputView) (events lines number : ℕ) (event : E) (why : InputCause) (result : Ended)
+    → Running r stands says o.source.before b o.sink.before w1 waiting events lines → FindsEvent r.format.event says full (Ok (Some event)) b (prepend_known held o.source.after) → length held ≤ most_held → IsFullness r stands events full → number ≡ lines + 1
     → ((h : H) (log : List E) (text : List ℕ) → stands h log text → EndsUnmet r h log text event why)
     → Writes waiting.sent (waiting.bytes ++ refused_line number why) (refused_at number) result (record { before = w1; after = o.sink.after; faults_before = faults; faults_after = o.sink.faults_after })
     → o.sink.faults_before ≤ faults → EndsAs r result.status result o
-ends_unmet r stands says full o b c w1 faults waiting events lines number event why result k finds fullness step unmet writes later =
+ends_unmet r stands says full o b held w1 faults waiting events lines number event why result k finds most fullness step unmet writes later =
+    let c = prepend_known held o.source.after in
     let at : k.header + length k.log + 1 ≡ number = omega (arith, step, k.lined, k.count) in
     let whole = by_seen r.format k.heading k.header (k.log ++ event ∷ []) o.source.before c (λ input. r.reports input (refused_at number) (k.text ++ refused_line number why))
     (event_seen r stands says full o.source.before b c o.sink.before w1 waiting events lines event k finds fullness)
     (λ more stop. subst (λ (n : ℕ). r.reports (input_stopped k.heading k.header ((k.log ++ event ∷ []) ++ more) stop) (refused_at n) (k.text ++ refused_line n why)) at (unmet k.heading k.log k.text k.stood k.header more stop)) in
     ends_reported r o w1 faults waiting k.text (refused_line number why) (refused_at number) result k.sent writes later whole
-    (λ wrote. record { number = (lines, b, step, k.took); wrote = wrote })
+    (λ wrote. record {
+      number = (lines, b, step, k.took);
+      read = (lines + 1, omega (arith, step), omega (arith, step), record { held = held; most = most; took = took_line lines (lines + 1) o.source.before b c finds.0 k.took finds.1 finds.2 refl });
+      wrote = wrote;
+    })
 
 -- the event of the next line isn't done
-pub ends_stopped : {H L E : Type 0} (r : Reporting H L E) (stands : Standing H E) (says : Saying L) (full : Bool) (o : Outside) (b c w1 : Option (List ℕ)) (faults : ℕ) (waiting : OutputView) (events lines number : ℕ) (event : E) (why : Stopped) (result : Ended)
-    → Reports r stands → Running r stands says o.source.before b o.sink.before w1 waiting events lines → FindsEvent r.format.event says full (Ok (Some event)) b c → IsFullness r stands events full → number ≡ lines + 1
+pub ends_stopped : {H L E : Type 0} (r : Reporting H L E) (stands : Standing H E) (says : Saying L) (full : Bool) (o : Outside) (b : Option (List ℕ)) (held : List ℕ) (w1 : Option (List ℕ)) (faults : ℕ) (waiting : OutputView) (events lines number : ℕ) (event : E) (why : Stopped) (result : Ended)
+    → Reports r stands → Running r stands says o.source.before b o.sink.before w1 waiting events lines → FindsEvent r.format.event says full (Ok (Some event)) b (prepend_known held o.source.after) → length held ≤ most_held → IsFullness r stands events full → number ≡ lines + 1
     → ((h : H) (log : List E) (text : List ℕ) → stands h log text → EndsStopped r h log text event why)
     → Writes waiting.sent (waiting.bytes ++ last_of (halt_stopped why number)) (halted_by (halt_stopped why number)) result (record { before = w1; after = o.sink.after; faults_before = faults; faults_after = o.sink.faults_after })
     → o.sink.faults_before ≤ faults → EndsAs r result.status result o
-ends_stopped r stands says full o b c w1 faults waiting events lines number event stopped.NoFrame result reports k finds fullness step stops writes later =
-    ends_unmet r stands says full o b c w1 faults waiting events lines number event NoFrame result k finds fullness step stops writes later
-ends_stopped r stands says full o b c w1 faults waiting events lines number event stopped.NoApp result reports k finds fullness step stops writes later =
-    ends_unmet r stands says full o b c w1 faults waiting events lines number event NoApp result k finds fullness step stops writes later
-ends_stopped r stands says full o b c w1 faults waiting events lines number event stopped.Memory result reports k finds fullness step stops writes later =
+ends_stopped r stands says full o b held w1 faults waiting events lines number event stopped.NoFrame result reports k finds most fullness step stops writes later =
+    ends_unmet r stands says full o b held w1 faults waiting events lines number event NoFrame result k finds most fullness step stops writes later
+ends_stopped r stands says full o b held w1 faults waiting events lines number event stopped.NoApp result reports k finds most fullness step stops writes later =
+    ends_unmet r stands says full o b held w1 faults waiting events lines number event NoApp result k finds most fullness step stops writes later
+ends_stopped r stands says full o b held w1 faults waiting events lines number event stopped.Memory result reports k finds most fullness step stops writes later =
     ends_wanting r o w1 faults waiting k.text result k.sent writes later (begun r stands says o.source.before b o.sink.before w1 waiting events lines reports k)
     (λ grew. always_wants r.memory (Grew o.sink.before o.sink.after []) (stops k.heading k.log k.text k.stood))
 
@@ -327,10 +341,10 @@ refused_after r stands says full left0 b c w0 w waiting events lines number why 
 -- the input goes no further
 pub ends_halted : {H L E : Type 0} (r : Reporting H L E) (stands : Standing H E) (says : Saying L) (full : Bool) (o : Outside) (b : Option (List ℕ)) (held : List ℕ) (w1 : Option (List ℕ)) (read faults : ℕ) (waiting : OutputView) (events lines now : ℕ) (why : Halt) (result : Ended)
     → Reports r stands → Running r stands says o.source.before b o.sink.before w1 waiting events lines → FindsEvent r.format.event says full (Err why) b (prepend_known held o.source.after) → IsFullness r stands events full
-    → Goes {T = Unit {0}} (Err why) lines now b (prepend_known held o.source.after) → Stalls {T = Unit {0}} (Err why) held → Blames {T = Unit {0}} (Err why) read o.source.faults_after → o.source.faults_before ≤ read
+    → Goes {T = Unit {0}} (Err why) lines now b (prepend_known held o.source.after) → Stalls {T = Unit {0}} (Err why) held → length held ≤ most_held → Blames {T = Unit {0}} (Err why) read o.source.faults_after → o.source.faults_before ≤ read
     → Writes waiting.sent (waiting.bytes ++ last_of why) (halted_by why) result (record { before = w1; after = o.sink.after; faults_before = faults; faults_after = o.sink.faults_after }) → o.sink.faults_before ≤ faults
     → EndsAs r result.status result o
-ends_halted r stands says full o b held w1 read faults waiting events lines now (halt.Read count) result reports k finds fullness goes stalls blames read_later writes later =
+ends_halted r stands says full o b held w1 read faults waiting events lines now (halt.Read count) result reports k finds fullness goes stalls most blames read_later writes later =
     let place : k.header + length k.log ≡ count = omega (arith, k.lined, k.count, goes.0) in
     let so_far = reports k.heading k.log k.text k.stood in
     let reads = subst (λ (n : ℕ). IfSome o.source.before (λ input. ReportsReadLines r n input o.source.after k.text)) place
@@ -342,14 +356,23 @@ ends_halted r stands says full o b held w1 read faults waiting events lines now 
       wrote = wrote_read r count o k.text grew reads;
       cause = rose_since o.source.faults_before read o.source.faults_after read_later blames;
     })
-ends_halted r stands says full o b held w1 read faults waiting events lines now halt.Memory result reports k finds fullness goes stalls blames read_later writes later = absurd finds
-ends_halted r stands says full o b held w1 read faults waiting events lines now (halt.Refused number why) result reports k finds fullness goes stalls blames read_later writes later =
+ends_halted r stands says full o b held w1 read faults waiting events lines now halt.Memory result reports k finds fullness goes stalls most blames read_later writes later = absurd finds
+ends_halted r stands says full o b held w1 read faults waiting events lines now (halt.Refused number why) result reports k finds fullness goes stalls most blames read_later writes later =
     let so_far = reports k.heading k.log k.text k.stood in
-    let stops = refused_after r stands says full o.source.before b (prepend_known held o.source.after) o.sink.before w1 waiting events lines number why k finds fullness (omega (arith, k.lined, k.count, goes)) in
+    let stops = refused_after r stands says full o.source.before b (prepend_known held o.source.after) o.sink.before w1 waiting events lines number why k finds fullness (omega (arith, k.lined, k.count, goes.0)) in
     ends_reported r o w1 faults waiting k.text (refused_line number (input_cause why)) (refused_at number) result k.sent writes later
     (stops_so r.format k.heading k.header k.log o.source.before b (Refused number (input_cause why)) (λ input. r.reports input (refused_at number) (k.text ++ refused_line number (input_cause why))) k.seen stops
     (so_far.refused k.header number (input_cause why)))
-    (λ wrote. record { number = (lines, b, goes, k.took); wrote = wrote })
+    (λ wrote. record {
+      number = (lines, b, goes.0, k.took);
+      read = (
+        lines + goes.1.0,
+        omega (arith, goes.0, goes.1.1),
+        omega (arith, goes.0, goes.1.1),
+        record { held = held; most = most; took = took_then lines goes.1.0 o.source.before b (prepend_known held o.source.after) k.took goes.1.2 },
+      );
+      wrote = wrote;
+    })
 
 -- the header goes no further, in which nothing was written
 headless : {H L E : Type 0} (f : InputFormat H L E) (bytes : List ℕ) (stop : Stop) → header_read f bytes ≡ Err stop → input_read f bytes ≡ input_headless stop
@@ -401,4 +424,4 @@ header_halted {H} {L} {E} r o held faults waiting (halt.Refused number why) resu
     ends_reported r o o.sink.before faults waiting [] (refused_line number (input_cause why)) (refused_at number) result (sent_none o.sink.before waiting none sent) writes later
     (IfSome_then o.source.before heads (λ input e.
     subst (λ (i : InputOf H E). r.reports i (refused_at number) (refused_line number (input_cause why))) (sym (headless r.format input (Refused number (input_cause why)) e)) (has.headless number (input_cause why))))
-    (λ wrote. record { number = halts; wrote = wrote })
+    (λ wrote. record { number = halts.0; read = halts.1; wrote = wrote })

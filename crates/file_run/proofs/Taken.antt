@@ -1,16 +1,16 @@
 -- Whole lines that are taken one after another.
-use Rattle.std.proofs.Common.{◌≡◌, ℕ, ◌+◌, List, [], ◌∷◌, ◌++◌, refl, ap, ◌∙◌, sym, subst, append_assoc}
+use Rattle.std.proofs.Common.{◌≡◌, ℕ, ◌+◌, List, [], ◌∷◌, ◌++◌, ◌≤◌, length, refl, ap, arith, ◌∙◌, sym, subst, append_assoc}
 use Rattle.std.specs.Prelude.{None, Some, Bool, Err}
 use Rattle.std.specs.declared.option.Option.{Option}
 use Rattle.std.specs.Io.KnownBytes.{Consumes, prepend_known}
-use Rattle.std.proofs.lemmas.List.{append-nil, length_push}
-use Rattle.std.proofs.lemmas.List.Elements.{All-nil, All-push}
+use Rattle.std.proofs.lemmas.List.{append-nil, length-append, length_push}
+use Rattle.std.proofs.lemmas.List.Elements.{All-append, All-nil, All-push}
 use Rattle.fsoe_io.proofs.Taken.{consumes_then}
-use Rattle.fsoe_io.specs.Line.{Held, IsLine}
+use Rattle.fsoe_io.specs.Line.{Held, IsLine, most_held}
 use Rattle.file_run.specs.Ending.{Halts}
 use Rattle.file_run.specs.Halt.{Goes, Stalls}
 use Rattle.file_run.specs.NextLine.{from_line}
-use Rattle.file_run.specs.WholeLines.{joined, TookLines}
+use Rattle.file_run.specs.WholeLines.{TookLines, TookOneAtMost, joined}
 use Rattle.file_run.specs.declared.halt.Halt.{Halt}
 use Rattle.file_run.specs.declared.halt.Halt.TheVariants as halt
 
@@ -41,6 +41,22 @@ took_line k lines a b c line took is goes next =
       taken = subst (Consumes a c) whole (consumes_then a b c (joined took.lines) (line ++ 10 ∷ []) took.taken goes);
     }
 
+-- nothing, or a line
+pub took_nothing : (a b : Option (List ℕ)) → Consumes a b [] → TookOneAtMost a b
+took_nothing a b goes = (0, omega arith, record { lines = []; each = All-nil IsLine; counts = refl; taken = goes })
+
+pub took_one : (a b : Option (List ℕ)) (line : List ℕ) → IsLine line → Consumes a b (line ++ 10 ∷ []) → TookOneAtMost a b
+took_one a b line is goes = (1, omega arith, took_line 0 1 a a b line (took_none a) is goes refl)
+
+-- lines after others
+pub took_then : (k m : ℕ) (a b c : Option (List ℕ)) → TookLines k a b → TookLines m b c → TookLines (k + m) a c
+took_then k m a b c first then = record {
+  lines = first.lines ++ then.lines;
+  each = All-append IsLine first.lines then.lines first.each then.each;
+  counts = omega (arith, first.counts, then.counts, length-append first.lines then.lines);
+  taken = subst (Consumes a c) (sym (joined-append first.lines then.lines)) (consumes_then a b c (joined first.lines) (joined then.lines) first.taken then.taken);
+}
+
 -- a read that failed takes nothing
 pub took_still : (k : ℕ) (a b c : Option (List ℕ)) → TookLines k a b → Consumes b c [] → TookLines k a c
 took_still k a b c took goes = record {
@@ -52,8 +68,12 @@ took_still k a b c took goes = record {
 
 -- why an input goes no further, after these whole lines
 pub halts_after : (left0 left1 left2 : Option (List ℕ)) (held : List ℕ) (before lines : ℕ) (why : Halt) → TookLines before left0 left1 → Goes {T = Bool} (Err why) before lines left1 (prepend_known held left2)
-    → Stalls {T = Bool} (Err why) held → Halts {T = Unit {0}} (Err why) left0 left2
-halts_after left0 left1 left2 held before lines (halt.Read count) took goes stalls =
+    → Stalls {T = Bool} (Err why) held → length held ≤ most_held → Halts {T = Unit {0}} (Err why) left0 left2
+halts_after left0 left1 left2 held before lines (halt.Read count) took goes stalls most =
     (held, stalls, subst (λ (n : ℕ). TookLines n left0 (prepend_known held left2)) (sym goes.0) (took_still before left0 left1 (prepend_known held left2) took goes.1))
-halts_after left0 left1 left2 held before lines halt.Memory took goes stalls = tt
-halts_after left0 left1 left2 held before lines (halt.Refused line cause) took goes stalls = (before, left1, goes, took)
+halts_after left0 left1 left2 held before lines halt.Memory took goes stalls most = tt
+halts_after left0 left1 left2 held before lines (halt.Refused line cause) took goes stalls most =
+    let one = goes.1 in (
+      (before, left1, goes.0, took),
+      (before + one.0, omega (arith, goes.0, one.1), omega (arith, goes.0, one.1), record { held = held; most = most; took = took_then before one.0 left0 left1 (prepend_known held left2) took one.2 }),
+    )

@@ -1,8 +1,9 @@
 -- An input whose first line doesn't come, or is too long.
-use Rattle.std.proofs.Common.{◌≡◌, ◌≤◌, ℕ, List, [], ◌++◌, refl, ap, subst, arith}
+use Rattle.std.proofs.Common.{◌≡◌, ◌≤◌, ℕ, List, [], ◌++◌, length, refl, ap, subst, arith}
 use Rattle.std.specs.Prelude.{false, Err, Some, None}
 use Rattle.std.specs.declared.option.Option.{Option}
 use Rattle.std.specs.Io.KnownBytes.{prepend_known}
+use Rattle.fsoe_io.specs.Line.{most_held}
 use Rattle.fsoe_io.specs.declared.status.Ended.{Ended}
 use Rattle.schedule_file.specs.Input.{InputFormat}
 use Rattle.file_run.specs.Ending.{Writes}
@@ -16,6 +17,7 @@ use Rattle.file_run.specs.Reporting.{Reporting, TakesMemory}
 use Rattle.file_run.specs.Stop.{halted_by, last_of}
 use Rattle.file_run.specs.declared.halt.Halt.{Halt}
 use Rattle.file_run.specs.declared.halt.Halt.TheVariants as halt
+use Rattle.file_run.proofs.Counted.{counted_halted}
 use Rattle.file_run.proofs.Exact.{ran_by}
 use Rattle.file_run.proofs.Found.{no_header_line}
 use Rattle.file_run.proofs.HeaderSeen.{header_halts, header_none}
@@ -34,18 +36,20 @@ pub record IsUnread (why : Halt) (held : List ℕ) (told left : Option (List ℕ
   pub finds : FindsLine (Err why) text told (prepend_known held left)
   pub goes : Goes {T = Unit {0}} (Err why) 0 lines told (prepend_known held left)
   pub stalls : Stalls {T = Unit {0}} (Err why) held
+  pub most : length held ≤ most_held
   pub blames : Blames {T = Unit {0}} (Err why) before now
   pub later : before ≤ now
 
 pub unread : (why : Halt) (first held text : List ℕ) (told left : Option (List ℕ)) (from lines before now : ℕ) → first ≡ [] → from ≡ 0 → FindsLine (Err why) text (prepend_known first told) (prepend_known held left)
-    → Goes {T = Unit {0}} (Err why) from lines (prepend_known first told) (prepend_known held left) → Stalls {T = Unit {0}} (Err why) held → Blames {T = Unit {0}} (Err why) before now → before ≤ now → IsUnread why held told left before now
-unread why first held text told left from lines before now none zero finds goes stalls blames later = record {
+    → Goes {T = Unit {0}} (Err why) from lines (prepend_known first told) (prepend_known held left) → Stalls {T = Unit {0}} (Err why) held → length held ≤ most_held → Blames {T = Unit {0}} (Err why) before now → before ≤ now → IsUnread why held told left before now
+unread why first held text told left from lines before now none zero finds goes stalls most blames later = record {
   text = text;
   lines = lines;
   finds = subst (λ (o : Option (List ℕ)). FindsLine (Err why) text o (prepend_known held left)) (nothing_held first told none) finds;
   goes = subst (λ (n : ℕ). Goes {T = Unit {0}} (Err why) n lines told (prepend_known held left)) zero
       (subst (λ (o : Option (List ℕ)). Goes {T = Unit {0}} (Err why) from lines o (prepend_known held left)) (nothing_held first told none) goes);
   stalls = stalls;
+  most = most;
   blames = blames;
   later = later;
 }
@@ -62,11 +66,11 @@ pub unread_ran : {H L E : Type 0} (r : Reporting H L E) (o : Outside) (held : Li
 unread_ran r o held why result has u writes later =
     ran_by r result o
     (header_halted r o held o.sink.faults_before (record { sent = 0; bytes = [] }) why result has (unread_halts r.format (TakesMemory r.memory) why u.text o.source.before (prepend_known held o.source.after) u.lines u.finds u.goes)
-    (halts_after o.source.before o.source.before o.source.after held 0 u.lines why (took_none o.source.before) u.goes u.stalls) u.stalls u.blames refl refl writes (omega arith))
-    u.later later
+    (halts_after o.source.before o.source.before o.source.after held 0 u.lines why (took_none o.source.before) u.goes u.stalls u.most) u.stalls u.blames refl refl writes (omega arith))
+    (counted_halted (Unit {0}) o o.sink.before o.source.faults_before o.sink.faults_before 0 [] why result u.blames u.later refl (λ some. absurd (omega (arith, some))) refl writes later)
 
 -- and no machine was begun
-pub unread_leaves : {H L E : Type 0} (f : InputFormat H L E) (wants : Type 0) (o : Outside) (held : List ℕ) (why : Halt) (result : Ended) → IsUnread why held o.source.before o.source.after o.source.faults_before o.source.faults_after
-    → Writes 0 (last_of why) (halted_by why) result o.sink → LeavesUnbegun f wants result o
-unread_leaves f wants o held why result u writes =
-    record { why = why; held = held; header = unread_halts f wants why u.text o.source.before (prepend_known held o.source.after) u.lines u.finds u.goes; writes = writes }
+pub unread_leaves : {H L E : Type 0} (r : Reporting H L E) (o : Outside) (held : List ℕ) (why : Halt) (result : Ended) → IsUnread why held o.source.before o.source.after o.source.faults_before o.source.faults_after
+    → Writes 0 (last_of why) (halted_by why) result o.sink → LeavesUnbegun r result o
+unread_leaves r o held why result u writes =
+    record { why = why; held = held; header = unread_halts r.format (TakesMemory r.memory) why u.text o.source.before (prepend_known held o.source.after) u.lines u.finds u.goes; writes = writes }

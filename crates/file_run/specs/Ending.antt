@@ -1,5 +1,5 @@
 -- Where an input goes no further, and how what is left is written.
-use Rattle.std.specs.Prelude.{◌≡◌, ℕ, ◌+◌, List, length, ◌⊎◌}
+use Rattle.std.specs.Prelude.{◌≡◌, ℕ, ◌+◌, ◌<◌, List, length, ◌⊎◌}
 use Rattle.std.specs.declared.option.Option.{Option}
 use Rattle.std.specs.declared.result.Result.{Result}
 use Rattle.std.specs.declared.result.Result.TheVariants.{Ok, Err}
@@ -11,7 +11,7 @@ use Rattle.fsoe_io.specs.declared.status.Ended.{Ended}
 use Rattle.fsoe_io.specs.declared.status.Status.TheVariants as status
 use Rattle.file_run.specs.Outside.{Told}
 use Rattle.file_run.specs.Reporting.{IsPrefix}
-use Rattle.file_run.specs.WholeLines.{TookLines}
+use Rattle.file_run.specs.WholeLines.{ReadsUpTo, TookLines}
 use Rattle.file_run.specs.declared.halt.Halt.{Halt}
 use Rattle.file_run.specs.declared.halt.Halt.TheVariants as halt
 
@@ -39,17 +39,18 @@ abbrev pub Halts : {T : Type 0} → Result T Halt → Option (List ℕ) → Opti
 Halts (Ok x) old left = Unit {0}
 Halts (Err (halt.Read lines)) old left = ReadLines lines old left
 Halts (Err halt.Memory) old left = Unit {0}
-Halts (Err (halt.Refused line cause)) old left = LinesBefore line old
+Halts (Err (halt.Refused line cause)) old left = LinesBefore line old × ReadsUpTo line old left
 
--- the sink failed after a first part of a text; the place is the bytes sent in all, with so many before it
+-- the sink failed before a text was whole, after this part of it; the place is the bytes sent in all, with so many before it
 pub record IsCutOff (sent : ℕ) (text : List ℕ) (result : Ended) (sink : Told) : Type 0 where
   pub part : List ℕ
   pub grew : Grew sink.before sink.after part
   pub begins : IsPrefix part text
+  pub less : length part < length text
   pub status_is : result.status ≡ status.Write
   pub place_is : result.place ≡ sent + length part
   pub cause : Rose sink.faults_before sink.faults_after
 
--- after so many bytes a whole text was written, and the run ended as it was to; or the sink failed in it
+-- after so many bytes a whole text was written with no fault, and the run ended as it was to; or the sink failed in it
 abbrev pub Writes : ℕ → List ℕ → Ended → Ended → Told → Type 0
-Writes sent text ended result sink = ((result ≡ ended) × Grew sink.before sink.after text) ⊎ IsCutOff sent text result sink
+Writes sent text ended result sink = ((result ≡ ended) × Grew sink.before sink.after text × (sink.faults_after ≡ sink.faults_before)) ⊎ IsCutOff sent text result sink

@@ -6,6 +6,7 @@ use Rattle.std.specs.declared.result.Result.TheVariants.{Ok, Err}
 use Rattle.std.specs.Io.KnownBytes.{Consumes}
 use Rattle.fsoe_io.specs.Faults.{Rose}
 use Rattle.fsoe_io.specs.Line.{HasNoNewline}
+use Rattle.file_run.specs.WholeLines.{TookOneAtMost}
 use Rattle.file_run.specs.declared.halt.Halt.{Halt}
 use Rattle.file_run.specs.declared.halt.Halt.TheVariants as halt
 
@@ -16,12 +17,13 @@ Declines (Err (halt.Read lines)) number = ⊥
 Declines (Err halt.Memory) number = Unit {0}
 Declines (Err (halt.Refused line cause)) number = line ≡ number
 
--- one line more was taken; a refused line is the one after those before; a failed read took nothing
+-- one line more was taken; a refused line is the one after those before, and was taken or nothing was; a failed read
+-- took nothing
 abbrev pub Goes : {T : Type 0} → Result T Halt → ℕ → ℕ → Option (List ℕ) → Option (List ℕ) → Type 0
 Goes (Ok says) before lines old new = lines ≡ before + 1
 Goes (Err (halt.Read count)) before lines old new = (count ≡ before) × Consumes old new []
 Goes (Err halt.Memory) before lines old new = Unit {0}
-Goes (Err (halt.Refused line cause)) before lines old new = line ≡ before + 1
+Goes (Err (halt.Refused line cause)) before lines old new = (line ≡ before + 1) × TookOneAtMost old new
 
 -- where a read failed, what is held is no whole line
 abbrev pub Stalls : {T : Type 0} → Result T Halt → List ℕ → Type 0

@@ -1,7 +1,8 @@
 -- What a run over an input leaves: which events were done, and what was written of them.
-use Rattle.std.specs.Prelude.{◌≡◌, ℕ, ◌+◌, List, [], ◌∷◌, ◌++◌, length, IfSome, ◌⊎◌}
+use Rattle.std.specs.Prelude.{◌≡◌, ℕ, ◌+◌, ◌≤◌, List, [], ◌∷◌, ◌++◌, length, IfSome, ◌⊎◌}
 use Rattle.std.specs.Io.KnownBytes.{prepend_known}
 use Rattle.std.specs.declared.option.Option.{Option}
+use Rattle.fsoe_io.specs.Output.{most_waiting}
 use Rattle.fsoe_io.specs.Sink.{Grew}
 use Rattle.fsoe_io.specs.declared.status.Ended.{Ended}
 use Rattle.fsoe_io.specs.declared.status.Status.{Status}
@@ -11,7 +12,7 @@ use Rattle.file_run.specs.Ending.{AppendedPart, Writes}
 use Rattle.file_run.specs.Header.{HaltsHeader}
 use Rattle.file_run.specs.Outside.{Outside}
 use Rattle.file_run.specs.Report.{refused_line}
-use Rattle.file_run.specs.Reporting.{input_stopped}
+use Rattle.file_run.specs.Reporting.{Reporting, ReportsSoFar, TakesMemory, input_stopped}
 use Rattle.file_run.specs.Stop.{halted_by, last_of}
 use Rattle.file_run.specs.declared.halt.Halt.{Halt}
 
@@ -73,39 +74,51 @@ MayFailIn f closes d whole told =
     ⊎ (((why : InputCause) × (whole ≡ d.text ++ refused_line (line_after d) why) × StopsAfter f d why told)
     ⊎ ((ended : Ended) × closes d.heading d.log whole ended × IsWhole f d told))
 
--- a write failed after so many bytes
-pub record LeavesUnwritten {H L E : Type 0} (f : InputFormat H L E) (closes : H → List E → List ℕ → Ended → Type 0) (d : Done H E) (bytes : ℕ) (o : Outside) : Type 0 where
+-- of these events one at most is ahead: the text of those before it is no longer than the bytes that were written and
+-- what may have waited then
+pub record IsOneAhead {H L E : Type 0} (r : Reporting H L E) (heading : H) (log : List E) (bytes : ℕ) : Type 0 where
+  pub before : List E
+  pub ahead : List E
+  pub are : log ≡ before ++ ahead
+  pub one : length ahead ≤ 1
+  pub text : List ℕ
+  pub reported : ReportsSoFar r heading before text
+  pub few : length text ≤ bytes + most_waiting
+
+-- a write failed after so many bytes, and no event was done after that
+pub record LeavesUnwritten {H L E : Type 0} (r : Reporting H L E) (closes : H → List E → List ℕ → Ended → Type 0) (d : Done H E) (bytes : ℕ) (o : Outside) : Type 0 where
   pub whole : List ℕ
-  pub within : MayFailIn f closes d whole o.source.before
+  pub within : MayFailIn r.format closes d whole o.source.before
   pub wrote : AppendedPart o.sink.before o.sink.after bytes whole
+  pub last : IsOneAhead r d.heading d.log bytes
 
 -- what was done and written, by how the run ended
-abbrev pub LeavesAs : {H L E : Type 0} → InputFormat H L E → (H → List E → List ℕ → Ended → Type 0) → Done H E → Status → Ended → Outside → Type 0
-LeavesAs f closes d status.Ok ended o = LeavesAll f closes d ended o
-LeavesAs f closes d status.Other ended o = LeavesAll f closes d ended o
-LeavesAs f closes d status.Line ended o = LeavesRefused f d ended.place o
-LeavesAs f closes d status.Read ended o = LeavesLines d ended.place o
-LeavesAs f closes d status.Write ended o = LeavesUnwritten f closes d ended.place o
-LeavesAs f closes d status.Memory ended o = Grew o.sink.before o.sink.after d.text
-LeavesAs f closes d status.Usage ended o = ⊥
-LeavesAs f closes d status.Config ended o = ⊥
-LeavesAs f closes d status.Desk ended o = ⊥
+abbrev pub LeavesAs : {H L E : Type 0} → Reporting H L E → (H → List E → List ℕ → Ended → Type 0) → Done H E → Status → Ended → Outside → Type 0
+LeavesAs r closes d status.Ok ended o = LeavesAll r.format closes d ended o
+LeavesAs r closes d status.Other ended o = LeavesAll r.format closes d ended o
+LeavesAs r closes d status.Line ended o = LeavesRefused r.format d ended.place o
+LeavesAs r closes d status.Read ended o = LeavesLines d ended.place o
+LeavesAs r closes d status.Write ended o = LeavesUnwritten r closes d ended.place o
+LeavesAs r closes d status.Memory ended o = Grew o.sink.before o.sink.after d.text
+LeavesAs r closes d status.Usage ended o = ⊥
+LeavesAs r closes d status.Config ended o = ⊥
+LeavesAs r closes d status.Desk ended o = ⊥
 
 -- a machine was begun: what it did stands at the end, as far as it came in the input
-pub record LeavesDone {H L E : Type 0} (f : InputFormat H L E) (stands : H → List E → List ℕ → Type 0) (closes : H → List E → List ℕ → Ended → Type 0) (ended : Ended) (o : Outside) : Type 0 where
+pub record LeavesDone {H L E : Type 0} (r : Reporting H L E) (stands : H → List E → List ℕ → Type 0) (closes : H → List E → List ℕ → Ended → Type 0) (ended : Ended) (o : Outside) : Type 0 where
   pub done : Done H E
   pub stood : stands done.heading done.log done.text
-  pub begun : IsBegun f done o.source.before
-  pub ends : LeavesAs f closes done ended.status ended o
+  pub begun : IsBegun r.format done o.source.before
+  pub ends : LeavesAs r closes done ended.status ended o
 
 -- no machine was begun: the header goes no further, or there was no memory where this may be, and no more was to be
 -- written than the line of its refusal
-pub record LeavesUnbegun {H L E : Type 0} (f : InputFormat H L E) (wants : Type 0) (ended : Ended) (o : Outside) : Type 0 where
+pub record LeavesUnbegun {H L E : Type 0} (r : Reporting H L E) (ended : Ended) (o : Outside) : Type 0 where
   pub why : Halt
   pub held : List ℕ
-  pub header : HaltsHeader f wants why o.source.before (prepend_known held o.source.after)
+  pub header : HaltsHeader r.format (TakesMemory r.memory) why o.source.before (prepend_known held o.source.after)
   pub writes : Writes 0 (last_of why) (halted_by why) ended o.sink
 
 -- a run began no machine, and left what was handed unchanged; or what its machine did stands
-abbrev pub Leaves : {H L E : Type 0} → Type 0 → Type 0 → InputFormat H L E → (H → List E → List ℕ → Type 0) → (H → List E → List ℕ → Ended → Type 0) → Ended → Outside → Type 0
-Leaves unchanged wants f stands closes ended o = (unchanged × LeavesUnbegun f wants ended o) ⊎ LeavesDone f stands closes ended o
+abbrev pub Leaves : {H L E : Type 0} → Type 0 → Reporting H L E → (H → List E → List ℕ → Type 0) → (H → List E → List ℕ → Ended → Type 0) → Ended → Outside → Type 0
+Leaves unchanged r stands closes ended o = (unchanged × LeavesUnbegun r ended o) ⊎ LeavesDone r stands closes ended o

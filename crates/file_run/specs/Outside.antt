@@ -1,7 +1,9 @@
 -- What the outside tells of a run.
-use Rattle.std.specs.Prelude.{ℕ, List, IfSome}
+use Rattle.std.specs.Prelude.{◌≡◌, ◌≢◌, ◌≤◌, ℕ, List, IfSome}
 use Rattle.std.specs.declared.option.Option.{Option}
 use Rattle.fsoe_io.specs.Sink.{Grew}
+use Rattle.fsoe_io.specs.declared.status.Status.{Status}
+use Rattle.fsoe_io.specs.declared.status.Status.TheVariants as status
 
 -- what a source or a sink tells before and after a run: its bytes, where it tells them, and how often it failed
 pub record Told : Type 0 where
@@ -18,3 +20,10 @@ pub record Outside : Type 0 where
 -- where both tell their bytes, the input and the text that was appended are related so
 abbrev pub Wrote : Outside → (List ℕ → List ℕ → Type 0) → Type 0
 Wrote o says = IfSome o.source.before (λ input. (text : List ℕ) × Grew o.sink.before o.sink.after text × says input text)
+
+-- no count of faults fell; that of the source stayed unless a read failed, and that of the sink unless a write failed
+pub record CountsFaults (s : Status) (o : Outside) : Type 0 where
+  pub source_later : o.source.faults_before ≤ o.source.faults_after
+  pub sink_later : o.sink.faults_before ≤ o.sink.faults_after
+  pub source_stayed : s ≢ status.Read → o.source.faults_after ≡ o.source.faults_before
+  pub sink_stayed : s ≢ status.Write → o.sink.faults_after ≡ o.sink.faults_before

@@ -1,5 +1,5 @@
 -- How a run over an input ended, and what it wrote.
-use Rattle.std.specs.Prelude.{◌≡◌, ℕ, ◌+◌, ◌≤◌, ◌<◌, Bool, IsTrue, List, [], ◌++◌, length, IfSome, Some}
+use Rattle.std.specs.Prelude.{◌≡◌, ℕ, ◌+◌, ◌<◌, Bool, IsTrue, List, [], ◌++◌, length, IfSome, Some}
 use Rattle.std.specs.declared.option.Option.{Option}
 use Rattle.std.specs.Io.KnownBytes.{Consumes, prepend_known}
 use Rattle.fsoe_io.specs.Faults.{Rose}
@@ -7,12 +7,13 @@ use Rattle.fsoe_io.specs.Line.{HasNoNewline}
 use Rattle.fsoe_io.specs.declared.status.Ended.{Ended}
 use Rattle.fsoe_io.specs.declared.status.Status.{Status}
 use Rattle.fsoe_io.specs.declared.status.Status.TheVariants as status
-use Rattle.schedule_file.specs.Input.{NoLine, Refused, input_read}
+use Rattle.schedule_file.specs.Input.{InputFormat, InputOf, NoLine, Refused, input_read}
 use Rattle.file_run.specs.Ending.{Appended, LinesBefore, ReadLines}
-use Rattle.file_run.specs.Outside.{Outside, Wrote}
+use Rattle.file_run.specs.Outside.{CountsFaults, Outside, Wrote}
 use Rattle.file_run.specs.Report.{refused_line}
 use Rattle.fsoe_io.specs.Sink.{Grew}
 use Rattle.file_run.specs.Reporting.{Reporting, MemoryUse, Never, BeforeEvents, Always, BeginsReport, refused_at}
+use Rattle.file_run.specs.WholeLines.{ReadsTo, ReadsUpTo}
 
 -- a run to the `end` of its input ends with status 0 and place 0, or, where the command looks for other entries, with
 -- status 1 and a place above 0; that the place is the number of the first other entry is the report's
@@ -27,14 +28,24 @@ EndsWhole judges status.Read place = ⊥
 EndsWhole judges status.Write place = ⊥
 EndsWhole judges status.Memory place = ⊥
 
--- the run came to the `end` of its input, and wrote its whole report
+-- the number of the line after the events of an input, which is `end` where it stops so
+abbrev pub line_of_end : {H E : Type 0} → InputOf H E → ℕ
+line_of_end input = input.lines + length input.events + 1
+
+-- the lines of an input up to `end` were taken, and what else was read a reader holds
+abbrev pub ReadsWhole : {H L E : Type 0} → InputFormat H L E → Option (List ℕ) → Option (List ℕ) → Type 0
+ReadsWhole f old left = (lines : ℕ) × IfSome old (λ input. lines ≡ line_of_end (input_read f input)) × ReadsTo lines old left
+
+-- the run came to the `end` of its input, read no further, and wrote its whole report
 pub record CameToEnd {H L E : Type 0} (r : Reporting H L E) (ended : Ended) (o : Outside) : Type 0 where
   pub ends : EndsWhole r.judges ended.status ended.place
+  pub read : ReadsWhole r.format o.source.before o.source.after
   pub wrote : Wrote o (λ input text. r.reports (input_read r.format input) ended text)
 
--- a line is refused, whose number is the place, and the whole report was written
+-- a line is refused, whose number is the place, no more was read, and the whole report was written
 pub record CameToRefused {H L E : Type 0} (r : Reporting H L E) (ended : Ended) (o : Outside) : Type 0 where
   pub number : LinesBefore ended.place o.source.before
+  pub read : ReadsUpTo ended.place o.source.before o.source.after
   pub wrote : Wrote o (λ input text. r.reports (input_read r.format input) ended text)
 
 -- a text is the report of so many whole lines that were taken, without its last line, which says that no line comes
@@ -85,10 +96,9 @@ EndsAs r status.Desk ended o = ⊥
 EndsAs r status.Memory ended o = HadNoMemory r ended o
 
 -- a command ran over an input: how it ended; where neither count of faults rose and memory wasn't wanted, as the input
--- says; and no count fell
+-- says; and what was counted
 pub record RanOver {H L E : Type 0} (r : Reporting H L E) (ended : Ended) (o : Outside) : Type 0 where
   pub ends : EndsAs r ended.status ended o
   pub stops : (Rose o.source.faults_before o.source.faults_after → ⊥) → (Rose o.sink.faults_before o.sink.faults_after → ⊥) → (ended.status ≡ status.Memory → ⊥)
       → IfSome o.source.before (λ input. (report : List ℕ) × r.reports (input_read r.format input) ended report)
-  pub source_later : o.source.faults_before ≤ o.source.faults_after
-  pub sink_later : o.sink.faults_before ≤ o.sink.faults_after
+  pub faults : CountsFaults ended.status o

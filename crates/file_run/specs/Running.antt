@@ -2,7 +2,8 @@
 use Rattle.std.specs.Prelude.{◌≡◌, ℕ, ◌+◌, ◌*◌, ◌≤◌, ◌<◌, Bool, false, List, ◌++◌, length, map, slice_get, Some, None, Result, Ok}
 use Rattle.std.specs.declared.option.Option.{Option}
 use Rattle.std.specs.Io.KnownBytes.{Consumes, prepend_known}
-use Rattle.fsoe_io.specs.Output.{OutputView}
+use Rattle.fsoe_io.specs.Line.{most_held}
+use Rattle.fsoe_io.specs.Output.{OutputView, most_waiting}
 use Rattle.fsoe_io.specs.Sink.{Grew}
 use Rattle.fsoe_io.specs.declared.status.Ended.{Ended}
 use Rattle.schedule_file.specs.Input.{InputCause, InputFormat, InputOf, lines_of, texts, steps, with_room, stop_at, input_read}
@@ -68,6 +69,7 @@ pub record Running {H L E : Type 0} (r : Reporting H L E) (stands : Standing H E
   pub seen : Seen r.format heading header left0 left log
   pub took : TookLines lines left0 left
   pub sent : Sent w0 w waiting text
+  pub most : length waiting.bytes ≤ most_waiting
   pub size : waiting.sent + length waiting.bytes ≤ (1024 + 1024 * most_parts) * events
   pub count : length log ≡ events
   pub few : events ≤ max_events
@@ -88,17 +90,17 @@ since s left source_faults written sink_faults = record {
   sink = record { before = s.written; after = written; faults_before = s.sink_faults; faults_after = sink_faults };
 }
 
--- a run goes on, with this held of its input, and no count of faults fell
+-- a run goes on, with this held of its input, and nothing failed
 pub record Runs {H L E : Type 0} (r : Reporting H L E) (stands : Standing H E) (says : Saying L) (o : Outside) (held : List ℕ) (waiting : OutputView) (events lines : ℕ) : Type 0 where
   pub running : Running r stands says o.source.before (prepend_known held o.source.after) o.sink.before o.sink.after waiting events lines
-  pub source_later : o.source.faults_before ≤ o.source.faults_after
-  pub sink_later : o.sink.faults_before ≤ o.sink.faults_after
+  pub source_stays : o.source.faults_after ≡ o.source.faults_before
+  pub sink_stays : o.sink.faults_after ≡ o.sink.faults_before
 
 -- whether there may be no event more is as the format says
 abbrev pub IsFullness : {H L E : Type 0} → Reporting H L E → Standing H E → ℕ → Bool → Type 0
 IsFullness {H} {L} {E} r stands events full = (h : H) (log : List E) (text : List ℕ) → length log ≡ events → stands h log text → full ≡ r.format.is_full h log
 
--- the next line was read, which has this event, or none
+-- the next line was read, which has this event, or none, and nothing failed
 pub record HasRead {H L E : Type 0} (r : Reporting H L E) (stands : Standing H E) (says : Saying L) (o : Outside) (held : List ℕ) (waiting : OutputView) (events lines : ℕ) (event : Option E) : Type 0 where
   pub full : Bool
   pub left : Option (List ℕ)
@@ -108,8 +110,9 @@ pub record HasRead {H L E : Type 0} (r : Reporting H L E) (stands : Standing H E
   pub fullness : IsFullness r stands events full
   pub few : full ≡ false → events < max_events
   pub next : lines ≡ count + 1
-  pub source_later : o.source.faults_before ≤ o.source.faults_after
-  pub sink_later : o.sink.faults_before ≤ o.sink.faults_after
+  pub most : length held ≤ most_held
+  pub source_stays : o.source.faults_after ≡ o.source.faults_before
+  pub sink_stays : o.sink.faults_after ≡ o.sink.faults_before
 
 -- a step goes on, or ends the run
 abbrev pub StepsTo : Option Ended → Type 0 → (Ended → Type 0) → Type 0

@@ -1,8 +1,8 @@
 -- The whole lines of an input.
-use Rattle.std.specs.Prelude.{◌≡◌, ℕ, List, [], ◌∷◌, ◌++◌, length, All}
+use Rattle.std.specs.Prelude.{◌≡◌, ℕ, ◌+◌, ◌≤◌, List, [], ◌∷◌, ◌++◌, length, All}
 use Rattle.std.specs.declared.option.Option.{Option}
-use Rattle.std.specs.Io.KnownBytes.{Consumes}
-use Rattle.fsoe_io.specs.Line.{IsLine}
+use Rattle.std.specs.Io.KnownBytes.{Consumes, prepend_known}
+use Rattle.fsoe_io.specs.Line.{IsLine, most_held}
 
 -- lines, each with its newline
 abbrev pub joined : List (List ℕ) → List ℕ
@@ -15,3 +15,17 @@ pub record TookLines (count : ℕ) (old new : Option (List ℕ)) : Type 0 where
   pub each : All IsLine lines
   pub counts : length lines ≡ count
   pub taken : Consumes old new (joined lines)
+
+-- a whole line was taken, or nothing
+abbrev pub TookOneAtMost : Option (List ℕ) → Option (List ℕ) → Type 0
+TookOneAtMost old new = (lines : ℕ) × (lines ≤ 1) × TookLines lines old new
+
+-- so many whole lines were taken from a source, and what else was read of it a reader holds
+pub record ReadsTo (lines : ℕ) (old left : Option (List ℕ)) : Type 0 where
+  pub held : List ℕ
+  pub most : length held ≤ most_held
+  pub took : TookLines lines old (prepend_known held left)
+
+-- of the lines after the one of this number nothing was read but what a reader holds
+abbrev pub ReadsUpTo : ℕ → Option (List ℕ) → Option (List ℕ) → Type 0
+ReadsUpTo line old left = (lines : ℕ) × (lines ≤ line) × (line ≤ lines + 1) × ReadsTo lines old left

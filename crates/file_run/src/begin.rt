@@ -1,7 +1,7 @@
 //! How a run begins.
 ghost use Rattle.std.specs.Io.KnownBytes.{prepend_known};
-ghost use Rattle.std.specs.Prelude.{◌≡◌, ◌≤◌, [], IfErr, IfOk, OnErr, OnOk};
-ghost use Rattle.fsoe_io.specs.Line.{IsLine};
+ghost use Rattle.std.specs.Prelude.{◌≡◌, ◌≤◌, [], IfErr, IfOk, OnErr, OnOk, length};
+ghost use Rattle.fsoe_io.specs.Line.{IsLine, most_held};
 ghost use Rattle.file_run.specs.Begun.{Begins};
 ghost use Rattle.file_run.specs.Ending.{Halts};
 ghost use Rattle.file_run.specs.Halt.{Blames, Stalls};
@@ -24,6 +24,7 @@ pub(crate) fn begin_over<M: Machine, S: Source>(
 ) -> Result<(M, <M::Format as Format>::Grammar), Halt>
     requires line { IsLine reader.old.line }
     requires lines { reader.old.lines ≡ 1 }
+    requires held { length reader.old.bytes ≤ most_held }
     ensures begins { IfOk result (λ begun. Begins (M.reporting handed.old) (M.stands handed.old begun.0 handed.new) (M.Format.says begun.1) reader.new.lines
         (from_line reader.old (S.left source.old))
         (prepend_known reader.new.bytes (S.left source.new))) }

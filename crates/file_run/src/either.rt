@@ -4,7 +4,6 @@ ghost use Rattle.file_run.specs.ByTitle.{ByTitle};
 ghost use Rattle.file_run.specs.Left.{Leaves};
 ghost use Rattle.file_run.specs.Outside.{Outside};
 ghost use Rattle.file_run.specs.Ran.{RanOver};
-ghost use Rattle.file_run.specs.Reporting.{TakesMemory};
 
 use crate::line::next_line;
 use crate::machine::Machine;
@@ -32,9 +31,9 @@ pub fn run_either<T: Machine, M: Machine, S: Source, K: Sink>(
     } in
         ByTitle title.now (S.left source.old)
         ((plain.new ≡ plain.old)
-        × Leaves (titled.new ≡ titled.old) (TakesMemory (T.reporting titled.old).memory) (T.reporting titled.old).format (λ h log text. (v : T) × T.stands titled.old v titled.new h log text) (T.closes titled.old titled.new) result outside)
+        × Leaves (titled.new ≡ titled.old) (T.reporting titled.old) (λ h log text. (v : T) × T.stands titled.old v titled.new h log text) (T.closes titled.old titled.new) result outside)
         ((titled.new ≡ titled.old)
-        × Leaves (plain.new ≡ plain.old) (TakesMemory (M.reporting plain.old).memory) (M.reporting plain.old).format (λ h log text. (v : M) × M.stands plain.old v plain.new h log text) (M.closes plain.old plain.new) result outside) }
+        × Leaves (plain.new ≡ plain.old) (M.reporting plain.old) (λ h log text. (v : M) × M.stands plain.old v plain.new h log text) (M.closes plain.old plain.new) result outside) }
 {
     T::laws();
     M::laws();

@@ -1,7 +1,7 @@
 //! The events of an input.
 ghost use Rattle.std.specs.Io.KnownBytes.{prepend_known};
 ghost use Rattle.std.specs.Prelude.{◌≡◌, ◌-◌, ◌^◌, ◌≤◌, ◌<◌, length};
-ghost use Rattle.fsoe_io.specs.Line.{IsLine};
+ghost use Rattle.fsoe_io.specs.Line.{IsLine, most_held};
 ghost use Rattle.schedule_file.specs.declared.line_buf.TheConstants.{MAX_LINE};
 ghost use Rattle.file_run.specs.Event.{FindsEvent, says_after, what_event};
 ghost use Rattle.file_run.specs.Halt.{Blames, Goes, Stalls};
@@ -51,6 +51,7 @@ pub(crate) fn next_event<F: Format, S: Source>(
         (prepend_known reader.old.bytes (S.left source.old))
         (prepend_known reader.new.bytes (S.left source.new)) }
     ensures stalls { Stalls result reader.new.bytes }
+    ensures most { length reader.new.bytes ≤ most_held }
     ensures unread { ¬ IsLine reader.old.bytes → source.new ≡ source.old }
     ensures later { S.faults source.old ≤ S.faults source.new }
     ensures cause { Blames result (S.faults source.old) (S.faults source.new) }

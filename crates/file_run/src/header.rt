@@ -1,7 +1,7 @@
 //! The header of an input.
-ghost use Rattle.std.specs.Prelude.{◌≡◌, ◌+◌, ◌++◌, ◌-◌, ◌^◌, ◌≤◌, ◌<◌, ◌∷◌, [], ℕ, List, Option, IfOk, IsTrue, OnOk};
+ghost use Rattle.std.specs.Prelude.{◌≡◌, ◌+◌, ◌++◌, ◌-◌, ◌^◌, ◌≤◌, ◌<◌, ◌∷◌, [], ℕ, List, Option, IfOk, IsTrue, OnOk, length};
 ghost use Rattle.std.specs.Io.KnownBytes.{Consumes, prepend_known};
-ghost use Rattle.fsoe_io.specs.Line.{IsLine};
+ghost use Rattle.fsoe_io.specs.Line.{IsLine, most_held};
 ghost use Rattle.file_run.specs.Ending.{Halts};
 ghost use Rattle.file_run.specs.Halt.{Blames, Declines, Goes, Stalls};
 ghost use Rattle.file_run.specs.Header.{FindsHeading, ReadsHeader, most_lines};
@@ -47,6 +47,7 @@ fn next_header_line<F: Format, S: Source>(
         (prepend_known reader.old.bytes (S.left source.old))
         (prepend_known reader.new.bytes (S.left source.new)) }
     ensures stalls { Stalls result reader.new.bytes }
+    ensures most { length reader.new.bytes ≤ most_held }
     ensures later { S.faults source.old ≤ S.faults source.new }
     ensures cause { Blames result (S.faults source.old) (S.faults source.new) }
 {
@@ -64,6 +65,7 @@ pub(crate) fn read_header<F: Format, S: Source>(
 ) -> Result<(), Halt>
     requires line { IsLine reader.old.line }
     requires lines { reader.old.lines ≡ 1 }
+    requires held { length reader.old.bytes ≤ most_held }
     requires few { F.lines_left header.old ≤ most_lines }
     requires start { header.old ≡ (F.format (F.kind header.old)).start }
     ensures took { OnOk result (TookLines reader.new.lines

@@ -1,7 +1,7 @@
 //! The next line of an input.
 ghost use Rattle.std.specs.Io.KnownBytes.{prepend_known};
-ghost use Rattle.std.specs.Prelude.{◌≡◌, ◌-◌, ◌^◌, ◌≤◌, ◌<◌};
-ghost use Rattle.fsoe_io.specs.Line.{IsLine};
+ghost use Rattle.std.specs.Prelude.{◌≡◌, ◌-◌, ◌^◌, ◌≤◌, ◌<◌, length};
+ghost use Rattle.fsoe_io.specs.Line.{IsLine, most_held};
 ghost use Rattle.file_run.specs.Halt.{Blames, Goes, Stalls};
 ghost use Rattle.file_run.specs.NextLine.{FindsLine};
 
@@ -20,6 +20,7 @@ pub fn next_line<S: Source>(reader: &mut LineReader, source: &mut S) -> Result<(
         (prepend_known reader.old.bytes (S.left source.old))
         (prepend_known reader.new.bytes (S.left source.new)) }
     ensures stalls { Stalls result reader.new.bytes }
+    ensures most { length reader.new.bytes ≤ most_held }
     ensures unread { ¬ IsLine reader.old.bytes → source.new ≡ source.old }
     ensures later { S.faults source.old ≤ S.faults source.new }
     ensures cause { Blames result (S.faults source.old) (S.faults source.new) }

@@ -1,7 +1,7 @@
 //! The text of an event, or of the end, in its parts.
 ghost use Rattle.std.specs.Prelude.{◌≡◌, ◌+◌, ◌*◌, ◌++◌, ◌^◌, ◌≤◌, ◌<◌, length, OnOk};
 ghost use Rattle.fsoe_io.specs.Faults.{HasCause};
-ghost use Rattle.fsoe_io.specs.Output.{Puts};
+ghost use Rattle.fsoe_io.specs.Output.{Puts, most_waiting};
 ghost use Rattle.file_run.specs.Ending.{Writes};
 ghost use Rattle.file_run.specs.Machine.{IsStanding, Keeps};
 
@@ -18,9 +18,11 @@ fn put_waiting<M: Machine, K: Sink>(
     sink: &mut K,
 ) -> Result<(), Failed>
     requires stands { (first : M.Handed) × IsStanding (M.stands first machine.old handed.now) }
+    requires most { length output.old.bytes ≤ most_waiting }
     requires room { output.old.sent + length output.old.bytes + 1024 * M.parts machine.old handed.now < 2 ^ 63 }
     ensures puts { Puts result output.old output.new (K.written sink.old) (K.written sink.new) (M.waits machine.old handed.now) }
     ensures count { OnOk result (output.new.sent + length output.new.bytes ≤ output.old.sent + length output.old.bytes + 1024 * M.parts machine.old handed.now) }
+    ensures most { OnOk result (length output.new.bytes ≤ most_waiting) }
     ensures kept { (first : M.Handed) → Keeps (M.stands first machine.old handed.now) (M.stands first machine.new handed.now) }
     ensures cause { HasCause (K.faults sink.old) (K.faults sink.new) result }
 {
@@ -48,6 +50,7 @@ pub(crate) fn put_text<M: Machine, K: Sink>(
     requires room { output.old.sent + length output.old.bytes + 1024 * M.parts machine.old handed.now < 2 ^ 62 }
     ensures puts { Puts result output.old output.new (K.written sink.old) (K.written sink.new) (text.old ++ M.waits machine.old handed.now) }
     ensures count { OnOk result (output.new.sent + length output.new.bytes ≤ output.old.sent + length output.old.bytes + 1024 + 1024 * M.parts machine.old handed.now) }
+    ensures most { OnOk result (length output.new.bytes ≤ most_waiting) }
     ensures kept { (first : M.Handed) → Keeps (M.stands first machine.old handed.now) (M.stands first machine.new handed.now) }
     ensures cause { HasCause (K.faults sink.old) (K.faults sink.new) result }
 {

@@ -1,12 +1,11 @@
 //! The run of a command over its input.
-ghost use Rattle.std.specs.Prelude.{◌≡◌, ◌+◌, ◌≤◌, ℕ, List, Option};
-ghost use Rattle.fsoe_io.specs.Line.{IsLine};
+ghost use Rattle.std.specs.Prelude.{◌≡◌, ◌+◌, ◌≤◌, ℕ, List, Option, length};
+ghost use Rattle.fsoe_io.specs.Line.{IsLine, most_held};
 ghost use Rattle.file_run.specs.Ending.{Writes};
 ghost use Rattle.file_run.specs.Left.{Leaves, LeavesDone};
 ghost use Rattle.file_run.specs.NextLine.{from_line};
 ghost use Rattle.file_run.specs.Outside.{Outside};
 ghost use Rattle.file_run.specs.Ran.{RanOver};
-ghost use Rattle.file_run.specs.Reporting.{TakesMemory};
 ghost use Rattle.file_run.specs.Running.{HasRead, Runs, Start, StepsTo, since};
 ghost use Rattle.file_run.specs.Stop.{halted_by, last_of};
 
@@ -58,7 +57,7 @@ fn read_line<M: Machine, S: Source, K: Sink>(
         → let outside : Outside = since s (S.left source.new) (S.faults source.new) (K.written sink.new) (K.faults sink.new) in
         StepsTo result
         (HasRead (M.reporting first) (M.stands first run.new.machine handed.now) (M.Format.says run.new.grammar) outside reader.new.bytes run.new.output events reader.new.lines ((M.reporting first).format.event run.new.said))
-        (λ ended. RanOver (M.reporting first) ended outside × LeavesDone (M.reporting first).format (λ h log text. (v : M) × M.stands first v handed.now h log text) (M.closes first handed.now) ended outside) }
+        (λ ended. RanOver (M.reporting first) ended outside × LeavesDone (M.reporting first) (λ h log text. (v : M) × M.stands first v handed.now h log text) (M.closes first handed.now) ended outside) }
 {
     M::laws();
     if let Err(_) = send_before_read(reader, &mut run.output, sink) {
@@ -91,7 +90,7 @@ fn take_line<M: Machine, K: Sink>(
         → let outside : Outside = since s left faults (K.written sink.new) (K.faults sink.new) in
         StepsTo result
         (Runs (M.reporting first) (M.stands first run.new.machine handed.new) (M.Format.says run.new.grammar) outside reader.now.bytes run.new.output (events + 1) reader.now.lines)
-        (λ ended. RanOver (M.reporting first) ended outside × LeavesDone (M.reporting first).format (λ h log text. (v : M) × M.stands first v handed.new h log text) (M.closes first handed.new) ended outside) }
+        (λ ended. RanOver (M.reporting first) ended outside × LeavesDone (M.reporting first) (λ h log text. (v : M) × M.stands first v handed.new h log text) (M.closes first handed.new) ended outside) }
 {
     M::laws();
     let Some(event) = M::Format::event(&run.said) else {
@@ -129,12 +128,13 @@ pub(crate) fn run_on<M: Machine, S: Source, K: Sink>(
 ) -> Ended
     requires line { IsLine reader.old.line }
     requires lines { reader.old.lines ≡ 1 }
+    requires held { length reader.old.bytes ≤ most_held }
     ensures { let outside : Outside = record {
       source = record { before = from_line reader.old (S.left source.old); after = S.left source.new; faults_before = S.faults source.old; faults_after = S.faults source.new };
       sink = record { before = K.written sink.old; after = K.written sink.new; faults_before = K.faults sink.old; faults_after = K.faults sink.new };
     } in
         RanOver (M.reporting handed.old) result outside
-        × Leaves (handed.new ≡ handed.old) (TakesMemory (M.reporting handed.old).memory) (M.reporting handed.old).format (λ h log text. (v : M) × M.stands handed.old v handed.new h log text) (M.closes handed.old handed.new) result outside }
+        × Leaves (handed.new ≡ handed.old) (M.reporting handed.old) (λ h log text. (v : M) × M.stands handed.old v handed.new h log text) (M.closes handed.old handed.new) result outside }
 {
     M::laws();
     let (machine, grammar) = match begin_over::<M, S>(handed, reader, source) {
@@ -177,7 +177,7 @@ pub fn run_over<M: Machine, S: Source, K: Sink>(
       source = record { before = S.left source.old; after = S.left source.new; faults_before = S.faults source.old; faults_after = S.faults source.new };
       sink = record { before = K.written sink.old; after = K.written sink.new; faults_before = K.faults sink.old; faults_after = K.faults sink.new };
     }) }
-    ensures leaves { Leaves (handed.new ≡ handed.old) (TakesMemory (M.reporting handed.old).memory) (M.reporting handed.old).format (λ h log text. (v : M) × M.stands handed.old v handed.new h log text) (M.closes handed.old handed.new) result (record {
+    ensures leaves { Leaves (handed.new ≡ handed.old) (M.reporting handed.old) (λ h log text. (v : M) × M.stands handed.old v handed.new h log text) (M.closes handed.old handed.new) result (record {
       source = record { before = S.left source.old; after = S.left source.new; faults_before = S.faults source.old; faults_after = S.faults source.new };
       sink = record { before = K.written sink.old; after = K.written sink.new; faults_before = K.faults sink.old; faults_after = K.faults sink.new };
     }) }

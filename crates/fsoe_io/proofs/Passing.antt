@@ -2,7 +2,7 @@
 use Rattle.std.proofs.Common.{◌≡◌, ℕ, ◌+◌, ◌≤◌, ◌<◌, List, [], ◌++◌, length, take, drop, arith, ap, sym, ◌∙◌, append_assoc}
 use Rattle.std.specs.Prelude.{None, Some, Result, Ok, Err}
 use Rattle.std.specs.declared.option.Option.{Option}
-use Rattle.std.proofs.lemmas.List.{append-nil, take-append-drop, length-take-le, length-append}
+use Rattle.std.proofs.lemmas.List.{append-nil, take-append-drop, length-take-le, length-append, length-drop}
 use Rattle.fsoe_io.specs.Sink.{Grew}
 use Rattle.fsoe_io.proofs.Grown.{grew_then}
 use Rattle.fsoe_io.specs.Output.{OutputView, Passes, Puts}
@@ -13,10 +13,11 @@ grew_none (Some xs) = sym (append-nil xs)
 
 -- a flush that failed sent a part
 pub passes_part : (old new : OutputView) (before now : Option (List ℕ)) (done : ℕ) → done < length old.bytes → new.sent ≡ old.sent + done → Grew before now (take done old.bytes)
-    → (rest : List ℕ) × Passes old new before now [] rest
+    → (rest : List ℕ) × (0 < length rest) × Passes old new before now [] rest
 passes_part old new before now done lt count grew =
     let le : done ≤ length old.bytes = omega arith in (
       drop done old.bytes,
+      omega (arith, lt, length-drop done old.bytes),
       record {
         part = take done old.bytes;
         grew = grew;
@@ -59,4 +60,4 @@ passes_then old mid new before between now piece rest p q = record {
 pub puts_then : {T E : Type 0} (r : Result T E) (old mid new : OutputView) (before between now : Option (List ℕ)) (piece : List ℕ) → Passes old mid before between piece mid.bytes
     → Puts r mid new between now [] → Puts r old new before now piece
 puts_then (Ok x) old mid new before between now piece p q = passes_then old mid new before between now piece new.bytes p q
-puts_then (Err e) old mid new before between now piece p q = (q.0, passes_then old mid new before between now piece q.0 p q.1)
+puts_then (Err e) old mid new before between now piece p q = (q.0, q.1, passes_then old mid new before between now piece q.0 p q.2)

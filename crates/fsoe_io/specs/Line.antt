@@ -18,6 +18,10 @@ pub record Numbered : Type 0 where
   pub number : ℕ
   pub bytes : List ℕ
 
+-- the most bytes that a reader holds
+abbrev pub most_held : ℕ
+most_held = 4096
+
 -- the bytes that were taken from a source and stand in no line yet, how many lines were given, and the last of these,
 -- until the next one is asked for
 pub record Held : Type 0 where

@@ -18,12 +18,13 @@ IsTooLong input = (641 ≤ length input) × HasNoNewline (take 641 input)
 abbrev pub IsUnended : List ℕ → Type 0
 IsUnended input = (0 < length input) × (length input ≤ 640) × HasNoNewline input
 
--- the answer of a reader of lines, where old was to come, where that is known, and new is to come now
+-- the answer of a reader of lines, where old was to come, where that is known, and new is to come now: a line is taken,
+-- or nothing
 abbrev pub Reads : Result (Option Numbered) LineFault → Option (List ℕ) → Option (List ℕ) → Type 0
 Reads (Ok (Some line)) old new = IsLine line.bytes × Consumes old new (line.bytes ++ 10 ∷ [])
-Reads (Ok None) old new = IsAtEnd old
-Reads (Err Long) old new = IfSome old IsTooLong
-Reads (Err NoNewline) old new = IfSome old IsUnended
+Reads (Ok None) old new = IsAtEnd old × Consumes old new []
+Reads (Err Long) old new = IfSome old IsTooLong × Consumes old new []
+Reads (Err NoNewline) old new = IfSome old IsUnended × Consumes old new []
 Reads (Err Read) old new = Consumes old new []
 
 -- the answer of a reader that writes the next line over one that it is handed

@@ -1,7 +1,11 @@
 -- A buffer in front of a sink.
-use Rattle.std.specs.Prelude.{◌≡◌, ℕ, ◌+◌, List, ◌++◌, length, Result, Ok, Err}
+use Rattle.std.specs.Prelude.{◌≡◌, ℕ, ◌+◌, ◌<◌, List, ◌++◌, length, Result, Ok, Err}
 use Rattle.std.specs.declared.option.Option.{Option}
 use Rattle.fsoe_io.specs.Sink.{Grew}
+
+-- the most bytes that wait
+abbrev pub most_waiting : ℕ
+most_waiting = 4096
 
 -- the bytes that wait, and how many went to the sink before
 pub record OutputView : Type 0 where
@@ -15,7 +19,7 @@ pub record Passes (old new : OutputView) (before now : Option (List ℕ)) (piece
   pub whole : old.bytes ++ piece ≡ part ++ rest
   pub sent : new.sent ≡ old.sent + length part
 
--- the rest is what waits now; where the sink failed, it is lost
+-- the rest is what waits now; where the sink failed, it has a byte and is lost
 abbrev pub Puts : {T E : Type 0} → Result T E → OutputView → OutputView → Option (List ℕ) → Option (List ℕ) → List ℕ → Type 0
 Puts (Ok x) old new before now piece = Passes old new before now piece new.bytes
-Puts (Err e) old new before now piece = (rest : List ℕ) × Passes old new before now piece rest
+Puts (Err e) old new before now piece = (rest : List ℕ) × (0 < length rest) × Passes old new before now piece rest

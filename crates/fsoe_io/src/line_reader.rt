@@ -2,7 +2,7 @@
 ghost use Rattle.std.specs.Prelude.{◌≡◌, ◌+◌, ◌-◌, ◌^◌, ◌≤◌, ◌<◌, false, [], length, take, drop, IsTrue, IfSome, Some};
 ghost use Rattle.std.specs.Io.KnownBytes.{prepend_known};
 ghost use Rattle.fsoe_io.specs.Faults.{HasCause};
-ghost use Rattle.fsoe_io.specs.Line.{IsLine};
+ghost use Rattle.fsoe_io.specs.Line.{IsLine, most_held};
 ghost use Rattle.fsoe_io.specs.LineReader.{Reads, given, last_line, BeginsAs, Fills, Counts, Blames, Stalls};
 
 use crate::line::{Line, LineFault};
@@ -102,7 +102,8 @@ impl LineReader {
     }
 
     fn front(&self) -> Front
-        ensures { BeginsAs result self.now.bytes }
+        ensures begins { BeginsAs result self.now.bytes }
+        ensures most { length self.now.bytes ≤ most_held }
     {
         self.front
     }
@@ -140,6 +141,7 @@ impl LineReader {
         requires { length self.old.bytes ≤ 640 }
         ensures lines { self.new.lines ≡ self.old.lines }
         ensures bytes { Fills result self.old.bytes self.new.bytes (S.left source.old) (S.left source.new) }
+        ensures most { length self.new.bytes ≤ most_held }
         ensures cause { HasCause (S.faults source.old) (S.faults source.new) result }
     {
         let held = self.end - self.start;
@@ -161,6 +163,7 @@ impl LineReader {
             (prepend_known self.new.bytes (S.left source.new)) }
         ensures lines { Counts (given result (last_line self.new)) self.old.lines self.new.lines }
         ensures stalls { Stalls (given result (last_line self.new)) self.new.bytes }
+        ensures most { length self.new.bytes ≤ most_held }
         // The source is read only if more bytes must come.
         ensures unread { ¬ IsLine self.old.bytes → source.new ≡ source.old }
         ensures later { S.faults source.old ≤ S.faults source.new }

@@ -1,7 +1,7 @@
 //! A buffer in front of a sink.
 ghost use Rattle.std.specs.Prelude.{◌≡◌, ◌+◌, ◌^◌, ◌≤◌, ◌<◌, [], ◌++◌, length, OnOk};
 ghost use Rattle.fsoe_io.specs.Faults.{HasCause};
-ghost use Rattle.fsoe_io.specs.Output.{Puts};
+ghost use Rattle.fsoe_io.specs.Output.{Puts, most_waiting};
 
 use crate::put::put_all;
 use crate::sink::Sink;
@@ -83,6 +83,7 @@ impl Output {
         requires count { self.old.sent + length self.old.bytes < 2 ^ 63 }
         ensures puts { Puts result self.old self.new (K.written sink.old) (K.written sink.new) piece.now }
         ensures count { OnOk result (self.new.sent + length self.new.bytes ≡ self.old.sent + length self.old.bytes + length piece.now) }
+        ensures most { OnOk result (length self.new.bytes ≤ most_waiting) }
         ensures cause { HasCause (K.faults sink.old) (K.faults sink.new) result }
     {
         if piece.len() > 4096 - self.len {

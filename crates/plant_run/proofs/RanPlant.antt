@@ -12,10 +12,10 @@ use Rattle.exchange_model.specs.Fair.{Fair}
 use Rattle.plant_conf.specs.ConfView.{HasSameLengths}
 use Rattle.plant_conf.specs.declared.conf.LinkConf.{LinkConf}
 use Rattle.reaction_bound.specs.Reaction.{ReactionView}
-use Rattle.schedule_file.specs.Input.{InputFormat}
 use Rattle.file_run.specs.Left.{Done, Leaves, LeavesAs, MayFailIn}
 use Rattle.file_run.specs.Outside.{Outside}
 use Rattle.file_run.specs.Ran.{RanOver}
+use Rattle.file_run.specs.Reporting.{Reporting}
 use Rattle.plant_model.specs.Acts.{journal, uses}
 use Rattle.plant_model.specs.FairPairs.{PairsAreFair}
 use Rattle.plant_model.specs.Pair.{link_at}
@@ -50,12 +50,12 @@ may_fail t one two f d whole told may =
     ]
 
 -- what a run leaves by one closing it leaves by the other
-leaves_as : (t : Terms) (one two : Closing) → Closer one two → (d : Done ScriptHeading PlantLine) (s : Status) (ended : Ended) (o : Outside) → LeavesAs (plant_reporting t).format one d s ended o → LeavesAs (plant_reporting t).format two d s ended o
+leaves_as : (t : Terms) (one two : Closing) → Closer one two → (d : Done ScriptHeading PlantLine) (s : Status) (ended : Ended) (o : Outside) → LeavesAs (plant_reporting t) one d s ended o → LeavesAs (plant_reporting t) two d s ended o
 leaves_as t one two f d status.Ok ended o l = record { input = l.input; report = l.report; closed = f d.heading d.log l.report ended l.closed; wrote = l.wrote }
 leaves_as t one two f d status.Other ended o l = record { input = l.input; report = l.report; closed = f d.heading d.log l.report ended l.closed; wrote = l.wrote }
 leaves_as t one two f d status.Line ended o l = l
 leaves_as t one two f d status.Read ended o l = l
-leaves_as t one two f d status.Write ended o l = record { whole = l.whole; within = may_fail t one two f d l.whole o.source.before l.within; wrote = l.wrote }
+leaves_as t one two f d status.Write ended o l = record { whole = l.whole; within = may_fail t one two f d l.whole o.source.before l.within; wrote = l.wrote; last = l.last }
 leaves_as t one two f d status.Memory ended o l = l
 leaves_as t one two f d status.Usage ended o l = l
 leaves_as t one two f d status.Config ended o l = l
@@ -84,7 +84,7 @@ none_is_fair : (links : List LinkConf) → PairsAreFair links []
 none_is_fair links = λ k. fair_if_none (link_at links k)
 
 pub ran_plant : (t : Terms) (ended : Ended) (o : Outside) (before after : Told) (steps : List JournalStep) (reactions : List ReactionView) (unbegun : Type 0) (stands : ScriptHeading → List PlantLine → List ℕ → Type 0) (closes : Closing) → RanOver (plant_reporting t) ended o
-    → Leaves unbegun (Unit {0}) (plant_reporting t).format stands closes ended o → (unbegun → (after ≡ before) × (steps ≡ [])) → ((h : ScriptHeading) (log : List PlantLine) (text : List ℕ) → stands h log text → Stood t h log text before after steps reactions)
+    → Leaves unbegun (plant_reporting t) stands closes ended o → (unbegun → (after ≡ before) × (steps ≡ [])) → ((h : ScriptHeading) (log : List PlantLine) (text : List ℕ) → stands h log text → Stood t h log text before after steps reactions)
     → ((turns : List Turn) → steps ≡ journal t.begins (acts turns) → reactions ≡ reactions_after t.begins turns t.bounds → Closer closes (IsReportOf t turns steps)) → RanPlant t ended o before after steps
 ran_plant t ended o before after steps reactions unbegun stands closes ran leaves nothing stood closed =
     elim leaves [
@@ -118,9 +118,9 @@ ran_plant t ended o before after steps reactions unbegun stands closes ran leave
     ]
 
 -- what holds by either way in which a run leaves what was handed
-pub left_so : {P H L E : Type 0} (f : InputFormat H L E) (ended : Ended) (o : Outside) (unbegun wants : Type 0) (stands : H → List E → List ℕ → Type 0) (closes : H → List E → List ℕ → Ended → Type 0) → Leaves unbegun wants f stands closes ended o → (unbegun → P)
+pub left_so : {P H L E : Type 0} (r : Reporting H L E) (ended : Ended) (o : Outside) (unbegun : Type 0) (stands : H → List E → List ℕ → Type 0) (closes : H → List E → List ℕ → Ended → Type 0) → Leaves unbegun r stands closes ended o → (unbegun → P)
     → ((h : H) (log : List E) (text : List ℕ) → stands h log text → P) → P
-left_so f ended o unbegun wants stands closes leaves none some =
+left_so r ended o unbegun stands closes leaves none some =
     elim leaves [
       | inl left ↦ none left.0
       | inr did ↦ some did.done.heading did.done.log did.done.text did.stood

@@ -41,13 +41,13 @@ pub record DidTurns (t : Terms) (turns : List Turn) (steps : List JournalStep) (
   pub broken : BrokenByOther t.begins turns
   pub text_is : done.text ≡ ticks_text t.begins.links steps
   pub begun : IsBegun (plant_reporting t).format done o.source.before
-  pub ends : LeavesAs (plant_reporting t).format (IsReportOf t turns steps) done ended.status ended o
+  pub ends : LeavesAs (plant_reporting t) (IsReportOf t turns steps) done ended.status ended o
 
 -- no plant began: the script's first line didn't come or is refused, or there was no memory to begin with. No more was
 -- to be written than the line of that refusal
 pub record DidNothing (t : Terms) (steps : List JournalStep) (ended : Ended) (o : Outside) : Type 0 where
   pub journal_is : steps ≡ []
-  pub left : LeavesUnbegun (plant_reporting t).format (Unit {0}) ended o
+  pub left : LeavesUnbegun (plant_reporting t) ended o
 
 -- what was done: nothing, or the start and these turns
 abbrev pub WasDone : Terms → Option (List Turn) → List JournalStep → Ended → Outside → Type 0

@@ -39,9 +39,9 @@ read-lines lines input left text k = record {
 }
 
 ends-as : (s : Status) (ended : Ended) (o : Outside) → EndsAs judge_reporting s ended o → EndsAs diagnose_reporting s ended o
-ends-as status.Ok ended o k = record { ends = k.ends; wrote = wrote o _ _ (λ input. reported input ended) k.wrote }
-ends-as status.Other ended o k = record { ends = k.ends; wrote = wrote o _ _ (λ input. reported input ended) k.wrote }
-ends-as status.Line ended o k = record { number = k.number; wrote = wrote o _ _ (λ input. reported input ended) k.wrote }
+ends-as status.Ok ended o k = record { ends = k.ends; read = k.read; wrote = wrote o _ _ (λ input. reported input ended) k.wrote }
+ends-as status.Other ended o k = record { ends = k.ends; read = k.read; wrote = wrote o _ _ (λ input. reported input ended) k.wrote }
+ends-as status.Line ended o k = record { number = k.number; read = k.read; wrote = wrote o _ _ (λ input. reported input ended) k.wrote }
 ends-as status.Read ended o k = record { read = k.read; wrote = wrote o _ _ (λ input. read-lines ended.place input o.source.after) k.wrote; cause = k.cause }
 ends-as status.Write ended o k = record { appended = k.appended; wrote = wrote o _ _ (λ input text w. (w.0, begun input text w.1)) k.wrote; cause = k.cause }
 ends-as status.Memory ended o k = record { place_is = k.place_is; takes = k.takes; wrote = wrote o _ _ begun k.wrote }
@@ -53,6 +53,5 @@ pub ran : (ended : Ended) (o : Outside) → RanOver judge_reporting ended o → 
 ran ended o k = record {
   ends = ends-as ended.status ended o k.ends;
   stops = λ read written memory. if-some o.source.before _ _ (λ input r. (r.0, reported input ended r.0 r.1)) (k.stops read written memory);
-  source_later = k.source_later;
-  sink_later = k.sink_later;
+  faults = k.faults;
 }

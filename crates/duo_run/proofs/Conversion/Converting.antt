@@ -7,7 +7,7 @@ use Rattle.std.proofs.lemmas.List.{append-nil}
 use Rattle.std.proofs.lemmas.Option.{IfSome_then}
 use Rattle.fsoe_io.specs.Faults.{Rose}
 use Rattle.fsoe_io.proofs.Taken.{consumes_then}
-use Rattle.fsoe_io.specs.Line.{HasNoNewline, IsLine}
+use Rattle.fsoe_io.specs.Line.{HasNoNewline, IsLine, most_held}
 use Rattle.fsoe_io.specs.Output.{OutputView, Passes}
 use Rattle.fsoe_io.specs.Sink.{Grew}
 use Rattle.fsoe_io.specs.declared.status.Ended.{Ended}
@@ -27,7 +27,7 @@ use Rattle.schedule_file.specs.declared.header_kind.HeaderKind.TheVariants as ki
 use Rattle.file_run.specs.Ending.{AppendedPart, Writes}
 use Rattle.file_run.specs.Halt.{Blames, Goes, Stalls}
 use Rattle.file_run.specs.NextLine.{FindsLine, first_line}
-use Rattle.file_run.specs.Outside.{Outside, Wrote}
+use Rattle.file_run.specs.Outside.{CountsFaults, Outside, Wrote}
 use Rattle.file_run.specs.Refusal.{input_cause}
 use Rattle.file_run.specs.Report.{refused_line}
 use Rattle.file_run.specs.Reporting.{IsPrefix, refused_at}
@@ -257,25 +257,26 @@ read_told (Some xs) left after held text r lines count k same goes none =
 
 -- the input goes no further
 pub ends_halted : (o : Outside) (b w1 : Option (List ℕ)) (held : List ℕ) (source faults : ℕ) (waiting : OutputView) (r next : PairRead) (lines after : ℕ) (text : List ℕ) (why : Halt) (result : Ended) → Converting o.source.before b o.sink.before w1 waiting r lines
-    → FindsTaken (lines + 1) r (Err why) next text b (prepend_known held o.source.after) → Goes {T = Bool} (Err why) lines after b (prepend_known held o.source.after) → Stalls {T = Bool} (Err why) held → Blames {T = Bool} (Err why) source o.source.faults_after
+    → FindsTaken (lines + 1) r (Err why) next text b (prepend_known held o.source.after) → Goes {T = Bool} (Err why) lines after b (prepend_known held o.source.after) → Stalls {T = Bool} (Err why) held → length held ≤ most_held → Blames {T = Bool} (Err why) source o.source.faults_after
     → o.source.faults_before ≤ source → Writes waiting.sent (waiting.bytes ++ last_of why) (halted_by why) result (record { before = w1; after = o.sink.after; faults_before = faults; faults_after = o.sink.faults_after }) → o.sink.faults_before ≤ faults
     → ConvertedAs result.status result o
-ends_halted o b w1 held source faults waiting r next lines after text (halt.Read count) result k finds goes stalls blames earlier writes later =
+ends_halted o b w1 held source faults waiting r next lines after text (halt.Read count) result k finds goes stalls most blames earlier writes later =
     let begun = begins o.source.before b k.text r (lines + 1) k.tells in
     ends_written o w1 faults waiting k.text [] (halted_by (halt.Read count)) result k.sent writes later (subst (Begins o.source.before) (sym (append-nil k.text)) begun)
     (λ grew.
     record {
-      read = halts_after o.source.before b o.source.after held lines after (halt.Read count) k.took goes stalls;
+      read = halts_after o.source.before b o.source.after held lines after (halt.Read count) k.took goes stalls most;
       wrote = IfSome_then o.source.before (read_told o.source.before b o.source.after held k.text r lines count k.tells goes.0 goes.1 stalls)
           (λ input is. (k.text, subst (Grew o.sink.before o.sink.after) (append-nil k.text) grew, is));
       cause = rose_since o.source.faults_before source o.source.faults_after earlier blames;
     })
-ends_halted o b w1 held source faults waiting r next lines after text halt.Memory result k finds goes stalls blames earlier writes later = absurd finds
-ends_halted o b w1 held source faults waiting r next lines after text (halt.Refused number why) result k finds goes stalls blames earlier writes later =
-    let all = subst (λ (n : ℕ). IsAll o.source.before (k.text ++ refused_line n (input_cause why)) (refused_at n)) (sym goes) (all_refused o.source.before b k.text r (lines + 1) (input_cause why) k.tells finds) in
+ends_halted o b w1 held source faults waiting r next lines after text halt.Memory result k finds goes stalls most blames earlier writes later = absurd finds
+ends_halted o b w1 held source faults waiting r next lines after text (halt.Refused number why) result k finds goes stalls most blames earlier writes later =
+    let all = subst (λ (n : ℕ). IsAll o.source.before (k.text ++ refused_line n (input_cause why)) (refused_at n)) (sym goes.0) (all_refused o.source.before b k.text r (lines + 1) (input_cause why) k.tells finds) in
+    let halts = halts_after o.source.before b o.source.after held lines after (halt.Refused number why) k.took goes stalls most in
     ends_written o w1 faults waiting k.text (refused_line number (input_cause why)) (refused_at number) result k.sent writes later
     (all_begins o.source.before (k.text ++ refused_line number (input_cause why)) (refused_at number) all)
-    (λ grew. record { number = (lines, b, goes, k.took); wrote = all_wrote o (k.text ++ refused_line number (input_cause why)) (refused_at number) all grew })
+    (λ grew. record { number = halts.0; read = halts.1; wrote = all_wrote o (k.text ++ refused_line number (input_cause why)) (refused_at number) all grew })
 
 -- where neither a read nor a write failed, the run ends as the input stops
 stops_so : (s : Status) (ended : Ended) (o : Outside) → ConvertedAs s ended o → (Rose o.source.faults_before o.source.faults_after → ⊥) → (Rose o.sink.faults_before o.sink.faults_after → ⊥)
@@ -290,8 +291,8 @@ stops_so status.Config ended o ends read write = absurd ends
 stops_so status.Desk ended o ends read write = absurd ends
 stops_so status.Memory ended o ends read write = absurd ends
 
-pub ran_by : (ended : Ended) (o : Outside) → ConvertedAs ended.status ended o → o.source.faults_before ≤ o.source.faults_after → o.sink.faults_before ≤ o.sink.faults_after → RanConvert ended o
-ran_by ended o ends source sink = record { ends = ends; stops = stops_so ended.status ended o ends; source_later = source; sink_later = sink }
+pub ran_by : (ended : Ended) (o : Outside) → ConvertedAs ended.status ended o → CountsFaults ended.status o → RanConvert ended o
+ran_by ended o ends faults = record { ends = ends; stops = stops_so ended.status ended o ends; faults = faults }
 
 -- why there is no next line, or why it is refused
 pub no_next : (number : ℕ) (r next : PairRead) (why : Halt) (line text : List ℕ) (old new : Option (List ℕ)) → FindsLine (Err why) line old new → FindsTaken number r (Err why) next text old new

@@ -1,4 +1,4 @@
-use Rattle.std.proofs.Common.{◌≤◌}
+use Rattle.std.proofs.Common.{◌≡◌}
 use Rattle.std.specs.Io.KnownBytes.{prepend_known}
 use Rattle.duo_run.specs.Converting.{left_to_take}
 use Rattle.duo_run.proofs.Conversion.Converting.{Converting}
@@ -6,8 +6,8 @@ use Rattle.duo_run.proofs.convert.run_convert.Given as goal
 
 abbrev pub invariant-loop-output : goal.invariant-loop-output
 invariant-loop-output g l = record {
-  source_later : g.S.Source.faults l.fn.source ≤ g.S.Source.faults l.source;
-  sink_later : g.K.Sink.faults l.fn.sink ≤ g.K.Sink.faults l.sink;
+  source_stays : g.S.Source.faults l.source ≡ g.S.Source.faults l.fn.source;
+  sink_stays : g.K.Sink.faults l.sink ≡ g.K.Sink.faults l.fn.sink;
   running : Converting (g.S.Source.left l.fn.source) (prepend_known l.reader.bytes (g.S.Source.left l.source)) (g.K.Sink.written l.fn.sink) (g.K.Sink.written l.sink) l.output l.reading l.reader.lines;
 }
 

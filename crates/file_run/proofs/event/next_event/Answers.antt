@@ -1,5 +1,6 @@
-use Rattle.std.proofs.Common.{sym}
+use Rattle.std.proofs.Common.{sym, ◌∙◌}
 use Rattle.file_run.proofs.Found.{no_event_line, refused_event_line}
+use Rattle.file_run.proofs.Taken.{took_one}
 use Rattle.file_run.proofs.event.next_event.Goals as goal
 
 pub returns-in-Err-read_after-clause-finds : goal.returns-in-Err-read_after-clause-finds
@@ -10,3 +11,8 @@ returns-in-Err-read_after-clause-finds g c = λ k.
 pub returns-in-Err-clause-finds : goal.returns-in-Err-clause-finds
 returns-in-Err-clause-finds g c = λ k.
     no_event_line (g.F.Format.format k).event (g.F.Format.says c.args.grammar.now) c.args.full c.in-Err.why _ _ _ c.in-Err.ensures.finds
+
+pub returns-in-Err-read_after-clause-goes : goal.returns-in-Err-read_after-clause-goes
+returns-in-Err-read_after-clause-goes g c =
+    let line = c.in-Ok.ensures.finds in
+    (c.lines.ensures ∙ c.in-Ok.ensures.goes, took_one _ _ c.next_line.new.reader.line line.0 line.1)

@@ -4,7 +4,7 @@ use Rattle.std.specs.Prelude.{Bool, Err}
 use Rattle.file_run.specs.NextLine.{from_line}
 use Rattle.file_run.proofs.Declined.{blames_since, declines_goes, declines_stalls}
 use Rattle.file_run.proofs.HeaderSeen.{header_none, header_line, header_done, header_halts, heading_as}
-use Rattle.file_run.proofs.Taken.{halts_after, line_taken, took_none, took_line}
+use Rattle.file_run.proofs.Taken.{halts_after, line_taken, took_line, took_none, took_one}
 use Rattle.file_run.proofs.header.read_header.Goals as goal
 
 pub returns-in-Ok-true-clause-took : goal.returns-in-Ok-true-clause-took
@@ -21,15 +21,17 @@ returns-in-Ok-true-clause-heads g c =
 pub returns-in-Err-clause-halts : goal.returns-in-Err-clause-halts
 returns-in-Err-clause-halts g c =
     let one : c.args.reader.now.lines ≡ 0 + 1 = omega (arith, c.requires.lines) in
-    halts_after _ _ _ c.args.reader.now.bytes 0 c.args.reader.now.lines c.in-Err.why (took_none _) (declines_goes {T = Bool} (Err c.in-Err.why) 0 c.args.reader.now.lines (from_line c.args.reader.now (g.S.Source.left c.args.source.now)) (prepend_known c.args.reader.now.bytes (g.S.Source.left c.args.source.now)) c.in-Err.ensures.declines one)
-    (declines_stalls {T = Bool} (Err c.in-Err.why) c.args.reader.now.lines c.args.reader.now.bytes c.in-Err.ensures.declines)
+    let took = took_one _ _ c.args.reader.now.line c.requires.line (line_taken c.args.reader.now (g.S.Source.left c.args.source.now)) in
+    halts_after _ _ _ c.args.reader.now.bytes 0 c.args.reader.now.lines c.in-Err.why (took_none _) (declines_goes {T = Bool} (Err c.in-Err.why) 0 c.args.reader.now.lines (from_line c.args.reader.now (g.S.Source.left c.args.source.now)) (prepend_known c.args.reader.now.bytes (g.S.Source.left c.args.source.now)) c.in-Err.ensures.declines one took)
+    (declines_stalls {T = Bool} (Err c.in-Err.why) c.args.reader.now.lines c.args.reader.now.bytes c.in-Err.ensures.declines) c.requires.held
 
 pub returns-in-Err-clause-heads : goal.returns-in-Err-clause-heads
 returns-in-Err-clause-heads g c =
     let goes = line_taken c.args.reader.now (g.S.Source.left c.args.source.now) in
     let one : c.args.reader.now.lines ≡ 0 + 1 = omega (arith, c.requires.lines) in
+    let took = took_one _ _ c.args.reader.now.line c.requires.line goes in
     header_halts (g.F.Format.format (g.F.Format.kind c.args.header.now)) g.F.Format.takes c.args.header.now c.take_heading.new.header 0 c.args.reader.now.lines _ _ _ c.in-Err.why (header_none _ _ _ c.requires.start)
-    (c.in-Err.ensures.finds _ _ c.requires.line goes) (declines_goes {T = Bool} (Err c.in-Err.why) 0 c.args.reader.now.lines (from_line c.args.reader.now (g.S.Source.left c.args.source.now)) (prepend_known c.args.reader.now.bytes (g.S.Source.left c.args.source.now)) c.in-Err.ensures.declines one)
+    (c.in-Err.ensures.finds _ _ c.requires.line goes) (declines_goes {T = Bool} (Err c.in-Err.why) 0 c.args.reader.now.lines (from_line c.args.reader.now (g.S.Source.left c.args.source.now)) (prepend_known c.args.reader.now.bytes (g.S.Source.left c.args.source.now)) c.in-Err.ensures.declines one took)
 
 pub loop-why-init : goal.loop-why-init
 loop-why-init g c =
@@ -60,7 +62,7 @@ returns-in-Ok-true-next_header_line-clause-took g c =
 
 pub returns-in-Err-next_header_line-clause-halts : goal.returns-in-Err-next_header_line-clause-halts
 returns-in-Err-next_header_line-clause-halts g c =
-    halts_after _ _ _ _ _ _ c.in-Err-next_header_line.why c.loop-why.invariant.0 c.in-Err-next_header_line.ensures.goes c.in-Err-next_header_line.ensures.stalls
+    halts_after _ _ _ _ _ _ c.in-Err-next_header_line.why c.loop-why.invariant.0 c.in-Err-next_header_line.ensures.goes c.in-Err-next_header_line.ensures.stalls c.in-Err-next_header_line.ensures.most
 
 pub returns-in-Ok-true-next_header_line-clause-heads : goal.returns-in-Ok-true-next_header_line-clause-heads
 returns-in-Ok-true-next_header_line-clause-heads g c =

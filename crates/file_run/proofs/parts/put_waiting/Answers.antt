@@ -9,6 +9,7 @@ loop-part-init g c = record {
   putting = putting_none c.args.output.now (g.K.Sink.written c.args.sink.now) (g.M.Machine.waits c.args.machine.now c.args.handed.now);
   kept = λ first h log text stood. stood;
   room = omega arith;
+  most = c.requires.most;
   stays = refl;
 }
 
@@ -23,6 +24,9 @@ returns-then-is_empty-clause-puts g c =
 
 pub returns-then-is_empty-clause-count : goal.returns-then-is_empty-clause-count
 returns-then-is_empty-clause-count g c = omega (arith, c.loop-part.invariant.room)
+
+pub returns-then-is_empty-clause-most : goal.returns-then-is_empty-clause-most
+returns-then-is_empty-clause-most g c = c.loop-part.invariant.most
 
 pub returns-then-is_empty-clause-kept : goal.returns-then-is_empty-clause-kept
 returns-then-is_empty-clause-kept g c = λ first h log text stood. c.more.ensures.kept first h log text (c.loop-part.invariant.kept first h log text stood)
@@ -43,6 +47,7 @@ loop-part-preserved g c = record {
   room =
       let fewer = c.more.ensures.fewer (not_none c.more.new.text c.bytes-part.result.now c.bytes-part.ensures.value (sym c.if-is_empty.false ∙ c.is_empty.ensures)) in
       omega (arith, fewer, c.loop-part.invariant.room, c.in_default.ensures.count, c.bytes-part.ensures.most);
+  most = c.in_default.ensures.most;
   stays = c.in_default.ensures.cause.stayed ∙ c.loop-part.invariant.stays;
 }
 

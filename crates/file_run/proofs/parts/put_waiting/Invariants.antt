@@ -1,4 +1,5 @@
 use Rattle.std.proofs.Common.{◌≡◌, ◌≤◌, ◌+◌, ◌*◌, length}
+use Rattle.fsoe_io.specs.Output.{most_waiting}
 use Rattle.file_run.specs.Machine.{Keeps}
 use Rattle.file_run.proofs.Putting.{Putting}
 use Rattle.file_run.proofs.parts.put_waiting.Given as goal
@@ -8,6 +9,7 @@ invariant-loop-part g l = record {
   putting : Putting l.fn.output l.output (g.K.Sink.written l.fn.sink) (g.K.Sink.written l.sink) (g.M.Machine.waits l.fn.machine l.fn.handed) (g.M.Machine.waits l.machine l.fn.handed);
   kept : (first : g.row.M-Handed.Denot) → Keeps (g.M.Machine.stands first l.fn.machine l.fn.handed) (g.M.Machine.stands first l.machine l.fn.handed);
   room : l.output.sent + length l.output.bytes + 1024 * g.M.Machine.parts l.machine l.fn.handed ≤ l.fn.output.sent + length l.fn.output.bytes + 1024 * g.M.Machine.parts l.fn.machine l.fn.handed;
+  most : length l.output.bytes ≤ most_waiting;
   stays : g.K.Sink.faults l.sink ≡ g.K.Sink.faults l.fn.sink;
 }
 

@@ -1,4 +1,5 @@
-use Rattle.std.proofs.Common.{arith}
+use Rattle.std.proofs.Common.{ℕ, length, ap, ◌∙◌, arith}
+use Rattle.file_run.proofs.Counted.{counted_halted, counted_write}
 use Rattle.file_run.proofs.Exact.{ran_by}
 use Rattle.file_run.proofs.Leaving.{left_halted, left_unsent}
 use Rattle.file_run.proofs.Running.{ends_halted, ends_unsent, finds_as, halts_as, running_sent}
@@ -12,11 +13,11 @@ returns-in-Err g c =
     let cause = c.in-Err.ensures.cause in (
       ran_by _ _ _
           (ends_unsent (g.M.Machine.reporting first) (g.M.Machine.stands first c.args.run.now.machine c.args.handed.now) _ _ _ _ _ _ _ _ puts.0 c.write_failed.result
-          (c.laws.ensures.so_far first c.args.run.now.machine c.args.handed.now) runs.running puts.1
-          c.write_failed.ensures.status c.write_failed.ensures.place (rose_since _ _ _ runs.sink_later cause.failed))
-          runs.source_later (omega (arith, runs.sink_later, cause.later)),
+          (c.laws.ensures.so_far first c.args.run.now.machine c.args.handed.now) runs.running puts.2
+          c.write_failed.ensures.status c.write_failed.ensures.place (rose_since _ _ _ (omega (arith, runs.sink_stays)) cause.failed))
+          (counted_write c.write_failed.result _ c.write_failed.ensures.status runs.source_stays (omega (arith, runs.sink_stays, cause.later))),
       left_unsent (g.M.Machine.reporting first) (g.M.Machine.stands first c.args.run.now.machine c.args.handed.now) (λ h log text. (v : g.row.M.Denot) × g.M.Machine.stands first v c.args.handed.now h log text) (g.M.Machine.closes first c.args.handed.now) _ _ _ _ _ _ _ _ puts.0 c.write_failed.result runs.running
-          (c.args.run.now.machine, runs.running.stood) puts.1 c.write_failed.ensures.status c.write_failed.ensures.place,
+          (c.laws.ensures.so_far first c.args.run.now.machine c.args.handed.now) (c.args.run.now.machine, runs.running.stood) puts.2 c.write_failed.ensures.status c.write_failed.ensures.place,
     )
 
 pub returns-in-Err-next_event : goal.returns-in-Err-next_event
@@ -24,16 +25,16 @@ returns-in-Err-next_event g c =
     λ first k s same runs.
     let sent = running_sent _ _ _ _ _ _ _ _ _ _ _ _ runs.running c.in_default.ensures.puts c.in_default.ensures.count in
     let next = c.in-Err-next_event.ensures in
-    let later = runs.sink_later in (
+    let stays = c.in_default.ensures.cause.stayed ∙ runs.sink_stays in (
       ran_by _ _ _
           (ends_halted (g.M.Machine.reporting first) (g.M.Machine.stands first c.args.run.now.machine c.args.handed.now) _ c.is_full-full.result _ _ c.next_event.new.reader.bytes _ _ _ _ _ _ _ c.in-Err-next_event.why c.halt.result
           (c.laws.ensures.so_far first c.args.run.now.machine c.args.handed.now) sent
           (halts_as (g.M.Format.Format.format k) (g.M.Machine.reporting first).format _ c.is_full-full.result c.in-Err-next_event.why _ _ same (next.finds k))
-          (c.is_full-full.ensures.full first) next.goes next.stalls next.cause runs.source_later c.halt.ensures.writes
-          (omega (arith, later, c.in_default.ensures.cause.later)))
-          (omega (arith, runs.source_later, next.later)) (omega (arith, later, c.in_default.ensures.cause.later, c.halt.ensures.later)),
+          (c.is_full-full.ensures.full first) next.goes next.stalls next.most next.cause (omega (arith, runs.source_stays)) c.halt.ensures.writes (omega (arith, stays)))
+          (counted_halted (Unit {0}) _ _ _ _ _ c.send_before_read.new.output.bytes c.in-Err-next_event.why c.halt.result next.cause next.later runs.source_stays
+          (λ some. ap g.S.Source.faults (next.unread (λ is. let none = ap (length {A = ℕ}) (c.in_default.ensures.sent is) in absurd (omega (arith, some, none))))) stays c.halt.ensures.writes c.halt.ensures.later),
       left_halted (g.M.Machine.reporting first) (g.M.Machine.stands first c.args.run.now.machine c.args.handed.now) (λ h log text. (v : g.row.M.Denot) × g.M.Machine.stands first v c.args.handed.now h log text) (g.M.Machine.closes first c.args.handed.now) _ c.is_full-full.result _ _ _ _ _ _ _ _ _ c.in-Err-next_event.why c.halt.result sent
-          (c.args.run.now.machine, sent.stood)
+          (c.laws.ensures.so_far first c.args.run.now.machine c.args.handed.now) (c.args.run.now.machine, sent.stood)
           (halts_as (g.M.Format.Format.format k) (g.M.Machine.reporting first).format _ c.is_full-full.result c.in-Err-next_event.why _ _ same (next.finds k))
           (c.is_full-full.ensures.full first) next.goes c.halt.ensures.writes,
     )
@@ -51,6 +52,7 @@ returns g c =
       fullness = c.is_full-full.ensures.full first;
       few = c.is_full-full.ensures.few;
       next = next.goes;
-      source_later = omega (arith, runs.source_later, next.later);
-      sink_later = omega (arith, runs.sink_later, c.in_default.ensures.cause.later);
+      most = next.most;
+      source_stays = next.cause ∙ runs.source_stays;
+      sink_stays = c.in_default.ensures.cause.stayed ∙ runs.sink_stays;
     }

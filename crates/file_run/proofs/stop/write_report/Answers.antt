@@ -11,6 +11,7 @@ returns-in-Err-clause-writes g c =
       part = take done text;
       grew = c.in-Err.ensures.bytes;
       begins = (drop done text, sym (take-append-drop done text));
+      less = omega (arith, c.in-Err.ensures.partial, length-take-le done text fits);
       status_is = refl;
       place_is = omega (arith, length-take-le done text fits);
       cause = c.in-Err.ensures.cause.failed;

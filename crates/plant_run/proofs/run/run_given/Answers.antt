@@ -5,10 +5,10 @@ use Rattle.plant_run.proofs.Turned.{reported, stood}
 use Rattle.plant_run.proofs.run.run_given.Goals as goal
 
 pub returns-clause-channel_stays : goal.returns-clause-channel_stays
-returns-clause-channel_stays g c = left_so _ _ _ _ _ _ _ c.run_over.ensures.leaves (λ same. ap (λ given. given.channel.ghost_name) same) (λ h log text stands. stands.1.0)
+returns-clause-channel_stays g c = left_so _ _ _ _ _ _ c.run_over.ensures.leaves (λ same. ap (λ given. given.channel.ghost_name) same) (λ h log text stands. stands.1.0)
 
 pub returns-clause-owned_stays : goal.returns-clause-owned_stays
-returns-clause-owned_stays g c = left_so _ _ _ _ _ _ _ c.run_over.ensures.leaves (λ same. ap (λ given. given.owned.ghost_name) same) (λ h log text stands. stands.1.1)
+returns-clause-owned_stays g c = left_so _ _ _ _ _ _ c.run_over.ensures.leaves (λ same. ap (λ given. given.owned.ghost_name) same) (λ h log text stands. stands.1.1)
 
 pub returns-clause-ran : goal.returns-clause-ran
 returns-clause-ran g c =
