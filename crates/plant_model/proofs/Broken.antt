@@ -1,25 +1,24 @@
 -- A tick is late for a bound only where a pair has another entry: from the first of the still moments that reach it on
 -- the bound is quiet. Turns, acts and what is said are listed newest first.
-use Rattle.std.proofs.Common.{◌≡◌, ◌≤◌, ◌<◌, inl, inr, ℕ, suc, ◌+◌, ◌-◌, Bool, true, false, ◌&&◌, nat_le, nat_lt, List, [], ◌∷◌, ◌++◌, map, length, Option, Some, None, if◌then◌else◌, refl, sym, ap, ap₂, subst, ◌∙◌, append_assoc, arith}
-use Rattle.std.specs.Prelude.{cond}
+use Rattle.std.proofs.Common.{◌≡◌, ◌≤◌, ℕ, zero, suc, ◌+◌, ◌-◌, Bool, true, false, ◌||◌, nat_lt, List, [], ◌∷◌, ◌++◌, map, length, Option, Some, None, if◌then◌else◌, refl, sym, ap, ap₂, subst, ◌∙◌, append_assoc, arith}
 use Rattle.std.specs.Option.{option_map_or}
-use Rattle.std.proofs.lemmas.Bool.Decides.{leb_tells}
+use Rattle.std.proofs.Math.Dec.{leb-suc-zero}
 use Rattle.std.proofs.lemmas.List.{append-nil}
 use Rattle.black_channel.specs.declared.channel.Parcel.{Parcel}
 use Rattle.plant_conf.specs.declared.conf.BoundSpec.{BoundSpec}
 use Rattle.plant_conf.specs.declared.conf.LinkConf.{LinkConf}
+use Rattle.exchange_model.specs.Other.{first_of_both}
 use Rattle.reaction_bound.specs.Reaction as reaction
 use Rattle.plant_model.specs.declared.event.PlantEvent.TheVariants as event
 use Rattle.plant_model.specs.declared.journal.JournalStep.{JournalStep}
-use Rattle.plant_model.specs.Acts.{Beginning, Said, Event, App, Act, Start, Happen, PullFrom, journal}
+use Rattle.plant_model.specs.Acts.{Beginning, Said, Event, App, Act, Happen, PullFrom, journal}
 use Rattle.plant_model.specs.Bound.{is_off, is_guarded, is_still, HasLinks, limit, is_on}
 use Rattle.plant_model.specs.BoundLines.{limit_by, limit_of, is_driven, said_of, broken_at}
 use Rattle.plant_model.specs.Pair.{ticks}
 use Rattle.plant_model.specs.Promises.{AllAnswered, AllGuarded}
 use Rattle.plant_model.specs.Turns.{Turn, acts, turn_acts}
-use Rattle.plant_model.proofs.KeptOff.{and_false}
 use Rattle.plant_model.proofs.Reacting.{Clean, clean_at, clean_before, first_acts, steps_off}
-use Rattle.plant_model.proofs.Since.{is_tick_act, act_ticks}
+use Rattle.plant_model.proofs.Since.{act_ticks}
 use Rattle.plant_model.proofs.StillTurns.{StaysQuiet, both_first, quiet_on, ticked_quiet, turn_of_tick}
 use Rattle.plant_model.proofs.FairPlant.{AreWorlds}
 use Rattle.plant_model.specs.Broken.{BrokenByOther}
@@ -33,82 +32,23 @@ answered_first : (b : Beginning) (more done : List Act) → AllAnswered b (more 
 answered_first b [] done h = h
 answered_first b (act ∷ more) done h = answered_first b more done h.1
 
--- a bound is quiet since some of these acts, before which so many ticks came
-record QuietFrom (b : Beginning) (bound : BoundSpec) (done : List Act) (from : ℕ) : Type 0 where
+-- a bound is quiet since some of these acts, after which at least so many ticks came
+record QuietFor (b : Beginning) (bound : BoundSpec) (done : List Act) (n : ℕ) : Type 0 where
   later : List Act
   earlier : List Act
   acts_are : done ≡ later ++ earlier
-  count : ticks (journal b earlier) ≡ from
+  long : ticks (journal b earlier) + n ≤ ticks (journal b done)
   stays : StaysQuiet b bound later earlier
 
-abbrev IsQuietFrom : Beginning → BoundSpec → List Act → Option ℕ → Type 0
-IsQuietFrom b bound done None = Unit {0}
-IsQuietFrom b bound done (Some from) = QuietFrom b bound done from
-
 -- from here on
-quiet_here : (b : Beginning) (bound : BoundSpec) (done : List Act) (from : ℕ) → ticks (journal b done) ≡ from → is_still b bound done ≡ true → QuietFrom b bound done from
-quiet_here b bound done from count still = record {
+quiet_here : (b : Beginning) (bound : BoundSpec) (done : List Act) → is_still b bound done ≡ true → QuietFor b bound done 0
+quiet_here b bound done still = record {
   later = [];
   earlier = done;
   acts_are = refl;
-  count = count;
+  long = omega arith;
   stays = record { still = still; quiet = both_first (is_off b bound.estop done) (is_guarded b bound done) still };
 }
-
--- through a tick
-quiet_tick : (b : Beginning) (bound : BoundSpec) (parcels : List Parcel) (done : List Act) (from : ℕ) → AllGuarded b (turn_acts (Event event.Tick) parcels ++ done) → AllAnswered b (turn_acts (Event event.Tick) parcels ++ done)
-    → QuietFrom b bound done from → QuietFrom b bound (turn_acts (Event event.Tick) parcels ++ done) from
-quiet_tick b bound parcels done from g a q =
-    let more : List Act = turn_acts (Event event.Tick) parcels in
-    let same : more ++ done ≡ (more ++ q.later) ++ q.earlier = ap (λ (z : List Act). more ++ z) q.acts_are ∙ sym (append_assoc more q.later q.earlier) in
-    record {
-      later = more ++ q.later;
-      earlier = q.earlier;
-      acts_are = same;
-      count = q.count;
-      stays = ticked_quiet b bound more q.later q.earlier (turn_of_tick parcels) (subst (AllGuarded b) same g) (subst (AllAnswered b) same a) q.stays;
-    }
-
--- through an act after which it is still
-quiet_act : (b : Beginning) (bound : BoundSpec) (act : Act) (done : List Act) (from : ℕ) → AllGuarded b (act ∷ done) → AllAnswered b (act ∷ done) → is_still b bound (act ∷ done) ≡ true
-    → QuietFrom b bound done from → QuietFrom b bound (act ∷ done) from
-quiet_act b bound act done from g a still q =
-    let same : act ∷ done ≡ act ∷ q.later ++ q.earlier = ap (λ (z : List Act). act ∷ z) q.acts_are in
-    let here : is_still b bound (act ∷ q.later ++ q.earlier) ≡ true = subst (λ (z : List Act). is_still b bound z ≡ true) same still in
-    record {
-      later = act ∷ q.later;
-      earlier = q.earlier;
-      acts_are = same;
-      count = q.count;
-      stays = record { still = here; quiet = quiet_on b bound act q.later q.earlier (subst (AllGuarded b) same g) (subst (AllAnswered b) same a) here q.stays.quiet };
-    }
-
--- whether it is quiet since some time or not, after a tick and after another line
-from_tick : (b : Beginning) (bound : BoundSpec) (parcels : List Parcel) (done : List Act) (since : Option ℕ) (still on : Bool) (said : List reaction.Said)
-    → AllGuarded b (turn_acts (Event event.Tick) parcels ++ done) → AllAnswered b (turn_acts (Event event.Tick) parcels ++ done) → is_still b bound (turn_acts (Event event.Tick) parcels ++ done) ≡ still
-    → reaction.quiet_from said ≡ since → ticks (journal b (turn_acts (Event event.Tick) parcels ++ done)) ≡ suc (reaction.ticks said) → IsQuietFrom b bound done since
-    → IsQuietFrom b bound (turn_acts (Event event.Tick) parcels ++ done) (reaction.quiet_from (reaction.Quiet still ∷ reaction.Tick on ∷ said))
-from_tick b bound parcels done since false on said g a s f c q = tt
-from_tick b bound parcels done None true on said g a s f c q =
-    let all : List Act = turn_acts (Event event.Tick) parcels ++ done in
-    subst (λ (o : Option ℕ). IsQuietFrom b bound all (Some (reaction.first_of o (suc (reaction.ticks said))))) (sym f) (quiet_here b bound all (suc (reaction.ticks said)) c s)
-from_tick b bound parcels done (Some from) true on said g a s f c q =
-    let all : List Act = turn_acts (Event event.Tick) parcels ++ done in
-    subst (λ (o : Option ℕ). IsQuietFrom b bound all (Some (reaction.first_of o (suc (reaction.ticks said))))) (sym f) (quiet_tick b bound parcels done from g a q)
-
-from_act : (b : Beginning) (bound : BoundSpec) (act : Act) (done : List Act) (since : Option ℕ) (still : Bool) (said : List reaction.Said) → AllGuarded b (act ∷ done) → AllAnswered b (act ∷ done)
-    → is_still b bound (act ∷ done) ≡ still → reaction.quiet_from said ≡ since → ticks (journal b (act ∷ done)) ≡ reaction.ticks said → IsQuietFrom b bound done since
-    → IsQuietFrom b bound (act ∷ done) (reaction.quiet_from (reaction.Quiet still ∷ said))
-from_act b bound act done since false said g a s f c q = tt
-from_act b bound act done None true said g a s f c q =
-    subst (λ (o : Option ℕ). IsQuietFrom b bound (act ∷ done) (Some (reaction.first_of o (reaction.ticks said)))) (sym f) (quiet_here b bound (act ∷ done) (reaction.ticks said) c s)
-from_act b bound act done (Some from) true said g a s f c q =
-    subst (λ (o : Option ℕ). IsQuietFrom b bound (act ∷ done) (Some (reaction.first_of o (reaction.ticks said)))) (sym f) (quiet_act b bound act done from g a s q)
-
--- what was said counts the ticks of the journal, and tells since when the bound is quiet
-record Tells (b : Beginning) (bound : BoundSpec) (done : List Act) (said : List reaction.Said) : Type 0 where
-  count : ticks (journal b done) ≡ reaction.ticks said
-  from : IsQuietFrom b bound done (reaction.quiet_from said)
 
 -- the ticks of a turn
 pulled_ticks : (b : Beginning) (parcels : List Parcel) (done : List Act) → ticks (journal b ((map (λ parcel. PullFrom (Some parcel)) parcels ++ Happen (Event event.Tick) ∷ []) ++ done)) ≡ ticks (journal b done) + 1
@@ -128,81 +68,98 @@ pulls_ticks b true parcels done =
     omega arith
 pulls_ticks b false parcels done = pulled_ticks b parcels done
 
-turn_ticks : (b : Beginning) (parcels : List Parcel) (done : List Act) → ticks (journal b (turn_acts (Event event.Tick) parcels ++ done)) ≡ ticks (journal b done) + 1
-turn_ticks b parcels done = pulls_ticks b (nat_lt (length parcels) 64) parcels done
+-- through a tick
+quiet_tick : (b : Beginning) (bound : BoundSpec) (parcels : List Parcel) (done : List Act) (n : ℕ) → AllGuarded b (turn_acts (Event event.Tick) parcels ++ done) → AllAnswered b (turn_acts (Event event.Tick) parcels ++ done)
+    → QuietFor b bound done (n - 1) → QuietFor b bound (turn_acts (Event event.Tick) parcels ++ done) n
+quiet_tick b bound parcels done n g a q =
+    let more : List Act = turn_acts (Event event.Tick) parcels in
+    let same : more ++ done ≡ (more ++ q.later) ++ q.earlier = ap (λ (z : List Act). more ++ z) q.acts_are ∙ sym (append_assoc more q.later q.earlier) in
+    let one = pulls_ticks b (nat_lt (length parcels) 64) parcels done in
+    let before = q.long in
+    record {
+      later = more ++ q.later;
+      earlier = q.earlier;
+      acts_are = same;
+      long = omega arith;
+      stays = ticked_quiet b bound more q.later q.earlier (turn_of_tick parcels) (subst (AllGuarded b) same g) (subst (AllAnswered b) same a) q.stays;
+    }
 
-tells_tick : (b : Beginning) (bound : BoundSpec) (parcels : List Parcel) (done : List Act) (on : Bool) (said : List reaction.Said) → AllGuarded b (turn_acts (Event event.Tick) parcels ++ done)
-    → AllAnswered b (turn_acts (Event event.Tick) parcels ++ done) → Tells b bound done said
-    → Tells b bound (turn_acts (Event event.Tick) parcels ++ done) (reaction.Quiet (is_still b bound (turn_acts (Event event.Tick) parcels ++ done)) ∷ reaction.Tick on ∷ said)
-tells_tick b bound parcels done on said g a t =
-    let all : List Act = turn_acts (Event event.Tick) parcels ++ done in
-    let one = turn_ticks b parcels done in
-    let before = t.count in
-    let count : ticks (journal b all) ≡ suc (reaction.ticks said) = omega arith in
-    record { count = count; from = from_tick b bound parcels done (reaction.quiet_from said) (is_still b bound all) on said g a refl refl count t.from }
+-- through an act after which it is still
+quiet_act : (b : Beginning) (bound : BoundSpec) (act : Act) (done : List Act) (n : ℕ) → AllGuarded b (act ∷ done) → AllAnswered b (act ∷ done) → is_still b bound (act ∷ done) ≡ true
+    → QuietFor b bound done n → QuietFor b bound (act ∷ done) n
+quiet_act b bound act done n g a still q =
+    let same : act ∷ done ≡ act ∷ q.later ++ q.earlier = ap (λ (z : List Act). act ∷ z) q.acts_are in
+    let here : is_still b bound (act ∷ q.later ++ q.earlier) ≡ true = subst (λ (z : List Act). is_still b bound z ≡ true) same still in
+    let one = act_ticks b act done in
+    let before = q.long in
+    record {
+      later = act ∷ q.later;
+      earlier = q.earlier;
+      acts_are = same;
+      long = omega arith;
+      stays = record { still = here; quiet = quiet_on b bound act q.later q.earlier (subst (AllGuarded b) same g) (subst (AllAnswered b) same a) here q.stays.quiet };
+    }
 
-tells_act : (b : Beginning) (bound : BoundSpec) (act : Act) (done : List Act) (said : List reaction.Said) → is_tick_act act ≡ false → AllGuarded b (act ∷ done) → AllAnswered b (act ∷ done) → Tells b bound done said
-    → Tells b bound (act ∷ done) (reaction.Quiet (is_still b bound (act ∷ done)) ∷ said)
-tells_act b bound act done said quiet g a t =
-    let one : ticks (journal b (act ∷ done)) ≡ ticks (journal b done) + 0 = act_ticks b act done ∙ ap (λ (z : Bool). ticks (journal b done) + cond z 1 0) quiet in
-    let before = t.count in
-    let count : ticks (journal b (act ∷ done)) ≡ reaction.ticks said = omega arith in
-    record { count = count; from = from_act b bound act done (reaction.quiet_from said) (is_still b bound (act ∷ done)) said g a refl refl count t.from }
+-- from here on or from earlier on
+quiet_now : (b : Beginning) (bound : BoundSpec) (done : List Act) (n : ℕ) (still : Bool) (said : List reaction.Said) → is_still b bound done ≡ still
+    → (is_still b bound done ≡ true → reaction.quiet_for n said ≡ true → QuietFor b bound done n) → reaction.quiet_for n (reaction.Quiet still ∷ said) ≡ true → QuietFor b bound done n
+quiet_now b bound done zero true said is on quiet = quiet_here b bound done is
+quiet_now b bound done (suc n) true said is on quiet = on is (sym (ap (λ (now : Bool). now || reaction.quiet_for (suc n) said) (leb-suc-zero n)) ∙ quiet)
+quiet_now b bound done n false said is on quiet = absurd (cc quiet)
 
--- no tick is late by then
-none_late : (limit number : ℕ) (on : Bool) (since : Option ℕ) → ((from : ℕ) → since ≡ Some from → limit ≤ number - from → on ≡ false) → reaction.is_late limit on number since ≡ false
-none_late limit number on None h = refl
-none_late limit number on (Some from) h =
-    elim (leb_tells limit (number - from)) [
-      | inl late ↦ ap (λ (z : Bool). z && nat_le limit (number - from)) (h from refl late.1)
-      | inr early ↦ ap (λ (z : Bool). on && z) early.0 ∙ and_false on
-    ]
+-- a tick isn't late where a quiet stop keeps the drive off
+untrue : (x : Bool) → (x ≡ true → ⊥) → x ≡ false
+untrue true h = absurd (h refl)
+untrue false h = refl
 
-still_none : (before : Option ℕ) (late : Bool) (n : ℕ) → before ≡ None → late ≡ false → reaction.first_late before late n ≡ None
-still_none before late n b l = ap₂ (λ (o : Option ℕ) (z : Bool). reaction.first_late o z n) b l
+not_late : (limit : ℕ) (on : Bool) (said : List reaction.Said) → (reaction.quiet_for (limit - 1) said ≡ true → on ≡ false) → reaction.is_late limit (reaction.Tick on ∷ said) ≡ false
+not_late limit true said off = untrue (reaction.quiet_for (limit - 1) said) (λ quiet. absurd (cc (off quiet)))
+not_late limit false said off = refl
 
--- a bound whose pairs have no other entry, up to here
+-- a bound whose pairs have no other entry, up to here: it is quiet for as long as was said, and not broken
 record Kept (b : Beginning) (bound : BoundSpec) (turns : List Turn) : Type 0 where
-  tells : Tells b bound (acts turns) (said_of b bound turns)
+  quiet : (n : ℕ) → reaction.quiet_for n (said_of b bound turns) ≡ true → QuietFor b bound (acts turns) n
   none : broken_at b bound turns ≡ None
 
--- the drive is off after a tick that comes so many ticks later
-tick_off : (b : Beginning) (bound : BoundSpec) (estop drive : LinkConf) (done : List Act) (from number : ℕ) → HasLinks b bound estop drive → QuietFrom b bound done from → Clean estop bound.estop.link (journal b done) → Clean drive bound.drive.link (journal b done)
-    → ticks (journal b done) ≡ number → limit estop drive ≤ number - from → is_on bound drive (journal b done) ≡ false
-tick_off b bound estop drive done from number links q ce cd n late =
-    let some : 0 < estop.master.watchdog = estop.master.some_watchdog in
-    let first = q.count in
-    steps_off b bound estop drive q.later q.earlier (journal b done) [] links q.stays.quiet (sym (ap (journal b) q.acts_are) ∙ sym (append-nil (journal b done))) ce cd (omega arith)
+kept_tick : (b : Beginning) (bound : BoundSpec) (estop drive : LinkConf) (parcels : List Parcel) (turns : List Turn) → HasLinks b bound estop drive
+    → AllGuarded b (turn_acts (Event event.Tick) parcels ++ acts turns) → AllAnswered b (turn_acts (Event event.Tick) parcels ++ acts turns)
+    → Clean estop bound.estop.link (journal b (turn_acts (Event event.Tick) parcels ++ acts turns)) → Clean drive bound.drive.link (journal b (turn_acts (Event event.Tick) parcels ++ acts turns))
+    → Kept b bound turns → Kept b bound (record { said = Event event.Tick; pulled = parcels } ∷ turns)
+kept_tick b bound estop drive parcels turns links g a ce cd k =
+    let all : List Act = turn_acts (Event event.Tick) parcels ++ acts turns in
+    let driven : is_driven b bound all ≡ is_on bound drive (journal b all) = ap (λ (o : Option LinkConf). option_map_or (λ z. is_on bound z (journal b all)) o false) links.drive_is in
+    let limit_is : limit_of b.links bound ≡ limit estop drive = ap₂ (λ (one two : Option LinkConf). limit_by one two) links.estop_is links.drive_is in
+    let count : ℕ = suc (reaction.ticks (said_of b bound turns)) in
+    record {
+      quiet = λ n. quiet_now b bound all n (is_still b bound all) (reaction.Tick (is_driven b bound all) ∷ said_of b bound turns) refl (λ still before. quiet_tick b bound parcels (acts turns) n g a (k.quiet (n - 1) before));
+      none = ap₂ (λ (before : Option ℕ) (late : Bool). first_of_both (first_of_both before late count) false count) k.none
+          (not_late (limit_of b.links bound) (is_driven b bound all) (said_of b bound turns)
+          (λ before.
+          let q : QuietFor b bound all (limit_of b.links bound) = quiet_tick b bound parcels (acts turns) (limit_of b.links bound) g a (k.quiet (limit_of b.links bound - 1) before) in
+          let long = q.long in
+          driven ∙ steps_off b bound estop drive q.later q.earlier (journal b all) [] links q.stays.quiet (sym (ap (journal b) q.acts_are) ∙ sym (append-nil (journal b all))) ce cd (omega (arith, limit_is))));
+    }
 
-limit_is : (b : Beginning) (bound : BoundSpec) (estop drive : LinkConf) → HasLinks b bound estop drive → limit_of b.links bound ≡ limit estop drive
-limit_is b bound estop drive links = ap₂ (λ (one two : Option LinkConf). limit_by one two) links.estop_is links.drive_is
+kept_act : (b : Beginning) (bound : BoundSpec) (act : Act) (done : List Act) (said : List reaction.Said) → AllGuarded b (act ∷ done) → AllAnswered b (act ∷ done)
+    → ((n : ℕ) → reaction.quiet_for n said ≡ true → QuietFor b bound done n)
+    → (n : ℕ) → reaction.quiet_for n (reaction.Quiet (is_still b bound (act ∷ done)) ∷ said) ≡ true → QuietFor b bound (act ∷ done) n
+kept_act b bound act done said g a before n =
+    quiet_now b bound (act ∷ done) n (is_still b bound (act ∷ done)) said refl (λ still earlier. quiet_act b bound act done n g a still (before n earlier))
+
+still_none : (before : Option ℕ) (n : ℕ) → before ≡ None → first_of_both before false n ≡ None
+still_none before n none = ap (λ (o : Option ℕ). first_of_both o false n) none
 
 kept_turn : (b : Beginning) (bound : BoundSpec) (estop drive : LinkConf) (said : Said) (parcels : List Parcel) (turns : List Turn) → HasLinks b bound estop drive
     → AllGuarded b (turn_acts said parcels ++ acts turns) → AllAnswered b (turn_acts said parcels ++ acts turns)
     → Clean estop bound.estop.link (journal b (turn_acts said parcels ++ acts turns)) → Clean drive bound.drive.link (journal b (turn_acts said parcels ++ acts turns))
     → Kept b bound turns → Kept b bound (record { said = said; pulled = parcels } ∷ turns)
-kept_turn b bound estop drive (Event event.Tick) parcels turns links g a ce cd k =
-    let all : List Act = turn_acts (Event event.Tick) parcels ++ acts turns in
-    let before : List reaction.Said = said_of b bound turns in
-    let driven : is_driven b bound all ≡ is_on bound drive (journal b all) = ap (λ (o : Option LinkConf). option_map_or (λ z. is_on bound z (journal b all)) o false) links.drive_is in
-    let one = turn_ticks b parcels (acts turns) in
-    let so_far = k.tells.count in
-    let count : ticks (journal b all) ≡ suc (reaction.ticks before) = omega arith in
-    record {
-      tells = tells_tick b bound parcels (acts turns) (is_driven b bound all) before g a k.tells;
-      none = still_none (broken_at b bound turns) _ _ k.none
-          (none_late (limit_of b.links bound) (suc (reaction.ticks before)) (is_driven b bound all) (reaction.quiet_from before)
-          (λ from since late.
-          let q : QuietFrom b bound (acts turns) from = subst (IsQuietFrom b bound (acts turns)) since k.tells.from in
-          driven ∙ tick_off b bound estop drive all from (suc (reaction.ticks before)) links (quiet_tick b bound parcels (acts turns) from g a q) ce cd count
-          (subst (λ (n : ℕ). n ≤ suc (reaction.ticks before) - from) (limit_is b bound estop drive links) late)));
-    }
-kept_turn b bound estop drive (Event (event.Put n load)) parcels turns links g a ce cd k = record { tells = tells_act b bound _ (acts turns) (said_of b bound turns) refl g a k.tells; none = k.none }
-kept_turn b bound estop drive (Event (event.Hold n failsafe)) parcels turns links g a ce cd k = record { tells = tells_act b bound _ (acts turns) (said_of b bound turns) refl g a k.tells; none = k.none }
-kept_turn b bound estop drive (Event (event.Local n)) parcels turns links g a ce cd k = record { tells = tells_act b bound _ (acts turns) (said_of b bound turns) refl g a k.tells; none = k.none }
-kept_turn b bound estop drive (Event (event.Nonce n end id)) parcels turns links g a ce cd k = record { tells = tells_act b bound _ (acts turns) (said_of b bound turns) refl g a k.tells; none = k.none }
-kept_turn b bound estop drive (Event (event.Cut n cut)) parcels turns links g a ce cd k = record { tells = tells_act b bound _ (acts turns) (said_of b bound turns) refl g a k.tells; none = k.none }
-kept_turn b bound estop drive (App app) parcels turns links g a ce cd k = record { tells = tells_act b bound _ (acts turns) (said_of b bound turns) refl g a k.tells; none = k.none }
+kept_turn b bound estop drive (Event event.Tick) parcels turns links g a ce cd k = kept_tick b bound estop drive parcels turns links g a ce cd k
+kept_turn b bound estop drive (Event (event.Put n load)) parcels turns links g a ce cd k = record { quiet = kept_act b bound _ (acts turns) (said_of b bound turns) g a k.quiet; none = still_none (broken_at b bound turns) _ k.none }
+kept_turn b bound estop drive (Event (event.Hold n failsafe)) parcels turns links g a ce cd k = record { quiet = kept_act b bound _ (acts turns) (said_of b bound turns) g a k.quiet; none = still_none (broken_at b bound turns) _ k.none }
+kept_turn b bound estop drive (Event (event.Local n)) parcels turns links g a ce cd k = record { quiet = kept_act b bound _ (acts turns) (said_of b bound turns) g a k.quiet; none = still_none (broken_at b bound turns) _ k.none }
+kept_turn b bound estop drive (Event (event.Nonce n end id)) parcels turns links g a ce cd k = record { quiet = kept_act b bound _ (acts turns) (said_of b bound turns) g a k.quiet; none = still_none (broken_at b bound turns) _ k.none }
+kept_turn b bound estop drive (Event (event.Cut n cut)) parcels turns links g a ce cd k = record { quiet = kept_act b bound _ (acts turns) (said_of b bound turns) g a k.quiet; none = still_none (broken_at b bound turns) _ k.none }
+kept_turn b bound estop drive (App app) parcels turns links g a ce cd k = record { quiet = kept_act b bound _ (acts turns) (said_of b bound turns) g a k.quiet; none = still_none (broken_at b bound turns) _ k.none }
 
 clean_first : (b : Beginning) (link : LinkConf) (k : ℕ) (more done : List Act) → Clean link k (journal b (more ++ done)) → Clean link k (journal b done)
 clean_first b link k more done c =
@@ -212,7 +169,7 @@ clean_first b link k more done c =
 kept_turns : (b : Beginning) (bound : BoundSpec) (estop drive : LinkConf) (turns : List Turn) → HasLinks b bound estop drive → AllGuarded b (acts turns) → AllAnswered b (acts turns)
     → Clean estop bound.estop.link (journal b (acts turns)) → Clean drive bound.drive.link (journal b (acts turns)) → Kept b bound turns
 kept_turns b bound estop drive [] links g a ce cd =
-    record { tells = tells_act b bound Start [] [] refl g a (record { count = refl; from = tt }); none = refl }
+    record { quiet = λ n. quiet_now b bound (acts []) n (is_still b bound (acts [])) [] refl (λ still none. absurd (cc none)); none = refl }
 kept_turns b bound estop drive (turn ∷ turns) links g a ce cd =
     let more : List Act = turn_acts turn.said turn.pulled in
     kept_turn b bound estop drive turn.said turn.pulled turns links g a ce cd

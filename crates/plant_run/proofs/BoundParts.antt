@@ -9,7 +9,8 @@ use Rattle.multi_master.specs.Calls.{Rule}
 use Rattle.plant_conf.specs.ConfView.{ConfView}
 use Rattle.plant_conf.specs.declared.conf.BoundSpec.{BoundSpec}
 use Rattle.plant_conf.specs.declared.conf.LinkConf.{LinkConf}
-use Rattle.reaction_bound.specs.Reaction.{ReactionView, broken_of, view_of}
+use Rattle.reaction_bound.specs.Kept.{ReactionView, view_of}
+use Rattle.reaction_bound.specs.Reaction.{broken_of}
 use Rattle.reaction_bound.specs.Reaction as reaction
 use Rattle.plant_model.specs.declared.event.PlantLine.{PlantLine}
 use Rattle.plant_run.specs.declared.machine.Rest.TheVariants as rest

@@ -10,7 +10,7 @@ use Rattle.failsafe_io.specs.declared.bit.Bit.{Bit}
 use Rattle.plant_conf.specs.declared.conf.BoundSpec.{BoundSpec}
 use Rattle.plant_conf.specs.declared.conf.LinkConf.{LinkConf}
 use Rattle.multi_master.specs.Calls.{Rule}
-use Rattle.reaction_bound.specs.Reaction.{ReactionView, view_of}
+use Rattle.reaction_bound.specs.Kept.{ReactionView, view_of}
 use Rattle.reaction_bound.specs.Reaction as reaction
 use Rattle.plant_model.specs.Acts.{Act, Beginning}
 use Rattle.plant_model.specs.BoundLines.{is_driven, limit_of, said_of}

@@ -10,7 +10,7 @@ use Rattle.black_channel.specs.Told.{Told}
 use Rattle.failsafe_io.specs.declared.bit.Bit.{Bit}
 use Rattle.multi_master.specs.Calls.{Rule}
 use Rattle.plant_conf.specs.declared.conf.LinkConf.{LinkConf}
-use Rattle.reaction_bound.specs.Reaction.{ReactionView}
+use Rattle.reaction_bound.specs.Kept.{ReactionView}
 use Rattle.plant_model.specs.declared.journal.JournalStep.{JournalStep}
 use Rattle.plant_model.specs.Acts.{Beginning}
 use Rattle.plant_run.specs.Given.{GivenStands, waiting, waiting_in}

@@ -11,7 +11,7 @@ use Rattle.black_channel.specs.Told.{Told}
 use Rattle.exchange_model.specs.Fair.{Fair}
 use Rattle.plant_conf.specs.ConfView.{HasSameLengths}
 use Rattle.plant_conf.specs.declared.conf.LinkConf.{LinkConf}
-use Rattle.reaction_bound.specs.Reaction.{ReactionView}
+use Rattle.reaction_bound.specs.Kept.{ReactionView}
 use Rattle.file_run.specs.Left.{Done, Leaves, LeavesAs, MayFailIn}
 use Rattle.file_run.specs.Outside.{Outside}
 use Rattle.file_run.specs.Ran.{RanOver}

@@ -26,7 +26,7 @@ use Rattle.plant_setup.specs.Names.{IsTaken, place_of}
 use Rattle.plant_conf.specs.ConfView.{ConfView, HasSameLengths}
 use Rattle.plant_conf.specs.declared.conf.BoundSpec.{BoundSpec}
 use Rattle.plant_conf.specs.declared.conf.LinkConf.{LinkConf}
-use Rattle.reaction_bound.specs.Reaction.{ReactionView}
+use Rattle.reaction_bound.specs.Kept.{ReactionView}
 use Rattle.plant_model.specs.declared.event.PlantEvent.{PlantEvent}
 use Rattle.plant_model.specs.declared.event.PlantEvent.TheVariants as event
 use Rattle.plant_model.specs.declared.event.PlantLine.{PlantLine}

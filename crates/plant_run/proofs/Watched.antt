@@ -6,7 +6,8 @@ use Rattle.std.proofs.lemmas.List.{take_all}
 use Rattle.std.proofs.lemmas.Option.{slice_get_within, slice_get-map}
 use Rattle.plant_conf.specs.declared.conf.BoundSpec.{BoundSpec}
 use Rattle.plant_conf.specs.declared.conf.LinkConf.{LinkConf}
-use Rattle.reaction_bound.specs.Reaction.{Hears, Quiet, ReactionView, Tick, view_of}
+use Rattle.reaction_bound.specs.Kept.{Hears, ReactionView, view_of}
+use Rattle.reaction_bound.specs.Reaction.{Quiet, Tick}
 use Rattle.reaction_bound.specs.Reaction as reaction
 use Rattle.multi_master.proofs.Looping.{Untouched, next_taken, untouched_more, written_more}
 use Rattle.plant_model.specs.declared.journal.JournalStep.{JournalStep}

@@ -26,7 +26,7 @@ use Rattle.plant_model.specs.declared.event.PlantLine.{PlantLine}
 use Rattle.plant_model.specs.declared.journal.JournalStep.{JournalStep}
 use Rattle.plant_run.specs.declared.machine.Rest.{Rest}
 use Rattle.plant_run.specs.declared.machine.Rest.TheVariants as rest
-use Rattle.reaction_bound.specs.Reaction.{ReactionView}
+use Rattle.reaction_bound.specs.Kept.{ReactionView}
 
 -- an application that was handed in, under its name, by what is seen of one
 abbrev pub named : {H : Type 0} → (KindOf H → AppView) → EntryOf H → Named

@@ -2,7 +2,7 @@
 use Rattle.std.specs.Prelude.{◌≡◌, ◌+◌, ◌<◌, ◌^◌, ℕ, Bool, List, [], ◌∷◌, ◌++◌, drop, length, map, All, Option, IsSome}
 use Rattle.plant_conf.specs.declared.conf.BoundSpec.{BoundSpec}
 use Rattle.plant_conf.specs.declared.conf.LinkConf.{LinkConf}
-use Rattle.reaction_bound.specs.Reaction.{ReactionView, view_of}
+use Rattle.reaction_bound.specs.Kept.{ReactionView, view_of}
 use Rattle.reaction_bound.specs.Reaction as reaction
 use Rattle.plant_model.specs.Acts.{Beginning}
 use Rattle.plant_model.specs.BoundLines.{heard, limit_of, line_by, said_of}

@@ -1,4 +1,5 @@
 pub mod Age
 pub mod Ages
+pub mod Kept
 pub mod Reaction
 pub mod WorkedAge

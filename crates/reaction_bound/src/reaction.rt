@@ -11,7 +11,7 @@ pub struct Reaction {
 }
 
 impl Model for Reaction {
-    ghost use Rattle.reaction_bound.specs.Reaction.{ReactionView};
+    ghost use Rattle.reaction_bound.specs.Kept.{ReactionView};
 
     ghost Value = { ReactionView };
 
@@ -19,8 +19,10 @@ impl Model for Reaction {
 }
 
 impl Reaction {
-    ghost use Rattle.std.specs.Prelude.{◌≡◌, ◌<◌, ◌+◌, ◌^◌, ℕ, List, []};
-    ghost use Rattle.reaction_bound.specs.Reaction.{Said, Quiet, Tick, Hears, is_late, first_late, broken_of, view_of};
+    ghost use Rattle.std.specs.Prelude.{◌≡◌, ◌<◌, ◌+◌, ◌^◌, ◌&&◌, ℕ, List, []};
+    ghost use Rattle.exchange_model.specs.Other.{first_of_both};
+    ghost use Rattle.reaction_bound.specs.Reaction.{Said, Quiet, Tick, broken_of};
+    ghost use Rattle.reaction_bound.specs.Kept.{Hears, is_long, view_of};
 
     /// Creates a reaction that observed nothing. The drive must be off at the tick of number `limit`, counted from the
     /// first one with which the stop is quiet.
@@ -36,6 +38,7 @@ impl Reaction {
     }
 
     /// Sets whether the stop is quiet from now on. To set it again changes nothing.
+    #[tactic(auto, using(crate::proofs::Kept::broken_quiet))]
     pub fn quiet(&mut self, is: bool)
         ensures hears { Hears self.old (Quiet is) self.new }
         ensures ticks { self.new.ticks ≡ self.old.ticks }
@@ -48,6 +51,7 @@ impl Reaction {
     }
 
     /// Notes a tick that ended with the drive on, or off. Fewer than 2^64 - 1 ticks were noted before.
+    #[tactic(auto, using(crate::proofs::Kept::broken_tick))]
     pub fn tick(&mut self, on: bool)
         requires { self.old.ticks + 1 < 2 ^ 64 }
         ensures hears { Hears self.old (Tick on) self.new }
@@ -59,21 +63,21 @@ impl Reaction {
 
     /// The number of the first late tick, if the newest one ended with the drive on, or off.
     fn first_late(&self, on: bool) -> Option<u64>
-        ensures { result ≡ first_late self.now.broken (is_late self.now.limit on self.now.ticks self.now.quiet_from) self.now.ticks }
+        ensures { result ≡ first_of_both self.now.broken (on && is_long self.now.limit self.now.ticks self.now.quiet_from) self.now.ticks }
     {
         match self.broken {
-            None if self.is_late(on) => Some(self.ticks),
+            None if on && self.is_long() => Some(self.ticks),
             first => first,
         }
     }
 
-    /// Whether the newest tick, which ended with the drive on, or off, is late.
-    fn is_late(&self, on: bool) -> bool
-        ensures { result ≡ is_late self.now.limit on self.now.ticks self.now.quiet_from }
+    /// Whether the stop was quiet for the limit, with the newest tick.
+    fn is_long(&self) -> bool
+        ensures { result ≡ is_long self.now.limit self.now.ticks self.now.quiet_from }
     {
         match self.quiet_from {
             // The stop was quiet from no later tick on than the newest, so this is the count of the ticks since.
-            Some(from) => on && self.ticks.saturating_sub(from) >= u64::from(self.limit),
+            Some(from) => self.ticks.saturating_sub(from) >= u64::from(self.limit),
             None => false,
         }
     }

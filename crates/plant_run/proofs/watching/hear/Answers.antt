@@ -1,6 +1,6 @@
 use Rattle.std.proofs.Common.{◌≡◌, All, List, length, ap, sym, subst, ◌∙◌}
 use Rattle.multi_master.proofs.Keeping.{written_back}
-use Rattle.reaction_bound.specs.Reaction.{ReactionView}
+use Rattle.reaction_bound.specs.Kept.{ReactionView}
 use Rattle.plant_run.specs.Watching.{HasRoom}
 use Rattle.plant_run.proofs.watching.hear.Goals as goal
 
