@@ -78,8 +78,8 @@ pub record IsOnePair (h : Heading) (events : List Event) (input : InputOf PairsH
   pub events_are : input.events ≡ map (λ event. pairs_event.One 1 event) events
   pub ends : input.stop ≡ AtEnd
 
--- a text has one pair, of which it says what the bytes of a pair file do: the same header and the same events, over which
--- both ends have the same entries
+-- a text has one pair, of which it says what the bytes of a pair file do: the same header and the same events, over
+-- which both ends have the same entries
 pub record SaysTheSame (input text : List ℕ) : Type 0 where
   pub one_pair : IsSomeAnd (input_of kind.Pair input).heading (λ h. IsOnePair h (input_of kind.Pair input).events (pairs_input text))
   pub entries : (p : Pair) → world_of 1 p (events_done (p ∷ []) (pairs_input text).events) ≡ entries_over p (input_of kind.Pair input).events

@@ -1,5 +1,5 @@
--- What a net answers while it is the application of a plant. Calls of the master of many connections, acts and cycles are
--- listed newest first.
+-- What a net answers while it is the application of a plant. Calls of the master of many connections, acts and cycles
+-- are listed newest first.
 use Rattle.std.specs.Prelude.{◌≡◌, ℕ, Bool, true, false, List, [], ◌∷◌, map, Option, Some, None, IfSome}
 use Rattle.failsafe_io.specs.Application.{Answer}
 use Rattle.fb_net.specs.Meaning.{net_holds, rule_of, guards_of}

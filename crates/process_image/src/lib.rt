@@ -21,9 +21,9 @@
 //!   same bytes as before, so the master gets nothing and waits. To solve this, write different bytes into the slot,
 //!   sample, and write the frame again.
 //! - After the first sample zeros are a frame too. A bus that blanks its image ends each session.
-//! - What is overwritten before a sample is lost. So is what is sent before the output image was passed on: do that
-//!   after each sample and each tick. Half of a frame, if sampled, is a different frame, and ends the session except
-//!   in state Reset.
+//! - What is overwritten in the input image before a sample is lost. So is a frame in the output image, if its end
+//!   sends the next one before that image was passed on. So pass it on after each sample and each tick.
+//! - Half of a frame, if sampled, is a different frame. It ends the session, except in state Reset.
 //!
 //! ```rust
 //! use fsoe_base::Lengths;

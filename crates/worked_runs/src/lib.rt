@@ -1,6 +1,6 @@
-//! Tests of complete runs: a replay (also with failing input or output), a pair on a schedule, and a plant with its
-//! script; expected values are from external sources. A plain program judges whether the entries of a run are fair.
-//! Tests of `plant_conf` and `schedule_file` are here too, since each crate of tests loads what it names.
+//! Tests of complete runs: of a replay, also with input or output that fails, of a pair over a schedule, and of a plant
+//! with its script. The values that they expect are from outside. A plain program judges whether the entries of a run
+//! are fair. Tests of `plant_conf` and `schedule_file` are here too, since the runs need these crates anyway.
 #![tactic(auto)]
 
 #[cfg(test)]
