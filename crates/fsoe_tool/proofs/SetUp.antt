@@ -5,6 +5,7 @@ use Rattle.std.proofs.lemmas.Option.{slice_get_read}
 use Rattle.fsoe_io.specs.declared.status.Ended.{Ended}
 use Rattle.fsoe_io.specs.declared.status.Status.TheVariants as status
 use Rattle.black_channel.specs.Told.{Told}
+use Rattle.fb_net.specs.Standing.{IsNewNet}
 use Rattle.fb_net.specs.declared.kind_of.EntryOf.{EntryOf}
 use Rattle.fb_net.specs.declared.kind_of.KindOf.{KindOf}
 use Rattle.fb_net.specs.declared.kind_of.KindOf.TheVariants as kind
@@ -16,19 +17,21 @@ use Rattle.plant_setup.specs.Setup.{IsChosen, net_of, setup_fault}
 use Rattle.plant_setup.specs.declared.fault.SetupFault.{SetupFault}
 use Rattle.plant_run.specs.Ran.{RanPlant}
 use Rattle.multi_master.specs.Calls.{AppView}
+use Rattle.plant_model.specs.NetCycles.{net_app}
 use Rattle.plant_model.specs.Turns.{Named}
+use Rattle.plant_model.proofs.ByNet.{answers_by_net}
 use Rattle.plant_model.specs.declared.journal.JournalStep.{JournalStep}
 use Rattle.fsoe_tool.specs.Handed.{Handed, entry_seen}
-use Rattle.fsoe_tool.specs.Plant.{RanSaid, RanUnless, WroteLine, net_view}
+use Rattle.fsoe_tool.specs.Plant.{RanSaid, RanUnless, WroteLine, begins_with}
 use Rattle.fsoe_tool.proofs.Picked.{chosen_seen, map_twice, within}
 
 -- the net was taken out of the configuration, at which a plant doesn't look
 ran_whole : (conf taken : ConfView) (app : AppView) (spare : List Named) (ended : Ended) (o : Outside) (before after : Told) (steps : List JournalStep)
     → taken ≡ record conf { blocks = []; drives = [] }
-    → RanPlant (record { begins = record { links = taken.links; app = app; seed = taken.seed }; spare = spare; bounds = taken.bounds }) ended o before after steps
-    → RanPlant (record { begins = record { links = conf.links; app = app; seed = conf.seed }; spare = spare; bounds = conf.bounds }) ended o before after steps
+    → RanPlant (record { begins = begins_with taken app; spare = spare; bounds = taken.bounds }) ended o before after steps
+    → RanPlant (record { begins = begins_with conf app; spare = spare; bounds = conf.bounds }) ended o before after steps
 ran_whole conf taken app spare ended o before after steps rest ran =
-    subst (λ (c : ConfView). RanPlant (record { begins = record { links = c.links; app = app; seed = c.seed }; spare = spare; bounds = c.bounds }) ended o before after steps) rest ran
+    subst (λ (c : ConfView). RanPlant (record { begins = begins_with c app; spare = spare; bounds = c.bounds }) ended o before after steps) rest ran
 
 -- a fault of the names that were handed in is that of those that are seen
 ran_unless : {X C : Type 0} (f : X → Named) (apps : List X) (conf : ConfView) (names : List (List ℕ)) (found : Option SetupFault) (ended : Ended) (o : Outside) (h : Handed C)
@@ -72,9 +75,9 @@ set_up_refused app_of name_of tells conf apps channels why ended o steps fault w
 -- a plant that was set up and ran is what its configuration comes to
 pub set_up_ran : {H C : Type 0} (app_of : H → AppView) (name_of : C → List ℕ) (tells : C → Told) (conf taken : ConfView) (apps spare : List (EntryOf H)) (app : KindOf H) (seen : AppView) (channels : List C)
     (place : ℕ) (before after : C) (ended : Ended) (o : Outside) (steps : List JournalStep)
-    → RanPlant (record { begins = record { links = taken.links; app = seen; seed = taken.seed }; spare = map (entry_seen app_of) spare; bounds = taken.bounds }) ended o (tells before) (tells after) steps
-    → taken ≡ record conf { blocks = []; drives = [] }
-    → (app ≡ kind.Net (net_of conf) → seen ≡ net_view conf) → ((x : H) → app ≡ kind.Handed x → seen ≡ app_of x)
+    → RanPlant (record { begins = begins_with taken seen; spare = map (entry_seen app_of) spare; bounds = taken.bounds }) ended o (tells before) (tells after) steps
+    → taken ≡ record conf { blocks = []; drives = [] } → IsNewNet (net_of conf)
+    → (app ≡ kind.Net (net_of conf) → seen ≡ net_app (net_of conf)) → ((x : H) → app ≡ kind.Handed x → seen ≡ app_of x)
     → None ≡ setup_fault conf (map (λ entry. string_bytes entry.name) apps) (map name_of channels)
     → IsChosen (λ entry. string_bytes entry.name) conf.app apps spare (app ≡ kind.Net (net_of conf)) (λ entry. app ≡ kind.Handed entry.app)
     → place_of conf.channel (map name_of channels) ≡ Some place → before ≡ slice_index_or channels place before
@@ -86,7 +89,7 @@ pub set_up_ran : {H C : Type 0} (app_of : H → AppView) (name_of : C → List �
       channels_after = slice_set channels place after;
       journal = steps;
     })
-set_up_ran app_of name_of tells conf taken apps spare app seen channels place before after ended o steps ran rest net own fault chosen at is =
+set_up_ran app_of name_of tells conf taken apps spare app seen channels place before after ended o steps ran rest new net own fault chosen at is =
     ran_unless (entry_seen app_of) apps conf (map name_of channels) None ended o (record {
       apps = map (entry_seen app_of) apps;
       name_of = name_of;
@@ -97,7 +100,7 @@ set_up_ran app_of name_of tells conf taken apps spare app seen channels place be
     }) fault (record {
       app = seen;
       spare = map (entry_seen app_of) spare;
-      chosen = chosen_seen (entry_seen app_of) (λ (named : Named). named.name) conf.app apps spare (app ≡ kind.Net (net_of conf)) (seen ≡ net_view conf) (λ entry. app ≡ kind.Handed entry.app)
+      chosen = chosen_seen (entry_seen app_of) (λ (named : Named). named.name) conf.app apps spare (app ≡ kind.Net (net_of conf)) (seen ≡ net_app (net_of conf)) (λ entry. app ≡ kind.Handed entry.app)
           (λ named. seen ≡ named.app) net (λ entry e. own entry.app e) chosen;
       place = place;
       place_is = at;
@@ -106,4 +109,5 @@ set_up_ran app_of name_of tells conf taken apps spare app seen channels place be
       after = after;
       channels = refl;
       ran = ran_whole conf taken seen (map (entry_seen app_of) spare) ended o (tells before) (tells after) steps rest ran;
+      by_net = answers_by_net (net_of conf) new (begins_with conf seen);
     })

@@ -7,7 +7,6 @@ use Rattle.fsoe_io.specs.declared.desk.LoadFault.TheVariants as load
 use Rattle.fsoe_io.specs.declared.status.Ended.{Ended}
 use Rattle.fsoe_io.specs.declared.status.Status.{Status}
 use Rattle.fsoe_io.specs.declared.status.Status.TheVariants as status
-use Rattle.fb_net.specs.Meaning.{net_holds, rule_of, guards_of}
 use Rattle.file_run.specs.Ending.{Writes}
 use Rattle.file_run.specs.Outside.{Outside}
 use Rattle.plant_conf.specs.ConfView.{ConfView, conf_values}
@@ -21,6 +20,8 @@ use Rattle.plant_setup.specs.declared.fault.SetupFault.{SetupFault}
 use Rattle.plant_setup.specs.declared.fault.SetupFault.TheVariants as setup
 use Rattle.plant_run.specs.Ran.{RanPlant}
 use Rattle.multi_master.specs.Calls.{AppView}
+use Rattle.plant_model.specs.Acts.{Act, Beginning}
+use Rattle.plant_model.specs.NetCycles.{AnswersByNet, net_app}
 use Rattle.plant_model.specs.Turns.{Named}
 use Rattle.fsoe_tool.specs.Handed.{DeskTold, Handed}
 
@@ -44,24 +45,25 @@ pub record HadNoMemory {C : Type 0} (ended : Ended) (o : Outside) (h : Handed C)
   pub written : o.sink.after ≡ o.sink.before
   pub faults : o.sink.faults_after ≡ o.sink.faults_before
 
--- the net of a configuration, as contracts see an application
-abbrev pub net_view : ConfView → AppView
-net_view conf = let net = net_of conf in record { rule = rule_of net; holds = net_holds net; guards = guards_of net }
+-- what a plant with this configuration begins with, where this application runs first
+abbrev pub begins_with : ConfView → AppView → Beginning
+begins_with conf app = record { links = conf.links; app = app; seed = conf.seed }
 
 -- a plant with this configuration ran over its script: first with the net, or the first application of the name that
 -- the configuration has, and over the first channel of the name that it has. The other applications were left to the
--- script, and the other channels alone
+-- script, and the other channels alone. While the net runs, it answers by looking back over its cycles
 pub record RanSetUp {C : Type 0} (conf : ConfView) (ended : Ended) (o : Outside) (h : Handed C) : Type 0 where
   pub app : AppView
   pub spare : List Named
-  pub chosen : IsChosen (λ named. named.name) conf.app h.apps spare (app ≡ net_view conf) (λ named. app ≡ named.app)
+  pub chosen : IsChosen (λ named. named.name) conf.app h.apps spare (app ≡ net_app (net_of conf)) (λ named. app ≡ named.app)
   pub place : ℕ
   pub place_is : place_of conf.channel (map h.name_of h.channels_before) ≡ Some place
   pub before : C
   pub before_is : slice_get h.channels_before place ≡ Some before
   pub after : C
   pub channels : h.channels_after ≡ slice_set h.channels_before place after
-  pub ran : RanPlant (record { begins = record { links = conf.links; app = app; seed = conf.seed }; spare = spare; bounds = conf.bounds }) ended o (h.tells before) (h.tells after) h.journal
+  pub ran : RanPlant (record { begins = begins_with conf app; spare = spare; bounds = conf.bounds }) ended o (h.tells before) (h.tells after) h.journal
+  pub by_net : (act : Act) (acts : List Act) → AnswersByNet (net_of conf) (begins_with conf app) act acts
 
 -- what comes of a configuration that has this first fault, or none
 abbrev pub RanUnless : {C : Type 0} → Option SetupFault → ConfView → Ended → Outside → Handed C → Type 0

@@ -15,7 +15,7 @@ returns-in-Ok g c = record {
       let fault = rw c.as_slice.ensures.value at c.in-Ok.ensures.fault in
       let place = rw c.as_slice.ensures.value at c.in-Ok.ensures.channel in
       set_up_ran _ _ _ c.args.conf c.set_up.new.conf c.args.apps.items c.in-Ok.setup.spare.items c.in-Ok.setup.app _ c.args.channels.now.items c.in-Ok.setup.channel _ c.run_plant.new.channel _ _ _
-      c.run_plant.ensures c.in-Ok.ensures.rest (λ e. rw e refl) (λ x e. rw e refl) fault c.in-Ok.ensures.app place c.index_mut-channel.ensures.value;
+      c.run_plant.ensures c.in-Ok.ensures.rest c.in-Ok.ensures.is_new (λ e. rw e refl) (λ x e. rw e refl) fault c.in-Ok.ensures.app place c.index_mut-channel.ensures.value;
 }
 
 pub returns : goal.returns
