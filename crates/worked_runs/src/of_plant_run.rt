@@ -1,9 +1,10 @@
 use crate::fairness::first_unfair;
 use crate::pairs::{Played, play_pair};
-use crate::plants::{Ran, run_over, run_worked, set_worked};
+use crate::plants::{Ran, conf_with, run_over, run_with, run_worked, set_with, worked_conf};
 use crate::test_channels::Written;
+use black_channel::{ListChannel, Parcel};
 use duo_run::Duo;
-use fsoe_base::State;
+use fsoe_base::{End, FrameBuf, State};
 use fsoe_io::{Ended, Status};
 use plant_run::JournalStep;
 use std::alloc::Global;
@@ -75,7 +76,7 @@ fn plants_report_worked_rows(rt: HostRuntime) -> Result<(), Fail> {
 
 /// The channel that writes what is pushed, and the run of a plant over it and a script.
 fn run_written(alloc: Global, script: &str) -> Option<(Written, Ran)> {
-    let (conf, setup, _) = set_worked(alloc, "list", 0)?;
+    let (conf, setup, _) = set_with(alloc, worked_conf(alloc, "list", 0)?)?;
     let mut channel = Written::new(alloc)?;
     let ran = run_over(alloc, conf, setup, &mut channel, script)?;
     Some((channel, ran))
@@ -91,6 +92,68 @@ fn a_plant_pushes_each_masters_reset_once(rt: HostRuntime) -> Result<(), Fail> {
             channel.pushed.bytes(),
             b"1s 2a0000c42d0000\n2s 2a0000c42d0000\n".as_slice()
         );
+    }
+    Ok(())
+}
+
+/// What a plant brings to its second slave in two ticks, after which its drive is on. The slave's watchdog is of 5,000
+/// ticks.
+fn recorded(alloc: Global) -> Option<Vec<Parcel>> {
+    let conf = conf_with(alloc, "perfect", 1, 5_000, "")?;
+    let ran = run_with(alloc, conf, "fsoe 1 plant\nt\np 1 0300\nt\nend\n")?;
+    let mut parcels = Vec::new(alloc);
+    for step in ran.journal.steps() {
+        if let JournalStep::Pulled(parcel) = step {
+            if parcel.to.link == 2 && parcel.to.end == End::Slave {
+                let mut frame = FrameBuf::new();
+                frame.set(parcel.frame.bytes());
+                let to = parcel.to;
+                parcels.push(Parcel { to, frame }).ok()?;
+            }
+        }
+    }
+    Some(parcels)
+}
+
+const BOUND: &str = "[[bound]]\nestop = \"i1.0\"\ndrive = \"o2.0\"\n";
+
+/// The worked plant with a bound, to which a channel gives what another plant recorded. The stop is let go for a moment
+/// between so many ticks and so many more.
+fn run_forged(alloc: Global, before: u8, after: u8) -> Result<Ran, Fail> {
+    let conf = conf_with(alloc, "list", 0, 5, BOUND).ok_or("configuration")?;
+    let (conf, setup, _) = set_with(alloc, conf).ok_or("not set up")?;
+    let gifts = recorded(alloc).ok_or("not recorded")?;
+    let mut channel = ListChannel::new(alloc, gifts, 0).ok().ok_or("no channel")?;
+    let mut script = "fsoe 1 plant\n".to_string(alloc)?;
+    for _ in 0..before {
+        script.push_str("t\n")?;
+    }
+    script.push_str("p 1 0300\np 1 0000\n")?;
+    for _ in 0..after {
+        script.push_str("t\n")?;
+    }
+    script.push_str("end\n")?;
+    Ok(run_over(alloc, conf, setup, &mut channel, script.as_str()).ok_or("not run")?)
+}
+
+/// Frames that fit keep the drive on though the stop is pressed, and the bound's line tells the first tick at which that
+/// is so for 20 ticks without a break.
+#[test]
+fn forged_frames_break_a_bound(rt: HostRuntime) -> Result<(), Fail> {
+    for (before, after, told) in [
+        (3u8, 19u8, "kept"),
+        (3, 20, "broken 23"),
+        (3, 30, "broken 23"),
+        (21, 3, "broken 20"),
+    ] {
+        let ran = run_forged(rt.alloc(), before, after)?;
+        let status = Status::Other;
+        assert_eq!(rt; ran.ended, Ended { status, place: 2 }, "{told}");
+        let ticks = before.saturating_add(after);
+        let last = format!(in rt.alloc();
+            "2 Reset 0000 Data 0100\nticks {ticks}\nother 2\nbound i1.0 o2.0 20 worst - - {told}\n"
+        )?;
+        assert!(rt; ran.sink.bytes().ends_with(last.as_bytes()), "{told}");
     }
     Ok(())
 }

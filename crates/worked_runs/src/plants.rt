@@ -9,8 +9,8 @@ use plant_run::{Journal, run_plant};
 use plant_setup::{Setup, set_up};
 use std::alloc::Global;
 
-/// What stands in its configuration after the names of its application and channel, and the seed.
-const TABLES: &str = "
+/// What stands in its configuration between the seed and the second watchdog.
+const STOP: &str = "
 [[connection]]
 id = 1
 address = 11
@@ -21,7 +21,10 @@ slave_length = 2
 [[connection]]
 id = 2
 address = 12
-watchdog = 5
+watchdog";
+
+/// What stands after that.
+const DRIVE: &str = "
 master_length = 2
 slave_length = 2
 
@@ -57,21 +60,31 @@ fn channels(alloc: Global) -> Option<Vec<Box<dyn Channel>>> {
     Some(channels)
 }
 
-/// The worked plant with the channel of this name and this seed.
-pub(crate) fn worked_conf(alloc: Global, channel: &str, seed: u64) -> Option<PlantConf> {
+/// The worked plant with the channel of this name, this seed and this watchdog of the second connection. After all other
+/// tables come these.
+pub(crate) fn conf_with(
+    alloc: Global,
+    channel: &str,
+    seed: u64,
+    watchdog: u16,
+    more: &str,
+) -> Option<PlantConf> {
     let text = format!(in alloc;
-        "[plant]\napp = \"net\"\nchannel = \"{channel}\"\nseed = {seed}\n{TABLES}"
+        "[plant]\napp = \"net\"\nchannel = \"{channel}\"\nseed = {seed}\n{STOP} = {watchdog}\n{DRIVE}{more}"
     ).ok()?;
     read_conf(alloc, text.as_bytes()).ok()
 }
 
-/// The same set up, and the channels that were handed in. Its script may take the application `zeros`.
-pub(crate) fn set_worked(
+/// The worked plant with the channel of this name and this seed.
+pub(crate) fn worked_conf(alloc: Global, channel: &str, seed: u64) -> Option<PlantConf> {
+    conf_with(alloc, channel, seed, 5, "")
+}
+
+/// A plant set up, and the channels that were handed in. Its script may take the application `zeros`.
+pub(crate) fn set_with(
     alloc: Global,
-    channel: &str,
-    seed: u64,
+    mut conf: PlantConf,
 ) -> Option<(PlantConf, Setup, Vec<Box<dyn Channel>>)> {
-    let mut conf = worked_conf(alloc, channel, seed)?;
     let mut apps = Vec::new(alloc);
     let name = "zeros".to_string(alloc).ok()?;
     let app = Box::new(alloc, Zeros).ok()?;
@@ -111,10 +124,15 @@ pub(crate) fn run_over<C: Channel>(
     })
 }
 
-/// Runs it over a script, with the channel of this name and this seed. None where there is no memory for what it is
-/// handed.
-pub(crate) fn run_worked(alloc: Global, channel: &str, seed: u64, script: &str) -> Option<Ran> {
-    let (conf, setup, mut channels) = set_worked(alloc, channel, seed)?;
+/// Runs a plant over a script, with the channel that it names. None where there is no memory for what it is handed.
+pub(crate) fn run_with(alloc: Global, conf: PlantConf, script: &str) -> Option<Ran> {
+    let (conf, setup, mut channels) = set_with(alloc, conf)?;
     let channel = channels.get_mut(setup.channel)?;
     run_over(alloc, conf, setup, channel, script)
+}
+
+/// Runs the worked plant over a script, with the channel of this name and this seed. None where there is no memory for
+/// what it is handed.
+pub(crate) fn run_worked(alloc: Global, channel: &str, seed: u64, script: &str) -> Option<Ran> {
+    run_with(alloc, worked_conf(alloc, channel, seed)?, script)
 }
