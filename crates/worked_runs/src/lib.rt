@@ -6,6 +6,8 @@
 #[cfg(test)]
 mod fairness;
 #[cfg(test)]
+mod letting_go;
+#[cfg(test)]
 mod of_commands;
 #[cfg(test)]
 mod of_duo_run;

@@ -76,18 +76,19 @@ fn plants_report_worked_rows(rt: HostRuntime) -> Result<(), Fail> {
 
 /// The channel that writes what is pushed, and the run of a plant over it and a script.
 fn run_written(alloc: Global, script: &str) -> Option<(Written, Ran)> {
-    let (conf, setup, _) = set_with(alloc, worked_conf(alloc, "list", 0)?)?;
+    let (conf, setup, _) = set_with(alloc, worked_conf(alloc, "net", "list", 0)?)?;
     let mut channel = Written::new(alloc)?;
     let ran = run_over(alloc, conf, setup, &mut channel, script)?;
     Some((channel, ran))
 }
 
-/// Both in the first tick.
+/// Both in the first tick, on a channel that begins once.
 #[test]
 fn a_plant_pushes_each_masters_reset_once(rt: HostRuntime) -> Result<(), Fail> {
     for script in ["fsoe 1 plant\nt\nend\n", "fsoe 1 plant\nt\nt\nend\n"] {
         let (channel, ran) = run_written(rt.alloc(), script).ok_or("not run")?;
         assert_eq!(rt; ran.ended.status, Status::Ok);
+        assert_eq!(rt; channel.begins, 1);
         assert_eq!(rt;
             channel.pushed.bytes(),
             b"1s 2a0000c42d0000\n2s 2a0000c42d0000\n".as_slice()
@@ -99,7 +100,7 @@ fn a_plant_pushes_each_masters_reset_once(rt: HostRuntime) -> Result<(), Fail> {
 /// What a plant brings to its second slave in two ticks, after which its drive is on. The slave's watchdog is of 5,000
 /// ticks.
 fn recorded(alloc: Global) -> Option<Vec<Parcel>> {
-    let conf = conf_with(alloc, "perfect", 1, 5_000, "")?;
+    let conf = conf_with(alloc, "net", "perfect", 1, 5_000, "")?;
     let ran = run_with(alloc, conf, "fsoe 1 plant\nt\np 1 0300\nt\nend\n")?;
     let mut parcels = Vec::new(alloc);
     for step in ran.journal.steps() {
@@ -120,7 +121,7 @@ const BOUND: &str = "[[bound]]\nestop = \"i1.0\"\ndrive = \"o2.0\"\n";
 /// The worked plant with a bound, to which a channel gives what another plant recorded. The stop is let go for a moment
 /// between so many ticks and so many more.
 fn run_forged(alloc: Global, before: u8, after: u8) -> Result<Ran, Fail> {
-    let conf = conf_with(alloc, "list", 0, 5, BOUND).ok_or("configuration")?;
+    let conf = conf_with(alloc, "net", "list", 0, 5, BOUND).ok_or("configuration")?;
     let (conf, setup, _) = set_with(alloc, conf).ok_or("not set up")?;
     let gifts = recorded(alloc).ok_or("not recorded")?;
     let mut channel = ListChannel::new(alloc, gifts, 0).ok().ok_or("no channel")?;

@@ -53,12 +53,13 @@ impl Channel for Crossed {
     }
 }
 
-/// A channel that gives nothing, and writes what is pushed: for each parcel the number of its connection, `m` or `s`, a
-/// space, the frame and a newline.
+/// A channel that gives nothing. It counts how often it begins, and writes what is pushed: for each parcel the number of
+/// its connection, `m` or `s`, a space, the frame and a newline.
 #[derive(Drop)]
 pub(crate) struct Written {
     channel: ListChannel,
     pub pushed: LineText,
+    pub begins: u8,
 }
 
 impl Written {
@@ -67,6 +68,7 @@ impl Written {
         Some(Written {
             channel,
             pushed: LineText::new(),
+            begins: 0,
         })
     }
 }
@@ -81,6 +83,7 @@ impl Channel for Written {
     }
 
     fn begin(&mut self, seed: u64) {
+        self.begins = self.begins.saturating_add(1);
         self.channel.begin(seed)
     }
 
