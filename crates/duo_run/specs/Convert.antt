@@ -1,5 +1,5 @@
 -- What a pair file is converted to: a file of several pairs, of which it is the only one.
-use Rattle.std.specs.Prelude.{◌≡◌, ℕ, ◌+◌, ◌-◌, List, [], ◌∷◌, ◌++◌, codes, length, map, take, Result, Ok, Err, IfSome, IsSomeAnd, Some}
+use Rattle.std.specs.Prelude.{◌≡◌, ℕ, ◌+◌, ◌-◌, ◌<◌, List, [], ◌∷◌, ◌++◌, codes, length, map, take, Result, Ok, Err, IfSome, IsSomeAnd, Some}
 use Rattle.std.specs.List.{flat_map}
 use Rattle.std.specs.declared.option.Option.{Option}
 use Rattle.std.specs.Io.KnownBytes.{Consumes, prepend_known}
@@ -117,10 +117,10 @@ pub record ConvertRead (lines : ℕ) (o : Outside) : Type 0 where
   pub wrote : Wrote o (λ input text. ConvertsReadLines lines input o.source.after text)
   pub cause : Rose o.source.faults_before o.source.faults_after
 
--- a write failed after so many bytes
+-- a write failed after so many bytes, and the whole text is longer
 pub record ConvertWrite (bytes : ℕ) (o : Outside) : Type 0 where
   pub appended : Appended bytes o.sink.before o.sink.after
-  pub wrote : Wrote o (λ input text. (bytes ≡ length text) × IsPrefix text (converted input))
+  pub wrote : Wrote o (λ input text. (bytes ≡ length text) × IsPrefix text (converted input) × (length text < length (converted input)))
   pub cause : Rose o.sink.faults_before o.sink.faults_after
 
 -- what each status says of a conversion, with its place

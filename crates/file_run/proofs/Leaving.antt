@@ -3,7 +3,7 @@ use Rattle.std.proofs.Common.{◌≡◌, ℕ, ◌+◌, ◌≤◌, Bool, List, []
 use Rattle.std.specs.Prelude.{◌⊎◌, Ok, Err, None, Some}
 use Rattle.std.specs.declared.option.Option.{Option}
 use Rattle.std.proofs.lemmas.List.{append-nil, length-append}
-use Rattle.fsoe_io.specs.Output.{OutputView, Passes}
+use Rattle.fsoe_io.specs.Output.{OutputView, Loses}
 use Rattle.fsoe_io.specs.Sink.{Grew}
 use Rattle.fsoe_io.specs.declared.status.Ended.{Ended}
 use Rattle.fsoe_io.specs.declared.status.Status.{Status}
@@ -99,7 +99,7 @@ still_so r stands says left0 left w0 w waiting events lines k reports = λ place
 
 -- a write failed before a line
 pub left_unsent : {H L E : Type 0} (r : Reporting H L E) (stands left : Standing H E) (closes : Closing H E) (says : Saying L) (o : Outside) (b w1 : Option (List ℕ)) (waiting now : OutputView) (events lines : ℕ) (rest : List ℕ) (ended : Ended)
-    (k : Running r stands says o.source.before b o.sink.before w1 waiting events lines) → Reports r stands → left k.heading k.log k.text → Passes waiting now w1 o.sink.after [] rest → ended.status ≡ status.Write → ended.place ≡ now.sent → LeavesDone r left closes ended o
+    (k : Running r stands says o.source.before b o.sink.before w1 waiting events lines) → Reports r stands → left k.heading k.log k.text → Loses waiting now w1 o.sink.after [] rest → ended.status ≡ status.Write → ended.place ≡ now.sent → LeavesDone r left closes ended o
 left_unsent r stands left closes says o b w1 waiting now events lines rest ended k reports stood p e place =
     let d = done_so r stands says o.source.before b o.sink.before w1 waiting events lines k in
     record {
@@ -107,13 +107,13 @@ left_unsent r stands left closes says o b w1 waiting now events lines rest ended
       stood = stood;
       begun = begun_so r.format d o.source.before b k.seen;
       ends = did_write r closes d o ended k.text e (inl refl) (text_part o.sink.before w1 o.sink.after waiting now k.text rest ended.place k.sent p place)
-          (still_so r stands says o.source.before b o.sink.before w1 waiting events lines k reports ended.place (omega (arith, place, p.sent)));
+          (still_so r stands says o.source.before b o.sink.before w1 waiting events lines k reports ended.place (omega (arith, place, p.passes.sent)));
     }
 
 -- the text of an event could not be written
 pub left_lost : {H L E : Type 0} (r : Reporting H L E) (old left : Standing H E) (closes : Closing H E) (says : Saying L) (full : Bool) (o : Outside) (b c w1 : Option (List ℕ)) (waiting now : OutputView) (events lines : ℕ) (event : E) (piece rest : List ℕ) (ended : Ended)
     (k : Running r old says o.source.before b o.sink.before w1 waiting events lines) → Reports r old → FindsEvent r.format.event says full (Ok (Some event)) b c → IsFullness r old events full → left k.heading (k.log ++ event ∷ []) (k.text ++ piece)
-    → Passes waiting now w1 o.sink.after piece rest → ended.status ≡ status.Write → ended.place ≡ now.sent → LeavesDone r left closes ended o
+    → Loses waiting now w1 o.sink.after piece rest → ended.status ≡ status.Write → ended.place ≡ now.sent → LeavesDone r left closes ended o
 left_lost {H} {L} {E} r old left closes says full o b c w1 waiting now events lines event piece rest ended k reports finds fullness stood p e place =
     let d : Done H E = record { heading = k.heading; lines = k.header; log = k.log ++ event ∷ []; text = k.text ++ piece } in
     record {
@@ -121,7 +121,7 @@ left_lost {H} {L} {E} r old left closes says full o b c w1 waiting now events li
       stood = stood;
       begun = begun_so r.format d o.source.before c (event_seen r old says full o.source.before b c o.sink.before w1 waiting events lines event k finds fullness);
       ends = did_write r closes d o ended (k.text ++ piece) e (inl refl) (piece_part o.sink.before w1 o.sink.after waiting now k.text piece rest ended.place k.sent p place)
-          (ahead_so r old says o.source.before b o.sink.before w1 waiting events lines k reports (k.log ++ event ∷ []) (event ∷ []) ended.place refl (omega arith) (omega (arith, place, p.sent)));
+          (ahead_so r old says o.source.before b o.sink.before w1 waiting events lines k reports (k.log ++ event ∷ []) (event ∷ []) ended.place refl (omega arith) (omega (arith, place, p.passes.sent)));
     }
 
 -- the next line is refused by itself

@@ -6,7 +6,7 @@ use Rattle.std.proofs.lemmas.Bool.{eqb-true}
 use Rattle.std.proofs.lemmas.List.{append-nil, length-append}
 use Rattle.fsoe_io.proofs.Grown.{grew_then}
 use Rattle.fsoe_io.proofs.Passing.{passes_none}
-use Rattle.fsoe_io.specs.Output.{OutputView, Passes, Puts}
+use Rattle.fsoe_io.specs.Output.{OutputView, Loses, Passes, Puts}
 use Rattle.fsoe_io.specs.declared.status.Ended.{Ended}
 use Rattle.fsoe_io.specs.declared.status.Status.TheVariants as status
 use Rattle.fsoe_io.specs.Faults.{Rose}
@@ -26,20 +26,25 @@ passes_both old mid new w0 w1 w2 first then rest p q = record {
 }
 
 -- what comes after a piece that was lost is lost too
-pub passes_lost : (old new : OutputView) (w0 w : Option (List ℕ)) (piece later rest : List ℕ) → Passes old new w0 w piece rest → Passes old new w0 w (piece ++ later) (rest ++ later)
-passes_lost old new w0 w piece later rest p = record {
-  part = p.part;
-  grew = p.grew;
-  whole = sym (append_assoc old.bytes piece later) ∙ ap (λ (z : List ℕ). z ++ later) p.whole ∙ append_assoc p.part rest later;
-  sent = p.sent;
-}
+loses_more : (old new : OutputView) (w0 w : Option (List ℕ)) (piece later rest : List ℕ) → Loses old new w0 w piece rest → Loses old new w0 w (piece ++ later) (rest ++ later)
+loses_more old new w0 w piece later rest l =
+    let p = l.passes in
+    record {
+      passes = record {
+        part = p.part;
+        grew = p.grew;
+        whole = sym (append_assoc old.bytes piece later) ∙ ap (λ (z : List ℕ). z ++ later) p.whole ∙ append_assoc p.part rest later;
+        sent = p.sent;
+      };
+      more = omega (arith, l.more, length-append rest later);
+    }
 
 pub puts_lost : {E : Type 0} (e : E) (old new : OutputView) (w0 w : Option (List ℕ)) (piece later : List ℕ) → Puts {T = Unit {0}} (Err e) old new w0 w piece → Puts {T = Unit {0}} (Err e) old new w0 w (piece ++ later)
-puts_lost e old new w0 w piece later p = (p.0 ++ later, omega (arith, p.1, length-append p.0 later), passes_lost old new w0 w piece later p.0 p.2)
+puts_lost e old new w0 w piece later p = (p.0 ++ later, loses_more old new w0 w piece later p.0 p.1)
 
 pub puts_both : {T E : Type 0} (r : Result T E) (old mid new : OutputView) (w0 w1 w2 : Option (List ℕ)) (first then : List ℕ) → Passes old mid w0 w1 first mid.bytes → Puts r mid new w1 w2 then → Puts r old new w0 w2 (first ++ then)
 puts_both (Ok x) old mid new w0 w1 w2 first then p q = passes_both old mid new w0 w1 w2 first then new.bytes p q
-puts_both (Err e) old mid new w0 w1 w2 first then p q = (q.0, q.1, passes_both old mid new w0 w1 w2 first then q.0 p q.2)
+puts_both (Err e) old mid new w0 w1 w2 first then p q = (q.0, record { passes = passes_both old mid new w0 w1 w2 first then q.0 p q.1.passes; more = q.1.more })
 
 -- a list that has no item, and one that has some
 pub is_none : (xs : List ℕ) → true ≡ length xs == 0 → xs ≡ []
@@ -109,12 +114,13 @@ writes_after old mid w0 w1 w2 faults between after text ended result p stayed wr
 pub writes_cut : {E : Type 0} (error : E) (old new : OutputView) (w0 w : Option (List ℕ)) (faults after : ℕ) (text : List ℕ) (ended result : Ended) → Puts {T = Unit {0}} (Err error) old new w0 w text → Rose faults after
     → result.status ≡ status.Write → result.place ≡ new.sent → Writes old.sent (old.bytes ++ text) ended result (record { before = w0; after = w; faults_before = faults; faults_after = after })
 writes_cut error old new w0 w faults after text ended result p rose is place =
+    let q = p.1.passes in
     inr (record {
-      part = p.2.part;
-      grew = p.2.grew;
-      begins = (p.0, p.2.whole);
-      less = omega (arith, p.1, ap (length {A = ℕ}) p.2.whole, length-append p.2.part p.0);
+      part = q.part;
+      grew = q.grew;
+      begins = (p.0, q.whole);
+      less = omega (arith, p.1.more, ap (length {A = ℕ}) q.whole, length-append q.part p.0);
       status_is = is;
-      place_is = place ∙ p.2.sent;
+      place_is = place ∙ q.sent;
       cause = rose;
     })

@@ -7,7 +7,7 @@ use Rattle.std.proofs.lemmas.List.{append-nil, length-append, length_push}
 use Rattle.std.proofs.lemmas.Option.{IfSome_then}
 use Rattle.fsoe_io.specs.Faults.{Rose}
 use Rattle.fsoe_io.specs.Line.{HasNoNewline, most_held}
-use Rattle.fsoe_io.specs.Output.{OutputView, Passes, most_waiting}
+use Rattle.fsoe_io.specs.Output.{OutputView, Loses, Passes, most_waiting}
 use Rattle.fsoe_io.specs.Sink.{Grew}
 use Rattle.fsoe_io.specs.declared.status.Ended.{Ended}
 use Rattle.fsoe_io.specs.declared.status.Status.{Status}
@@ -172,7 +172,7 @@ begun r stands says left0 left w0 w waiting events lines reports k =
 
 -- a write failed before a line
 pub ends_unsent : {H L E : Type 0} (r : Reporting H L E) (stands : Standing H E) (says : Saying L) (o : Outside) (left w1 : Option (List ℕ)) (waiting now : OutputView) (events lines : ℕ) (rest : List ℕ) (ended : Ended) → Reports r stands
-    → Running r stands says o.source.before left o.sink.before w1 waiting events lines → Passes waiting now w1 o.sink.after [] rest → ended.status ≡ status.Write → ended.place ≡ now.sent
+    → Running r stands says o.source.before left o.sink.before w1 waiting events lines → Loses waiting now w1 o.sink.after [] rest → ended.status ≡ status.Write → ended.place ≡ now.sent
     → Rose o.sink.faults_before o.sink.faults_after → EndsAs r ended.status ended o
 ends_unsent r stands says o left w1 waiting now events lines rest ended reports k p e place rose =
     ends_write r o ended k.text e (text_part o.sink.before w1 o.sink.after waiting now k.text rest ended.place k.sent p place)
@@ -181,7 +181,7 @@ ends_unsent r stands says o left w1 waiting now events lines rest ended reports 
 -- the line of an event could not be written
 pub ends_lost : {H L E : Type 0} (r : Reporting H L E) (old new : Standing H E) (says : Saying L) (full : Bool) (o : Outside) (b c w1 : Option (List ℕ)) (waiting now : OutputView) (events lines : ℕ) (event : E) (piece rest : List ℕ) (ended : Ended)
     → Reports r new → Running r old says o.source.before b o.sink.before w1 waiting events lines → FindsEvent r.format.event says full (Ok (Some event)) b c → IsFullness r old events full → TakesEvent old new event (events + 1) piece
-    → Passes waiting now w1 o.sink.after piece rest → ended.status ≡ status.Write → ended.place ≡ now.sent → Rose o.sink.faults_before o.sink.faults_after → EndsAs r ended.status ended o
+    → Loses waiting now w1 o.sink.after piece rest → ended.status ≡ status.Write → ended.place ≡ now.sent → Rose o.sink.faults_before o.sink.faults_after → EndsAs r ended.status ended o
 ends_lost r old new says full o b c w1 waiting now events lines event piece rest ended reports k finds fullness on p e place rose =
     let stood = on.takes k.heading k.log k.text (omega (arith, k.count)) k.stood in
     ends_write r o ended (k.text ++ piece) e (piece_part o.sink.before w1 o.sink.after waiting now k.text piece rest ended.place k.sent p place)

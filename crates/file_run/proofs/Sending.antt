@@ -1,12 +1,12 @@
 -- What a run sent, and how it ends by that.
-use Rattle.std.proofs.Common.{◌≡◌, ℕ, ◌≤◌, List, [], ◌++◌, arith, ap, ◌∙◌, sym, subst, append_assoc, inl, inr}
+use Rattle.std.proofs.Common.{◌≡◌, ℕ, ◌≤◌, ◌<◌, List, [], ◌++◌, length, arith, ap, ◌∙◌, sym, subst, append_assoc, inl, inr}
 use Rattle.std.specs.Prelude.{IfSome}
 use Rattle.std.specs.declared.option.Option.{Option}
 use Rattle.std.proofs.lemmas.List.{append-nil, length-append}
 use Rattle.std.proofs.lemmas.Option.{IfSome_then}
 use Rattle.fsoe_io.proofs.Grown.{grew_then}
 use Rattle.fsoe_io.proofs.Passing.{grew_none}
-use Rattle.fsoe_io.specs.Output.{OutputView, Passes}
+use Rattle.fsoe_io.specs.Output.{OutputView, Loses, Passes}
 use Rattle.fsoe_io.specs.Faults.{Rose}
 use Rattle.fsoe_io.specs.Sink.{Grew}
 use Rattle.fsoe_io.specs.declared.status.Ended.{Ended}
@@ -15,37 +15,46 @@ use Rattle.schedule_file.specs.Input.{InputOf, input_read}
 use Rattle.file_run.specs.Ending.{AppendedPart, IsCutOff, Writes}
 use Rattle.file_run.specs.Outside.{Outside, Told}
 use Rattle.file_run.specs.Ran.{EndsAs, FailedWrite}
-use Rattle.file_run.specs.Reporting.{Reporting, BeginsReport, IsPrefix}
+use Rattle.file_run.specs.Reporting.{Reporting, BeginsReport, CutsReport, IsPrefix}
 pub use Rattle.file_run.specs.Running.{Sent}
 
 pub sent_none : (w : Option (List ℕ)) (waiting : OutputView) → waiting.bytes ≡ [] → waiting.sent ≡ 0 → Sent w w waiting []
 sent_none w waiting none sent = record { sent = []; sink = grew_none w; count = sent; whole = none }
 
--- a first part of a text went to the sink
-pub sent_part : (w0 w1 w2 : Option (List ℕ)) (waiting now : OutputView) (text piece rest : List ℕ) → Sent w0 w1 waiting text → Passes waiting now w1 w2 piece rest → AppendedPart w0 w2 now.sent (text ++ piece)
-sent_part w0 w1 w2 waiting now text piece rest s p = record {
-  part = s.sent ++ p.part;
-  grew = grew_then w0 w1 w2 s.sent p.part s.sink p.grew;
-  counts = omega (arith, p.sent, s.count, length-append s.sent p.part);
-  begins = (rest, rw (← s.whole, append_assoc, p.whole) (sym (append_assoc s.sent p.part rest)));
-}
-
 -- a piece more
 pub sent_piece : (w0 w1 w2 : Option (List ℕ)) (waiting now : OutputView) (text piece : List ℕ) → Sent w0 w1 waiting text → Passes waiting now w1 w2 piece now.bytes → Sent w0 w2 now (text ++ piece)
-unfolding sent_part
-sent_piece w0 w1 w2 waiting now text piece s p =
-    let q = sent_part w0 w1 w2 waiting now text piece now.bytes s p in
-    record { sent = q.part; sink = q.grew; count = q.counts; whole = sym q.begins.1 }
+sent_piece w0 w1 w2 waiting now text piece s p = record {
+  sent = s.sent ++ p.part;
+  sink = grew_then w0 w1 w2 s.sent p.part s.sink p.grew;
+  count = omega (arith, p.sent, s.count, length-append s.sent p.part);
+  whole =
+      append_assoc s.sent p.part now.bytes ∙ ap (λ (z : List ℕ). s.sent ++ z) (sym p.whole) ∙ sym (append_assoc s.sent waiting.bytes piece)
+      ∙ ap (λ (z : List ℕ). z ++ piece) s.whole;
+}
+
+-- a first part of a text went to the sink
+pub sent_part : (w0 w1 w2 : Option (List ℕ)) (waiting now : OutputView) (text piece rest : List ℕ) → Sent w0 w1 waiting text → Loses waiting now w1 w2 piece rest → AppendedPart w0 w2 now.sent (text ++ piece)
+unfolding sent_piece
+sent_part w0 w1 w2 waiting now text piece rest s l =
+    let p = l.passes in
+    let q = sent_piece w0 w1 w2 waiting (record { bytes = rest; sent = now.sent }) text piece s (record { part = p.part; grew = p.grew; whole = p.whole; sent = p.sent }) in
+    record {
+      part = q.sent;
+      grew = q.sink;
+      counts = q.count;
+      begins = (rest, sym q.whole);
+      less = omega (arith, l.more, ap (length {A = ℕ}) q.whole, length-append q.sent rest);
+    }
 
 -- what waited was sent
 pub sent_flushed : (w0 w1 w2 : Option (List ℕ)) (waiting now : OutputView) (text : List ℕ) → Sent w0 w1 waiting text → Passes waiting now w1 w2 [] now.bytes → Sent w0 w2 now text
 sent_flushed w0 w1 w2 waiting now text s p = subst (Sent w0 w2 now) (append-nil text) (sent_piece w0 w1 w2 waiting now text [] s p)
 
 -- where the sink failed in a piece, so many bytes were sent
-pub piece_part : (w0 w1 w2 : Option (List ℕ)) (waiting now : OutputView) (text piece rest : List ℕ) (place : ℕ) → Sent w0 w1 waiting text → Passes waiting now w1 w2 piece rest → place ≡ now.sent → AppendedPart w0 w2 place (text ++ piece)
+pub piece_part : (w0 w1 w2 : Option (List ℕ)) (waiting now : OutputView) (text piece rest : List ℕ) (place : ℕ) → Sent w0 w1 waiting text → Loses waiting now w1 w2 piece rest → place ≡ now.sent → AppendedPart w0 w2 place (text ++ piece)
 piece_part w0 w1 w2 waiting now text piece rest place s p at = subst (λ (n : ℕ). AppendedPart w0 w2 n (text ++ piece)) (sym at) (sent_part w0 w1 w2 waiting now text piece rest s p)
 
-pub text_part : (w0 w1 w2 : Option (List ℕ)) (waiting now : OutputView) (text rest : List ℕ) (place : ℕ) → Sent w0 w1 waiting text → Passes waiting now w1 w2 [] rest → place ≡ now.sent → AppendedPart w0 w2 place text
+pub text_part : (w0 w1 w2 : Option (List ℕ)) (waiting now : OutputView) (text rest : List ℕ) (place : ℕ) → Sent w0 w1 waiting text → Loses waiting now w1 w2 [] rest → place ≡ now.sent → AppendedPart w0 w2 place text
 text_part w0 w1 w2 waiting now text rest place s p at = subst (AppendedPart w0 w2 place) (append-nil text) (piece_part w0 w1 w2 waiting now text [] rest place s p at)
 
 -- and where it failed at the end
@@ -53,8 +62,11 @@ pub cut_part : (w0 w1 : Option (List ℕ)) (waiting : OutputView) (text last : L
     → AppendedPart w0 sink.after result.place (text ++ last)
 cut_part w0 w1 waiting text last result sink s cut =
     let now : OutputView = record { bytes = []; sent = result.place } in
-    let p : Passes waiting now w1 sink.after last cut.begins.0 = record { part = cut.part; grew = cut.grew; whole = cut.begins.1; sent = cut.place_is } in
-    sent_part w0 w1 sink.after waiting now text last cut.begins.0 s p
+    let l : Loses waiting now w1 sink.after last cut.begins.0 = record {
+      passes = record { part = cut.part; grew = cut.grew; whole = cut.begins.1; sent = cut.place_is };
+      more = omega (arith, cut.less, ap (length {A = ℕ}) cut.begins.1, length-append cut.part cut.begins.0);
+    } in
+    sent_part w0 w1 sink.after waiting now text last cut.begins.0 s l
 
 -- all was sent
 pub grew_written : (w0 w1 w2 : Option (List ℕ)) (waiting : OutputView) (text last : List ℕ) → Sent w0 w1 waiting text → Grew w1 w2 (waiting.bytes ++ last) → Grew w0 w2 (text ++ last)
@@ -62,11 +74,16 @@ grew_written w0 w1 w2 waiting text last s grew =
     let e : s.sent ++ (waiting.bytes ++ last) ≡ text ++ last = sym (append_assoc s.sent waiting.bytes last) ∙ ap (λ (z : List ℕ). z ++ last) s.whole in
     subst (Grew w0 w2) e (grew_then w0 w1 w2 s.sent (waiting.bytes ++ last) s.sink grew)
 
--- a first part of what begins a report begins it
-begins_part : {H L E : Type 0} (r : Reporting H L E) (input : InputOf H E) (part text : List ℕ) → IsPrefix part text → BeginsReport r input text → BeginsReport r input part
-begins_part r input part text p begun =
-    let rest = begun.3 in
-    (begun.0, begun.1, begun.2, (p.0 ++ rest.0, rest.1 ∙ ap (λ (z : List ℕ). z ++ rest.0) p.1 ∙ append_assoc part p.0 rest.0))
+-- a first part of what begins a report begins it, and where it is shorter than that, the report is longer
+cuts_part : {H L E : Type 0} (r : Reporting H L E) (input : InputOf H E) (part text : List ℕ) → IsPrefix part text → length part < length text → BeginsReport r input text → CutsReport r input part
+cuts_part r input part text p less begun =
+    let rest = begun.3 in (
+      begun.0,
+      begun.1,
+      begun.2,
+      (p.0 ++ rest.0, rest.1 ∙ ap (λ (z : List ℕ). z ++ rest.0) p.1 ∙ append_assoc part p.0 rest.0),
+      omega (arith, less, ap (length {A = ℕ}) rest.1, length-append text rest.0),
+    )
 
 -- a whole report begins itself
 pub begins_whole : {H L E : Type 0} (r : Reporting H L E) (input : InputOf H E) (ended : Ended) (text : List ℕ) → r.reports input ended text → BeginsReport r input text
@@ -82,7 +99,7 @@ pub ends_write : {H L E : Type 0} (r : Reporting H L E) (o : Outside) (ended : E
 ends_write r o ended whole e p begins rose =
     let failed : FailedWrite r ended.place o = record {
       appended = (p.part, p.grew, p.counts);
-      wrote = IfSome_then o.source.before begins (λ input begun. (p.part, p.grew, (p.counts, begins_part r (input_read r.format input) p.part whole p.begins begun)));
+      wrote = IfSome_then o.source.before begins (λ input begun. (p.part, p.grew, (p.counts, cuts_part r (input_read r.format input) p.part whole p.begins p.less begun)));
       cause = rose;
     } in
     rw e failed

@@ -27,12 +27,13 @@ LinesBefore line old = (before : ℕ) × (rest : Option (List ℕ)) × (line ≡
 abbrev pub Appended : ℕ → Option (List ℕ) → Option (List ℕ) → Type 0
 Appended count before now = (text : List ℕ) × Grew before now text × (count ≡ length text)
 
--- so many bytes were appended, a first part of a text
+-- so many bytes were appended, a first part of a text, which is longer
 pub record AppendedPart (before now : Option (List ℕ)) (count : ℕ) (whole : List ℕ) : Type 0 where
   pub part : List ℕ
   pub grew : Grew before now part
   pub counts : count ≡ length part
   pub begins : IsPrefix part whole
+  pub less : length part < length whole
 
 -- why the input goes no further, and after which lines
 abbrev pub Halts : {T : Type 0} → Result T Halt → Option (List ℕ) → Option (List ℕ) → Type 0
@@ -41,7 +42,7 @@ Halts (Err (halt.Read lines)) old left = ReadLines lines old left
 Halts (Err halt.Memory) old left = Unit {0}
 Halts (Err (halt.Refused line cause)) old left = LinesBefore line old × ReadsUpTo line old left
 
--- the sink failed before a text was whole, after this part of it; the place is the bytes sent in all, with so many before it
+-- the sink failed after a first part of a text, which is longer; the place is all bytes sent, with so many before it
 pub record IsCutOff (sent : ℕ) (text : List ℕ) (result : Ended) (sink : Told) : Type 0 where
   pub part : List ℕ
   pub grew : Grew sink.before sink.after part

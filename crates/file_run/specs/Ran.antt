@@ -12,7 +12,7 @@ use Rattle.file_run.specs.Ending.{Appended, LinesBefore, ReadLines}
 use Rattle.file_run.specs.Outside.{CountsFaults, Outside, Wrote}
 use Rattle.file_run.specs.Report.{refused_line}
 use Rattle.fsoe_io.specs.Sink.{Grew}
-use Rattle.file_run.specs.Reporting.{Reporting, MemoryUse, Never, BeforeEvents, Always, BeginsReport, refused_at}
+use Rattle.file_run.specs.Reporting.{Reporting, MemoryUse, Never, BeforeEvents, Always, BeginsReport, CutsReport, refused_at}
 use Rattle.file_run.specs.WholeLines.{ReadsTo, ReadsUpTo}
 
 -- a run to the `end` of its input ends with status 0 and place 0, or, where the command looks for other entries, with
@@ -65,10 +65,10 @@ pub record FailedRead {H L E : Type 0} (r : Reporting H L E) (lines : ℕ) (o : 
   pub wrote : Wrote o (λ input text. ReportsReadLines r lines input o.source.after text)
   pub cause : Rose o.source.faults_before o.source.faults_after
 
--- a write failed after so many bytes, which are a first part of the report
+-- a write failed after so many bytes, which are a first part of the report, and it is longer
 pub record FailedWrite {H L E : Type 0} (r : Reporting H L E) (bytes : ℕ) (o : Outside) : Type 0 where
   pub appended : Appended bytes o.sink.before o.sink.after
-  pub wrote : Wrote o (λ input text. (bytes ≡ length text) × BeginsReport r (input_read r.format input) text)
+  pub wrote : Wrote o (λ input text. (bytes ≡ length text) × CutsReport r (input_read r.format input) text)
   pub cause : Rose o.sink.faults_before o.sink.faults_after
 
 -- a command may want memory that takes it so, where this says that nothing was written

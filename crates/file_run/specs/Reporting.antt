@@ -1,5 +1,5 @@
 -- What a command reports of its inputs. H is what a header says, L what a line after it says, and E an event.
-use Rattle.std.specs.Prelude.{◌≡◌, ℕ, ◌+◌, Bool, List, [], ◌∷◌, ◌++◌, length, Some, None}
+use Rattle.std.specs.Prelude.{◌≡◌, ℕ, ◌+◌, ◌<◌, Bool, List, [], ◌∷◌, ◌++◌, length, Some, None}
 use Rattle.fsoe_io.specs.declared.status.Ended.{Ended}
 use Rattle.fsoe_io.specs.declared.status.Status.TheVariants as status
 use Rattle.schedule_file.specs.Input.{InputCause, InputFormat, NoFrame, NoApp, Stop, AtEnd, Refused, InputOf}
@@ -34,6 +34,10 @@ IsPrefix part whole = (rest : List ℕ) × (whole ≡ part ++ rest)
 -- a text is a first part of the report
 abbrev pub BeginsReport : {H L E : Type 0} → Reporting H L E → InputOf H E → List ℕ → Type 0
 BeginsReport r input text = (report : List ℕ) × (ended : Ended) × r.reports input ended report × IsPrefix text report
+
+-- a text is a first part of the report, which is longer
+abbrev pub CutsReport : {H L E : Type 0} → Reporting H L E → InputOf H E → List ℕ → Type 0
+CutsReport r input text = (report : List ℕ) × (ended : Ended) × r.reports input ended report × IsPrefix text report × (length text < length report)
 
 -- how a run ends at a refused line
 abbrev pub refused_at : ℕ → Ended

@@ -5,24 +5,26 @@ use Rattle.std.specs.declared.option.Option.{Option}
 use Rattle.std.proofs.lemmas.List.{append-nil, take-append-drop, length-take-le, length-append, length-drop}
 use Rattle.fsoe_io.specs.Sink.{Grew}
 use Rattle.fsoe_io.proofs.Grown.{grew_then}
-use Rattle.fsoe_io.specs.Output.{OutputView, Passes, Puts}
+use Rattle.fsoe_io.specs.Output.{OutputView, Loses, Passes, Puts}
 
 pub grew_none : (known : Option (List ℕ)) → Grew known known []
 grew_none None = tt
 grew_none (Some xs) = sym (append-nil xs)
 
 -- a flush that failed sent a part
-pub passes_part : (old new : OutputView) (before now : Option (List ℕ)) (done : ℕ) → done < length old.bytes → new.sent ≡ old.sent + done → Grew before now (take done old.bytes)
-    → (rest : List ℕ) × (0 < length rest) × Passes old new before now [] rest
-passes_part old new before now done lt count grew =
+pub loses_part : (old new : OutputView) (before now : Option (List ℕ)) (done : ℕ) → done < length old.bytes → new.sent ≡ old.sent + done → Grew before now (take done old.bytes)
+    → (rest : List ℕ) × Loses old new before now [] rest
+loses_part old new before now done lt count grew =
     let le : done ≤ length old.bytes = omega arith in (
       drop done old.bytes,
-      omega (arith, lt, length-drop done old.bytes),
       record {
-        part = take done old.bytes;
-        grew = grew;
-        whole = append-nil old.bytes ∙ sym (take-append-drop done old.bytes);
-        sent = count ∙ ap (λ (n : ℕ). old.sent + n) (sym (length-take-le done old.bytes le));
+        passes = record {
+          part = take done old.bytes;
+          grew = grew;
+          whole = append-nil old.bytes ∙ sym (take-append-drop done old.bytes);
+          sent = count ∙ ap (λ (n : ℕ). old.sent + n) (sym (length-take-le done old.bytes le));
+        };
+        more = omega (arith, lt, length-drop done old.bytes);
       },
     )
 
@@ -34,6 +36,9 @@ passes_piece old new before now piece rest p = record {
   whole = ap (λ (z : List ℕ). z ++ piece) (sym (append-nil old.bytes) ∙ p.whole) ∙ append_assoc p.part rest piece;
   sent = p.sent;
 }
+
+pub loses_piece : (old new : OutputView) (before now : Option (List ℕ)) (piece rest : List ℕ) → Loses old new before now [] rest → Loses old new before now piece (rest ++ piece)
+loses_piece old new before now piece rest l = record { passes = passes_piece old new before now piece rest l.passes; more = omega (arith, l.more, length-append rest piece) }
 
 -- nothing is sent
 pub passes_none : (old : OutputView) (known : Option (List ℕ)) → Passes old old known known [] old.bytes
@@ -60,4 +65,4 @@ passes_then old mid new before between now piece rest p q = record {
 pub puts_then : {T E : Type 0} (r : Result T E) (old mid new : OutputView) (before between now : Option (List ℕ)) (piece : List ℕ) → Passes old mid before between piece mid.bytes
     → Puts r mid new between now [] → Puts r old new before now piece
 puts_then (Ok x) old mid new before between now piece p q = passes_then old mid new before between now piece new.bytes p q
-puts_then (Err e) old mid new before between now piece p q = (q.0, q.1, passes_then old mid new before between now piece q.0 p q.2)
+puts_then (Err e) old mid new before between now piece p q = (q.0, record { passes = passes_then old mid new before between now piece q.0 p q.1.passes; more = q.1.more })

@@ -6,16 +6,16 @@ use Rattle.fsoe_io.specs.declared.status.Status.{Status}
 use Rattle.fsoe_io.specs.declared.status.Status.TheVariants as status
 use Rattle.schedule_file.specs.Input.{Input, input_of}
 use Rattle.schedule_file.specs.declared.header_kind.HeaderKind.TheVariants as kind
-use Rattle.file_run.specs.Reporting.{BeginsReport}
+use Rattle.file_run.specs.Reporting.{CutsReport}
 use Rattle.duo_run.specs.Replay.{ReplayReports, replay_reporting}
 
 -- what was written of an input by a run that ended so, by its status: the whole report, with which the run ends so; or
--- a first part of it, whose length is the place. No other status comes
+-- a first part of it, whose length is the place, where the report is longer. No other status comes
 abbrev pub WrittenWith : Status → Input → Ended → List ℕ → Type 0
 WrittenWith status.Ok input ended written = ReplayReports input ended written
 WrittenWith status.Other input ended written = ReplayReports input ended written
 WrittenWith status.Line input ended written = ReplayReports input ended written
-WrittenWith status.Write input ended written = (ended.place ≡ length written) × BeginsReport replay_reporting input written
+WrittenWith status.Write input ended written = (ended.place ≡ length written) × CutsReport replay_reporting input written
 WrittenWith status.Usage input ended written = ⊥
 WrittenWith status.Config input ended written = ⊥
 WrittenWith status.Desk input ended written = ⊥

@@ -7,7 +7,7 @@ use Rattle.fsoe_io.specs.declared.status.Status.TheVariants as status
 use Rattle.schedule_file.specs.Input.{input_read}
 use Rattle.file_run.specs.Outside.{Outside, Wrote}
 use Rattle.file_run.specs.Ran.{EndsAs, RanOver, ReportsReadLines}
-use Rattle.file_run.specs.Reporting.{refused_at, BeginsReport}
+use Rattle.file_run.specs.Reporting.{refused_at, BeginsReport, CutsReport}
 use Rattle.trace_diag.specs.Lines.{trace_format}
 use Rattle.trace_diag.specs.Ran.{diagnose_reporting, judge_reporting, DiagnosesInput}
 use Rattle.trace_diag.proofs.Inputs.{input_bytes}
@@ -17,6 +17,9 @@ reported bytes ended text h = h (input_bytes bytes)
 
 begun : (bytes text : List ℕ) → BeginsReport judge_reporting (input_read trace_format bytes) text → BeginsReport diagnose_reporting (input_read trace_format bytes) text
 begun bytes text h = (h.0, h.1, reported bytes h.1 h.0 h.2, h.3)
+
+cut : (bytes text : List ℕ) → CutsReport judge_reporting (input_read trace_format bytes) text → CutsReport diagnose_reporting (input_read trace_format bytes) text
+cut bytes text h = (h.0, h.1, reported bytes h.1 h.0 h.2, h.3, h.4)
 
 if-some : {A : Type 0} (o : Option A) (P Q : A → Type 0) → ((x : A) → P x → Q x) → IfSome o P → IfSome o Q
 if-some None P Q h k = tt
@@ -43,7 +46,7 @@ ends-as status.Ok ended o k = record { ends = k.ends; read = k.read; wrote = wro
 ends-as status.Other ended o k = record { ends = k.ends; read = k.read; wrote = wrote o _ _ (λ input. reported input ended) k.wrote }
 ends-as status.Line ended o k = record { number = k.number; read = k.read; wrote = wrote o _ _ (λ input. reported input ended) k.wrote }
 ends-as status.Read ended o k = record { read = k.read; wrote = wrote o _ _ (λ input. read-lines ended.place input o.source.after) k.wrote; cause = k.cause }
-ends-as status.Write ended o k = record { appended = k.appended; wrote = wrote o _ _ (λ input text w. (w.0, begun input text w.1)) k.wrote; cause = k.cause }
+ends-as status.Write ended o k = record { appended = k.appended; wrote = wrote o _ _ (λ input text w. (w.0, cut input text w.1)) k.wrote; cause = k.cause }
 ends-as status.Memory ended o k = record { place_is = k.place_is; takes = k.takes; wrote = wrote o _ _ begun k.wrote }
 ends-as status.Usage ended o k = k
 ends-as status.Config ended o k = k

@@ -3,12 +3,12 @@ use Rattle.std.proofs.Common.{◌≡◌, ℕ, ◌+◌, ◌*◌, ◌≤◌, ◌<�
 use Rattle.std.specs.Prelude.{Result, Ok, Err, IfSome, Some, None}
 use Rattle.std.specs.declared.option.Option.{Option}
 use Rattle.std.specs.Io.KnownBytes.{Consumes, prepend_known}
-use Rattle.std.proofs.lemmas.List.{append-nil}
+use Rattle.std.proofs.lemmas.List.{append-nil, length-append}
 use Rattle.std.proofs.lemmas.Option.{IfSome_then}
 use Rattle.fsoe_io.specs.Faults.{Rose}
 use Rattle.fsoe_io.proofs.Taken.{consumes_then}
 use Rattle.fsoe_io.specs.Line.{HasNoNewline, IsLine, most_held}
-use Rattle.fsoe_io.specs.Output.{OutputView, Passes}
+use Rattle.fsoe_io.specs.Output.{OutputView, Loses, Passes}
 use Rattle.fsoe_io.specs.Sink.{Grew}
 use Rattle.fsoe_io.specs.declared.status.Ended.{Ended}
 use Rattle.fsoe_io.specs.declared.status.Status.{Status}
@@ -149,7 +149,7 @@ ends_write : (o : Outside) (ended : Ended) (whole : List ℕ) → ended.status �
 ends_write o ended whole e p begins rose =
     let failed : ConvertWrite ended.place o = record {
       appended = (p.part, p.grew, p.counts);
-      wrote = IfSome_then o.source.before begins (λ input begun. (p.part, p.grew, (p.counts, prefix_then p.part whole (converted input) p.begins begun)));
+      wrote = IfSome_then o.source.before begins (λ input begun. (p.part, p.grew, (p.counts, prefix_then p.part whole (converted input) p.begins begun, omega (arith, p.less, ap (length {A = ℕ}) begun.1, length-append whole begun.0))));
       cause = rose;
     } in
     rw e failed
@@ -168,14 +168,14 @@ ends_written o between faults waiting text last ended result s writes later begi
     ]
 
 -- a write failed before a line
-pub ends_unsent : (o : Outside) (left w1 : Option (List ℕ)) (waiting now : OutputView) (r : PairRead) (lines : ℕ) (rest : List ℕ) (ended : Ended) → Converting o.source.before left o.sink.before w1 waiting r lines → Passes waiting now w1 o.sink.after [] rest
+pub ends_unsent : (o : Outside) (left w1 : Option (List ℕ)) (waiting now : OutputView) (r : PairRead) (lines : ℕ) (rest : List ℕ) (ended : Ended) → Converting o.source.before left o.sink.before w1 waiting r lines → Loses waiting now w1 o.sink.after [] rest
     → ended.status ≡ status.Write → ended.place ≡ now.sent → Rose o.sink.faults_before o.sink.faults_after → ConvertedAs ended.status ended o
 ends_unsent o left w1 waiting now r lines rest ended k p e place rose =
     ends_write o ended k.text e (text_part o.sink.before w1 o.sink.after waiting now k.text rest ended.place k.sent p place) (begins o.source.before left k.text r (lines + 1) k.tells) rose
 
 -- a line could not be written
 pub ends_lost : (o : Outside) (b c w1 : Option (List ℕ)) (waiting now : OutputView) (r next : PairRead) (lines : ℕ) (text rest : List ℕ) (ended : Ended) → Converting o.source.before b o.sink.before w1 waiting r lines → FindsTaken (lines + 1) r (Ok false) next text b c
-    → Passes waiting now w1 o.sink.after text rest → ended.status ≡ status.Write → ended.place ≡ now.sent → Rose o.sink.faults_before o.sink.faults_after → ConvertedAs ended.status ended o
+    → Loses waiting now w1 o.sink.after text rest → ended.status ≡ status.Write → ended.place ≡ now.sent → Rose o.sink.faults_before o.sink.faults_after → ConvertedAs ended.status ended o
 ends_lost o b c w1 waiting now r next lines text rest ended k finds p e place rose =
     ends_write o ended (k.text ++ text) e (piece_part o.sink.before w1 o.sink.after waiting now k.text text rest ended.place k.sent p place)
     (begins o.source.before c (k.text ++ text) next (lines + 1 + 1) (tells_next o.source.before b c k.text text finds.0 r next (lines + 1) k.tells finds.1 finds.2 finds.3)) rose

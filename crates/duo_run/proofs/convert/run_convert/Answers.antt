@@ -18,7 +18,7 @@ returns-in-Err g c =
     let cause = c.in-Err.ensures.cause in
     let stays = c.loop-output.invariant.sink_stays in
     ran_by _ _
-    (ends_unsent _ _ _ _ _ c.loop-output.reading c.loop-output.reader.lines puts.0 c.write_failed.result c.loop-output.invariant.running puts.2 c.write_failed.ensures.status c.write_failed.ensures.place
+    (ends_unsent _ _ _ _ _ c.loop-output.reading c.loop-output.reader.lines puts.0 c.write_failed.result c.loop-output.invariant.running puts.1 c.write_failed.ensures.status c.write_failed.ensures.place
     (rose_since _ _ _ (omega (arith, stays)) cause.failed))
     (counted_write c.write_failed.result _ c.write_failed.ensures.status c.loop-output.invariant.source_stays (omega (arith, stays, cause.later)))
 
@@ -52,7 +52,7 @@ returns-in-Err-put g c =
     let puts = c.in-Err-put.ensures.puts in
     let cause = c.in-Err-put.ensures.cause in
     ran_by _ _
-    (ends_lost _ _ _ _ _ _ c.loop-output.reading c.next_taken.new.reading c.loop-output.reader.lines c.bytes-in-loop-output.result.now puts.0 c.write_failed-in-Err-put.result sent (rw (c.if-ends.false, ← c.bytes-in-loop-output.ensures.value) at next.finds) puts.2
+    (ends_lost _ _ _ _ _ _ c.loop-output.reading c.next_taken.new.reading c.loop-output.reader.lines c.bytes-in-loop-output.result.now puts.0 c.write_failed-in-Err-put.result sent (rw (c.if-ends.false, ← c.bytes-in-loop-output.ensures.value) at next.finds) puts.1
     c.write_failed-in-Err-put.ensures.status c.write_failed-in-Err-put.ensures.place (rose_since _ _ _ (omega (arith, stays)) cause.failed))
     (counted_write c.write_failed-in-Err-put.result _ c.write_failed-in-Err-put.ensures.status (next.cause ∙ c.loop-output.invariant.source_stays) (omega (arith, stays, cause.later)))
 

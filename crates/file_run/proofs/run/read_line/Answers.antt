@@ -13,11 +13,11 @@ returns-in-Err g c =
     let cause = c.in-Err.ensures.cause in (
       ran_by _ _ _
           (ends_unsent (g.M.Machine.reporting first) (g.M.Machine.stands first c.args.run.now.machine c.args.handed.now) _ _ _ _ _ _ _ _ puts.0 c.write_failed.result
-          (c.laws.ensures.so_far first c.args.run.now.machine c.args.handed.now) runs.running puts.2
+          (c.laws.ensures.so_far first c.args.run.now.machine c.args.handed.now) runs.running puts.1
           c.write_failed.ensures.status c.write_failed.ensures.place (rose_since _ _ _ (omega (arith, runs.sink_stays)) cause.failed))
           (counted_write c.write_failed.result _ c.write_failed.ensures.status runs.source_stays (omega (arith, runs.sink_stays, cause.later))),
       left_unsent (g.M.Machine.reporting first) (g.M.Machine.stands first c.args.run.now.machine c.args.handed.now) (λ h log text. (v : g.row.M.Denot) × g.M.Machine.stands first v c.args.handed.now h log text) (g.M.Machine.closes first c.args.handed.now) _ _ _ _ _ _ _ _ puts.0 c.write_failed.result runs.running
-          (c.laws.ensures.so_far first c.args.run.now.machine c.args.handed.now) (c.args.run.now.machine, runs.running.stood) puts.2 c.write_failed.ensures.status c.write_failed.ensures.place,
+          (c.laws.ensures.so_far first c.args.run.now.machine c.args.handed.now) (c.args.run.now.machine, runs.running.stood) puts.1 c.write_failed.ensures.status c.write_failed.ensures.place,
     )
 
 pub returns-in-Err-next_event : goal.returns-in-Err-next_event

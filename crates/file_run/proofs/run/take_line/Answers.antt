@@ -56,11 +56,11 @@ returns-in-Err-put_text g c =
     let on = c.in_default-report.ensures.takes_event first in (
       ran_by _ _ _
           (ends_lost (g.M.Machine.reporting first) (g.M.Machine.stands first c.args.run.now.machine c.args.handed.now) (g.M.Machine.stands first c.report.new.self c.report.new.handed) _ _ _ _ _ _ _ _ _ _ c.in-Some.event.now (c.report.new.text ++ g.M.Machine.waits c.report.new.self c.report.new.handed) puts.0 c.write_failed.result
-          (c.laws.ensures.so_far first c.report.new.self c.report.new.handed) sent finds read.fullness on puts.2 c.write_failed.ensures.status c.write_failed.ensures.place
+          (c.laws.ensures.so_far first c.report.new.self c.report.new.handed) sent finds read.fullness on puts.1 c.write_failed.ensures.status c.write_failed.ensures.place
           (rose_since _ _ _ (omega (arith, read.sink_stays)) cause.failed))
           (counted_write c.write_failed.result _ c.write_failed.ensures.status read.source_stays (omega (arith, read.sink_stays, cause.later))),
       left_lost (g.M.Machine.reporting first) (g.M.Machine.stands first c.args.run.now.machine c.args.handed.now) (λ h log text. (v : g.row.M.Denot) × g.M.Machine.stands first v c.report.new.handed h log text) (g.M.Machine.closes first c.report.new.handed) _ _ _ _ _ _ _ _ _ _ c.in-Some.event.now (c.report.new.text ++ g.M.Machine.waits c.report.new.self c.report.new.handed) puts.0 c.write_failed.result sent
-          (c.laws.ensures.so_far first c.args.run.now.machine c.args.handed.now) finds read.fullness (c.report.new.self, on.takes sent.heading sent.log sent.text (omega (arith, sent.count)) sent.stood) puts.2 c.write_failed.ensures.status c.write_failed.ensures.place,
+          (c.laws.ensures.so_far first c.args.run.now.machine c.args.handed.now) finds read.fullness (c.report.new.self, on.takes sent.heading sent.log sent.text (omega (arith, sent.count)) sent.stood) puts.1 c.write_failed.ensures.status c.write_failed.ensures.place,
     )
 
 pub returns : goal.returns
