@@ -1,6 +1,6 @@
 //! The files of the system as a desk: the trusted edge.
-ghost use Rattle.std.specs.Prelude.{◌≡◌, ◌≤◌, ◌<◌, None, [], length, IfOk, IfSome};
-ghost use Rattle.fsoe_io.specs.Desk.{failed_loads};
+ghost use Rattle.std.specs.Prelude.{◌≡◌, ◌≢◌, ◌≤◌, ◌<◌, ℕ, List, None, [], ◌∷◌, ◌++◌, length, IfOk, IfSome, if◌then◌else◌};
+ghost use Rattle.fsoe_io.specs.Desk.{failed_loads, has_failed};
 ghost use Rattle.fsoe_io.specs.Faults.{Rose};
 
 use crate::desk::{Desk, LoadFault};
@@ -73,7 +73,14 @@ impl<R: Files + AllocGlobal> Desk for FileDesk<R> {
 
     ghost faults = { λ d name. failed_loads d.failed.names name };
 
-    fn load(&mut self, name: &str, limit: usize) -> Result<Vec<u8>, LoadFault> {
+    fn load(&mut self, name: &str, limit: usize) -> Result<Vec<u8>, LoadFault>
+        ensures within { IfOk result (λ text. length text.items ≤ limit) }
+        ensures later { failed_loads self.old.failed.names name.now ≤ failed_loads self.new.failed.names name.now }
+        ensures others { (other : List ℕ) → other ≢ name.now → failed_loads self.new.failed.names other ≡ failed_loads self.old.failed.names other }
+        ensures cause { result ≡ Err LoadFault.Failed → Rose (failed_loads self.old.failed.names name.now) (failed_loads self.new.failed.names name.now) }
+        // A load that fails, and no other, is recorded.
+        ensures noted { self.new.failed.names ≡ (if has_failed result then self.old.failed.names ++ name.now ∷ [] else self.old.failed.names) }
+    {
         let Ok(copied) = self.failed.room_for(name) else {
             return Err(LoadFault::Memory);
         };

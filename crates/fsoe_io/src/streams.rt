@@ -1,5 +1,9 @@
 //! The readers and writers of std as sources and sinks: the trusted edge.
-ghost use Rattle.std.specs.Prelude.{◌≡◌, None};
+ghost use Rattle.std.specs.Prelude.{◌≡◌, List, None, ℕ};
+ghost use Rattle.std.specs.Io.{ReadsAtMost};
+ghost use Rattle.std.specs.Io.KnownBytes.{ReadConsumes, WriteAppends};
+ghost use Rattle.fsoe_io.specs.Faults.{HasCause};
+ghost use Rattle.fsoe_io.specs.Sink.{TakesSome, WriteGrows};
 
 use crate::sink::Sink;
 use crate::source::{Failed, Source};
@@ -26,7 +30,13 @@ impl<R: Read> Source for StdSource<R> {
 
     ghost faults = { λ s. s.faults };
 
-    fn read(&mut self, buffer: &mut [u8]) -> Result<usize, Failed> {
+    fn read(&mut self, buffer: &mut [u8]) -> Result<usize, Failed>
+        ensures bound { ReadsAtMost result buffer.new }
+        ensures bytes { ReadConsumes None None result buffer.new }
+        ensures cause { HasCause self.old.faults self.new.faults result }
+        // Of the bytes that the reader tells, none is lost.
+        ensures inner { ReadConsumes (R.remaining self.old.inner) (R.remaining self.new.inner) result buffer.new }
+    {
         match self.inner.read(buffer) {
             Ok(count) => Ok(count),
             Err(_) => {
@@ -59,7 +69,13 @@ impl<W: Write> Sink for StdSink<W> {
 
     ghost faults = { λ s. s.faults };
 
-    fn write(&mut self, piece: &[u8]) -> Result<usize, Failed> {
+    fn write(&mut self, piece: &[u8]) -> Result<usize, Failed>
+        ensures bound { TakesSome result piece.now }
+        ensures bytes { WriteGrows None None result piece.now }
+        ensures cause { HasCause self.old.faults self.new.faults result }
+        // Where the writer tells its bytes, it took as many as are told.
+        ensures inner { WriteAppends (W.contents self.old.inner) (W.contents self.new.inner) result piece.now }
+    {
         match self.inner.write(piece) {
             Ok(count) if count > 0 || piece.is_empty() => Ok(count),
             _ => {
