@@ -6,7 +6,8 @@ use Rattle.std.proofs.lemmas.Option.{slice_get_past, slice_get-get_or}
 use Rattle.std.proofs.Math.ListN.{get_or-append, drop_of_length-le}
 use Rattle.std.proofs.Math.Nat.{mod-eq_of_lt}
 use Rattle.std.proofs.Math.Seq.{drop-cons}
-use Rattle.black_channel.specs.Window.{back_th, WindowView, Pushes, Tells, newest_first}
+use Rattle.black_channel.specs.Window.{WindowView, Pushes, Tells, newest_first}
+use Rattle.black_channel.specs.Altered.{back_th}
 
 order : (a b : ℕ) → (a < b) ⊎ (b ≤ a)
 order zero zero = inr (omega arith)

@@ -1,10 +1,6 @@
 -- The last frames of one end by looking back over all that it sent. Lists are newest first.
-use Rattle.std.specs.Prelude.{ℕ, zero, suc, ◌≡◌, ◌<◌, ◌-◌, ◌^◌, min, List, ◌∷◌, ◌++◌, length, take, drop, reverse, slice_get, Bool, true, false, Option, Some, None}
-
--- the frame so many back, 1 for the newest; 0 names none
-abbrev pub back_th : ℕ → List (List ℕ) → Option (List ℕ)
-back_th zero frames = None
-back_th (suc k) frames = slice_get frames k
+use Rattle.std.specs.Prelude.{ℕ, ◌≡◌, ◌<◌, ◌-◌, ◌^◌, min, List, ◌∷◌, ◌++◌, length, take, drop, reverse, Bool, true, false, Option, Some, None}
+use Rattle.black_channel.specs.Altered.{back_th}
 
 -- what contracts see of a window: the frames that it still has, and how many were pushed, 2^64 - 1 for all greater
 -- numbers

@@ -1,6 +1,7 @@
 //! The frames that an end sent last.
 ghost use Rattle.std.specs.Prelude.{◌≡◌, ◌≤◌, ◌↔◌, ◌+◌, ◌-◌, ◌^◌, true, false, min, [], ◌∷◌, length, take, is_some, option_copied};
-ghost use Rattle.black_channel.specs.Window.{back_th, found, window_of, Pushes, Tells};
+ghost use Rattle.black_channel.specs.Window.{found, window_of, Pushes, Tells};
+ghost use Rattle.black_channel.specs.Altered.{back_th};
 
 use arrayvec::ArrayVec;
 use fsoe_base::{FrameBuf, MOST_FRAME};

@@ -5,8 +5,8 @@ use Rattle.fsoe_base.specs.declared.command.End.TheVariants as end_name
 use Rattle.fsoe_base.specs.declared.did.Did.{Did}
 use Rattle.param_load.specs.declared.entry.Move.{Move}
 use Rattle.param_load.specs.declared.entry.Move.TheVariants as move
-use Rattle.black_channel.specs.Altered.{altered}
-use Rattle.black_channel.specs.Window.{back_th, WindowView, window_of}
+use Rattle.black_channel.specs.Altered.{altered, back_th}
+use Rattle.black_channel.specs.Window.{WindowView, window_of}
 use Rattle.schedule_file.specs.declared.event.Event.{Event}
 use Rattle.schedule_file.specs.declared.event.Event.TheVariants as event
 use Rattle.end_model.specs.Deed.{delivered, is_empty}

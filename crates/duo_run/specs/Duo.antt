@@ -1,16 +1,19 @@
 -- What it means that a pair of ends does over a schedule what the definitions of a world say. Lists are newest first.
-use Rattle.std.specs.Prelude.{◌≡◌, ℕ, false, List, ◌∷◌, Some, None}
+use Rattle.std.specs.Prelude.{◌≡◌, ℕ, false, List, ◌∷◌, Some, None, length, ◌+◌, ◌^◌, ◌<◌}
 use Rattle.fsoe_base.specs.declared.command.End.{End}
 use Rattle.fsoe_base.specs.declared.command.End.TheVariants as end_name
 use Rattle.fsoe_base.specs.declared.did.Did.{Did}
 use Rattle.fsoe_base.specs.declared.lengths.Lengths.{Lengths}
+use Rattle.fsoe_base.specs.declared.command.State.{State}
 use Rattle.param_load.specs.declared.entry.Entry.{Entry}
 use Rattle.param_load.specs.declared.master_settings.MasterSettings.{MasterSettings}
 use Rattle.param_load.specs.declared.profile.Profiles.{Profiles}
 use Rattle.param_load.specs.declared.slave_settings.SlaveSettings.{SlaveSettings}
 use Rattle.black_channel.specs.Window.{WindowView, window_of}
 use Rattle.schedule_file.specs.declared.event.Event.{Event}
-use Rattle.exchange_model.specs.World.{deeds, frames_of, end_of_event, entry_at, SameLengths, IsWorld}
+use Rattle.schedule_file.specs.Header.{Heading}
+use Rattle.exchange_model.specs.World.{deeds, frames_of, end_of_event, entry_at, SameLengths, world}
+use Rattle.exchange_model.specs.Schedules.{IsWorld}
 use Rattle.exchange_model.specs.Monitor as monitor
 use Rattle.exchange_model.specs.Monitor.{MonitorView}
 use Rattle.master_core.specs.MasterView.{MasterView}
@@ -18,6 +21,10 @@ use Rattle.master_core.specs.Now.{is_due}
 use Rattle.master_core.specs.Standing.{MasterIsAfter}
 use Rattle.slave_core.specs.SlaveView.{SlaveView}
 use Rattle.slave_core.specs.Standing.{SlaveIsAfter}
+use Rattle.duo_run.specs.Replay.{entry_lines, AreSetTo}
+use Rattle.duo_run.specs.declared.summary.Summary.{Summary}
+use Rattle.duo_run.specs.declared.summary.Counts.{Counts}
+use Rattle.duo_run.specs.Summary.{summary_of}
 
 -- what contracts see of a pair: both ends, the last frames that each sent, and the monitor
 pub record DuoView : Type 0 where
@@ -85,3 +92,25 @@ pub record ShowsLast {X : Type 0} (v : DuoView) (at : End) (shown : X) (word : E
 -- the world has no entry of this event: it names a frame that wasn't sent
 pub record Misses (v : DuoView) (event : Event) : Type 0 where
   pub misses : (ms : MasterSettings) (ss : SlaveSettings) (w : List Entry) → DuoStands ms ss v w → entry_at ms ss w event ≡ None
+
+-- a pair was set to what a header says, and stands for the entries of these events, one each, of which this text has
+-- the lines
+pub record ReplayStands (v : DuoView) (h : Heading) (log : List Event) (text : List ℕ) : Type 0 where
+  pub ms : MasterSettings
+  pub ss : SlaveSettings
+  pub entries : List Entry
+  pub set : AreSetTo h ms ss
+  pub stands : DuoStands ms ss v entries
+  pub is_world : entries ≡ world ms ss log
+  pub whole : length entries ≡ length log
+  pub lines : text ≡ entry_lines entries
+
+-- a summary of some entries is one of these and the next, which is of this end, did this and told this state
+pub record CountsEntry (old : Summary) (at : End) (did : Did) (state : State) (new : Summary) : Type 0 where
+  pub counts : (x : Entry) (w : List Entry) → x.end ≡ at → x.did ≡ did → x.state ≡ state → old ≡ summary_of w → new ≡ summary_of (x ∷ w)
+
+-- one entry more can be counted
+pub record HasRoom (counts : Counts) : Type 0 where
+  pub taken : counts.taken + 1 < 2 ^ 64
+  pub resets : counts.resets + 1 < 2 ^ 64
+  pub drops : counts.drops + 1 < 2 ^ 64

@@ -11,7 +11,7 @@ use Rattle.param_load.specs.declared.entry.Entry.{Entry}
 use Rattle.param_load.specs.declared.master_settings.MasterSettings.{MasterSettings}
 use Rattle.param_load.specs.declared.slave_settings.SlaveSettings.{SlaveSettings}
 use Rattle.entry_text.specs.EntryText.{entry_text}
-use Rattle.schedule_file.specs.EventText.{end_letter}
+use Rattle.schedule_file.specs.PairEvent.{end_letter}
 use Rattle.schedule_file.specs.Header.{Heading, IsMasterOf, IsSlaveOf}
 use Rattle.schedule_file.specs.Input.{Input, InputOf, NoFrame, Stop, AtEnd, Refused, input_of, schedule_format}
 use Rattle.schedule_file.specs.declared.header_kind.HeaderKind.TheVariants as kind
@@ -26,7 +26,6 @@ use Rattle.exchange_model.specs.Honest.{Match, IsHonest}
 use Rattle.exchange_model.specs.Other.{before_other, first_other}
 use Rattle.exchange_model.specs.Serving.{Serves}
 use Rattle.exchange_model.specs.World.{world}
-use Rattle.duo_run.specs.Duo.{DuoView, DuoStands}
 
 -- the end of the line of an entry with these parts: the letter of its end, and what every report writes of an entry
 abbrev pub told_line : End → Did → State → List ℕ → List ℕ → List ℕ
@@ -97,15 +96,3 @@ pub record RanPair (ended : Ended) (o : Outside) : Type 0 where
   pub run : RanOver replay_reporting ended o
   pub fair : IfSome o.source.before (λ input. RunsFairly (input_of kind.Pair input))
   pub serves : IfSome o.source.before (λ input. ServesIfHonest (input_of kind.Pair input))
-
--- a pair was set to what a header says, and stands for the entries of these events, one each, of which this text has
--- the lines
-pub record ReplayStands (v : DuoView) (h : Heading) (log : List Event) (text : List ℕ) : Type 0 where
-  pub ms : MasterSettings
-  pub ss : SlaveSettings
-  pub entries : List Entry
-  pub set : AreSetTo h ms ss
-  pub stands : DuoStands ms ss v entries
-  pub is_world : entries ≡ world ms ss log
-  pub whole : length entries ≡ length log
-  pub lines : text ≡ entry_lines entries

@@ -1,9 +1,7 @@
 -- What a summary tells of both ends over their entries. Lists of entries are newest first.
-use Rattle.std.specs.Prelude.{◌≡◌, ◌+◌, ◌^◌, ◌<◌, count_by, List, ◌∷◌, Bool, ◌&&◌, is_some}
+use Rattle.std.specs.Prelude.{count_by, List, Bool, ◌&&◌, is_some}
 use Rattle.fsoe_base.specs.declared.command.End.{End}
 use Rattle.fsoe_base.specs.declared.command.End.TheVariants as end_name
-use Rattle.fsoe_base.specs.declared.command.State.{State}
-use Rattle.fsoe_base.specs.declared.did.Did.{Did}
 use Rattle.param_load.specs.declared.entry.Entry.{Entry}
 use Rattle.exchange_model.specs.Ends.{same_end}
 use Rattle.exchange_model.specs.Fair.{takes_data}
@@ -32,13 +30,3 @@ counts_of which w = record {
 -- the same of both ends
 abbrev pub summary_of : List Entry → Summary
 summary_of w = record { master = counts_of end_name.Master w; slave = counts_of end_name.Slave w }
-
--- a summary of some entries is one of these and the next, which is of this end, did this and told this state
-pub record CountsEntry (old : Summary) (at : End) (did : Did) (state : State) (new : Summary) : Type 0 where
-  pub counts : (x : Entry) (w : List Entry) → x.end ≡ at → x.did ≡ did → x.state ≡ state → old ≡ summary_of w → new ≡ summary_of (x ∷ w)
-
--- one entry more can be counted
-pub record HasRoom (counts : Counts) : Type 0 where
-  pub taken : counts.taken + 1 < 2 ^ 64
-  pub resets : counts.resets + 1 < 2 ^ 64
-  pub drops : counts.drops + 1 < 2 ^ 64

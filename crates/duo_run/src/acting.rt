@@ -1,7 +1,7 @@
 //! One step of either end.
 ghost use Rattle.std.specs.Prelude.{◌≡◌, ◌≤◌, false, length, option_copied};
 ghost use Rattle.end_model.specs.Setup.{OfMaster, OfSlave};
-ghost use Rattle.end_model.specs.Step.{IsProper};
+ghost use Rattle.end_model.specs.Runs.{IsProper};
 ghost use Rattle.master_core.specs.Now.{is_due};
 ghost use Rattle.master_core.specs.Standing as master_core;
 ghost use Rattle.slave_core.specs.Standing as slave_core;

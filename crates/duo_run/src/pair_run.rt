@@ -4,10 +4,10 @@ ghost use Rattle.schedule_file.specs.Header.{Heading};
 ghost use Rattle.schedule_file.specs.Input.{schedule_format};
 ghost use Rattle.schedule_file.specs.declared.event.Event.{Event};
 ghost use Rattle.schedule_file.specs.declared.header_kind.HeaderKind.TheVariants as kind;
-ghost use Rattle.file_run.specs.Machine.{TakesEvent, MayCome};
+ghost use Rattle.file_run.specs.Machine.{TakesEvent, MayCome, EndsStopped};
 ghost use Rattle.file_run.specs.Report.{events_line, other_line};
-ghost use Rattle.file_run.specs.Reporting.{EndsStopped};
-ghost use Rattle.duo_run.specs.Replay.{line_of, told_line, ReplayStands, replay_reporting, RanPair};
+ghost use Rattle.duo_run.specs.Replay.{line_of, told_line, replay_reporting, RanPair};
+ghost use Rattle.duo_run.specs.Duo.{ReplayStands};
 
 use crate::acting::Answer;
 use crate::coming::end_of;
@@ -92,8 +92,9 @@ fn write_event(
 
 impl Machine for PairRun {
     ghost use Rattle.std.specs.Prelude.{[]};
-    ghost use Rattle.file_run.specs.Reporting.{EndsReport};
-    ghost use Rattle.duo_run.specs.Replay.{ReplayStands, replay_reporting};
+    ghost use Rattle.file_run.specs.Machine.{EndsReport};
+    ghost use Rattle.duo_run.specs.Replay.{replay_reporting};
+    ghost use Rattle.duo_run.specs.Duo.{ReplayStands};
 
     type Format = Schedule;
 

@@ -4,8 +4,7 @@ ghost use Rattle.schedule_file.specs.PairsHeader.{PairsHeading};
 ghost use Rattle.schedule_file.specs.PairsInput.{pairs_format};
 ghost use Rattle.schedule_file.specs.declared.pairs_line.PairsEvent.{PairsEvent};
 ghost use Rattle.schedule_file.specs.declared.pairs_line.PairsEvent.TheVariants as common;
-ghost use Rattle.file_run.specs.Machine.{MayCome, TakesEvent};
-ghost use Rattle.file_run.specs.Reporting.{EndsStopped};
+ghost use Rattle.file_run.specs.Machine.{MayCome, TakesEvent, EndsStopped};
 ghost use Rattle.duo_run.specs.PairsReport.{pairs_reporting};
 ghost use Rattle.duo_run.specs.PairsStanding.{PairsStand};
 

@@ -157,7 +157,7 @@ pub(crate) struct PairsRun {
 
 impl Machine for PairsRun {
     ghost use Rattle.std.specs.Prelude.{length};
-    ghost use Rattle.file_run.specs.Reporting.{EndsReport};
+    ghost use Rattle.file_run.specs.Machine.{EndsReport};
     ghost use Rattle.file_run.specs.Waiting.{waits};
     ghost use Rattle.duo_run.specs.PairsReport.{pairs_reporting};
     ghost use Rattle.duo_run.specs.PairsStanding.{PairsStand};

@@ -37,7 +37,7 @@ impl Counts {
     ghost use Rattle.std.specs.Prelude.{◌≡◌, ◌+◌, [], is_some, if◌then◌else◌};
     ghost use Rattle.fsoe_base.specs.declared.command.State.TheVariants as state;
     ghost use Rattle.exchange_model.specs.Fair.{data_taken};
-    ghost use Rattle.duo_run.specs.Summary.{HasRoom};
+    ghost use Rattle.duo_run.specs.Duo.{HasRoom};
 
     /// What is told of an end without an entry.
     fn new() -> Counts
@@ -74,7 +74,8 @@ impl Counts {
 
 impl Summary {
     ghost use Rattle.std.specs.Prelude.{◌≡◌, []};
-    ghost use Rattle.duo_run.specs.Summary.{HasRoom, summary_of, CountsEntry};
+    ghost use Rattle.duo_run.specs.Summary.{summary_of};
+    ghost use Rattle.duo_run.specs.Duo.{HasRoom, CountsEntry};
 
     /// What is told of no entries.
     pub(crate) fn new() -> Summary

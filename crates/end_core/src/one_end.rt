@@ -5,7 +5,8 @@ ghost use Rattle.param_load.specs.Profile.{allows_id};
 ghost use Rattle.param_load.specs.declared.entry.Move.TheVariants as event;
 ghost use Rattle.end_model.specs.Outputs as looking_back;
 ghost use Rattle.end_model.specs.Readiness as model;
-ghost use Rattle.end_model.specs.Setup.{OfMaster, OfSlave, lengths_of, profile_of, receives, sends};
+ghost use Rattle.end_model.specs.Setup.{OfMaster, OfSlave, lengths_of, receives, sends};
+ghost use Rattle.end_model.specs.Runs.{profile_of};
 ghost use Rattle.end_core.specs.Core.{setup_of, IsAtRest};
 ghost use Rattle.end_core.specs.Standing.{IsNew, Follows, Answers, Shows};
 

@@ -11,7 +11,7 @@ use Rattle.end_model.specs.Setup.{Setup, OfMaster, OfSlave}
 use Rattle.end_model.specs.Deed.{Deed, is_empty}
 use Rattle.end_model.specs.Payloads.{whole}
 use Rattle.end_model.specs.Readiness.{state_of, ticks, slave_age, age, slave_limit, limit}
-use Rattle.end_model.specs.Step.{IsRun}
+use Rattle.end_model.specs.Runs.{IsRun}
 use Rattle.end_model.specs.Reactions.{with_answer, Reaction, Rests, Ages, Expires, SendsAgain, ResetsItself, DropsReset, Refuses, PeerResets, Answers}
 use Rattle.end_model.proofs.Runs.{deed}
 use Rattle.end_model.proofs.Shown.{slave-run}

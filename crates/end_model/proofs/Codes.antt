@@ -30,7 +30,8 @@ use Rattle.end_model.specs.Phases.{has_command}
 use Rattle.end_model.specs.Deed.{Deed}
 use Rattle.end_model.specs.Payloads.{uploaded}
 use Rattle.end_model.specs.Verdict.{slave_upload_fault, data_fault, slave_fault, master_fault, contents}
-use Rattle.end_model.specs.Step.{step, IsProper, IsRun}
+use Rattle.end_model.specs.Step.{step}
+use Rattle.end_model.specs.Runs.{IsProper, IsRun}
 use Rattle.end_model.specs.Codes.{IsOwnReset}
 use Rattle.end_model.specs.Reactions.{parts, Fails, WrongReset, WrongContents, Taking, Reaction, Expires, SendsAgain, ResetsItself, Refuses, PeerResets, Answers}
 use Rattle.end_model.proofs.SoundRuns.{reacts}

@@ -21,7 +21,8 @@ use Rattle.end_model.specs.Deed.{Deed}
 use Rattle.end_model.specs.Chain.{since, own, taken, kept, newest_crc, seal}
 use Rattle.end_model.specs.Payloads.{nonce, id_sent, piece}
 use Rattle.end_model.specs.Readiness.{state_of}
-use Rattle.end_model.specs.Step.{download_frame, IsRun}
+use Rattle.end_model.specs.Step.{download_frame}
+use Rattle.end_model.specs.Runs.{IsRun}
 use Rattle.end_model.specs.Reactions.{HasNoSession, IsNextPhase, AfterSession, AfterConnection, IsResetFrame, IsInSession, received, with_answer, Taking, MasterStarts, MasterGoesOn, MasterNextPhase, MasterFirstData, MasterMoreData, Reaction, Rests, SendsAgain, Answers, Expires, ResetsItself, Refuses, PeerResets}
 use Rattle.end_model.proofs.Runs.{deed}
 use Rattle.end_model.proofs.SoundRuns.{reacted}

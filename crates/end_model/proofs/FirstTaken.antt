@@ -23,7 +23,8 @@ use Rattle.end_model.specs.Deed.{Deed}
 use Rattle.end_model.specs.Chain.{since, own, taken, kept, newest_crc, taken_link, seal}
 use Rattle.end_model.specs.Payloads.{nonce, id_sent, uploaded, piece, count_in}
 use Rattle.end_model.specs.Readiness.{state_of}
-use Rattle.end_model.specs.Step.{id_piece, slave_answer, IsRun}
+use Rattle.end_model.specs.Step.{id_piece, slave_answer}
+use Rattle.end_model.specs.Runs.{IsRun}
 use Rattle.end_model.specs.Reactions.{HasNoSession, IsHandshake, OfSession, OfConnection, OfParameter, IsNextPhase, AfterSession, AfterConnection, IsValid, IsInSession, received, with_answer, Taking, SlaveRejoins, SlaveStarts, SlaveGoesOn, SlaveNextPhase, SlaveFirstData, SlaveMoreData, Reaction, SendsAgain, DropsReset, Answers, Expires, ResetsItself, Refuses, PeerResets}
 use Rattle.end_model.proofs.Runs.{deed}
 use Rattle.end_model.proofs.SoundRuns.{handshake-on, reacted}

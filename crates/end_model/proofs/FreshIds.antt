@@ -27,7 +27,8 @@ use Rattle.end_model.specs.Chain.{since, own, taken, kept, newest_crc, taken_lin
 use Rattle.end_model.specs.Payloads.{nonce, session_id, first_conn, whole}
 use Rattle.end_model.specs.Readiness.{state_of, slave_allows, master_allows, upload_is_whole, allowed}
 use Rattle.end_model.specs.Verdict.{Valid, Refused, is_slave_conn, has_conn, verdict}
-use Rattle.end_model.specs.Step.{on_fault, on_verdict, IsRun}
+use Rattle.end_model.specs.Step.{on_fault, on_verdict}
+use Rattle.end_model.specs.Runs.{IsRun}
 use Rattle.end_model.specs.Reactions.{parts, IsValid}
 use Rattle.end_model.specs.FreshIds.{id_front, DifferInFront, NotByStep, EndsByCrcs}
 use Rattle.end_model.proofs.CrcTest.{ComesToCrcs, valid_is, crc_refused}

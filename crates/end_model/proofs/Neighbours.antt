@@ -17,7 +17,8 @@ use Rattle.end_model.specs.Setup.{Setup, OfMaster, OfSlave, sends, receives}
 use Rattle.end_model.specs.Deed.{Deed, is_empty}
 use Rattle.end_model.specs.Chain.{since, own, taken, newest_crc, own_link}
 use Rattle.end_model.specs.Readiness.{offer}
-use Rattle.end_model.specs.Step.{takes_frame, IsRun}
+use Rattle.end_model.specs.Step.{takes_frame}
+use Rattle.end_model.specs.Runs.{IsRun}
 use Rattle.end_model.specs.Neighbours.{IsOtherThanNewest, NeighboursDiffer}
 use Rattle.end_model.specs.Reactions.{received, with_answer, Taking, Reaction, Expires, SendsAgain, ResetsItself, Refuses, PeerResets, Answers}
 use Rattle.end_model.proofs.Heads.{IsInSession}

@@ -20,7 +20,8 @@ use Rattle.end_model.specs.Deed.{Deed}
 use Rattle.end_model.specs.Chain.{since, kept}
 use Rattle.end_model.specs.Readiness.{state_of, age, limit, upload_is_whole}
 use Rattle.end_model.specs.Verdict.{Verdict, verdict}
-use Rattle.end_model.specs.Step.{takes_frame, on_fault, on_reset_frame, on_verdict, on_expiry, with_data, slave_answer, download_frame, after_phase, deed_of, step, IsProper}
+use Rattle.end_model.specs.Step.{takes_frame, on_fault, on_reset_frame, on_verdict, on_expiry, with_data, slave_answer, download_frame, after_phase, deed_of, step}
+use Rattle.end_model.specs.Runs.{IsProper}
 use Rattle.end_model.specs.Reactions.{HasNoSession, IsHandshake, OfSession, OfConnection, OfParameter, AfterSession, AfterConnection, IsResetFrame, IsValid, Fails, failed_with, received, with_answer, pieces_sent, all_pieces, IsExchange, Taking, SlaveRejoins, SlaveStarts, SlaveGoesOn, SlaveNextPhase, SlaveFirstData, SlaveMoreData, MasterStarts, MasterGoesOn, MasterNextPhase, MasterFirstData, MasterMoreData, Puts, Holds, SetsNonce, Rests, Ages, Expires, SendsAgain, ResetsItself, DropsLength, DropsRepeat, DropsInReset, DropsReset, Refuses, PeerResets, Answers, IsReaction}
 use Rattle.end_model.proofs.Heads.{IsInSession, master_frame, slave_frame, data_phase}
 use Rattle.end_model.proofs.Judged.{Judged, HasOtherLength, IsKept, FailsTest, FailsContents, ResetsFrame, IsNext, is_judged}

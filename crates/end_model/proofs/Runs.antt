@@ -6,8 +6,9 @@ use Rattle.fsoe_base.specs.Did.{nothing}
 use Rattle.param_load.specs.declared.entry.Move.{Move}
 use Rattle.param_load.specs.declared.entry.Move.TheVariants as move
 use Rattle.end_model.specs.Setup.{Setup}
-use Rattle.end_model.specs.Deed.{Deed, IsSetting, events_of}
-use Rattle.end_model.specs.Step.{begun, step, run, continued, IsProper, IsRun}
+use Rattle.end_model.specs.Deed.{Deed}
+use Rattle.end_model.specs.Runs.{IsSetting, events_of, IsProper, IsRun}
+use Rattle.end_model.specs.Step.{begun, step, run, continued}
 
 abbrev pub deed : Move → Did → List ℕ → Deed
 deed what did sent = record { what = what; did = did; sent = sent }

@@ -14,7 +14,8 @@ use Rattle.end_model.specs.Deed.{Deed}
 use Rattle.end_model.specs.Chain.{since, own, seal}
 use Rattle.end_model.specs.Payloads.{pay, pieces, count_in, session_id, conn_id}
 use Rattle.end_model.specs.Readiness.{offer, offer_after, held}
-use Rattle.end_model.specs.Step.{sealed, with_piece, with_data, after_phase, after_pieces, download_frame, master_answer, slave_answer, IsProper, IsRun}
+use Rattle.end_model.specs.Step.{sealed, with_piece, with_data, after_phase, after_pieces, download_frame, master_answer, slave_answer}
+use Rattle.end_model.specs.Runs.{IsProper, IsRun}
 
 -- a frame that is sealed over the deeds so far
 pub record IsSealed (s : Setup) (e : List Deed) (f : List ℕ) : Type 0 where

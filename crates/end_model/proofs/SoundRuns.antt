@@ -16,7 +16,8 @@ use Rattle.end_model.specs.Setup.{Setup, OfMaster, OfSlave}
 use Rattle.end_model.specs.Phases.{phase_of}
 use Rattle.end_model.specs.Deed.{Deed, is_empty}
 use Rattle.end_model.specs.Readiness.{state_of, upload_is_whole}
-use Rattle.end_model.specs.Step.{takes_frame, step, IsProper, IsRun}
+use Rattle.end_model.specs.Step.{takes_frame, step}
+use Rattle.end_model.specs.Runs.{IsProper, IsRun}
 use Rattle.end_model.specs.Reactions.{HasNoSession, IsHandshake, OfSession, IsNextPhase, AfterSession, AfterConnection, with_answer, IsExchange, Taking, SlaveRejoins, SlaveStarts, SlaveGoesOn, SlaveNextPhase, SlaveFirstData, SlaveMoreData, MasterStarts, MasterGoesOn, MasterNextPhase, MasterFirstData, MasterMoreData, Reaction, Rests, Expires, SendsAgain, ResetsItself, DropsReset, Refuses, PeerResets, Answers, IsReaction}
 use Rattle.end_model.proofs.Runs.{deed}
 use Rattle.end_model.proofs.Heads.{IsInSession}

@@ -5,7 +5,8 @@ use Rattle.fsoe_base.specs.Did.{at_most_one}
 use Rattle.param_load.specs.declared.entry.Move.{Move}
 use Rattle.end_model.specs.Setup.{Setup}
 use Rattle.end_model.specs.Deed.{Deed, is_empty}
-use Rattle.end_model.specs.Step.{step, IsProper, IsRun}
+use Rattle.end_model.specs.Step.{step}
+use Rattle.end_model.specs.Runs.{IsProper, IsRun}
 use Rattle.end_model.specs.Reactions.{Reaction, Answers}
 use Rattle.end_model.proofs.SoundRuns.{reacts, answer_sent}
 

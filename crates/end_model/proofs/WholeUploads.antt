@@ -10,7 +10,7 @@ use Rattle.param_load.specs.Profile.{id_len}
 use Rattle.end_model.specs.Setup.{OfSlave}
 use Rattle.end_model.specs.Deed.{Deed}
 use Rattle.end_model.specs.Payloads.{has_all, whole}
-use Rattle.end_model.specs.Step.{IsRun}
+use Rattle.end_model.specs.Runs.{IsRun}
 use Rattle.end_model.proofs.SlaveShown.{SlaveShows, parameters}
 use Rattle.end_model.proofs.Shown.{slave-run}
 

@@ -1,6 +1,6 @@
 -- What an end did in one step. All that is said of an end looks back over the list of its deeds, newest first. This way
 -- of saying it is this profile's own.
-use Rattle.std.specs.Prelude.{ℕ, suc, List, [], ◌∷◌, ◌++◌, Bool, true, false, Option, Some, None, if◌then◌else◌}
+use Rattle.std.specs.Prelude.{ℕ, suc, List, [], ◌∷◌, Bool, true, false, Option, Some, None, if◌then◌else◌}
 use Rattle.fsoe_base.specs.declared.did.Did.{Did}
 use Rattle.fsoe_base.specs.declared.did.Took.{Took}
 use Rattle.param_load.specs.declared.entry.Move.{Move}
@@ -22,18 +22,6 @@ delivered _ = []
 abbrev pub ticked : Move → ℕ → ℕ
 ticked move.Tick n = suc n
 ticked _ n = n
-
--- an event sets the offer, the hold or the nonce
-abbrev pub IsSetting : Move → Type 0
-IsSetting (move.Put load) = Unit {0}
-IsSetting (move.Hold failsafe) = Unit {0}
-IsSetting (move.Nonce id) = Unit {0}
-IsSetting _ = ⊥
-
--- the events of these deeds, the first of which comes first
-abbrev pub events_of : List Deed → List Move
-events_of [] = []
-events_of (x ∷ e) = events_of e ++ x.what ∷ []
 
 -- whether no frame was sent
 abbrev pub is_empty : List ℕ → Bool

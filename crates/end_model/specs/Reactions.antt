@@ -44,7 +44,8 @@ use Rattle.param_load.specs.declared.entry.Move.TheVariants as move
 use Rattle.param_load.specs.declared.master_settings.MasterSettings.{MasterSettings}
 use Rattle.param_load.specs.declared.slave_settings.SlaveSettings.{SlaveSettings}
 use Rattle.param_load.specs.Profile.{allows_id}
-use Rattle.end_model.specs.Setup.{Setup, OfMaster, OfSlave, IsMaster, IsSlave, sends, receives, piece_len, profile_of}
+use Rattle.end_model.specs.Setup.{Setup, OfMaster, OfSlave, sends, receives, piece_len}
+use Rattle.end_model.specs.Runs.{IsMaster, IsSlave, profile_of}
 use Rattle.end_model.specs.Phases.{phase_of, has_command}
 use Rattle.end_model.specs.Deed.{Deed, is_empty}
 use Rattle.end_model.specs.Chain.{since, own, taken, kept, fits}

@@ -5,22 +5,11 @@ use Rattle.fsoe_base.specs.declared.command.End.TheVariants as end_name
 use Rattle.fsoe_base.specs.declared.lengths.Lengths.{Lengths}
 use Rattle.param_load.specs.declared.master_settings.MasterSettings.{MasterSettings}
 use Rattle.param_load.specs.declared.slave_settings.SlaveSettings.{SlaveSettings}
-use Rattle.param_load.specs.declared.profile.Profile.{Profile}
 
 -- the settings of either end
 pub data Setup : Type 0 where
   OfMaster : MasterSettings → Setup
   OfSlave : SlaveSettings → Setup
-
--- the setup is a master's
-abbrev pub IsMaster : Setup → Type 0
-IsMaster (OfMaster ms) = Unit {0}
-IsMaster (OfSlave ss) = ⊥
-
--- the setup is a slave's
-abbrev pub IsSlave : Setup → Type 0
-IsSlave (OfMaster ms) = ⊥
-IsSlave (OfSlave ss) = Unit {0}
 
 -- which end is set so
 abbrev pub end_of : Setup → End
@@ -50,8 +39,3 @@ piece_len s = min (lengths_of s).master (lengths_of s).slave
 abbrev pub first_nonce : Setup → ℕ
 first_nonce (OfMaster ms) = ms.nonce
 first_nonce (OfSlave ss) = ss.nonce
-
--- the profile of parameters
-abbrev pub profile_of : Setup → Profile
-profile_of (OfMaster ms) = ms.profile
-profile_of (OfSlave ss) = ss.profile

@@ -1,5 +1,5 @@
 -- What an end does at each event, and the list of its deeds. The reactions are this profile's own.
-use Rattle.std.specs.Prelude.{ℕ, suc, ◌≡◌, ◌==◌, nat_lt, IsTrue, List, [], ◌∷◌, length, take, replicate, Bool, true, false, not, Option, Some, None, if◌then◌else◌}
+use Rattle.std.specs.Prelude.{ℕ, suc, ◌==◌, nat_lt, List, [], ◌∷◌, take, replicate, Bool, true, false, not, Option, Some, None, if◌then◌else◌}
 use Rattle.fsoe_base.specs.declared.command.State.{State}
 use Rattle.fsoe_base.specs.declared.command.State.TheVariants as state
 use Rattle.fsoe_base.specs.declared.command.Command.{Command}
@@ -21,8 +21,7 @@ use Rattle.param_load.specs.declared.slave_settings.SlaveSettings.{SlaveSettings
 use Rattle.fsoe_base.specs.Codes.{watchdog_expired}
 use Rattle.fsoe_base.specs.Command.{code}
 use Rattle.param_load.specs.Payload.{session_payload, padded}
-use Rattle.param_load.specs.Profile.{allows_id}
-use Rattle.end_model.specs.Setup.{Setup, OfMaster, OfSlave, sends, piece_len, profile_of}
+use Rattle.end_model.specs.Setup.{Setup, OfMaster, OfSlave, sends, piece_len}
 use Rattle.end_model.specs.Phases.{phase_of, is_reset, is_guarded}
 use Rattle.end_model.specs.Deed.{Deed}
 use Rattle.end_model.specs.Chain.{since, own, taken, seal}
@@ -167,19 +166,3 @@ continued s e (event ∷ moves) = continued s (step s e event ∷ e) moves
 -- the deeds of a new end after these moves
 abbrev pub run : Setup → List Move → List Deed
 run s moves = continued s [] moves
-
--- a put has the end's own length, and a nonce is one that the profile allows
-abbrev pub IsProper : Setup → Move → Type 0
-IsProper s (move.Put load) = length load ≡ sends s
-IsProper s (move.Nonce id) = IsTrue (allows_id (profile_of s) id)
-IsProper s _ = Unit {0}
-
--- a deed is the next one after these
-pub record IsNext (s : Setup) (x : Deed) (e : List Deed) : Type 0 where
-  pub proper : IsProper s x.what
-  pub stepped : x ≡ step s e x.what
-
--- each deed is the next one after those before it
-abbrev pub IsRun : Setup → List Deed → Type 0
-IsRun s [] = Unit {0}
-IsRun s (x ∷ e) = IsNext s x e × IsRun s e

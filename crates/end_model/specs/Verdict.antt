@@ -13,15 +13,15 @@ use Rattle.seq_chain.specs.declared.opened.Opened.{Opened}
 use Rattle.seq_chain.specs.declared.opened.Opened.TheVariants as opened_as
 use Rattle.seq_chain.specs.Opened.{opened}
 use Rattle.seq_chain.specs.SessionFrame.{SessionFrameView}
-pub use Rattle.seq_chain.specs.Session.{session_fault, is_repeat}
+pub use Rattle.seq_chain.specs.Opened.{session_fault, is_repeat}
 use Rattle.param_load.specs.declared.contents.Expected.{Expected}
 use Rattle.param_load.specs.declared.contents.Expected.TheVariants as expected
 use Rattle.param_load.specs.declared.master_settings.MasterSettings.{MasterSettings}
 use Rattle.param_load.specs.declared.slave_settings.SlaveSettings.{SlaveSettings}
 use Rattle.fsoe_base.specs.Data.{data_holds}
 use Rattle.param_load.specs.AppRule.{rule_len}
-use Rattle.param_load.specs.Download.{is_echo, is_padded}
-use Rattle.param_load.specs.Upload.{upload_fault}
+use Rattle.param_load.specs.Payload.{is_echo, is_padded}
+use Rattle.param_load.specs.UploadView.{upload_fault}
 use Rattle.end_model.specs.Setup.{Setup, OfMaster, OfSlave, receives, piece_len}
 use Rattle.end_model.specs.Phases.{is_guarded}
 use Rattle.end_model.specs.Deed.{Deed}

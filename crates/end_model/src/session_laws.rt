@@ -18,7 +18,8 @@ ghost use Rattle.end_model.specs.Neighbours.{NeighboursDiffer};
 ghost use Rattle.end_model.specs.Payloads.{session_id};
 ghost use Rattle.end_model.specs.Readiness.{state_of};
 ghost use Rattle.end_model.specs.Verdict.{Valid, verdict};
-ghost use Rattle.end_model.specs.Step.{step, IsRun};
+ghost use Rattle.end_model.specs.Step.{step};
+ghost use Rattle.end_model.specs.Runs.{IsRun};
 ghost use Rattle.end_model.specs.FreshIds.{DifferInFront, NotByStep, EndsByCrcs};
 ghost use Rattle.end_model.specs.WorkedRuns.{IdsByStep};
 

@@ -10,6 +10,7 @@ use Rattle.fsoe_base.specs.declared.did.Took.{Took}
 use Rattle.fsoe_base.specs.Data.{is_data}
 use Rattle.fsoe_base.specs.declared.lengths.Lengths.{Lengths}
 use Rattle.fsoe_base.specs.LengthsOf.{length_of}
+use Rattle.fsoe_base.specs.Image.{bit_of}
 use Rattle.param_load.specs.declared.terms.Terms.{Terms}
 use Rattle.param_load.specs.declared.entry.Entry.{Entry}
 use Rattle.end_model.specs.Deed.{ticked}
@@ -108,3 +109,9 @@ pub record Fair (lengths : Lengths) (w : List Entry) : Type 0 where
   pub master_once : IsDistinct nat_eq (numbers_taken end_name.Master w)
   pub slave_once : IsDistinct nat_eq (numbers_taken end_name.Slave w)
   pub outputs : OutputsAreDue lengths w
+
+-- whether an offer has this bit as 1: an end that is held offers zeros, and so does one that put nothing yet
+abbrev pub offers_bit : ℕ → Offered → Bool
+offers_bit bit FailSafe = false
+offers_bit bit (Values bytes) = bit_of bytes bit
+offers_bit bit Unset = false

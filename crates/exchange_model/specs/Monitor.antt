@@ -60,11 +60,6 @@ abbrev pub sent_number : Option Sent → Option ℕ
 sent_number None = None
 sent_number (Some s) = Some s.number
 
--- the number of an item, if there is one
-abbrev pub item_number : Option Item → Option ℕ
-item_number None = None
-item_number (Some i) = Some i.number
-
 -- whether there is an item with these bytes
 abbrev pub has : List ℕ → Option Sent → Bool
 has bytes None = false

@@ -1,19 +1,13 @@
 -- What the outputs of an end rest on: a data frame that its peer sent not long ago. Entries are listed newest first,
 -- and no clock is common to both ends: an end counts its own ticks.
-use Rattle.std.specs.Prelude.{ℕ, ◌≡◌, ◌≤◌, IsTrue, List, [], ◌∷◌, ◌++◌, Bool, false, if◌then◌else◌}
+use Rattle.std.specs.Prelude.{ℕ, ◌≡◌, ◌≤◌, IsTrue, List, [], ◌∷◌, ◌++◌, if◌then◌else◌}
 use Rattle.fsoe_base.specs.declared.command.End.{End}
-use Rattle.fsoe_base.specs.Image.{bit_of}
 use Rattle.param_load.specs.declared.entry.Entry.{Entry}
 use Rattle.end_model.specs.Phases.{is_data_frame}
 use Rattle.end_model.specs.Deed.{ticked}
 use Rattle.exchange_model.specs.Ends.{same_end, peer, of_end}
-use Rattle.exchange_model.specs.Items.{Offered, FailSafe, Values, Unset, next_offered}
-
--- whether an offer has this bit as 1: an end that is held offers zeros, and so does one that put nothing yet
-abbrev pub offers_bit : ℕ → Offered → Bool
-offers_bit bit FailSafe = false
-offers_bit bit (Values bytes) = bit_of bytes bit
-offers_bit bit Unset = false
+use Rattle.exchange_model.specs.Items.{next_offered}
+use Rattle.exchange_model.specs.Fair.{offers_bit}
 
 -- the ticks of an end among these entries
 abbrev pub ticks_of : End → List Entry → ℕ

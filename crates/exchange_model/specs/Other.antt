@@ -31,3 +31,8 @@ NoOther w = first_other w ≡ None
 abbrev pub before_other : List Entry → List Entry
 before_other [] = []
 before_other (x ∷ w) = if is_some (first_other (x ∷ w)) then before_other w else x ∷ w
+
+-- the number of an item, if there is one
+abbrev pub item_number : Option Item → Option ℕ
+item_number None = None
+item_number (Some i) = Some i.number

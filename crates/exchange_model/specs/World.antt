@@ -1,7 +1,7 @@
 -- What both ends do over a schedule: the list of their entries, newest first. What an end does looks back over its own
 -- deeds, and a frame that comes from its peer is found among those that the peer sent. Schedules are this profile's
 -- own.
-use Rattle.std.specs.Prelude.{ℕ, ◌≡◌, List, [], ◌∷◌, ◌++◌, Option, Some, None, if◌then◌else◌}
+use Rattle.std.specs.Prelude.{ℕ, ◌≡◌, List, [], ◌∷◌, Option, Some, None, if◌then◌else◌}
 use Rattle.fsoe_base.specs.declared.command.End.{End}
 use Rattle.fsoe_base.specs.declared.command.End.TheVariants as end_name
 use Rattle.param_load.specs.declared.entry.Move.{Move}
@@ -9,14 +9,13 @@ use Rattle.param_load.specs.declared.entry.Move.TheVariants as move
 use Rattle.param_load.specs.declared.entry.Entry.{Entry}
 use Rattle.param_load.specs.declared.master_settings.MasterSettings.{MasterSettings}
 use Rattle.param_load.specs.declared.slave_settings.SlaveSettings.{SlaveSettings}
-use Rattle.black_channel.specs.Altered.{altered}
-use Rattle.black_channel.specs.Window.{back_th}
+use Rattle.black_channel.specs.Altered.{altered, back_th}
 use Rattle.schedule_file.specs.declared.event.Event.{Event}
 use Rattle.schedule_file.specs.declared.event.Event.TheVariants as event
 use Rattle.end_model.specs.Setup.{Setup, OfMaster, OfSlave}
 use Rattle.end_model.specs.Deed.{Deed}
 use Rattle.end_model.specs.Chain.{own}
-use Rattle.end_model.specs.Step.{step, IsProper}
+use Rattle.end_model.specs.Step.{step}
 use Rattle.end_model.specs.Entries.{entry_of}
 use Rattle.exchange_model.specs.Ends.{same_end, peer}
 
@@ -37,11 +36,6 @@ deeds which (x ∷ w) = if same_end which x.end then deed_in x ∷ deeds which w
 -- the frames that an end sent, Reset frames too
 abbrev pub frames_of : End → List Entry → List (List ℕ)
 frames_of which w = own (deeds which w)
-
--- what happened to one end, oldest first
-abbrev pub moves : End → List Entry → List Move
-moves which [] = []
-moves which (x ∷ w) = if same_end which x.end then moves which w ++ (x.what ∷ []) else moves which w
 
 -- the end at which an event happens
 abbrev pub end_of_event : Event → End
@@ -108,19 +102,3 @@ world ms ss events = world_after ms ss events []
 pub record SameLengths (ms : MasterSettings) (ss : SlaveSettings) : Type 0 where
   pub master : ms.lengths.master ≡ ss.lengths.master
   pub slave : ms.lengths.slave ≡ ss.lengths.slave
-
--- a put has its end's length, and a nonce is one that its end's profile allows
-abbrev pub IsProperEvent : MasterSettings → SlaveSettings → Event → Type 0
-IsProperEvent ms ss (event.Put at load) = IsProper (setup_of ms ss at) (move.Put load)
-IsProperEvent ms ss (event.Nonce at id) = IsProper (setup_of ms ss at) (move.Nonce id)
-IsProperEvent ms ss _ = Unit {0}
-
--- an entry is the next one of its end after these, at a proper event
-pub record IsNextEntry (s : Setup) (x : Entry) (e : List Deed) : Type 0 where
-  pub proper : IsProper s x.what
-  pub stepped : x ≡ next_entry s e x.what
-
--- each entry is the next one of its end after those before it, at a proper event
-abbrev pub IsWorld : MasterSettings → SlaveSettings → List Entry → Type 0
-IsWorld ms ss [] = Unit {0}
-IsWorld ms ss (x ∷ w) = IsNextEntry (setup_of ms ss x.end) x (deeds x.end w) × IsWorld ms ss w

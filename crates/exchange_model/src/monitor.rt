@@ -32,8 +32,8 @@ impl Monitor {
     ghost use Rattle.std.specs.Prelude.{◌<◌, ◌+◌, ◌^◌, ℕ, List, []};
     ghost use Rattle.param_load.specs.declared.entry.Entry.{Entry};
     ghost use Rattle.exchange_model.specs.Items.{items, awaited};
-    ghost use Rattle.exchange_model.specs.Other.{is_other, first_other};
-    ghost use Rattle.exchange_model.specs.Monitor.{item_number, noted_next, view_of, HasParts, NotesEntry, NotesParts};
+    ghost use Rattle.exchange_model.specs.Other.{is_other, first_other, item_number};
+    ghost use Rattle.exchange_model.specs.Monitor.{noted_next, view_of, HasParts, NotesEntry, NotesParts};
 
     /// Creates a monitor that noted no entry.
     pub fn new() -> Monitor

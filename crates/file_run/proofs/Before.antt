@@ -8,8 +8,8 @@ use Rattle.fsoe_io.specs.declared.status.Status.{Status}
 use Rattle.fsoe_io.specs.declared.status.Status.TheVariants as status
 use Rattle.schedule_file.specs.Input.{InputFormat}
 use Rattle.file_run.specs.Ending.{LinesBefore, ReadLines}
-use Rattle.file_run.specs.Header.{HaltsHeader}
-use Rattle.file_run.specs.Left.{Done, Leaves, LeavesAs, MayFailIn}
+use Rattle.file_run.specs.Left.{HaltsHeader, Done, LeavesAs, MayFailIn}
+use Rattle.file_run.specs.Running.{Leaves}
 use Rattle.file_run.specs.NextLine.{from_line}
 use Rattle.file_run.specs.Outside.{Outside}
 use Rattle.file_run.specs.Ran.{EndsAs, RanOver, ReadsWhole}

@@ -15,7 +15,8 @@ use Rattle.file_run.specs.Event.{FindsEvent, says_after, says_by, in_input}
 use Rattle.file_run.specs.Halt.{Goes}
 use Rattle.file_run.specs.HaltOf.{halt_of}
 use Rattle.file_run.specs.Header.{FindsHeading, heading_by, heading_by_itself}
-use Rattle.file_run.specs.NextLine.{FindsLine, first_line}
+use Rattle.file_run.specs.NextLine.{FindsLine}
+use Rattle.file_run.specs.ByTitle.{first_line}
 use Rattle.file_run.specs.declared.refusal.Refusal.{Refusal}
 use Rattle.file_run.specs.declared.halt.Halt.{Halt}
 use Rattle.file_run.specs.declared.halt.Halt.TheVariants as halt

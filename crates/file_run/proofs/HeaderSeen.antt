@@ -10,8 +10,9 @@ use Rattle.schedule_file.specs.Input.{InputCause, InputFormat, NoLine, Line, Sto
 use Rattle.schedule_file.specs.declared.line_cause.LineCause.{LineCause}
 use Rattle.file_run.specs.Refusal.{input_cause}
 use Rattle.file_run.specs.Halt.{Goes}
-use Rattle.file_run.specs.Header.{FindsHeading, HaltsHeader, IsWholeHeader, IsHeaderCutOff, heading_by, heading_by_itself}
-use Rattle.file_run.specs.NextLine.{first_line}
+use Rattle.file_run.specs.Header.{FindsHeading, IsWholeHeader, heading_by, heading_by_itself}
+use Rattle.file_run.specs.Left.{HaltsHeader, IsHeaderCutOff}
+use Rattle.file_run.specs.ByTitle.{first_line}
 use Rattle.file_run.specs.declared.halt.Halt.{Halt}
 use Rattle.file_run.specs.declared.halt.Halt.TheVariants as halt
 use Rattle.file_run.proofs.Lines.{lines_whole}

@@ -14,12 +14,12 @@ use Rattle.file_run.specs.Ending.{AppendedPart, Writes}
 use Rattle.file_run.specs.Event.{FindsEvent}
 use Rattle.file_run.specs.Halt.{Goes}
 use Rattle.file_run.specs.HaltOf.{halt_stopped}
-use Rattle.file_run.specs.Left.{Done, IsBegun, IsOneAhead, IsUnmet, LeavesAll, LeavesAs, LeavesDone, MayFailIn, StopsAfter, line_after}
+use Rattle.file_run.specs.Left.{Done, IsBegun, IsOneAhead, IsUnmet, LeavesAll, LeavesAs, MayFailIn, StopsAfter, line_after}
+use Rattle.file_run.specs.Running.{LeavesDone, IsFullness, Running, Saying, Seen, Sent, Standing}
 use Rattle.file_run.specs.Outside.{Outside}
 use Rattle.file_run.specs.Ran.{EndsWhole}
 use Rattle.file_run.specs.Report.{refused_line}
 use Rattle.file_run.specs.Reporting.{Reporting, input_stopped, refused_at}
-use Rattle.file_run.specs.Running.{IsFullness, Running, Saying, Seen, Sent, Standing}
 use Rattle.file_run.specs.Stop.{halted_by, last_of}
 use Rattle.file_run.specs.declared.halt.Halt.{Halt}
 use Rattle.file_run.specs.declared.refusal.Refusal.{Refusal}

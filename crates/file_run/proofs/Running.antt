@@ -15,17 +15,17 @@ use Rattle.fsoe_io.specs.declared.status.Status.TheVariants as status
 use Rattle.schedule_file.specs.Input.{InputCause, InputFormat, InputOf, NoLine, NoFrame, NoApp, Stop, AtEnd, Refused, lines_of, header_read, input_by, input_read}
 use Rattle.schedule_file.specs.declared.event.TheConstants.{MAX_EVENTS}
 use Rattle.file_run.specs.Refusal.{input_cause}
-use Rattle.file_run.specs.Ending.{Halts, Writes}
+use Rattle.file_run.specs.Ending.{Writes}
+use Rattle.file_run.specs.Halt.{Halts, Blames, Goes, Stalls}
 use Rattle.file_run.specs.Event.{FindsEvent}
-use Rattle.file_run.specs.Halt.{Blames, Goes, Stalls}
 use Rattle.file_run.specs.HaltOf.{halt_stopped}
 use Rattle.file_run.specs.Begun.{Begins}
-use Rattle.file_run.specs.Header.{HaltsHeader, IsHeaderCutOff}
-use Rattle.file_run.specs.Machine.{Keeps, TakesEvent, MayCome, most_parts}
+use Rattle.file_run.specs.Left.{HaltsHeader, IsHeaderCutOff}
+use Rattle.file_run.specs.Machine.{Keeps, TakesEvent, MayCome, most_parts, EndsReport, EndsStopped, EndsUnmet, input_headless}
 use Rattle.file_run.specs.Outside.{Outside, Wrote}
 use Rattle.file_run.specs.Ran.{CameToEnd, EndsAs, EndsWhole, MayWant, ReadsWhole, ReportsReadLines, line_of_end}
 use Rattle.file_run.specs.Report.{refused_line}
-use Rattle.file_run.specs.Reporting.{BeginsReport, EndsReport, EndsStopped, EndsUnmet, MemoryUse, Never, BeforeEvents, Always, Reporting, ReportsSoFar, TakesMemory, input_headless, input_stopped, refused_at}
+use Rattle.file_run.specs.Reporting.{BeginsReport, MemoryUse, Never, BeforeEvents, Always, Reporting, ReportsSoFar, TakesMemory, input_stopped, refused_at}
 use Rattle.file_run.specs.Running.{IsFullness, Running, Saying, SaysSo, Seen, Sent, Standing, input_on, more_on}
 use Rattle.file_run.specs.Stop.{halted_by, last_of}
 use Rattle.file_run.specs.WholeLines.{TookLines}

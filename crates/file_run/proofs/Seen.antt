@@ -11,7 +11,7 @@ use Rattle.schedule_file.specs.Input.{InputCause, InputFormat, NoLine, TooMany, 
 use Rattle.schedule_file.specs.declared.line_cause.LineCause.{LineCause}
 use Rattle.file_run.specs.Event.{says_after, says_by, by_itself, in_input}
 use Rattle.file_run.specs.Header.{IsWholeHeader}
-use Rattle.file_run.specs.NextLine.{first_line}
+use Rattle.file_run.specs.ByTitle.{first_line}
 use Rattle.file_run.specs.Running.{Lines, Seen, input_on, input_with, more_on}
 use Rattle.file_run.specs.declared.refusal.Refusal.TheVariants as refusal
 use Rattle.file_run.proofs.Lines.{lines_whole}

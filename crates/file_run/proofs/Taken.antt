@@ -7,8 +7,7 @@ use Rattle.std.proofs.lemmas.List.{append-nil, length-append, length_push}
 use Rattle.std.proofs.lemmas.List.Elements.{All-append, All-nil, All-push}
 use Rattle.fsoe_io.proofs.Taken.{consumes_then}
 use Rattle.fsoe_io.specs.Line.{Held, IsLine, most_held}
-use Rattle.file_run.specs.Ending.{Halts}
-use Rattle.file_run.specs.Halt.{Goes, Stalls}
+use Rattle.file_run.specs.Halt.{Halts, Goes, Stalls}
 use Rattle.file_run.specs.NextLine.{from_line}
 use Rattle.file_run.specs.WholeLines.{TookLines, TookOneAtMost, joined}
 use Rattle.file_run.specs.declared.halt.Halt.{Halt}

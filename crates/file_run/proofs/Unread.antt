@@ -8,8 +8,7 @@ use Rattle.fsoe_io.specs.declared.status.Ended.{Ended}
 use Rattle.schedule_file.specs.Input.{InputFormat}
 use Rattle.file_run.specs.Ending.{Writes}
 use Rattle.file_run.specs.Halt.{Blames, Goes, Stalls}
-use Rattle.file_run.specs.Header.{HaltsHeader}
-use Rattle.file_run.specs.Left.{LeavesUnbegun}
+use Rattle.file_run.specs.Left.{HaltsHeader, LeavesUnbegun}
 use Rattle.file_run.specs.NextLine.{FindsLine}
 use Rattle.file_run.specs.Outside.{Outside}
 use Rattle.file_run.specs.Ran.{RanOver}

@@ -1,7 +1,11 @@
 -- Which of two holds of a run: the first line of its input decides.
-use Rattle.std.specs.Prelude.{◌≡◌, ℕ, List, Option, Ok, IfSome, ◌⊎◌}
-use Rattle.schedule_file.specs.Input.{lines_of}
-use Rattle.file_run.specs.NextLine.{first_line}
+use Rattle.std.specs.Prelude.{◌≡◌, ℕ, List, Option, Ok, IfSome, ◌⊎◌, Result, ◌∷◌, [], Err}
+use Rattle.schedule_file.specs.Input.{lines_of, NoLine, InputCause}
+
+-- the first of these lines, or why there is none
+abbrev pub first_line : List (Result (List ℕ) InputCause) → Result (List ℕ) InputCause
+first_line [] = Err NoLine
+first_line (line ∷ rest) = line
 
 -- the first line of an input is this title
 abbrev pub IsTitled : List ℕ → List ℕ → Type 0

@@ -1,8 +1,6 @@
 -- Where an input goes no further, and how what is left is written.
 use Rattle.std.specs.Prelude.{◌≡◌, ℕ, ◌+◌, ◌<◌, List, length, ◌⊎◌}
 use Rattle.std.specs.declared.option.Option.{Option}
-use Rattle.std.specs.declared.result.Result.{Result}
-use Rattle.std.specs.declared.result.Result.TheVariants.{Ok, Err}
 use Rattle.std.specs.Io.KnownBytes.{prepend_known}
 use Rattle.fsoe_io.specs.Faults.{Rose}
 use Rattle.fsoe_io.specs.Line.{HasNoNewline}
@@ -11,9 +9,7 @@ use Rattle.fsoe_io.specs.declared.status.Ended.{Ended}
 use Rattle.fsoe_io.specs.declared.status.Status.TheVariants as status
 use Rattle.file_run.specs.Outside.{Told}
 use Rattle.file_run.specs.Reporting.{IsPrefix}
-use Rattle.file_run.specs.WholeLines.{ReadsUpTo, TookLines}
-use Rattle.file_run.specs.declared.halt.Halt.{Halt}
-use Rattle.file_run.specs.declared.halt.Halt.TheVariants as halt
+use Rattle.file_run.specs.WholeLines.{TookLines}
 
 -- so many whole lines were taken from the source, and of the line after them only a part that was read
 abbrev pub ReadLines : ℕ → Option (List ℕ) → Option (List ℕ) → Type 0
@@ -34,13 +30,6 @@ pub record AppendedPart (before now : Option (List ℕ)) (count : ℕ) (whole : 
   pub counts : count ≡ length part
   pub begins : IsPrefix part whole
   pub less : length part < length whole
-
--- why the input goes no further, and after which lines
-abbrev pub Halts : {T : Type 0} → Result T Halt → Option (List ℕ) → Option (List ℕ) → Type 0
-Halts (Ok x) old left = Unit {0}
-Halts (Err (halt.Read lines)) old left = ReadLines lines old left
-Halts (Err halt.Memory) old left = Unit {0}
-Halts (Err (halt.Refused line cause)) old left = LinesBefore line old × ReadsUpTo line old left
 
 -- the sink failed after a first part of a text, which is longer; the place is all bytes sent, with so many before it
 pub record IsCutOff (sent : ℕ) (text : List ℕ) (result : Ended) (sink : Told) : Type 0 where

@@ -6,7 +6,7 @@ use Rattle.fsoe_io.specs.Line.{IsLine}
 use Rattle.schedule_file.specs.Input.{InputCause, lines_of}
 use Rattle.schedule_file.specs.declared.line_cause.LineCause.{LineCause}
 use Rattle.file_run.specs.Refusal.{input_cause}
-use Rattle.file_run.specs.NextLine.{first_line}
+use Rattle.file_run.specs.ByTitle.{first_line}
 use Rattle.file_run.specs.declared.refusal.Refusal.{Refusal}
 use Rattle.file_run.specs.declared.refusal.Refusal.TheVariants as refusal
 use Rattle.file_run.specs.declared.halt.Halt.{Halt}

@@ -6,9 +6,10 @@ use Rattle.std.specs.declared.result.Result.TheVariants.{Ok, Err}
 use Rattle.std.specs.Io.KnownBytes.{Consumes}
 use Rattle.fsoe_io.specs.Faults.{Rose}
 use Rattle.fsoe_io.specs.Line.{HasNoNewline}
-use Rattle.file_run.specs.WholeLines.{TookOneAtMost}
+use Rattle.file_run.specs.WholeLines.{TookOneAtMost, ReadsUpTo}
 use Rattle.file_run.specs.declared.halt.Halt.{Halt}
 use Rattle.file_run.specs.declared.halt.Halt.TheVariants as halt
+use Rattle.file_run.specs.Ending.{ReadLines, LinesBefore}
 
 -- where a line isn't taken, it has this number, or there is no memory for it
 abbrev pub Declines : {T : Type 0} → Result T Halt → ℕ → Type 0
@@ -38,3 +39,10 @@ Blames (Ok says) before now = now ≡ before
 Blames (Err (halt.Read lines)) before now = Rose before now
 Blames (Err halt.Memory) before now = now ≡ before
 Blames (Err (halt.Refused line cause)) before now = now ≡ before
+
+-- why the input goes no further, and after which lines
+abbrev pub Halts : {T : Type 0} → Result T Halt → Option (List ℕ) → Option (List ℕ) → Type 0
+Halts (Ok x) old left = Unit {0}
+Halts (Err (halt.Read lines)) old left = ReadLines lines old left
+Halts (Err halt.Memory) old left = Unit {0}
+Halts (Err (halt.Refused line cause)) old left = LinesBefore line old × ReadsUpTo line old left

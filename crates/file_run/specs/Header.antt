@@ -1,15 +1,16 @@
 -- The header of an input. H is what it says.
-use Rattle.std.specs.Prelude.{◌≡◌, ℕ, ◌+◌, List, [], ◌∷◌, ◌++◌, Option, Result, Ok, Err, IfSome, Bool, IsTrue}
+use Rattle.std.specs.Prelude.{◌≡◌, ℕ, List, [], ◌∷◌, ◌++◌, Option, Result, Ok, Err, IfSome, Bool, IsTrue}
 use Rattle.std.specs.Io.KnownBytes.{Consumes}
 use Rattle.fsoe_io.specs.Line.{IsLine}
-use Rattle.schedule_file.specs.Input.{InputCause, InputFormat, NoLine, Line, Refused, lines_of, header_read}
+use Rattle.schedule_file.specs.Input.{InputCause, InputFormat, Line, Refused, lines_of, header_read}
 use Rattle.schedule_file.specs.declared.line_cause.LineCause.{LineCause}
 use Rattle.file_run.specs.Refusal.{input_cause}
-use Rattle.file_run.specs.NextLine.{first_line}
+use Rattle.file_run.specs.ByTitle.{first_line}
 use Rattle.file_run.specs.declared.halt.Halt.{Halt}
 use Rattle.file_run.specs.declared.halt.Halt.TheVariants as halt
 use Rattle.file_run.specs.declared.stopped.Untaken.{Untaken}
 use Rattle.file_run.specs.declared.stopped.Untaken.TheVariants as untaken
+use Rattle.file_run.specs.Left.{HaltsHeader}
 
 -- no header has more lines: one of 64 ends with 512 application bytes each has fewer
 abbrev pub most_lines : ℕ
@@ -44,19 +45,6 @@ pub record IsWholeHeader {H L E : Type 0} (f : InputFormat H L E) (h : H) (lines
   pub taken : List ℕ
   pub goes : Consumes old new taken
   pub says : (more : List ℕ) → header_read f (taken ++ more) ≡ Ok (record { heading = h; lines = lines; rest = lines_of more })
-
--- the bytes that were taken are so many lines of a header, and no line comes after them
-pub record IsHeaderCutOff {H L E : Type 0} (f : InputFormat H L E) (lines : ℕ) (old : Option (List ℕ)) (new : Option (List ℕ)) : Type 0 where
-  pub taken : List ℕ
-  pub goes : Consumes old new taken
-  pub says : header_read f taken ≡ Err (Refused (lines + 1) NoLine)
-
--- a header goes no further: a read failed, a line is refused, or there is no memory for it, which may be where this
--- holds
-abbrev pub HaltsHeader : {H L E : Type 0} → InputFormat H L E → Type 0 → Halt → Option (List ℕ) → Option (List ℕ) → Type 0
-HaltsHeader f wants (halt.Read count) old new = IsHeaderCutOff f count old new
-HaltsHeader f wants halt.Memory old new = wants
-HaltsHeader f wants (halt.Refused number why) old new = IfSome old (λ input. header_read f input ≡ Err (Refused number (input_cause why)))
 
 -- a header was read, or goes no further
 abbrev pub ReadsHeader : {H L E : Type 0} → InputFormat H L E → Bool → Result (Unit {0}) Halt → H → ℕ → Option (List ℕ) → Option (List ℕ) → Type 0

@@ -1,20 +1,21 @@
 -- What a run over an input leaves: which events were done, and what was written of them.
-use Rattle.std.specs.Prelude.{◌≡◌, ℕ, ◌+◌, ◌≤◌, List, [], ◌∷◌, ◌++◌, length, IfSome, ◌⊎◌}
-use Rattle.std.specs.Io.KnownBytes.{prepend_known}
+use Rattle.std.specs.Prelude.{◌≡◌, ℕ, ◌+◌, ◌≤◌, List, [], ◌∷◌, ◌++◌, length, IfSome, ◌⊎◌, Err}
+use Rattle.std.specs.Io.KnownBytes.{prepend_known, Consumes}
 use Rattle.std.specs.declared.option.Option.{Option}
 use Rattle.fsoe_io.specs.Output.{most_waiting}
 use Rattle.fsoe_io.specs.Sink.{Grew}
 use Rattle.fsoe_io.specs.declared.status.Ended.{Ended}
 use Rattle.fsoe_io.specs.declared.status.Status.{Status}
 use Rattle.fsoe_io.specs.declared.status.Status.TheVariants as status
-use Rattle.schedule_file.specs.Input.{InputCause, InputFormat, NoApp, NoFrame, Stop, AtEnd, Refused, input_read}
+use Rattle.schedule_file.specs.Input.{InputCause, InputFormat, NoApp, NoFrame, Stop, AtEnd, Refused, input_read, NoLine, header_read}
 use Rattle.file_run.specs.Ending.{AppendedPart, Writes}
-use Rattle.file_run.specs.Header.{HaltsHeader}
 use Rattle.file_run.specs.Outside.{Outside}
 use Rattle.file_run.specs.Report.{refused_line}
 use Rattle.file_run.specs.Reporting.{Reporting, ReportsSoFar, TakesMemory, input_stopped}
 use Rattle.file_run.specs.Stop.{halted_by, last_of}
 use Rattle.file_run.specs.declared.halt.Halt.{Halt}
+use Rattle.file_run.specs.Refusal.{input_cause}
+use Rattle.file_run.specs.declared.halt.Halt.TheVariants as halt
 
 -- what a machine did: the events, after a header of so many lines, and their whole text
 pub record Done (H E : Type 0) : Type 0 where
@@ -104,12 +105,18 @@ LeavesAs r closes d status.Usage ended o = ⊥
 LeavesAs r closes d status.Config ended o = ⊥
 LeavesAs r closes d status.Desk ended o = ⊥
 
--- a machine was begun: what it did stands at the end, as far as it came in the input
-pub record LeavesDone {H L E : Type 0} (r : Reporting H L E) (stands : H → List E → List ℕ → Type 0) (closes : H → List E → List ℕ → Ended → Type 0) (ended : Ended) (o : Outside) : Type 0 where
-  pub done : Done H E
-  pub stood : stands done.heading done.log done.text
-  pub begun : IsBegun r.format done o.source.before
-  pub ends : LeavesAs r closes done ended.status ended o
+-- the bytes that were taken are so many lines of a header, and no line comes after them
+pub record IsHeaderCutOff {H L E : Type 0} (f : InputFormat H L E) (lines : ℕ) (old : Option (List ℕ)) (new : Option (List ℕ)) : Type 0 where
+  pub taken : List ℕ
+  pub goes : Consumes old new taken
+  pub says : header_read f taken ≡ Err (Refused (lines + 1) NoLine)
+
+-- a header goes no further: a read failed, a line is refused, or there is no memory for it, which may be where this
+-- holds
+abbrev pub HaltsHeader : {H L E : Type 0} → InputFormat H L E → Type 0 → Halt → Option (List ℕ) → Option (List ℕ) → Type 0
+HaltsHeader f wants (halt.Read count) old new = IsHeaderCutOff f count old new
+HaltsHeader f wants halt.Memory old new = wants
+HaltsHeader f wants (halt.Refused number why) old new = IfSome old (λ input. header_read f input ≡ Err (Refused number (input_cause why)))
 
 -- no machine was begun: the header goes no further, or there was no memory where this may be, and no more was to be
 -- written than the line of its refusal
@@ -118,7 +125,3 @@ pub record LeavesUnbegun {H L E : Type 0} (r : Reporting H L E) (ended : Ended) 
   pub held : List ℕ
   pub header : HaltsHeader r.format (TakesMemory r.memory) why o.source.before (prepend_known held o.source.after)
   pub writes : Writes 0 (last_of why) (halted_by why) ended o.sink
-
--- a run began no machine, and left what was handed unchanged; or what its machine did stands
-abbrev pub Leaves : {H L E : Type 0} → Type 0 → Reporting H L E → (H → List E → List ℕ → Type 0) → (H → List E → List ℕ → Ended → Type 0) → Ended → Outside → Type 0
-Leaves unchanged r stands closes ended o = (unchanged × LeavesUnbegun r ended o) ⊎ LeavesDone r stands closes ended o

@@ -1,8 +1,13 @@
 -- What a machine does that runs over the events of an input. H is what a header says, L what a line after it says, and
 -- E an event.
-use Rattle.std.specs.Prelude.{◌≡◌, ℕ, ◌+◌, ◌≤◌, List, [], ◌∷◌, ◌++◌, length, Ok, Some}
-use Rattle.schedule_file.specs.Input.{InputFormat}
+use Rattle.std.specs.Prelude.{◌≡◌, ℕ, ◌+◌, ◌≤◌, List, [], ◌∷◌, ◌++◌, length, Ok, Some, None}
+use Rattle.schedule_file.specs.Input.{InputFormat, NoApp, AtEnd, NoFrame, InputOf, InputCause, Stop}
 use Rattle.schedule_file.specs.Limits.{max_events}
+use Rattle.file_run.specs.declared.stopped.Stopped.TheVariants as stopped
+use Rattle.file_run.specs.Report.{refused_line}
+use Rattle.file_run.specs.declared.stopped.Stopped.{Stopped}
+use Rattle.file_run.specs.Reporting.{Reporting, refused_at, Always, input_stopped}
+use Rattle.fsoe_io.specs.declared.status.Ended.{Ended}
 
 -- a line after a header says this event
 abbrev pub IsSaid : {H L E : Type 0} → InputFormat H L E → H → E → Type 0
@@ -33,3 +38,24 @@ Keeps {H} {E} old new = (h : H) (log : List E) (text : List ℕ) → old h log t
 -- a machine that stood for some events stands, after the event of this number, for these and it, with this text more
 pub record TakesEvent {H E : Type 0} (old new : H → List E → List ℕ → Type 0) (event : E) (number : ℕ) (piece : List ℕ) : Type 0 where
   pub takes : (h : H) (log : List E) (text : List ℕ) → number ≡ length log + 1 → old h log text → new h (log ++ event ∷ []) (text ++ piece)
+
+-- an input without a whole header
+abbrev pub input_headless : {H E : Type 0} → Stop → InputOf H E
+input_headless stop = record { heading = None; lines = 0; events = []; stop = stop }
+
+-- the run so far hasn't what the event after these names: whatever comes after it, the report ends at its line for this
+-- cause
+abbrev pub EndsUnmet : {H L E : Type 0} → Reporting H L E → H → List E → List ℕ → E → InputCause → Type 0
+EndsUnmet {H} {L} {E} r h log text event why =
+    (lines : ℕ) (more : List E) (stop : Stop)
+    → r.reports (input_stopped h lines ((log ++ event ∷ []) ++ more) stop) (refused_at (lines + length log + 1)) (text ++ refused_line (lines + length log + 1) why)
+
+-- the event after these isn't done: the run so far hasn't what it names, or there is no memory for it
+abbrev pub EndsStopped : {H L E : Type 0} → Reporting H L E → H → List E → List ℕ → E → Stopped → Type 0
+EndsStopped r h log text event stopped.NoFrame = EndsUnmet r h log text event NoFrame
+EndsStopped r h log text event stopped.NoApp = EndsUnmet r h log text event NoApp
+EndsStopped r h log text event stopped.Memory = r.memory ≡ Always
+
+-- this is the whole report of an input that stops by `end` after these events, and the run ends so
+abbrev pub EndsReport : {H L E : Type 0} → Reporting H L E → H → List E → List ℕ → Ended → Type 0
+EndsReport r h log text ended = (lines : ℕ) → r.reports (input_stopped h lines log AtEnd) ended text

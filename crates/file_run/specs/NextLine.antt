@@ -3,15 +3,11 @@ use Rattle.std.specs.Prelude.{◌≡◌, ℕ, List, [], ◌∷◌, ◌++◌, Res
 use Rattle.std.specs.declared.option.Option.{Option}
 use Rattle.std.specs.Io.KnownBytes.{Consumes, prepend_known}
 use Rattle.fsoe_io.specs.Line.{Held, IsLine}
-use Rattle.schedule_file.specs.Input.{InputCause, NoLine, lines_of}
+use Rattle.schedule_file.specs.Input.{lines_of}
 use Rattle.file_run.specs.Refusal.{input_cause}
 use Rattle.file_run.specs.declared.halt.Halt.{Halt}
 use Rattle.file_run.specs.declared.halt.Halt.TheVariants as halt
-
--- the first of these lines, or why there is none
-abbrev pub first_line : List (Result (List ℕ) InputCause) → Result (List ℕ) InputCause
-first_line [] = Err NoLine
-first_line (line ∷ rest) = line
+use Rattle.file_run.specs.ByTitle.{first_line}
 
 -- what was to come before the line that a reader lends: it with its newline, what is held behind it, and what the
 -- source has left

@@ -1,11 +1,9 @@
 -- What a command reports of its inputs. H is what a header says, L what a line after it says, and E an event.
-use Rattle.std.specs.Prelude.{◌≡◌, ℕ, ◌+◌, ◌<◌, Bool, List, [], ◌∷◌, ◌++◌, length, Some, None}
+use Rattle.std.specs.Prelude.{◌≡◌, ℕ, ◌<◌, Bool, List, [], ◌++◌, length, Some}
 use Rattle.fsoe_io.specs.declared.status.Ended.{Ended}
 use Rattle.fsoe_io.specs.declared.status.Status.TheVariants as status
-use Rattle.schedule_file.specs.Input.{InputCause, InputFormat, NoFrame, NoApp, Stop, AtEnd, Refused, InputOf}
+use Rattle.schedule_file.specs.Input.{InputCause, InputFormat, Stop, AtEnd, Refused, InputOf}
 use Rattle.file_run.specs.Report.{refused_line}
-use Rattle.file_run.specs.declared.stopped.Stopped.{Stopped}
-use Rattle.file_run.specs.declared.stopped.Stopped.TheVariants as stopped
 
 -- when a command takes memory: never, before its first event alone, or for its events too
 pub data MemoryUse : Type 0 where
@@ -48,10 +46,6 @@ abbrev pub ended_at : Stop → Ended
 ended_at AtEnd = record { status = status.Ok; place = 0 }
 ended_at (Refused number why) = refused_at number
 
--- an input without a whole header
-abbrev pub input_headless : {H E : Type 0} → Stop → InputOf H E
-input_headless stop = record { heading = None; lines = 0; events = []; stop = stop }
-
 -- an input whose header has so many lines, and which stops after these events
 abbrev pub input_stopped : {H E : Type 0} → H → ℕ → List E → Stop → InputOf H E
 input_stopped h lines log stop = record { heading = Some h; lines = lines; events = log; stop = stop }
@@ -61,20 +55,3 @@ input_stopped h lines log stop = record { heading = Some h; lines = lines; event
 pub record ReportsSoFar {H L E : Type 0} (r : Reporting H L E) (h : H) (log : List E) (text : List ℕ) : Type 0 where
   pub begins : (lines : ℕ) (more : List E) (stop : Stop) → BeginsReport r (input_stopped h lines (log ++ more) stop) text
   pub refused : (lines number : ℕ) (why : InputCause) → r.reports (input_stopped h lines log (Refused number why)) (refused_at number) (text ++ refused_line number why)
-
--- the run so far hasn't what the event after these names: whatever comes after it, the report ends at its line for this
--- cause
-abbrev pub EndsUnmet : {H L E : Type 0} → Reporting H L E → H → List E → List ℕ → E → InputCause → Type 0
-EndsUnmet {H} {L} {E} r h log text event why =
-    (lines : ℕ) (more : List E) (stop : Stop)
-    → r.reports (input_stopped h lines ((log ++ event ∷ []) ++ more) stop) (refused_at (lines + length log + 1)) (text ++ refused_line (lines + length log + 1) why)
-
--- the event after these isn't done: the run so far hasn't what it names, or there is no memory for it
-abbrev pub EndsStopped : {H L E : Type 0} → Reporting H L E → H → List E → List ℕ → E → Stopped → Type 0
-EndsStopped r h log text event stopped.NoFrame = EndsUnmet r h log text event NoFrame
-EndsStopped r h log text event stopped.NoApp = EndsUnmet r h log text event NoApp
-EndsStopped r h log text event stopped.Memory = r.memory ≡ Always
-
--- this is the whole report of an input that stops by `end` after these events, and the run ends so
-abbrev pub EndsReport : {H L E : Type 0} → Reporting H L E → H → List E → List ℕ → Ended → Type 0
-EndsReport r h log text ended = (lines : ℕ) → r.reports (input_stopped h lines log AtEnd) ended text

@@ -1,11 +1,12 @@
 -- A run between two lines of its input, and what a step of it does.
-use Rattle.std.specs.Prelude.{◌≡◌, ℕ, ◌+◌, ◌*◌, ◌≤◌, ◌<◌, Bool, false, List, ◌++◌, length, map, slice_get, Some, None, Result, Ok}
+use Rattle.std.specs.Prelude.{◌≡◌, ℕ, ◌+◌, ◌*◌, ◌≤◌, ◌<◌, Bool, false, List, ◌++◌, length, map, slice_get, Some, None, Result, Ok, ◌⊎◌}
 use Rattle.std.specs.declared.option.Option.{Option}
 use Rattle.std.specs.Io.KnownBytes.{Consumes, prepend_known}
 use Rattle.fsoe_io.specs.Line.{most_held}
 use Rattle.fsoe_io.specs.Output.{OutputView, most_waiting}
 use Rattle.fsoe_io.specs.Sink.{Grew}
 use Rattle.fsoe_io.specs.declared.status.Ended.{Ended}
+use Rattle.fsoe_io.specs.declared.status.Status.TheVariants as status
 use Rattle.schedule_file.specs.Input.{InputCause, InputFormat, InputOf, lines_of, texts, steps, with_room, stop_at, input_read}
 use Rattle.schedule_file.specs.Limits.{max_events}
 use Rattle.schedule_file.specs.declared.line_cause.LineCause.{LineCause}
@@ -15,6 +16,7 @@ use Rattle.file_run.specs.Machine.{most_parts}
 use Rattle.file_run.specs.Outside.{Outside}
 use Rattle.file_run.specs.Reporting.{Reporting}
 use Rattle.file_run.specs.WholeLines.{TookLines}
+use Rattle.file_run.specs.Left.{LeavesAs, IsBegun, LeavesUnbegun, Done}
 
 -- lines that are to come
 abbrev pub Lines : Type 0
@@ -118,3 +120,14 @@ pub record HasRead {H L E : Type 0} (r : Reporting H L E) (stands : Standing H E
 abbrev pub StepsTo : Option Ended → Type 0 → (Ended → Type 0) → Type 0
 StepsTo None goes ends = goes
 StepsTo (Some ended) goes ends = ends ended
+
+-- a machine was begun: what it did stands at the end, as far as it came in the input
+pub record LeavesDone {H L E : Type 0} (r : Reporting H L E) (stands : H → List E → List ℕ → Type 0) (closes : H → List E → List ℕ → Ended → Type 0) (ended : Ended) (o : Outside) : Type 0 where
+  pub done : Done H E
+  pub stood : stands done.heading done.log done.text
+  pub begun : IsBegun r.format done o.source.before
+  pub ends : LeavesAs r closes done ended.status ended o
+
+-- a run began no machine, and left what was handed unchanged; or what its machine did stands
+abbrev pub Leaves : {H L E : Type 0} → Type 0 → Reporting H L E → (H → List E → List ℕ → Type 0) → (H → List E → List ℕ → Ended → Type 0) → Ended → Outside → Type 0
+Leaves unchanged r stands closes ended o = (unchanged × LeavesUnbegun r ended o) ⊎ LeavesDone r stands closes ended o

@@ -3,9 +3,8 @@ ghost use Rattle.std.specs.Io.KnownBytes.{prepend_known};
 ghost use Rattle.std.specs.Prelude.{◌≡◌, ◌≤◌, [], IfErr, IfOk, OnErr, OnOk, length};
 ghost use Rattle.fsoe_io.specs.Line.{IsLine, most_held};
 ghost use Rattle.file_run.specs.Begun.{Begins};
-ghost use Rattle.file_run.specs.Ending.{Halts};
-ghost use Rattle.file_run.specs.Halt.{Blames, Stalls};
-ghost use Rattle.file_run.specs.Header.{HaltsHeader};
+ghost use Rattle.file_run.specs.Halt.{Halts, Blames, Stalls};
+ghost use Rattle.file_run.specs.Left.{HaltsHeader};
 ghost use Rattle.file_run.specs.NextLine.{from_line};
 ghost use Rattle.file_run.specs.Reporting.{TakesMemory};
 

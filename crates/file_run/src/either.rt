@@ -1,7 +1,7 @@
 //! The run of one of two machines, which the first line of its input decides.
 ghost use Rattle.std.specs.Prelude.{◌≡◌};
 ghost use Rattle.file_run.specs.ByTitle.{ByTitle};
-ghost use Rattle.file_run.specs.Left.{Leaves};
+ghost use Rattle.file_run.specs.Running.{Leaves};
 ghost use Rattle.file_run.specs.Outside.{Outside};
 ghost use Rattle.file_run.specs.Ran.{RanOver};
 

@@ -2,8 +2,7 @@
 ghost use Rattle.std.specs.Prelude.{◌≡◌, ◌+◌, ◌++◌, ◌-◌, ◌^◌, ◌≤◌, ◌<◌, ◌∷◌, [], ℕ, List, Option, IfOk, IsTrue, OnOk, length};
 ghost use Rattle.std.specs.Io.KnownBytes.{Consumes, prepend_known};
 ghost use Rattle.fsoe_io.specs.Line.{IsLine, most_held};
-ghost use Rattle.file_run.specs.Ending.{Halts};
-ghost use Rattle.file_run.specs.Halt.{Blames, Declines, Goes, Stalls};
+ghost use Rattle.file_run.specs.Halt.{Halts, Blames, Declines, Goes, Stalls};
 ghost use Rattle.file_run.specs.Header.{FindsHeading, ReadsHeader, most_lines};
 ghost use Rattle.file_run.specs.NextLine.{from_line};
 ghost use Rattle.file_run.specs.WholeLines.{TookLines};

@@ -4,10 +4,10 @@ ghost use Rattle.fsoe_io.specs.declared.status.Ended.{Ended};
 ghost use Rattle.schedule_file.specs.Input.{InputCause, Refused, input_read};
 ghost use Rattle.schedule_file.specs.declared.event.TheConstants.{MAX_EVENTS};
 ghost use Rattle.file_run.specs.Header.{most_lines};
-ghost use Rattle.file_run.specs.Machine.{IsStanding, Keeps, MayCome, TakesEvent, most_parts};
+ghost use Rattle.file_run.specs.Machine.{IsStanding, Keeps, MayCome, TakesEvent, most_parts, EndsReport, EndsStopped, input_headless};
 ghost use Rattle.file_run.specs.Ran.{EndsWhole};
 ghost use Rattle.file_run.specs.Report.{refused_line};
-ghost use Rattle.file_run.specs.Reporting.{EndsReport, EndsStopped, Reporting, ReportsSoFar, TakesMemory, input_headless, refused_at};
+ghost use Rattle.file_run.specs.Reporting.{Reporting, ReportsSoFar, TakesMemory, refused_at};
 
 use crate::format::Format;
 use crate::stopped::Stopped;

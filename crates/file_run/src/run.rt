@@ -2,11 +2,10 @@
 ghost use Rattle.std.specs.Prelude.{◌≡◌, ◌+◌, ◌≤◌, ℕ, List, Option, length};
 ghost use Rattle.fsoe_io.specs.Line.{IsLine, most_held};
 ghost use Rattle.file_run.specs.Ending.{Writes};
-ghost use Rattle.file_run.specs.Left.{Leaves, LeavesDone};
+ghost use Rattle.file_run.specs.Running.{Leaves, LeavesDone, HasRead, Runs, Start, StepsTo, since};
 ghost use Rattle.file_run.specs.NextLine.{from_line};
 ghost use Rattle.file_run.specs.Outside.{Outside};
 ghost use Rattle.file_run.specs.Ran.{RanOver};
-ghost use Rattle.file_run.specs.Running.{HasRead, Runs, Start, StepsTo, since};
 ghost use Rattle.file_run.specs.Stop.{halted_by, last_of};
 
 use crate::begin::begin_over;

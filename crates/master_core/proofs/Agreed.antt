@@ -13,7 +13,8 @@ use Rattle.param_load.specs.declared.master_settings.MasterSettings.{MasterSetti
 use Rattle.end_model.specs.Setup.{OfMaster}
 use Rattle.end_model.specs.Deed.{Deed}
 use Rattle.end_model.specs.Readiness.{state_of}
-use Rattle.end_model.specs.Step.{on_verdict, did_on, IsProper, IsRun}
+use Rattle.end_model.specs.Step.{on_verdict, did_on}
+use Rattle.end_model.specs.Runs.{IsProper, IsRun}
 use Rattle.end_model.specs.Verdict as model
 use Rattle.master_core.specs.After.{after}
 use Rattle.master_core.specs.Master.{Accepted, settles, answered_by}

@@ -7,8 +7,9 @@ use Rattle.param_load.specs.declared.entry.Move.{Move}
 use Rattle.param_load.specs.declared.entry.Move.TheVariants as move
 use Rattle.param_load.specs.declared.master_settings.MasterSettings.{MasterSettings}
 use Rattle.end_model.specs.Setup.{Setup, OfMaster}
-use Rattle.end_model.specs.Deed.{Deed, events_of}
-use Rattle.end_model.specs.Step.{begun, step, run, IsRun}
+use Rattle.end_model.specs.Deed.{Deed}
+use Rattle.end_model.specs.Runs.{events_of, IsRun}
+use Rattle.end_model.specs.Step.{begun, step, run}
 use Rattle.end_model.proofs.Runs.{deed, same_deed, set_deed, run_of_events}
 use Rattle.end_model.specs.Reactions.{Reaction, Expires, SendsAgain, ResetsItself, Refuses, PeerResets, Answers}
 use Rattle.end_model.proofs.SoundRuns.{reacts}

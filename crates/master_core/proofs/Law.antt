@@ -9,10 +9,11 @@ use Rattle.param_load.specs.declared.entry.Move.{Move}
 use Rattle.param_load.specs.declared.master_settings.MasterSettings.{MasterSettings}
 use Rattle.param_load.specs.declared.terms.Terms.{Terms}
 use Rattle.end_model.specs.Setup.{OfMaster}
-use Rattle.end_model.specs.Deed.{Deed, IsSetting}
+use Rattle.end_model.specs.Deed.{Deed}
+use Rattle.end_model.specs.Runs.{IsSetting, IsProper, IsRun}
 use Rattle.end_model.specs.Payloads.{terms}
 use Rattle.end_model.specs.Readiness.{state_of, age, told_in, told_terms, offer, held}
-use Rattle.end_model.specs.Step.{did_on, IsProper, IsRun}
+use Rattle.end_model.specs.Step.{did_on}
 use Rattle.end_model.specs.Outputs.{zeros, outputs, out}
 use Rattle.end_model.proofs.Runs.{set_deed}
 use Rattle.end_model.proofs.Shown.{looking_back, fail_safe}

@@ -33,7 +33,7 @@ use Rattle.failsafe_io.specs.Offer.{data_command, data_load}
 use Rattle.failsafe_io.specs.Outputs.{outputs_of}
 use Rattle.param_load.specs.declared.terms.Terms.{Terms}
 use Rattle.end_model.specs.Phases.{is_reset}
-use Rattle.param_load.specs.MasterSettings.{terms_of}
+use Rattle.param_load.specs.Download.{terms_of}
 
 -- state Data by its parts
 pub same_data : (t : Terms) (c c' : Chain) (o o' l l' : List ℕ) → c ≡ c' → o ≡ o' → l ≡ l'

@@ -9,7 +9,7 @@ use Rattle.seq_chain.specs.SessionFrame.{SessionFrameView}
 use Rattle.param_load.specs.declared.entry.Move.TheVariants as move
 use Rattle.param_load.specs.declared.master_settings.MasterSettings.{MasterSettings}
 use Rattle.param_load.specs.declared.upload.Progress.TheVariants as progress
-use Rattle.param_load.specs.Download.{is_whole, is_answer, advanced}
+use Rattle.param_load.specs.Download.{is_whole, is_answer, advanced, terms_of}
 use Rattle.param_load.specs.Payload.{piece_from, padded}
 use Rattle.end_model.specs.Setup.{OfMaster, piece_len}
 use Rattle.end_model.specs.Deed.{Deed}
@@ -32,7 +32,6 @@ use Rattle.master_core.proofs.Arrived.{Arrived, next_frame, next_chain, chain_af
 use Rattle.master_core.proofs.Taking.{After, takes-agree, same_exchange, choose_first, choose_second, positive, more_to_come}
 use Rattle.std.proofs.lemmas.List.{length-replicate}
 use Rattle.failsafe_io.specs.Offer.{data_command}
-use Rattle.param_load.specs.MasterSettings.{terms_of}
 use Rattle.master_core.proofs.TakenData.{same_data, data_sent}
 
 abbrev seen : MasterSettings → List ℕ → SessionFrameView

@@ -8,8 +8,8 @@ use Rattle.seq_chain.specs.SessionFrame.{SessionFrameView}
 use Rattle.param_load.specs.declared.entry.Move.TheVariants as move
 use Rattle.param_load.specs.declared.master_settings.MasterSettings.{MasterSettings}
 use Rattle.param_load.specs.declared.upload.Progress.TheVariants as progress
-use Rattle.param_load.specs.Download.{is_padded, is_whole, is_answer, advanced}
-use Rattle.param_load.specs.Payload.{piece_from, padded}
+use Rattle.param_load.specs.Download.{is_whole, is_answer, advanced}
+use Rattle.param_load.specs.Payload.{is_padded, piece_from, padded}
 use Rattle.end_model.specs.Setup.{OfMaster, piece_len}
 use Rattle.end_model.specs.Deed.{Deed}
 use Rattle.end_model.specs.Chain.{since}

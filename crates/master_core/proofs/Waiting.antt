@@ -12,7 +12,7 @@ use Rattle.param_load.specs.declared.master_settings.MasterSettings.{MasterSetti
 use Rattle.param_load.specs.Profile.{allows_id}
 use Rattle.end_model.specs.Setup.{OfMaster}
 use Rattle.end_model.specs.Deed.{Deed}
-use Rattle.end_model.specs.Step.{IsProper, IsRun}
+use Rattle.end_model.specs.Runs.{IsProper, IsRun}
 use Rattle.master_core.specs.After.{after}
 use Rattle.master_core.specs.Kit.{KitView}
 use Rattle.master_core.specs.Master.{accepted, replies}

@@ -10,7 +10,8 @@ use Rattle.seq_chain.specs.declared.chain.Chain.{Chain}
 use Rattle.seq_chain.specs.declared.session.Session.{Session}
 use Rattle.seq_chain.specs.Chain.{fits_next}
 use Rattle.seq_chain.specs.Reset.{reset_frame}
-use Rattle.seq_chain.specs.Session.{chain_in, last_in, session_fault}
+use Rattle.seq_chain.specs.Session.{chain_in, last_in}
+use Rattle.seq_chain.specs.Opened.{session_fault}
 use Rattle.seq_chain.specs.SessionFrame.{SessionFrameView}
 use Rattle.param_load.specs.declared.master_settings.MasterSettings.{MasterSettings}
 use Rattle.param_load.specs.declared.terms.Terms.{Terms}

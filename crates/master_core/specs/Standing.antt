@@ -5,7 +5,8 @@ use Rattle.param_load.specs.declared.entry.Move.{Move}
 use Rattle.param_load.specs.declared.master_settings.MasterSettings.{MasterSettings}
 use Rattle.end_model.specs.Setup.{Setup, OfMaster}
 use Rattle.end_model.specs.Deed.{Deed}
-use Rattle.end_model.specs.Step.{step, IsRun}
+use Rattle.end_model.specs.Step.{step}
+use Rattle.end_model.specs.Runs.{IsRun}
 use Rattle.master_core.specs.MasterView.{MasterView}
 use Rattle.master_core.specs.ViewOf.{view_of}
 

@@ -8,9 +8,8 @@ use Rattle.seq_chain.specs.Session.{first_session, session_taken, session_sent}
 use Rattle.seq_chain.specs.SessionFrame.{SessionFrameView}
 use Rattle.param_load.specs.declared.upload.Progress.{Progress}
 use Rattle.param_load.specs.declared.upload.Progress.TheVariants as progress
-use Rattle.param_load.specs.Download.{advanced, outcome, piece_in_turn}
+use Rattle.param_load.specs.Download.{advanced, outcome, piece_in_turn, terms_of}
 use Rattle.param_load.specs.DownloadView.{DownloadView}
-use Rattle.param_load.specs.MasterSettings.{terms_of}
 use Rattle.param_load.specs.Payload.{padded}
 use Rattle.fsoe_base.specs.Data.{data_holds}
 use Rattle.failsafe_io.specs.Offer.{data_command, data_load}

@@ -3,7 +3,7 @@
 ghost use Rattle.std.specs.Prelude.{◌≡◌, List, [], Some, None};
 ghost use Rattle.param_load.specs.declared.master_settings.MasterSettings.{MasterSettings};
 ghost use Rattle.end_model.specs.Setup.{OfMaster};
-ghost use Rattle.end_model.specs.Deed.{events_of};
+ghost use Rattle.end_model.specs.Runs.{events_of};
 ghost use Rattle.end_model.specs.Step.{run};
 ghost use Rattle.master_core.specs.Calls.{Call, Called, Pending, delivery_after, deeds_of, pending};
 ghost use Rattle.master_core.specs.MasterView.{MasterView};

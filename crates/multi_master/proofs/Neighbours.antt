@@ -6,7 +6,8 @@ use Rattle.failsafe_io.specs.Application.{Answer}
 use Rattle.param_load.specs.declared.entry.Move.{Move}
 use Rattle.param_load.specs.declared.entry.Move.TheVariants as move
 use Rattle.param_load.specs.declared.master_settings.MasterSettings.{MasterSettings}
-use Rattle.end_model.specs.Deed.{Deed, events_of}
+use Rattle.end_model.specs.Deed.{Deed}
+use Rattle.end_model.specs.Runs.{events_of}
 use Rattle.end_model.specs.Step.{step, run}
 use Rattle.end_model.proofs.Runs.{run_append}
 use Rattle.multi_master.specs.Connection.{Connection, fresh, setup, with_event, is_offer, with_offer, with_offers}

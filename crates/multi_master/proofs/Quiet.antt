@@ -10,7 +10,8 @@ use Rattle.end_model.specs.Setup.{Setup, OfMaster}
 use Rattle.end_model.specs.Deed.{Deed}
 use Rattle.end_model.specs.Outputs.{outputs, out, zeros, held_up, out_after}
 use Rattle.end_model.specs.Reactions.{Reaction, Rests, Ages, Expires, SendsAgain, ResetsItself, Refuses, PeerResets, Answers}
-use Rattle.end_model.specs.Step.{step, IsRun}
+use Rattle.end_model.specs.Step.{step}
+use Rattle.end_model.specs.Runs.{IsRun}
 use Rattle.end_model.proofs.Runs.{deed}
 use Rattle.end_model.proofs.Shown.{looking_back, fail_safe}
 use Rattle.end_model.proofs.SoundRuns.{reacts}

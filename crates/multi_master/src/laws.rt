@@ -3,7 +3,7 @@
 ghost use Rattle.std.specs.Prelude.{◌≡◌, ℕ, List, [], map, replicate, Some, IfSome, slice_get};
 ghost use Rattle.param_load.specs.declared.master_settings.MasterSettings.{MasterSettings};
 ghost use Rattle.param_load.specs.declared.entry.Move.TheVariants as event;
-ghost use Rattle.end_model.specs.Deed.{events_of};
+ghost use Rattle.end_model.specs.Runs.{events_of};
 ghost use Rattle.end_model.specs.Step.{run};
 ghost use Rattle.master_core.specs.MasterView.{MasterView};
 ghost use Rattle.multi_master.specs.Connection.{Connection, setup, with_event, with_offer, offer_len};

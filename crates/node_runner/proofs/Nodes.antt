@@ -12,10 +12,11 @@ use Rattle.schedule_file.specs.Input.{AtEnd, own_length, heading_profile, input_
 use Rattle.schedule_file.proofs.Fitting.{node_event_fits}
 use Rattle.schedule_file.specs.declared.event.Event.{Event}
 use Rattle.schedule_file.specs.declared.header_kind.HeaderKind.TheVariants as kind
-use Rattle.file_run.specs.Machine.{TakesEvent, MayCome}
+use Rattle.file_run.specs.Machine.{TakesEvent, MayCome, EndsReport}
 use Rattle.file_run.specs.Report.{events_line, last_line}
-use Rattle.file_run.specs.Reporting.{EndsReport, ReportsSoFar, ended_at}
-use Rattle.end_model.specs.Setup.{Setup, OfMaster, OfSlave, end_of, sends, profile_of}
+use Rattle.file_run.specs.Reporting.{ReportsSoFar, ended_at}
+use Rattle.end_model.specs.Setup.{Setup, OfMaster, OfSlave, end_of, sends}
+use Rattle.end_model.specs.Runs.{profile_of}
 use Rattle.end_model.specs.Deed.{Deed}
 use Rattle.end_model.specs.Outputs.{out}
 use Rattle.end_model.specs.Readiness.{state_of}

@@ -4,7 +4,8 @@ use Rattle.fsoe_base.specs.declared.command.End.{End}
 use Rattle.schedule_file.specs.Event.{FitsEnd}
 use Rattle.schedule_file.specs.Header.{Heading}
 use Rattle.schedule_file.specs.declared.event.Event.{Event}
-use Rattle.end_model.specs.Setup.{Setup, end_of, sends, profile_of}
+use Rattle.end_model.specs.Setup.{Setup, end_of, sends}
+use Rattle.end_model.specs.Runs.{profile_of}
 use Rattle.end_core.specs.Core.{setup_of, IsAtRest}
 use Rattle.end_core.specs.Standing.{IsAfter}
 use Rattle.end_core.specs.declared.one_end.Core.{Core}

@@ -102,7 +102,7 @@ fn write_end(events: u64, text: &mut LineText) -> Ended
 impl Machine for Node {
     ghost use Rattle.node_runner.specs.Node.{NodeStands};
     ghost use Rattle.node_runner.specs.Ran.{node_reporting};
-    ghost use Rattle.file_run.specs.Reporting.{EndsReport};
+    ghost use Rattle.file_run.specs.Machine.{EndsReport};
     ghost use Rattle.std.specs.Prelude.{[]};
 
     type Format = Schedule;

@@ -12,7 +12,7 @@ use Rattle.fsoe_base.specs.Codes.{wrong_communication_length, wrong_communicatio
 use Rattle.param_load.specs.Contents.{fails, word_is, communication_fault, app_fault, app_part, field_fault, padding_fault, contents_fault}
 use Rattle.param_load.specs.Profile.{id_len}
 use Rattle.param_load.specs.Payload.{number_at}
-use Rattle.param_load.specs.UploadView.{HasWatchdog}
+use Rattle.param_load.specs.Upload.{HasWatchdog}
 
 first : (a b : Option Code) → option_or a b ≡ None → a ≡ None
 first None b e = refl

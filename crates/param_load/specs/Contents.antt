@@ -1,7 +1,7 @@
 -- The tests of the contents of the frames that a slave takes in a handshake. `before` is the number of bytes that were
 -- joined before the frame, and `u` all joined bytes, the frame's among them. The codes are those of the public
 -- standard; the tests and their order are this profile's own.
-use Rattle.std.specs.Prelude.{ℕ, ◌+◌, ◌==◌, nat_le, nat_lt, Bool, true, false, ◌&&◌, not, List, [], length, take, drop, Option, Some, None, if◌then◌else◌}
+use Rattle.std.specs.Prelude.{ℕ, ◌+◌, ◌==◌, nat_le, nat_lt, Bool, true, ◌&&◌, not, List, [], length, take, drop, Option, Some, None, if◌then◌else◌}
 use Rattle.std.specs.Option.{option_or}
 use Rattle.fsoe_base.specs.declared.command.Code.{Code}
 use Rattle.fsoe_base.specs.Bytes.{all_zero}
@@ -14,21 +14,6 @@ use Rattle.param_load.specs.declared.profile.Profile.TheVariants as profile
 use Rattle.param_load.specs.AppRule.{allows}
 use Rattle.param_load.specs.Payload.{number_at}
 use Rattle.param_load.specs.Profile.{id_len}
-
--- expected application parameters are at most as many as settings may ask for
-abbrev pub is_expectable : Expected → Bool
-is_expectable (expected.Session profile) = true
-is_expectable (expected.Connection conn address) = true
-is_expectable (expected.Parameter most count profile) = nat_le count 512
-
--- what is expected
-abbrev pub is_session : Expected → Bool
-is_session (expected.Session profile) = true
-is_session _ = false
-
-abbrev pub is_parameter : Expected → Bool
-is_parameter (expected.Parameter most count profile) = true
-is_parameter _ = false
 
 -- the number of bytes of an expected payload
 abbrev pub expected_len : Expected → ℕ

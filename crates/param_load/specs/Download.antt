@@ -1,13 +1,13 @@
 -- How a download goes on by the answers to its pieces. It is this profile's own.
-use Rattle.std.specs.Prelude.{ℕ, ◌+◌, nat_le, nat_eq, Bool, List, length, drop, Result, Ok, Err, if◌then◌else◌}
-use Rattle.std.specs.Cmp.Lexicographic.{pointwise}
+use Rattle.std.specs.Prelude.{ℕ, ◌+◌, nat_le, Bool, List, length, Result, Ok, Err, if◌then◌else◌}
 use Rattle.fsoe_base.specs.declared.command.Code.{Code}
-use Rattle.fsoe_base.specs.Bytes.{all_zero}
 use Rattle.fsoe_base.specs.Codes.{wrong_data}
 use Rattle.param_load.specs.declared.upload.Progress.{Progress}
 use Rattle.param_load.specs.declared.upload.Progress.TheVariants as progress
 use Rattle.param_load.specs.DownloadView.{DownloadView}
-use Rattle.param_load.specs.Payload.{piece_from, padded}
+use Rattle.param_load.specs.Payload.{piece_from, is_padded, is_echo}
+use Rattle.param_load.specs.declared.master_settings.MasterSettings.{MasterSettings}
+use Rattle.param_load.specs.declared.terms.Terms.{Terms}
 
 -- a download of which no piece was answered
 abbrev pub download : List ℕ → ℕ → Bool → DownloadView
@@ -20,14 +20,6 @@ piece_in_turn v = piece_from v.payload v.from v.piece
 -- a download is whole where all pieces of its payload were answered
 abbrev pub is_whole : DownloadView → Bool
 is_whole v = nat_le (length v.payload) v.from
-
--- an echo is the piece, and zeros after it
-abbrev pub is_echo : List ℕ → List ℕ → Bool
-is_echo piece bytes = pointwise nat_eq bytes (padded piece (length bytes))
-
--- an answer that is no echo has zeros from the end of the piece on
-abbrev pub is_padded : List ℕ → List ℕ → Bool
-is_padded piece bytes = all_zero (drop (length piece) bytes)
 
 -- whether these bytes answer the piece in turn
 abbrev pub is_answer : DownloadView → List ℕ → Bool
@@ -42,3 +34,13 @@ abbrev pub outcome : DownloadView → List ℕ → Result Progress Code
 outcome v bytes =
     if is_answer v bytes then Ok (if is_whole (advanced v) then progress.Whole else progress.More)
     else Err wrong_data
+
+-- the terms of a master are its settings
+abbrev pub terms_of : MasterSettings → Terms
+terms_of settings = record {
+  conn = settings.conn;
+  address = settings.address;
+  watchdog = settings.watchdog;
+  app = settings.app;
+  profile = settings.profile;
+}

@@ -3,7 +3,6 @@ use Rattle.std.specs.Prelude.{◌≡◌, ℕ, List}
 use Rattle.fsoe_base.specs.declared.lengths.Lengths.{Lengths}
 use Rattle.param_load.specs.declared.master_settings.MasterSettings.{MasterSettings}
 use Rattle.param_load.specs.declared.profile.Profile.{Profile}
-use Rattle.param_load.specs.declared.terms.Terms.{Terms}
 
 -- settings of a master with these values
 pub record IsMasterSetTo (s : MasterSettings) (lengths : Lengths) (conn address watchdog : ℕ) (app : List ℕ) (nonce : ℕ) (profile : Profile) : Type 0 where
@@ -14,13 +13,3 @@ pub record IsMasterSetTo (s : MasterSettings) (lengths : Lengths) (conn address 
   pub app_is : s.app ≡ app
   pub nonce_is : s.nonce ≡ nonce
   pub profile_is : s.profile ≡ profile
-
--- the terms of a master are its settings
-abbrev pub terms_of : MasterSettings → Terms
-terms_of settings = record {
-  conn = settings.conn;
-  address = settings.address;
-  watchdog = settings.watchdog;
-  app = settings.app;
-  profile = settings.profile;
-}

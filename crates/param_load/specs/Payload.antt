@@ -1,8 +1,9 @@
 -- The payloads of a handshake, and how a piece of one fills the safe data of a frame. That each phase has its payload
 -- is the public standard's; widths, order, pieces and padding are this profile's own.
-use Rattle.std.specs.Prelude.{ℕ, ◌+◌, ◌-◌, ◌*◌, List, ◌++◌, length, slice_index, replicate, take, drop}
+use Rattle.std.specs.Prelude.{ℕ, ◌+◌, ◌-◌, ◌*◌, List, ◌++◌, length, slice_index, replicate, take, drop, Bool, nat_eq}
 use Rattle.std.specs.Int.{w16, w32, to_le_bytes}
-use Rattle.fsoe_base.specs.Bytes.{low_high}
+use Rattle.std.specs.Cmp.Lexicographic.{pointwise}
+use Rattle.fsoe_base.specs.Bytes.{low_high, all_zero}
 use Rattle.param_load.specs.declared.profile.Profile.{Profile}
 use Rattle.param_load.specs.declared.profile.Profile.TheVariants as profile
 
@@ -35,3 +36,11 @@ number_at place bytes = slice_index bytes place + 256 * slice_index bytes (place
 -- a piece, then zeros up to the length of a frame's safe data
 abbrev pub padded : List ℕ → ℕ → List ℕ
 padded piece len = piece ++ replicate (len - length piece) 0
+
+-- an echo is the piece, and zeros after it
+abbrev pub is_echo : List ℕ → List ℕ → Bool
+is_echo piece bytes = pointwise nat_eq bytes (padded piece (length bytes))
+
+-- an answer that is no echo has zeros from the end of the piece on
+abbrev pub is_padded : List ℕ → List ℕ → Bool
+is_padded piece bytes = all_zero (drop (length piece) bytes)

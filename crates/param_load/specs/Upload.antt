@@ -1,6 +1,7 @@
 -- How an upload goes on by the data of a frame. It is this profile's own.
-use Rattle.std.specs.Prelude.{ℕ, ◌+◌, ◌-◌, ◌*◌, nat_le, Bool, List, [], ◌++◌, length, take, drop, Option, Some, None, Result, Ok, Err, if◌then◌else◌}
+use Rattle.std.specs.Prelude.{ℕ, ◌+◌, ◌-◌, ◌*◌, nat_le, Bool, List, [], ◌++◌, length, take, drop, Option, Some, None, Result, Ok, Err, if◌then◌else◌, true, false, IsTrue, ◌≤◌, ◌<◌}
 use Rattle.fsoe_base.specs.declared.command.Code.{Code}
+use Rattle.fsoe_base.specs.Lengths.{most_data}
 use Rattle.param_load.specs.declared.app_rule.AppRule.{AppRule}
 use Rattle.param_load.specs.declared.contents.Expected.{Expected}
 use Rattle.param_load.specs.declared.contents.Expected.TheVariants as expected
@@ -9,9 +10,9 @@ use Rattle.param_load.specs.declared.profile.Profile.TheVariants as profile
 use Rattle.param_load.specs.declared.upload.Progress.{Progress}
 use Rattle.param_load.specs.declared.upload.Progress.TheVariants as progress
 use Rattle.param_load.specs.AppRule.{rule_len}
-use Rattle.param_load.specs.Contents.{expected_len, contents_fault}
+use Rattle.param_load.specs.Contents.{expected_len}
 use Rattle.param_load.specs.Payload.{number_at}
-use Rattle.param_load.specs.UploadView.{UploadView}
+use Rattle.param_load.specs.UploadView.{UploadView, upload_fault}
 
 -- uploads of which nothing has come
 abbrev pub session_upload : ℕ → Profile → UploadView
@@ -40,9 +41,6 @@ id_of _ u = 0
 abbrev pub advanced : UploadView → List ℕ → UploadView
 advanced v bytes = record v { joined = v.joined ++ take v.piece bytes }
 
-abbrev pub upload_fault : UploadView → AppRule → List ℕ → Option Code
-upload_fault v rule bytes = contents_fault v.expected rule (length v.joined) (v.joined ++ take v.piece bytes) (drop v.piece bytes)
-
 -- the code of the first test that fails, else whether the upload is whole with the piece
 abbrev pub outcome_by : Option Code → UploadView → Result Progress Code
 outcome_by (Some code) v = Err code
@@ -54,3 +52,30 @@ outcome v rule bytes = outcome_by (upload_fault v rule bytes) (advanced v bytes)
 -- the piece that came last
 abbrev pub last_piece : UploadView → List ℕ
 last_piece v = drop (length v.joined - v.piece) v.joined
+
+-- expected application parameters are at most as many as settings may ask for
+abbrev pub is_expectable : Expected → Bool
+is_expectable (expected.Session profile) = true
+is_expectable (expected.Connection conn address) = true
+is_expectable (expected.Parameter most count profile) = nat_le count 512
+
+-- what is expected
+abbrev pub is_session : Expected → Bool
+is_session (expected.Session profile) = true
+is_session _ = false
+
+abbrev pub is_parameter : Expected → Bool
+is_parameter (expected.Parameter most count profile) = true
+is_parameter _ = false
+
+-- the watchdog of expected parameters isn't 0
+abbrev pub HasWatchdog : Expected → List ℕ → Type 0
+HasWatchdog (expected.Session profile) u = Unit {0}
+HasWatchdog (expected.Connection conn address) u = Unit {0}
+HasWatchdog (expected.Parameter most count profile) u = 4 ≤ length u → 0 < number_at 2 u
+
+-- what holds of every upload
+pub record IsUpload (v : UploadView) : Type 0 where
+  pub piece_most : v.piece ≤ most_data
+  pub expectable : IsTrue (is_expectable v.expected)
+  pub has_watchdog : HasWatchdog v.expected v.joined

@@ -1,6 +1,7 @@
 //! What an upload is expected to bring, and the tests of the contents of its frames.
 ghost use Rattle.std.specs.Prelude.{◌≡◌, ◌≤◌, ◌<◌, ◌+◌, length, nat_le, nat_lt, ◌&&◌, IsTrue};
-ghost use Rattle.param_load.specs.Contents.{is_expectable, expected_len, app_part, word_is, connection_fault, communication_fault, field_fault, contents_fault};
+ghost use Rattle.param_load.specs.Contents.{expected_len, app_part, word_is, connection_fault, communication_fault, field_fault, contents_fault};
+ghost use Rattle.param_load.specs.Upload.{is_expectable};
 ghost use Rattle.param_load.specs.Profile.{id_len};
 
 use crate::app_rule::AppRule;

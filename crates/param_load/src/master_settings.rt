@@ -27,7 +27,8 @@ impl MasterSettings {
     ghost use Rattle.std.specs.Prelude.{◌≡◌, ◌≤◌, IsTrue, min};
     ghost use Rattle.fsoe_base.specs.Lengths.{is_length};
     ghost use Rattle.param_load.specs.declared.profile.Profile.TheVariants as profile;
-    ghost use Rattle.param_load.specs.MasterSettings.{IsMasterSetTo, terms_of};
+    ghost use Rattle.param_load.specs.MasterSettings.{IsMasterSetTo};
+    ghost use Rattle.param_load.specs.Download.{terms_of};
 
     /// Creates settings of profile One: the lengths, the connection id, the slave's address, the watchdog in ticks, the
     /// application parameters, and the session id. Refused with `Conn` if the connection id is 0, else with `Watchdog`

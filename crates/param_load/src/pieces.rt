@@ -20,7 +20,8 @@ pub struct Pieces {
 }
 
 impl Model for Pieces {
-    ghost use Rattle.param_load.specs.UploadView.{UploadView, IsUpload};
+    ghost use Rattle.param_load.specs.UploadView.{UploadView};
+    ghost use Rattle.param_load.specs.Upload.{IsUpload};
 
     ghost Value = { UploadView };
 
@@ -32,9 +33,9 @@ impl Model for Pieces {
 impl Pieces {
     ghost use Rattle.std.specs.Prelude.{◌≡◌, ◌≤◌, ◌<◌, IsTrue, false, OnOk, OnErr, length};
     ghost use Rattle.param_load.specs.AppRule.{is_acceptable};
-    ghost use Rattle.param_load.specs.Contents.{app_part, is_session, is_parameter};
+    ghost use Rattle.param_load.specs.Contents.{app_part};
+    ghost use Rattle.param_load.specs.Upload.{is_session, is_parameter, session_upload, connection_upload, parameter_upload, is_whole, id_of, advanced, outcome, last_piece};
     ghost use Rattle.param_load.specs.Payload.{number_at, padded};
-    ghost use Rattle.param_load.specs.Upload.{session_upload, connection_upload, parameter_upload, is_whole, id_of, advanced, outcome, last_piece};
 
     /// The upload of a session id of this profile, in pieces of `piece` bytes, at most 126.
     pub fn session(piece: usize, profile: Profile) -> Pieces

@@ -30,9 +30,9 @@ pub struct Upload {
 impl Upload {
     ghost use Rattle.std.specs.Prelude.{◌≡◌, ◌≤◌, ◌<◌, [], IsTrue, false, OnOk, OnErr, length};
     ghost use Rattle.param_load.specs.AppRule.{is_acceptable};
-    ghost use Rattle.param_load.specs.Contents.{app_part, is_session, is_parameter};
+    ghost use Rattle.param_load.specs.Contents.{app_part};
+    ghost use Rattle.param_load.specs.Upload.{is_session, is_parameter, session_upload, connection_upload, parameter_upload, is_whole, id_of, advanced, outcome, last_piece};
     ghost use Rattle.param_load.specs.Payload.{number_at, padded};
-    ghost use Rattle.param_load.specs.Upload.{session_upload, connection_upload, parameter_upload, is_whole, id_of, advanced, outcome, last_piece};
 
     /// As `Pieces::session`.
     pub fn session(piece: usize, profile: Profile) -> Upload

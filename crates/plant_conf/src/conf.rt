@@ -40,7 +40,8 @@ pub struct PlantConf {
 
 impl Model for PlantConf {
     ghost use Rattle.std.specs.Prelude.{string_bytes};
-    ghost use Rattle.plant_conf.specs.ConfView.{ConfView, IsConf};
+    ghost use Rattle.plant_conf.specs.ConfView.{ConfView};
+    ghost use Rattle.plant_conf.specs.Kept.{IsConf};
 
     ghost Value = { ConfView };
 
@@ -69,7 +70,7 @@ impl PlantConf {
     ghost use Rattle.std.specs.Prelude.{◌≤◌, ◌<◌, [], None, length, map, vec_len};
     ghost use Rattle.std.specs.List.{All};
     ghost use Rattle.fb_net.specs.New.{IsNew};
-    ghost use Rattle.plant_conf.specs.ConfView.{HasSameLengths, IsProfileOne};
+    ghost use Rattle.plant_conf.specs.Kept.{HasSameLengths, IsProfileOne};
     ghost use Rattle.param_load.specs.SameConn.{same_conn};
 
     /// The connections, from 1 to 64, with different ids. Both ends of each are of profile One, with the same lengths.

@@ -5,9 +5,9 @@ ghost use Rattle.toml.specs.View.{table_view};
 ghost use Rattle.plant_conf.specs.declared.conf.LinkConf.{LinkConf};
 ghost use Rattle.plant_conf.specs.declared.fault.ConfFault.TheVariants as fault;
 ghost use Rattle.plant_conf.specs.Meaning.{whole, count_of, has_too_many, apart, plant_keys, connections, all_of, document_meaning, text_meaning, Means};
-ghost use Rattle.plant_conf.specs.ConfView.{HasSameLengths, IsProfileOne, conf_values};
+ghost use Rattle.plant_conf.specs.ConfView.{conf_values};
+ghost use Rattle.plant_conf.specs.Kept.{HasSameLengths, IsProfileOne, plant_said};
 ghost use Rattle.param_load.specs.SameConn.{same_conn};
-ghost use Rattle.plant_conf.specs.Kept.{plant_said};
 ghost use Rattle.plant_conf.specs.Values.{link_values};
 
 use crate::arrays::{FromTable, read_each, tables_in};

@@ -8,8 +8,7 @@ ghost use Rattle.param_load.specs.SlaveSettings.{IsSlaveSetTo};
 ghost use Rattle.param_load.specs.declared.profile.Profile.TheVariants as profile;
 ghost use Rattle.plant_conf.specs.declared.fault.ConfFault.TheVariants as fault;
 ghost use Rattle.plant_conf.specs.Keys.{key_of, plant, link_keys, slave_keys, connection};
-ghost use Rattle.plant_conf.specs.Kept.{plant_said, keys_said, slave_said};
-ghost use Rattle.plant_conf.specs.ConfView.{HasSameLengths, IsProfileOne};
+ghost use Rattle.plant_conf.specs.Kept.{plant_said, keys_said, slave_said, HasSameLengths, IsProfileOne};
 ghost use Rattle.plant_conf.specs.Values.{link_values};
 
 use crate::arrays::{FromTable, required_wires};
@@ -96,7 +95,7 @@ impl FromTable for BlockSpec {
 }
 
 impl FromTable for LinkConf {
-    ghost use Rattle.plant_conf.specs.ConfView.{HasSameLengths, IsProfileOne};
+    ghost use Rattle.plant_conf.specs.Kept.{HasSameLengths, IsProfileOne};
     ghost use Rattle.plant_conf.specs.Keys.{connection};
     ghost use Rattle.plant_conf.specs.Values.{LinkValues, link_values};
 

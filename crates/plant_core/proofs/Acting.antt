@@ -18,7 +18,8 @@ use Rattle.plant_conf.specs.declared.conf.LinkConf.{LinkConf}
 use Rattle.multi_master.specs.Standing as multi
 use Rattle.multi_master.specs.Standing.{MultiValue}
 use Rattle.multi_master.proofs.Places.{map_set, same_length}
-use Rattle.plant_model.specs.Uses.{place_of, sent_uses, each_uses, Use, Trace}
+use Rattle.plant_model.specs.Uses.{Use, Trace}
+use Rattle.plant_model.specs.Gifts.{place_of, sent_uses, each_uses}
 use Rattle.plant_core.specs.Doing.{SlaveActs, MasterActs, one_each, one_each_to, frames_pushed, AllActed, ActedTo, HaveParts}
 use Rattle.plant_core.specs.Standing.{AreNoted, fixed_in, lengths_kept, LinkIs, LinksAre, IsPlant}
 use Rattle.plant_core.specs.Link.{IsMasters, LinkView, LinkStands, SlaveGoesOn, MasterNoted, NotesOne, fixed_of}

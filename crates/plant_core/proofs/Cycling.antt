@@ -26,7 +26,8 @@ use Rattle.plant_model.specs.declared.event.PlantEvent.TheVariants as event
 use Rattle.plant_model.specs.declared.journal.JournalStep.{JournalStep}
 use Rattle.plant_model.specs.declared.journal.JournalStep.TheVariants as step
 use Rattle.plant_model.specs.Acts.{Beginning, Event, App, Act, Happen, PullFrom, settings, delivery_call, call_of, calls, masters, offers_by, journal, is_cut, newer, push_to, pushes_of, all_pushes}
-use Rattle.plant_model.specs.Uses.{place_of, sent_uses, Use, Trace}
+use Rattle.plant_model.specs.Uses.{Use, Trace}
+use Rattle.plant_model.specs.Gifts.{place_of, sent_uses}
 use Rattle.plant_model.specs.Pair.{next_of, pair, link_at, pairs_by}
 use Rattle.plant_core.specs.Doing.{next_uses, one_each, frames_pushed, SlavesTick, HaveParts, MastersNoted, MasterActs, OffersNoted, GoesOn, Delivers}
 use Rattle.plant_core.specs.Link.{LinkView, LinkStands}

@@ -7,7 +7,7 @@ use Rattle.fsoe_base.specs.Did.{nothing}
 use Rattle.fsoe_base.specs.declared.command.End.{End}
 use Rattle.fsoe_base.specs.declared.command.End.TheVariants as side
 use Rattle.end_model.specs.Setup.{OfSlave}
-use Rattle.end_model.specs.Step.{IsProper}
+use Rattle.end_model.specs.Runs.{IsProper}
 use Rattle.param_load.specs.Profile.{allows_id}
 use Rattle.param_load.specs.declared.profile.Profile.{Profile}
 use Rattle.param_load.specs.declared.profile.Profile.TheVariants as profile
@@ -30,7 +30,8 @@ use Rattle.plant_model.specs.declared.event.PlantEvent.TheVariants as event
 use Rattle.plant_model.specs.declared.journal.JournalStep.{JournalStep}
 use Rattle.plant_model.specs.declared.journal.JournalStep.TheVariants as step
 use Rattle.plant_model.specs.Acts.{Beginning, Event, Act, Happen, PullFrom, settings, event_call, delivery_call, call_of, calls, offer_step, offers_by, steps_of, journal, cut_after, is_cut, pushes_of, all_pushes, masters}
-use Rattle.plant_model.specs.Uses.{place_of, sent_uses, Use, Trace}
+use Rattle.plant_model.specs.Uses.{Use, Trace}
+use Rattle.plant_model.specs.Gifts.{place_of, sent_uses}
 use Rattle.plant_model.specs.FairPairs.{Fits}
 use Rattle.plant_model.specs.Pair.{next_of, pair, link_at, pairs_by}
 use Rattle.plant_core.specs.Doing.{next_uses, slave_move, SlaveActs, GoesOn, Delivers}

@@ -26,7 +26,8 @@ use Rattle.plant_model.specs.declared.event.PlantEvent.TheVariants as event
 use Rattle.plant_model.specs.declared.journal.JournalStep.{JournalStep}
 use Rattle.plant_model.specs.declared.journal.JournalStep.TheVariants as step
 use Rattle.plant_model.specs.Acts.{Beginning, Event, App, Act, Start, Happen, PullFrom, settings, delivery_call, call_of, calls, offers_by, journal, is_cut, pushes_of, all_pushes, uses_of, uses_after, uses}
-use Rattle.plant_model.specs.Uses.{place_of, sent_uses, each_uses, Use, Trace}
+use Rattle.plant_model.specs.Uses.{Use, Trace}
+use Rattle.plant_model.specs.Gifts.{place_of, sent_uses, each_uses}
 use Rattle.plant_model.specs.Pair.{next_of, pairs_by, pair, link_at}
 use Rattle.plant_core.specs.Doing.{OffersNoted, GoesOn, Delivers, PullsAll, Turns}
 use Rattle.plant_core.specs.Standing.{lengths_kept, PlantView, EachLink, LinkIs, LinksAre, HasDone, PlantStands, Follows}

@@ -9,7 +9,7 @@ use Rattle.end_model.specs.Readiness.{held, offer}
 use Rattle.end_model.specs.Setup.{OfSlave}
 use Rattle.exchange_model.specs.Ends.{of_end}
 use Rattle.exchange_model.specs.Items.{Unset, next_offered}
-use Rattle.exchange_model.specs.Offering.{offers_bit}
+use Rattle.exchange_model.specs.Fair.{offers_bit}
 use Rattle.exchange_model.specs.World.{deeds}
 use Rattle.slave_core.specs.Standing as slave_core
 use Rattle.multi_master.specs.Standing.{ShowsApp}

@@ -23,12 +23,13 @@ use Rattle.end_model.specs.Payloads.{terms}
 use Rattle.end_model.specs.Reactions.{Reaction, Answers}
 use Rattle.end_model.specs.Readiness.{state_of, told_in}
 use Rattle.end_model.specs.Setup.{Setup, OfMaster}
-use Rattle.end_model.specs.Step.{IsRun, step}
+use Rattle.end_model.specs.Step.{step}
+use Rattle.end_model.specs.Runs.{IsRun}
 use Rattle.end_model.proofs.SoundRuns.{reacted}
 use Rattle.end_model.proofs.Taken.{data_after}
 use Rattle.exchange_model.specs.Ends.{of_end, same_end}
 use Rattle.exchange_model.specs.Items.{Unset, next_offered}
-use Rattle.exchange_model.specs.Offering.{offers_bit}
+use Rattle.exchange_model.specs.Fair.{offers_bit}
 use Rattle.exchange_model.specs.World.{setup_of, deed_in, deeds, next_entry}
 use Rattle.multi_master.specs.Standing.{ShowsApp}
 use Rattle.slave_core.specs.Standing.{Shows}

@@ -4,10 +4,10 @@ use Rattle.std.proofs.Common.{◌≡◌, ℕ, zero, suc, List, [], ◌∷◌, sl
 use Rattle.std.specs.List.{AllZip}
 use Rattle.fsoe_base.specs.declared.command.End.TheVariants as side
 use Rattle.param_load.specs.declared.master_settings.MasterSettings.{MasterSettings}
-use Rattle.plant_conf.specs.ConfView.{HasSameLengths}
+use Rattle.plant_conf.specs.Kept.{HasSameLengths}
 use Rattle.end_model.specs.Deed.{Deed}
 use Rattle.end_model.specs.Setup.{OfMaster}
-use Rattle.end_model.specs.Step.{IsRun}
+use Rattle.end_model.specs.Runs.{IsRun}
 use Rattle.exchange_model.specs.World.{deeds}
 use Rattle.master_core.specs.MasterView.{MasterView}
 use Rattle.multi_master.specs.Connection.{Connection}

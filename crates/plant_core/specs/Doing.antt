@@ -23,7 +23,8 @@ use Rattle.plant_core.specs.Link.{IsMasters, LinkView, LinkStands}
 use Rattle.plant_core.specs.Standing.{PlantView, HasDone, LinksAre}
 use Rattle.plant_model.specs.Pair.{pairs_by, next_of}
 use Rattle.plant_model.specs.Turns.{MayPull, pulls, turn_acts}
-use Rattle.plant_model.specs.Uses.{Use, Trace, place_of, sent_uses, each_uses}
+use Rattle.plant_model.specs.Uses.{Use, Trace}
+use Rattle.plant_model.specs.Gifts.{place_of, sent_uses, each_uses}
 use Rattle.black_channel.specs.declared.channel.Parcel.{Parcel}
 
 -- the frame of the next entry of an end, for its peer, is pushed

@@ -1,7 +1,7 @@
 //! What holds of a plant that does what its acts say. The calls do nothing: each law is a contract.
 
 ghost use Rattle.std.specs.Prelude.{List, All};
-ghost use Rattle.plant_conf.specs.ConfView.{HasSameLengths};
+ghost use Rattle.plant_conf.specs.Kept.{HasSameLengths};
 ghost use Rattle.plant_model.specs.Acts.{Beginning};
 ghost use Rattle.plant_model.specs.Bound.{Reacts};
 ghost use Rattle.plant_model.specs.Broken.{BrokenByOther};

@@ -4,7 +4,7 @@ ghost use Rattle.fsoe_base.specs.Image.{bit_of};
 ghost use Rattle.param_load.specs.declared.entry.Move.TheVariants as event;
 ghost use Rattle.end_model.specs.Readiness as model;
 ghost use Rattle.end_model.specs.Setup.{OfSlave};
-ghost use Rattle.end_model.specs.Step.{IsProper};
+ghost use Rattle.end_model.specs.Runs.{IsProper};
 ghost use Rattle.end_model.specs.Outputs as looking_back;
 ghost use Rattle.param_load.specs.declared.entry.Entry.{Entry};
 ghost use Rattle.exchange_model.specs.Honest.{is_tick};

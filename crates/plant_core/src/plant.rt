@@ -4,7 +4,7 @@ ghost use Rattle.end_model.specs.Outputs.{out};
 ghost use Rattle.end_model.specs.Readiness.{state_of};
 ghost use Rattle.fsoe_base.specs.declared.command.End.TheVariants as side;
 ghost use Rattle.fsoe_base.specs.declared.lengths.TheConstants.{MOST_DATA};
-ghost use Rattle.plant_conf.specs.ConfView.{HasSameLengths};
+ghost use Rattle.plant_conf.specs.Kept.{HasSameLengths};
 ghost use Rattle.plant_conf.specs.declared.conf.LinkConf.{LinkConf};
 ghost use Rattle.plant_model.specs.Pair.{state_at, outputs_at, lowest_other};
 ghost use Rattle.std.specs.Prelude.{[], ◌∷◌, map, IfOk, OnOk, OnErr};

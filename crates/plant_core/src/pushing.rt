@@ -1,9 +1,10 @@
 //! What an end of a connection sends goes to the channel.
 ghost use Rattle.std.specs.Prelude.{◌≡◌, ◌≤◌, ◌<◌, ◌+◌, ◌-◌, ◌^◌, ℕ, [], length};
 ghost use Rattle.end_model.specs.Setup.{OfSlave};
-ghost use Rattle.end_model.specs.Step.{IsProper};
+ghost use Rattle.end_model.specs.Runs.{IsProper};
 ghost use Rattle.param_load.specs.declared.entry.Move.TheVariants as event;
-ghost use Rattle.plant_model.specs.Uses.{place_of, sent_uses, Trace};
+ghost use Rattle.plant_model.specs.Uses.{Trace};
+ghost use Rattle.plant_model.specs.Gifts.{place_of, sent_uses};
 ghost use Rattle.plant_core.specs.Doing.{SlaveActs, MasterActs, SlavesTick, MastersNoted};
 ghost use Rattle.plant_core.specs.Standing.{AreNoted, fixed_in};
 ghost use Rattle.plant_core.specs.Link.{NotesOne};

@@ -23,9 +23,9 @@ use Rattle.plant_model.specs.declared.event.PlantEvent.TheVariants as event
 use Rattle.plant_model.specs.declared.journal.JournalStep.{JournalStep}
 use Rattle.plant_model.specs.declared.journal.JournalStep.TheVariants as step
 use Rattle.plant_model.specs.Acts.{Beginning, Event, App, Act, Start, Happen, PullFrom, settings, delivery_call, calls, masters, offer_step, offers_by, journal}
-use Rattle.plant_model.specs.Uses.{place_of}
+use Rattle.plant_model.specs.Gifts.{place_of}
 use Rattle.plant_model.specs.Pair.{next_of, pair, link_at}
-use Rattle.plant_model.specs.Promises.{tells_hearing, master_hears, Cycles}
+use Rattle.plant_model.specs.JournalLaws.{tells_hearing, master_hears, Cycles}
 use Rattle.plant_model.proofs.Growing.{pair_own, pair_one}
 use Rattle.plant_model.proofs.Masters.{mastered}
 

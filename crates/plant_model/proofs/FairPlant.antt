@@ -10,14 +10,15 @@ use Rattle.param_load.specs.declared.entry.Move.{Move}
 use Rattle.param_load.specs.declared.master_settings.MasterSettings.{MasterSettings}
 use Rattle.param_load.specs.declared.slave_settings.SlaveSettings.{SlaveSettings}
 use Rattle.schedule_file.specs.declared.event.Event.{Event}
-use Rattle.plant_conf.specs.ConfView.{HasSameLengths}
+use Rattle.plant_conf.specs.Kept.{HasSameLengths}
 use Rattle.plant_conf.specs.declared.conf.LinkConf.{LinkConf}
 use Rattle.end_model.specs.Setup.{OfMaster, OfSlave}
-use Rattle.end_model.specs.Step.{IsRun}
+use Rattle.end_model.specs.Runs.{IsRun}
 use Rattle.exchange_model.specs.Ends.{same_end, peer}
 use Rattle.exchange_model.specs.Fair.{Fair}
 use Rattle.exchange_model.specs.Other.{before_other}
-use Rattle.exchange_model.specs.World.{setup_of, deed_in, deeds, frames_of, end_of_event, move_from, next_entry, entry_on, going_on, world_after, SameLengths, IsNextEntry, IsWorld}
+use Rattle.exchange_model.specs.World.{setup_of, deed_in, deeds, frames_of, end_of_event, move_from, next_entry, entry_on, going_on, world_after, SameLengths}
+use Rattle.exchange_model.specs.Schedules.{IsNextEntry, IsWorld}
 use Rattle.exchange_model.proofs.Fairness.Headline.{fair_world}
 use Rattle.exchange_model.proofs.Worlds.Others.{before_is_clean, before_is_world}
 use Rattle.plant_model.specs.declared.journal.JournalStep.{JournalStep}

@@ -16,9 +16,10 @@ use Rattle.plant_model.specs.declared.journal.JournalStep.{JournalStep}
 use Rattle.plant_model.specs.declared.journal.JournalStep.TheVariants as step
 use Rattle.plant_model.specs.Acts.{Beginning, Said, Event, App, Act, Start, Happen, PullFrom, settings, call_of, calls, offer_step, offers_by, offers, steps_of, journal, is_cut, newer, push_to, pushes_of, all_pushes, uses_of, uses_after, uses}
 use Rattle.plant_model.specs.Pair.{pair}
-use Rattle.plant_model.specs.Promises.{ticks_all, pulled_in, one_if_left, short_ticks}
+use Rattle.plant_model.specs.JournalLaws.{ticks_all, pulled_in, one_if_left, short_ticks}
 use Rattle.plant_model.specs.Turns.{Turn, turn_acts, acts}
-use Rattle.plant_model.specs.Uses.{Use, Begin, Push, Pull, gifts, counted, empty_pulls}
+use Rattle.plant_model.specs.Uses.{Use, Begin, Push, Pull}
+use Rattle.plant_model.specs.Gifts.{gifts, counted, empty_pulls}
 
 gifts_append : (xs ys : List Use) → gifts (xs ++ ys) ≡ gifts xs ++ gifts ys
 gifts_append [] ys = refl

@@ -18,7 +18,8 @@ use Rattle.exchange_model.specs.Ends.{same_end, peer}
 use Rattle.exchange_model.specs.World.{setup_of, deeds, frames_of, end_of_event, move_from, next_entry, entry_on, entry_at, going_on, world_after, world}
 use Rattle.plant_model.specs.declared.journal.JournalStep.{JournalStep}
 use Rattle.plant_model.specs.Acts.{newer, push_to, pushes_of}
-use Rattle.plant_model.specs.Uses.{place_of, sent_uses, each_uses, Use}
+use Rattle.plant_model.specs.Uses.{Use}
+use Rattle.plant_model.specs.Gifts.{place_of, sent_uses, each_uses}
 use Rattle.plant_model.specs.Pair.{next_of, if_same, own_part, own_events, pair, pairs_by}
 use Rattle.plant_model.proofs.Masters.{IsPlain, ArePlain, events_plain, not_same}
 

@@ -20,10 +20,10 @@ use Rattle.end_model.specs.Outputs.{out}
 use Rattle.end_model.specs.Readiness.{offer_after, offer, held_after, held}
 use Rattle.end_model.specs.Setup.{Setup, OfMaster, sends}
 use Rattle.exchange_model.specs.Ends.{same_end, of_end}
-use Rattle.exchange_model.specs.Fair.{received_len, outputs_due}
+use Rattle.exchange_model.specs.Fair.{received_len, outputs_due, offers_bit}
 use Rattle.exchange_model.specs.Items.{FailSafe, put_after, last_put, is_held, offered_put, next_offered}
-use Rattle.exchange_model.specs.Offering.{offers_bit}
-use Rattle.exchange_model.specs.World.{setup_of, deed_in, deeds, SameLengths, IsWorld}
+use Rattle.exchange_model.specs.World.{setup_of, deed_in, deeds, SameLengths}
+use Rattle.exchange_model.specs.Schedules.{IsWorld}
 use Rattle.exchange_model.proofs.Fairness.Shown.{due_is_out, receives_is}
 use Rattle.exchange_model.proofs.Worlds.Projection.{told, deeds_are_run}
 use Rattle.multi_master.specs.Calls.{Call, Deliver, Tick, Nonce, ChangeApp, Meant, connection, replaced, event_at, cycle_in, with_cycle, after, meant}

@@ -9,7 +9,8 @@ use Rattle.plant_model.specs.declared.event.PlantEvent.TheVariants as event
 use Rattle.plant_model.specs.declared.journal.JournalStep.{JournalStep}
 use Rattle.plant_model.specs.declared.journal.JournalStep.TheVariants as step
 use Rattle.plant_model.specs.Acts.{Beginning, Said, Event, App, Act, Start, Happen, PullFrom, settings, call_of, calls, offer_step, offers_by, offers, journal}
-use Rattle.plant_model.specs.Promises.{ticks_all, PullsFit, line_step, line_steps}
+use Rattle.plant_model.specs.Promises.{line_step}
+use Rattle.plant_model.specs.JournalLaws.{ticks_all, PullsFit, line_steps}
 use Rattle.plant_model.specs.Turns.{IsTurn, Turn, MayPull, pulls_at, acts, said_by_turns}
 
 -- how many parcels may still come after these steps

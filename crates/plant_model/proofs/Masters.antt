@@ -21,7 +21,7 @@ use Rattle.param_load.specs.declared.slave_settings.SlaveSettings.{SlaveSettings
 use Rattle.schedule_file.specs.declared.event.Event.{Event}
 use Rattle.schedule_file.specs.declared.event.Event.TheVariants as at
 use Rattle.plant_conf.specs.declared.conf.LinkConf.{LinkConf}
-use Rattle.end_model.specs.Deed.{events_of}
+use Rattle.end_model.specs.Runs.{events_of}
 use Rattle.end_model.specs.Setup.{OfMaster, OfSlave}
 use Rattle.end_model.specs.Step.{run, continued}
 use Rattle.exchange_model.specs.World.{deeds, next_entry, world_after}
@@ -35,7 +35,7 @@ use Rattle.plant_model.specs.declared.journal.JournalStep.{JournalStep}
 use Rattle.plant_model.specs.declared.journal.JournalStep.TheVariants as journal_step
 use Rattle.plant_model.specs.Pair.{script_part, own_part, own_events, pair, link_at}
 use Rattle.plant_model.specs.Acts.{Beginning, Event as SaysEvent, App, Act, Start, Happen, PullFrom, delivery_call, call_of, calls, settings, masters, offer_step, offers_by, steps_of, journal}
-use Rattle.plant_model.specs.Promises.{MastersAgree}
+use Rattle.plant_model.specs.JournalLaws.{MastersAgree}
 
 -- what an event means for the master, where it names no frame
 abbrev at_master : Event → List Move

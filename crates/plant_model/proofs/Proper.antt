@@ -16,8 +16,9 @@ use Rattle.schedule_file.specs.declared.event.Event.TheVariants as at
 use Rattle.plant_conf.specs.declared.conf.LinkConf.{LinkConf}
 use Rattle.exchange_model.specs.Fair.{Fair}
 use Rattle.exchange_model.specs.Other.{before_other}
-use Rattle.exchange_model.specs.World.{SameLengths, IsProperEvent}
-use Rattle.plant_conf.specs.ConfView.{HasSameLengths}
+use Rattle.exchange_model.specs.World.{SameLengths}
+use Rattle.exchange_model.specs.Schedules.{IsProperEvent}
+use Rattle.plant_conf.specs.Kept.{HasSameLengths}
 use Rattle.exchange_model.proofs.Fairness.Headline.{fair_before}
 use Rattle.plant_model.specs.declared.event.PlantEvent.{PlantEvent}
 use Rattle.plant_model.specs.declared.event.PlantEvent.TheVariants as event

@@ -17,11 +17,12 @@ use Rattle.plant_conf.specs.declared.conf.BoundSpec.{BoundSpec}
 use Rattle.plant_conf.specs.declared.conf.LinkConf.{LinkConf}
 use Rattle.end_model.specs.Outputs.{out}
 use Rattle.exchange_model.specs.Ends.{peer, of_end}
-use Rattle.exchange_model.specs.Fair.{received_len, outputs_due}
+use Rattle.exchange_model.specs.Fair.{received_len, outputs_due, offers_bit}
 use Rattle.exchange_model.specs.Items.{Unset, next_offered}
-use Rattle.exchange_model.specs.Offering.{offers_bit, ticks_of, WasOffered}
+use Rattle.exchange_model.specs.Offering.{ticks_of, WasOffered}
 use Rattle.exchange_model.specs.Other.{NoOther}
-use Rattle.exchange_model.specs.World.{setup_of, deeds, SameLengths, IsWorld}
+use Rattle.exchange_model.specs.World.{setup_of, deeds, SameLengths}
+use Rattle.exchange_model.specs.Schedules.{IsWorld}
 use Rattle.exchange_model.proofs.Offering.Offered.{was_offered}
 use Rattle.exchange_model.proofs.Offering.Older.{older_world, older_clean}
 use Rattle.plant_model.specs.declared.event.PlantEvent.TheVariants as event

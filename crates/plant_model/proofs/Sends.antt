@@ -18,7 +18,8 @@ use Rattle.fsoe_base.specs.Did.{nothing}
 use Rattle.end_model.specs.Step.{on_expiry, deed_of, step}
 use Rattle.exchange_model.specs.Ends.{same_end, peer, of_end}
 use Rattle.exchange_model.specs.Items.{next_offered}
-use Rattle.exchange_model.specs.Offering.{offers_bit, ticks_of, WasOffered}
+use Rattle.exchange_model.specs.Offering.{ticks_of, WasOffered}
+use Rattle.exchange_model.specs.Fair.{offers_bit}
 use Rattle.exchange_model.proofs.Offering.Older.{ticked_most}
 use Rattle.plant_model.specs.Pair.{next_of}
 

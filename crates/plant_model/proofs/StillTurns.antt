@@ -18,7 +18,7 @@ use Rattle.plant_conf.specs.declared.conf.BoundSpec.{BoundSpec}
 use Rattle.plant_conf.specs.declared.conf.LinkConf.{LinkConf}
 use Rattle.exchange_model.specs.Ends.{of_end}
 use Rattle.exchange_model.specs.Items.{Offered, Unset, next_offered}
-use Rattle.exchange_model.specs.Offering.{offers_bit}
+use Rattle.exchange_model.specs.Fair.{offers_bit}
 use Rattle.multi_master.specs.Calls.{AppView, Call, Deliver, Tick, Meant, connection, replaced, cycle_in, with_cycle, after, meant, changed}
 use Rattle.multi_master.specs.Connection.{Connection, with_event}
 use Rattle.plant_model.specs.declared.event.PlantEvent.TheVariants as event

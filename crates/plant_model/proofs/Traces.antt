@@ -6,7 +6,8 @@ use Rattle.fsoe_io.specs.Faults.{Rose}
 use Rattle.black_channel.specs.Holds.{Holds, begun, pushed, pulled}
 use Rattle.black_channel.specs.Told.{Told, GrowsByGift}
 use Rattle.black_channel.specs.declared.channel.Parcel.{Parcel}
-use Rattle.plant_model.specs.Uses.{Use, Begin, Push, Pull, Trace, GrewBy, pushes, gifts, counted, empty_pulls, held_after, GivesHeld, ToldLists, ToldHolds, RoseBy, EmptiesRose}
+use Rattle.plant_model.specs.Uses.{Use, Begin, Push, Pull, Trace}
+use Rattle.plant_model.specs.Gifts.{GrewBy, pushes, gifts, counted, empty_pulls, held_after, GivesHeld, ToldLists, ToldHolds, RoseBy, EmptiesRose}
 
 no_more : (told : Option (List Parcel)) → GrewBy [] told told
 no_more None = tt

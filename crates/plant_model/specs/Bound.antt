@@ -12,7 +12,7 @@ use Rattle.plant_conf.specs.declared.conf.BoundSpec.{BoundSpec}
 use Rattle.plant_conf.specs.declared.conf.LinkConf.{LinkConf}
 use Rattle.exchange_model.specs.Ends.{of_end}
 use Rattle.exchange_model.specs.Items.{Offered, Unset, next_offered}
-use Rattle.exchange_model.specs.Offering.{offers_bit}
+use Rattle.exchange_model.specs.Fair.{offers_bit}
 use Rattle.exchange_model.specs.Other.{NoOther}
 use Rattle.multi_master.specs.Connection as connection
 use Rattle.plant_model.specs.declared.journal.JournalStep.{JournalStep}

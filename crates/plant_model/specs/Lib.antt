@@ -3,6 +3,8 @@ pub mod Bound
 pub mod BoundLines
 pub mod Broken
 pub mod FairPairs
+pub mod Gifts
+pub mod JournalLaws
 pub mod NetCycles
 pub mod Pair
 pub mod PlantReport

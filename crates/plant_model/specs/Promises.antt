@@ -1,56 +1,12 @@
--- What holds of a plant's journal and acts, whatever its channel gives: by the definitions alone, but that all offers
--- are the answer and that this keeps what is guarded off, which rest on what an application promises. Acts are listed
--- newest first, steps oldest first.
-use Rattle.std.specs.Prelude.{◌≡◌, ◌-◌, ◌<◌, ℕ, zero, suc, Bool, true, false, List, [], ◌∷◌, map, Option, Some, None, IfSome, IsSomeAnd, is_some, if◌then◌else◌}
-use Rattle.fsoe_base.specs.declared.command.End.{End}
-use Rattle.fsoe_base.specs.declared.command.End.TheVariants as side
-use Rattle.param_load.specs.declared.entry.Entry.{Entry}
-use Rattle.black_channel.specs.declared.channel.Parcel.{Parcel}
-use Rattle.plant_conf.specs.declared.conf.LinkConf.{LinkConf}
-use Rattle.master_core.specs.Calls.{tells_due}
-use Rattle.exchange_model.specs.World.{deeds}
-use Rattle.multi_master.specs.Calls.{IsGuarded, connection}
+-- What holds of a plant's offers after each act: all are the application's answer, which keeps off what is guarded. This
+-- rests on what an application promises. Acts are listed newest first, steps oldest first.
+use Rattle.std.specs.Prelude.{◌≡◌, List, [], ◌∷◌, map, IfSome}
+use Rattle.multi_master.specs.Calls.{IsGuarded}
 use Rattle.multi_master.specs.Connection.{offer_at}
-use Rattle.plant_model.specs.declared.event.PlantEvent.{PlantEvent}
 use Rattle.plant_model.specs.declared.event.PlantEvent.TheVariants as event
 use Rattle.plant_model.specs.declared.journal.JournalStep.{JournalStep}
 use Rattle.plant_model.specs.declared.journal.JournalStep.TheVariants as step
-use Rattle.plant_model.specs.Pair.{pair, link_at}
-use Rattle.plant_model.specs.Acts.{Beginning, Said, Event, App, Act, Start, Happen, PullFrom, masters, cycle_of, journal}
-
--- the master of each pair did what this connection of the master of many did
-abbrev pub MastersAgree : Beginning → List Act → Type 0
-MastersAgree b acts =
-    (k : ℕ) → IfSome (link_at b.links k) (λ link.
-    IsSomeAnd (connection k (masters b acts)) (λ c. deeds side.Master (pair link k (journal b acts)) ≡ c.deeds))
-
--- whether the newest entry tells that a frame was taken, or that its end reset
-abbrev pub tells_hearing : List Entry → Bool
-tells_hearing [] = false
-tells_hearing (x ∷ w) = tells_due x.did
-
--- whether the end of a connection to which the last parcel of a journal went took it or reset on it, and is a master
-abbrev pub master_hears : Option LinkConf → End → ℕ → List JournalStep → Bool
-master_hears (Some link) side.Master k journal = tells_hearing (pair link k journal)
-master_hears _ _ k journal = false
-
--- whether an event of the script is a tick
-abbrev pub ticks_all : PlantEvent → Bool
-ticks_all event.Tick = true
-ticks_all _ = false
-
--- whether an act runs a cycle of the application, after which the journal is this: at the start, in each tick, after
--- each change of the application, and at each parcel that a master takes or resets on
-abbrev pub runs_cycle : List LinkConf → Act → List JournalStep → Bool
-runs_cycle links Start journal = true
-runs_cycle links (Happen (Event event)) journal = ticks_all event
-runs_cycle links (Happen (App app)) journal = true
-runs_cycle links (PullFrom None) journal = false
-runs_cycle links (PullFrom (Some parcel)) journal = master_hears (link_at links parcel.to.link) parcel.to.end parcel.to.link journal
-
--- exactly these acts run one
-abbrev pub Cycles : Beginning → Act → List Act → Type 0
-Cycles b act acts = is_some (cycle_of b act acts) ≡ runs_cycle b.links act (journal b (act ∷ acts))
+use Rattle.plant_model.specs.Acts.{Beginning, Said, Event, App, Act, masters, cycle_of}
 
 -- after an act that ran a cycle the offers of all connections are what the application answered
 abbrev pub OffersAnswer : Beginning → Act → List Act → Type 0
@@ -71,46 +27,7 @@ abbrev pub AllGuarded : Beginning → List Act → Type 0
 AllGuarded b [] = Unit {0}
 AllGuarded b (act ∷ acts) = GuardsAnswer b act acts × AllGuarded b acts
 
--- between a tick and the next line of the script at most 64 parcels were pulled, `room` of which may still come before
--- these steps; and none elsewhere
-abbrev pub PullsFit : ℕ → List JournalStep → Type 0
-PullsFit room [] = Unit {0}
-PullsFit room (step.Script event ∷ steps) = PullsFit (if ticks_all event then 64 else 0) steps
-PullsFit room (step.App ∷ steps) = PullsFit 0 steps
-PullsFit room (step.Offer link load ∷ steps) = PullsFit room steps
-PullsFit room (step.Pulled parcel ∷ steps) = (0 < room) × PullsFit (room - 1) steps
-
--- the parcels that were pulled
-abbrev pub pulled_in : List JournalStep → List Parcel
-pulled_in [] = []
-pulled_in (step.Script event ∷ steps) = pulled_in steps
-pulled_in (step.App ∷ steps) = pulled_in steps
-pulled_in (step.Offer link load ∷ steps) = pulled_in steps
-pulled_in (step.Pulled parcel ∷ steps) = parcel ∷ pulled_in steps
-
--- one more where so many parcels, and not none, may still come
-abbrev pub one_if_left : ℕ → ℕ → ℕ
-one_if_left zero n = n
-one_if_left (suc room) n = suc n
-
--- the number of ticks after which fewer than 64 parcels were pulled before the next line of the script, where `room` of
--- them may still come before these steps
-abbrev pub short_ticks : ℕ → List JournalStep → ℕ
-short_ticks room [] = one_if_left room 0
-short_ticks room (step.Script event ∷ steps) = one_if_left room (short_ticks (if ticks_all event then 64 else 0) steps)
-short_ticks room (step.App ∷ steps) = one_if_left room (short_ticks 0 steps)
-short_ticks room (step.Offer link load ∷ steps) = short_ticks room steps
-short_ticks room (step.Pulled parcel ∷ steps) = short_ticks (room - 1) steps
-
 -- the step of what a line of the script says
 abbrev pub line_step : Said → JournalStep
 line_step (Event event) = step.Script event
 line_step (App app) = step.App
-
--- the steps of a journal that are lines of the script
-abbrev pub line_steps : List JournalStep → List JournalStep
-line_steps [] = []
-line_steps (step.Script event ∷ steps) = step.Script event ∷ line_steps steps
-line_steps (step.App ∷ steps) = step.App ∷ line_steps steps
-line_steps (step.Offer link load ∷ steps) = line_steps steps
-line_steps (step.Pulled parcel ∷ steps) = line_steps steps

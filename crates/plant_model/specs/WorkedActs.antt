@@ -12,7 +12,8 @@ use Rattle.plant_model.specs.declared.event.PlantEvent.TheVariants as event
 use Rattle.plant_model.specs.declared.journal.JournalStep.{JournalStep}
 use Rattle.plant_model.specs.declared.journal.JournalStep.TheVariants as step
 use Rattle.plant_model.specs.Acts.{Beginning, Event, Act, Start, Happen, PullFrom, journal, uses}
-use Rattle.plant_model.specs.Uses.{Use, Begin, Push, Pull, GivesHeld}
+use Rattle.plant_model.specs.Uses.{Use, Begin, Push, Pull}
+use Rattle.plant_model.specs.Gifts.{GivesHeld}
 use Rattle.plant_model.specs.WorkedPlant.{both_links, tick, offer}
 
 -- an application that answers 0100 to the second connection at each cycle, and zeros to the first

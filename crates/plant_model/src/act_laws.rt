@@ -5,9 +5,10 @@ ghost use Rattle.fb_net.specs.NetView.{NetView};
 ghost use Rattle.fb_net.specs.Standing.{IsNewNet};
 ghost use Rattle.plant_model.specs.Acts.{Beginning, Act, journal, uses};
 ghost use Rattle.plant_model.specs.NetCycles.{AnswersByNet};
-ghost use Rattle.plant_model.specs.Promises.{MastersAgree, Cycles, PullsFit, line_step, line_steps, pulled_in, short_ticks};
+ghost use Rattle.plant_model.specs.Promises.{line_step};
+ghost use Rattle.plant_model.specs.JournalLaws.{MastersAgree, Cycles, PullsFit, line_steps, pulled_in, short_ticks};
 ghost use Rattle.plant_model.specs.Turns.{IsTurn, AppsAreSpare, Named, Turn, acts, said, said_by_turns};
-ghost use Rattle.plant_model.specs.Uses.{gifts, empty_pulls};
+ghost use Rattle.plant_model.specs.Gifts.{gifts, empty_pulls};
 ghost use Rattle.plant_model.specs.declared.event.PlantLine.{PlantLine};
 ghost use Rattle.plant_model.specs.WorkedActs.{FirstActs, CutActs};
 

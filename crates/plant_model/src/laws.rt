@@ -2,11 +2,12 @@
 
 ghost use Rattle.std.specs.Prelude.{List, All};
 ghost use Rattle.black_channel.specs.Told.{Told};
-ghost use Rattle.plant_conf.specs.ConfView.{HasSameLengths};
+ghost use Rattle.plant_conf.specs.Kept.{HasSameLengths};
 ghost use Rattle.plant_conf.specs.declared.conf.LinkConf.{LinkConf};
 ghost use Rattle.plant_model.specs.declared.journal.JournalStep.{JournalStep};
 ghost use Rattle.plant_model.specs.FairPairs.{StepFits, PairsAreFair};
-ghost use Rattle.plant_model.specs.Uses.{Use, Trace, ToldLists, ToldHolds, EmptiesRose};
+ghost use Rattle.plant_model.specs.Uses.{Use, Trace};
+ghost use Rattle.plant_model.specs.Gifts.{ToldLists, ToldHolds, EmptiesRose};
 ghost use Rattle.plant_model.specs.WorkedPlant.{SevenTicks, StopLines};
 
 /// What is known of any channel follows from its uses: the parcels pushed and given, and what it holds and gives, each

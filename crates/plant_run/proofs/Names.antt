@@ -7,7 +7,7 @@ use Rattle.std.proofs.lemmas.List.Splits.{slice_split-cons_yes, slice_split-cons
 use Rattle.schedule_file.specs.Field.{is_space, fields_of}
 use Rattle.schedule_file.specs.Fields.{one_field}
 use Rattle.schedule_file.specs.declared.line_buf.TheConstants.{MAX_LINE}
-use Rattle.plant_run.specs.ScriptLine.{FieldsFit}
+use Rattle.plant_run.specs.Running.{FieldsFit}
 
 -- each of these has at most n bytes
 abbrev IsShort : ℕ → List ℕ → Type 0

@@ -9,10 +9,11 @@ use Rattle.fsoe_io.specs.declared.status.Status.{Status}
 use Rattle.fsoe_io.specs.declared.status.Status.TheVariants as status
 use Rattle.black_channel.specs.Told.{Told}
 use Rattle.exchange_model.specs.Fair.{Fair}
-use Rattle.plant_conf.specs.ConfView.{HasSameLengths}
+use Rattle.plant_conf.specs.Kept.{HasSameLengths}
 use Rattle.plant_conf.specs.declared.conf.LinkConf.{LinkConf}
 use Rattle.reaction_bound.specs.Kept.{ReactionView}
-use Rattle.file_run.specs.Left.{Done, Leaves, LeavesAs, MayFailIn}
+use Rattle.file_run.specs.Left.{Done, LeavesAs, MayFailIn}
+use Rattle.file_run.specs.Running.{Leaves}
 use Rattle.file_run.specs.Outside.{Outside}
 use Rattle.file_run.specs.Ran.{RanOver}
 use Rattle.file_run.specs.Reporting.{Reporting}

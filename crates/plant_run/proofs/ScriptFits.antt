@@ -14,7 +14,8 @@ use Rattle.schedule_file.specs.Fields.{next_field, no_field, number_16, one_fiel
 use Rattle.schedule_file.specs.declared.line_cause.LineCause.{LineCause}
 use Rattle.schedule_file.specs.declared.line_cause.LineCause.TheVariants as cause
 use Rattle.schedule_file.proofs.Sound.{each, known, IfOk-every, IfOk-map}
-use Rattle.plant_run.specs.ScriptLine.{LineFits, end_of_letter, existing, link_and_switch, local_line, nonce_line, plant_line, plant_said, plant_said_by, plant_word_of, put_line}
+use Rattle.plant_run.specs.ScriptLine.{end_of_letter, existing, link_and_switch, local_line, nonce_line, plant_line, plant_said, plant_said_by, plant_word_of, put_line}
+use Rattle.plant_run.specs.Running.{LineFits}
 use Rattle.plant_model.specs.FairPairs.{lengths_at}
 use Rattle.plant_model.specs.declared.event.PlantLine.{PlantLine}
 use Rattle.plant_run.specs.declared.script_line.PlantWord.{PlantWord}

@@ -7,7 +7,8 @@ use Rattle.std.proofs.lemmas.List.Elements.{All-cons, All-head, All-nil, All-tai
 use Rattle.fsoe_io.specs.declared.status.Ended.{Ended}
 use Rattle.schedule_file.specs.Input.{InputCause, NoApp, Stop, AtEnd, Refused, input_read}
 use Rattle.file_run.specs.Report.{refused_line}
-use Rattle.file_run.specs.Reporting.{EndsReport, EndsUnmet, IsPrefix, ReportsSoFar, input_headless, input_stopped, refused_at}
+use Rattle.file_run.specs.Reporting.{IsPrefix, ReportsSoFar, input_stopped, refused_at}
+use Rattle.file_run.specs.Machine.{EndsReport, EndsUnmet, input_headless}
 use Rattle.plant_conf.specs.declared.conf.LinkConf.{LinkConf}
 use Rattle.plant_model.specs.declared.event.PlantEvent.TheVariants as event
 use Rattle.plant_model.specs.declared.event.PlantLine.{PlantLine}

@@ -8,12 +8,11 @@ use Rattle.failsafe_io.specs.declared.bit.Bit.{Bit}
 use Rattle.fb_net.specs.declared.kind_of.EntryOf.{EntryOf}
 use Rattle.fb_net.specs.declared.kind_of.KindOf.{KindOf}
 use Rattle.fb_net.specs.declared.kind_of.KindOf.TheVariants as kind
-use Rattle.file_run.specs.Machine.{IsSaid}
+use Rattle.file_run.specs.Machine.{IsSaid, EndsStopped}
 use Rattle.file_run.specs.Ran.{EndsWhole}
 use Rattle.file_run.specs.Report.{ended_with, other_line}
 use Rattle.std.specs.Option.{option_map_or}
 use Rattle.plant_run.specs.declared.machine.Rest.TheVariants as rest
-use Rattle.file_run.specs.Reporting.{EndsStopped}
 use Rattle.file_run.specs.declared.stopped.Stopped.{Stopped}
 use Rattle.file_run.specs.declared.stopped.Stopped.TheVariants as stopped
 use Rattle.file_run.proofs.EndedWith.{ended_whole}
@@ -23,7 +22,8 @@ use Rattle.fsoe_base.specs.declared.lengths.Lengths.{Lengths}
 use Rattle.multi_master.specs.Calls.{Rule}
 use Rattle.multi_master.specs.Standing.{app_view}
 use Rattle.plant_setup.specs.Names.{IsTaken, place_of}
-use Rattle.plant_conf.specs.ConfView.{ConfView, HasSameLengths}
+use Rattle.plant_conf.specs.ConfView.{ConfView}
+use Rattle.plant_conf.specs.Kept.{HasSameLengths}
 use Rattle.plant_conf.specs.declared.conf.BoundSpec.{BoundSpec}
 use Rattle.plant_conf.specs.declared.conf.LinkConf.{LinkConf}
 use Rattle.reaction_bound.specs.Kept.{ReactionView}
@@ -38,14 +38,15 @@ use Rattle.plant_model.specs.FairPairs.{lengths_in, Fits}
 use Rattle.plant_run.specs.Given.{GivenCloses, GivenStands, journal_in, named, rest_in, waiting_in}
 use Rattle.plant_model.specs.Pair.{has_other, is_tick, lowest_other, ticks}
 use Rattle.plant_model.specs.PlantReport.{last_lines, report_end, report_text, tick_lines, ticks_text}
-use Rattle.plant_model.specs.Promises.{line_step, line_steps}
+use Rattle.plant_model.specs.Promises.{line_step}
+use Rattle.plant_model.specs.JournalLaws.{line_steps}
 use Rattle.plant_run.specs.Ran.{IsReportOf}
 use Rattle.plant_run.specs.Reporting.{Terms, plant_reporting}
 use Rattle.plant_model.specs.BoundLines.{bound_line, bound_lines, said_of}
 use Rattle.plant_core.specs.Making.{links_made}
-use Rattle.plant_run.specs.Running.{RunStands}
+use Rattle.plant_run.specs.Running.{RunStands, LineFits}
 use Rattle.plant_run.specs.Script.{ScriptHeading, happening, script_format}
-use Rattle.plant_run.specs.ScriptLine.{LineFits, plant_line}
+use Rattle.plant_run.specs.ScriptLine.{plant_line}
 use Rattle.plant_core.specs.Standing.{Follows, Plays, PlantStands, PlantValue, PlantView, TellsOther, fixed_in, lengths_kept, seen}
 use Rattle.plant_model.specs.Turns.{Named, Taken, Turn, acts, said, said_by_turns, said_with, turn_acts}
 use Rattle.plant_model.specs.Uses.{Trace, Use}

@@ -6,7 +6,8 @@ use Rattle.black_channel.specs.Told.{Told}
 use Rattle.fb_net.specs.declared.kind_of.EntryOf.{EntryOf}
 use Rattle.fb_net.specs.declared.kind_of.KindOf.{KindOf}
 use Rattle.fb_net.specs.declared.kind_of.KindOf.TheVariants as kind
-use Rattle.plant_conf.specs.ConfView.{ConfView, HasSameLengths}
+use Rattle.plant_conf.specs.ConfView.{ConfView}
+use Rattle.plant_conf.specs.Kept.{HasSameLengths}
 use Rattle.plant_conf.specs.declared.conf.LinkConf.{LinkConf}
 use Rattle.failsafe_io.specs.declared.bit.Bit.{Bit}
 use Rattle.multi_master.specs.Calls.{AppView, Rule}

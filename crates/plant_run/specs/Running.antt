@@ -1,8 +1,11 @@
 -- What it means that a plant runs over a script. Turns are listed newest first, the lines of a script oldest first.
-use Rattle.std.specs.Prelude.{◌≡◌, ℕ, List, ◌++◌, length, map}
-use Rattle.plant_model.specs.FairPairs.{lengths_in}
+use Rattle.std.specs.Prelude.{◌≡◌, ℕ, List, ◌++◌, length, map, MatchResult, Ok, Err, Result, All, ◌≤◌}
+use Rattle.plant_model.specs.FairPairs.{lengths_in, Fits}
 use Rattle.fsoe_io.specs.declared.status.Ended.{Ended}
 use Rattle.schedule_file.specs.Input.{AtEnd}
+use Rattle.schedule_file.specs.declared.line_cause.LineCause.TheVariants as cause
+use Rattle.schedule_file.specs.declared.line_cause.LineCause.{LineCause}
+use Rattle.schedule_file.specs.Limits.{max_line}
 use Rattle.plant_model.specs.BoundLines.{bound_lines}
 use Rattle.plant_model.specs.PlantReport.{last_lines, report_end, ticks_text}
 use Rattle.plant_run.specs.Reporting.{Terms}
@@ -10,6 +13,11 @@ use Rattle.plant_run.specs.Script.{ScriptHeading}
 use Rattle.plant_core.specs.Standing.{PlantStands, PlantView}
 use Rattle.plant_model.specs.Turns.{Named, Turn, said, said_by_turns}
 use Rattle.plant_model.specs.declared.event.PlantLine.{PlantLine}
+use Rattle.plant_model.specs.declared.event.PlantLine.TheVariants as line
+use Rattle.plant_model.specs.declared.event.PlantEvent.TheVariants as event
+use Rattle.fsoe_base.specs.declared.lengths.Lengths.{Lengths}
+use Rattle.fsoe_base.specs.declared.command.End.{End}
+use denote.Ref.{Bor}
 
 -- a plant that is run with these terms stands for a turn for each of these lines, of which this text has the lines of
 -- all ticks; and what further lines say goes by these applications, which are left
@@ -27,3 +35,17 @@ pub record RunCloses (t : Terms) (v : PlantView) (left : List Named) (h : Script
   pub stands : RunStands t v left h log ticks
   pub text_is : text ≡ ticks ++ last_lines t.begins.links v.journal (bound_lines t.begins stands.turns t.bounds) AtEnd
   pub ended_is : ended ≡ report_end t.begins.links v.journal AtEnd
+
+-- they were found, or the cause was
+abbrev pub IsExisting : Result (Bor Lengths) LineCause → Result Lengths LineCause → Type 0
+IsExisting result said = MatchResult result (λ ends. said ≡ Ok ends.now) (λ cause. said ≡ Err cause)
+
+-- the event of a line, where it has one, fits
+abbrev pub LineFits : List Lengths → PlantLine → Type 0
+LineFits lengths (line.Step event) = Fits lengths event
+LineFits lengths (line.App name) = Unit {0}
+LineFits lengths line.End = Unit {0}
+
+-- each of these fields is no longer than a line may be
+abbrev pub FieldsFit : List (List ℕ) → Type 0
+FieldsFit fields = All (λ field. length field ≤ max_line) fields

@@ -1,6 +1,6 @@
 -- What a line of a plant's script says that stands after its first line. The causes come in their order: the word, the
 -- number of fields, a number, the connection, the hexadecimal bytes, a length.
-use Rattle.std.specs.Prelude.{◌≡◌, ◌≤◌, ℕ, ◌==◌, length, Bool, List, [], ◌∷◌, codes, All, Option, Some, None, Result, Ok, Err, MatchResult, if◌then◌else◌}
+use Rattle.std.specs.Prelude.{ℕ, ◌==◌, length, Bool, List, [], ◌∷◌, codes, Option, Some, None, Result, Ok, Err, if◌then◌else◌}
 use Rattle.std.specs.Str.{bytes_eq}
 use Rattle.fsoe_base.specs.LengthsOf.{length_of}
 use Rattle.fsoe_base.specs.declared.command.End.{End}
@@ -10,7 +10,6 @@ use Rattle.fsoe_base.specs.Lengths.{most_data}
 use Rattle.schedule_file.specs.EventLine.{switch_of}
 use Rattle.schedule_file.specs.Field.{fields_of, bytes_said}
 use Rattle.schedule_file.specs.Fields.{◌>>=◌, map_ok, value_or, next_field, no_field, one_field, number_16}
-use Rattle.schedule_file.specs.Limits.{max_line}
 use Rattle.schedule_file.specs.declared.line_cause.LineCause.{LineCause}
 use Rattle.schedule_file.specs.declared.line_cause.LineCause.TheVariants as cause
 use Rattle.plant_model.specs.declared.event.PlantEvent.TheVariants as event
@@ -18,8 +17,7 @@ use Rattle.plant_model.specs.declared.event.PlantLine.{PlantLine}
 use Rattle.plant_model.specs.declared.event.PlantLine.TheVariants as line
 use Rattle.plant_run.specs.declared.script_line.PlantWord.{PlantWord}
 use Rattle.plant_run.specs.declared.script_line.PlantWord.TheVariants as word
-use denote.Ref.{Bor}
-use Rattle.plant_model.specs.FairPairs.{Fits, lengths_at}
+use Rattle.plant_model.specs.FairPairs.{lengths_at}
 
 -- the word of an event or of an application, or `end`
 abbrev pub plant_word_of : List ℕ → Option PlantWord
@@ -44,10 +42,6 @@ end_of_letter text =
 -- the lengths of a connection that exists
 abbrev pub existing : List Lengths → ℕ → Result Lengths LineCause
 existing lengths link = value_or cause.NoLink (lengths_at lengths link)
-
--- they were found, or the cause was
-abbrev pub IsExisting : Result (Bor Lengths) LineCause → Result Lengths LineCause → Type 0
-IsExisting result said = MatchResult result (λ ends. said ≡ Ok ends.now) (λ cause. said ≡ Err cause)
 
 -- safe data bytes, exactly as many as the slave of a connection sends
 abbrev pub put_line : List Lengths → List (List ℕ) → Result PlantLine LineCause
@@ -125,13 +119,3 @@ plant_said_by lengths (first ∷ fields) = plant_said lengths (plant_word_of fir
 -- what a line says in the script of a plant whose connections have these lengths
 abbrev pub plant_line : List Lengths → List ℕ → Result PlantLine LineCause
 plant_line lengths text = plant_said_by lengths (fields_of text)
-
--- the event of a line, where it has one, fits
-abbrev pub LineFits : List Lengths → PlantLine → Type 0
-LineFits lengths (line.Step event) = Fits lengths event
-LineFits lengths (line.App name) = Unit {0}
-LineFits lengths line.End = Unit {0}
-
--- each of these fields is no longer than a line may be
-abbrev pub FieldsFit : List (List ℕ) → Type 0
-FieldsFit fields = All (λ field. length field ≤ max_line) fields

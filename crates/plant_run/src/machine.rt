@@ -8,7 +8,7 @@ ghost use Rattle.fb_net.specs.declared.kind_of.EntryOf.{EntryOf};
 ghost use Rattle.fb_net.specs.declared.kind_of.KindOf.TheVariants as kind;
 ghost use Rattle.file_run.specs.declared.stopped.Stopped.TheVariants as stopped;
 ghost use Rattle.multi_master.specs.Standing.{app_view};
-ghost use Rattle.plant_conf.specs.ConfView.{HasSameLengths};
+ghost use Rattle.plant_conf.specs.Kept.{HasSameLengths};
 ghost use Rattle.plant_setup.specs.Names.{IsTaken, place_of};
 ghost use Rattle.plant_model.specs.Acts.{App, Event, Start, uses};
 ghost use Rattle.plant_core.specs.Making.{links_made};

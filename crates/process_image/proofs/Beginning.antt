@@ -10,9 +10,9 @@ use Rattle.end_model.specs.Setup.{Setup, sends, receives}
 use Rattle.end_core.specs.Core.{setup_of}
 use Rattle.end_core.specs.Standing.{IsNew}
 use Rattle.process_image.specs.Calls.{frame_of, with_frames}
-use Rattle.process_image.specs.Fault.{AreNumbered, first_fault}
+use Rattle.process_image.specs.Fault.{first_fault, places_from, plan_of}
+use Rattle.process_image.specs.Places.{AreNumbered, Place}
 use Rattle.process_image.specs.Image.{bytes_at, with_bytes}
-use Rattle.process_image.specs.Places.{Place, places_from, plan_of}
 use Rattle.process_image.specs.Sound.{IsSoundSeat, IsSound, IsNewSeat}
 use Rattle.process_image.specs.Standing.{ImagesView, IsSeatOf, StandsFor}
 use Rattle.process_image.specs.declared.seat.Seat.{Seat}

@@ -8,8 +8,7 @@ use Rattle.fsoe_base.specs.declared.did.Did.{Did}
 use Rattle.param_load.specs.declared.entry.Move.{Move}
 use Rattle.param_load.specs.declared.entry.Move.TheVariants as move
 use Rattle.process_image.specs.Calls.{if_named, move_in, deeds, next_deed}
-use Rattle.process_image.specs.Fault.{AreNumbered}
-use Rattle.process_image.specs.Places.{Place, Plan}
+use Rattle.process_image.specs.Places.{AreNumbered, Place, Plan}
 use Rattle.process_image.specs.Report.{entry_line, move_line, event_lines}
 use Rattle.process_image.specs.Standing.{ImagesView, StandsFor, Follows, HasSlot, ShowsAt, AnswersReset}
 use Rattle.process_image.specs.SlotLines.{told_line}

@@ -7,7 +7,8 @@ use Rattle.fsoe_base.specs.Lengths.{frame_len}
 use Rattle.param_load.specs.declared.entry.Move.{Move}
 use Rattle.end_model.specs.Deed.{Deed, is_empty}
 use Rattle.end_model.specs.Setup.{Setup, OfMaster, OfSlave, sends}
-use Rattle.end_model.specs.Step.{step, run, IsRun}
+use Rattle.end_model.specs.Step.{step, run}
+use Rattle.end_model.specs.Runs.{IsRun}
 use Rattle.end_model.proofs.Runs.{run_append}
 use Rattle.end_core.proofs.Either.{setup_is}
 use Rattle.end_core.specs.Core.{setup_of}

@@ -11,9 +11,8 @@ use Rattle.end_core.specs.Core.{setup_of, IsAtRest}
 use Rattle.end_core.specs.Standing as end_core
 use Rattle.end_core.specs.declared.one_end.Core.{Core}
 use Rattle.process_image.specs.Calls.{move_in, if_named, contents}
-use Rattle.process_image.specs.Fault.{AreNumbered}
+use Rattle.process_image.specs.Places.{AreNumbered, Place}
 use Rattle.process_image.specs.Image.{with_bytes, input, sampled}
-use Rattle.process_image.specs.Places.{Place}
 use Rattle.process_image.specs.Sound.{IsSoundSeat}
 use Rattle.process_image.specs.Standing.{ImagesView, IsSeatOf, Follows}
 use Rattle.process_image.specs.Steps.{SeatStep, IsSeatStep, with_sent, after_steps}

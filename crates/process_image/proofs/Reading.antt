@@ -13,9 +13,9 @@ use Rattle.end_core.specs.Standing as end_core
 use Rattle.fsoe_base.specs.Lengths.{frame_len}
 use Rattle.process_image.specs.Calls.{deeds, frame_of, last_frame, output}
 use Rattle.process_image.specs.Image.{bytes_at}
-use Rattle.process_image.specs.Places.{Place}
+use Rattle.process_image.specs.Places.{Place, numbered}
 use Rattle.process_image.specs.Sound.{IsSoundSeat}
-use Rattle.process_image.specs.Standing.{ImagesView, IsSeatOf, ShowsAt, AnswersReset, numbered, setups_of}
+use Rattle.process_image.specs.Standing.{ImagesView, IsSeatOf, ShowsAt, AnswersReset, setups_of}
 use Rattle.process_image.specs.SlotLines.{entry_told, told_line}
 use Rattle.process_image.specs.declared.seat.Seat.{Seat}
 use Rattle.process_image.proofs.Beginning.{frame_most}

@@ -15,21 +15,23 @@ use Rattle.schedule_file.specs.Input.{Refused, own_length, heading_profile}
 use Rattle.schedule_file.proofs.Sound.{each, known}
 use Rattle.schedule_file.specs.declared.line_cause.LineCause.{LineCause}
 use Rattle.schedule_file.specs.declared.line_cause.LineCause.TheVariants as cause
-use Rattle.file_run.specs.Machine.{IsSaid}
+use Rattle.file_run.specs.Machine.{IsSaid, EndsReport}
 use Rattle.file_run.specs.Report.{events_line}
-use Rattle.file_run.specs.Reporting.{EndsReport, ReportsSoFar, IsPrefix, ended_at}
-use Rattle.end_model.specs.Setup.{Setup, OfMaster, OfSlave, sends, profile_of}
+use Rattle.file_run.specs.Reporting.{ReportsSoFar, IsPrefix, ended_at}
+use Rattle.end_model.specs.Setup.{Setup, OfMaster, OfSlave, sends}
+use Rattle.end_model.specs.Runs.{profile_of}
 use Rattle.end_core.proofs.Either.{setup_is}
 use Rattle.end_core.specs.Core.{setup_of}
 use Rattle.end_core.specs.Standing.{IsNew}
 use Rattle.process_image.specs.Calls.{deeds}
 use Rattle.process_image.specs.EventLine.{end_at, id_at, image_said, image_said_by, image_line, word_of}
 use Rattle.process_image.specs.Header.{ImageHeading, slots_of}
-use Rattle.process_image.specs.Places.{Place, Plan, places_from, plan_of}
-use Rattle.process_image.specs.Ran.{RunView, RunStands, image_format, image_reporting}
-use Rattle.process_image.specs.Report.{IsEndOf, IsMadeOf, IsSlotOf, IsPlanOf, end_terms, event_in, event_lines, lines_of_events, last_lines, report_of}
-use Rattle.process_image.specs.Standing.{ImagesView, IsSeatOf, StandsFor, HasSlot, numbered, setups_of}
-use Rattle.process_image.specs.Telling.{DoesEvent, FitsImages}
+use Rattle.process_image.specs.Places.{Place, Plan, numbered}
+use Rattle.process_image.specs.Fault.{places_from, plan_of, IsMadeOf}
+use Rattle.process_image.specs.Ran.{image_format, image_reporting}
+use Rattle.process_image.specs.Telling.{RunView, RunStands, DoesEvent, FitsImages}
+use Rattle.process_image.specs.Report.{IsEndOf, IsSlotOf, IsPlanOf, end_terms, event_in, event_lines, lines_of_events, last_lines, report_of}
+use Rattle.process_image.specs.Standing.{ImagesView, IsSeatOf, StandsFor, HasSlot, setups_of}
 use Rattle.process_image.specs.declared.event.ImageEvent.{ImageEvent}
 use Rattle.process_image.specs.declared.event.ImageEvent.TheVariants as event
 use Rattle.process_image.specs.declared.event.ImageLine.{ImageLine}

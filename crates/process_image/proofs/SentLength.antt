@@ -26,7 +26,8 @@ use Rattle.end_model.specs.Deed.{Deed, is_empty}
 use Rattle.end_model.specs.Chain.{taken, since, newest_crc, own, own_link, seal}
 use Rattle.end_model.specs.Payloads.{conn_id, pay, pieces, session_id, count_in}
 use Rattle.end_model.specs.Readiness.{offer, held}
-use Rattle.end_model.specs.Step.{begun, answer, slave_answer, master_answer, after_phase, goes_on, download_frame, with_piece, with_data, sealed, sent_on, code_sent, did_on, step, IsProper, IsRun}
+use Rattle.end_model.specs.Step.{begun, answer, slave_answer, master_answer, after_phase, goes_on, download_frame, with_piece, with_data, sealed, sent_on, code_sent, did_on, step}
+use Rattle.end_model.specs.Runs.{IsProper, IsRun}
 use Rattle.end_model.proofs.ReadBack.{valid_length, count_crcs, count_groups}
 
 -- the bytes of a frame

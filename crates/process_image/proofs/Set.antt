@@ -4,14 +4,15 @@ use Rattle.std.proofs.lemmas.List.{length-set}
 use Rattle.fsoe_base.specs.Did.{nothing}
 use Rattle.fsoe_base.specs.Lengths.{frame_len}
 use Rattle.param_load.specs.declared.entry.Move.{Move}
-use Rattle.end_model.specs.Deed.{IsSetting}
+use Rattle.end_model.specs.Runs.{IsSetting}
 use Rattle.end_model.specs.Setup.{Setup, sends, receives}
 use Rattle.end_core.proofs.Either.{set_answers}
 use Rattle.end_core.specs.Core.{setup_of, IsAtRest}
 use Rattle.end_core.specs.Standing as end_core
 use Rattle.end_core.specs.declared.one_end.Core.{Core}
 use Rattle.process_image.specs.Sound.{IsSoundSeat, IsSound}
-use Rattle.process_image.specs.Standing.{ImagesView, numbered, setups_of}
+use Rattle.process_image.specs.Standing.{ImagesView, setups_of}
+use Rattle.process_image.specs.Places.{numbered}
 use Rattle.process_image.specs.declared.seat.Seat.{Seat}
 use Rattle.process_image.proofs.One.{Moved}
 use Rattle.process_image.proofs.Zips.{all_at, all_set, map_set}

@@ -18,9 +18,8 @@ use Rattle.std.specs.Prelude.{codes, ◌&&◌, ◌==◌, nat_le, not}
 use Rattle.std.specs.Str.{bytes_eq}
 use Rattle.file_run.specs.Report.{last_line}
 use Rattle.end_model.specs.Setup.{Setup, OfMaster, OfSlave}
-use Rattle.process_image.specs.Fault.{AreNumbered}
+use Rattle.process_image.specs.Places.{AreNumbered, Place, Plan}
 use Rattle.process_image.specs.Header.{ImageHeading, slot_begun, slots_begun, slots_of, end_of, size_line, slot_line, size_taken, is_open, slot_taken, fits_images, with_last, own_taken, line_taken, image_fields_taken, image_text_taken, image_heading_after, image_heading_new, image_heading_is_whole}
-use Rattle.process_image.specs.Places.{Place, Plan}
 use Rattle.process_image.specs.Ran.{image_format}
 use Rattle.process_image.specs.Report.{IsEndOf, IsSlotOf, IsPlanOf, IsImageReport, report_of}
 use Rattle.process_image.specs.declared.event.ImageEvent.{ImageEvent}

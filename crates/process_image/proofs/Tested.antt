@@ -30,10 +30,10 @@ use Rattle.schedule_file.specs.declared.place.Word.{Word}
 use Rattle.schedule_file.specs.declared.place.Word.TheVariants as word
 use Rattle.end_model.specs.Setup.{Setup, OfMaster, OfSlave, sends, receives}
 use Rattle.end_core.specs.Core.{setup_of}
-use Rattle.process_image.specs.Fault.{first_outside, first_with, pair_or, first_pair, first_fault}
+use Rattle.process_image.specs.Fault.{first_outside, first_with, pair_or, first_pair, first_fault, places_from, plan_of, slot_spans, IsMadeOf}
 use Rattle.process_image.specs.Header.{ImageHeading, end_of, end_of_kind, heading_spans, fits_images, image_heading_is_whole, is_done, slots_begun, slots_of}
-use Rattle.process_image.specs.Places.{lie_inside, overlap, places_from, plan_of, slot_spans}
-use Rattle.process_image.specs.Report.{IsEndOf, IsMadeOf}
+use Rattle.process_image.specs.Places.{lie_inside, overlap}
+use Rattle.process_image.specs.Report.{IsEndOf}
 use Rattle.process_image.specs.Tested.{IsApart, Fit, is_placed, and_placed, tested_by, IsTested}
 use Rattle.process_image.specs.declared.header.SlotHeader.{SlotHeader}
 use Rattle.process_image.specs.declared.header.Stage.{Stage}

@@ -9,12 +9,11 @@ use Rattle.end_model.specs.Deed.{Deed, is_empty}
 use Rattle.end_model.specs.Outputs.{out}
 use Rattle.end_model.specs.Readiness.{state_of}
 use Rattle.end_model.specs.Setup.{Setup}
-use Rattle.end_model.specs.Step.{IsRun}
+use Rattle.end_model.specs.Runs.{IsRun}
 use Rattle.end_model.proofs.Told.{told_sent}
 use Rattle.end_core.specs.Standing.{IsAfter}
 use Rattle.process_image.specs.Calls.{move_in, deeds, next_deed, last_frame}
-use Rattle.process_image.specs.Fault.{AreNumbered}
-use Rattle.process_image.specs.Places.{Place, Plan}
+use Rattle.process_image.specs.Places.{AreNumbered, Place, Plan}
 use Rattle.process_image.specs.Report.{entry_line, move_line, event_lines}
 use Rattle.process_image.specs.Standing.{ImagesView, IsSeatOf, StandsFor, ShowsAt}
 use Rattle.process_image.specs.Steps.{SeatStep, Makes}

@@ -1,9 +1,7 @@
 -- Where the frames of slots stand in the two images.
-use Rattle.std.specs.Prelude.{ℕ, suc, ◌+◌, ◌&&◌, ◌||◌, nat_le, nat_lt, Bool, List, [], ◌∷◌}
+use Rattle.std.specs.Prelude.{ℕ, suc, ◌+◌, ◌&&◌, ◌||◌, nat_le, nat_lt, Bool, List, [], ◌∷◌, Option, None, zero, slice_get, ◌≡◌}
 use Rattle.fsoe_base.specs.Lengths.{frame_len}
 use Rattle.end_model.specs.Setup.{Setup, sends, receives}
-use Rattle.end_core.specs.Core.{setup_of}
-use Rattle.process_image.specs.declared.slot.Slot.{Slot}
 use Rattle.process_image.specs.declared.spans.Spans.{Spans}
 
 -- the most slots
@@ -33,21 +31,18 @@ pub record Place : Type 0 where
 abbrev pub spans_of : Place → Spans
 spans_of p = record { at_in = p.at_in; len_in = frame_len (receives p.setup); at_out = p.at_out; len_out = frame_len (sends p.setup) }
 
--- the bytes that the frames of a slot take whose end is at hand
-abbrev pub slot_spans : Slot → Spans
-slot_spans slot = record { at_in = slot.at_in; len_in = frame_len (receives (setup_of slot.core)); at_out = slot.at_out; len_out = frame_len (sends (setup_of slot.core)) }
-
--- the places of slots, which are numbered from n on
-abbrev pub places_from : ℕ → List Slot → List Place
-places_from n [] = []
-places_from n (slot ∷ slots) = record { number = n; at_in = slot.at_in; at_out = slot.at_out; setup = setup_of slot.core } ∷ places_from (suc n) slots
-
 -- what images were made with: their sizes, and the slots in their order
 pub record Plan : Type 0 where
   pub size_in : ℕ
   pub size_out : ℕ
   pub places : List Place
 
--- images of these sizes with these slots, which are numbered from 1
-abbrev pub plan_of : ℕ → ℕ → List Slot → Plan
-plan_of size_in size_out slots = record { size_in = size_in; size_out = size_out; places = places_from 1 slots }
+-- the slot of this number, from 1
+abbrev pub numbered : {X : Type 0} → ℕ → List X → Option X
+numbered zero xs = None
+numbered (suc before) xs = slice_get xs before
+
+-- slots are numbered in their order, from n on
+abbrev pub AreNumbered : ℕ → List Place → Type 0
+AreNumbered n [] = Unit {0}
+AreNumbered n (p ∷ places) = (p.number ≡ n) × AreNumbered (suc n) places

@@ -1,15 +1,12 @@
 -- How a run of images over an input ends, and what it reports.
-use Rattle.std.specs.Prelude.{◌≡◌, ℕ, false, List, length, reverse}
+use Rattle.std.specs.Prelude.{◌≡◌, ℕ, false, List}
 use Rattle.fsoe_io.specs.declared.status.Ended.{Ended}
 use Rattle.schedule_file.specs.Input.{InputFormat, InputOf}
 use Rattle.file_run.specs.Outside.{Outside}
 use Rattle.file_run.specs.Ran.{RanOver}
 use Rattle.file_run.specs.Reporting.{Reporting, BeforeEvents, ended_at}
 use Rattle.process_image.specs.Header.{ImageHeading, image_heading_new, image_heading_after, image_heading_is_whole}
-use Rattle.process_image.specs.Places.{Plan}
-use Rattle.process_image.specs.Report.{IsPlanOf, IsImageReport, event_in, is_full, lines_of_events, said_after}
-use Rattle.process_image.specs.Standing.{ImagesView, StandsFor}
-use Rattle.file_run.specs.Waiting.{WaitingText}
+use Rattle.process_image.specs.Report.{IsImageReport, event_in, is_full, said_after}
 use Rattle.process_image.specs.declared.event.ImageEvent.{ImageEvent}
 use Rattle.process_image.specs.declared.event.ImageLine.{ImageLine}
 
@@ -39,16 +36,3 @@ image_reporting = record { format = image_format; judges = false; memory = Befor
 -- images ran over an input
 abbrev pub RanImage : Ended → Outside → Type 0
 RanImage ended o = RanOver image_reporting ended o
-
--- what contracts see of images that run: the images, and the text of the last event
-pub record RunView : Type 0 where
-  pub images : ImagesView
-  pub waiting : WaitingText
-
--- images that were made as a header says stand for these events, of which this text has the lines
-pub record RunStands (v : RunView) (h : ImageHeading) (log : List ImageEvent) (text : List ℕ) : Type 0 where
-  pub plan : Plan
-  pub made : IsPlanOf h plan
-  pub images : StandsFor plan v.images (reverse log)
-  pub lines : text ≡ lines_of_events plan (reverse log)
-  pub size_in : length v.images.input ≡ plan.size_in

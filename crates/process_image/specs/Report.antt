@@ -16,16 +16,12 @@ use Rattle.end_model.specs.Readiness.{state_of}
 use Rattle.process_image.specs.Calls.{move_in, deeds, next_deed, output}
 use Rattle.process_image.specs.EventLine.{image_line}
 use Rattle.process_image.specs.Header.{ImageHeading, slots_of, end_of}
-use Rattle.end_core.specs.Core.{setup_of}
-use Rattle.end_core.specs.Standing.{IsNew}
-use Rattle.process_image.specs.Fault.{AreNumbered}
-use Rattle.process_image.specs.Places.{Place, Plan}
+use Rattle.process_image.specs.Places.{AreNumbered, Place, Plan}
 use Rattle.process_image.specs.declared.event.ImageEvent.{ImageEvent}
 use Rattle.process_image.specs.declared.event.ImageLine.{ImageLine}
 use Rattle.process_image.specs.declared.event.ImageLine.TheVariants as line
 use Rattle.process_image.specs.declared.event_line.SlotEnd.{SlotEnd}
 use Rattle.process_image.specs.declared.header.SlotHeader.{SlotHeader}
-use Rattle.process_image.specs.declared.slot.Slot.{Slot}
 
 -- what lines of events look at of a slot
 abbrev pub end_terms : SlotHeader → SlotEnd
@@ -48,13 +44,6 @@ is_full h events = nat_le 2000 (length events)
 abbrev pub IsEndOf : SlotHeader → Setup → Type 0
 IsEndOf s (OfMaster settings) = (end_of s ≡ side.Master) × IsMasterOf s.own settings
 IsEndOf s (OfSlave settings) = (end_of s ≡ side.Slave) × IsSlaveOf s.own settings
-
--- a slot is made of a new end as its lines say
-pub record IsMadeOf (s : SlotHeader) (slot : Slot) : Type 0 where
-  pub at_in_is : slot.at_in ≡ s.at_in
-  pub at_out_is : slot.at_out ≡ s.at_out
-  pub end_is : IsEndOf s (setup_of slot.core)
-  pub new : IsNew slot.core
 
 -- a slot stands where its lines say, with an end that is set as they say
 pub record IsSlotOf (s : SlotHeader) (p : Place) : Type 0 where

@@ -1,5 +1,5 @@
 -- What it means that images do what looking back over their calls says.
-use Rattle.std.specs.Prelude.{◌≡◌, ◌≤◌, ◌+◌, ℕ, zero, suc, false, List, ◌∷◌, All, map, length, replicate, slice_get, Option, Some, None, option_map}
+use Rattle.std.specs.Prelude.{◌≡◌, ◌≤◌, ◌+◌, ℕ, false, List, ◌∷◌, All, map, length, replicate, Option, Some, option_map}
 use Rattle.std.specs.List.{AllZip}
 use Rattle.fsoe_base.specs.declared.did.Did.{Did}
 use Rattle.param_load.specs.declared.entry.Move.TheVariants as move
@@ -10,7 +10,7 @@ use Rattle.end_core.specs.Standing.{IsAfter}
 use Rattle.process_image.specs.Calls.{contents, move_in, deeds, next_deed, frame_of, output}
 use Rattle.process_image.specs.Fault.{IsPlan}
 use Rattle.process_image.specs.Image.{bytes_at, input, sampled}
-use Rattle.process_image.specs.Places.{Place, Plan, share, spans_of}
+use Rattle.process_image.specs.Places.{Place, Plan, share, spans_of, numbered}
 use Rattle.process_image.specs.declared.event.ImageEvent.{ImageEvent}
 use Rattle.process_image.specs.declared.event.ImageEvent.TheVariants as event
 use Rattle.process_image.specs.declared.seat.Seat.{Seat}
@@ -20,11 +20,6 @@ pub record ImagesView : Type 0 where
   pub seats : List Seat
   pub input : List ℕ
   pub output : List ℕ
-
--- the slot of this number, from 1
-abbrev pub numbered : {X : Type 0} → ℕ → List X → Option X
-numbered zero xs = None
-numbered (suc before) xs = slice_get xs before
 
 -- what the end of each slot is set to
 abbrev pub setups_of : ImagesView → List Setup

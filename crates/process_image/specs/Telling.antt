@@ -1,12 +1,15 @@
--- The text of an event of images: a line for each slot of which the event is a move.
-use Rattle.std.specs.Prelude.{◌≡◌, ◌≤◌, ℕ, ◌+◌, List, length, IfSome, IsTrue}
+-- The text of an event of images: a line for each slot of which the event is a move; and what contracts see of a run.
+use Rattle.std.specs.Prelude.{◌≡◌, ◌≤◌, ℕ, ◌+◌, List, length, IfSome, IsTrue, reverse}
 use Rattle.param_load.specs.Profile.{allows_id}
-use Rattle.end_model.specs.Setup.{profile_of, sends}
-use Rattle.process_image.specs.Places.{Plan}
-use Rattle.process_image.specs.Report.{event_lines}
-use Rattle.process_image.specs.Standing.{ImagesView, StandsFor, Follows, HasSlot, numbered, setups_of}
+use Rattle.end_model.specs.Setup.{sends}
+use Rattle.end_model.specs.Runs.{profile_of}
+use Rattle.process_image.specs.Places.{Plan, numbered}
+use Rattle.process_image.specs.Report.{event_lines, lines_of_events, IsPlanOf}
+use Rattle.process_image.specs.Standing.{ImagesView, StandsFor, Follows, HasSlot, setups_of}
 use Rattle.process_image.specs.declared.event.ImageEvent.{ImageEvent}
 use Rattle.process_image.specs.declared.event.ImageEvent.TheVariants as event
+use Rattle.process_image.specs.Header.{ImageHeading}
+use Rattle.file_run.specs.Waiting.{WaitingText}
 
 -- an event may come to images: bytes lie inside the input image, a slot exists, and its end may be put or given this
 abbrev pub FitsImages : ImagesView → ImageEvent → Type 0
@@ -29,3 +32,16 @@ pub record DoesEvent (old : ImagesView) (event : ImageEvent) (number : ℕ) (new
   pub setups : setups_of new ≡ setups_of old
   pub size_in : length new.input ≡ length old.input
   pub size_out : length new.output ≡ length old.output
+
+-- what contracts see of images that run: the images, and the text of the last event
+pub record RunView : Type 0 where
+  pub images : ImagesView
+  pub waiting : WaitingText
+
+-- images that were made as a header says stand for these events, of which this text has the lines
+pub record RunStands (v : RunView) (h : ImageHeading) (log : List ImageEvent) (text : List ℕ) : Type 0 where
+  pub plan : Plan
+  pub made : IsPlanOf h plan
+  pub images : StandsFor plan v.images (reverse log)
+  pub lines : text ≡ lines_of_events plan (reverse log)
+  pub size_in : length v.images.input ≡ plan.size_in

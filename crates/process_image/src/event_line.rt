@@ -1,9 +1,8 @@
 //! Lines of events.
 ghost use Rattle.std.specs.Prelude.{◌≡◌};
-ghost use Rattle.schedule_file.specs.Field.{fields_after};
-ghost use Rattle.schedule_file.specs.Fields.{Becomes};
+ghost use Rattle.schedule_file.specs.FieldsRead.{fields_after, Becomes};
 ghost use Rattle.process_image.specs.EventLine.{word_of, end_at, bare_line, write_line, put_line, hold_line, nonce_line, reset_line, image_line};
-ghost use Rattle.process_image.specs.Standing.{numbered};
+ghost use Rattle.process_image.specs.Places.{numbered};
 ghost use Rattle.process_image.specs.declared.event.ImageEvent.TheVariants as event;
 ghost use Rattle.process_image.specs.declared.event.ImageLine.TheVariants as said;
 

@@ -1,8 +1,10 @@
 //! One event at images that names a slot, or none, with its text.
 ghost use Rattle.std.specs.Prelude.{◌≡◌, ◌≤◌, ◌+◌, [], IfSome, IsTrue, length};
 ghost use Rattle.param_load.specs.Profile.{allows_id};
-ghost use Rattle.end_model.specs.Setup.{sends, profile_of};
-ghost use Rattle.process_image.specs.Standing.{HasSlot, numbered, setups_of};
+ghost use Rattle.end_model.specs.Setup.{sends};
+ghost use Rattle.end_model.specs.Runs.{profile_of};
+ghost use Rattle.process_image.specs.Standing.{HasSlot, setups_of};
+ghost use Rattle.process_image.specs.Places.{numbered};
 ghost use Rattle.process_image.specs.Telling.{DoesEvent};
 ghost use Rattle.process_image.specs.declared.event.ImageEvent.TheVariants as event;
 

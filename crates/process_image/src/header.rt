@@ -1,14 +1,14 @@
 //! The header of images, line by line.
 ghost use Rattle.std.specs.Prelude.{◌≡◌, ◌≤◌, ◌<◌, ◌⊎◌, [], ◌∷◌, ◌++◌, IsTrue, IfOk, OnOk, None, length, map};
 ghost use Rattle.std.specs.List.{AllZip, list_any};
-ghost use Rattle.schedule_file.specs.Field.{fields_after, fields_of};
-ghost use Rattle.schedule_file.specs.Fields.{Becomes};
+ghost use Rattle.schedule_file.specs.Field.{fields_of};
+ghost use Rattle.schedule_file.specs.FieldsRead.{fields_after, Becomes};
 ghost use Rattle.schedule_file.specs.NodeHeader.{may_end};
-ghost use Rattle.process_image.specs.Fault.{first_fault};
+ghost use Rattle.process_image.specs.Fault.{first_fault, plan_of, IsMadeOf};
 ghost use Rattle.process_image.specs.Header.{image_heading_new, image_heading_is_whole, image_heading_after, image_fields_taken, image_title_taken, size_line, slot_line, slot_begun, size_taken, slot_taken, own_taken, slots_of, fits_images, heading_spans, end_of, is_size};
 ghost use Rattle.process_image.specs.LinesLeft.{image_lines_left};
-ghost use Rattle.process_image.specs.Places.{overlap, plan_of};
-ghost use Rattle.process_image.specs.Report.{IsMadeOf, end_terms};
+ghost use Rattle.process_image.specs.Places.{overlap};
+ghost use Rattle.process_image.specs.Report.{end_terms};
 
 use crate::event_line::SlotEnd;
 use crate::slot::Slot;

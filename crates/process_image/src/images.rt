@@ -4,7 +4,8 @@ ghost use Rattle.std.specs.Result.{result_err};
 ghost use Rattle.param_load.specs.Profile.{allows_id};
 ghost use Rattle.end_model.specs.Outputs.{out};
 ghost use Rattle.end_model.specs.Readiness.{state_of};
-ghost use Rattle.end_model.specs.Setup.{sends, receives, profile_of};
+ghost use Rattle.end_model.specs.Setup.{sends, receives};
+ghost use Rattle.end_model.specs.Runs.{profile_of};
 ghost use Rattle.end_core.specs.Core.{setup_of};
 ghost use Rattle.end_core.specs.Standing.{IsNew};
 ghost use Rattle.process_image.specs.declared.event.ImageEvent.TheVariants as event;
@@ -43,9 +44,9 @@ impl Model for Images {
 
 impl Images {
     ghost use Rattle.process_image.specs.Calls.{last_frame, output};
-    ghost use Rattle.process_image.specs.Fault.{first_fault};
-    ghost use Rattle.process_image.specs.Places.{plan_of};
-    ghost use Rattle.process_image.specs.Standing.{numbered, setups_of, slots_in, StandsFor, HasSlot, Follows, AnswersSample, AnswersTick, AnswersReset, ShowsAt, ShowsImage, ShowsFrames};
+    ghost use Rattle.process_image.specs.Fault.{first_fault, plan_of};
+    ghost use Rattle.process_image.specs.Standing.{setups_of, slots_in, StandsFor, HasSlot, Follows, AnswersSample, AnswersTick, AnswersReset, ShowsAt, ShowsImage, ShowsFrames};
+    ghost use Rattle.process_image.specs.Places.{numbered};
     ghost use Rattle.process_image.specs.SlotLines.{told_line};
     ghost use Rattle.process_image.specs.Telling.{DoesEvent};
 

@@ -99,7 +99,7 @@ pub(crate) struct ImageRun {
 
 impl Model for ImageRun {
     ghost use Rattle.std.specs.Prelude.{◌≤◌, length};
-    ghost use Rattle.process_image.specs.Ran.{RunView};
+    ghost use Rattle.process_image.specs.Telling.{RunView};
     ghost use Rattle.process_image.specs.declared.header.TheConstants.{MOST_SIZE};
 
     ghost Value = { RunView };
@@ -168,8 +168,9 @@ impl ImageRun {
 }
 
 impl Machine for ImageRun {
-    ghost use Rattle.file_run.specs.Reporting.{EndsReport};
-    ghost use Rattle.process_image.specs.Ran.{RunStands, image_reporting};
+    ghost use Rattle.file_run.specs.Machine.{EndsReport};
+    ghost use Rattle.process_image.specs.Ran.{image_reporting};
+    ghost use Rattle.process_image.specs.Telling.{RunStands};
     ghost use Rattle.file_run.specs.Waiting.{waits};
 
     type Format = ImageFormat;

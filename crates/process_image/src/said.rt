@@ -1,7 +1,7 @@
 //! What a line says, in room that is kept from one line to the next.
 ghost use Rattle.std.specs.Prelude.{◌≡◌, MatchOption, None, Some};
 ghost use Rattle.schedule_file.specs.Field.{fields_of};
-ghost use Rattle.schedule_file.specs.Fields.{Becomes};
+ghost use Rattle.schedule_file.specs.FieldsRead.{Becomes};
 ghost use Rattle.process_image.specs.EventLine.{write_behind, not_written};
 
 use crate::event::ImageEvent;

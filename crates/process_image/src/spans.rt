@@ -1,7 +1,7 @@
 //! Which bytes of both images the frames of a slot take, and why there are no images with some slots.
 ghost use Rattle.std.specs.Prelude.{◌≡◌, ◌≤◌, ◌<◌, ◌+◌, ◌^◌, length, nat_le};
-ghost use Rattle.process_image.specs.Fault.{first_outside, first_with, first_pair, first_fault};
-ghost use Rattle.process_image.specs.Places.{share, overlap, lie_inside, places_from, plan_of, slot_spans};
+ghost use Rattle.process_image.specs.Fault.{first_outside, first_with, first_pair, first_fault, places_from, plan_of, slot_spans};
+ghost use Rattle.process_image.specs.Places.{share, overlap, lie_inside};
 
 use crate::fault::SlotFault;
 use crate::slot::Slot;

@@ -12,11 +12,11 @@ use Rattle.param_load.specs.declared.master_settings.MasterSettings.{MasterSetti
 use Rattle.param_load.specs.declared.slave_settings.SlaveSettings.{SlaveSettings}
 use Rattle.end_model.specs.Deed.{ticked}
 use Rattle.exchange_model.specs.Ends.{same_end, of_end}
-use Rattle.exchange_model.specs.World.{SameLengths, IsWorld}
+use Rattle.exchange_model.specs.World.{SameLengths}
+use Rattle.exchange_model.specs.Schedules.{IsWorld}
 use Rattle.exchange_model.specs.Items.{Item, items, awaited}
-use Rattle.exchange_model.specs.Other.{is_other, NoOther}
+use Rattle.exchange_model.specs.Other.{is_other, NoOther, item_number}
 use Rattle.exchange_model.specs.Fair.{received_len, data_taken, IsTakenFrom, TakesAwaited, in_time, outputs_by, outputs_at, outputs_after, outputs_due}
-use Rattle.exchange_model.specs.Monitor.{item_number}
 use Rattle.exchange_model.proofs.Worlds.Projection.{same}
 use Rattle.exchange_model.proofs.Joint.Taking.{NoneOther, none_other}
 use Rattle.exchange_model.proofs.Fairness.Headline.{takes_awaited}

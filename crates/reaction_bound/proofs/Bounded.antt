@@ -13,7 +13,7 @@ use Rattle.param_load.specs.declared.entry.Move.{Move}
 use Rattle.param_load.specs.declared.entry.Entry.{Entry}
 use Rattle.param_load.specs.declared.terms.Terms.{Terms}
 use Rattle.param_load.specs.declared.master_settings.MasterSettings.{MasterSettings}
-use Rattle.param_load.specs.MasterSettings.{terms_of}
+use Rattle.param_load.specs.Download.{terms_of}
 use Rattle.param_load.specs.declared.slave_settings.SlaveSettings.{SlaveSettings}
 use Rattle.end_model.specs.Setup.{Setup, OfMaster, OfSlave}
 use Rattle.end_model.specs.Deed.{Deed, ticked, is_empty, of_session}
@@ -22,7 +22,8 @@ use Rattle.end_model.specs.Payloads.{terms}
 use Rattle.end_model.specs.Readiness.{phase_after, phase_taken, state_of, ticks, told_terms}
 use Rattle.end_model.specs.Reactions.{Reaction, Puts, Holds, SetsNonce, Rests, Ages, Expires, SendsAgain, ResetsItself, DropsLength, DropsRepeat, DropsInReset, DropsReset, Refuses, PeerResets, Answers}
 use Rattle.exchange_model.specs.Ends.{same_end, peer}
-use Rattle.exchange_model.specs.World.{setup_of, deed_in, deeds, SameLengths, IsWorld}
+use Rattle.exchange_model.specs.World.{setup_of, deed_in, deeds, SameLengths}
+use Rattle.exchange_model.specs.Schedules.{IsWorld}
 use Rattle.exchange_model.specs.Items.{items_of, items}
 use Rattle.exchange_model.specs.Other.{is_other, NoOther}
 use Rattle.exchange_model.specs.Fair.{data_taken, in_time}

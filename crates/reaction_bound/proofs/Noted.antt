@@ -10,10 +10,10 @@ use Rattle.param_load.specs.declared.entry.Entry.{Entry}
 use Rattle.end_model.specs.Deed.{delivered}
 use Rattle.exchange_model.specs.Ends.{same_end}
 use Rattle.exchange_model.specs.Items.{items, awaited}
-use Rattle.exchange_model.specs.Other.{is_other}
+use Rattle.exchange_model.specs.Other.{is_other, item_number}
 use Rattle.exchange_model.specs.Honest.{is_tick}
 use Rattle.exchange_model.specs.Monitor as monitor
-use Rattle.exchange_model.specs.Monitor.{MonitorView, item_number, HasParts}
+use Rattle.exchange_model.specs.Monitor.{MonitorView, HasParts}
 use Rattle.reaction_bound.specs.declared.end_age.Standing.{Standing}
 use Rattle.reaction_bound.specs.declared.end_age.EndAge.{EndAge}
 use Rattle.reaction_bound.specs.Age.{age_of, greater, worst_of, told_age}

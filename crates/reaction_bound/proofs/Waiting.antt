@@ -15,7 +15,8 @@ use Rattle.exchange_model.specs.Ends.{same_end, peer}
 use Rattle.exchange_model.specs.Items.{Item, items_of, items, awaited}
 use Rattle.exchange_model.specs.Honest.{is_tick}
 use Rattle.exchange_model.specs.Monitor as monitor
-use Rattle.exchange_model.specs.Monitor.{MonitorView, sent_number, item_number, next_number, is_answer, next_sent, sent_next, heard_next, side_of, noted_next}
+use Rattle.exchange_model.specs.Monitor.{MonitorView, sent_number, next_number, is_answer, next_sent, sent_next, heard_next, side_of, noted_next}
+use Rattle.exchange_model.specs.Other.{item_number}
 use Rattle.exchange_model.proofs.Worlds.Numbered.{Grown, Same, More, grown, numbered}
 use Rattle.exchange_model.proofs.Joint.Awaited.{awaited_found}
 use Rattle.exchange_model.proofs.Monitors.Noted.{newest_next, notes_by, awaited_number}

@@ -10,9 +10,8 @@ use Rattle.param_load.specs.declared.entry.Entry.{Entry}
 use Rattle.end_model.specs.Deed.{ticked, is_empty}
 use Rattle.exchange_model.specs.Ends.{same_end, peer}
 use Rattle.exchange_model.specs.Items.{items_of, items, awaited}
-use Rattle.exchange_model.specs.Other.{is_other}
+use Rattle.exchange_model.specs.Other.{is_other, item_number}
 use Rattle.exchange_model.specs.Fair.{in_time}
-use Rattle.exchange_model.specs.Monitor.{item_number}
 
 -- whether an entry, where w are those before it, sends the item of an end that has this number
 abbrev pub sends_item : End → ℕ → Entry → List Entry → Bool

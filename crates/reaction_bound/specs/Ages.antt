@@ -12,7 +12,8 @@ use Rattle.exchange_model.specs.Ends.{same_end}
 use Rattle.exchange_model.specs.Items.{items, awaited}
 use Rattle.exchange_model.specs.Honest.{is_tick}
 use Rattle.exchange_model.specs.Monitor as monitor
-use Rattle.exchange_model.specs.Monitor.{MonitorView, item_number, HasParts}
+use Rattle.exchange_model.specs.Monitor.{MonitorView, HasParts}
+use Rattle.exchange_model.specs.Other.{item_number}
 use Rattle.reaction_bound.specs.declared.end_age.Standing.{Standing}
 use Rattle.reaction_bound.specs.declared.end_age.EndAge.{EndAge}
 use Rattle.reaction_bound.specs.Age.{ticked_at, source, ticks_since, greater, worst_of, told, told_age}

@@ -8,7 +8,8 @@ use Rattle.hex.specs.Hex.{decode_of, is_hex_digit}
 use Rattle.hex.specs.declared.error.FromHexError.{FromHexError}
 use Rattle.hex.proofs.HexLemmas.{decode_of-ok}
 use Rattle.schedule_file.specs.Field.{is_space, fields_of, some_bytes, bytes_said}
-use Rattle.schedule_file.specs.Fields.{one_hex_field, not_hex, value_or}
+use Rattle.schedule_file.specs.Fields.{one_hex_field, value_or}
+use Rattle.schedule_file.specs.FieldsRead.{not_hex}
 use Rattle.schedule_file.specs.declared.line_cause.LineCause.{LineCause}
 use Rattle.schedule_file.specs.declared.line_cause.LineCause.TheVariants as cause
 

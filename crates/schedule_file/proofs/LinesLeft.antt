@@ -7,7 +7,8 @@ use Rattle.std.proofs.lemmas.Result.{IfOk-at_ok, IfOk-weaker}
 use Rattle.param_load.specs.AppRule.{rule_len}
 use Rattle.param_load.specs.declared.app_rule.AppRule.{AppRule}
 use Rattle.param_load.specs.declared.app_rule.AppRule.TheVariants as app_rule
-use Rattle.schedule_file.specs.Fields.{◌>>=◌, map_ok, no_field, one_hex_field, Becomes}
+use Rattle.schedule_file.specs.Fields.{◌>>=◌, map_ok, no_field, one_hex_field}
+use Rattle.schedule_file.specs.FieldsRead.{Becomes}
 use Rattle.schedule_file.specs.Header.{Heading, profile_taken, rule_place, heading_with}
 use Rattle.schedule_file.specs.HeaderLine.{lengths_line, master_line, profile_line, slave_line, rule_line, range_line, header_line}
 use Rattle.schedule_file.specs.HeaderPart.{list_with, lows_of, highs_of, ranges_with, rule_begun, rule_with_bytes, rule_with_pairs, master_with_app, slave_with_bytes, slave_with_pairs}

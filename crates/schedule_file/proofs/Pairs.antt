@@ -16,14 +16,16 @@ use Rattle.param_load.specs.declared.profile.Profile.TheVariants as profile
 use Rattle.param_load.specs.declared.profile.Profiles.{Profiles}
 use Rattle.schedule_file.specs.Event.{Fits, OnStep, profile_of}
 use Rattle.schedule_file.specs.Field.{number_said}
-use Rattle.schedule_file.specs.Fields.{value_or, next_field, Becomes}
+use Rattle.schedule_file.specs.Fields.{value_or, next_field}
+use Rattle.schedule_file.specs.FieldsRead.{Becomes}
 use Rattle.schedule_file.specs.PairEvent.{event_said, pair_word_of}
-use Rattle.schedule_file.specs.PairsEvent.{PairsLineFits, numbered, numbered_line, of_pair, said_to, said_to_number, unlinked}
+use Rattle.schedule_file.specs.PairsEvent.{numbered, numbered_line, of_pair, said_to, said_to_number, unlinked}
+use Rattle.schedule_file.specs.PairsFit.{PairsLineFits, said_in}
 use Rattle.schedule_file.specs.Header.{Heading}
 use Rattle.schedule_file.specs.PairsHeader.{pairs_begun}
 use Rattle.schedule_file.specs.declared.pairs_header.PairsStage.{PairsStage}
 use Rattle.schedule_file.specs.declared.pairs_header.PairsStage.TheVariants as stage
-use Rattle.schedule_file.specs.PairsLine.{pairs_event_of, said_in}
+use Rattle.schedule_file.specs.PairsLine.{pairs_event_of}
 use Rattle.schedule_file.specs.declared.event.ScheduleLine.{ScheduleLine}
 use Rattle.schedule_file.specs.declared.event.ScheduleLine.TheVariants as line
 use Rattle.schedule_file.specs.declared.line_cause.LineCause.{LineCause}

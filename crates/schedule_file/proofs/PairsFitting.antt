@@ -8,10 +8,11 @@ use Rattle.param_load.specs.declared.profile.Profile.{Profile}
 use Rattle.schedule_file.specs.Field.{fields_of}
 use Rattle.schedule_file.specs.Fields.{no_field}
 use Rattle.schedule_file.specs.Input.{header_read, heading_profile, own_length}
-use Rattle.schedule_file.specs.PairsEvent.{PairsLineFits, common_line, is_digits, numbered_line, pairs_said_by}
+use Rattle.schedule_file.specs.PairsEvent.{common_line, is_digits, numbered_line, pairs_said_by}
+use Rattle.schedule_file.specs.PairsFit.{PairsLineFits, line_of_event}
 use Rattle.schedule_file.specs.PairsHeader.{PairsHeading, pairs_of}
 use Rattle.schedule_file.specs.PairsInput.{pairs_format, pairs_input, pairs_said_after}
-use Rattle.schedule_file.specs.PairsLine.{line_of_event, pairs_event_of}
+use Rattle.schedule_file.specs.PairsLine.{pairs_event_of}
 use Rattle.schedule_file.specs.declared.line_cause.LineCause.{LineCause}
 use Rattle.schedule_file.specs.declared.pairs_line.PairsEvent.{PairsEvent}
 use Rattle.schedule_file.specs.declared.pairs_line.PairsEvent.TheVariants as event

@@ -9,7 +9,8 @@ use Rattle.param_load.specs.declared.profile.Profile.{Profile}
 use Rattle.schedule_file.specs.EventText.{IsOfTypes, event_text}
 use Rattle.schedule_file.specs.Field.{fields_of, is_space, number_said}
 use Rattle.schedule_file.specs.PairEvent.{event_said, pair_line, pair_said, pair_said_by, pair_word_of}
-use Rattle.schedule_file.specs.PairsEvent.{FitsEnds, FitsPair, common_line, is_digits, numbered, numbered_line, pairs_line, pairs_said_by, with_pair}
+use Rattle.schedule_file.specs.PairsEvent.{common_line, is_digits, numbered, numbered_line, pairs_line, pairs_said_by}
+use Rattle.schedule_file.specs.PairsFit.{FitsEnds, FitsPair, with_pair}
 use Rattle.schedule_file.specs.declared.event.Event.{Event}
 use Rattle.schedule_file.specs.declared.event.ScheduleLine.TheVariants as line
 use Rattle.schedule_file.specs.declared.pair_event.PairWord.{PairWord}

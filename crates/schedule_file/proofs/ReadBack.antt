@@ -20,10 +20,10 @@ use Rattle.param_load.specs.declared.profile.Profile.{Profile}
 use Rattle.fsoe_base.specs.declared.lengths.TheConstants.{MOST_DATA, MOST_FRAME}
 use Rattle.schedule_file.specs.Event.{Fits}
 use Rattle.schedule_file.specs.EventLine.{switch_of, reference_of, delivered_len, deliver_line, altered_line, raw_line, put_line, hold_line, nonce_line}
-use Rattle.schedule_file.specs.EventText.{IsOfTypes, end_letter, event_text, reference_text, switch_text}
+use Rattle.schedule_file.specs.EventText.{IsOfTypes, event_text, reference_text, switch_text}
+use Rattle.schedule_file.specs.PairEvent.{end_letter, pair_line, pair_said, pair_said_by, pair_word_of}
 use Rattle.schedule_file.specs.Field.{is_space, fields_of, number_said, bytes_said, some_bytes}
 use Rattle.schedule_file.proofs.HexDigits.{some_bytes-within}
-use Rattle.schedule_file.specs.PairEvent.{pair_line, pair_said, pair_said_by, pair_word_of}
 use Rattle.schedule_file.specs.declared.pair_event.PairWord.{PairWord}
 use Rattle.schedule_file.specs.declared.pair_event.PairWord.TheVariants as word
 use Rattle.schedule_file.specs.declared.event.Event.{Event}

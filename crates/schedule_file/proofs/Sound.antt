@@ -23,7 +23,8 @@ use Rattle.schedule_file.specs.Field.{fields_of, some_bytes}
 use Rattle.schedule_file.specs.Fields.{◌>>=◌, map_ok, value_or, next_field, no_field, one_field, number_16, one_hex_field}
 use Rattle.schedule_file.specs.Header.{Heading, heading_new, heading_after, heading_is_whole, profile_given, profile_taken, heading_with, title_taken, fields_taken, IsMasterOf, IsSlaveOf}
 use Rattle.schedule_file.specs.HeaderKind.{title_of}
-use Rattle.schedule_file.specs.HeaderLine.{InRange, RuleInRange, profile_line, lengths_line, end_numbers, master_line, slave_line, any_line, listed_line, rule_line, range_line, header_line}
+use Rattle.schedule_file.specs.HeaderLine.{profile_line, lengths_line, end_numbers, master_line, slave_line, any_line, listed_line, rule_line, range_line, header_line}
+use Rattle.schedule_file.specs.Event.{InRange, RuleInRange}
 use Rattle.schedule_file.specs.HeaderPart.{lows_of, highs_of, list_with, rule_begun, rule_with_bytes, rule_with_pairs, master_with_app, slave_with_bytes, slave_with_pairs, profile_for}
 use Rattle.schedule_file.specs.Input.{InputCause, Stop, WholeHeader, header_step, header_in, lines_of, header_of, input_by, input_of, schedule_format}
 use Rattle.schedule_file.specs.Place.{is_start, admitted, header_word_of}

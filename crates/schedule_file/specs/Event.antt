@@ -1,19 +1,25 @@
--- Which events the ends of a pair may have, and which the node at one end.
+-- Which events the ends of a pair may have, and which the node at one end; and which numbers a header may give.
 use Rattle.std.specs.Prelude.{◌≡◌, ℕ, ◌<◌, ◌≤◌, length, IsTrue}
 use Rattle.fsoe_base.specs.declared.command.End.{End}
 use Rattle.fsoe_base.specs.declared.lengths.Lengths.{Lengths}
-use Rattle.fsoe_base.specs.Lengths.{most_data, most_frame}
+use Rattle.fsoe_base.specs.Lengths.{most_data, most_frame, is_length}
 use Rattle.fsoe_base.specs.LengthsOf.{length_of}
 use Rattle.fsoe_base.specs.declared.command.End.TheVariants as side
 use Rattle.param_load.specs.declared.profile.Profile.{Profile}
 use Rattle.param_load.specs.declared.profile.Profiles.{Profiles}
 use Rattle.param_load.specs.Profile.{allows_id}
+use Rattle.param_load.specs.declared.profile.Profile.TheVariants as profile
 use Rattle.schedule_file.specs.EventLine.{delivered_len}
-use Rattle.schedule_file.specs.Limits.{max_back}
+use Rattle.schedule_file.specs.Limits.{max_back, max_app}
 use Rattle.schedule_file.specs.declared.event.Event.{Event}
 use Rattle.schedule_file.specs.declared.event.Event.TheVariants as event
 use Rattle.schedule_file.specs.declared.event.ScheduleLine.{ScheduleLine}
 use Rattle.schedule_file.specs.declared.event.ScheduleLine.TheVariants as line
+use Rattle.schedule_file.specs.declared.header_line.HeaderLine.TheVariants as says
+use Rattle.schedule_file.specs.declared.header_line.RuleLine.{RuleLine}
+use Rattle.schedule_file.specs.declared.header_line.RuleLine.TheVariants as rule
+use Rattle.schedule_file.specs.declared.header_line.HeaderLine.{HeaderLine}
+use Rattle.schedule_file.specs.Made.{made_lengths}
 
 -- the profile of an end
 abbrev pub profile_of : Profiles → End → Profile
@@ -68,3 +74,27 @@ PairLineFits sends profiles said = OnStep (Fits sends profiles) said
 -- the event of a line, where it has one, fits the node
 abbrev pub LineFits : End → Lengths → Profile → ScheduleLine → Type 0
 LineFits end lengths profile said = OnStep (FitsNode end lengths profile) said
+
+-- a rule for any bytes is for at most 512
+abbrev pub RuleInRange : RuleLine → Type 0
+RuleInRange (rule.Any n) = n ≤ max_app
+RuleInRange other = Unit {0}
+
+-- the numbers of a line are in their ranges, and a list has at least one byte or pair
+abbrev pub InRange : HeaderLine → Type 0
+InRange (says.Lengths line) = IsTrue (is_length line.master) × IsTrue (is_length line.slave)
+InRange (says.Master line) = (0 < line.conn) × (0 < line.watchdog)
+InRange (says.App bytes) = 0 < length bytes
+InRange (says.Slave line) = (0 < line.hand) × (0 < line.most)
+InRange (says.Rule line) = RuleInRange line
+InRange (says.Bytes bytes) = 0 < length bytes
+InRange (says.Range pairs) = 2 ≤ length pairs
+InRange other = Unit {0}
+
+-- both ends have profile One
+abbrev pub made_profiles : Profiles
+made_profiles = record { master = profile.One; slave = profile.One }
+
+-- an event fits ends with these settings
+abbrev pub FitsMade : Event → Type 0
+FitsMade event = Fits (length_of made_lengths) (profile_of made_profiles) event

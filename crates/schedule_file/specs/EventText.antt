@@ -2,15 +2,9 @@
 use Rattle.std.specs.Prelude.{ℕ, ◌<◌, ◌++◌, List, [], ◌∷◌, Bool, true, false, codes, decimal}
 use Rattle.std.specs.List.{join_with_byte}
 use Rattle.hex.specs.Hex.{encode_lower, IsBytes}
-use Rattle.fsoe_base.specs.declared.command.End.{End}
-use Rattle.fsoe_base.specs.declared.command.End.TheVariants as side
 use Rattle.schedule_file.specs.declared.event.Event.{Event}
 use Rattle.schedule_file.specs.declared.event.Event.TheVariants as event
-
--- the letter that stands for an end in a word, and in a report of both ends
-abbrev pub end_letter : End → List ℕ
-end_letter side.Master = codes "m"
-end_letter side.Slave = codes "s"
+use Rattle.schedule_file.specs.PairEvent.{end_letter}
 
 -- off or on
 abbrev pub switch_text : Bool → List ℕ

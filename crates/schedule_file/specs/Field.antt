@@ -5,7 +5,6 @@ use Rattle.std.specs.Str.{all_ascii_digits}
 use Rattle.std.specs.Str.Parse.{digits_value}
 use Rattle.hex.specs.Hex.{decode_of}
 use Rattle.hex.specs.declared.error.FromHexError.{FromHexError}
-use denote.Ref.{Bor}
 
 -- the byte between two fields
 abbrev pub is_space : ℕ → Bool
@@ -14,11 +13,6 @@ is_space b = b == 32
 -- a line is cut at each single space, so a field may be empty
 abbrev pub fields_of : List ℕ → List (List ℕ)
 fields_of line = slice_split is_space line
-
--- the fields after a space, where there is one
-abbrev pub fields_after : Option (Bor (List ℕ)) → List (List ℕ)
-fields_after None = []
-fields_after (Some rest) = fields_of rest.now
 
 -- a number is digits with no leading zero, or just 0
 abbrev pub is_number : List ℕ → Bool

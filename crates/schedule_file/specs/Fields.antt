@@ -1,9 +1,8 @@
 -- The steps by which a line is read: each gives a value, or the cause for which the line is refused.
-use Rattle.std.specs.Prelude.{◌≡◌, List, [], ◌∷◌, ℕ, Option, Some, None, Result, Ok, Err, MatchResult}
-use Rattle.schedule_file.specs.Field.{fields_after, number_said, bytes_said}
+use Rattle.std.specs.Prelude.{List, [], ◌∷◌, ℕ, Option, Some, None, Result, Ok, Err}
+use Rattle.schedule_file.specs.Field.{number_said, bytes_said}
 use Rattle.schedule_file.specs.declared.line_cause.LineCause.{LineCause}
 use Rattle.schedule_file.specs.declared.line_cause.LineCause.TheVariants as cause
-use denote.Ref.{Bor}
 
 -- the next step, where this one gave a value
 infixl 10 ◌>>=◌
@@ -15,10 +14,6 @@ Err e >>= f = Err e
 abbrev pub map_ok : {A B : Type 0} → (A → B) → Result A LineCause → Result B LineCause
 map_ok f (Ok x) = Ok (f x)
 map_ok f (Err e) = Err e
-
--- a call answers as a definition says: what it changed is then the value that is said, or it gives the cause
-abbrev pub Becomes : {A B : Type 0} → Result B LineCause → A → Result A LineCause → Type 0
-Becomes result new said = MatchResult result (λ _. said ≡ Ok new) (λ cause. said ≡ Err cause)
 
 -- a value, or the cause for want of it
 abbrev pub value_or : {A : Type 0} → LineCause → Option A → Result A LineCause
@@ -41,14 +36,6 @@ one_field (field ∷ []) = Ok field
 one_field [] = Err cause.Fields
 one_field (field ∷ next ∷ more) = Err cause.Fields
 
--- a part of a line that is the field that is said
-abbrev pub IsField : Result (Bor (List ℕ)) LineCause → Result (List ℕ) LineCause → Type 0
-IsField result said = MatchResult result (λ field. said ≡ Ok field.now) (λ cause. said ≡ Err cause)
-
--- parts of a line that are the field and those after it that are said
-abbrev pub AreFields : Result (Bor (List ℕ) × Option (Bor (List ℕ))) LineCause → Result (List ℕ × List (List ℕ)) LineCause → Type 0
-AreFields result said = MatchResult result (λ it. said ≡ Ok (it.0.now, fields_after it.1)) (λ cause. said ≡ Err cause)
-
 -- a number of 16 bits
 abbrev pub number_16 : List ℕ → Result ℕ LineCause
 number_16 text = value_or cause.Number (number_said 65535 text)
@@ -62,9 +49,3 @@ abbrev pub one_hex_field : ℕ → List (List ℕ) → Result (List ℕ) LineCau
 one_hex_field most fields = do
   field ← one_field fields
   value_or cause.Hex (bytes_said most field)
-
--- why fields aren't one in hexadecimal: there isn't one, or it isn't
-abbrev pub not_hex : List (List ℕ) → LineCause
-not_hex (field ∷ []) = cause.Hex
-not_hex [] = cause.Fields
-not_hex (field ∷ next ∷ more) = cause.Fields

@@ -1,6 +1,6 @@
 -- What a line of a header says, from its second line on. The causes come in their order: the number of
 -- fields, a number, the hexadecimal bytes, a length, a range.
-use Rattle.std.specs.Prelude.{◌<◌, ◌≤◌, ℕ, ◌==◌, ◌&&◌, ◌||◌, nat_le, length, IsTrue, List, codes, Result, Ok, Err, if◌then◌else◌}
+use Rattle.std.specs.Prelude.{ℕ, ◌==◌, ◌&&◌, ◌||◌, nat_le, length, List, codes, Result, Ok, Err, if◌then◌else◌}
 use Rattle.std.specs.Str.{bytes_eq}
 use Rattle.fsoe_base.specs.Lengths.{is_length}
 use Rattle.schedule_file.specs.Fields.{◌>>=◌, map_ok, next_field, no_field, one_field, number_16, number_32, one_hex_field}
@@ -95,19 +95,3 @@ header_line word.Rule fields = map_ok says.Rule (rule_line fields)
 header_line word.Bytes fields = map_ok says.Bytes (one_hex_field max_hex fields)
 header_line word.Range fields = map_ok says.Range (range_line fields)
 header_line word.Go fields = map_ok (λ _. says.Go) (no_field fields)
-
--- a rule for any bytes is for at most 512
-abbrev pub RuleInRange : RuleLine → Type 0
-RuleInRange (rule.Any n) = n ≤ max_app
-RuleInRange other = Unit {0}
-
--- the numbers of a line are in their ranges, and a list has at least one byte or pair
-abbrev pub InRange : HeaderLine → Type 0
-InRange (says.Lengths line) = IsTrue (is_length line.master) × IsTrue (is_length line.slave)
-InRange (says.Master line) = (0 < line.conn) × (0 < line.watchdog)
-InRange (says.App bytes) = 0 < length bytes
-InRange (says.Slave line) = (0 < line.hand) × (0 < line.most)
-InRange (says.Rule line) = RuleInRange line
-InRange (says.Bytes bytes) = 0 < length bytes
-InRange (says.Range pairs) = 2 ≤ length pairs
-InRange other = Unit {0}

@@ -3,6 +3,7 @@ pub mod EventLine
 pub mod EventText
 pub mod Field
 pub mod Fields
+pub mod FieldsRead
 pub mod Header
 pub mod HeaderKind
 pub mod HeaderLine
@@ -18,6 +19,7 @@ pub mod NodeHeader
 pub mod PairEvent
 pub mod PairsEnds
 pub mod PairsEvent
+pub mod PairsFit
 pub mod PairsHeader
 pub mod PairsInput
 pub mod PairsLine

@@ -4,25 +4,18 @@ use Rattle.std.proofs.lemmas.Bool.{ltb-true}
 use Rattle.rand_core.specs.Pcg32Seed.{pcg32_seed}
 use Rattle.rand_pcg.specs.Lcg.{Lcg, advance}
 use Rattle.rand_pcg.specs.Pcg.{multiplier_64, pcg32, pcg32_of_seed}
-use Rattle.fsoe_base.specs.LengthsOf.{length_of}
 use Rattle.fsoe_base.specs.declared.command.End.TheVariants as side
 use Rattle.fsoe_base.specs.declared.lengths.Lengths.{Lengths}
 use Rattle.param_load.specs.declared.app_rule.AppRule.TheVariants as rule
 use Rattle.param_load.specs.declared.master_settings.MasterSettings.{MasterSettings}
 use Rattle.param_load.specs.declared.profile.Profile.TheVariants as profile
-use Rattle.param_load.specs.declared.profile.Profiles.{Profiles}
 use Rattle.param_load.specs.declared.slave_settings.SlaveSettings.{SlaveSettings}
-use Rattle.schedule_file.specs.Event.{Fits, profile_of}
 use Rattle.schedule_file.specs.declared.event.Event.{Event}
 use Rattle.schedule_file.specs.declared.event.Event.TheVariants as event
 
 -- both ends send two safe data bytes
 abbrev pub made_lengths : Lengths
 made_lengths = record { master = 2; slave = 2; valid_master = refl; valid_slave = refl }
-
--- both ends have profile One
-abbrev pub made_profiles : Profiles
-made_profiles = record { master = profile.One; slave = profile.One }
 
 -- the master has connection 1, slave address 2, watchdog 100, no application parameters and session id 1
 abbrev pub made_master : MasterSettings
@@ -55,10 +48,6 @@ made_slave = record {
   acceptable = refl;
   allowed = refl;
 }
-
--- an event fits ends with these settings
-abbrev pub FitsMade : Event → Type 0
-FitsMade event = Fits (length_of made_lengths) (profile_of made_profiles) event
 
 -- the generator of a number, before its first word
 abbrev pub generator_of : ℕ → Lcg

@@ -67,3 +67,8 @@ pair_said_by sends profiles (first ∷ fields) = pair_said sends profiles (pair_
 -- what a line says to both ends, which send so many safe data bytes and have these profiles
 abbrev pub pair_line : (End → ℕ) → (End → Profile) → List ℕ → Result ScheduleLine LineCause
 pair_line sends profiles text = pair_said_by sends profiles (fields_of text)
+
+-- the letter that stands for an end in a word, and in a report of both ends
+abbrev pub end_letter : End → List ℕ
+end_letter side.Master = codes "m"
+end_letter side.Slave = codes "s"

@@ -1,17 +1,15 @@
 -- What a line says that stands after the header of several pairs: `t`, a tick of all pairs; `end`; or the number of a
 -- pair, from 1, and an event of this pair. The causes come in their order over the whole line, so those of the event
 -- that come before that of its pair count.
-use Rattle.std.specs.Prelude.{ℕ, zero, suc, nat_lt, nat_le, ◌&&◌, ◌++◌, length, decimal, List, [], ◌∷◌, Bool, codes, Option, Some, None, Result, Ok, Err, slice_get, if◌then◌else◌}
+use Rattle.std.specs.Prelude.{ℕ, zero, suc, nat_lt, nat_le, ◌&&◌, length, List, [], ◌∷◌, Bool, codes, Option, Some, None, Result, Ok, Err, slice_get, if◌then◌else◌}
 use Rattle.std.specs.Str.{bytes_eq, all_ascii_digits}
 use Rattle.fsoe_base.specs.declared.command.End.{End}
 use Rattle.param_load.specs.declared.profile.Profile.{Profile}
 use Rattle.param_load.specs.declared.profile.Profile.TheVariants as profile
-use Rattle.schedule_file.specs.Event.{Fits}
 use Rattle.schedule_file.specs.Field.{fields_of, number_said}
 use Rattle.schedule_file.specs.Fields.{◌>>=◌, map_ok, value_or, next_field, no_field}
 use Rattle.schedule_file.specs.LineCause.{cause_order}
 use Rattle.schedule_file.specs.PairEvent.{pair_word_of, event_said}
-use Rattle.schedule_file.specs.declared.event.Event.{Event}
 use Rattle.schedule_file.specs.declared.event.ScheduleLine.{ScheduleLine}
 use Rattle.schedule_file.specs.declared.event.ScheduleLine.TheVariants as line
 use Rattle.schedule_file.specs.declared.line_cause.LineCause.{LineCause}
@@ -82,22 +80,3 @@ pairs_said_by sends profiles (first ∷ fields) = if is_digits first then number
 -- what a line says to pairs whose ends send so many safe data bytes and have these profiles
 abbrev pub pairs_line : List (End → ℕ) → List (End → Profile) → List ℕ → Result PairsLine LineCause
 pairs_line sends profiles text = pairs_said_by sends profiles (fields_of text)
-
--- an event fits the ends of a pair, where both are found what they send and their profiles
-abbrev pub FitsEnds : Option (End → ℕ) → Option (End → Profile) → Event → Type 0
-FitsEnds (Some sends) (Some profiles) event = Fits sends profiles event
-FitsEnds None profiles event = ⊥
-FitsEnds (Some sends) None event = ⊥
-
--- there is a pair of this number, and the event fits its ends
-abbrev pub FitsPair : List (End → ℕ) → List (End → Profile) → ℕ → Event → Type 0
-FitsPair sends profiles pair event = FitsEnds (numbered pair sends) (numbered pair profiles) event
-
--- the event of a line, where it is that of one pair, fits this
-abbrev pub PairsLineFits : List (End → ℕ) → List (End → Profile) → PairsLine → Type 0
-PairsLineFits sends profiles (said.One pair event) = FitsPair sends profiles pair event
-PairsLineFits sends profiles other = Unit {0}
-
--- a line with the number of a pair before it
-abbrev pub with_pair : ℕ → List ℕ → List ℕ
-with_pair pair text = decimal pair ++ 32 ∷ text

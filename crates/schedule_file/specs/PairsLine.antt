@@ -1,19 +1,9 @@
 -- What is kept of a line of several pairs from one line to the next.
-use Rattle.std.specs.Prelude.{Bool, true, false, Option, Some, None}
+use Rattle.std.specs.Prelude.{Option, Some, None}
 use Rattle.schedule_file.specs.declared.pairs_line.PairsEvent.{PairsEvent}
 use Rattle.schedule_file.specs.declared.pairs_line.PairsEvent.TheVariants as event
 use Rattle.schedule_file.specs.declared.pairs_line.PairsLine.{PairsLine}
 use Rattle.schedule_file.specs.declared.pairs_line.PairsLine.TheVariants as said
-
--- the line of an event
-abbrev pub line_of_event : PairsEvent → PairsLine
-line_of_event event.Tick = said.Tick
-line_of_event (event.One pair what) = said.One pair what
-
--- what is said where an event is kept: the event, or the end
-abbrev pub said_in : Bool → PairsEvent → PairsLine
-said_in true kept = said.End
-said_in false kept = line_of_event kept
 
 -- the event of a line; `end` has none
 abbrev pub pairs_event_of : PairsLine → Option PairsEvent

@@ -6,8 +6,8 @@ ghost use Rattle.fsoe_base.specs.declared.command.End.{End};
 ghost use Rattle.param_load.specs.declared.profile.Profile.{Profile};
 ghost use Rattle.schedule_file.specs.Event.{Fits};
 ghost use Rattle.schedule_file.specs.EventLine.{switch_of, reference_of, delivered_len, bare_line, deliver_line, altered_line, raw_line, put_line, hold_line, nonce_line};
-ghost use Rattle.schedule_file.specs.Field.{bytes_said, fields_after};
-ghost use Rattle.schedule_file.specs.Fields.{Becomes};
+ghost use Rattle.schedule_file.specs.Field.{bytes_said};
+ghost use Rattle.schedule_file.specs.FieldsRead.{fields_after, Becomes};
 
 use crate::event::{Event, MAX_BACK, ScheduleLine};
 use crate::field::{bytes_field, next_field, no_field, number, number_16, number_32, one_field};

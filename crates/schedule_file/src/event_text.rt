@@ -2,7 +2,8 @@
 ghost use Rattle.std.specs.Prelude.{◌≡◌, ◌+◌, ◌*◌, ◌≤◌, ◌∷◌, ◌++◌, length, decimal};
 ghost use Rattle.hex.specs.Hex.{encode_lower};
 ghost use Rattle.schedule_file.specs.Event.{IsWritable};
-ghost use Rattle.schedule_file.specs.EventText.{end_letter, switch_text, reference_text, event_text};
+ghost use Rattle.schedule_file.specs.EventText.{switch_text, reference_text, event_text};
+ghost use Rattle.schedule_file.specs.PairEvent.{end_letter};
 
 use crate::event::Event;
 use crate::line_buf::{LineBuf, MAX_LINE};

@@ -1,8 +1,9 @@
 //! The fields of a line, and what one field says.
 ghost use Rattle.std.specs.Prelude.{◌≡◌, ◌≤◌, ◌<◌, ◌∷◌, length, IfSome, IfOk, OnOk, OnErr};
 ghost use Rattle.memchr.specs.Find.{IsFirstByte, is_byte};
-ghost use Rattle.schedule_file.specs.Fields.{value_or, next_field, no_field, one_field, number_16, number_32, one_hex_field, not_hex, IsField, AreFields, Becomes};
-ghost use Rattle.schedule_file.specs.Field.{fields_of, fields_after, number_said, bytes_said};
+ghost use Rattle.schedule_file.specs.Fields.{value_or, next_field, no_field, one_field, number_16, number_32, one_hex_field};
+ghost use Rattle.schedule_file.specs.FieldsRead.{not_hex, IsField, AreFields, Becomes, fields_after};
+ghost use Rattle.schedule_file.specs.Field.{fields_of, number_said, bytes_said};
 ghost use Rattle.schedule_file.specs.declared.line_cause.LineCause.TheVariants as cause;
 
 use crate::hex_digits::read_hex;

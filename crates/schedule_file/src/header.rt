@@ -1,10 +1,10 @@
 //! The header of an input, line by line.
 ghost use Rattle.std.specs.Prelude.{◌≡◌, ◌<◌, IsTrue, IfOk, OnOk, OnErr};
 ghost use Rattle.schedule_file.specs.Field.{fields_of};
-ghost use Rattle.schedule_file.specs.Fields.{Becomes};
+ghost use Rattle.schedule_file.specs.FieldsRead.{Becomes};
 ghost use Rattle.schedule_file.specs.Header.{heading_new, heading_after, wants_profile, profile_given, heading_with, profile_taken, title_taken, heading_is_whole, rule_place, IsMasterOf, IsSlaveOf};
 ghost use Rattle.schedule_file.specs.HeaderKind.{has_end};
-ghost use Rattle.schedule_file.specs.HeaderLine.{InRange};
+ghost use Rattle.schedule_file.specs.Event.{InRange};
 ghost use Rattle.schedule_file.specs.LinesLeft.{lines_left};
 ghost use Rattle.schedule_file.specs.NodeHeader.{heading_begun, kind_after, node_heading_after, is_end_line, may_end};
 ghost use Rattle.schedule_file.specs.PairsHeader.{pair_begun};

@@ -1,6 +1,6 @@
 //! What one header line says, by its fields.
 ghost use Rattle.std.specs.Prelude.{◌≡◌};
-ghost use Rattle.schedule_file.specs.Field.{fields_after};
+ghost use Rattle.schedule_file.specs.FieldsRead.{fields_after};
 ghost use Rattle.schedule_file.specs.HeaderLine.{lengths_line, end_numbers, master_line, slave_line, profile_line, any_line, listed_line, rule_line, range_line, header_line};
 
 use crate::field::{

@@ -2,8 +2,8 @@
 ghost use Rattle.std.specs.Prelude.{◌≡◌, ◌<◌, IsTrue};
 ghost use Rattle.param_load.specs.AppRule.{is_acceptable};
 ghost use Rattle.param_load.specs.Profile.{allows_id};
-ghost use Rattle.schedule_file.specs.Fields.{Becomes};
-ghost use Rattle.schedule_file.specs.HeaderLine.{RuleInRange};
+ghost use Rattle.schedule_file.specs.FieldsRead.{Becomes};
+ghost use Rattle.schedule_file.specs.Event.{RuleInRange};
 ghost use Rattle.schedule_file.specs.HeaderPart.{is_two, profile_for, master_begun, slave_begun, list_with, ranges_with, rule_begun, master_with_app, slave_with_bytes, slave_with_pairs};
 
 use crate::header_line::{MasterLine, RuleLine, SlaveLine};

@@ -24,10 +24,10 @@ ghost use Rattle.schedule_file.specs.declared.header_kind.HeaderKind.TheVariants
 ghost use Rattle.schedule_file.specs.declared.line_cause.LineCause.TheVariants as cause;
 ghost use Rattle.fsoe_base.specs.declared.command.End.TheVariants as side;
 ghost use Rattle.schedule_file.specs.PairEvent.{pair_line};
-ghost use Rattle.schedule_file.specs.PairsEvent.{FitsPair, PairsLineFits, numbered, pairs_line, with_pair};
+ghost use Rattle.schedule_file.specs.PairsEvent.{numbered, pairs_line};
+ghost use Rattle.schedule_file.specs.PairsFit.{FitsPair, PairsLineFits, with_pair, line_of_event};
 ghost use Rattle.schedule_file.specs.PairsHeader.{pairs_of};
 ghost use Rattle.schedule_file.specs.PairsInput.{pairs_input};
-ghost use Rattle.schedule_file.specs.PairsLine.{line_of_event};
 ghost use Rattle.schedule_file.specs.WorkedPairs.{pairs_with, says_to_two};
 ghost use Rattle.schedule_file.specs.declared.pairs_line.PairsEvent.TheVariants as pairs_event;
 ghost use Rattle.schedule_file.specs.declared.pairs_line.PairsLine.TheVariants.{One};

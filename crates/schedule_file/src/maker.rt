@@ -1,6 +1,7 @@
 //! A schedule from a seed.
 ghost use Rattle.std.specs.Prelude.{◌≡◌, if◌then◌else◌};
-ghost use Rattle.schedule_file.specs.Made.{FitsMade, event_of_word, is_switch_on, load_of, mask_of, place_of};
+ghost use Rattle.schedule_file.specs.Made.{event_of_word, is_switch_on, load_of, mask_of, place_of};
+ghost use Rattle.schedule_file.specs.Event.{FitsMade};
 ghost use Rattle.fsoe_base.specs.declared.command.End.TheVariants as side;
 ghost use Rattle.schedule_file.specs.declared.event.Event.TheVariants as event;
 
@@ -42,7 +43,8 @@ impl Model for Maker {
 
 impl Turn {
     ghost use Rattle.std.specs.Prelude.{◌≡◌, ℕ, suc};
-    ghost use Rattle.schedule_file.specs.Made.{FitsMade, event_in_turn};
+    ghost use Rattle.schedule_file.specs.Made.{event_in_turn};
+    ghost use Rattle.schedule_file.specs.Event.{FitsMade};
     ghost use Rattle.schedule_file.specs.Maker.{turn_after};
 
     /// Writes the event of this turn to `out`.
@@ -70,7 +72,8 @@ impl Turn {
 
 impl Maker {
     ghost use Rattle.std.specs.Prelude.{◌≡◌, ℕ, suc};
-    ghost use Rattle.schedule_file.specs.Made.{FitsMade, event_in_turn, made_master, made_slave};
+    ghost use Rattle.schedule_file.specs.Made.{event_in_turn, made_master, made_slave};
+    ghost use Rattle.schedule_file.specs.Event.{FitsMade};
     ghost use Rattle.schedule_file.specs.Maker.{IsMaker, Makes, turn_after};
 
     /// Creates the maker of a seed's events, of which none is made yet.

@@ -4,9 +4,9 @@ ghost use Rattle.std.specs.Char.{is_ascii_digit};
 ghost use Rattle.std.specs.List.{list_all};
 ghost use Rattle.fsoe_base.specs.LengthsOf.{length_of};
 ghost use Rattle.schedule_file.specs.Event.{profile_of};
-ghost use Rattle.schedule_file.specs.Field.{fields_after};
-ghost use Rattle.schedule_file.specs.Fields.{Becomes};
-ghost use Rattle.schedule_file.specs.PairsEvent.{PairsLineFits, common_line, first_cause, is_digits, numbered, numbered_line, pairs_line, refused_for, unlinked};
+ghost use Rattle.schedule_file.specs.FieldsRead.{fields_after, Becomes};
+ghost use Rattle.schedule_file.specs.PairsEvent.{common_line, first_cause, is_digits, numbered, numbered_line, pairs_line, refused_for, unlinked};
+ghost use Rattle.schedule_file.specs.PairsFit.{PairsLineFits};
 
 use crate::event::Event;
 use crate::field::{cut, next_field, no_field, number};

@@ -2,8 +2,8 @@
 ghost use Rattle.std.specs.Prelude.{◌≡◌, ◌⊎◌, ◌+◌, ◌<◌, ◌≤◌, IfOk, IfSome, IsTrue, OnErr, OnOk, Some, length, map};
 ghost use Rattle.fsoe_base.specs.LengthsOf.{length_of};
 ghost use Rattle.schedule_file.specs.Event.{profile_of};
-ghost use Rattle.schedule_file.specs.Field.{fields_after, fields_of};
-ghost use Rattle.schedule_file.specs.Fields.{Becomes};
+ghost use Rattle.schedule_file.specs.Field.{fields_of};
+ghost use Rattle.schedule_file.specs.FieldsRead.{fields_after, Becomes};
 ghost use Rattle.schedule_file.specs.Header.{IsMasterOf, IsSlaveOf};
 ghost use Rattle.schedule_file.specs.Input.{heading_profile, own_length};
 ghost use Rattle.schedule_file.specs.NodeHeader.{may_end};

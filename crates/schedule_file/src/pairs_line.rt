@@ -2,11 +2,11 @@
 ghost use Rattle.std.specs.Prelude.{◌≡◌, MatchOption, None, OnErr, Some};
 ghost use Rattle.fsoe_base.specs.LengthsOf.{length_of};
 ghost use Rattle.schedule_file.specs.Event.{profile_of};
-ghost use Rattle.schedule_file.specs.Field.{fields_after};
-ghost use Rattle.schedule_file.specs.Fields.{Becomes};
+ghost use Rattle.schedule_file.specs.FieldsRead.{fields_after, Becomes};
 ghost use Rattle.schedule_file.specs.PairEvent.{event_said};
 ghost use Rattle.schedule_file.specs.PairsEvent.{of_pair};
-ghost use Rattle.schedule_file.specs.PairsLine.{line_of_event, pairs_event_of};
+ghost use Rattle.schedule_file.specs.PairsLine.{pairs_event_of};
+ghost use Rattle.schedule_file.specs.PairsFit.{line_of_event};
 
 use crate::event::Event;
 use crate::line_cause::LineCause;
@@ -44,7 +44,7 @@ pub struct PairsSaid {
 }
 
 impl Model for PairsSaid {
-    ghost use Rattle.schedule_file.specs.PairsLine.{said_in};
+    ghost use Rattle.schedule_file.specs.PairsFit.{said_in};
     ghost use Rattle.schedule_file.specs.declared.pairs_line.PairsLine.{PairsLine};
 
     ghost Value = { PairsLine };

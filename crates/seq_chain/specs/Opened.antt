@@ -1,10 +1,11 @@
--- The first tests of a delivered frame, in order, which need no session. The order is this profile's own.
-use Rattle.std.specs.Prelude.{◌≡◌, ℕ, ◌==◌, Bool, List, length, Option, Some, None, Result, Ok, Err, if◌then◌else◌}
+-- The tests of a delivered frame, in order: first those that need no session. The order is this profile's own.
+use Rattle.std.specs.Prelude.{◌≡◌, ℕ, ◌==◌, Bool, List, length, Option, Some, None, Result, Ok, Err, if◌then◌else◌, not, nat_eq, false}
+use Rattle.std.specs.Cmp.Lexicographic.{pointwise}
 use Rattle.fsoe_base.specs.declared.command.Code.{Code}
 use Rattle.fsoe_base.specs.declared.command.Command.{Command}
 use Rattle.fsoe_base.specs.declared.command.Command.TheVariants as command
 use Rattle.fsoe_base.specs.declared.did.Dropped.TheVariants as dropped
-use Rattle.fsoe_base.specs.Codes.{unknown_command}
+use Rattle.fsoe_base.specs.Codes.{unknown_command, command_not_allowed, wrong_crc, wrong_connection}
 use Rattle.fsoe_base.specs.Command.{command_of}
 use Rattle.fsoe_base.specs.Lengths.{frame_len}
 use Rattle.fsoe_frame.specs.Parts.{Frame, frame_of}
@@ -34,3 +35,17 @@ opened l repeats bytes =
 abbrev pub HasLen : ℕ → Opened → Type 0
 HasLen l (opened_as.OfSession f) = length f.frame.load ≡ l
 HasLen l _ = Unit {0}
+
+-- whether these are the bytes of the frame that is kept as taken last
+abbrev pub is_repeat : Option (List ℕ) → List ℕ → Bool
+is_repeat None bytes = false
+is_repeat (Some last) bytes = pointwise nat_eq last bytes
+
+-- the code of the first of these tests of a session that a frame fails: whether its command is allowed, its connection
+-- id is right, and its CRCs fit
+abbrev pub session_fault : Bool → Bool → Bool → Option Code
+session_fault is_allowed has_conn_id does_fit =
+    if not is_allowed then Some command_not_allowed
+    else if not has_conn_id then Some wrong_connection
+    else if not does_fit then Some wrong_crc
+    else None

@@ -1,9 +1,6 @@
--- What an end keeps of a session, and the tests of a frame at it.
-use Rattle.std.specs.Prelude.{◌≡◌, nat_eq, ℕ, Bool, false, not, List, [], length, Option, Some, None, if◌then◌else◌}
-use Rattle.std.specs.Cmp.Lexicographic.{pointwise}
-use Rattle.fsoe_base.specs.declared.command.Code.{Code}
+-- What an end keeps of a session.
+use Rattle.std.specs.Prelude.{◌≡◌, ℕ, List, [], length, Option, Some, None}
 use Rattle.fsoe_base.specs.declared.command.Command.{Command}
-use Rattle.fsoe_base.specs.Codes.{command_not_allowed, wrong_connection, wrong_crc}
 use Rattle.fsoe_frame.specs.Parts.{bytes_of}
 use Rattle.seq_chain.specs.declared.chain.Chain.{Chain}
 use Rattle.seq_chain.specs.declared.link.Link.{Link}
@@ -32,20 +29,6 @@ chain_in (Some s) = s.chain
 abbrev pub last_in : Option Session → Option (List ℕ)
 last_in None = None
 last_in (Some s) = Some s.last
-
--- whether these are the bytes of the frame that is kept as taken last
-abbrev pub is_repeat : Option (List ℕ) → List ℕ → Bool
-is_repeat None bytes = false
-is_repeat (Some last) bytes = pointwise nat_eq last bytes
-
--- the code of the first of these tests of a session that a frame fails: whether its command is allowed, its connection
--- id is right, and its CRCs fit
-abbrev pub session_fault : Bool → Bool → Bool → Option Code
-session_fault is_allowed has_conn_id does_fit =
-    if not is_allowed then Some command_not_allowed
-    else if not has_conn_id then Some wrong_connection
-    else if not does_fit then Some wrong_crc
-    else None
 
 -- a frame came to an end with this chain whose peer sends l safe data bytes: it has as many, and it passed the test of
 -- its CRCs, which gave this link

@@ -19,12 +19,14 @@ use Rattle.param_load.specs.declared.slave_settings.SlaveSettings.{SlaveSettings
 use Rattle.param_load.specs.declared.terms.Terms.{Terms}
 use Rattle.param_load.specs.AppRule.{rule_len}
 use Rattle.param_load.specs.Profile.{id_len}
-use Rattle.param_load.specs.Upload.{is_whole, upload_fault}
+use Rattle.param_load.specs.Upload.{is_whole}
+use Rattle.param_load.specs.UploadView.{upload_fault}
 use Rattle.end_model.specs.Setup.{OfSlave}
 use Rattle.end_model.specs.Deed.{Deed}
 use Rattle.end_model.specs.Payloads.{nonce, slave_conn, terms, whole}
 use Rattle.end_model.specs.Readiness.{state_of}
-use Rattle.end_model.specs.Step.{on_verdict, did_on, deed_of, IsProper, IsRun}
+use Rattle.end_model.specs.Step.{on_verdict, did_on, deed_of}
+use Rattle.end_model.specs.Runs.{IsProper, IsRun}
 use Rattle.end_model.specs.Verdict as model
 use Rattle.end_model.proofs.Shown.{slave-run}
 use Rattle.end_model.proofs.SoundRuns.{loaded}

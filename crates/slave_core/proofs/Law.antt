@@ -9,10 +9,11 @@ use Rattle.param_load.specs.declared.entry.Move.{Move}
 use Rattle.param_load.specs.declared.slave_settings.SlaveSettings.{SlaveSettings}
 use Rattle.param_load.specs.declared.terms.Terms.{Terms}
 use Rattle.end_model.specs.Setup.{OfSlave}
-use Rattle.end_model.specs.Deed.{Deed, IsSetting, events_of}
+use Rattle.end_model.specs.Deed.{Deed}
+use Rattle.end_model.specs.Runs.{IsSetting, events_of, IsProper, IsRun}
 use Rattle.end_model.specs.Payloads.{terms}
 use Rattle.end_model.specs.Readiness.{state_of, age, told_in, told_terms, offer, held}
-use Rattle.end_model.specs.Step.{did_on, run, IsProper, IsRun}
+use Rattle.end_model.specs.Step.{did_on, run}
 use Rattle.end_model.specs.Outputs.{zeros, outputs, out}
 use Rattle.end_model.proofs.Runs.{same_deed, set_deed, run_of_events}
 use Rattle.end_model.proofs.Shown.{looking_back, fail_safe}

@@ -20,7 +20,8 @@ use Rattle.end_model.specs.Deed.{Deed}
 use Rattle.end_model.specs.Chain.{since, seal}
 use Rattle.end_model.specs.Payloads.{slave_conn, conn_id, whole}
 use Rattle.end_model.specs.Readiness.{state_of, slave_limit}
-use Rattle.end_model.specs.Step.{takes_frame, on_verdict, begun, deed_of, IsRun}
+use Rattle.end_model.specs.Step.{takes_frame, on_verdict, begun, deed_of}
+use Rattle.end_model.specs.Runs.{IsRun}
 use Rattle.end_model.specs.Verdict.{judged_contents}
 use Rattle.end_model.proofs.ReadBack.{read_back}
 use Rattle.end_model.proofs.Shown.{slave-run}

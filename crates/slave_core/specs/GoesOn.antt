@@ -12,7 +12,8 @@ use Rattle.end_model.specs.Setup.{OfSlave}
 use Rattle.end_model.specs.Deed.{Deed}
 use Rattle.end_model.specs.Readiness.{state_of}
 use Rattle.end_model.specs.Verdict.{is_repeat}
-use Rattle.end_model.specs.Step.{on_fault, step, IsRun}
+use Rattle.end_model.specs.Step.{on_fault, step}
+use Rattle.end_model.specs.Runs.{IsRun}
 use Rattle.slave_core.specs.declared.now.Now.{Now}
 use Rattle.slave_core.specs.declared.now.Now.TheVariants as now
 use Rattle.slave_core.specs.declared.states.InReset.{InReset}

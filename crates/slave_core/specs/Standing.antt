@@ -5,7 +5,8 @@ use Rattle.param_load.specs.declared.entry.Move.{Move}
 use Rattle.param_load.specs.declared.slave_settings.SlaveSettings.{SlaveSettings}
 use Rattle.end_model.specs.Setup.{Setup, OfSlave}
 use Rattle.end_model.specs.Deed.{Deed}
-use Rattle.end_model.specs.Step.{step, IsRun}
+use Rattle.end_model.specs.Step.{step}
+use Rattle.end_model.specs.Runs.{IsRun}
 use Rattle.slave_core.specs.SlaveView.{SlaveView}
 use Rattle.slave_core.specs.ViewOf.{view_of}
 

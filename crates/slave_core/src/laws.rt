@@ -3,7 +3,8 @@
 ghost use Rattle.std.specs.Prelude.{◌≡◌, List, []};
 ghost use Rattle.param_load.specs.declared.slave_settings.SlaveSettings.{SlaveSettings};
 ghost use Rattle.end_model.specs.Setup.{OfSlave};
-ghost use Rattle.end_model.specs.Deed.{Deed, events_of};
+ghost use Rattle.end_model.specs.Deed.{Deed};
+ghost use Rattle.end_model.specs.Runs.{events_of};
 ghost use Rattle.end_model.specs.Step.{run};
 ghost use Rattle.slave_core.specs.SlaveView.{SlaveView};
 ghost use Rattle.slave_core.specs.Standing.{SlaveIsAfter, Called};

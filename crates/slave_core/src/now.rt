@@ -21,7 +21,8 @@ impl Now {
     ghost use Rattle.std.specs.Prelude.{◌≡◌, ◌<◌, IsTrue, Some, IfOk, OnOk, option_copied};
     ghost use Rattle.std.specs.Result.{result_err};
     ghost use Rattle.seq_chain.specs.Chain.{tested};
-    ghost use Rattle.seq_chain.specs.Session.{HasPassed, is_repeat};
+    ghost use Rattle.seq_chain.specs.Session.{HasPassed};
+    ghost use Rattle.seq_chain.specs.Opened.{is_repeat};
     ghost use Rattle.end_model.specs.Setup.{OfSlave, receives};
     ghost use Rattle.fsoe_base.specs.declared.command.State.TheVariants as state;
     ghost use Rattle.slave_core.specs.Now.{IsUnder, BeginsNext, state_of, is_reset, session_of, chain_of, kept_in, allows, has_conn, limit_of, terms_shown_in, fault};

@@ -17,7 +17,7 @@ use Rattle.param_load.specs.declared.entry.Move.TheVariants as move
 use Rattle.param_load.specs.declared.master_settings.MasterSettings.{MasterSettings}
 use Rattle.schedule_file.specs.declared.event.Event.{Event}
 use Rattle.schedule_file.specs.declared.event.Event.TheVariants as event
-use Rattle.black_channel.specs.Window.{back_th}
+use Rattle.black_channel.specs.Altered.{back_th}
 use Rattle.end_model.specs.Chain.{kept, since}
 use Rattle.end_model.specs.Deed.{is_empty, Deed}
 use Rattle.end_model.specs.Readiness.{state_of}

@@ -23,13 +23,12 @@ use Rattle.schedule_file.specs.Input.{before_more, header_in, header_read, heade
 use Rattle.schedule_file.specs.declared.header_line.LengthsLine.{LengthsLine}
 use Rattle.schedule_file.specs.declared.line_cause.LineCause.{LineCause}
 use Rattle.schedule_file.specs.declared.line_cause.LineCause.TheVariants as cause
-use Rattle.file_run.specs.Machine.{IsSaid, MayCome, TakesEvent}
+use Rattle.file_run.specs.Machine.{IsSaid, MayCome, TakesEvent, EndsReport}
 use Rattle.file_run.specs.Ran.{EndsWhole}
 use Rattle.file_run.specs.Report.{refused_line}
-use Rattle.file_run.specs.Reporting.{refused_at, EndsReport, ReportsSoFar}
-use Rattle.trace_diag.specs.Judged.{first_difference, AreOfBytes, NotesFrame, TraceStands, TraceView}
+use Rattle.file_run.specs.Reporting.{refused_at, ReportsSoFar}
+use Rattle.trace_diag.specs.Judged.{first_difference, AreOfBytes, NotesFrame, TraceStands, TraceView, judge_reporting, DiagnosisStands}
 use Rattle.trace_diag.specs.Lines.{fields_taken, frame_line, frame_said, heading_new, lengths_taken, line_taken, trace_format, trace_heading_after, trace_is_whole, trace_line, trace_said, trace_said_by, word_taken, TraceHeading}
-use Rattle.trace_diag.specs.Ran.{judge_reporting, DiagnosisStands}
 use Rattle.trace_diag.specs.Report.{ended_by, frames_line, verdict_lines, AreLengths, DiagnoseReports}
 use Rattle.trace_diag.specs.Settings.{settings_told}
 use Rattle.trace_diag.specs.Trace.{Noted}

@@ -21,7 +21,8 @@ use Rattle.end_model.specs.Phases.{command_in}
 use Rattle.end_model.specs.Setup.{OfMaster}
 use Rattle.end_model.specs.Step.{deed_of, on_expiry, step}
 use Rattle.exchange_model.specs.Ends.{peer}
-use Rattle.exchange_model.specs.World.{going_on, world, world_after, IsProperEvent}
+use Rattle.exchange_model.specs.World.{going_on, world, world_after}
+use Rattle.exchange_model.specs.Schedules.{IsProperEvent}
 use Rattle.exchange_model.proofs.Honest.OnItsWay.{fresh}
 use Rattle.exchange_model.proofs.Honest.QuietEvents.{AtIdle, first_tick}
 use Rattle.exchange_model.proofs.Honest.SlaveTurn.{Accepts}

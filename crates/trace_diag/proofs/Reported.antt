@@ -9,7 +9,8 @@ use Rattle.file_run.specs.Outside.{Outside, Wrote}
 use Rattle.file_run.specs.Ran.{EndsAs, RanOver, ReportsReadLines}
 use Rattle.file_run.specs.Reporting.{refused_at, BeginsReport, CutsReport}
 use Rattle.trace_diag.specs.Lines.{trace_format}
-use Rattle.trace_diag.specs.Ran.{diagnose_reporting, judge_reporting, DiagnosesInput}
+use Rattle.trace_diag.specs.Ran.{diagnose_reporting, DiagnosesInput}
+use Rattle.trace_diag.specs.Judged.{judge_reporting}
 use Rattle.trace_diag.proofs.Inputs.{input_bytes}
 
 reported : (bytes : List ℕ) (ended : Ended) (text : List ℕ) → judge_reporting.reports (input_read trace_format bytes) ended text → DiagnosesInput (input_read trace_format bytes) ended text

@@ -16,13 +16,14 @@ use Rattle.end_model.specs.Payloads.{nonce_after}
 use Rattle.end_model.specs.Readiness.{held, offer}
 use Rattle.exchange_model.specs.Serving.{HasNoReset, TakesDelivery}
 use Rattle.exchange_model.specs.Ends.{same_end, peer}
-use Rattle.exchange_model.specs.World.{deed_in, deeds, end_of_event, frames_of, going_on, setup_of, world_after, IsProperEvent, IsWorld}
+use Rattle.exchange_model.specs.World.{deed_in, deeds, end_of_event, frames_of, going_on, setup_of, world_after}
+use Rattle.exchange_model.specs.Schedules.{IsProperEvent, IsWorld}
 use Rattle.exchange_model.proofs.Honest.QuietEvents.{IsQuiet, quiet_entry, quiet_enters, both_kept, quiet_put, quiet_hold}
 use Rattle.exchange_model.proofs.Honest.SlaveTurn.{Accepts}
 use Rattle.exchange_model.proofs.Honest.StageSteps.{AtStage, Enters, Goes, asked_delivered, replied_delivered, down_delivered, up_delivered}
 use Rattle.exchange_model.proofs.Honest.Stages.{Both, both, Stage, Asked, Replied, Down, Up}
 use Rattle.exchange_model.proofs.Honest.Turns.{Partner, partner}
-use Rattle.black_channel.specs.Window.{back_th}
+use Rattle.black_channel.specs.Altered.{back_th}
 use Rattle.end_model.specs.Setup.{Setup, end_of}
 use Rattle.trace_diag.proofs.Nonces.{LeaveNonces, nonces_left}
 use Rattle.trace_diag.proofs.Answering.{IsDelivery, delivered_as, its_end, is_answered}

@@ -14,8 +14,7 @@ use Rattle.seq_chain.specs.Chain.{sealed_by, turned}
 use Rattle.param_load.specs.declared.master_settings.MasterSettings.{MasterSettings}
 use Rattle.param_load.specs.declared.profile.Profile.{Profile}
 use Rattle.param_load.specs.declared.profile.Profile.TheVariants as profile
-use Rattle.param_load.specs.Download.{is_padded}
-use Rattle.param_load.specs.Payload.{session_payload, connection_payload, parameter_payload, padded}
+use Rattle.param_load.specs.Payload.{is_padded, session_payload, connection_payload, parameter_payload, padded}
 use Rattle.end_model.specs.Payloads.{piece}
 use Rattle.end_model.specs.Phases.{phase_of, is_reset}
 use Rattle.end_model.specs.Verdict.{is_slave_conn}

@@ -1,5 +1,5 @@
 -- The first frame of a trace to which a row of the table applies, and what a judge of the trace stands for.
-use Rattle.std.specs.Prelude.{◌≡◌, ℕ, ◌+◌, List, [], ◌∷◌, length, All, Option, Some, None}
+use Rattle.std.specs.Prelude.{◌≡◌, ℕ, ◌+◌, List, [], ◌∷◌, length, All, Option, Some, None, reverse}
 use Rattle.fsoe_base.specs.declared.lengths.Lengths.{Lengths}
 use Rattle.fsoe_frame.specs.Parts.{AreBytes}
 use Rattle.trace_diag.specs.Before.{Before, before}
@@ -7,6 +7,11 @@ use Rattle.trace_diag.specs.Table.{field_of}
 use Rattle.trace_diag.specs.Trace.{Noted}
 use Rattle.trace_diag.specs.declared.difference.Difference.{Difference}
 use Rattle.trace_diag.specs.declared.field.Field.{Field}
+use Rattle.trace_diag.specs.declared.trace_line.TraceLine.{TraceLine}
+use Rattle.trace_diag.specs.Lines.{TraceHeading}
+use Rattle.trace_diag.specs.Report.{AreLengths}
+use Rattle.trace_diag.specs.Ran.{reporting_by, DiagnosesInput}
+use Rattle.file_run.specs.Reporting.{Reporting}
 
 -- the difference before, if there was one, else that of the frame with this number
 abbrev pub first_of_both : Option Difference → Option Field → ℕ → Option Difference
@@ -47,3 +52,16 @@ pub record TraceStands (lengths : Lengths) (t : List Noted) (v : TraceView) : Ty
 -- one more frame is noted: a judge that stood for frames stands for these with it
 pub record NotesFrame (old : TraceView) (x : Noted) (new : TraceView) : Type 0 where
   pub stands : (lengths : Lengths) (t : List Noted) → TraceStands lengths t old → TraceStands lengths (x ∷ t) new
+
+-- the same where the frames are bytes, which those of each input are: so much a judge promises of any frames that may
+-- come
+abbrev pub judge_reporting : Reporting TraceHeading TraceLine Noted
+judge_reporting = reporting_by (λ input ended text. AreOfBytes input.events → DiagnosesInput input ended text)
+
+-- a judge was set to the lengths of a header, and stands for these frames, which came in order; nothing is written
+-- before the end
+pub record DiagnosisStands (v : TraceView) (h : TraceHeading) (log : List Noted) (text : List ℕ) : Type 0 where
+  pub lengths : Lengths
+  pub lengths_are : AreLengths h lengths
+  pub stands : TraceStands lengths (reverse log) v
+  pub unwritten : text ≡ []

@@ -1,14 +1,12 @@
 -- How a run over a recorded trace ends, and what it reports.
-use Rattle.std.specs.Prelude.{◌≡◌, ℕ, [], true, List, reverse}
-use Rattle.fsoe_base.specs.declared.lengths.Lengths.{Lengths}
+use Rattle.std.specs.Prelude.{ℕ, [], true, List}
 use Rattle.fsoe_io.specs.declared.status.Ended.{Ended}
 use Rattle.schedule_file.specs.Input.{InputOf}
 use Rattle.file_run.specs.Outside.{Outside}
 use Rattle.file_run.specs.Ran.{RanOver}
 use Rattle.file_run.specs.Reporting.{Never, Reporting}
-use Rattle.trace_diag.specs.Judged.{AreOfBytes, TraceStands, TraceView}
 use Rattle.trace_diag.specs.Lines.{trace_format, TraceHeading}
-use Rattle.trace_diag.specs.Report.{AreLengths, DiagnoseReports}
+use Rattle.trace_diag.specs.Report.{DiagnoseReports}
 use Rattle.trace_diag.specs.Trace.{Noted}
 use Rattle.trace_diag.specs.declared.trace_line.TraceLine.{TraceLine}
 
@@ -23,19 +21,6 @@ reporting_by reports = record { format = trace_format; judges = true; memory = N
 abbrev pub diagnose_reporting : Reporting TraceHeading TraceLine Noted
 diagnose_reporting = reporting_by DiagnosesInput
 
--- the same where the frames are bytes, which those of each input are: so much a judge promises of any frames that may
--- come
-abbrev pub judge_reporting : Reporting TraceHeading TraceLine Noted
-judge_reporting = reporting_by (λ input ended text. AreOfBytes input.events → DiagnosesInput input ended text)
-
 -- a trace was judged that an input holds
 abbrev pub RanDiagnose : Ended → Outside → Type 0
 RanDiagnose ended o = RanOver diagnose_reporting ended o
-
--- a judge was set to the lengths of a header, and stands for these frames, which came in order; nothing is written
--- before the end
-pub record DiagnosisStands (v : TraceView) (h : TraceHeading) (log : List Noted) (text : List ℕ) : Type 0 where
-  pub lengths : Lengths
-  pub lengths_are : AreLengths h lengths
-  pub stands : TraceStands lengths (reverse log) v
-  pub unwritten : text ≡ []

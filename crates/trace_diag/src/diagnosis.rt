@@ -18,9 +18,9 @@ pub(crate) struct Diagnosis {
 }
 
 impl Machine for Diagnosis {
-    ghost use Rattle.file_run.specs.Reporting.{EndsReport};
+    ghost use Rattle.file_run.specs.Machine.{EndsReport};
     ghost use Rattle.std.specs.Prelude.{[]};
-    ghost use Rattle.trace_diag.specs.Ran.{judge_reporting, DiagnosisStands};
+    ghost use Rattle.trace_diag.specs.Judged.{judge_reporting, DiagnosisStands};
 
     type Format = TraceFormat;
 

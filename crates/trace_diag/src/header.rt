@@ -1,7 +1,6 @@
 //! The header of a recorded trace, line by line.
 ghost use Rattle.std.specs.Prelude.{◌≡◌, ◌≢◌, ◌<◌, IfOk, MatchResult, OnOk, Ok, Err};
-ghost use Rattle.schedule_file.specs.Field.{fields_after};
-ghost use Rattle.schedule_file.specs.Fields.{Becomes};
+ghost use Rattle.schedule_file.specs.FieldsRead.{fields_after, Becomes};
 ghost use Rattle.schedule_file.specs.HeaderLine.{lengths_line};
 ghost use Rattle.trace_diag.specs.Lines.{heading_new, line_taken, title_taken, trace_heading_after, trace_is_whole, trace_lines_left, word_taken};
 ghost use Rattle.trace_diag.specs.Report.{AreLengths};

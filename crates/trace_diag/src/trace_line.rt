@@ -1,8 +1,8 @@
 //! Lines of a recorded trace after its header.
 ghost use Rattle.std.specs.Prelude.{◌≡◌, ◌≤◌, [], ◌∷◌, length};
 ghost use Rattle.std.specs.Str.{bytes_eq};
-ghost use Rattle.schedule_file.specs.Field.{fields_after, fields_of};
-ghost use Rattle.schedule_file.specs.Fields.{Becomes, not_hex};
+ghost use Rattle.schedule_file.specs.Field.{fields_of};
+ghost use Rattle.schedule_file.specs.FieldsRead.{fields_after, Becomes, not_hex};
 ghost use Rattle.trace_diag.specs.Lines.{frame_line, trace_line};
 
 use crate::noted::Noted;

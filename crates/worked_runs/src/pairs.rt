@@ -1,6 +1,6 @@
 //! Pairs with their entries: over a schedule, and those of a plant, played anew by its journal.
 ghost use Rattle.std.specs.Prelude.{◌≡◌, ◌≤◌, length, IfOk};
-ghost use Rattle.plant_conf.specs.ConfView.{HasSameLengths};
+ghost use Rattle.plant_conf.specs.Kept.{HasSameLengths};
 ghost use Rattle.duo_run.specs.Duo.{steps_done};
 
 use crate::of_duo_run::step;

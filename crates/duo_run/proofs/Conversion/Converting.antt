@@ -26,7 +26,8 @@ use Rattle.schedule_file.proofs.Pairs.{same_ends}
 use Rattle.schedule_file.specs.declared.header_kind.HeaderKind.TheVariants as kind
 use Rattle.file_run.specs.Ending.{AppendedPart, Writes}
 use Rattle.file_run.specs.Halt.{Blames, Goes, Stalls}
-use Rattle.file_run.specs.NextLine.{FindsLine, first_line}
+use Rattle.file_run.specs.NextLine.{FindsLine}
+use Rattle.file_run.specs.ByTitle.{first_line}
 use Rattle.file_run.specs.Outside.{CountsFaults, Outside, Wrote}
 use Rattle.file_run.specs.Refusal.{input_cause}
 use Rattle.file_run.specs.Report.{refused_line}

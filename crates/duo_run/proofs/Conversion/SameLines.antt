@@ -9,7 +9,8 @@ use Rattle.schedule_file.specs.Fields.{◌>>=◌}
 use Rattle.schedule_file.specs.Header.{Heading, fields_taken, heading_after, heading_is_whole, title_taken}
 use Rattle.schedule_file.specs.Input.{heading_profile, own_length, said_after}
 use Rattle.schedule_file.specs.NodeHeader.{may_end}
-use Rattle.schedule_file.specs.PairsEvent.{pairs_line, with_pair}
+use Rattle.schedule_file.specs.PairsEvent.{pairs_line}
+use Rattle.schedule_file.specs.PairsFit.{with_pair}
 use Rattle.schedule_file.specs.PairsHeader.{PairsHeading, last_taken, pair_taken, pairs_begun, pairs_fields_taken, pairs_heading_after, pairs_of, stage_after}
 use Rattle.schedule_file.specs.PairsInput.{pairs_said_after}
 use Rattle.schedule_file.specs.Place.{is_start}

@@ -10,7 +10,8 @@ use Rattle.param_load.specs.declared.entry.Entry.{Entry}
 use Rattle.exchange_model.specs.Ends.{same_end}
 use Rattle.exchange_model.specs.Fair.{data_taken, takes_data}
 use Rattle.exchange_model.specs.Serving.{state_told}
-use Rattle.duo_run.specs.Summary.{has_reset, has_drop, counts_of, summary_of, CountsEntry}
+use Rattle.duo_run.specs.Summary.{has_reset, has_drop, counts_of, summary_of}
+use Rattle.duo_run.specs.Duo.{CountsEntry}
 use Rattle.duo_run.specs.declared.summary.Counts.{Counts}
 use Rattle.duo_run.specs.declared.summary.Summary.{Summary}
 

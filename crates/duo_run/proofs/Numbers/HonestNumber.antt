@@ -12,7 +12,8 @@ use Rattle.schedule_file.specs.declared.event.Event.TheVariants as event
 use Rattle.schedule_file.specs.Made.{event_in_turn, made, made_master, made_slave}
 use Rattle.schedule_file.proofs.Making.{event_at-zero}
 use Rattle.exchange_model.specs.Ends.{peer}
-use Rattle.exchange_model.specs.World.{entry_at, IsProperEvent}
+use Rattle.exchange_model.specs.World.{entry_at}
+use Rattle.exchange_model.specs.Schedules.{IsProperEvent}
 use Rattle.exchange_model.specs.Honest.{Match, is_plain, in_turn, if_on, keeps_time, IsHonest}
 use Rattle.exchange_model.specs.Serving.{Serves, HasNoReset, TakesDelivery}
 use Rattle.exchange_model.proofs.Honest.ServingRuns.{honest_serves}

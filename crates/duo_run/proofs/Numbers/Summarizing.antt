@@ -12,16 +12,16 @@ use Rattle.param_load.specs.declared.master_settings.MasterSettings.{MasterSetti
 use Rattle.param_load.specs.declared.profile.Profiles.{Profiles}
 use Rattle.param_load.specs.declared.slave_settings.SlaveSettings.{SlaveSettings}
 use Rattle.fsoe_base.specs.declared.lengths.Lengths.{Lengths}
-use Rattle.schedule_file.specs.Event.{Fits, profile_of}
+use Rattle.schedule_file.specs.Event.{Fits, profile_of, FitsMade, made_profiles}
 use Rattle.exchange_model.specs.Fair.{takes_data}
-use Rattle.schedule_file.specs.Made.{FitsMade, event_at, made_lengths, made_profiles, made_master, made_slave}
+use Rattle.schedule_file.specs.Made.{event_at, made_lengths, made_master, made_slave}
 use Rattle.schedule_file.specs.Maker.{MakerView, IsMaker, Makes}
 use Rattle.schedule_file.specs.declared.event.Event.{Event}
 use Rattle.exchange_model.specs.Monitor.{MonitorView}
 use Rattle.exchange_model.specs.World.{end_of_event, entry_at}
 use Rattle.duo_run.specs.Bulk.{entries_of}
-use Rattle.duo_run.specs.Duo.{DuoView, DuoStands, NextEntry, Advances, Misses, ShowsLast, lengths_of, profiles_of, steps_done}
-use Rattle.duo_run.specs.Summary.{has_reset, has_drop, counts_of, summary_of, CountsEntry, HasRoom}
+use Rattle.duo_run.specs.Duo.{DuoView, DuoStands, NextEntry, Advances, Misses, ShowsLast, lengths_of, profiles_of, steps_done, CountsEntry, HasRoom}
+use Rattle.duo_run.specs.Summary.{has_reset, has_drop, counts_of, summary_of}
 use Rattle.duo_run.specs.declared.summary.Summary.{Summary}
 use Rattle.duo_run.proofs.Numbers.WholeRuns.{Goes, entry_goes, entries_more, is_whole}
 

@@ -7,7 +7,7 @@ use Rattle.file_run.specs.Ending.{Writes}
 use Rattle.file_run.specs.Outside.{Told}
 use Rattle.exchange_model.specs.Fair.{Fair}
 use Rattle.exchange_model.specs.Other.{before_other, first_other}
-use Rattle.exchange_model.specs.World.{IsWorld}
+use Rattle.exchange_model.specs.Schedules.{IsWorld}
 use Rattle.exchange_model.proofs.Fairness.Headline.{fair_world}
 use Rattle.exchange_model.proofs.Worlds.Others.{before_is_clean, before_is_world}
 use Rattle.duo_run.specs.Bulk.{entries_of, number_line, summary_lines, report_of}

@@ -6,8 +6,7 @@ use Rattle.fsoe_crc.specs.Remainder.{computing}
 use Rattle.param_load.specs.declared.entry.Entry.{Entry}
 use Rattle.param_load.specs.declared.entry.Move.{Move}
 use Rattle.param_load.specs.declared.entry.Move.TheVariants as move
-use Rattle.black_channel.specs.Altered.{altered}
-use Rattle.black_channel.specs.Window.{back_th}
+use Rattle.black_channel.specs.Altered.{altered, back_th}
 use Rattle.schedule_file.specs.declared.event.Event.{Event}
 use Rattle.schedule_file.specs.declared.event.Event.TheVariants as event
 use Rattle.schedule_file.specs.Made.{event_at, event_by, word_after, place_of, mask_of, load_of, is_switch_on, made, made_master, made_slave}

@@ -16,7 +16,8 @@ use Rattle.schedule_file.specs.declared.event.Event.{Event}
 use Rattle.schedule_file.specs.declared.event.Event.TheVariants as event
 use Rattle.schedule_file.specs.declared.header_kind.HeaderKind.TheVariants as kind
 use Rattle.schedule_file.proofs.Fitting.{events_fit}
-use Rattle.exchange_model.specs.World.{SameLengths, IsProperEvent}
+use Rattle.exchange_model.specs.World.{SameLengths}
+use Rattle.exchange_model.specs.Schedules.{IsProperEvent}
 use Rattle.exchange_model.proofs.Fairness.Headline.{fair_before}
 use Rattle.exchange_model.proofs.Honest.ServingRuns.{honest_serves}
 use Rattle.duo_run.specs.Replay.{AreSetTo, RunsFairly, ServesIfHonest}

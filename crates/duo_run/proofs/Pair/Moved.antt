@@ -5,13 +5,14 @@ use Rattle.fsoe_base.specs.LengthsOf.{length_of}
 use Rattle.fsoe_base.specs.declared.command.End.{End}
 use Rattle.fsoe_base.specs.declared.command.End.TheVariants as end_name
 use Rattle.param_load.specs.Profile.{allows_id}
-use Rattle.black_channel.specs.Window.{back_th, WindowView, window_of}
+use Rattle.black_channel.specs.Window.{WindowView, window_of}
+use Rattle.black_channel.specs.Altered.{back_th}
 use Rattle.black_channel.proofs.Pushed.{back_within}
 use Rattle.schedule_file.specs.Event.{IsWritable, Fits, profile_of}
 use Rattle.schedule_file.specs.declared.event.Event.{Event}
 use Rattle.schedule_file.specs.declared.event.Event.TheVariants as event
 use Rattle.end_model.specs.Setup.{OfMaster, OfSlave}
-use Rattle.end_model.specs.Step.{IsProper}
+use Rattle.end_model.specs.Runs.{IsProper}
 use Rattle.exchange_model.specs.World.{delivery, altered_delivery, move_from, end_of_event}
 use Rattle.duo_run.specs.Duo.{DuoView, lengths_of, profiles_of, IsDuo}
 use Rattle.duo_run.specs.Acts.{move_at}

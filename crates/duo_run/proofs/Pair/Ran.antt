@@ -12,7 +12,8 @@ use Rattle.exchange_model.specs.Fair.{Fair}
 use Rattle.exchange_model.specs.Honest.{Match, IsHonest}
 use Rattle.exchange_model.specs.Other.{before_other}
 use Rattle.exchange_model.specs.Serving.{Serves}
-use Rattle.exchange_model.specs.World.{setup_of, moves, going_on, world_after, world, SameLengths, IsProperEvent}
+use Rattle.exchange_model.specs.World.{setup_of, going_on, world_after, world, SameLengths}
+use Rattle.exchange_model.specs.Schedules.{moves, IsProperEvent}
 use Rattle.exchange_model.proofs.Fairness.Headline.{fair_world}
 use Rattle.exchange_model.proofs.Honest.ServingRuns.{honest_serves, honest_fair}
 use Rattle.exchange_model.proofs.Worlds.Others.{before_is_clean, before_is_world}

@@ -20,17 +20,17 @@ use Rattle.schedule_file.specs.Input.{NoFrame, Stop, AtEnd, Refused, Input, own_
 use Rattle.schedule_file.proofs.Fitting.{pair_event_fits}
 use Rattle.schedule_file.specs.declared.event.Event.{Event}
 use Rattle.schedule_file.specs.declared.header_kind.HeaderKind.TheVariants as kind
-use Rattle.file_run.specs.Machine.{TakesEvent, MayCome}
+use Rattle.file_run.specs.Machine.{TakesEvent, MayCome, EndsReport, EndsUnmet}
 use Rattle.file_run.specs.Ran.{EndsWhole}
 use Rattle.file_run.proofs.EndedWith.{ended_whole}
 use Rattle.file_run.specs.Report.{ended_with, events_line, other_line, refused_line}
-use Rattle.file_run.specs.Reporting.{EndsReport, EndsUnmet, ReportsSoFar, input_stopped}
+use Rattle.file_run.specs.Reporting.{ReportsSoFar, input_stopped}
 use Rattle.exchange_model.specs.Other.{first_other}
 use Rattle.exchange_model.specs.World.{end_of_event, entry_at, world}
 use Rattle.exchange_model.proofs.Worlds.Longer.{world_next, world_missed}
 use Rattle.exchange_model.proofs.Worlds.Others.{number_of_first}
-use Rattle.duo_run.specs.Duo.{DuoView, lengths_of, profiles_of, DuoStands, NextEntry, Advances, Misses, ShowsLast}
-use Rattle.duo_run.specs.Replay.{line_of, entry_line, entry_lines, last_lines, ended_at, run_stop, ReplayReports, ReplayStands, replay_reporting}
+use Rattle.duo_run.specs.Duo.{DuoView, lengths_of, profiles_of, DuoStands, NextEntry, Advances, Misses, ShowsLast, ReplayStands}
+use Rattle.duo_run.specs.Replay.{line_of, entry_line, entry_lines, last_lines, ended_at, run_stop, ReplayReports, replay_reporting}
 use Rattle.duo_run.proofs.Pair.EntryLines.{lines_begin}
 
 -- the lengths and the profiles of a pair are those of its header

@@ -9,12 +9,13 @@ use Rattle.param_load.specs.declared.slave_settings.SlaveSettings.{SlaveSettings
 use Rattle.param_load.specs.declared.terms.Terms.{Terms}
 use Rattle.end_model.specs.Setup.{Setup, OfMaster, OfSlave}
 use Rattle.end_model.specs.Deed.{Deed}
-use Rattle.end_model.specs.Step.{IsRun}
+use Rattle.end_model.specs.Runs.{IsRun}
 use Rattle.end_model.specs.Readiness.{state_of, told_terms}
 use Rattle.end_model.specs.Outputs.{outputs, out}
 use Rattle.end_model.proofs.Shown.{looking_back}
 use Rattle.exchange_model.specs.Ends.{same_end}
-use Rattle.exchange_model.specs.World.{setup_of, deed_in, deeds, IsNextEntry}
+use Rattle.exchange_model.specs.World.{setup_of, deed_in, deeds}
+use Rattle.exchange_model.specs.Schedules.{IsNextEntry}
 use Rattle.master_core.specs.Standing as master_core
 use Rattle.master_core.specs.Standing.{MasterIsAfter}
 use Rattle.slave_core.specs.Standing as slave_core

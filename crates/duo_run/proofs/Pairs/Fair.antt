@@ -10,10 +10,10 @@ use Rattle.std.proofs.lemmas.Option.{IfSome_then}
 use Rattle.fsoe_base.specs.declared.command.End.TheVariants as end_name
 use Rattle.schedule_file.specs.Header.{Heading}
 use Rattle.schedule_file.specs.Input.{heading_profile, own_length}
-use Rattle.schedule_file.specs.PairsEvent.{PairsLineFits, numbered}
+use Rattle.schedule_file.specs.PairsEvent.{numbered}
+use Rattle.schedule_file.specs.PairsFit.{PairsLineFits, line_of_event}
 use Rattle.schedule_file.specs.PairsHeader.{PairsHeading, pairs_of}
 use Rattle.schedule_file.specs.PairsInput.{pairs_input}
-use Rattle.schedule_file.specs.PairsLine.{line_of_event}
 use Rattle.schedule_file.specs.declared.event.Event.{Event}
 use Rattle.schedule_file.specs.declared.event.Event.TheVariants as event
 use Rattle.schedule_file.specs.declared.pairs_line.PairsEvent.{PairsEvent}
@@ -21,7 +21,7 @@ use Rattle.schedule_file.specs.declared.pairs_line.PairsEvent.TheVariants as com
 use Rattle.schedule_file.proofs.PairsFitting.{pairs_events_fit}
 use Rattle.exchange_model.specs.Fair.{Fair}
 use Rattle.exchange_model.specs.Other.{before_other}
-use Rattle.exchange_model.specs.World.{IsProperEvent}
+use Rattle.exchange_model.specs.Schedules.{IsProperEvent}
 use Rattle.exchange_model.proofs.Fairness.Headline.{fair_before}
 use Rattle.duo_run.specs.Pairs.{Pair, done_after, events_by, events_done, events_to, is_met, world_of}
 use Rattle.duo_run.specs.PairsReport.{IsPairOf, PairsRunFairly}

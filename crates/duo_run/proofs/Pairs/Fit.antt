@@ -10,7 +10,8 @@ use Rattle.param_load.specs.declared.profile.Profile.{Profile}
 use Rattle.schedule_file.specs.Event.{Fits, profile_of}
 use Rattle.schedule_file.specs.Header.{Heading}
 use Rattle.schedule_file.specs.Input.{heading_profile, own_length}
-use Rattle.schedule_file.specs.PairsEvent.{FitsEnds, FitsPair, numbered}
+use Rattle.schedule_file.specs.PairsEvent.{numbered}
+use Rattle.schedule_file.specs.PairsFit.{FitsEnds, FitsPair}
 use Rattle.schedule_file.specs.PairsHeader.{PairsHeading, pairs_of}
 use Rattle.schedule_file.specs.PairsInput.{pairs_format}
 use Rattle.schedule_file.specs.declared.event.Event.{Event}

@@ -10,7 +10,8 @@ use Rattle.schedule_file.specs.PairsHeader.{PairsHeading}
 use Rattle.schedule_file.specs.PairsInput.{pairs_input}
 use Rattle.schedule_file.specs.declared.pairs_line.PairsEvent.{PairsEvent}
 use Rattle.file_run.specs.Report.{refused_line}
-use Rattle.file_run.specs.Reporting.{EndsUnmet, IsPrefix, ReportsSoFar, input_stopped, refused_at}
+use Rattle.file_run.specs.Reporting.{IsPrefix, ReportsSoFar, input_stopped, refused_at}
+use Rattle.file_run.specs.Machine.{EndsUnmet}
 use Rattle.duo_run.specs.Duo.{DuoView}
 use Rattle.duo_run.specs.Pairs.{Pair, done_after, events_done, is_met}
 use Rattle.duo_run.specs.PairsReport.{PairsInput, PairsReports, event_lines, lines_of_events, pairs_ended, pairs_last_lines, pairs_reporting, pairs_stop}

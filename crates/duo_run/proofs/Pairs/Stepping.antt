@@ -15,7 +15,7 @@ use Rattle.schedule_file.specs.declared.event.Event.{Event}
 use Rattle.schedule_file.specs.declared.event.Event.TheVariants as event
 use Rattle.schedule_file.specs.declared.pairs_line.PairsEvent.{PairsEvent}
 use Rattle.schedule_file.specs.declared.pairs_line.PairsEvent.TheVariants as common
-use Rattle.file_run.specs.Reporting.{EndsUnmet}
+use Rattle.file_run.specs.Machine.{EndsUnmet}
 use Rattle.duo_run.specs.Duo.{DuoView, Misses, steps_done}
 use Rattle.duo_run.specs.Pairs.{Pair, entries_over, entry_after, events_by, events_to, is_met, is_met_by}
 use Rattle.duo_run.specs.PairsReport.{IsPairOf, event_lines, line_if, one_line, lines_of_events, pair_line, pairs_reporting, tick_lines, with_tick}

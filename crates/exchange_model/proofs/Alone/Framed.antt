@@ -14,7 +14,8 @@ use Rattle.end_model.specs.Deed.{Deed}
 use Rattle.end_model.specs.Chain.{since}
 use Rattle.end_model.specs.Payloads.{piece, pieces, conn_id, session_id, pay}
 use Rattle.end_model.specs.Readiness.{offer, held}
-use Rattle.end_model.specs.Step.{sealed, with_piece, with_data, download_frame, slave_answer, IsRun}
+use Rattle.end_model.specs.Step.{sealed, with_piece, with_data, download_frame, slave_answer}
+use Rattle.end_model.specs.Runs.{IsRun}
 use Rattle.end_model.specs.Reactions.{received, Taking}
 use Rattle.end_model.proofs.ReadBack.{read_back}
 use Rattle.end_model.proofs.SealedFrames.{padded_len, offer_len}

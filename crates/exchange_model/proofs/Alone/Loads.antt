@@ -14,11 +14,13 @@ use Rattle.param_load.specs.declared.slave_settings.SlaveSettings.{SlaveSettings
 use Rattle.end_model.specs.Setup.{Setup, OfMaster, OfSlave, sends}
 use Rattle.end_model.specs.Deed.{Deed, is_empty}
 use Rattle.end_model.specs.Readiness.{offer, offer_after, held, held_after}
-use Rattle.end_model.specs.Step.{takes_frame, begun, IsRun}
+use Rattle.end_model.specs.Step.{takes_frame, begun}
+use Rattle.end_model.specs.Runs.{IsRun}
 use Rattle.end_model.specs.Reactions.{OfSession, OfConnection, OfParameter, AfterSession, AfterConnection, Taking, MasterStarts, MasterGoesOn, MasterNextPhase, MasterFirstData, MasterMoreData, Reaction, Answers}
 use Rattle.end_model.proofs.Taken.{answer_is}
 use Rattle.exchange_model.specs.Ends.{same_end, of_end}
-use Rattle.exchange_model.specs.World.{setup_of, deed_in, deeds, IsWorld}
+use Rattle.exchange_model.specs.World.{setup_of, deed_in, deeds}
+use Rattle.exchange_model.specs.Schedules.{IsWorld}
 use Rattle.exchange_model.specs.Items.{put_after, last_put, is_held, offered_put, offered_of, Item, item_of, items_of, items}
 use Rattle.fsoe_base.specs.Data.{is_data}
 use Rattle.end_model.specs.Phases.{command_in, is_data_if, is_data_frame}

@@ -20,7 +20,8 @@ use Rattle.end_model.specs.Deed.{Deed, is_empty}
 use Rattle.end_model.specs.Chain.{since, own}
 use Rattle.end_model.specs.Payloads.{piece, count_in}
 use Rattle.end_model.specs.Readiness.{phase_sent}
-use Rattle.end_model.specs.Step.{takes_frame, IsRun}
+use Rattle.end_model.specs.Step.{takes_frame}
+use Rattle.end_model.specs.Runs.{IsRun}
 use Rattle.end_model.specs.Reactions.{OfSession, OfConnection, OfParameter, AfterSession, AfterConnection, with_answer, Taking, MasterStarts, MasterGoesOn, MasterNextPhase, MasterFirstData, MasterMoreData, Reaction, Expires, SendsAgain, ResetsItself, Refuses, PeerResets, Answers}
 use Rattle.end_model.proofs.Heads.{IsInSession}
 use Rattle.end_model.proofs.SealedFrames.{padded_len}

@@ -28,7 +28,8 @@ use Rattle.end_model.specs.Deed.{Deed, of_session}
 use Rattle.end_model.specs.Chain.{since}
 use Rattle.end_model.specs.Payloads.{joined, joined_with, uploaded}
 use Rattle.end_model.specs.Readiness.{state_of, phase_taken}
-use Rattle.end_model.specs.Step.{takes_frame, IsRun}
+use Rattle.end_model.specs.Step.{takes_frame}
+use Rattle.end_model.specs.Runs.{IsRun}
 use Rattle.end_model.specs.Reactions.{with_answer, Taking, Reaction, Expires, SendsAgain, ResetsItself, Refuses, PeerResets, Answers}
 use Rattle.end_model.proofs.SoundRuns.{reacted}
 use Rattle.end_model.proofs.Taken.{exchange_of, answer_is}

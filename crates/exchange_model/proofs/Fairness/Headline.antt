@@ -17,7 +17,7 @@ use Rattle.param_load.specs.declared.entry.Move.TheVariants as move
 use Rattle.param_load.specs.declared.entry.Entry.{Entry}
 use Rattle.param_load.specs.declared.terms.Terms.{Terms}
 use Rattle.param_load.specs.declared.master_settings.MasterSettings.{MasterSettings}
-use Rattle.param_load.specs.MasterSettings.{terms_of}
+use Rattle.param_load.specs.Download.{terms_of}
 use Rattle.param_load.specs.declared.slave_settings.SlaveSettings.{SlaveSettings}
 use Rattle.schedule_file.specs.declared.event.Event.{Event}
 use Rattle.end_model.specs.Setup.{Setup, OfSlave, sends, receives}
@@ -29,7 +29,8 @@ use Rattle.end_model.specs.Reactions.{Taking, Reaction, Answers}
 use Rattle.end_model.proofs.Reactions.{phase_of_data}
 use Rattle.end_model.proofs.Taken.{exchange_of, data_after}
 use Rattle.exchange_model.specs.Ends.{same_end, peer}
-use Rattle.exchange_model.specs.World.{setup_of, deed_in, deeds, world, SameLengths, IsProperEvent, IsNextEntry, IsWorld}
+use Rattle.exchange_model.specs.World.{setup_of, deed_in, deeds, world, SameLengths}
+use Rattle.exchange_model.specs.Schedules.{IsProperEvent, IsNextEntry, IsWorld}
 use Rattle.exchange_model.specs.Items.{Item, items_of, items, item_of, awaited}
 use Rattle.exchange_model.specs.Other.{NoOther, before_other}
 use Rattle.fsoe_base.specs.Data.{is_data}

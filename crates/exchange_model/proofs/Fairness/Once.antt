@@ -18,7 +18,8 @@ use Rattle.end_model.specs.Deed.{Deed, is_empty}
 use Rattle.end_model.specs.Reactions.{Reaction, Answers}
 use Rattle.end_model.proofs.SoundRuns.{answer_sent}
 use Rattle.exchange_model.specs.Ends.{same_end, peer}
-use Rattle.exchange_model.specs.World.{setup_of, deeds, IsWorld}
+use Rattle.exchange_model.specs.World.{setup_of, deeds}
+use Rattle.exchange_model.specs.Schedules.{IsWorld}
 use Rattle.exchange_model.specs.Items.{Item, item_of, items_of, newest, answers_to, newest_answer, answer_among, awaited, items}
 use Rattle.exchange_model.specs.Fair.{data_taken, with_number, numbers_taken}
 use Rattle.exchange_model.proofs.Worlds.Projection.{entry_reacted}

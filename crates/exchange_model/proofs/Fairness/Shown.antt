@@ -19,14 +19,15 @@ use Rattle.end_model.specs.Deed.{Deed, ticked}
 use Rattle.end_model.specs.Payloads.{terms}
 use Rattle.end_model.specs.Readiness.{state_of, told_in}
 use Rattle.end_model.specs.Outputs.{is_process, zeros, held_up, out_after, out}
-use Rattle.end_model.specs.Step.{IsRun}
+use Rattle.end_model.specs.Runs.{IsRun}
 use Rattle.end_model.specs.Entries.{entry_of, entries}
 use Rattle.end_model.specs.Reactions.{Reaction, Answers}
 use Rattle.end_model.proofs.SoundRuns.{reacted}
 use Rattle.end_model.proofs.Taken.{data_after}
 use Rattle.end_model.proofs.Shown.{looking_back}
 use Rattle.exchange_model.specs.Ends.{of_end}
-use Rattle.exchange_model.specs.World.{setup_of, deed_in, deeds, SameLengths, IsWorld}
+use Rattle.exchange_model.specs.World.{setup_of, deed_in, deeds, SameLengths}
+use Rattle.exchange_model.specs.Schedules.{IsWorld}
 use Rattle.exchange_model.specs.Fair.{received_len, outputs_by, outputs_at, outputs_after, outputs_due, OutputsAreDue}
 use Rattle.exchange_model.proofs.Worlds.Projection.{next_told, next_run, told}
 

@@ -11,8 +11,7 @@ use Rattle.fsoe_base.specs.declared.command.Command.TheVariants as command
 use Rattle.fsoe_base.specs.Command.{command_of, code}
 use Rattle.fsoe_frame.specs.Parts.{Frame}
 use Rattle.param_load.specs.declared.master_settings.MasterSettings.{MasterSettings}
-use Rattle.param_load.specs.Download.{is_padded, is_echo}
-use Rattle.param_load.specs.Payload.{session_payload, connection_payload, parameter_payload, padded}
+use Rattle.param_load.specs.Payload.{is_padded, is_echo, session_payload, connection_payload, parameter_payload, padded}
 use Rattle.end_model.specs.Setup.{OfMaster}
 use Rattle.end_model.specs.Phases.{phase_of, is_reset}
 use Rattle.end_model.specs.Deed.{Deed}

@@ -21,7 +21,8 @@ use Rattle.end_model.specs.Readiness.{phase_sent, state_of, reaches_limit}
 use Rattle.end_model.specs.Step.{on_expiry, deed_of, step}
 use Rattle.end_model.specs.Entries.{entry_of}
 use Rattle.exchange_model.specs.Ends.{same_end}
-use Rattle.exchange_model.specs.World.{setup_of, deeds, end_of_event, entry_at, IsProperEvent, IsNextEntry}
+use Rattle.exchange_model.specs.World.{setup_of, deeds, end_of_event, entry_at}
+use Rattle.exchange_model.specs.Schedules.{IsProperEvent, IsNextEntry}
 use Rattle.exchange_model.specs.Items.{items_of, items}
 use Rattle.exchange_model.specs.Honest.{exchanges, had_tick, is_counted, may_tick}
 use Rattle.exchange_model.specs.Serving.{is_delivery, deliveries_to}

@@ -18,7 +18,8 @@ use Rattle.schedule_file.specs.declared.event.Event.TheVariants as event
 use Rattle.end_model.specs.Phases.{same_phase, phase_of}
 use Rattle.end_model.specs.Readiness.{phase_sent, state_of}
 use Rattle.exchange_model.specs.Ends.{same_end, peer}
-use Rattle.exchange_model.specs.World.{setup_of, deed_in, deeds, entry_at, going_on, world_after, world, IsProperEvent, IsNextEntry, IsWorld}
+use Rattle.exchange_model.specs.World.{setup_of, deed_in, deeds, entry_at, going_on, world_after, world}
+use Rattle.exchange_model.specs.Schedules.{IsProperEvent, IsNextEntry, IsWorld}
 use Rattle.exchange_model.specs.Other.{first_of_both, NoOther}
 use Rattle.exchange_model.specs.Honest.{exchanges, is_plain, in_turn, ticks_first, is_tick, had_tick, may_happen, if_on, keeps_time, Match, IsHonest}
 use Rattle.exchange_model.specs.Serving.{is_delivery, deliveries_to, state_told, InDataAfter, InDataThroughout, HasNoReset, TakesDelivery, TakesDataThroughout, Serves}

@@ -15,7 +15,7 @@ use Rattle.param_load.specs.declared.profile.Profile.{Profile}
 use Rattle.param_load.specs.declared.master_settings.MasterSettings.{MasterSettings}
 use Rattle.param_load.specs.AppRule.{rule_len, allows}
 use Rattle.param_load.specs.Contents.{contents_fault}
-use Rattle.param_load.specs.Payload.{session_payload, connection_payload, parameter_payload, padded, number_at}
+use Rattle.param_load.specs.Payload.{session_payload, connection_payload, parameter_payload, padded, number_at, is_padded}
 use Rattle.param_load.specs.Profile.{id_len}
 use Rattle.end_model.specs.Setup.{OfMaster}
 use Rattle.end_model.specs.Deed.{Deed}
@@ -34,7 +34,6 @@ use Rattle.exchange_model.proofs.Honest.UploadTests.{session_passes, connection_
 use Rattle.end_model.specs.Reactions.{IsValid, received}
 use Rattle.std.specs.Option.{option_or}
 use Rattle.std.proofs.lemmas.List.{length-replicate, length-take, length-drop}
-use Rattle.param_load.specs.Download.{is_padded}
 use Rattle.end_model.specs.Phases.{phase_of, is_reset}
 use Rattle.end_model.specs.Step.{sealed, with_data, answer, id_piece}
 

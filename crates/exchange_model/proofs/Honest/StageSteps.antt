@@ -22,11 +22,13 @@ use Rattle.end_model.specs.Deed.{Deed}
 use Rattle.end_model.specs.Chain.{since, own, seal}
 use Rattle.end_model.specs.Payloads.{piece, count_in, first_conn, nonce, session_id}
 use Rattle.end_model.specs.Readiness.{phase_sent}
-use Rattle.end_model.specs.Step.{step, answer, IsProper, IsNext, IsRun}
+use Rattle.end_model.specs.Step.{step, answer}
+use Rattle.end_model.specs.Runs.{IsProper, IsNext, IsRun}
 use Rattle.end_model.specs.Entries.{entry_of}
 use Rattle.end_model.specs.Reactions.{received, IsValid}
-use Rattle.black_channel.specs.Window.{back_th}
-use Rattle.exchange_model.specs.World.{setup_of, deeds, delivery, entry_on, entry_at, IsNextEntry, IsWorld}
+use Rattle.black_channel.specs.Altered.{back_th}
+use Rattle.exchange_model.specs.World.{setup_of, deeds, delivery, entry_on, entry_at}
+use Rattle.exchange_model.specs.Schedules.{IsNextEntry, IsWorld}
 use Rattle.exchange_model.specs.Items.{Item, items_of, items, newest, answers_to, answer_among, has_bytes, number_if}
 use Rattle.exchange_model.specs.Other.{is_other}
 use Rattle.exchange_model.specs.Serving.{TakesDelivery, HasNoReset, TakesDataAfter}

@@ -19,14 +19,16 @@ use Rattle.end_model.specs.Deed.{Deed, is_empty}
 use Rattle.end_model.specs.Chain.{since, own}
 use Rattle.end_model.specs.Payloads.{uploaded}
 use Rattle.end_model.specs.Readiness.{state_of, phase_sent, slave_allows}
-use Rattle.end_model.specs.Step.{takes_frame, IsRun}
+use Rattle.end_model.specs.Step.{takes_frame}
+use Rattle.end_model.specs.Runs.{IsRun}
 use Rattle.end_model.specs.Entries.{entry_of}
 use Rattle.end_model.specs.Reactions.{received, OfSession, OfConnection, OfParameter, AfterSession, AfterConnection, IsValid, IsReaction, Taking, MasterStarts, MasterGoesOn, MasterNextPhase, MasterFirstData, MasterMoreData, Reaction, Expires, SendsAgain, ResetsItself, Refuses, PeerResets, Answers}
 use Rattle.end_model.proofs.Reactions.{phase_of_data}
 use Rattle.end_model.proofs.SoundRuns.{answer_sent}
 use Rattle.end_model.proofs.Taken.{exchange_of, answer_is}
 use Rattle.end_model.proofs.Heads.{IsInSession}
-use Rattle.exchange_model.specs.World.{setup_of, deed_in, deeds, SameLengths, IsNextEntry, IsWorld}
+use Rattle.exchange_model.specs.World.{setup_of, deed_in, deeds, SameLengths}
+use Rattle.exchange_model.specs.Schedules.{IsNextEntry, IsWorld}
 use Rattle.exchange_model.specs.Items.{Item, newest, items_of, items, item_of, number_if}
 use Rattle.exchange_model.specs.Other.{is_other, NoOther}
 use Rattle.exchange_model.proofs.Worlds.Projection.{next_told, deeds_are_run, entry_reacted}

@@ -11,7 +11,7 @@ use Rattle.fsoe_base.specs.Image.{bit_of}
 use Rattle.param_load.specs.declared.entry.Entry.{Entry}
 use Rattle.param_load.specs.declared.terms.Terms.{Terms}
 use Rattle.param_load.specs.declared.master_settings.MasterSettings.{MasterSettings}
-use Rattle.param_load.specs.MasterSettings.{terms_of}
+use Rattle.param_load.specs.Download.{terms_of}
 use Rattle.param_load.specs.declared.slave_settings.SlaveSettings.{SlaveSettings}
 use Rattle.end_model.specs.Setup.{Setup, receives}
 use Rattle.end_model.specs.Phases.{is_data_frame}
@@ -19,14 +19,15 @@ use Rattle.end_model.specs.Deed.{Deed, ticked}
 use Rattle.end_model.specs.Payloads.{terms}
 use Rattle.end_model.specs.Readiness.{state_of, ticks, told_in, told_terms}
 use Rattle.end_model.specs.Outputs.{outputs}
-use Rattle.end_model.specs.Step.{IsRun}
+use Rattle.end_model.specs.Runs.{IsRun}
 use Rattle.end_model.proofs.Shown.{looking_back, fail_safe}
 use Rattle.exchange_model.specs.Ends.{same_end, of_end}
-use Rattle.exchange_model.specs.World.{setup_of, deed_in, deeds, SameLengths, IsWorld}
+use Rattle.exchange_model.specs.World.{setup_of, deed_in, deeds, SameLengths}
+use Rattle.exchange_model.specs.Schedules.{IsWorld}
 use Rattle.exchange_model.specs.Items.{Offered, FailSafe, Values, Unset, next_offered, offered_of, Item, items, awaited}
 use Rattle.exchange_model.specs.Other.{NoOther}
-use Rattle.exchange_model.specs.Fair.{received_len, data_taken, frame_with, frame_if, IsFromItem, IsTakenFrom, in_time, outputs_due}
-use Rattle.exchange_model.specs.Offering.{offers_bit, ticks_of, WasOffered}
+use Rattle.exchange_model.specs.Fair.{received_len, data_taken, frame_with, frame_if, IsFromItem, IsTakenFrom, in_time, outputs_due, offers_bit}
+use Rattle.exchange_model.specs.Offering.{ticks_of, WasOffered}
 use Rattle.exchange_model.proofs.Worlds.Projection.{next_told, told, deeds_are_run, entry_reacted}
 use Rattle.exchange_model.proofs.Joint.Related.{related}
 use Rattle.exchange_model.proofs.Terms.Told.{terms_agree}

@@ -8,7 +8,7 @@ use Rattle.param_load.specs.declared.master_settings.MasterSettings.{MasterSetti
 use Rattle.param_load.specs.declared.slave_settings.SlaveSettings.{SlaveSettings}
 use Rattle.end_model.specs.Deed.{ticked}
 use Rattle.exchange_model.specs.Ends.{same_end}
-use Rattle.exchange_model.specs.World.{IsWorld}
+use Rattle.exchange_model.specs.Schedules.{IsWorld}
 use Rattle.exchange_model.specs.Other.{NoOther}
 use Rattle.exchange_model.specs.Offering.{ticks_of}
 use Rattle.exchange_model.proofs.Joint.Taking.{NoneOther, none_other}

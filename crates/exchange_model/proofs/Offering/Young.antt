@@ -14,7 +14,7 @@ use Rattle.end_model.specs.Setup.{Setup, OfMaster, OfSlave}
 use Rattle.end_model.specs.Deed.{Deed, ticked}
 use Rattle.end_model.specs.Payloads.{uploaded, whole, terms}
 use Rattle.end_model.specs.Readiness.{state_of, ticks, slave_age, age, slave_limit, limit, upload_is_whole}
-use Rattle.end_model.specs.Step.{IsRun}
+use Rattle.end_model.specs.Runs.{IsRun}
 use Rattle.end_model.specs.Reactions.{IsInSession, with_answer, Taking, SlaveRejoins, SlaveStarts, SlaveGoesOn, SlaveNextPhase, SlaveFirstData, SlaveMoreData, Reaction, Answers}
 use Rattle.end_model.proofs.Reactions.{phase_of_data}
 use Rattle.end_model.proofs.SoundRuns.{handshake-data, next-data}

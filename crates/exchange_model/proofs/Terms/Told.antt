@@ -10,7 +10,7 @@ use Rattle.fsoe_base.specs.Lengths.{is_length}
 use Rattle.param_load.specs.declared.entry.Entry.{Entry}
 use Rattle.param_load.specs.declared.terms.Terms.{Terms}
 use Rattle.param_load.specs.declared.master_settings.MasterSettings.{MasterSettings}
-use Rattle.param_load.specs.MasterSettings.{terms_of}
+use Rattle.param_load.specs.Download.{terms_of}
 use Rattle.param_load.specs.declared.slave_settings.SlaveSettings.{SlaveSettings}
 use Rattle.end_model.specs.Phases.{command_in}
 use Rattle.end_model.specs.Setup.{OfMaster, OfSlave, receives, piece_len}
@@ -20,7 +20,8 @@ use Rattle.end_model.specs.Readiness.{state_of, phase_sent, told_in}
 use Rattle.end_model.proofs.Heads.{IsInSession}
 use Rattle.end_model.proofs.Reactions.{phase_of_data}
 use Rattle.exchange_model.specs.Ends.{same_end}
-use Rattle.exchange_model.specs.World.{deed_in, deeds, SameLengths, IsNextEntry, IsWorld}
+use Rattle.exchange_model.specs.World.{deed_in, deeds, SameLengths}
+use Rattle.exchange_model.specs.Schedules.{IsNextEntry, IsWorld}
 use Rattle.exchange_model.specs.Items.{Item, items_of, items}
 use Rattle.fsoe_base.specs.Data.{is_data}
 use Rattle.exchange_model.proofs.Worlds.Projection.{next_told, deeds_are_run}

@@ -4,7 +4,7 @@ use Rattle.fsoe_base.specs.LengthsOf.{length_of}
 use Rattle.fsoe_base.specs.declared.lengths.Lengths.{Lengths}
 use Rattle.param_load.specs.declared.profile.Profiles.{Profiles}
 use Rattle.schedule_file.specs.Event.{profile_of}
-use Rattle.schedule_file.specs.Fields.{Becomes}
+use Rattle.schedule_file.specs.FieldsRead.{Becomes}
 use Rattle.schedule_file.specs.PairsEvent.{pairs_line}
 use Rattle.schedule_file.specs.declared.line_cause.LineCause.{LineCause}
 use Rattle.file_run.specs.Event.{what_says}

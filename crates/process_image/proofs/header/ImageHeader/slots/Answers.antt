@@ -1,6 +1,6 @@
 use Rattle.std.proofs.Common.{◌≡◌, ◌∷◌, ◌++◌, [], List, length, ap, sym, subst, ◌∙◌, arith}
 use Rattle.process_image.specs.Header.{ImageHeading, slots_of}
-use Rattle.process_image.specs.Report.{IsMadeOf}
+use Rattle.process_image.specs.Fault.{IsMadeOf}
 use Rattle.process_image.specs.declared.header.SlotHeader.{SlotHeader}
 use Rattle.std.proofs.lemmas.Slice.Zip.{AllZip-long}
 use Rattle.std.specs.List.{AllZip}

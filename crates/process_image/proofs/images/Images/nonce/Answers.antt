@@ -2,8 +2,10 @@ use Rattle.std.proofs.Common.{◌≡◌, ◌≤◌, ◌-◌, ℕ, Some, IfSome, 
 use Rattle.std.proofs.lemmas.Option.{slice_get_read}
 use Rattle.param_load.specs.Profile.{allows_id}
 use Rattle.param_load.specs.declared.entry.Move.TheVariants as move
-use Rattle.end_model.specs.Setup.{Setup, profile_of}
-use Rattle.process_image.specs.Standing.{numbered, setups_of, slots_in}
+use Rattle.end_model.specs.Setup.{Setup}
+use Rattle.end_model.specs.Runs.{profile_of}
+use Rattle.process_image.specs.Standing.{setups_of, slots_in}
+use Rattle.process_image.specs.Places.{numbered}
 use Rattle.process_image.proofs.Counts.{has_place}
 use Rattle.process_image.proofs.One.{nonce_follows}
 use Rattle.process_image.proofs.Set.{set_moved, named_setup, at_rest, set_sound, set_setups}

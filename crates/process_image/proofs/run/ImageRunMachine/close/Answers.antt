@@ -1,7 +1,7 @@
 use Rattle.std.proofs.Common.{◌≡◌, ◌++◌, ℕ, List, codes, sym, ap, ap₂, ◌∙◌}
 use Rattle.hex.specs.Hex.{encode_lower}
 use Rattle.file_run.specs.Report.{events_line}
-use Rattle.process_image.specs.Ran.{RunView}
+use Rattle.process_image.specs.Telling.{RunView}
 use Rattle.file_run.specs.Waiting.{waits}
 use Rattle.process_image.proofs.Runs.{closes_so, last_lines_are}
 use Rattle.process_image.proofs.run.ImageRunMachine.close.Goals as goal

@@ -1,0 +1,90 @@
+-- What laws say of a plant's journal: which acts run a cycle, which parcels are pulled, and which steps are lines of the
+-- script.
+use Rattle.param_load.specs.declared.entry.Entry.{Entry}
+use Rattle.exchange_model.specs.World.{deeds}
+use Rattle.multi_master.specs.Calls.{connection}
+use Rattle.plant_model.specs.Acts.{Beginning, cycle_of, App, Happen, masters, Start, journal, Act, PullFrom, Event}
+use Rattle.plant_model.specs.Pair.{pair, link_at}
+use Rattle.plant_model.specs.declared.event.PlantEvent.TheVariants as event
+use Rattle.plant_model.specs.declared.journal.JournalStep.TheVariants as step
+use Rattle.plant_model.specs.declared.event.PlantEvent.{PlantEvent}
+use Rattle.plant_model.specs.declared.journal.JournalStep.{JournalStep}
+use Rattle.std.specs.Prelude.{suc, [], IsSomeAnd, true, Some, false, List, IfSome, Option, ◌-◌, ◌≡◌, Bool, ◌∷◌, if◌then◌else◌, is_some, ◌<◌, ℕ, None, zero}
+use Rattle.black_channel.specs.declared.channel.Parcel.{Parcel}
+use Rattle.plant_conf.specs.declared.conf.LinkConf.{LinkConf}
+use Rattle.fsoe_base.specs.declared.command.End.{End}
+use Rattle.fsoe_base.specs.declared.command.End.TheVariants as side
+use Rattle.master_core.specs.Calls.{tells_due}
+
+-- the master of each pair did what this connection of the master of many did
+abbrev pub MastersAgree : Beginning → List Act → Type 0
+MastersAgree b acts =
+    (k : ℕ) → IfSome (link_at b.links k) (λ link.
+    IsSomeAnd (connection k (masters b acts)) (λ c. deeds side.Master (pair link k (journal b acts)) ≡ c.deeds))
+
+-- whether the newest entry tells that a frame was taken, or that its end reset
+abbrev pub tells_hearing : List Entry → Bool
+tells_hearing [] = false
+tells_hearing (x ∷ w) = tells_due x.did
+
+-- whether the end of a connection to which the last parcel of a journal went took it or reset on it, and is a master
+abbrev pub master_hears : Option LinkConf → End → ℕ → List JournalStep → Bool
+master_hears (Some link) side.Master k journal = tells_hearing (pair link k journal)
+master_hears _ _ k journal = false
+
+-- whether an event of the script is a tick
+abbrev pub ticks_all : PlantEvent → Bool
+ticks_all event.Tick = true
+ticks_all _ = false
+
+-- whether an act runs a cycle of the application, after which the journal is this: at the start, in each tick, after
+-- each change of the application, and at each parcel that a master takes or resets on
+abbrev pub runs_cycle : List LinkConf → Act → List JournalStep → Bool
+runs_cycle links Start journal = true
+runs_cycle links (Happen (Event event)) journal = ticks_all event
+runs_cycle links (Happen (App app)) journal = true
+runs_cycle links (PullFrom None) journal = false
+runs_cycle links (PullFrom (Some parcel)) journal = master_hears (link_at links parcel.to.link) parcel.to.end parcel.to.link journal
+
+-- exactly these acts run one
+abbrev pub Cycles : Beginning → Act → List Act → Type 0
+Cycles b act acts = is_some (cycle_of b act acts) ≡ runs_cycle b.links act (journal b (act ∷ acts))
+
+-- between a tick and the next line of the script at most 64 parcels were pulled, `room` of which may still come before
+-- these steps; and none elsewhere
+abbrev pub PullsFit : ℕ → List JournalStep → Type 0
+PullsFit room [] = Unit {0}
+PullsFit room (step.Script event ∷ steps) = PullsFit (if ticks_all event then 64 else 0) steps
+PullsFit room (step.App ∷ steps) = PullsFit 0 steps
+PullsFit room (step.Offer link load ∷ steps) = PullsFit room steps
+PullsFit room (step.Pulled parcel ∷ steps) = (0 < room) × PullsFit (room - 1) steps
+
+-- the parcels that were pulled
+abbrev pub pulled_in : List JournalStep → List Parcel
+pulled_in [] = []
+pulled_in (step.Script event ∷ steps) = pulled_in steps
+pulled_in (step.App ∷ steps) = pulled_in steps
+pulled_in (step.Offer link load ∷ steps) = pulled_in steps
+pulled_in (step.Pulled parcel ∷ steps) = parcel ∷ pulled_in steps
+
+-- one more where so many parcels, and not none, may still come
+abbrev pub one_if_left : ℕ → ℕ → ℕ
+one_if_left zero n = n
+one_if_left (suc room) n = suc n
+
+-- the number of ticks after which fewer than 64 parcels were pulled before the next line of the script, where `room` of
+-- them may still come before these steps
+abbrev pub short_ticks : ℕ → List JournalStep → ℕ
+short_ticks room [] = one_if_left room 0
+short_ticks room (step.Script event ∷ steps) = one_if_left room (short_ticks (if ticks_all event then 64 else 0) steps)
+short_ticks room (step.App ∷ steps) = one_if_left room (short_ticks 0 steps)
+short_ticks room (step.Offer link load ∷ steps) = short_ticks room steps
+short_ticks room (step.Pulled parcel ∷ steps) = short_ticks (room - 1) steps
+
+-- the steps of a journal that are lines of the script
+abbrev pub line_steps : List JournalStep → List JournalStep
+line_steps [] = []
+line_steps (step.Script event ∷ steps) = step.Script event ∷ line_steps steps
+line_steps (step.App ∷ steps) = step.App ∷ line_steps steps
+line_steps (step.Offer link load ∷ steps) = line_steps steps
+line_steps (step.Pulled parcel ∷ steps) = line_steps steps
