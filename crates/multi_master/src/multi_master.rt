@@ -1,5 +1,5 @@
 //! A master of many connections.
-ghost use Rattle.std.specs.Prelude.{◌≡◌, ◌≤◌, [], length, vec_len, option_copied, IfOk, IfErr, IfSome, IsErrAnd, None, Some};
+ghost use Rattle.std.specs.Prelude.{◌≡◌, ◌≤◌, [], length, vec_len, option_copied, IfOk, IfErr, IfSome, IsErrAnd, None, OnErr, OnOk, Some};
 ghost use Rattle.std.specs.Result.{result_err};
 ghost use Rattle.end_model.specs.Readiness as model;
 ghost use Rattle.multi_master.specs.declared.fault.NewFault.TheVariants as fault;
@@ -12,10 +12,11 @@ use failsafe_io::{Application, Bit};
 use fsoe_base::{Did, FrameBuf, Image, MOST_DATA, State};
 use master_core::Master;
 use param_load::{MasterSettings, Terms};
+use std::alloc::Global;
 use std::marker::Model;
 
 /// The masters of up to 64 connections. In each cycle the application computes the offers of all of them from the
-/// outputs of all. An event of one connection changes another one only in this way. Only `new` allocates.
+/// outputs of all. An event of one connection changes another one only in this way. Only `new` and `connect` allocate.
 #[derive(Drop)]
 pub struct MultiMaster<A> {
     masters: Vec<Master>,
@@ -45,7 +46,7 @@ impl<A> Model for MultiMaster<A> {
 
 impl<A: Application> MultiMaster<A> {
     ghost use Rattle.multi_master.specs.Connection.{setup, outputs_at, offer_at};
-    ghost use Rattle.multi_master.specs.Calls.{Deliver, Tick, Nonce, ChangeApp};
+    ghost use Rattle.multi_master.specs.Calls.{AppView, Deliver, Tick, Nonce, ChangeApp};
     ghost use Rattle.multi_master.specs.New.{first_fault};
     ghost use Rattle.multi_master.specs.Standing.{app_view, seen, links, HasLink, StandsFor, Follows, Offers, Guards, AnswersFrame, AnswersTick, ShowsAt, ShowsApp, ShowsChanged, AreNumbers, settings_of};
 
@@ -60,6 +61,35 @@ impl<A: Application> MultiMaster<A> {
         ensures settings { IfOk result (λ m. settings_of m ≡ settings.items) }
         ensures links { IfOk result (λ m. links m ≡ vec_len settings) }
     {
+        let mut multi = MultiMaster::unconnected(*settings.allocator(), app);
+        multi.connect(settings)?;
+        Ok(multi)
+    }
+
+    /// Creates a master of no connection yet, with this application. Doesn't allocate.
+    pub fn unconnected(alloc: Global, app: A) -> MultiMaster<A>
+        ensures { result ≡ record { masters = []; app = app; inputs = []; changed = [] } }
+    {
+        MultiMaster {
+            masters: Vec::new(alloc),
+            app,
+            inputs: Vec::new(alloc),
+            answers: Vec::new(alloc),
+            changed: ArrayVec::new(),
+        }
+    }
+
+    /// Replaces all connections with new ones of these settings, as `new` creates them. The application stays. After a
+    /// refusal, as those of `new`, nothing is changed, and the settings are dropped.
+    pub fn connect(&mut self, settings: Vec<MasterSettings>) -> Result<(), NewFault>
+        ensures refused { IfSome (first_fault settings.items) (λ found. result_err result ≡ Some found) }
+        ensures memory_alone { IfErr result (λ found. first_fault settings.items ≡ None → found ≡ fault.Memory) }
+        ensures stands { let seen = seen A.rule A.holds A.guards in OnOk result (StandsFor settings.items (seen self.old).app (seen self.new) []) }
+        ensures app { self.new.app ≡ self.old.app }
+        ensures settings { OnOk result (settings_of self.new ≡ settings.items) }
+        ensures links { OnOk result (links self.new ≡ vec_len settings) }
+        ensures kept { OnErr result (self.new ≡ self.old) }
+    {
         if let Some(found) = first_fault(settings.as_slice()) {
             return Err(found);
         }
@@ -67,13 +97,11 @@ impl<A: Application> MultiMaster<A> {
         let masters = masters_of(settings)?;
         let inputs = inputs_of(alloc, masters.as_slice())?;
         let answers = answers_of(alloc, masters.as_slice())?;
-        Ok(MultiMaster {
-            masters,
-            app,
-            inputs,
-            answers,
-            changed: ArrayVec::new(),
-        })
+        self.masters = masters;
+        self.inputs = inputs;
+        self.answers = answers;
+        self.changed.clear();
+        Ok(())
     }
 
     /// Processes a frame, of any number of bytes, of the slave of this connection. If the frame is taken or ends the
@@ -153,16 +181,15 @@ impl<A: Application> MultiMaster<A> {
         );
     }
 
-    /// Replaces the running application with `app`, which runs its first cycle at once, unticked. Its results become
-    /// the offers of all connections. No frame is built in between, so none carries an offer of the old one.
-    pub fn change_app(&mut self, app: A)
-        ensures follows { let seen = seen A.rule A.holds A.guards in Follows (seen self.old) (ChangeApp (app_view A.rule A.holds A.guards app)) (seen self.new) }
-        ensures offers { Offers (seen A.rule A.holds A.guards self.old) (ChangeApp (app_view A.rule A.holds A.guards app)) }
-        ensures guarded { Guards (seen A.rule A.holds A.guards self.old) (ChangeApp (app_view A.rule A.holds A.guards app)) }
+    /// Runs an unticked cycle of the application, as the first one after a change to it from any other application. Its
+    /// results become the offers of all connections. No frame is built in between, so none carries an older offer.
+    pub fn first_cycle(&mut self)
+        ensures follows { let seen = seen A.rule A.holds A.guards in (other : AppView) → Follows (record (seen self.old) { app = other }) (ChangeApp (seen self.old).app) (seen self.new) }
+        ensures offers { let seen = seen A.rule A.holds A.guards in (other : AppView) → Offers (record (seen self.old) { app = other }) (ChangeApp (seen self.old).app) }
+        ensures guarded { let seen = seen A.rule A.holds A.guards in (other : AppView) → Guards (record (seen self.old) { app = other }) (ChangeApp (seen self.old).app) }
         ensures settings { settings_of self.new ≡ settings_of self.old }
         ensures links { links self.new ≡ links self.old }
     {
-        self.app = app;
         run_cycle(
             &mut self.app,
             false,
@@ -171,6 +198,18 @@ impl<A: Application> MultiMaster<A> {
             self.masters.as_mut_slice(),
             &mut self.changed,
         );
+    }
+
+    /// Replaces the running application with `app`, and runs its first cycle at once, as `first_cycle` does.
+    pub fn change_app(&mut self, app: A)
+        ensures follows { let seen = seen A.rule A.holds A.guards in Follows (seen self.old) (ChangeApp (app_view A.rule A.holds A.guards app)) (seen self.new) }
+        ensures offers { Offers (seen A.rule A.holds A.guards self.old) (ChangeApp (app_view A.rule A.holds A.guards app)) }
+        ensures guarded { Guards (seen A.rule A.holds A.guards self.old) (ChangeApp (app_view A.rule A.holds A.guards app)) }
+        ensures settings { settings_of self.new ≡ settings_of self.old }
+        ensures links { links self.new ≡ links self.old }
+    {
+        self.app = app;
+        self.first_cycle();
     }
 
     /// Sets the session id of all sessions of this connection that begin after this call. A 16-bit id is allowed in

@@ -11,7 +11,6 @@ use Rattle.fsoe_base.specs.declared.lengths.Lengths.{Lengths}
 use Rattle.param_load.specs.declared.entry.Entry.{Entry}
 use Rattle.param_load.specs.declared.entry.Move.{Move}
 use Rattle.param_load.specs.declared.entry.Move.TheVariants as move
-use Rattle.param_load.specs.declared.master_settings.MasterSettings.{MasterSettings}
 use Rattle.slave_core.specs.SlaveView.{SlaveView}
 use Rattle.black_channel.specs.Told.{Told, Begins, PullsParcel}
 use Rattle.black_channel.specs.declared.channel.Parcel.{Parcel}
@@ -25,12 +24,12 @@ use Rattle.plant_model.specs.declared.event.PlantEvent.{PlantEvent}
 use Rattle.plant_model.specs.declared.event.PlantEvent.TheVariants as event
 use Rattle.plant_model.specs.declared.journal.JournalStep.{JournalStep}
 use Rattle.plant_model.specs.declared.journal.JournalStep.TheVariants as step
-use Rattle.plant_model.specs.Acts.{Beginning, Event, App, Act, Start, Happen, PullFrom, settings, delivery_call, call_of, calls, offers_by, journal, is_cut, pushes_of, all_pushes, uses_of, uses_after, uses}
+use Rattle.plant_model.specs.Acts.{Beginning, Event, App, Act, Happen, PullFrom, settings, delivery_call, call_of, calls, offers_by, journal, is_cut, pushes_of, all_pushes, uses_of, uses_after, uses}
 use Rattle.plant_model.specs.Uses.{Use, Trace}
 use Rattle.plant_model.specs.Gifts.{place_of, sent_uses, each_uses}
 use Rattle.plant_model.specs.Pair.{next_of, pairs_by, pair, link_at}
 use Rattle.plant_core.specs.Doing.{OffersNoted, GoesOn, Delivers, PullsAll, Turns}
-use Rattle.plant_core.specs.Standing.{lengths_kept, PlantView, EachLink, LinkIs, LinksAre, HasDone, PlantStands, Follows}
+use Rattle.plant_core.specs.Standing.{lengths_kept, PlantView, EachLink, LinkIs, LinksAre, HasDone, Starts, Follows}
 use Rattle.plant_model.specs.Turns.{IsTurn, Turn, pulls, acts}
 use Rattle.plant_model.specs.FairPairs.{lengths_in, Fits}
 use Rattle.plant_core.specs.Link.{LinkView, LinkStands}
@@ -217,15 +216,10 @@ follows_app old new app t g = record {
       };
 }
 
--- the first application runs
-pub first_app : (settings : List MasterSettings) (other app : AppView) (m : MultiView) → StandsFor settings other m (ChangeApp app ∷ []) → StandsFor settings app m (ChangeApp app ∷ [])
-first_app settings other app m h = record { masters = h.masters; app_is = h.app_is; inputs_are = h.inputs_are; changed_are = h.changed_are }
-
--- what a new plant is made of, and what its start changes
+-- what a plant is made of before its start, and what this changes
 pub record StartChange (b : Beginning) (new : PlantView) (before after : Told) : Type 0 where
   pub old : MultiView
-  pub other : AppView
-  pub stands : StandsFor (map master_in b.links) other old []
+  pub stands : StandsFor (map master_in b.links) b.app old []
   pub follows : multi.Follows old (ChangeApp b.app) new.master
   pub bounds : List BoundSpec
   pub offers : OffersNoted new.master (links_made 1 bounds b.links) new.links [] new.journal
@@ -233,26 +227,25 @@ pub record StartChange (b : Beginning) (new : PlantView) (before after : Told) :
   pub guards : multi.Guards old (ChangeApp b.app)
   pub begins : Begins b.seed before after
 
-pub starts : (b : Beginning) (new : PlantView) (before after : Told) → StartChange b new before after → PlantStands b new []
+pub starts : (b : Beginning) (new : PlantView) (before after : Told) → StartChange b new before after → Starts b new before after
 starts b new before after c =
-    let stands = first_app (settings b) c.other b.app new.master (c.follows.stands (settings b) c.other [] c.stands) in
-    record {
-      turns_are = All-nil (IsTurn b.links);
-      has_done = record {
-        master = stands;
-        links = subst (λ (js : List JournalStep). LinksAre b.links (λ k. false) (pairs_by js) new.links) (sym c.offers.steps) (c.offers.links b.links (λ k. false) [] (made_stand 1 c.bounds b.links));
-        journal_is = c.offers.steps ∙ c.offers.offers_are (settings b) b.app (ChangeApp b.app ∷ []) stands;
-        answered = (c.cycles.offers (settings b) c.other [] c.stands, tt);
-        guarded = (c.guards.guards (settings b) c.other [] c.stands, tt);
-      };
-    }
-
-pub start_uses : (b : Beginning) (new : PlantView) (before after : Told) → StartChange b new before after → Trace (uses b (Start ∷ [])) before after
-start_uses b new before after c =
     let calls : List Call = ChangeApp b.app ∷ [] in
+    let stands = c.follows.stands (settings b) b.app [] c.stands in
     let none : all_pushes b.links (λ k. false) [] (offers_by b (Some (ChangeApp b.app)) []) ≡ [] =
     quiet_pushes b.links (λ k. false) [] (offers_by b (Some (ChangeApp b.app)) []) (λ at k link. offers_send (meant (settings b) b.app calls) (changed (settings b) b.app calls) at link k []) in
-    (after, c.begins, subst (λ (us : List Use). Trace us after after) (sym none) refl)
+    record {
+      stands = record {
+        turns_are = All-nil (IsTurn b.links);
+        has_done = record {
+          master = stands;
+          links = subst (λ (js : List JournalStep). LinksAre b.links (λ k. false) (pairs_by js) new.links) (sym c.offers.steps) (c.offers.links b.links (λ k. false) [] (made_stand 1 c.bounds b.links));
+          journal_is = c.offers.steps ∙ c.offers.offers_are (settings b) b.app calls stands;
+          answered = (c.cycles.offers (settings b) b.app [] c.stands, tt);
+          guarded = (c.guards.guards (settings b) b.app [] c.stands, tt);
+        };
+      };
+      channel = (after, c.begins, subst (λ (us : List Use). Trace us after after) (sym none) refl);
+    }
 
 -- room for the rest of the pulls
 pub pull_room : (counter len later cap roomy n same : ℕ) → counter < 64 → len + (64 - counter) * (n + 1) ≤ cap → later ≤ len + 1 + n → cap ≤ roomy → same ≡ n → later + (64 - (counter + 1)) * (same + 1) ≤ roomy

@@ -12,7 +12,7 @@ use Rattle.multi_master.specs.Calls.{Rule}
 use Rattle.multi_master.specs.Standing.{MultiValue, MultiView, StandsFor}
 use Rattle.multi_master.specs.Standing as multi
 use Rattle.plant_model.specs.declared.journal.JournalStep.{JournalStep}
-use Rattle.plant_model.specs.Acts.{Beginning, Said, Act, settings, calls, journal, is_cut, uses_after}
+use Rattle.plant_model.specs.Acts.{Beginning, Said, Act, Start, settings, calls, journal, is_cut, uses, uses_after}
 use Rattle.plant_core.specs.Link.{Fixed, LinkView, LinkStands, fixed_of}
 use Rattle.plant_model.specs.Pair.{pair, link_at, lowest_other, outputs_at, pairs_by}
 use Rattle.plant_model.specs.Promises.{AllAnswered, AllGuarded}
@@ -104,6 +104,11 @@ pub record HasDone (b : Beginning) (v : PlantView) (done : List Act) : Type 0 wh
 pub record PlantStands (b : Beginning) (v : PlantView) (turns : List Turn) : Type 0 where
   pub turns_are : All (IsTurn b.links) turns
   pub has_done : HasDone b v (acts turns)
+
+-- a plant that began so has done its start alone, and so its channel was used
+pub record Starts (b : Beginning) (new : PlantView) (before after : Told) : Type 0 where
+  pub stands : PlantStands b new []
+  pub channel : Trace (uses b (Start ∷ [])) before after
 
 -- a plant goes on by one turn, in which this is said and these parcels are pulled, and its channel by the uses of this
 -- turn

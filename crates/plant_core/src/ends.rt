@@ -346,18 +346,18 @@ impl<A: Application> Ends<A> {
         }
     }
 
-    /// Changes to another application, runs its first cycle, and notes the offers that it changed.
-    pub(crate) fn start(&mut self, app: A, steps: &mut Vec<JournalStep>)
+    /// Runs the first cycle of the application, and notes the offers that it changed.
+    pub(crate) fn start(&mut self, steps: &mut Vec<JournalStep>)
         requires ready { IsPlant self.old.master self.old.links.items self.old.dids.items self.old.outs.items (vec_len steps.old) }
         requires room { vec_len steps.old + vec_len self.old.links ≤ vec_capacity steps.old }
-        ensures follows { let seen = multi.seen A.rule A.holds A.guards in multi.Follows (seen self.old.master) (ChangeApp (app_view A.rule A.holds A.guards app)) (seen self.new.master) }
-        ensures cycles { multi.Offers (multi.seen A.rule A.holds A.guards self.old.master) (ChangeApp (app_view A.rule A.holds A.guards app)) }
-        ensures guards { multi.Guards (multi.seen A.rule A.holds A.guards self.old.master) (ChangeApp (app_view A.rule A.holds A.guards app)) }
+        ensures follows { let seen = multi.seen A.rule A.holds A.guards in multi.Follows (seen self.old.master) (ChangeApp (seen self.old.master).app) (seen self.new.master) }
+        ensures cycles { let seen = multi.seen A.rule A.holds A.guards in multi.Offers (seen self.old.master) (ChangeApp (seen self.old.master).app) }
+        ensures guards { let seen = multi.seen A.rule A.holds A.guards in multi.Guards (seen self.old.master) (ChangeApp (seen self.old.master).app) }
         ensures offers { OffersNoted (multi.seen A.rule A.holds A.guards self.new.master) self.old.links.items self.new.links.items steps.old.items steps.new.items }
         ensures ready { IsPlant self.new.master self.new.links.items self.new.dids.items self.new.outs.items (vec_len steps.new) }
         ensures fixed { fixed_in self.new.links.items ≡ fixed_in self.old.links.items }
     {
-        self.master.change_app(app);
+        self.master.first_cycle();
         note_offers(&self.master, self.links.as_mut_slice(), steps);
     }
 
@@ -370,7 +370,8 @@ impl<A: Application> Ends<A> {
         ensures fixed { fixed_in self.new.links.items ≡ fixed_in self.old.links.items }
     {
         note(steps, JournalStep::App);
-        self.start(app, steps);
+        self.master.change_app(app);
+        note_offers(&self.master, self.links.as_mut_slice(), steps);
     }
 }
 

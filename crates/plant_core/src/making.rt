@@ -1,7 +1,6 @@
 //! What a plant is made of, by its configuration.
-ghost use Rattle.std.specs.Prelude.{◌≡◌, ◌≤◌, [], map, length, vec_len, IfOk};
+ghost use Rattle.std.specs.Prelude.{◌≡◌, ◌≤◌, [], map, length, vec_len, IfOk, OnErr, OnOk};
 ghost use Rattle.multi_master.specs.Standing as multi;
-ghost use Rattle.multi_master.specs.Standing.{app_view};
 ghost use Rattle.plant_core.specs.Making.{is_named, links_made, master_in};
 ghost use Rattle.plant_core.specs.Standing.{IsPlant};
 
@@ -93,28 +92,48 @@ fn outs_made(alloc: Global, count: usize) -> Result<Vec<FrameBuf>, Memory>
     Ok(outs)
 }
 
-/// Both ends of these connections, at which nothing happened yet, with this application, no cycle of which is run.
-pub(crate) fn ends_made<A: Application>(
-    alloc: Global,
-    confs: &[LinkConf],
-    bounds: &[BoundSpec],
-    app: A,
-) -> Result<Ends<A>, Memory>
-    requires { length confs.now ≤ 64 }
-    ensures stands { IfOk result (λ ends. multi.StandsFor (map master_in confs.now) (app_view A.rule A.holds A.guards app) (multi.seen A.rule A.holds A.guards ends.master) []) }
-    ensures links { IfOk result (λ ends. ends.links.items ≡ links_made 1 bounds.now confs.now) }
-    ensures ready { IfOk result (λ ends. IsPlant ends.master ends.links.items ends.dids.items ends.outs.items 0) }
-{
-    let settings = masters_set(alloc, confs)?;
-    let Ok(master) = MultiMaster::new(settings, app) else {
-        return Err(Memory);
-    };
-    Ok(Ends {
-        master,
-        links: links_made(alloc, confs, bounds)?,
-        dids: dids_made(alloc, confs.len())?,
-        outs: outs_made(alloc, confs.len())?,
-        heard: Did::nothing(),
-        sent: FrameBuf::new(),
-    })
+impl<A: Application> Ends<A> {
+    /// No connection yet, with this application.
+    pub(crate) fn unconnected(alloc: Global, app: A) -> Ends<A>
+        ensures master { result.master ≡ record { masters = []; app = app; inputs = []; changed = [] } }
+        ensures links { result.links.items ≡ [] }
+        ensures ready { IsPlant result.master result.links.items result.dids.items result.outs.items 0 }
+    {
+        Ends {
+            master: MultiMaster::unconnected(alloc, app),
+            links: Vec::new(alloc),
+            dids: Vec::new(alloc),
+            outs: Vec::new(alloc),
+            heard: Did::nothing(),
+            sent: FrameBuf::new(),
+        }
+    }
+
+    /// Replaces all connections with these, at whose ends nothing happened yet. The application stays, and no cycle is
+    /// run. After `Memory` nothing is changed.
+    pub(crate) fn connect(
+        &mut self,
+        alloc: Global,
+        confs: &[LinkConf],
+        bounds: &[BoundSpec],
+    ) -> Result<(), Memory>
+        requires { length confs.now ≤ 64 }
+        ensures stands { let seen = multi.seen A.rule A.holds A.guards in OnOk result (multi.StandsFor (map master_in confs.now) (seen self.old.master).app (seen self.new.master) []) }
+        ensures app { self.new.master.app ≡ self.old.master.app }
+        ensures links { OnOk result (self.new.links.items ≡ links_made 1 bounds.now confs.now) }
+        ensures ready { OnOk result (IsPlant self.new.master self.new.links.items self.new.dids.items self.new.outs.items 0) }
+        ensures kept { OnErr result (self.new ≡ self.old) }
+    {
+        let settings = masters_set(alloc, confs)?;
+        let links = links_made(alloc, confs, bounds)?;
+        let dids = dids_made(alloc, confs.len())?;
+        let outs = outs_made(alloc, confs.len())?;
+        let Ok(()) = self.master.connect(settings) else {
+            return Err(Memory);
+        };
+        self.links = links;
+        self.dids = dids;
+        self.outs = outs;
+        Ok(())
+    }
 }

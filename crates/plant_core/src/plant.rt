@@ -7,23 +7,16 @@ ghost use Rattle.fsoe_base.specs.declared.lengths.TheConstants.{MOST_DATA};
 ghost use Rattle.plant_conf.specs.Kept.{HasSameLengths};
 ghost use Rattle.plant_conf.specs.declared.conf.LinkConf.{LinkConf};
 ghost use Rattle.plant_model.specs.Pair.{state_at, outputs_at, lowest_other};
-ghost use Rattle.std.specs.Prelude.{[], ◌∷◌, map, IfOk, OnOk, OnErr};
 ghost use Rattle.black_channel.specs.Told.{Told};
-ghost use Rattle.multi_master.specs.Standing.{app_view};
-ghost use Rattle.plant_model.specs.Acts.{Start, uses};
-ghost use Rattle.plant_model.specs.FairPairs.{lengths_in};
-ghost use Rattle.plant_core.specs.Making.{links_made};
-ghost use Rattle.plant_core.specs.Standing.{AllNoted, PlantStands, seen, fixed_in, lengths_kept};
-ghost use Rattle.plant_model.specs.Uses.{Trace};
+ghost use Rattle.plant_core.specs.Standing.{AllNoted};
 ghost use Rattle.plant_model.specs.declared.journal.JournalStep.{JournalStep};
 
 use crate::ends::{Ends, room_for};
 use crate::journal::{Journal, take_room};
 use crate::link::{Link, bit_of};
-use crate::making::ends_made;
 use black_channel::Channel;
 use failsafe_io::{Application, Bit};
-use fb_net::{EntryOf, KindOf, Net};
+use fb_net::{EntryOf, KindOf};
 use file_run::Stopped;
 use fsoe_base::{End, Memory, State};
 use plant_conf::{BoundSpec, PlantConf};
@@ -31,7 +24,6 @@ use plant_model::PlantEvent;
 use plant_setup::take_app;
 use std::alloc::Global;
 use std::marker::Model;
-use std::mem;
 
 /// Up to 64 connections, each with both its ends, and an application that computes the offers of all masters. Their
 /// frames go through a channel that is passed in with each call. What was done is recorded in a journal.
@@ -52,94 +44,68 @@ impl<A> Model for Plant<A> {
     ghost invariant = { λ p. IsPlant p.ends.master p.ends.links.items p.ends.dids.items p.ends.outs.items (length p.journal) };
 }
 
-impl<H: Application> Plant<KindOf<H>> {
-    ghost use Rattle.std.specs.Prelude.{[], ◌∷◌, map, IfOk, OnOk, OnErr};
+impl<A: Application> Plant<A> {
+    ghost use Rattle.std.specs.Prelude.{[], map, IfOk, OnOk, OnErr, option_copied};
     ghost use Rattle.multi_master.specs.Standing.{app_view};
-    ghost use Rattle.plant_model.specs.Acts.{Start, uses};
-    ghost use Rattle.plant_model.specs.FairPairs.{lengths_in};
-    ghost use Rattle.plant_core.specs.Making.{links_made};
-    ghost use Rattle.plant_core.specs.Standing.{seen, fixed_in, lengths_kept, PlantStands};
-    ghost use Rattle.plant_model.specs.Uses.{Trace};
+    ghost use Rattle.plant_model.specs.Acts.{Event, App};
+    ghost use Rattle.plant_core.specs.Making.{begins_with, links_made};
+    ghost use Rattle.plant_core.specs.Standing.{Starts, TellsStill, seen, fixed_in, kept_at, lengths_kept, HasLink, Follows, ShowsPair, TellsOther, IsAged, ShowsOn, ShowsWorst};
+    ghost use Rattle.plant_model.specs.FairPairs.{Fits, lengths_in};
 
-    /// Creates a plant of this configuration's connections with this application, which runs its first (unticked)
-    /// cycle. All memory is allocated first, then the channel begins with the seed. The greatest ages of outputs are
-    /// kept of connections that a bound names. After `Memory` the channel is unchanged, and the application is dropped.
+    /// Creates a plant of this configuration's connections with this application, which begins. After `Memory` the
+    /// channel is unchanged, and the application is dropped.
     #[tactic(auto, using(crate::proofs::Made::lengths_made))]
     pub fn new<C: Channel>(
         alloc: Global,
         conf: &PlantConf,
-        app: KindOf<H>,
+        app: A,
         channel: &mut C,
-    ) -> Result<Plant<KindOf<H>>, Memory>
-        ensures stands { let K = ⟦<KindOf<H> as Application>⟧ in IfOk result (λ plant. PlantStands (record { links = conf.now.links; app = app_view K.rule K.holds K.guards app; seed = conf.now.seed }) (seen K.rule K.holds K.guards plant) []) }
-        ensures channel { let K = ⟦<KindOf<H> as Application>⟧ in OnOk result (Trace (uses (record { links = conf.now.links; app = app_view K.rule K.holds K.guards app; seed = conf.now.seed }) (Start ∷ [])) (C.told channel.old) (C.told channel.new)) }
+    ) -> Result<Plant<A>, Memory>
+        ensures starts { IfOk result (λ plant. Starts (begins_with conf.now (app_view A.rule A.holds A.guards app)) (seen A.rule A.holds A.guards plant) (C.told channel.old) (C.told channel.new)) }
         ensures lengths { IfOk result (λ plant. lengths_kept plant.links ≡ map lengths_in conf.now.links) }
         ensures aged { IfOk result (λ plant. fixed_in plant.links ≡ fixed_in (links_made 1 conf.now.bounds conf.now.links)) }
         ensures kept { OnErr result (channel.new ≡ channel.old) }
     {
-        let mut app = app;
-        Plant::begun(alloc, conf, &mut app, channel)
+        let mut plant = Plant::unbegun(alloc, app);
+        plant.begin(alloc, conf, channel)?;
+        Ok(plant)
     }
 
-    /// Does the same with a borrowed application: `Memory` leaves it unchanged, success replaces it with an empty net.
-    pub fn begun<C: Channel>(
+    /// Creates a plant that hasn't begun: it has no connection and an empty journal. Doesn't allocate.
+    pub fn unbegun(alloc: Global, app: A) -> Plant<A>
+        ensures app { result.master.app ≡ app }
+        ensures journal { result.journal ≡ [] }
+    {
+        Plant {
+            ends: Ends::unconnected(alloc, app),
+            journal: Journal::new(alloc),
+        }
+    }
+
+    /// Begins with this configuration's connections, in place of those before, and an empty journal. All memory is
+    /// allocated first, then the channel begins with the seed, and the application runs its first (unticked) cycle. The
+    /// greatest ages of outputs are kept of connections that a bound names. After `Memory` nothing is changed.
+    pub fn begin<C: Channel>(
+        &mut self,
         alloc: Global,
         conf: &PlantConf,
-        app: &mut KindOf<H>,
         channel: &mut C,
-    ) -> Result<Plant<KindOf<H>>, Memory>
-        ensures stands { let K = ⟦<KindOf<H> as Application>⟧ in IfOk result (λ plant. PlantStands (record { links = conf.now.links; app = app_view K.rule K.holds K.guards app.old; seed = conf.now.seed }) (seen K.rule K.holds K.guards plant) []) }
-        ensures channel { let K = ⟦<KindOf<H> as Application>⟧ in OnOk result (Trace (uses (record { links = conf.now.links; app = app_view K.rule K.holds K.guards app.old; seed = conf.now.seed }) (Start ∷ [])) (C.told channel.old) (C.told channel.new)) }
-        ensures fixed { IfOk result (λ plant. fixed_in plant.links ≡ fixed_in (links_made 1 conf.now.bounds conf.now.links)) }
+    ) -> Result<(), Memory>
+        ensures starts { let seen = seen A.rule A.holds A.guards in OnOk result (Starts (begins_with conf.now (seen self.old).master.app) (seen self.new) (C.told channel.old) (C.told channel.new)) }
+        ensures fixed { OnOk result (fixed_in self.new.links ≡ fixed_in (links_made 1 conf.now.bounds conf.now.links)) }
         ensures same_lengths { OnOk result (All HasSameLengths conf.now.links) }
-        ensures kept { OnErr result (channel.new ≡ channel.old) }
-        ensures unused { OnErr result (app.new ≡ app.old) }
+        ensures kept { OnErr result (self.new ≡ self.old) }
+        ensures unused { OnErr result (channel.new ≡ channel.old) }
     {
-        let before = empty_net(alloc)?;
-        let after = empty_net(alloc)?;
-        begin(alloc, conf, before, app, after, channel)
+        let mut journal = Journal::new(alloc);
+        let links = conf.links();
+        take_room(&mut journal.steps, links.len())?;
+        self.ends.connect(alloc, links, conf.bounds())?;
+        channel.begin(conf.seed());
+        self.ends.start(&mut journal.steps);
+        self.journal = journal;
+        Ok(())
     }
-}
-
-/// The net that has no block and drives nothing.
-fn empty_net<H: Application>(alloc: Global) -> Result<KindOf<H>, Memory> {
-    match Net::new(Vec::new(alloc), Vec::new(alloc), &[], &[]) {
-        Ok(net) => Ok(KindOf::Net(net)),
-        Err(_) => Err(Memory),
-    }
-}
-
-/// Creates a plant of this configuration's connections in which this application runs. Before its first cycle `before`
-/// ran, and `after` is left in its place.
-fn begin<A: Application, C: Channel>(
-    alloc: Global,
-    conf: &PlantConf,
-    before: A,
-    app: &mut A,
-    after: A,
-    channel: &mut C,
-) -> Result<Plant<A>, Memory>
-    ensures stands { IfOk result (λ plant. PlantStands (record { links = conf.now.links; app = app_view A.rule A.holds A.guards app.old; seed = conf.now.seed }) (seen A.rule A.holds A.guards plant) []) }
-    ensures channel { OnOk result (Trace (uses (record { links = conf.now.links; app = app_view A.rule A.holds A.guards app.old; seed = conf.now.seed }) (Start ∷ [])) (C.told channel.old) (C.told channel.new)) }
-    ensures fixed { IfOk result (λ plant. fixed_in plant.links ≡ fixed_in (links_made 1 conf.now.bounds conf.now.links)) }
-    ensures same_lengths { OnOk result (All HasSameLengths conf.now.links) }
-    ensures kept { OnErr result (channel.new ≡ channel.old) }
-    ensures unused { OnErr result (app.new ≡ app.old) }
-{
-    let mut ends = ends_made(alloc, conf.links(), conf.bounds(), before)?;
-    let mut journal = Journal::new(alloc);
-    take_room(&mut journal.steps, ends.links.len())?;
-    channel.begin(conf.seed());
-    ends.start(mem::replace(app, after), &mut journal.steps);
-    Ok(Plant { ends, journal })
-}
-
-impl<A: Application> Plant<A> {
-    ghost use Rattle.std.specs.Prelude.{OnOk, OnErr, option_copied};
-    ghost use Rattle.multi_master.specs.Standing.{app_view};
-    ghost use Rattle.plant_model.specs.Acts.{Event, App};
-    ghost use Rattle.plant_core.specs.Standing.{TellsStill, seen, fixed_in, kept_at, lengths_kept, HasLink, Follows, ShowsPair, TellsOther, IsAged, ShowsOn, ShowsWorst};
-    ghost use Rattle.plant_model.specs.FairPairs.{Fits};
 
     /// Does one event of the script, which must fit the connections. At a tick up to 64 parcels are pulled from the
     /// channel, until it gives none. All room in the journal is allocated first; after `Memory` the plant and the

@@ -1,26 +1,18 @@
 -- The lines of the bounds that wait.
-use Rattle.std.proofs.Common.{◌≡◌, ℕ, suc, Bool, List, ◌++◌, slice_get, Option, Some, option_map, sym, ap, ap₂, subst, ◌∙◌}
+use Rattle.std.proofs.Common.{◌≡◌, ℕ, suc, List, ◌++◌, slice_get, Option, Some, option_map, sym, ap, ap₂, ◌∙◌}
 use Rattle.std.specs.Prelude.{codes, decimal}
 use Rattle.std.proofs.lemmas.Option.{slice_get-map}
 use Rattle.fsoe_base.specs.declared.command.End.TheVariants as side
-use Rattle.black_channel.specs.Told.{Told}
-use Rattle.failsafe_io.specs.declared.bit.Bit.{Bit}
-use Rattle.multi_master.specs.Calls.{Rule}
 use Rattle.plant_conf.specs.ConfView.{ConfView}
 use Rattle.plant_conf.specs.declared.conf.BoundSpec.{BoundSpec}
 use Rattle.plant_conf.specs.declared.conf.LinkConf.{LinkConf}
 use Rattle.reaction_bound.specs.Kept.{ReactionView, view_of}
 use Rattle.reaction_bound.specs.Reaction.{broken_of}
 use Rattle.reaction_bound.specs.Reaction as reaction
-use Rattle.plant_model.specs.declared.event.PlantLine.{PlantLine}
-use Rattle.plant_run.specs.declared.machine.Rest.TheVariants as rest
 use Rattle.plant_model.specs.Acts.{Beginning}
 use Rattle.plant_model.specs.BoundLines.{age_text, bit_text, broken_text, limit_of, line_by, said_of}
-use Rattle.plant_run.specs.Given.{GivenStands, rest_in}
-use Rattle.plant_run.specs.Reporting.{Terms}
-use Rattle.plant_run.specs.Script.{ScriptHeading}
-use Rattle.plant_core.specs.Standing.{PlantStands, PlantValue, PlantView, seen, ShowsWorst}
-use Rattle.plant_model.specs.Turns.{Named, Turn}
+use Rattle.plant_core.specs.Standing.{PlantStands, PlantView, ShowsWorst}
+use Rattle.plant_model.specs.Turns.{Turn}
 use Rattle.plant_run.specs.Watching.{ShowsBound, bounds_waiting, lines_by, reactions_after}
 use Rattle.plant_run.proofs.LinkLines.{drop_at, some_is}
 
@@ -40,11 +32,13 @@ bound_shown v bound most master slave broken text m s is = record {
 }
 
 -- the line of the next bound is the first part of what waits, and the rest waits on
-part_of : (b : Beginning) (turns : List Turn) (v : PlantView) (bounds : List BoundSpec) (reactions : List ReactionView) (place : ℕ) (bound : BoundSpec) (r : ReactionView) (most : ℕ) (broken : Option ℕ) (text : List ℕ) → PlantStands b v turns
-    → reactions ≡ reactions_after b turns bounds → slice_get bounds place ≡ Some bound → slice_get reactions place ≡ Some r → ShowsBound v bound most broken text → most ≡ limit_of b.links bound
-    → ((limit : ℕ) (said : List reaction.Said) → r ≡ view_of limit said → broken ≡ broken_of limit said)
-    → bounds_waiting place b.links bounds reactions v.journal ≡ text ++ bounds_waiting (suc place) b.links bounds reactions v.journal
-part_of b turns v bounds reactions place bound r most broken text h watched at there shows limit tells =
+pub bound_part : (b : Beginning) (turns : List Turn) (v : PlantView) (conf : ConfView) (reactions : List ReactionView) (place next : ℕ) (bound : BoundSpec) (r : ReactionView) (most : ℕ) (broken : Option ℕ) (text : List ℕ) → PlantStands b v turns → conf.links ≡ b.links
+    → reactions ≡ reactions_after b turns conf.bounds → slice_get conf.bounds place ≡ Some bound → slice_get reactions place ≡ Some r → ShowsBound v bound most broken text → most ≡ limit_of conf.links bound
+    → ((limit : ℕ) (said : List reaction.Said) → r ≡ view_of limit said → broken ≡ broken_of limit said) → next ≡ suc place
+    → bounds_waiting place conf.links conf.bounds reactions v.journal ≡ text ++ bounds_waiting next conf.links conf.bounds reactions v.journal
+bound_part b turns v conf reactions place next bound r most broken text h links watched at there shows limit tells number =
+    let bounds : List BoundSpec = conf.bounds in
+    let limit_is : most ≡ limit_of b.links bound = limit ∙ ap (λ (z : List LinkConf). limit_of z bound) links in
     let one : ReactionView = view_of (limit_of b.links bound) (said_of b bound turns) in
     let found : slice_get reactions place ≡ Some one =
     ap (λ (z : List ReactionView). slice_get z place) watched
@@ -52,18 +46,7 @@ part_of b turns v bounds reactions place bound r most broken text h watched at t
     ∙ ap (option_map (λ (x : BoundSpec). view_of (limit_of b.links x) (said_of b x turns))) at in
     let is : r ≡ one = some_is r one (sym there ∙ found) in
     let same : r.broken ≡ broken = ap (λ (z : ReactionView). z.broken) is ∙ sym (tells (limit_of b.links bound) (said_of b bound turns) is) in
-    ap₂ (λ (bs : List BoundSpec) (rs : List ReactionView). lines_by b.links v.journal bs rs) (drop_at bounds place bound at) (drop_at reactions place r there)
+    rw (links, number)
+    (ap₂ (λ (bs : List BoundSpec) (rs : List ReactionView). lines_by b.links v.journal bs rs) (drop_at bounds place bound at) (drop_at reactions place r there)
     ∙ ap (λ (z : List ℕ). z ++ bounds_waiting (suc place) b.links bounds reactions v.journal)
-    (ap (λ (z : Option ℕ). line_by b.links v.journal bound z) same ∙ sym (shows.shows b turns h limit))
-
-pub bound_part : {A : Type 0} (rule : A → Rule) (holds : A → List ℕ) (guards : A → Bit → Bit → Bool) (t : Terms) (plant : Option (PlantValue A)) (reactions : List ReactionView) (left : List Named) (before after : Told) (count : ℕ) (h : ScriptHeading) (log : List PlantLine) (text shown : List ℕ)
-    (p : PlantValue A) (conf : ConfView) (place next : ℕ) (bound : BoundSpec) (r : ReactionView) (most : ℕ) (broken : Option ℕ) → GivenStands rule holds guards t plant reactions left before after count h log text → plant ≡ Some p → conf.links ≡ t.begins.links → conf.bounds ≡ t.bounds
-    → slice_get conf.bounds place ≡ Some bound → slice_get reactions place ≡ Some r → ShowsBound (seen rule holds guards p) bound most broken shown → most ≡ limit_of conf.links bound
-    → ((limit : ℕ) (said : List reaction.Said) → r ≡ view_of limit said → broken ≡ broken_of limit said) → next ≡ suc place
-    → rest_in (rest.Bounds place) conf plant reactions ≡ shown ++ rest_in (rest.Bounds next) conf plant reactions
-bound_part rule holds guards t plant reactions left before after count h log text shown p conf place next bound r most broken k is links bounds at there shows limit tells number =
-    let same : k.value ≡ p = some_is k.value p (sym k.plant_is ∙ is) in
-    let stands : PlantStands t.begins (seen rule holds guards p) k.runs.turns = subst (λ v. PlantStands t.begins (seen rule holds guards v) k.runs.turns) same k.runs.stands in
-    let part = part_of t.begins k.runs.turns (seen rule holds guards p) t.bounds reactions place bound r most broken shown stands k.watched
-    (ap (λ (z : List BoundSpec). slice_get z place) (sym bounds) ∙ at) there shows (limit ∙ ap (λ (z : List LinkConf). limit_of z bound) links) tells in
-    rw (is, links, bounds, number) part
+    (ap (λ (z : Option ℕ). line_by b.links v.journal bound z) same ∙ sym (shows.shows b turns h limit_is)))

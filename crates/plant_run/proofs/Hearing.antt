@@ -1,15 +1,16 @@
 -- A plant that runs can tell the reactions of its bounds of a line more, and tells the ages of their connections.
 use Rattle.std.proofs.Common.{◌≡◌, ◌≤◌, ◌<◌, ◌+◌, ◌^◌, ◌==◌, ◌||◌, ℕ, zero, suc, Bool, true, false, List, [], ◌∷◌, All, length, slice_get, Option, Some, None, if◌then◌else◌, refl, sym, ap, subst, ◌∙◌, arith}
-use Rattle.std.specs.Prelude.{IfSome, IsSome, IsSomeAnd, option_map}
+use Rattle.std.specs.Prelude.{IfSome, IsSome, option_map}
 use Rattle.std.proofs.lemmas.Bool.{eq-eqb}
 use Rattle.std.proofs.lemmas.List.{length-map}
 use Rattle.std.proofs.lemmas.List.Elements.{All-cons, All-nil}
 use Rattle.std.proofs.lemmas.Option.{slice_get-map}
 use Rattle.black_channel.specs.Told.{Told}
-use Rattle.failsafe_io.specs.declared.bit.Bit.{Bit}
 use Rattle.plant_conf.specs.declared.conf.BoundSpec.{BoundSpec}
 use Rattle.plant_conf.specs.declared.conf.LinkConf.{LinkConf}
-use Rattle.multi_master.specs.Calls.{Rule}
+use Rattle.fb_net.specs.declared.kind_of.EntryOf.{EntryOf}
+use Rattle.fb_net.specs.declared.kind_of.KindOf.{KindOf}
+use Rattle.multi_master.specs.Calls.{AppView}
 use Rattle.reaction_bound.specs.Kept.{ReactionView, view_of}
 use Rattle.reaction_bound.specs.Reaction as reaction
 use Rattle.plant_model.specs.Acts.{Act, Beginning}
@@ -21,11 +22,10 @@ use Rattle.plant_model.specs.Pair.{is_tick}
 use Rattle.plant_model.specs.Promises.{line_step}
 use Rattle.plant_run.specs.Reporting.{Terms}
 use Rattle.plant_run.specs.Script.{ScriptHeading}
-use Rattle.plant_core.specs.Standing.{PlantStands, PlantValue, PlantView, fixed_in, seen, IsAged}
-use Rattle.plant_model.specs.Turns.{Named, Turn, acts}
+use Rattle.plant_core.specs.Standing.{PlantStands, PlantView, fixed_in, IsAged}
+use Rattle.plant_model.specs.Turns.{Turn, acts}
 use Rattle.plant_run.specs.Watching.{AreAged, CanHear, HasRoom, HearsLine, reactions_after, reactions_by}
 use Rattle.plant_model.specs.declared.event.PlantLine.{PlantLine}
-use Rattle.plant_run.proofs.LinkLines.{some_is}
 
 if_ticks : (tick on : Bool) (before : List reaction.Said) → reaction.ticks (if tick then reaction.Tick on ∷ before else before) ≤ suc (reaction.ticks before)
 if_ticks true on before = omega arith
@@ -47,12 +47,11 @@ rooms b turns (bound ∷ bounds) h =
     All-cons HasRoom (view_of (limit_of b.links bound) (said_of b bound turns)) (reactions_after b turns bounds) (omega (arith, few, h)) (rooms b turns bounds h)
 
 -- a plant that runs can tell its reactions of a line more
-pub can_hear : {A : Type 0} (rule : A → Rule) (holds : A → List ℕ) (guards : A → Bit → Bit → Bool) (t : Terms) (plant : Option (PlantValue A)) (reactions : List ReactionView) (left : List Named) (before after : Told) (count : ℕ) (h : ScriptHeading) (log : List PlantLine) (text : List ℕ)
-    (bounds : List BoundSpec) → GivenStands rule holds guards t plant reactions left before after count h log text → length log + 1 < 2 ^ 64 → t.bounds ≡ bounds → CanHear plant reactions bounds
-can_hear {A = A} rule holds guards t plant reactions left before after count h log text bounds k few same =
-    subst (λ (z : List BoundSpec). CanHear plant reactions z) same
+pub can_hear : {H : Type 0} (view : KindOf H → AppView) (t : Terms) (v : PlantView) (reactions : List ReactionView) (left : List (EntryOf H)) (before after : Told) (count : ℕ) (h : ScriptHeading) (log : List PlantLine) (text : List ℕ) (bounds : List BoundSpec)
+    → GivenStands view t v reactions left before after count h log text → length log + 1 < 2 ^ 64 → t.bounds ≡ bounds → CanHear reactions bounds
+can_hear view t v reactions left before after count h log text bounds k few same =
+    subst (λ (z : List BoundSpec). CanHear reactions z) same
     (record {
-      begun = subst (λ (o : Option (PlantValue A)). IsSome o) (sym k.plant_is) refl;
       count = ap length k.watched ∙ length-map t.bounds (λ bound. view_of (limit_of t.begins.links bound) (said_of t.begins bound k.runs.turns));
       room = subst (λ (z : List ReactionView). All HasRoom z) (sym k.watched) (rooms t.begins k.runs.turns t.bounds (let whole = k.runs.whole in omega (arith, whole, few)));
     })
@@ -122,28 +121,18 @@ are_aged bounds links vs place bound e at = record {
   drive = aged_at bounds links vs bound.drive.link e (drive_named bounds place bound at);
 }
 
--- so it is of a plant that runs
-pub given_aged : {A : Type 0} (rule : A → Rule) (holds : A → List ℕ) (guards : A → Bit → Bit → Bool) (t : Terms) (plant : Option (PlantValue A)) (reactions : List ReactionView) (left : List Named) (before after : Told) (count : ℕ) (h : ScriptHeading) (log : List PlantLine) (text : List ℕ)
-    (p : PlantValue A) (bounds : List BoundSpec) (place : ℕ) (bound : BoundSpec) → GivenStands rule holds guards t plant reactions left before after count h log text → plant ≡ Some p → bounds ≡ t.bounds → slice_get bounds place ≡ Some bound → AreAged p.links bound
-given_aged {A = A} rule holds guards t plant reactions left before after count h log text p bounds place bound k is same at =
-    let value : k.value ≡ p = some_is k.value p (sym k.plant_is ∙ is) in
-    subst (λ (v : PlantValue A). AreAged v.links bound) value
-    (are_aged t.bounds t.begins.links k.value.links place bound k.fixed (ap (λ (z : List BoundSpec). slice_get z place) (sym same) ∙ at))
-
 -- what is heard of bounds is heard of the same ones
-pub heard_same : {A : Type 0} (rule : A → Rule) (holds : A → List ℕ) (guards : A → Bit → Bit → Bool) (plant : Option (PlantValue A)) (these those : List BoundSpec) (tick : Bool) (old new : List ReactionView) → these ≡ those
-    → IsSomeAnd plant (λ p. HearsLine (seen rule holds guards p) these tick old new) → IsSomeAnd plant (λ p. HearsLine (seen rule holds guards p) those tick old new)
-heard_same rule holds guards plant these those tick old new e h = subst (λ (z : List BoundSpec). IsSomeAnd plant (λ p. HearsLine (seen rule holds guards p) z tick old new)) e h
+pub heard_same : (v : PlantView) (these those : List BoundSpec) (tick : Bool) (old new : List ReactionView) → these ≡ those → HearsLine v these tick old new → HearsLine v those tick old new
+heard_same v these those tick old new e h = subst (λ (z : List BoundSpec). HearsLine v z tick old new) e h
 
--- reactions to which nothing was said have room
-pub fresh_rooms : (links : List LinkConf) (bounds : List BoundSpec) (rs : List ReactionView) → rs ≡ reactions_by links (λ bound. []) bounds → All HasRoom rs
-fresh_rooms links [] rs e = subst (λ (z : List ReactionView). All HasRoom z) (sym e) (All-nil HasRoom)
-fresh_rooms links (bound ∷ bounds) rs e =
-    subst (λ (z : List ReactionView). All HasRoom z) (sym e)
-    (All-cons HasRoom (view_of (limit_of links bound) []) (reactions_by links (λ bound. []) bounds) (omega arith) (fresh_rooms links bounds (reactions_by links (λ bound. []) bounds) refl))
+-- reactions to which nothing was said can be told of a line
+fresh_rooms : (links : List LinkConf) (bounds : List BoundSpec) → All HasRoom (reactions_by links (λ bound. []) bounds)
+fresh_rooms links [] = All-nil HasRoom
+fresh_rooms links (bound ∷ bounds) = All-cons HasRoom (view_of (limit_of links bound) []) (reactions_by links (λ bound. []) bounds) (omega arith) (fresh_rooms links bounds)
+
+pub fresh_hear : (links : List LinkConf) (bounds : List BoundSpec) (rs : List ReactionView) → rs ≡ reactions_by links (λ bound. []) bounds → CanHear rs bounds
+fresh_hear links bounds rs e = rw e (record { count = length-map bounds (λ bound. view_of (limit_of links bound) []); room = fresh_rooms links bounds })
 
 -- the start of a plant is heard first
-pub first_heard : (b : Beginning) (v : PlantView) (these bounds : List BoundSpec) (links : List LinkConf) (old new : List ReactionView) → PlantStands b v [] → HearsLine v these false old new → these ≡ bounds → links ≡ b.links
-    → old ≡ reactions_by links (λ bound. []) these → new ≡ reactions_after b [] bounds
-first_heard b v these bounds links old new h heard same e is =
-    heard.hears b [] (λ bound. []) h (is ∙ ap (λ (z : List LinkConf). reactions_by z (λ bound. []) these) e) ∙ ap (λ (z : List BoundSpec). reactions_after b [] z) same
+pub first_heard : (b : Beginning) (v : PlantView) (bounds : List BoundSpec) (old new : List ReactionView) → PlantStands b v [] → HearsLine v bounds false old new → old ≡ reactions_by b.links (λ bound. []) bounds → new ≡ reactions_after b [] bounds
+first_heard b v bounds old new h heard is = heard.hears b [] (λ bound. []) h is

@@ -1,26 +1,27 @@
 -- The lines of the connections that wait.
-use Rattle.std.proofs.Common.{◌≡◌, ◌<◌, ◌+◌, ℕ, zero, suc, Bool, List, [], ◌∷◌, ◌++◌, drop, length, slice_get, refl, sym, ap, ap₂, subst, ◌∙◌, arith}
+use Rattle.std.proofs.Common.{◌≡◌, ◌<◌, ◌+◌, ℕ, zero, suc, List, [], ◌∷◌, ◌++◌, drop, length, slice_get, refl, sym, ap, ap₂, ◌∙◌, arith}
 use Rattle.std.specs.Prelude.{IsSomeAnd, Option, Some, None, codes, decimal}
 use Rattle.hex.specs.Hex.{encode_lower}
 use Rattle.fsoe_base.specs.Command.{state_name}
 use Rattle.fsoe_base.specs.declared.command.End.TheVariants as side
 use Rattle.fsoe_base.specs.declared.command.State.{State}
 use Rattle.param_load.specs.declared.entry.Entry.{Entry}
-use Rattle.black_channel.specs.Told.{Told}
-use Rattle.failsafe_io.specs.declared.bit.Bit.{Bit}
-use Rattle.multi_master.specs.Calls.{Rule}
 use Rattle.plant_conf.specs.declared.conf.LinkConf.{LinkConf}
-use Rattle.reaction_bound.specs.Kept.{ReactionView}
 use Rattle.plant_model.specs.declared.journal.JournalStep.{JournalStep}
 use Rattle.plant_model.specs.Acts.{Beginning}
-use Rattle.plant_run.specs.Given.{GivenStands, waiting, waiting_in}
+use Rattle.black_channel.specs.Told.{Told}
+use Rattle.fb_net.specs.declared.kind_of.EntryOf.{EntryOf}
+use Rattle.fb_net.specs.declared.kind_of.KindOf.{KindOf}
+use Rattle.multi_master.specs.Calls.{AppView}
+use Rattle.reaction_bound.specs.Kept.{ReactionView}
+use Rattle.plant_model.specs.declared.event.PlantLine.{PlantLine}
+use Rattle.plant_run.specs.Script.{ScriptHeading}
+use Rattle.plant_run.specs.Given.{GivenStands, waiting}
 use Rattle.plant_model.specs.Pair.{link_at, outputs_at, pair, state_at}
 use Rattle.plant_model.specs.PlantReport.{link_line, link_lines}
 use Rattle.plant_run.specs.Reporting.{Terms}
-use Rattle.plant_run.specs.Script.{ScriptHeading}
-use Rattle.plant_core.specs.Standing.{PlantStands, PlantValue, PlantView, ShowsPair, seen}
-use Rattle.plant_model.specs.Turns.{Named, Turn}
-use Rattle.plant_model.specs.declared.event.PlantLine.{PlantLine}
+use Rattle.plant_core.specs.Standing.{PlantStands, PlantView, ShowsPair}
+use Rattle.plant_model.specs.Turns.{Turn}
 use Rattle.plant_core.specs.Making.{links_made}
 use Rattle.plant_core.proofs.Acting.{same_count}
 use Rattle.plant_core.proofs.Made.{made_count}
@@ -63,11 +64,6 @@ next_line (Some l) links place text steps at h =
     ap (λ (z : List LinkConf). link_lines (suc place) z steps) (drop_at links place l at)
     ∙ ap (λ (z : List ℕ). z ++ link_lines (suc (suc place)) (drop (suc place) links) steps) (sym h)
 
--- the line of the next connection is the first part of what waits, and the rest waits on
-pub part_is : (b : Beginning) (turns : List Turn) (v : PlantView) (place : ℕ) (text : List ℕ) → PlantStands b v turns → ShowsPair v (suc place) text (λ l w. link_line l (suc place) w)
-    → waiting (suc place) b.links v.journal ≡ text ++ waiting (suc (suc place)) b.links v.journal
-part_is b turns v place text stands shown = next_line (slice_get b.links place) b.links place text v.journal refl (shown.shows b turns stands)
-
 -- none waits after the last
 none_dropped : {X : Type 0} (xs : List X) (place : ℕ) → slice_get xs place ≡ None → drop place xs ≡ []
 none_dropped [] zero e = refl
@@ -79,28 +75,18 @@ pub none_after : (links : List LinkConf) (place : ℕ) (steps : List JournalStep
 none_after links place steps e = ap (λ (z : List LinkConf). link_lines (suc place) z steps) (none_dropped links place e)
 
 -- the next part of what waits, where a line more does
-next_part : {A : Type 0} (rule : A → Rule) (holds : A → List ℕ) (guards : A → Bit → Bit → Bool) (t : Terms) (plant : Option (PlantValue A)) (reactions : List ReactionView) (left : List Named) (before after : Told) (count : ℕ) (h : ScriptHeading) (log : List PlantLine) (text shown : List ℕ)
-    (p : PlantValue A) (next : ℕ) → GivenStands rule holds guards t plant reactions left before after count h log text → plant ≡ Some p → 0 < next → ShowsPair (seen rule holds guards p) next shown (λ conf w. link_line conf next w)
-    → waiting next t.begins.links p.journal ≡ shown ++ waiting (next + 1) t.begins.links p.journal
-next_part rule holds guards t plant reactions left before after count h log text shown p zero k is above shows = absurd (omega (arith, above))
-next_part rule holds guards t plant reactions left before after count h log text shown p (suc place) k is above shows =
-    let same : k.value ≡ p = some_is k.value p (sym k.plant_is ∙ is) in
-    let stands : PlantStands t.begins (seen rule holds guards p) k.runs.turns = subst (λ v. PlantStands t.begins (seen rule holds guards v) k.runs.turns) same k.runs.stands in
+pub part_shown : (b : Beginning) (turns : List Turn) (v : PlantView) (next : ℕ) (links : List LinkConf) (text : List ℕ) → PlantStands b v turns → links ≡ b.links → 0 < next → ShowsPair v next text (λ conf w. link_line conf next w)
+    → waiting next links v.journal ≡ text ++ waiting (next + 1) links v.journal
+part_shown b turns v zero links text stands same above shows = absurd (omega (arith, above))
+part_shown b turns v (suc place) links text stands same above shows =
     let number : suc (suc place) ≡ suc place + 1 = omega arith in
-    part_is t.begins k.runs.turns (seen rule holds guards p) place shown stands shows ∙ ap (λ (n : ℕ). shown ++ waiting n t.begins.links p.journal) number
-
-pub part_shown : {A : Type 0} (rule : A → Rule) (holds : A → List ℕ) (guards : A → Bit → Bit → Bool) (t : Terms) (plant : Option (PlantValue A)) (reactions : List ReactionView) (left : List Named) (before after : Told) (count : ℕ) (h : ScriptHeading) (log : List PlantLine) (text shown : List ℕ)
-    (p : PlantValue A) (next : ℕ) (links : List LinkConf) → GivenStands rule holds guards t plant reactions left before after count h log text → plant ≡ Some p → 0 < next → ShowsPair (seen rule holds guards p) next shown (λ conf w. link_line conf next w) → links ≡ t.begins.links
-    → waiting_in next links plant ≡ shown ++ waiting_in (next + 1) links plant
-part_shown rule holds guards t plant reactions left before after count h log text shown p next links k is above shows same =
-    rw (is, same) (next_part rule holds guards t plant reactions left before after count h log text shown p next k is above shows)
+    rw same (next_line (slice_get b.links place) b.links place text v.journal refl (shows.shows b turns stands) ∙ ap (λ (n : ℕ). text ++ waiting n b.links v.journal) number)
 
 -- none waits after the last
-pub links_done : {A : Type 0} (rule : A → Rule) (holds : A → List ℕ) (guards : A → Bit → Bit → Bool) (t : Terms) (plant : Option (PlantValue A)) (reactions : List ReactionView) (left : List Named) (before after : Told) (count : ℕ) (h : ScriptHeading) (log : List PlantLine) (text : List ℕ)
-    (p : PlantValue A) (next most : ℕ) (links : List LinkConf) → GivenStands rule holds guards t plant reactions left before after count h log text → plant ≡ Some p → links ≡ t.begins.links → most ≡ length p.links → most < next → waiting_in next links plant ≡ []
-links_done rule holds guards t plant reactions left before after count h log text p zero most links k is same e past = absurd (omega (arith, past))
-links_done {A = A} rule holds guards t plant reactions left before after count h log text p (suc place) most links k is same e past =
-    let value : k.value ≡ p = some_is k.value p (sym k.plant_is ∙ is) in
-    let kept : length k.value.links ≡ length t.begins.links = same_count k.value.links (links_made 1 t.bounds t.begins.links) k.fixed ∙ made_count 1 t.bounds t.begins.links in
-    let whole : length links ≡ most = ap length same ∙ sym kept ∙ ap (λ (v : PlantValue A). length v.links) value ∙ sym e in
-    ap (waiting_in (suc place) links) is ∙ none_after links place p.journal (slice_get_past links place (omega arith))
+pub links_done : {H : Type 0} (view : KindOf H → AppView) (t : Terms) (v : PlantView) (reactions : List ReactionView) (left : List (EntryOf H)) (before after : Told) (count : ℕ) (h : ScriptHeading) (log : List PlantLine) (text : List ℕ) (next most : ℕ) (links : List LinkConf)
+    → GivenStands view t v reactions left before after count h log text → links ≡ t.begins.links → most ≡ length v.links → most < next → waiting next links v.journal ≡ []
+links_done view t v reactions left before after count h log text zero most links k same e past = absurd (omega (arith, past))
+links_done view t v reactions left before after count h log text (suc place) most links k same e past =
+    let kept : length v.links ≡ length t.begins.links = same_count v.links (links_made 1 t.bounds t.begins.links) k.fixed ∙ made_count 1 t.bounds t.begins.links in
+    let whole : length links ≡ most = ap length same ∙ sym kept ∙ sym e in
+    none_after links place v.journal (slice_get_past links place (omega arith))

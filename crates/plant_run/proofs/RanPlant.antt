@@ -1,5 +1,5 @@
 -- What a run over a script leaves is what a plant did.
-use Rattle.std.proofs.Common.{◌≡◌, ℕ, List, [], Option, Some, None, All, sym, ap, subst, ◌∙◌, inl, inr}
+use Rattle.std.proofs.Common.{◌≡◌, ℕ, List, [], Option, Some, None, sym, ap, subst, ◌∙◌, inl, inr}
 use Rattle.std.specs.Prelude.{IfSome}
 use Rattle.std.proofs.lemmas.List.{append-nil}
 use Rattle.std.specs.List.{IsDistinct}
@@ -9,7 +9,6 @@ use Rattle.fsoe_io.specs.declared.status.Status.{Status}
 use Rattle.fsoe_io.specs.declared.status.Status.TheVariants as status
 use Rattle.black_channel.specs.Told.{Told}
 use Rattle.exchange_model.specs.Fair.{Fair}
-use Rattle.plant_conf.specs.Kept.{HasSameLengths}
 use Rattle.plant_conf.specs.declared.conf.LinkConf.{LinkConf}
 use Rattle.reaction_bound.specs.Kept.{ReactionView}
 use Rattle.file_run.specs.Left.{Done, LeavesAs, MayFailIn}
@@ -17,20 +16,20 @@ use Rattle.file_run.specs.Running.{Leaves}
 use Rattle.file_run.specs.Outside.{Outside}
 use Rattle.file_run.specs.Ran.{RanOver}
 use Rattle.file_run.specs.Reporting.{Reporting}
-use Rattle.plant_model.specs.Acts.{journal, uses}
+use Rattle.plant_model.specs.Acts.{journal}
 use Rattle.plant_model.specs.FairPairs.{PairsAreFair}
 use Rattle.plant_model.specs.Pair.{link_at}
 use Rattle.plant_run.specs.Ran.{IsReportOf, RanPlant}
-use Rattle.plant_model.specs.PlantReport.{ticks_text}
 use Rattle.plant_run.specs.Reporting.{Terms, plant_reporting}
-use Rattle.plant_run.specs.Running.{RunStands}
+use Rattle.plant_run.specs.Given.{GivenStands}
+use Rattle.fb_net.specs.declared.kind_of.EntryOf.{EntryOf}
+use Rattle.fb_net.specs.declared.kind_of.KindOf.{KindOf}
+use Rattle.multi_master.specs.Calls.{AppView}
 use Rattle.plant_run.specs.Script.{ScriptHeading}
 use Rattle.plant_core.specs.Standing.{PlantView}
-use Rattle.plant_model.specs.Turns.{Named, Turn, acts, said, said_by_turns}
-use Rattle.plant_model.specs.Uses.{Trace}
+use Rattle.plant_model.specs.Turns.{Turn, acts, said, said_by_turns}
 use Rattle.plant_run.specs.Watching.{reactions_after}
 use Rattle.plant_model.specs.declared.event.PlantLine.{PlantLine}
-use Rattle.plant_model.specs.declared.journal.JournalStep.{JournalStep}
 use Rattle.plant_core.proofs.Worlds.{broken_by_other}
 use Rattle.plant_core.proofs.Worlds.{plants_are_fair}
 use Rattle.plant_core.proofs.Worlds.{reacts}
@@ -62,15 +61,10 @@ leaves_as t one two f d status.Usage ended o l = l
 leaves_as t one two f d status.Config ended o l = l
 leaves_as t one two f d status.Desk ended o l = l
 
--- a plant stood for these lines, its channel was used so, and these are the reactions of its bounds
-pub record Stood (t : Terms) (h : ScriptHeading) (log : List PlantLine) (text : List ℕ) (before after : Told) (steps : List JournalStep) (reactions : List ReactionView) : Type 0 where
-  pub view : PlantView
-  pub left : List Named
-  pub runs : RunStands t view left h log text
-  pub watched : reactions ≡ reactions_after t.begins runs.turns t.bounds
-  pub steps_are : steps ≡ view.journal
-  pub channel : Trace (uses t.begins (acts runs.turns)) before after
-  pub same_lengths : All HasSameLengths t.begins.links
+-- a plant stood for these lines
+pub record Stood {H : Type 0} (view : KindOf H → AppView) (t : Terms) (v : PlantView) (reactions : List ReactionView) (left : List (EntryOf H)) (before after : Told) (h : ScriptHeading) (log : List PlantLine) (text : List ℕ) : Type 0 where
+  pub count : ℕ
+  pub given : GivenStands view t v reactions left before after count h log text
 
 -- nothing happened to any connection in no steps
 fair_none : (lengths : Lengths) → Fair lengths []
@@ -84,37 +78,37 @@ fair_if_none (Some link) = fair_none link.master.lengths
 none_is_fair : (links : List LinkConf) → PairsAreFair links []
 none_is_fair links = λ k. fair_if_none (link_at links k)
 
-pub ran_plant : (t : Terms) (ended : Ended) (o : Outside) (before after : Told) (steps : List JournalStep) (reactions : List ReactionView) (unbegun : Type 0) (stands : ScriptHeading → List PlantLine → List ℕ → Type 0) (closes : Closing) → RanOver (plant_reporting t) ended o
-    → Leaves unbegun (plant_reporting t) stands closes ended o → (unbegun → (after ≡ before) × (steps ≡ [])) → ((h : ScriptHeading) (log : List PlantLine) (text : List ℕ) → stands h log text → Stood t h log text before after steps reactions)
-    → ((turns : List Turn) → steps ≡ journal t.begins (acts turns) → reactions ≡ reactions_after t.begins turns t.bounds → Closer closes (IsReportOf t turns steps)) → RanPlant t ended o before after steps
-ran_plant t ended o before after steps reactions unbegun stands closes ran leaves nothing stood closed =
+pub ran_plant : {H : Type 0} (view : KindOf H → AppView) (t : Terms) (v : PlantView) (ended : Ended) (o : Outside) (before after : Told) (reactions : List ReactionView) (left : List (EntryOf H)) (unbegun : Type 0) (stands : ScriptHeading → List PlantLine → List ℕ → Type 0) (closes : Closing) → RanOver (plant_reporting t) ended o
+    → Leaves unbegun (plant_reporting t) stands closes ended o → (unbegun → (after ≡ before) × (v.journal ≡ [])) → ((h : ScriptHeading) (log : List PlantLine) (text : List ℕ) → stands h log text → Stood view t v reactions left before after h log text)
+    → ((turns : List Turn) → v.journal ≡ journal t.begins (acts turns) → reactions ≡ reactions_after t.begins turns t.bounds → Closer closes (IsReportOf t turns v.journal)) → RanPlant t ended o before after v.journal
+ran_plant view t v ended o before after reactions left unbegun stands closes ran leaves nothing stood closed =
     elim leaves [
       | inl none ↦
           let was = nothing none.0 in
           record { run = ran; turns = None; did = record { journal_is = was.1; left = none.1 }; channel = was.0; fair = subst (PairsAreFair t.begins.links) (sym was.1) (none_is_fair t.begins.links) }
       | inr did ↦
           let d = did.done in
-          let s = stood d.heading d.log d.text did.stood in
-          let journal_is : steps ≡ journal t.begins (acts s.runs.turns) = s.steps_are ∙ s.runs.stands.has_done.journal_is in
+          let k = (stood d.heading d.log d.text did.stood).given in
+          let s = k.runs in
           record {
             run = ran;
-            turns = Some s.runs.turns;
+            turns = Some s.turns;
             did = record {
-              turns_are = s.runs.stands.turns_are;
-              journal_is = journal_is;
+              turns_are = s.stands.turns_are;
+              journal_is = s.stands.has_done.journal_is;
               done = d;
-              said_are = sym (ap (said t.spare) (sym (append-nil d.log)) ∙ s.runs.says [] ∙ append-nil (said_by_turns s.runs.turns));
-              whole = s.runs.whole;
-              answered = s.runs.stands.has_done.answered;
-              guarded = s.runs.stands.has_done.guarded;
-              reacts = reacts t.begins s.view s.runs.turns s.runs.stands s.same_lengths;
-              broken = broken_by_other t.begins s.view s.runs.turns s.runs.stands s.same_lengths;
-              text_is = s.runs.text_is ∙ ap (ticks_text t.begins.links) (sym s.steps_are);
+              said_are = sym (ap (said t.spare) (sym (append-nil d.log)) ∙ s.says [] ∙ append-nil (said_by_turns s.turns));
+              whole = s.whole;
+              answered = s.stands.has_done.answered;
+              guarded = s.stands.has_done.guarded;
+              reacts = reacts t.begins v s.turns s.stands k.same_lengths;
+              broken = broken_by_other t.begins v s.turns s.stands k.same_lengths;
+              text_is = s.text_is;
               begun = did.begun;
-              ends = leaves_as t closes (IsReportOf t s.runs.turns steps) (closed s.runs.turns journal_is s.watched) d ended.status ended o did.ends;
+              ends = leaves_as t closes (IsReportOf t s.turns v.journal) (closed s.turns s.stands.has_done.journal_is k.watched) d ended.status ended o did.ends;
             };
-            channel = s.channel;
-            fair = subst (PairsAreFair t.begins.links) (sym s.steps_are) (plants_are_fair t.begins s.view s.runs.turns s.runs.stands s.same_lengths);
+            channel = k.channel;
+            fair = plants_are_fair t.begins v s.turns s.stands k.same_lengths;
           }
     ]
 

@@ -1,17 +1,15 @@
 -- A plant that runs goes on by a line of its script.
 use Rattle.std.proofs.Common.{◌≡◌, ℕ, ◌+◌, ◌≤◌, Bool, true, false, cond, suc, List, [], ◌∷◌, ◌++◌, map, All, if◌then◌else◌, refl, sym, ap, ap₂, subst, ◌∙◌, append_assoc, arith, inl, inr}
-use Rattle.std.specs.Prelude.{◌⊎◌, IfSome, IsSomeAnd, Option, Some, None, Ok, codes, decimal, string_bytes}
+use Rattle.std.specs.Prelude.{◌⊎◌, Option, Some, None, codes, decimal, string_bytes}
 use Rattle.std.proofs.lemmas.List.{append-nil, length_push}
 use Rattle.std.proofs.lemmas.List.Sums.{sum_by-append, sum_by-cons}
 use Rattle.black_channel.specs.Told.{Told}
-use Rattle.failsafe_io.specs.declared.bit.Bit.{Bit}
 use Rattle.fb_net.specs.declared.kind_of.EntryOf.{EntryOf}
 use Rattle.fb_net.specs.declared.kind_of.KindOf.{KindOf}
 use Rattle.fb_net.specs.declared.kind_of.KindOf.TheVariants as kind
 use Rattle.file_run.specs.Machine.{IsSaid, EndsStopped}
 use Rattle.file_run.specs.Ran.{EndsWhole}
 use Rattle.file_run.specs.Report.{ended_with, other_line}
-use Rattle.std.specs.Option.{option_map_or}
 use Rattle.plant_run.specs.declared.machine.Rest.TheVariants as rest
 use Rattle.file_run.specs.declared.stopped.Stopped.{Stopped}
 use Rattle.file_run.specs.declared.stopped.Stopped.TheVariants as stopped
@@ -19,8 +17,7 @@ use Rattle.file_run.proofs.EndedWith.{ended_whole}
 use Rattle.fsoe_io.specs.declared.status.Ended.{Ended}
 use Rattle.schedule_file.specs.Input.{AtEnd}
 use Rattle.fsoe_base.specs.declared.lengths.Lengths.{Lengths}
-use Rattle.multi_master.specs.Calls.{Rule}
-use Rattle.multi_master.specs.Standing.{app_view}
+use Rattle.multi_master.specs.Calls.{AppView}
 use Rattle.plant_setup.specs.Names.{IsTaken, place_of}
 use Rattle.plant_conf.specs.ConfView.{ConfView}
 use Rattle.plant_conf.specs.Kept.{HasSameLengths}
@@ -35,9 +32,9 @@ use Rattle.plant_model.specs.declared.journal.JournalStep.{JournalStep}
 use Rattle.plant_model.specs.declared.journal.JournalStep.TheVariants as step
 use Rattle.plant_model.specs.Acts.{Beginning, Said, Event, App, Act, Start, call_of, journal, offers, uses, uses_after}
 use Rattle.plant_model.specs.FairPairs.{lengths_in, Fits}
-use Rattle.plant_run.specs.Given.{GivenCloses, GivenStands, journal_in, named, rest_in, waiting_in}
+use Rattle.plant_run.specs.Given.{GivenCloses, GivenStands, named, rest_in, terms_of, waiting}
 use Rattle.plant_model.specs.Pair.{has_other, is_tick, lowest_other, ticks}
-use Rattle.plant_model.specs.PlantReport.{last_lines, report_end, report_text, tick_lines, ticks_text}
+use Rattle.plant_model.specs.PlantReport.{last_lines, tick_lines, ticks_text}
 use Rattle.plant_model.specs.Promises.{line_step}
 use Rattle.plant_model.specs.JournalLaws.{line_steps}
 use Rattle.plant_run.specs.Ran.{IsReportOf}
@@ -46,16 +43,14 @@ use Rattle.plant_model.specs.BoundLines.{bound_line, bound_lines, said_of}
 use Rattle.plant_core.specs.Making.{links_made}
 use Rattle.plant_run.specs.Running.{RunStands, LineFits}
 use Rattle.plant_run.specs.Script.{ScriptHeading, happening, script_format}
-use Rattle.plant_run.specs.ScriptLine.{plant_line}
-use Rattle.plant_core.specs.Standing.{Follows, Plays, PlantStands, PlantValue, PlantView, TellsOther, fixed_in, lengths_kept, seen}
+use Rattle.plant_core.specs.Standing.{Follows, Plays, PlantStands, PlantView, Starts, TellsOther, fixed_in, lengths_kept}
 use Rattle.plant_model.specs.Turns.{Named, Taken, Turn, acts, said, said_by_turns, said_with, turn_acts}
 use Rattle.plant_model.specs.Uses.{Trace, Use}
-use Rattle.plant_run.specs.Watching.{HearsLine, bounds_waiting, lines_by, reactions_after}
+use Rattle.plant_run.specs.Watching.{HearsLine, lines_by, reactions_after}
 use Rattle.plant_core.proofs.Acting.{trace_append}
 use Rattle.plant_model.proofs.Lines.{no_lines_by}
 use Rattle.plant_core.proofs.Made.{lengths_made}
 use Rattle.plant_core.proofs.Pulling.{more_uses}
-use Rattle.plant_run.proofs.RanPlant.{Stood}
 use Rattle.plant_run.proofs.ScriptFits.{line_fits}
 use Rattle.plant_run.proofs.Scripted.{plant_unmet}
 use Rattle.plant_run.proofs.TakenApps.{app_missing, app_taken}
@@ -120,52 +115,33 @@ used b turns one new before mid after h p =
     (trace_append (uses b (acts turns)) (uses_after b (turn_acts one p.pulled) (acts turns)) before mid after h p.channel)
 
 -- what is written at a line: the lines of a tick, the first of which numbers it; else nothing
-abbrev pub written_at : {A : Type 0} → Said → ℕ → List LinkConf → Option (PlantValue A) → List ℕ
-written_at one count links plant =
-    if is_tick (line_step one) then (codes "tick" ++ codes " " ++ decimal count ++ codes "\n") ++ waiting_in 1 links plant else []
+abbrev pub written_at : Said → ℕ → List LinkConf → List JournalStep → List ℕ
+written_at one count links steps =
+    if is_tick (line_step one) then (codes "tick" ++ codes " " ++ decimal count ++ codes "\n") ++ waiting 1 links steps else []
 
 written_if : (tick : Bool) (a b piece : List ℕ) → a ≡ b → piece ≡ (if tick then a else []) → piece ≡ (if tick then b else [])
 written_if tick a b piece same is = is ∙ ap (λ (z : List ℕ). if tick then z else []) same
 
 -- a plant that runs goes on by a line
-goes_value : {A : Type 0} (rule : A → Rule) (holds : A → List ℕ) (guards : A → Bit → Bit → Bool) (t : Terms) (old_reactions new_reactions : List ReactionView) (left next : List Named) (before mid after : Told) (count now : ℕ) (h : ScriptHeading) (log : List PlantLine) (text piece : List ℕ)
-    (event : PlantLine) (one : Said) (old : Option (PlantValue A)) (k : GivenStands rule holds guards t old old_reactions left before mid count h log text) (new : PlantValue A) → Follows (seen rule holds guards k.value) one (seen rule holds guards new) mid after
-    → fixed_in new.links ≡ fixed_in k.value.links → HearsLine (seen rule holds guards new) t.bounds (is_tick (line_step one)) old_reactions new_reactions → ((more : List PlantLine) → said left (event ∷ more) ≡ one ∷ said next more) → now ≡ count + one_if (is_tick (line_step one)) → piece ≡ written_at one now t.begins.links (Some new)
-    → GivenStands rule holds guards t (Some new) new_reactions next before after now h (log ++ event ∷ []) (text ++ piece)
+pub goes_on : {H : Type 0} (view : KindOf H → AppView) (t : Terms) (old new : PlantView) (old_reactions new_reactions : List ReactionView) (left next : List (EntryOf H)) (before mid after : Told) (count now : ℕ) (h : ScriptHeading) (log : List PlantLine) (text piece : List ℕ) (event : PlantLine) (one : Said)
+    → GivenStands view t old old_reactions left before mid count h log text → Follows old one new mid after → fixed_in new.links ≡ fixed_in old.links → HearsLine new t.bounds (is_tick (line_step one)) old_reactions new_reactions
+    → ((more : List PlantLine) → said (map (named view) left) (event ∷ more) ≡ one ∷ said (map (named view) next) more) → now ≡ count + one_if (is_tick (line_step one)) → piece ≡ written_at one now t.begins.links new.journal
+    → GivenStands view t new new_reactions next before after now h (log ++ event ∷ []) (text ++ piece)
 unfolding turned
-goes_value rule holds guards t old_reactions new_reactions left next before mid after count now h log text piece event one old k new follows same hears says counts is =
+goes_on view t old new old_reactions new_reactions left next before mid after count now h log text piece event one k follows same hears says counts is =
     let p = follows.plays t.begins k.runs.turns k.runs.stands in
-    let after_line = played t (seen rule holds guards k.value) (seen rule holds guards new) left h log text one mid after k.runs p in
-    let counted : now ≡ ticks new.journal = let more = ticks_after one k.value.journal new.journal after_line in let before = k.counted in omega (arith, more, before, counts) in
+    let after_line = played t old new (map (named view) left) h log text one mid after k.runs p in
+    let counted : now ≡ ticks new.journal = let more = ticks_after one old.journal new.journal after_line in let before = k.counted in omega (arith, more, before, counts) in
     record {
-      value = new;
-      plant_is = refl;
-      runs = turned t (seen rule holds guards k.value) (seen rule holds guards new) left next h log text piece event one mid after k.runs p says
-          (written_if (is_tick (line_step one)) _ (tick_lines t.begins.links new.journal) piece (ap (λ (n : ℕ). (codes "tick " ++ decimal n ++ codes "\n") ++ waiting_in 1 t.begins.links (Some new)) counted) is);
-      channel = used t.begins k.runs.turns one (seen rule holds guards new) before mid after k.channel p;
+      runs = turned t old new (map (named view) left) (map (named view) next) h log text piece event one mid after k.runs p says
+          (written_if (is_tick (line_step one)) _ (tick_lines t.begins.links new.journal) piece (ap (λ (n : ℕ). (codes "tick " ++ decimal n ++ codes "\n") ++ waiting 1 t.begins.links new.journal) counted) is);
+      channel = used t.begins k.runs.turns one new before mid after k.channel p;
       fixed = same ∙ k.fixed;
       watched = hears.hears t.begins (record { said = one; pulled = p.pulled } ∷ k.runs.turns) (λ bound. said_of t.begins bound k.runs.turns) p.stands k.watched;
       same_lengths = k.same_lengths;
       counted = counted;
       few = let most = k.few in let one_more = one_most (is_tick (line_step one)) in omega (arith, most, counts, one_more, length_push log event);
     }
-
-goes_some : {A : Type 0} (rule : A → Rule) (holds : A → List ℕ) (guards : A → Bit → Bit → Bool) (t : Terms) (old_reactions new_reactions : List ReactionView) (left next : List Named) (before mid after : Told) (count now : ℕ) (h : ScriptHeading) (log : List PlantLine) (text piece : List ℕ)
-    (event : PlantLine) (one : Said) (old : Option (PlantValue A)) (k : GivenStands rule holds guards t old old_reactions left before mid count h log text) (new : Option (PlantValue A))
-    → IsSomeAnd new (λ v. Follows (seen rule holds guards k.value) one (seen rule holds guards v) mid after × (fixed_in v.links ≡ fixed_in k.value.links)) → IsSomeAnd new (λ v. HearsLine (seen rule holds guards v) t.bounds (is_tick (line_step one)) old_reactions new_reactions) → ((more : List PlantLine) → said left (event ∷ more) ≡ one ∷ said next more)
-    → now ≡ count + one_if (is_tick (line_step one)) → piece ≡ written_at one now t.begins.links new → GivenStands rule holds guards t new new_reactions next before after now h (log ++ event ∷ []) (text ++ piece)
-goes_some rule holds guards t old_reactions new_reactions left next before mid after count now h log text piece event one old k None follows hears says counts is = absurd follows
-goes_some rule holds guards t old_reactions new_reactions left next before mid after count now h log text piece event one old k (Some new) follows hears says counts is =
-    goes_value rule holds guards t old_reactions new_reactions left next before mid after count now h log text piece event one old k new follows.0 follows.1 hears says counts is
-
-pub goes_on : {A : Type 0} (rule : A → Rule) (holds : A → List ℕ) (guards : A → Bit → Bit → Bool) (t : Terms) (old_reactions new_reactions : List ReactionView) (left next : List Named) (before mid after : Told) (count now : ℕ) (h : ScriptHeading) (log : List PlantLine) (text piece : List ℕ)
-    (event : PlantLine) (one : Said) (old new : Option (PlantValue A)) → GivenStands rule holds guards t old old_reactions left before mid count h log text
-    → IsSomeAnd old (λ o. IsSomeAnd new (λ v. Follows (seen rule holds guards o) one (seen rule holds guards v) mid after × (fixed_in v.links ≡ fixed_in o.links))) → IsSomeAnd new (λ v. HearsLine (seen rule holds guards v) t.bounds (is_tick (line_step one)) old_reactions new_reactions) → ((more : List PlantLine) → said left (event ∷ more) ≡ one ∷ said next more)
-    → now ≡ count + one_if (is_tick (line_step one)) → piece ≡ written_at one now t.begins.links new → GivenStands rule holds guards t new new_reactions next before after now h (log ++ event ∷ []) (text ++ piece)
-goes_on {A = A} rule holds guards t old_reactions new_reactions left next before mid after count now h log text piece event one old new k follows hears says counts is =
-    goes_some rule holds guards t old_reactions new_reactions left next before mid after count now h log text piece event one old k new
-    (subst (λ (o : Option (PlantValue A)). IsSomeAnd o (λ o. IsSomeAnd new (λ v. Follows (seen rule holds guards o) one (seen rule holds guards v) mid after × (fixed_in v.links ≡ fixed_in o.links)))) k.plant_is follows) hears
-    says counts is
 
 -- a plant that has begun runs
 started : (t : Terms) (v : PlantView) (h : ScriptHeading) → PlantStands t.begins v [] → h.lengths ≡ map lengths_in t.begins.links → RunStands t v t.spare h [] []
@@ -186,30 +162,22 @@ started t v h stands lengths_are =
           );
     }
 
-begun_all : {A : Type 0} (rule : A → Rule) (holds : A → List ℕ) (guards : A → Bit → Bit → Bool) (t : Terms) (plant : Option (PlantValue A)) (reactions : List ReactionView) (before after : Told) (h : ScriptHeading)
-    → IsSomeAnd plant (λ v. PlantStands t.begins (seen rule holds guards v) [] × (fixed_in v.links ≡ fixed_in (links_made 1 t.bounds t.begins.links)) × (reactions ≡ reactions_after t.begins [] t.bounds)) → Trace (uses t.begins (Start ∷ [])) before after → All HasSameLengths t.begins.links → h.lengths ≡ map lengths_in t.begins.links
-    → GivenStands rule holds guards t plant reactions t.spare before after 0 h [] []
+pub begun : {H : Type 0} (view : KindOf H → AppView) (conf : ConfView) (app : KindOf H) (spare : List (EntryOf H)) (v : PlantView) (reactions : List ReactionView) (before after : Told) (h : ScriptHeading) → let t : Terms = terms_of view conf app spare in
+    Starts t.begins v before after → fixed_in v.links ≡ fixed_in (links_made 1 t.bounds t.begins.links) → reactions ≡ reactions_after t.begins [] t.bounds → All HasSameLengths t.begins.links → h.lengths ≡ map lengths_in t.begins.links
+    → GivenStands view t v reactions spare before after 0 h [] []
 unfolding started
-begun_all rule holds guards t None reactions before after h stands channel all lengths_are = absurd stands
-begun_all rule holds guards t (Some v) reactions before after h stands channel all lengths_are =
+begun view conf app spare v reactions before after h starts fixed watched all lengths_are =
+    let t : Terms = terms_of view conf app spare in
     let none = no_lines_by t.begins (call_of t.begins Start) [] in
     record {
-      value = v;
-      plant_is = refl;
-      runs = started t (seen rule holds guards v) h stands.0 lengths_are;
-      channel = channel;
-      fixed = stands.1;
-      watched = stands.2;
+      runs = started t v h starts.stands lengths_are;
+      channel = starts.channel;
+      fixed = fixed;
+      watched = watched;
       same_lengths = all;
-      counted = sym (ap ticks stands.0.has_done.journal_is ∙ ticks_quiet (offers t.begins Start []) none);
+      counted = sym (ap ticks starts.stands.has_done.journal_is ∙ ticks_quiet (offers t.begins Start []) none);
       few = omega arith;
     }
-
-pub begun : {A : Type 0} (rule : A → Rule) (holds : A → List ℕ) (guards : A → Bit → Bit → Bool) (t : Terms) (plant : Option (PlantValue A)) (reactions : List ReactionView) (left : List Named) (before after : Told) (h : ScriptHeading)
-    → IsSomeAnd plant (λ v. PlantStands t.begins (seen rule holds guards v) [] × (fixed_in v.links ≡ fixed_in (links_made 1 t.bounds t.begins.links)) × (reactions ≡ reactions_after t.begins [] t.bounds)) → Trace (uses t.begins (Start ∷ [])) before after → All HasSameLengths t.begins.links → h.lengths ≡ map lengths_in t.begins.links → left ≡ t.spare
-    → GivenStands rule holds guards t plant reactions left before after 0 h [] []
-begun rule holds guards t plant reactions left before after h stands channel all lengths_are same =
-    subst (λ (z : List Named). GivenStands rule holds guards t plant reactions z before after 0 h [] []) (sym same) (begun_all rule holds guards t plant reactions before after h stands channel all lengths_are)
 
 -- an event of the script that is no tick
 pub no_tick : (e : PlantEvent) → (e ≡ event.Tick → ⊥) → is_tick (step.Script e) ≡ false
@@ -228,10 +196,10 @@ same_count e count other = let none = ap one_if (no_tick e other) in omega (arit
 pub nothing_written : (text : List ℕ) → text ≡ [] → text ++ [] ≡ []
 nothing_written text is = ap (λ (z : List ℕ). z ++ []) is
 
-pub nothing_at : {A : Type 0} (e : PlantEvent) (count : ℕ) (all : List LinkConf) (plant : Option (PlantValue A)) (text : List ℕ) → (e ≡ event.Tick → ⊥) → text ≡ [] → text ++ [] ≡ written_at (Event e) count all plant
-nothing_at e count all plant text other is =
+pub nothing_at : (e : PlantEvent) (count : ℕ) (all : List LinkConf) (steps : List JournalStep) (text : List ℕ) → (e ≡ event.Tick → ⊥) → text ≡ [] → text ++ [] ≡ written_at (Event e) count all steps
+nothing_at e count all steps text other is =
     nothing_written text is
-    ∙ sym (ap (λ (tick : Bool). if tick then (codes "tick" ++ codes " " ++ decimal count ++ codes "\n") ++ waiting_in 1 all plant else []) (no_tick e other))
+    ∙ sym (ap (λ (tick : Bool). if tick then (codes "tick" ++ codes " " ++ decimal count ++ codes "\n") ++ waiting 1 all steps else []) (no_tick e other))
 
 -- the line of an event
 says_step : (event : PlantLine) (e : PlantEvent) → happening event ≡ Some (line.Step e) → event ≡ line.Step e
@@ -239,48 +207,31 @@ says_step (line.Step f) e is = cc
 says_step (line.App name) e is = cc
 says_step line.End e is = cc
 
-fits_value : (lengths : List Lengths) (h : ScriptHeading) (text : List ℕ) (said : PlantLine) (e : PlantEvent) → h.lengths ≡ lengths → plant_line h.lengths text ≡ Ok said → happening said ≡ Some (line.Step e) → Fits lengths e
-fits_value lengths h text said e same reads is =
-    subst (λ (all : List Lengths). Fits all e) same (subst (LineFits h.lengths) (says_step said e is) (line_fits h.lengths text said reads))
-
 -- it fits the connections of the plant
-pub step_fits : {A : Type 0} (rule : A → Rule) (holds : A → List ℕ) (guards : A → Bit → Bit → Bool) (t : Terms) (plant : Option (PlantValue A)) (reactions : List ReactionView) (left : List Named) (before after : Told) (count : ℕ) (h : ScriptHeading) (log : List PlantLine) (text : List ℕ)
-    (e : PlantEvent) → GivenStands rule holds guards t plant reactions left before after count h log text → IsSaid (script_format (map lengths_in t.begins.links)) h (line.Step e) → IsSomeAnd plant (λ p. Fits (lengths_kept p.links) e)
-step_fits {A = A} rule holds guards t plant reactions left before after count h log text e k said =
-    subst (λ (o : Option (PlantValue A)). IsSomeAnd o (λ p. Fits (lengths_kept p.links) e)) (sym k.plant_is)
-    (fits_value (lengths_kept k.value.links) h said.0 said.1 e (k.runs.lengths_are ∙ sym (lengths_made t.bounds t.begins.links k.value.links k.fixed)) said.2 said.3)
-
--- what follows by a change of the application, whatever the channel tells
-at_told : {A : Type 0} (rule : A → Rule) (holds : A → List ℕ) (guards : A → Bit → Bit → Bool) (one : Said) (old new : Option (PlantValue A)) (t : Told)
-    → IsSomeAnd old (λ o. IsSomeAnd new (λ v. ((told : Told) → Follows (seen rule holds guards o) one (seen rule holds guards v) told told) × (fixed_in v.links ≡ fixed_in o.links)))
-    → IsSomeAnd old (λ o. IsSomeAnd new (λ v. Follows (seen rule holds guards o) one (seen rule holds guards v) t t × (fixed_in v.links ≡ fixed_in o.links)))
-at_told rule holds guards one None new t h = h
-at_told rule holds guards one (Some o) None t h = h
-at_told rule holds guards one (Some o) (Some v) t h = (h.0 t, h.1)
+pub step_fits : {H : Type 0} (view : KindOf H → AppView) (t : Terms) (v : PlantView) (reactions : List ReactionView) (left : List (EntryOf H)) (before after : Told) (count : ℕ) (h : ScriptHeading) (log : List PlantLine) (text : List ℕ) (e : PlantEvent)
+    → GivenStands view t v reactions left before after count h log text → IsSaid (script_format (map lengths_in t.begins.links)) h (line.Step e) → Fits (lengths_kept v.links) e
+step_fits view t v reactions left before after count h log text e k said =
+    let same : h.lengths ≡ lengths_kept v.links = k.runs.lengths_are ∙ sym (lengths_made t.bounds t.begins.links v.links k.fixed) in
+    subst (λ (all : List Lengths). Fits all e) same (subst (LineFits h.lengths) (says_step said.1 e said.3) (line_fits h.lengths said.0 said.1 said.2))
 
 -- a plant that runs goes on with an application that its script takes
-pub takes_app : {H : Type 0} (rule : KindOf H → Rule) (holds : KindOf H → List ℕ) (guards : KindOf H → Bit → Bit → Bool) (t : Terms) (old_reactions new_reactions : List ReactionView) (all left : List (EntryOf H)) (before mid : Told) (count : ℕ) (h : ScriptHeading) (log : List PlantLine) (text piece name : List ℕ)
-    (event : PlantLine) (entry : EntryOf H) (old new : Option (PlantValue (KindOf H))) → event ≡ line.App name → GivenStands rule holds guards t old old_reactions (map (named (app_view rule holds guards)) all) before mid count h log text
-    → IsTaken (λ e. string_bytes e.name) name all entry left
-    → IsSomeAnd old (λ o. IsSomeAnd new (λ v. ((told : Told) → Follows (seen rule holds guards o) (App (app_view rule holds guards (kind.Handed entry.app))) (seen rule holds guards v) told told) × (fixed_in v.links ≡ fixed_in o.links)))
-    → IsSomeAnd new (λ v. HearsLine (seen rule holds guards v) t.bounds false old_reactions new_reactions) → piece ≡ [] → GivenStands rule holds guards t new new_reactions (map (named (app_view rule holds guards)) left) before mid count h (log ++ event ∷ []) (text ++ piece)
-takes_app rule holds guards t old_reactions new_reactions all left before mid count h log text piece name event entry old new is k taken follows hears nothing =
-    let one : Said = App (app_view rule holds guards (kind.Handed entry.app)) in
-    let says : (more : List PlantLine) → said (map (named (app_view rule holds guards)) all) (event ∷ more) ≡ one ∷ said (map (named (app_view rule holds guards)) left) more =
+pub takes_app : {H : Type 0} (view : KindOf H → AppView) (t : Terms) (old new : PlantView) (old_reactions new_reactions : List ReactionView) (all left : List (EntryOf H)) (before mid : Told) (count : ℕ) (h : ScriptHeading) (log : List PlantLine) (text piece name : List ℕ) (event : PlantLine) (entry : EntryOf H)
+    → event ≡ line.App name → GivenStands view t old old_reactions all before mid count h log text → IsTaken (λ e. string_bytes e.name) name all entry left → Follows old (App (view (kind.Handed entry.app))) new mid mid → fixed_in new.links ≡ fixed_in old.links
+    → HearsLine new t.bounds false old_reactions new_reactions → piece ≡ [] → GivenStands view t new new_reactions left before mid count h (log ++ event ∷ []) (text ++ piece)
+takes_app view t old new old_reactions new_reactions all left before mid count h log text piece name event entry is k taken follows fixed hears nothing =
+    let one : Said = App (view (kind.Handed entry.app)) in
+    let says : (more : List PlantLine) → said (map (named view) all) (event ∷ more) ≡ one ∷ said (map (named view) left) more =
     λ more.
-    ap (λ (first : PlantLine). said (map (named (app_view rule holds guards)) all) (first ∷ more)) is
-    ∙ ap (λ (o : Option Taken). said_with o (λ rest. said rest more)) (app_taken (app_view rule holds guards) name all left entry taken) in
-    goes_on rule holds guards t old_reactions new_reactions (map (named (app_view rule holds guards)) all) (map (named (app_view rule holds guards)) left) before mid mid count count h log text piece event one old new k (at_told rule holds guards one old new mid follows) hears says
-    (omega arith) nothing
+    ap (λ (first : PlantLine). said (map (named view) all) (first ∷ more)) is
+    ∙ ap (λ (o : Option Taken). said_with o (λ rest. said rest more)) (app_taken view name all left entry taken) in
+    goes_on view t old new old_reactions new_reactions all left before mid mid count count h log text piece event one k follows fixed hears says (omega arith) nothing
 
 -- a plant that runs goes on by an event
-pub goes_step : {A : Type 0} (rule : A → Rule) (holds : A → List ℕ) (guards : A → Bit → Bit → Bool) (t : Terms) (old_reactions new_reactions : List ReactionView) (left : List Named) (before mid after : Told) (count now : ℕ) (h : ScriptHeading) (log : List PlantLine) (text piece : List ℕ)
-    (event : PlantLine) (e : PlantEvent) (old new : Option (PlantValue A)) → event ≡ line.Step e → GivenStands rule holds guards t old old_reactions left before mid count h log text
-    → IsSomeAnd old (λ o. IsSomeAnd new (λ v. Follows (seen rule holds guards o) (Event e) (seen rule holds guards v) mid after × (fixed_in v.links ≡ fixed_in o.links)))
-    → IsSomeAnd new (λ v. HearsLine (seen rule holds guards v) t.bounds (is_tick (step.Script e)) old_reactions new_reactions)
-    → now ≡ count + one_if (is_tick (step.Script e)) → piece ≡ written_at (Event e) now t.begins.links new → GivenStands rule holds guards t new new_reactions left before after now h (log ++ event ∷ []) (text ++ piece)
-goes_step rule holds guards t old_reactions new_reactions left before mid after count now h log text piece event e old new is k follows hears counts written =
-    goes_on rule holds guards t old_reactions new_reactions left left before mid after count now h log text piece event (Event e) old new k follows hears (λ more. ap (λ (first : PlantLine). said left (first ∷ more)) is) counts written
+pub goes_step : {H : Type 0} (view : KindOf H → AppView) (t : Terms) (old new : PlantView) (old_reactions new_reactions : List ReactionView) (left : List (EntryOf H)) (before mid after : Told) (count now : ℕ) (h : ScriptHeading) (log : List PlantLine) (text piece : List ℕ) (event : PlantLine) (e : PlantEvent) → event ≡ line.Step e
+    → GivenStands view t old old_reactions left before mid count h log text → Follows old (Event e) new mid after → fixed_in new.links ≡ fixed_in old.links → HearsLine new t.bounds (is_tick (step.Script e)) old_reactions new_reactions
+    → now ≡ count + one_if (is_tick (step.Script e)) → piece ≡ written_at (Event e) now t.begins.links new.journal → GivenStands view t new new_reactions left before after now h (log ++ event ∷ []) (text ++ piece)
+goes_step view t old new old_reactions new_reactions left before mid after count now h log text piece event e is k follows fixed hears counts written =
+    goes_on view t old new old_reactions new_reactions left left before mid after count now h log text piece event (Event e) k follows fixed hears (λ more. ap (λ (first : PlantLine). said (map (named view) left) (first ∷ more)) is) counts written
 
 -- the lowest connection with an other entry is none before the first
 lowest_one : (k n : ℕ) → Some k ≡ Some n → k ≤ n
@@ -294,35 +245,20 @@ lowest_from : (k : ℕ) (links : List LinkConf) (steps : List JournalStep) (n : 
 lowest_from k [] steps n is = cc
 lowest_from k (link ∷ links) steps n is = lowest_by (has_other link k steps) k (lowest_other (suc k) links steps) n (λ e. lowest_from (suc k) links steps n e) is
 
-pub other_ends : {A : Type 0} (rule : A → Rule) (holds : A → List ℕ) (guards : A → Bit → Bit → Bool) (t : Terms) (plant : Option (PlantValue A)) (reactions : List ReactionView) (left : List Named) (before after : Told) (count : ℕ) (h : ScriptHeading) (log : List PlantLine) (text : List ℕ)
-    (other : Option ℕ) → GivenStands rule holds guards t plant reactions left before after count h log text → IfSome plant (λ p. TellsOther (seen rule holds guards p) other) → EndsWhole true (ended_with other).status (ended_with other).place
-other_ends {A = A} rule holds guards t plant reactions left before after count h log text other k tells =
-    let told : TellsOther (seen rule holds guards k.value) other = subst (λ (o : Option (PlantValue A)). IfSome o (λ p. TellsOther (seen rule holds guards p) other)) k.plant_is tells in
-    ended_whole other (λ n is. lowest_from 1 t.begins.links k.value.journal n (sym (told.tells t.begins k.runs.turns k.runs.stands) ∙ is))
+pub other_ends : {H : Type 0} (view : KindOf H → AppView) (t : Terms) (v : PlantView) (reactions : List ReactionView) (left : List (EntryOf H)) (before after : Told) (count : ℕ) (h : ScriptHeading) (log : List PlantLine) (text : List ℕ) (other : Option ℕ)
+    → GivenStands view t v reactions left before after count h log text → TellsOther v other → EndsWhole true (ended_with other).status (ended_with other).place
+other_ends view t v reactions left before after count h log text other k told =
+    ended_whole other (λ n is. lowest_from 1 t.begins.links v.journal n (sym (told.tells t.begins k.runs.turns k.runs.stands) ∙ is))
 
 -- an application isn't taken: there is none of its name, or no memory
-pub app_stopped : {H : Type 0} (rule : KindOf H → Rule) (holds : KindOf H → List ℕ) (guards : KindOf H → Bit → Bit → Bool) (t : Terms) (reactions : List ReactionView) (all : List (EntryOf H)) (before after : Told) (count : ℕ) (h : ScriptHeading) (log : List PlantLine) (text name : List ℕ)
-    (event : PlantLine) (plant : Option (PlantValue (KindOf H))) (why : Stopped) → event ≡ line.App name → GivenStands rule holds guards t plant reactions (map (named (app_view rule holds guards)) all) before after count h log text
-    → (why ≡ stopped.Memory) ⊎ ((why ≡ stopped.NoApp) × (place_of name (map (λ e. string_bytes e.name) all) ≡ None)) → EndsStopped (plant_reporting t) h log text event why
-app_stopped rule holds guards t reactions all before after count h log text name event plant why is k cause =
+pub app_stopped : {H : Type 0} (view : KindOf H → AppView) (t : Terms) (v : PlantView) (reactions : List ReactionView) (all : List (EntryOf H)) (before after : Told) (count : ℕ) (h : ScriptHeading) (log : List PlantLine) (text name : List ℕ) (event : PlantLine) (why : Stopped)
+    → event ≡ line.App name → GivenStands view t v reactions all before after count h log text → (why ≡ stopped.Memory) ⊎ ((why ≡ stopped.NoApp) × (place_of name (map (λ e. string_bytes e.name) all) ≡ None))
+    → EndsStopped (plant_reporting t) h log text event why
+app_stopped view t v reactions all before after count h log text name event why is k cause =
     elim cause [
       | inl memory ↦ rw memory refl
-      | inr none ↦ rw (none.0, is)
-          (plant_unmet t (seen rule holds guards k.value) (map (named (app_view rule holds guards)) all) h log text name (app_missing (app_view rule holds guards) name all none.1) k.runs)
+      | inr none ↦ rw (none.0, is) (plant_unmet t v (map (named view) all) h log text name (app_missing view name all none.1) k.runs)
     ]
-
--- what a run has stood for
-pub stood : {A : Type 0} (rule : A → Rule) (holds : A → List ℕ) (guards : A → Bit → Bit → Bool) (t : Terms) (plant : Option (PlantValue A)) (reactions : List ReactionView) (left : List Named) (before after : Told) (count : ℕ) (h : ScriptHeading) (log : List PlantLine) (text : List ℕ)
-    → GivenStands rule holds guards t plant reactions left before after count h log text → Stood t h log text before after (journal_in plant) reactions
-stood rule holds guards t plant reactions left before after count h log text k = record {
-  view = seen rule holds guards k.value;
-  left = left;
-  runs = k.runs;
-  watched = k.watched;
-  steps_are = ap journal_in k.plant_is;
-  channel = k.channel;
-  same_lengths = k.same_lengths;
-}
 
 -- the lines of bounds are those by their reactions
 lines_are : (b : Beginning) (turns : List Turn) (bounds : List BoundSpec) → lines_by b.links (journal b (acts turns)) bounds (reactions_after b turns bounds) ≡ bound_lines b turns bounds
@@ -338,22 +274,17 @@ same_lines b these those bounds reactions e f same =
     ∙ lines_are b those bounds
 
 -- a plant that has run closes with the lines of its bounds, which wait
-pub closed : {A : Type 0} (rule : A → Rule) (holds : A → List ℕ) (guards : A → Bit → Bit → Bool) (t : Terms) (plant : Option (PlantValue A)) (reactions : List ReactionView) (left : List Named) (before after : Told) (count : ℕ) (h : ScriptHeading) (log : List PlantLine) (text : List ℕ)
-    (other : Option ℕ) (piece : List ℕ) (conf : ConfView) (ended : Ended) → GivenStands rule holds guards t plant reactions left before after count h log text → IfSome plant (λ p. TellsOther (seen rule holds guards p) other)
-    → piece ≡ (codes "ticks" ++ codes " " ++ decimal count ++ codes "\n") ++ other_line other → conf.links ≡ t.begins.links → conf.bounds ≡ t.bounds → ended ≡ ended_with other
-    → GivenCloses rule holds guards t plant reactions left h log (text ++ (piece ++ rest_in (rest.Bounds 0) conf plant reactions)) ended
-closed {A = A} rule holds guards t plant reactions left before after count h log text other piece conf ended k tells is links bounds ended_is =
-    let told : TellsOther (seen rule holds guards k.value) other = subst (λ (o : Option (PlantValue A)). IfSome o (λ p. TellsOther (seen rule holds guards p) other)) k.plant_is tells in
-    let lowest : other ≡ lowest_other 1 t.begins.links k.value.journal = told.tells t.begins k.runs.turns k.runs.stands in
-    let waits : rest_in (rest.Bounds 0) conf plant reactions ≡ bound_lines t.begins k.runs.turns t.bounds =
-    ap (λ (o : Option (PlantValue A)). option_map_or (λ p. bounds_waiting 0 conf.links conf.bounds reactions p.journal) o []) k.plant_is
-    ∙ ap₂ (λ (ls : List LinkConf) (bs : List BoundSpec). lines_by ls k.value.journal bs reactions) links bounds
+pub closed : {H : Type 0} (view : KindOf H → AppView) (t : Terms) (v : PlantView) (reactions : List ReactionView) (left : List (EntryOf H)) (before after : Told) (count : ℕ) (h : ScriptHeading) (log : List PlantLine) (text : List ℕ) (other : Option ℕ) (piece : List ℕ) (conf : ConfView) (ended : Ended)
+    → GivenStands view t v reactions left before after count h log text → TellsOther v other → piece ≡ (codes "ticks" ++ codes " " ++ decimal count ++ codes "\n") ++ other_line other → conf.links ≡ t.begins.links → conf.bounds ≡ t.bounds → ended ≡ ended_with other
+    → GivenCloses view t v reactions left h log (text ++ (piece ++ rest_in (rest.Bounds 0) conf v.journal reactions)) ended
+closed view t v reactions left before after count h log text other piece conf ended k told is links bounds ended_is =
+    let lowest : other ≡ lowest_other 1 t.begins.links v.journal = told.tells t.begins k.runs.turns k.runs.stands in
+    let waits : rest_in (rest.Bounds 0) conf v.journal reactions ≡ bound_lines t.begins k.runs.turns t.bounds =
+    ap₂ (λ (ls : List LinkConf) (bs : List BoundSpec). lines_by ls v.journal bs reactions) links bounds
     ∙ ap₂ (λ (j : List JournalStep) (rs : List ReactionView). lines_by t.begins.links j t.bounds rs) k.runs.stands.has_done.journal_is k.watched
     ∙ lines_are t.begins k.runs.turns t.bounds in
     let first = is ∙ ap₂ (λ (n : ℕ) (o : Option ℕ). (codes "ticks " ++ decimal n ++ codes "\n") ++ other_line o) k.counted lowest in
     record {
-      value = k.value;
-      plant_is = k.plant_is;
       closes = record {
         ticks = text;
         stands = k.runs;
@@ -364,14 +295,12 @@ closed {A = A} rule holds guards t plant reactions left before after count h log
     }
 
 -- what it has closed with is the report of its journal, and of any turns with the same reactions
-pub reported : {A : Type 0} (rule : A → Rule) (holds : A → List ℕ) (guards : A → Bit → Bit → Bool) (t : Terms) (plant : Option (PlantValue A)) (reactions : List ReactionView) (left : List Named) (h : ScriptHeading) (log : List PlantLine) (text : List ℕ) (ended : Ended) (turns : List Turn)
-    → journal_in plant ≡ journal t.begins (acts turns) → reactions ≡ reactions_after t.begins turns t.bounds → GivenCloses rule holds guards t plant reactions left h log text ended → IsReportOf t turns (journal_in plant) h log text ended
-reported rule holds guards t plant reactions left h log text ended turns journal_is watched k =
-    let steps : journal_in plant ≡ k.value.journal = ap journal_in k.plant_is in
-    let own : k.value.journal ≡ journal t.begins (acts k.closes.stands.turns) = k.closes.stands.stands.has_done.journal_is in
-    let lines = same_lines t.begins k.closes.stands.turns turns t.bounds reactions k.watched watched (sym own ∙ sym steps ∙ journal_is) in (
+pub reported : {H : Type 0} (view : KindOf H → AppView) (t : Terms) (v : PlantView) (reactions : List ReactionView) (left : List (EntryOf H)) (h : ScriptHeading) (log : List PlantLine) (text : List ℕ) (ended : Ended) (turns : List Turn)
+    → v.journal ≡ journal t.begins (acts turns) → reactions ≡ reactions_after t.begins turns t.bounds → GivenCloses view t v reactions left h log text ended → IsReportOf t turns v.journal h log text ended
+reported view t v reactions left h log text ended turns journal_is watched k =
+    let own : v.journal ≡ journal t.begins (acts k.closes.stands.turns) = k.closes.stands.stands.has_done.journal_is in
+    let lines = same_lines t.begins k.closes.stands.turns turns t.bounds reactions k.watched watched (sym own ∙ journal_is) in (
       k.closes.text_is
-          ∙ ap (λ (ticks : List ℕ). ticks ++ last_lines t.begins.links k.value.journal (bound_lines t.begins k.closes.stands.turns t.bounds) AtEnd) k.closes.stands.text_is
-          ∙ ap₂ (λ (journal : List JournalStep) (lines : List ℕ). report_text t.begins.links journal lines AtEnd) (sym steps) lines,
-      k.closes.ended_is ∙ ap (λ (journal : List JournalStep). report_end t.begins.links journal AtEnd) (sym steps),
+          ∙ ap₂ (λ (ticks lines : List ℕ). ticks ++ last_lines t.begins.links v.journal lines AtEnd) k.closes.stands.text_is lines,
+      k.closes.ended_is,
     )

@@ -1,7 +1,6 @@
 -- What a plant is run with, and what it means that it runs. Turns are listed newest first, the lines of a script oldest
 -- first.
-use Rattle.std.specs.Prelude.{◌≡◌, ◌≤◌, ◌-◌, ℕ, zero, suc, All, Bool, List, [], drop, length, map, string_bytes, Option, Some}
-use Rattle.std.specs.Option.{option_map_or}
+use Rattle.std.specs.Prelude.{◌≡◌, ◌≤◌, ◌-◌, ℕ, zero, suc, All, List, [], drop, length, map, string_bytes}
 use Rattle.black_channel.specs.Told.{Told}
 use Rattle.fb_net.specs.declared.kind_of.EntryOf.{EntryOf}
 use Rattle.fb_net.specs.declared.kind_of.KindOf.{KindOf}
@@ -9,17 +8,16 @@ use Rattle.fb_net.specs.declared.kind_of.KindOf.TheVariants as kind
 use Rattle.plant_conf.specs.ConfView.{ConfView}
 use Rattle.plant_conf.specs.Kept.{HasSameLengths}
 use Rattle.plant_conf.specs.declared.conf.LinkConf.{LinkConf}
-use Rattle.failsafe_io.specs.declared.bit.Bit.{Bit}
-use Rattle.multi_master.specs.Calls.{AppView, Rule}
+use Rattle.multi_master.specs.Calls.{AppView}
 use Rattle.plant_model.specs.Acts.{uses}
-use Rattle.plant_core.specs.Making.{links_made}
+use Rattle.plant_core.specs.Making.{begins_with, links_made}
 use Rattle.plant_model.specs.Pair.{ticks}
 use Rattle.plant_model.specs.PlantReport.{link_lines}
 use Rattle.plant_run.specs.Reporting.{Terms}
 use Rattle.fsoe_io.specs.declared.status.Ended.{Ended}
 use Rattle.plant_run.specs.Running.{RunCloses, RunStands}
 use Rattle.plant_run.specs.Script.{ScriptHeading}
-use Rattle.plant_core.specs.Standing.{PlantValue, fixed_in, seen}
+use Rattle.plant_core.specs.Standing.{PlantView, fixed_in}
 use Rattle.plant_model.specs.Turns.{Named, acts}
 use Rattle.plant_model.specs.Uses.{Trace}
 use Rattle.plant_run.specs.Watching.{bounds_waiting, reactions_after}
@@ -36,30 +34,21 @@ named view entry = record { name = string_bytes entry.name; app = view (kind.Han
 -- what a plant is run with that has this configuration, this application first, and these that its script may take
 abbrev pub terms_of : {H : Type 0} → (KindOf H → AppView) → ConfView → KindOf H → List (EntryOf H) → Terms
 terms_of view conf app spare = record {
-  begins = record { links = conf.links; app = view app; seed = conf.seed };
+  begins = begins_with conf (view app);
   bounds = conf.bounds;
   spare = map (named view) spare;
 }
-
--- the journal of a plant, if it has begun; else none was noted
-abbrev pub journal_in : {A : Type 0} → Option (PlantValue A) → List JournalStep
-journal_in plant = option_map_or (λ p. p.journal) plant []
 
 -- the lines of connections that wait: those from this number on, where it isn't 0
 abbrev pub waiting : ℕ → List LinkConf → List JournalStep → List ℕ
 waiting zero links journal = []
 waiting (suc place) links journal = link_lines (suc place) (drop place links) journal
 
--- those of a plant, if it has begun
-abbrev pub waiting_in : {A : Type 0} → ℕ → List LinkConf → Option (PlantValue A) → List ℕ
-waiting_in next links plant = option_map_or (λ p. waiting next links p.journal) plant []
-
--- all lines that wait, by the configuration, the plant and the reactions of its bounds
-abbrev pub rest_in : {A : Type 0} → Rest → ConfView → Option (PlantValue A) → List ReactionView → List ℕ
-rest_in rest.Nothing conf plant reactions = []
-rest_in (rest.Links next) conf plant reactions = waiting_in next conf.links plant
-rest_in (rest.Bounds next) conf plant reactions =
-    option_map_or (λ p. bounds_waiting next conf.links conf.bounds reactions p.journal) plant []
+-- all lines that wait, by the configuration, the journal of the plant and the reactions of its bounds
+abbrev pub rest_in : Rest → ConfView → List JournalStep → List ReactionView → List ℕ
+rest_in rest.Nothing conf journal reactions = []
+rest_in (rest.Links next) conf journal reactions = waiting next conf.links journal
+rest_in (rest.Bounds next) conf journal reactions = bounds_waiting next conf.links conf.bounds reactions journal
 
 -- and how many these are at most
 abbrev pub lines_left : ℕ → ℕ
@@ -71,23 +60,18 @@ rest_left rest.Nothing = 0
 rest_left (rest.Links next) = lines_left next
 rest_left (rest.Bounds next) = 16 - next
 
--- a plant that is run with these terms runs, seen by what is seen of its application: it stands for these lines, these
--- applications are left, its channel was used as that says, it had so many ticks, and these are the reactions of its
--- bounds
-pub record GivenStands {A : Type 0} (rule : A → Rule) (holds : A → List ℕ) (guards : A → Bit → Bit → Bool) (t : Terms) (plant : Option (PlantValue A)) (reactions : List ReactionView) (left : List Named) (before after : Told) (count : ℕ) (h : ScriptHeading) (log : List PlantLine) (text : List ℕ) : Type 0 where
-  pub value : PlantValue A
-  pub plant_is : plant ≡ Some value
-  pub runs : RunStands t (seen rule holds guards value) left h log text
+-- a plant that is run with these terms runs: it stands for these lines, of the applications that its script may take
+-- these are left, its channel was used as that says, it had so many ticks, and these are the reactions of its bounds
+pub record GivenStands {H : Type 0} (view : KindOf H → AppView) (t : Terms) (v : PlantView) (reactions : List ReactionView) (left : List (EntryOf H)) (before after : Told) (count : ℕ) (h : ScriptHeading) (log : List PlantLine) (text : List ℕ) : Type 0 where
+  pub runs : RunStands t v (map (named view) left) h log text
   pub channel : Trace (uses t.begins (acts runs.turns)) before after
-  pub fixed : fixed_in value.links ≡ fixed_in (links_made 1 t.bounds t.begins.links)
+  pub fixed : fixed_in v.links ≡ fixed_in (links_made 1 t.bounds t.begins.links)
   pub watched : reactions ≡ reactions_after t.begins runs.turns t.bounds
   pub same_lengths : All HasSameLengths t.begins.links
-  pub counted : count ≡ ticks value.journal
+  pub counted : count ≡ ticks v.journal
   pub few : count ≤ length log
 
 -- it did all lines of a script, of whose report this is the text, and the run ends so
-pub record GivenCloses {A : Type 0} (rule : A → Rule) (holds : A → List ℕ) (guards : A → Bit → Bit → Bool) (t : Terms) (plant : Option (PlantValue A)) (reactions : List ReactionView) (left : List Named) (h : ScriptHeading) (log : List PlantLine) (text : List ℕ) (ended : Ended) : Type 0 where
-  pub value : PlantValue A
-  pub plant_is : plant ≡ Some value
-  pub closes : RunCloses t (seen rule holds guards value) left h log text ended
+pub record GivenCloses {H : Type 0} (view : KindOf H → AppView) (t : Terms) (v : PlantView) (reactions : List ReactionView) (left : List (EntryOf H)) (h : ScriptHeading) (log : List PlantLine) (text : List ℕ) (ended : Ended) : Type 0 where
+  pub closes : RunCloses t v (map (named view) left) h log text ended
   pub watched : reactions ≡ reactions_after t.begins closes.stands.turns t.bounds

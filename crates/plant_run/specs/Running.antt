@@ -1,5 +1,5 @@
 -- What it means that a plant runs over a script. Turns are listed newest first, the lines of a script oldest first.
-use Rattle.std.specs.Prelude.{◌≡◌, ℕ, List, ◌++◌, length, map, MatchResult, Ok, Err, Result, All, ◌≤◌}
+use Rattle.std.specs.Prelude.{◌≡◌, ℕ, List, ◌++◌, length, map, MatchResult, Ok, Err, ◌≤◌, Result, All}
 use Rattle.plant_model.specs.FairPairs.{lengths_in, Fits}
 use Rattle.fsoe_io.specs.declared.status.Ended.{Ended}
 use Rattle.schedule_file.specs.Input.{AtEnd}
@@ -15,9 +15,9 @@ use Rattle.plant_model.specs.Turns.{Named, Turn, said, said_by_turns}
 use Rattle.plant_model.specs.declared.event.PlantLine.{PlantLine}
 use Rattle.plant_model.specs.declared.event.PlantLine.TheVariants as line
 use Rattle.plant_model.specs.declared.event.PlantEvent.TheVariants as event
-use Rattle.fsoe_base.specs.declared.lengths.Lengths.{Lengths}
-use Rattle.fsoe_base.specs.declared.command.End.{End}
 use denote.Ref.{Bor}
+use Rattle.fsoe_base.specs.declared.command.End.{End}
+use Rattle.fsoe_base.specs.declared.lengths.Lengths.{Lengths}
 
 -- a plant that is run with these terms stands for a turn for each of these lines, of which this text has the lines of
 -- all ticks; and what further lines say goes by these applications, which are left

@@ -1,5 +1,5 @@
 -- How a plant's run watches bounds: what a reaction of each bound was told, and the lines that wait to be written.
-use Rattle.std.specs.Prelude.{◌≡◌, ◌+◌, ◌<◌, ◌^◌, ℕ, Bool, List, [], ◌∷◌, ◌++◌, drop, length, map, All, Option, IsSome}
+use Rattle.std.specs.Prelude.{◌≡◌, ◌+◌, ◌<◌, ◌^◌, ℕ, Bool, List, [], ◌∷◌, ◌++◌, drop, length, map, All, Option}
 use Rattle.plant_conf.specs.declared.conf.BoundSpec.{BoundSpec}
 use Rattle.plant_conf.specs.declared.conf.LinkConf.{LinkConf}
 use Rattle.reaction_bound.specs.Kept.{ReactionView, view_of}
@@ -7,7 +7,7 @@ use Rattle.reaction_bound.specs.Reaction as reaction
 use Rattle.plant_model.specs.Acts.{Beginning}
 use Rattle.plant_model.specs.BoundLines.{heard, limit_of, line_by, said_of}
 use Rattle.plant_core.specs.Link.{LinkView}
-use Rattle.plant_core.specs.Standing.{PlantStands, PlantValue, PlantView, IsAged}
+use Rattle.plant_core.specs.Standing.{PlantStands, PlantView, IsAged}
 use Rattle.plant_model.specs.Turns.{Turn, acts}
 use Rattle.plant_model.specs.declared.journal.JournalStep.{JournalStep}
 
@@ -53,9 +53,7 @@ pub record AreAged (vs : List LinkView) (bound : BoundSpec) : Type 0 where
 pub record ShowsBound (v : PlantView) (bound : BoundSpec) (most : ℕ) (broken : Option ℕ) (text : List ℕ) : Type 0 where
   pub shows : (b : Beginning) (turns : List Turn) → PlantStands b v turns → most ≡ limit_of b.links bound → text ≡ line_by b.links v.journal bound broken
 
--- the reactions of these bounds can be told of a line by a plant that has begun: there is a reaction with room for a
--- tick more for each
-pub record CanHear {A : Type 0} (plant : Option (PlantValue A)) (reactions : List ReactionView) (bounds : List BoundSpec) : Type 0 where
-  pub begun : IsSome plant
+-- the reactions of these bounds can be told of a line: there is one with room for a tick more for each
+pub record CanHear (reactions : List ReactionView) (bounds : List BoundSpec) : Type 0 where
   pub count : length reactions ≡ length bounds
   pub room : All HasRoom reactions

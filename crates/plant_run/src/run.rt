@@ -1,58 +1,34 @@
 //! The run of a plant over the lines of its script.
-ghost use Rattle.std.specs.Prelude.{◌≡◌, [], None};
+ghost use Rattle.std.specs.Prelude.{◌≡◌, []};
 ghost use Rattle.multi_master.specs.Standing.{app_view};
-ghost use Rattle.plant_run.specs.Given.{journal_in, terms_of};
+ghost use Rattle.plant_run.specs.Given.{terms_of};
 ghost use Rattle.plant_run.specs.Ran.{RanPlant};
 
-use crate::machine::{Owned, PlantRun, Telling};
+use crate::machine::{PlantRun, Telling};
 use black_channel::Channel;
 use failsafe_io::Application;
 use fb_net::{EntryOf, KindOf};
 use file_run::run_over;
 use fsoe_io::{Ended, Sink, Source};
 use plant_conf::PlantConf;
-use plant_core::Journal;
+use plant_core::{Journal, Plant};
 use std::alloc::Global;
 
-/// Runs a plant that hasn't begun. The channel and what the run owns are the same ones after it.
+/// Runs a plant that hasn't begun. The channel and the plant are the same ones after it.
 fn run_given<'a, 'o, H: Application, C: Channel, S: Source, K: Sink>(
     given: &mut PlantRun<'a, 'o, H, C>,
     source: &mut S,
     sink: &mut K,
 ) -> Ended
-    requires fresh { given.old.owned.now.plant ≡ None }
+    requires { given.old.plant.now.journal ≡ [] }
     ensures channel_stays { given.new.channel.ghost_name ≡ given.old.channel.ghost_name }
-    ensures owned_stays { given.new.owned.ghost_name ≡ given.old.owned.ghost_name }
-    ensures ran { let A = ⟦<KindOf<H> as Application>⟧ in RanPlant (terms_of (app_view A.rule A.holds A.guards) given.old.conf.now given.old.owned.now.app given.old.owned.now.spare.items) result (record {
+    ensures plant_stays { given.new.plant.ghost_name ≡ given.old.plant.ghost_name }
+    ensures ran { let A = ⟦<KindOf<H> as Application>⟧ in RanPlant (terms_of (app_view A.rule A.holds A.guards) given.old.conf.now given.old.plant.now.master.app given.old.spare.now.items) result (record {
       source = record { before = S.left source.old; after = S.left source.new; faults_before = S.faults source.old; faults_after = S.faults source.new };
       sink = record { before = K.written sink.old; after = K.written sink.new; faults_before = K.faults sink.old; faults_after = K.faults sink.new };
-    }) (C.told given.old.channel.now) (C.told given.new.channel.now) (journal_in given.new.owned.now.plant) }
+    }) (C.told given.old.channel.now) (C.told given.new.channel.now) given.new.plant.now.journal }
 {
     run_over::<Telling<'a, 'o, H, C>, S, K>(given, source, sink)
-}
-
-/// Runs a plant over what a run owns.
-fn run_owned<H: Application, C: Channel, S: Source, K: Sink>(
-    alloc: Global,
-    conf: &PlantConf,
-    channel: &mut C,
-    owned: &mut Owned<H>,
-    source: &mut S,
-    sink: &mut K,
-) -> Ended
-    requires fresh { owned.old.plant ≡ None }
-    ensures { let A = ⟦<KindOf<H> as Application>⟧ in RanPlant (terms_of (app_view A.rule A.holds A.guards) conf.now owned.old.app owned.old.spare.items) result (record {
-      source = record { before = S.left source.old; after = S.left source.new; faults_before = S.faults source.old; faults_after = S.faults source.new };
-      sink = record { before = K.written sink.old; after = K.written sink.new; faults_before = K.faults sink.old; faults_after = K.faults sink.new };
-    }) (C.told channel.old) (C.told channel.new) (journal_in owned.new.plant) }
-{
-    let mut given = PlantRun {
-        alloc,
-        conf,
-        channel,
-        owned,
-    };
-    run_given(&mut given, source, sink)
 }
 
 /// Runs a plant of this configuration's connections over its script: reads its first line, begins the plant, and does
@@ -88,16 +64,18 @@ pub fn run_plant<H: Application, C: Channel, S: Source, K: Sink>(
       sink = record { before = K.written sink.old; after = K.written sink.new; faults_before = K.faults sink.old; faults_after = K.faults sink.new };
     }) (C.told channel.old) (C.told channel.new) journal.new }
 {
-    let mut owned = Owned {
-        app,
-        spare,
-        plant: None,
-        reactions: Vec::new(alloc),
+    let mut spare = spare;
+    let mut plant = Plant::unbegun(alloc, app);
+    let mut reactions = Vec::new(alloc);
+    let mut given = PlantRun {
+        alloc,
+        conf,
+        channel,
+        spare: &mut spare,
+        plant: &mut plant,
+        reactions: &mut reactions,
     };
-    let ended = run_owned(alloc, conf, channel, &mut owned, source, sink);
-    let Owned { plant, .. } = owned;
-    if let Some(plant) = plant {
-        *journal = plant.into_journal();
-    }
+    let ended = run_given(&mut given, source, sink);
+    *journal = plant.into_journal();
     ended
 }

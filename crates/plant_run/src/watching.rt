@@ -1,9 +1,9 @@
 //! The bounds that a plant's run watches.
-ghost use Rattle.std.specs.Prelude.{◌≡◌, ◌≤◌, ◌+◌, ◌++◌, [], All, IfOk, length, option_map};
+ghost use Rattle.std.specs.Prelude.{◌≡◌, ◌≤◌, ◌+◌, ◌++◌, [], IfOk, length, option_map};
 ghost use Rattle.plant_model.specs.BoundLines.{age_text, bit_text, broken_text, limit_of};
 ghost use Rattle.plant_model.specs.Pair.{link_at};
 ghost use Rattle.plant_core.specs.Standing.{seen};
-ghost use Rattle.plant_run.specs.Watching.{AreAged, HasRoom, HearsLine, HearsOne, ShowsBound, reactions_by};
+ghost use Rattle.plant_run.specs.Watching.{AreAged, CanHear, HasRoom, HearsLine, HearsOne, ShowsBound, reactions_by};
 
 use failsafe_io::{Application, Bit};
 use fsoe_base::{End, Memory};
@@ -90,8 +90,7 @@ fn hear_each<A: Application>(
     tick: bool,
     reactions: &mut [Reaction],
 )
-    requires count { length reactions.old ≡ length bounds.now }
-    requires room { All HasRoom reactions.old }
+    requires { CanHear reactions.old bounds.now }
     ensures hears { HearsLine (seen A.rule A.holds A.guards plant.now) bounds.now tick reactions.old reactions.new }
     ensures count { length reactions.new ≡ length reactions.old }
 {
@@ -107,8 +106,7 @@ pub(crate) fn hear<A: Application>(
     tick: bool,
     reactions: &mut Vec<Reaction>,
 )
-    requires count { length reactions.old.items ≡ length bounds.now }
-    requires room { All HasRoom reactions.old.items }
+    requires { CanHear reactions.old.items bounds.now }
     ensures { HearsLine (seen A.rule A.holds A.guards plant.now) bounds.now tick reactions.old.items reactions.new.items }
 {
     hear_each(plant, bounds, tick, reactions.as_mut_slice());

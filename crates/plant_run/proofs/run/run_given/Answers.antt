@@ -1,17 +1,17 @@
 use Rattle.std.proofs.Common.{ap, ◌∙◌}
-use Rattle.plant_run.specs.Given.{journal_in}
 use Rattle.plant_run.proofs.RanPlant.{left_so, ran_plant}
-use Rattle.plant_run.proofs.Turned.{reported, stood}
+use Rattle.plant_run.proofs.Turned.{reported}
 use Rattle.plant_run.proofs.run.run_given.Goals as goal
 
 pub returns-clause-channel_stays : goal.returns-clause-channel_stays
-returns-clause-channel_stays g c = left_so _ _ _ _ _ _ c.run_over.ensures.leaves (λ same. ap (λ given. given.channel.ghost_name) same) (λ h log text stands. stands.1.0)
+returns-clause-channel_stays g c = left_so _ _ _ _ _ _ c.run_over.ensures.leaves (λ same. ap (λ given. given.channel.ghost_name) same) (λ h log text stands. stands.1.0.0)
 
-pub returns-clause-owned_stays : goal.returns-clause-owned_stays
-returns-clause-owned_stays g c = left_so _ _ _ _ _ _ c.run_over.ensures.leaves (λ same. ap (λ given. given.owned.ghost_name) same) (λ h log text stands. stands.1.1)
+pub returns-clause-plant_stays : goal.returns-clause-plant_stays
+returns-clause-plant_stays g c = left_so _ _ _ _ _ _ c.run_over.ensures.leaves (λ same. ap (λ given. given.plant.ghost_name) same) (λ h log text stands. stands.1.0.1)
 
 pub returns-clause-ran : goal.returns-clause-ran
 returns-clause-ran g c =
-    ran_plant _ c.run_over.result _ _ _ _ _ _ _ _ c.run_over.ensures.ran c.run_over.ensures.leaves
-    (λ same. (ap (λ given. g.C.Channel.told given.channel.now) same, ap (λ given. journal_in given.owned.now.plant) same ∙ ap journal_in c.requires.fresh)) (λ h log text stands. stood _ _ _ _ _ _ _ _ _ _ h log text stands.1.3)
-    (λ turns journal_is watched h log text ended closes. reported _ _ _ _ _ _ _ h log text ended turns journal_is watched closes)
+    ran_plant _ _ _ c.run_over.result _ _ _ _ _ _ _ _ c.run_over.ensures.ran c.run_over.ensures.leaves
+    (λ same. (ap (λ given. g.C.Channel.told given.channel.now) same, ap (λ given. given.plant.now.journal) same ∙ c.requires))
+    (λ h log text stands. record { count = _; given = stands.1.2 })
+    (λ turns journal_is watched h log text ended closes. reported _ _ _ _ _ h log text ended turns journal_is watched closes)

@@ -1,14 +1,9 @@
-use Rattle.std.proofs.Common.{◌≡◌, All, List, length, ap, sym, subst, ◌∙◌}
+use Rattle.std.proofs.Common.{◌≡◌, length, ap, ◌∙◌}
 use Rattle.multi_master.proofs.Keeping.{written_back}
-use Rattle.reaction_bound.specs.Kept.{ReactionView}
-use Rattle.plant_run.specs.Watching.{HasRoom}
 use Rattle.plant_run.proofs.watching.hear.Goals as goal
 
 pub hear_each-requires : goal.hear_each-requires
-hear_each-requires g c = record {
-  count = ap length c.as_mut_slice.ensures.value ∙ c.requires.count;
-  room = subst (λ (rs : List ReactionView). All HasRoom rs) (sym c.as_mut_slice.ensures.value) c.requires.room;
-}
+hear_each-requires g c = rw c.as_mut_slice.ensures.value c.requires
 
 pub returns : goal.returns
 returns g c =

@@ -1,7 +1,14 @@
+use Rattle.std.proofs.Common.{◌≡◌, length, ap, ◌∙◌}
+use Rattle.multi_master.proofs.Keeping.{written_back}
+use Rattle.plant_core.specs.Standing.{fixed_in}
+use Rattle.plant_core.proofs.Acting.{same_count}
 use Rattle.plant_core.proofs.Cycling.{app_goes}
 use Rattle.plant_core.proofs.ends.Ends.change_app.Goals as goal
 
 pub returns-clause-goes : goal.returns-clause-goes
 returns-clause-goes g c =
-    let offers = rw c.note.ensures.noted at c.start.ensures.offers in
-    λ told. app_goes _ _ _ told (record { follows = c.start.ensures.follows; cycles = c.start.ensures.cycles; guards = c.start.ensures.guards; offers = offers })
+    let links = c.args.self.now.links in
+    let count : length c.note_offers.new.links ≡ length links.items = same_count c.note_offers.new.links links.items (c.note_offers.ensures.fixed ∙ ap fixed_in c.as_mut_slice.ensures.value) in
+    let back = written_back c.note_offers.new.links links.items links.len links.ok.0 count in
+    let offers = rw (c.note.ensures.noted, c.as_mut_slice.ensures.value) at c.note_offers.ensures.offers in
+    λ told. rw back (app_goes _ _ _ told (record { follows = c.change_app.ensures.follows; cycles = c.change_app.ensures.offers; guards = c.change_app.ensures.guarded; offers = offers }))

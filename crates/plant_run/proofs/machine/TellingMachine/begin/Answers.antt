@@ -1,11 +1,16 @@
 use Rattle.std.proofs.Common.{refl}
+use Rattle.plant_run.proofs.Hearing.{first_heard, fresh_hear}
 use Rattle.plant_run.proofs.Turned.{begun}
 use Rattle.plant_run.proofs.machine.TellingMachine.begin.Goals as goal
 
-pub returns-in-Ok-clause-stands : goal.returns-in-Ok-clause-stands
-returns-in-Ok-clause-stands g c = (
+pub hear-requires : goal.hear-requires
+hear-requires g c = fresh_hear c.links.result.now c.bounds-bounds.result.now _ c.in_ok-reactions.ensures
+
+pub returns-clause-stands : goal.returns-clause-stands
+returns-clause-stands g c = (
+  (refl, refl),
   refl,
-  refl,
-  refl,
-  rw c.in-Ok.ensures.spare (begun _ _ _ _ _ _ _ _ _ c.args.arg1.now c.in-Ok.ensures.stands c.in-Ok.ensures.channel c.in-Ok.ensures.same_lengths c.requires.kind refl),
+  begun _ c.args.given.now.conf.now c.args.given.now.plant.now.master.app c.args.given.now.spare.now.items _ _ _ _ c.args.arg1.now c.in_ok-begin.ensures.starts c.in_ok-begin.ensures.fixed
+      (first_heard _ _ _ _ _ c.in_ok-begin.ensures.starts.stands (rw c.bounds-bounds.ensures.value at c.hear.ensures) (rw (c.links.ensures.value, c.bounds-bounds.ensures.value) at c.in_ok-reactions.ensures))
+      c.in_ok-begin.ensures.same_lengths c.requires.kind,
 )

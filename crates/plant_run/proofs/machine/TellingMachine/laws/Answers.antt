@@ -5,7 +5,7 @@ pub returns-clause-some : goal.returns-clause-some
 returns-clause-some g c = λ given bytes. some_plant_report (record { begins = record { links = given.conf.now.links; app = _; seed = given.conf.now.seed }; bounds = given.conf.now.bounds; spare = _ }) bytes
 
 pub returns-clause-so_far : goal.returns-clause-so_far
-returns-clause-so_far g c = λ first v now h log text stands. plant_so_far _ _ _ h log text stands.3.runs
+returns-clause-so_far g c = λ first v now h log text stands. plant_so_far _ _ _ h log text stands.2.runs
 
 pub returns-clause-whole : goal.returns-clause-whole
 returns-clause-whole g c = λ first now h log text ended closes. plant_ends _ _ _ h log text ended closes.closes

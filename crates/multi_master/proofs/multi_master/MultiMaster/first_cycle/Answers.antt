@@ -2,7 +2,7 @@ use Rattle.std.proofs.Common.{List, refl, sym, ◌∙◌, arith}
 use Rattle.master_core.specs.MasterView.{MasterView}
 use Rattle.multi_master.proofs.Following.{runs_alike, change_follows, change_offers, change_guards}
 use Rattle.multi_master.proofs.Keeping.{written_back, all_rest}
-use Rattle.multi_master.proofs.multi_master.MultiMaster.change_app.Goals as goal
+use Rattle.multi_master.proofs.multi_master.MultiMaster.first_cycle.Goals as goal
 
 pub invariant_of-self : goal.invariant_of-self
 invariant_of-self g c =
@@ -18,7 +18,7 @@ invariant_of-self g c =
     })
 
 pub returns-clause-follows : goal.returns-clause-follows
-returns-clause-follows g c =
+returns-clause-follows g c = λ other.
     rw (← c.self.view_is)
     (change_follows _ _ _ (record {
       cycle = runs_alike _ _ _ _ _ _ _ _ _ _ c.run_cycle.ensures.runs c.as_slice.ensures.value c.as_mut_slice-2.ensures.value (sym (written_back c.run_cycle.new.masters c.self.inside.masters.items c.self.inside.masters.len (cc) (cc)));
@@ -26,7 +26,7 @@ returns-clause-follows g c =
     }))
 
 pub returns-clause-offers : goal.returns-clause-offers
-returns-clause-offers g c =
+returns-clause-offers g c = λ other.
     rw (← c.self.view_is)
     (change_offers _ _ _ (record {
       cycle = runs_alike _ _ _ _ _ _ _ _ _ _ c.run_cycle.ensures.runs c.as_slice.ensures.value c.as_mut_slice-2.ensures.value refl;
@@ -34,7 +34,7 @@ returns-clause-offers g c =
     }))
 
 pub returns-clause-guarded : goal.returns-clause-guarded
-returns-clause-guarded g c =
+returns-clause-guarded g c = λ other.
     rw (← c.self.view_is)
     (change_guards _ _ _ (record {
       cycle = runs_alike _ _ _ _ _ _ _ _ _ _ c.run_cycle.ensures.runs c.as_slice.ensures.value c.as_mut_slice-2.ensures.value refl;

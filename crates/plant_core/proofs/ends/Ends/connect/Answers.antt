@@ -1,0 +1,16 @@
+use Rattle.std.proofs.Common.{◌≡◌, length, map, vec_len, sym, ap, ◌∙◌}
+use Rattle.std.proofs.lemmas.List.{length-map}
+use Rattle.plant_core.specs.Making.{links_made, master_in}
+use Rattle.plant_core.proofs.Made.{made_ready}
+use Rattle.plant_core.proofs.ends.Ends.connect.Goals as goal
+
+pub returns-clause-ready : goal.returns-clause-ready
+returns-clause-ready g c =
+    let settings = c.in_ok-settings.settings in
+    let links = c.in_ok-links.links in
+    let set : settings.items ≡ map master_in c.args.confs.now = c.in_ok-settings.ensures in
+    let links_are : links.items ≡ links_made 1 c.args.bounds.now c.args.confs.now = c.in_ok-links.ensures in
+    let dids : vec_len c.in_ok-dids.dids ≡ length c.args.confs.now = c.in_ok-dids.ensures in
+    let outs : vec_len c.in_ok-outs.outs ≡ length c.args.confs.now = c.in_ok-outs.ensures in
+    made_ready c.connect.new.self links.items c.in_ok-dids.dids.items c.in_ok-outs.outs.items c.args.bounds.now c.args.confs.now links_are c.requires
+    (c.in-Ok.ensures.links ∙ settings.ok.0 ∙ ap length set ∙ length-map c.args.confs.now master_in) (sym c.in_ok-dids.dids.ok.0 ∙ dids) (sym c.in_ok-outs.outs.ok.0 ∙ outs)

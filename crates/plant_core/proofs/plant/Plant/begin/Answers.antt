@@ -1,0 +1,36 @@
+use Rattle.std.proofs.Common.{◌≡◌, length, vec_len, ap, ap₂, ◌∙◌, arith}
+use Rattle.plant_core.specs.Making.{links_made}
+use Rattle.multi_master.specs.Standing as multi
+use Rattle.plant_core.specs.Standing.{fixed_in}
+use Rattle.plant_core.proofs.Made.{made_count}
+use Rattle.plant_core.proofs.Pulling.{starts}
+use Rattle.plant_core.proofs.plant.Plant.begin.Goals as goal
+
+pub start-requires-clause-room : goal.start-requires-clause-room
+start-requires-clause-room g c =
+    let links = c.connect.new.self.links in
+    let count : vec_len links ≡ length c.links-links.result.now = links.ok.0 ∙ ap length c.in_ok-connect.ensures.links ∙ made_count 1 c.bounds.result.now c.links-links.result.now in
+    omega (arith, count, c.in_ok-take_room.ensures.room)
+
+pub returns-clause-starts : goal.returns-clause-starts
+returns-clause-starts g c =
+    let A = g.A.Application in
+    let links = c.in_ok-connect.ensures.links ∙ ap₂ (links_made 1) c.bounds.ensures.value c.links-links.ensures.value in
+    let stands = rw (c.links-links.ensures.value, ← c.connect.ensures.app) at c.in_ok-connect.ensures.stands in
+    let steps = c.in_ok-take_room.ensures.steps ∙ c.journal.view_is ∙ c.new-journal.ensures in
+    let offers = rw (links, steps) at c.start.ensures.offers in
+    let begins = rw c.seed.ensures at c.begin.ensures.begins in
+    rw (← c.self.view_is, ← c.connect.ensures.app) (starts _ _ _ _ (record {
+      old = multi.seen A.rule A.holds A.guards c.connect.new.self.master;
+      stands = stands;
+      bounds = c.args.conf.now.bounds;
+      follows = c.start.ensures.follows;
+      offers = offers;
+      cycles = c.start.ensures.cycles;
+      guards = c.start.ensures.guards;
+      begins = begins;
+    }))
+
+pub returns-clause-fixed : goal.returns-clause-fixed
+returns-clause-fixed g c =
+    c.start.ensures.fixed ∙ ap fixed_in (c.in_ok-connect.ensures.links ∙ ap₂ (links_made 1) c.bounds.ensures.value c.links-links.ensures.value)
