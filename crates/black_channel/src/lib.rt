@@ -1,6 +1,6 @@
-//! The black channel between ends: it may delay, repeat, reorder, corrupt, misdirect, invent or lose frames. A `Window`
-//! has the last frames of one end, any of which may reach the other. A `Channel` carries the frames of all connections
-//! of a plant. Nothing here tests a frame.
+//! Black channels for trials: they stand for the network between ends. They may delay, repeat, reorder, corrupt,
+//! misdirect, invent or lose frames. A `Channel` carries the frames of all connections of a plant. A `Window` has the
+//! last 64 frames of one end, any of which may reach the other. Nothing here tests a frame.
 //!
 //! ```rust
 //! use black_channel::{Channel, PerfectChannel, Place};

@@ -1,5 +1,5 @@
--- Commands and the phases of a connection. The states and the commands are those of the public standard; the phase of
--- each command is this profile's own.
+-- The phase of each command, and which frames are guarded. The commands and the states are those of the public
+-- standard. Which phase a command has, and which frames are guarded, is this profile's own.
 use Rattle.std.specs.Prelude.{ℕ, ◌==◌, List, [], ◌∷◌, Bool, true, false, Option, Some, None}
 use Rattle.fsoe_base.specs.declared.command.State.{State}
 use Rattle.fsoe_base.specs.declared.command.State.TheVariants as state

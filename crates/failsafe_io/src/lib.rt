@@ -1,6 +1,6 @@
-//! The fail-safe part of an end. Its watchdog leads to state Reset, its outputs are zeros unless process data came
-//! last, and its data to send are zeros while fail-safe data are on. An `Application` computes the outputs of all
-//! connections.
+//! The fail-safe part of an end. Its watchdog leads to state Reset. Its outputs are zeros unless process data came
+//! last. While fail-safe data are on, it sends zeros. An `Application` computes the data that all masters send, from
+//! what they received.
 //!
 //! ```rust
 //! use failsafe_io::{Outputs, Watchdog};

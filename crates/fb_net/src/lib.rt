@@ -1,6 +1,6 @@
-//! Nets of function blocks: an application that steps its blocks in order, each with input bits and the values of
-//! earlier blocks, and drives output bits. Also two simple applications, and an enum of a net or an application of the
-//! caller.
+//! Nets of function blocks. A net is an application: it steps its blocks in order and drives output bits. Each block
+//! reads input bits and the values of earlier blocks. `Zeros` and `Mirror` are two simple applications. `KindOf` is a
+//! net, or an application of the caller.
 //!
 //! ```rust
 //! use failsafe_io::{Application, Bit};

@@ -1,5 +1,5 @@
-//! The 16-bit CRC of the frames: the remainder by the polynomial 139B7h of the bytes followed by sixteen zero bits,
-//! highest bit first, from the value 0.
+//! The 16-bit CRC of the frames. It is the remainder by the polynomial 139B7h of the bytes and then sixteen zero bits.
+//! The highest bit comes first, and the start value is 0.
 //!
 //! ```rust
 //! use fsoe_crc::crc;

@@ -1,4 +1,5 @@
-//! The command-line program: runs a command over standard input, standard output and files, and exits by its status.
+//! The program for trials: `node`, `replay`, `bulk`, `plant`, `image`, `diagnose` and `convert`. It runs one command
+//! over standard input, standard output and files, and exits with the status of the command.
 #![tactic(auto)]
 
 mod command;

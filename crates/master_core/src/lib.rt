@@ -27,11 +27,12 @@
 //! }
 //! ```
 //!
-//! A program whose next data depend on the received frame calls `accept`, and then `reply` if a frame is `due`, in
-//! place of `deliver`. After `accept`, `outputs` has the data of that frame; what is `put` then is in the frame that
-//! `reply` writes. `hold(true)` makes the master send fail-safe data (zeros) in place of what was put, until
+//! A program whose next data depend on the received frame calls `accept` in place of `deliver`. If `due()` is true
+//! then, it calls `reply`. After `accept`, `outputs` has the data of that frame. The frame that `reply` writes has what
+//! was `put` before it. `hold(true)` makes the master send fail-safe data (zeros) in place of what was put, until
 //! `hold(false)`. `nonce` sets the session id of all sessions that begin after the call. The master never makes one
-//! itself: call `nonce` with a fresh id before each session. A reset changes none of the three.
+//! itself: call `nonce` with a fresh id before each session. A reset changes neither what was put, nor the hold, nor
+//! the session id.
 //!
 //! ```rust
 //! use fsoe_base::{FrameBuf, Lengths};

@@ -1,5 +1,6 @@
-//! The settings of both ends, and the transfer of a master's parameters to its slave. The master sends payloads piece
-//! by piece; the slave receives and tests them. Frames are built and tested elsewhere.
+//! The settings of both ends, and what a handshake transfers: session ids, connection id, slave address and parameters.
+//! An end sends a payload piece by piece. The slave joins and tests the master's pieces. Frames are built and tested
+//! elsewhere.
 //!
 //! ```rust
 //! use fsoe_base::Lengths;

@@ -9,9 +9,9 @@ use byteorder::{ByteOrder, LittleEndian};
 use fsoe_base::{Code, Image, MOST_DATA};
 use std::marker::Model;
 
-/// The pieces of a payload, one in each frame, which are tested against what is expected. Who takes them keeps the rule
-/// for application parameters. In contracts the value is what is expected, the bytes of a piece, and the pieces so
-/// far, joined.
+/// The pieces of a payload, one in each frame, which are tested against what is expected. The caller of `take` keeps
+/// the rule for application parameters. In contracts the value is what is expected, the bytes of a piece, and the
+/// pieces so far, joined.
 #[derive(Debug, Drop)]
 pub struct Pieces {
     expected: Expected,

@@ -17,8 +17,8 @@ pub enum Progress {
     Whole,
 }
 
-/// A payload that comes piece by piece, with the rule that its application parameters follow. `Slave` has the rule in
-/// its settings, and keeps `Pieces` alone.
+/// A payload that comes piece by piece, with the rule for its application parameters. `Slave` has this rule in its
+/// settings, so it keeps only `Pieces`.
 #[derive(Debug, Drop)]
 pub struct Upload {
     pieces: Pieces,
@@ -34,7 +34,7 @@ impl Upload {
     ghost use Rattle.param_load.specs.Upload.{is_session, is_parameter, session_upload, connection_upload, parameter_upload, is_whole, id_of, advanced, outcome, last_piece};
     ghost use Rattle.param_load.specs.Payload.{number_at, padded};
 
-    /// As `Pieces::session`.
+    /// Creates the upload of a session id of this profile, in pieces of `piece` bytes, at most 126.
     pub fn session(piece: usize, profile: Profile) -> Upload
         requires { piece ≤ MOST_DATA }
         ensures { result.pieces ≡ session_upload piece profile }
@@ -42,7 +42,7 @@ impl Upload {
         Upload::new(Pieces::session(piece, profile), AppRule::Any(0))
     }
 
-    /// As `Pieces::connection`.
+    /// Creates the upload of this connection id and this slave address, in pieces of `piece` bytes, at most 126.
     pub fn connection(piece: usize, conn: u16, address: u16) -> Upload
         requires { piece ≤ MOST_DATA }
         ensures { result.pieces ≡ connection_upload piece conn address }
@@ -50,7 +50,8 @@ impl Upload {
         Upload::new(Pieces::connection(piece, conn, address), AppRule::Any(0))
     }
 
-    /// As `Pieces::parameter`. The application parameters must follow `rule`.
+    /// Creates the upload of parameters of this profile, with a watchdog of 1 to `most` ticks, in pieces of `piece`
+    /// bytes, at most 126. The application parameters are tested by a copy of `rule`, which must be acceptable.
     pub fn parameter(piece: usize, most: u16, rule: &AppRule, profile: Profile) -> Upload
         requires most { piece ≤ MOST_DATA }
         requires acceptable { IsTrue (is_acceptable rule.now) }
@@ -80,7 +81,12 @@ impl Upload {
         self.pieces.is_whole()
     }
 
-    /// As `Pieces::take`, by the rule of the upload.
+    /// Takes the data of a frame, at least `piece` bytes. The upload must be incomplete. The fields whose last byte is
+    /// in this frame are tested in order, then the padding. Refused with the code of the first test that fails: 03h for
+    /// a wrong connection id, 06h for a wrong slave address, 08h for a wrong length of the communication parameters.
+    /// 09h for a watchdog of 0 or above `most`, or a wrong profile word. 0Ah for a wrong number of application
+    /// parameters, 0Bh if the rule of the upload doesn't accept them, 07h for padding that isn't 0. A refusal changes
+    /// nothing.
     pub fn take(&mut self, bytes: &[u8]) -> Result<Progress, Code>
         requires more { is_whole self.old.pieces ≡ false }
         requires piece { self.old.pieces.piece ≤ length bytes.now }
@@ -96,7 +102,7 @@ impl Upload {
         Ok(progress)
     }
 
-    /// As `Pieces::echo`.
+    /// Returns the last received piece, padded with zeros to `len` bytes, from `piece` to 126.
     pub fn echo(&self, len: usize) -> Image
         requires piece { self.now.pieces.piece ≤ len }
         requires most { len ≤ MOST_DATA }
@@ -105,7 +111,7 @@ impl Upload {
         self.pieces.echo(len)
     }
 
-    /// As `Pieces::id`.
+    /// Returns the session id. The upload must be that of a session id, and complete.
     pub fn id(&self) -> u32
         requires whole { IsTrue (is_whole self.now.pieces) }
         requires session { IsTrue (is_session self.now.pieces.expected) }
@@ -114,7 +120,7 @@ impl Upload {
         self.pieces.id()
     }
 
-    /// As `Pieces::watchdog`.
+    /// Returns the watchdog in ticks; it isn't 0. The upload must be that of parameters, and complete.
     pub fn watchdog(&self) -> u16
         requires whole { IsTrue (is_whole self.now.pieces) }
         requires parameter { IsTrue (is_parameter self.now.pieces.expected) }
@@ -124,7 +130,7 @@ impl Upload {
         self.pieces.watchdog()
     }
 
-    /// Returns the application parameters. The upload must be complete.
+    /// Returns the application parameters, none but in an upload of parameters. The upload must be complete.
     pub fn app(&self) -> &AppBytes
         requires { IsTrue (is_whole self.now.pieces) }
         ensures { result.now ≡ app_part self.now.pieces.expected self.now.pieces.joined }

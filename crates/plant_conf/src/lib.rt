@@ -1,5 +1,6 @@
-//! Reads the configuration of a plant: its connections, its net of function blocks, and the bounds that are watched.
-//! The result is one configuration, or the first fault with its table, number and key.
+//! Reads the configuration of a plant from TOML text. A plant is many connections with both ends, an application and a
+//! channel. The result is the connections, the net of function blocks and the bounds that are watched, or the first
+//! fault with its table, number and key.
 //!
 //! ```rust
 //! use plant_conf::read_conf;

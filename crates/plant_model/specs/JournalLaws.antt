@@ -1,5 +1,5 @@
--- What laws say of a plant's journal: which acts run a cycle, which parcels are pulled, and which steps are lines of the
--- script.
+-- What laws say of a plant's journal: which acts run a cycle, which parcels are pulled, and which steps are lines of
+-- the script.
 use Rattle.param_load.specs.declared.entry.Entry.{Entry}
 use Rattle.exchange_model.specs.World.{deeds}
 use Rattle.multi_master.specs.Calls.{connection}

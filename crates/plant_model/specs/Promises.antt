@@ -1,5 +1,5 @@
--- What holds of a plant's offers after each act: all are the application's answer, which keeps off what is guarded. This
--- rests on what an application promises. Acts are listed newest first, steps oldest first.
+-- What holds of a plant's offers after each act: all are the application's answer, which keeps off what is guarded.
+-- This rests on what an application promises. Acts are listed newest first, steps oldest first.
 use Rattle.std.specs.Prelude.{◌≡◌, List, [], ◌∷◌, map, IfSome}
 use Rattle.multi_master.specs.Calls.{IsGuarded}
 use Rattle.multi_master.specs.Connection.{offer_at}

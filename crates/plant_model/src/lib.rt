@@ -1,6 +1,7 @@
-//! What a plant of many connections and an application does, as a function of its past acts and its journal;
-//! `plant_core` is proved to do the same. There is no code to run here: `specs` has the definitions, beside the types
-//! of events and steps. The laws say what holds of them in all plants and in examples.
+//! The definition of what a plant of many connections and an application does. It is a function of the plant's past
+//! acts and of its journal. An act is its start, a line of its script, or a pull from its channel. `plant_core` is
+//! proved to do the same. There is no code to run here: `specs` has the definitions, beside the types of events and
+//! steps. The laws say what is true of them in all plants and in examples.
 #![tactic(auto)]
 
 pub mod act_laws;

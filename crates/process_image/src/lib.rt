@@ -15,14 +15,14 @@
 //! }
 //! ```
 //!
-//! What follows from this, and isn't refused:
+//! These follow, and no call refuses them:
 //!
-//! - Two equal frames one after the other are one. A slave that reset itself answers the master's Reset(0) with the
-//!   same bytes as before, so the master gets nothing and waits. To solve this, write different bytes into the slot,
-//!   sample, and write the frame again.
+//! - Two equal frames one after the other are seen as one. A slave that reset itself answers the master's Reset(0) with
+//!   the same bytes as before, so the master gets nothing and waits. To solve this, write different bytes into the
+//!   slot, sample, and write the frame again.
 //! - After the first sample zeros are a frame too. A bus that blanks its image ends each session.
-//! - What is overwritten in the input image before a sample is lost. So is a frame in the output image, if its end
-//!   sends the next one before that image was passed on. So pass it on after each sample and each tick.
+//! - What is overwritten in the input image before a sample is lost. A frame in the output image is lost, too, if its
+//!   end sends the next one before the image was passed on. Pass it on after each sample and each tick.
 //! - Half of a frame, if sampled, is a different frame. It ends the session, except in state Reset.
 //!
 //! ```rust

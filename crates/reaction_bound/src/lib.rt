@@ -1,10 +1,10 @@
 //! How old the outputs of both ends of a connection are, and whether an emergency stop switches a drive off in time.
-//! The laws give the greatest age of outputs. Plants use both; times are ticks of an end, no clock is read.
+//! The laws give the greatest age of outputs. A plant uses both. Times are ticks of an end; no clock is read.
 //!
 //! ```rust
 //! use reaction_bound::Reaction;
 //! let mut reaction = Reaction::new(2);
-//! reaction.quiet(true);
+//! reaction.quiet(true); // the stop is off
 //! reaction.tick(true);
 //! assert_eq!(rt; reaction.broken(), None);
 //! reaction.tick(true);

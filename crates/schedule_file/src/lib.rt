@@ -1,6 +1,6 @@
-//! Parses the lines of a schedule, without their newlines: its header, with the settings of the ends, and then its
-//! events. Only the header of several pairs allocates, and a refused line has one cause. A `Maker` makes the schedule
-//! of a seed, without lines.
+//! Parses node files, pair files and files of several pairs, line by line, without newlines: the header with the
+//! settings, and then the events. A refused line has one cause. A `Maker` makes the schedule of a number, without
+//! lines. Only the header of several pairs allocates.
 //!
 //! ```rust
 //! use fsoe_base::End;

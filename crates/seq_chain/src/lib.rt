@@ -1,5 +1,5 @@
 //! The CRC chain of a session, in both directions: how frames get their CRCs, how those of received frames are tested,
-//! and what is stored for the next frame. Both cores use it; it knows no states and no parameters.
+//! and what is stored for the next frame. `slave_core` and `master_core` use it. It knows no states and no parameters.
 //!
 //! ```rust
 //! use fsoe_base::{Command, FrameBuf};

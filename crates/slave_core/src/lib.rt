@@ -26,7 +26,7 @@
 //!
 //! `hold(true)` makes the slave send fail-safe data (zeros) in place of what was put, until `hold(false)`. `nonce` sets
 //! the session id of all sessions that begin after the call. The slave never makes one itself: call `nonce` with a
-//! fresh id before each session. A reset changes none of the three.
+//! fresh id before each session. A reset changes neither what was put, nor the hold, nor the session id.
 //!
 //! ```rust
 //! use fsoe_base::{FrameBuf, Lengths, State};

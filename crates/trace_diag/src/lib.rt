@@ -1,5 +1,6 @@
-//! A verdict on a recorded trace of one connection: whether two ends send these frames if none is lost, else the first
-//! frame that differs, and in which field. The command `diagnose` uses it. It judges only the frames, and runs no end.
+//! Judges a recorded trace of one connection in profile One. It conforms if two ends send exactly these frames when
+//! none is lost. Else the verdict names the first frame that differs, and the field. The command `diagnose` uses it. It
+//! sees only the frames, and runs no end.
 //!
 //! ```rust
 //! use fsoe_base::{End, Lengths};

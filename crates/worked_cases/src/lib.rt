@@ -1,9 +1,9 @@
-//! Tests of the public functions of the crates below the ends, one module for each crate. They compare with values from
-//! outside, and try files and sinks in memory that fail. What the program does is tested in `runs/`. What a contract
-//! states needs no test.
+//! Tests of the crates that use neither `slave_core` nor `master_core`, one module for each crate. They call public
+//! functions and compare with values from outside. They also try files and sinks in memory that fail. What the program
+//! does is tested in `runs/`. What a contract states needs no test.
 //!
-//! Tests have crates of their own, since a crate with tests is proved twice. Those of the ends and of what runs them are
-//! in `worked_ends`.
+//! Tests have crates of their own, since a crate with tests is proved twice. Those of the ends and of what runs them
+//! are in `worked_ends`.
 #![tactic(auto)]
 
 #[cfg(test)]

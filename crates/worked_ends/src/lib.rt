@@ -1,7 +1,6 @@
-//! Tests of the public functions of the ends and of the crates that hold or judge several of them, one module per
-//! crate, and one of commands over an input that comes line by line: expected values from external sources. Behaviour
-//! of the program is tested in `runs/`; behaviour that a contract states needs no test. Tests of the crates below are in
-//! `worked_cases`.
+//! Tests of `slave_core` and `master_core`, and of crates that run or judge ends. There is one module for each crate,
+//! and one of commands whose input comes line by line. The expected values are from outside. What the program does is
+//! tested in `runs/`. What a contract states needs no test. Tests of the crates below are in `worked_cases`.
 #![tactic(auto)]
 
 #[cfg(test)]

@@ -54,8 +54,8 @@ fn two(alloc: Global, count: &Rc<Cell<u32>>) -> Result<Vec<AppEntry>, Fail> {
     Ok(apps)
 }
 
-/// Sets the worked plant up with these, of which `a` is the first and `b` the next, and runs it if there is a channel of
-/// this name.
+/// Sets the worked plant up with these, of which `a` is the first and `b` the next, and runs it if there is a channel
+/// of this name.
 fn run_with(alloc: Global, apps: Vec<AppEntry>, channel: &str) -> Option<Status> {
     let mut conf = worked_conf(alloc, "a", channel, 1)?;
     let mut channels = channels(alloc)?;

@@ -137,8 +137,8 @@ fn run_forged(alloc: Global, before: u8, after: u8) -> Result<Ran, Fail> {
     Ok(run_over(alloc, conf, setup, &mut channel, script.as_str()).ok_or("not run")?)
 }
 
-/// Frames that fit keep the drive on though the stop is pressed, and the bound's line tells the first tick at which that
-/// is so for 20 ticks without a break.
+/// Frames that fit keep the drive on though the stop is pressed, and the bound's line tells the first tick at which
+/// that is so for 20 ticks without a break.
 #[test]
 fn forged_frames_break_a_bound(rt: HostRuntime) -> Result<(), Fail> {
     for (before, after, told) in [

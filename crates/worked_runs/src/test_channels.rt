@@ -53,8 +53,8 @@ impl Channel for Crossed {
     }
 }
 
-/// A channel that gives nothing. It counts how often it begins, and writes what is pushed: for each parcel the number of
-/// its connection, `m` or `s`, a space, the frame and a newline.
+/// A channel that gives nothing. It counts how often it begins, and writes what is pushed: for each parcel the number
+/// of its connection, `m` or `s`, a space, the frame and a newline.
 #[derive(Drop)]
 pub(crate) struct Written {
     channel: ListChannel,
