@@ -108,7 +108,7 @@ PairsReports input ended text =
 abbrev pub pairs_reporting : Reporting PairsHeading PairsLine PairsEvent
 pairs_reporting = record { format = pairs_format; judges = true; memory = BeforeEvents; reports = PairsReports }
 
--- over an input's events, the entries of each pair before its first other one, all where there is none, are fair
+-- over an input's events, the entries of each pair before its first other entry, all if there is none, are fair
 abbrev pub PairsRunFairly : PairsInput → Type 0
 PairsRunFairly input = IfSome input.heading (λ h.
     (pairs : List Pair) (k : ℕ) (p : Pair) → AllZip IsPairOf (pairs_of h) pairs → numbered k pairs ≡ Some p → Fair p.master.lengths (before_other (world_of k p (events_done pairs input.events))))

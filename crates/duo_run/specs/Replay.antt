@@ -1,5 +1,5 @@
 -- What a replay reports of an input: a line for each entry of both ends, and last how the run stops; and what holds of
--- its entries: fair before the first other one, and serving after an honest schedule. Lists of entries are newest
+-- its entries: fair before the first other entry, and serving after an honest schedule. Lists of entries are newest
 -- first.
 use Rattle.std.specs.Prelude.{◌≡◌, ℕ, ◌+◌, ◌==◌, List, [], ◌∷◌, ◌++◌, length, codes, decimal, true, Option, Some, None, IfSome, if◌then◌else◌}
 use Rattle.fsoe_base.specs.declared.command.End.{End}
@@ -83,7 +83,7 @@ ReplayReports input ended text =
 abbrev pub replay_reporting : Reporting Heading ScheduleLine Event
 replay_reporting = record { format = schedule_format kind.Pair; judges = true; memory = Never; reports = ReplayReports }
 
--- the entries over an input before the first other one, all where there is none, are fair
+-- the entries over an input before the first other entry, all if there is none, are fair
 abbrev pub RunsFairly : Input → Type 0
 RunsFairly input = IfSome input.heading (λ h. (ms : MasterSettings) (ss : SlaveSettings) → AreSetTo h ms ss → Fair ms.lengths (before_other (world ms ss input.events)))
 

@@ -23,7 +23,7 @@ abbrev pub listed : List Item → List Listed
 listed [] = []
 listed (i ∷ found) = listed found ++ (listing i ∷ [])
 
--- what contracts see of the monitor: the entries that it noted, the number of the first other one, and the items of
+-- what contracts see of the monitor: the entries that it noted, the number of the first other entry, and the items of
 -- both ends
 pub record ListView : Type 0 where
   pub noted : ℕ

@@ -23,8 +23,8 @@ sent_of (Some i) = Some (record { number = i.number; bytes = i.bytes })
 abbrev pub kept_of : End → List Item → Side
 kept_of which found = record { newest = sent_of (newest (items_of which found)); awaited = sent_of (awaited found which) }
 
--- what contracts see of a monitor: the entries that it noted, the number of the first other one, and what it keeps of
--- each end
+-- what contracts see of a monitor: the entries that it noted, the number of the first other entry, and what it keeps
+-- of each end
 pub record MonitorView : Type 0 where
   pub noted : ℕ
   pub other : Option ℕ

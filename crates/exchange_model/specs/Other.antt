@@ -27,7 +27,7 @@ first_other (x ∷ w) = first_of_both (first_other w) (is_other (items w) x) (su
 abbrev pub NoOther : List Entry → Type 0
 NoOther w = first_other w ≡ None
 
--- the entries before the first other one, all where there is none
+-- the entries before the first other entry, all if there is none
 abbrev pub before_other : List Entry → List Entry
 before_other [] = []
 before_other (x ∷ w) = if is_some (first_other (x ∷ w)) then before_other w else x ∷ w

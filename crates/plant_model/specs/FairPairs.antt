@@ -44,6 +44,6 @@ StepFits links step.App = Unit {0}
 StepFits links (step.Offer link load) = IsSomeAnd (link_at links link) (λ conf. length load ≡ conf.master.lengths.master)
 StepFits links (step.Pulled parcel) = Unit {0}
 
--- the entries of each pair before its first other one, all where there is none, are fair
+-- the entries of each pair before its first other entry, all if there is none, are fair
 abbrev pub PairsAreFair : List LinkConf → List JournalStep → Type 0
 PairsAreFair links journal = (k : ℕ) → IfSome (link_at links k) (λ link. Fair link.master.lengths (before_other (pair link k journal)))

@@ -7,7 +7,7 @@ mod ffi;
 pub enum Ending {
     /// The text was read up to its line `end`, and no entry is `other`.
     Whole,
-    /// The same, and the entry of this number is the first `other` one.
+    /// The same, and the entry of this number is the first `other` entry.
     Other(u64),
     /// The line of this number is refused or missing, or names a frame that wasn't sent.
     Refused(u64),
