@@ -64,7 +64,7 @@ resets. Outputs show nothing of it.`,
   {
     name: "A forged frame with the right CRCs",
     about: `At event 20 a frame comes to the slave that nobody sent, with exactly the CRCs that the slave expects. No receiver can tell it from the
-awaited frame, so its data ff00 are taken. The report doesn't hide that: it names the entry as the first other one, in which a frame
+awaited frame, so its data ff00 are taken. The report doesn't hide that: it names the first "other" entry, in which a frame
 passed the test of the CRCs that wasn't the awaited one. The law of the pair holds of all lines before it. A CRC is no secret: two bytes
 may be right by chance, and who sees the wire can compute them. At event 21 the slave's answer comes to the master, which doesn't await
 it: both ends reset.`,

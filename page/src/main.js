@@ -58,7 +58,7 @@ function runText() {
   showEvent();
 }
 
-/** Shows a text, with an event of it in sight: the first other one, or the last. */
+/** Shows a text, with an event of it in sight: the first other entry, or the last. */
 function showText(text, about) {
   by("example-about").textContent = about;
   choose(0, "page");

@@ -16,7 +16,7 @@ use fsoe_base::{End, State};
 use fsoe_io::{Ended, LineText, Sink};
 use schedule_file::{Event, Maker};
 
-/// Runs a new pair on the first `events` events of a seed: the summary, and the number of the first `other` event.
+/// Runs a new pair on the first `events` events of a number: the summary, and the number of the first `other` entry.
 fn summarize(number: u64, events: u64) -> (Summary, Option<u64>)
     ensures summary { result.0 ≡ summary_of (entries_of number events) }
     ensures other { result.1 ≡ first_other (entries_of number events) }
@@ -107,11 +107,11 @@ fn write_summary(
 }
 
 /// Makes the schedule of the seed `number`, runs a new pair on its first `events` events, and writes a summary of six
-/// lines. The first has both numbers, the last that of the first `other` event, if any. The others have, of each end,
+/// lines. The first has both numbers, the last that of the first `other` entry, if any. The others have, of each end,
 /// the data frames that it took, the events with a reset, those with a dropped frame, and the last state. No event
 /// names a frame that wasn't sent, so all are done. Doesn't allocate.
 ///
-/// The status is `Ok` with place 0, or `Other` with the number of the first `other` event. `Write` has the bytes
+/// The status is `Ok` with place 0, or `Other` with the number of the first `other` entry. `Write` has the bytes
 /// written, only if the sink failed.
 pub fn run_bulk<K: Sink>(number: u64, events: u64, sink: &mut K) -> Ended
     ensures { RanBulk number events result (record {
