@@ -1,4 +1,4 @@
-//! The summary of a seed's schedule.
+//! The summary of a number's schedule.
 ghost use Rattle.std.specs.Prelude.{◌≡◌, ◌≤◌, ◌+◌, ◌++◌, length};
 ghost use Rattle.schedule_file.specs.Made.{made_master, made_slave};
 ghost use Rattle.exchange_model.specs.Other.{first_other};
@@ -77,7 +77,7 @@ fn push_summary(summary: &Summary, text: &mut LineText)
     push_states(master.state, slave.state, text);
 }
 
-/// Appends the first line, with the seed and the number of events done.
+/// Appends the first line, with the number and how many events were done.
 fn push_title(number: u64, events: u64, text: &mut LineText)
     requires { length text.old ≤ 10 }
     ensures text { text.new ≡ text.old ++ number_line number events }
@@ -106,7 +106,7 @@ fn write_summary(
     push_other(other, text);
 }
 
-/// Makes the schedule of the seed `number`, runs a new pair on its first `events` events, and writes a summary of six
+/// Makes the schedule of `number`, runs a new pair on its first `events` events, and writes a summary of six
 /// lines. The first has both numbers, the last that of the first `other` entry, if any. The others have, of each end,
 /// the data frames that it took, the events with a reset, those with a dropped frame, and the last state. No event
 /// names a frame that wasn't sent, so all are done. Doesn't allocate.

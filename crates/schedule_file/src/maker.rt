@@ -1,4 +1,4 @@
-//! A schedule from a seed.
+//! The schedule of a number.
 ghost use Rattle.std.specs.Prelude.{◌≡◌, if◌then◌else◌};
 ghost use Rattle.schedule_file.specs.Made.{event_of_word, is_switch_on, load_of, mask_of, place_of};
 ghost use Rattle.schedule_file.specs.Event.{FitsMade};
@@ -24,7 +24,7 @@ enum Turn {
     ToMaster,
 }
 
-/// Makes the events of a seed's schedule, one after another, without an end.
+/// Makes the events of a number's schedule, one after another, without an end.
 #[derive(Debug, Drop)]
 pub struct Maker {
     turn: Turn,
@@ -76,7 +76,7 @@ impl Maker {
     ghost use Rattle.schedule_file.specs.Event.{FitsMade};
     ghost use Rattle.schedule_file.specs.Maker.{IsMaker, Makes, turn_after};
 
-    /// Creates the maker of a seed's events, of which none is made yet.
+    /// Creates the maker of a number's events, of which none is made yet.
     pub fn new(number: u64) -> Maker
         ensures { IsMaker number 0 result }
     {
@@ -87,7 +87,7 @@ impl Maker {
         }
     }
 
-    /// Returns the next event of the seed, whose schedule has no end. It fits ends that are set to `settings`.
+    /// Returns the next event of the number, whose schedule has no end. It fits ends that are set to `settings`.
     pub fn next(&mut self) -> Event
         ensures makes { Makes self.old result self.new }
         ensures fits { FitsMade result }
@@ -97,7 +97,7 @@ impl Maker {
         event
     }
 
-    /// Writes the next event of the seed to `out`, whose old contents are lost. It fits ends with these `settings`.
+    /// Writes the next event of the number to `out`, whose old contents are lost. It fits ends with these `settings`.
     pub fn next_into(&mut self, out: &mut Event)
         ensures makes { Makes self.old out.new self.new }
         ensures fits { FitsMade out.new }
@@ -123,7 +123,7 @@ impl Maker {
         self.turn = self.turn.next();
     }
 
-    /// Returns the settings of both ends in each seed's schedule. Two safe data bytes each way, connection 1, address
+    /// Returns the settings of both ends in each number's schedule. Two safe data bytes each way, connection 1, address
     /// 2, watchdog 100, handshake timeout 100, watchdogs up to 1000, no application parameters, session ids 1 and 2.
     pub fn settings() -> (MasterSettings, SlaveSettings)
         ensures master { result.0 ≡ made_master }
